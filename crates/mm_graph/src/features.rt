@@ -1,0 +1,75 @@
+//! All features of every class.
+ghost use Rattle.std.specs.Prelude.{◌≡◌, ◌<◌, ℕ, [], IfOk, OnOk, length};
+ghost use Rattle.std.specs.List.{All};
+ghost use Rattle.mm_types.specs.Graph.{row};
+ghost use Rattle.mm_types.specs.Features.{all_features, with_new};
+ghost use Rattle.mm_graph.specs.Order.{InRange, IsOrder};
+ghost use Rattle.mm_graph.specs.Rows.{with_rows};
+
+use indexmap::IndexSet;
+use mm_types::Seq;
+use std::alloc::{AllocError, AllocFailed, Global};
+
+/// Puts behind the features found those of a row that are new.
+fn add_new(found: &mut IndexSet<usize>, features: &[usize]) -> Result<(), AllocFailed<usize>>
+    ensures { OnOk result (found.new.keys ≡ with_new found.old.keys features.now) }
+{
+    for feature in features {
+        found.insert(*feature)?;
+    }
+    Ok(())
+}
+
+/// What the rows of the supertypes hold, in order, and then the own features; each once.
+fn merged(
+    alloc: Global,
+    supers: &[usize],
+    rows: &[Seq<usize>],
+    own: &[usize],
+) -> Result<Seq<usize>, AllocError>
+    requires { All (λ e. e < length rows.now) supers.now }
+    ensures { IfOk result (λ r. r ≡ with_new (with_rows rows.now [] supers.now) own.now) }
+{
+    let mut found = IndexSet::new(alloc);
+    'supers: for e in supers {
+        add_new(&mut found, rows[*e].as_slice())?;
+    }
+    add_new(&mut found, own)?;
+    let items = Vec::from_slice(alloc, found.as_slice())?;
+    Ok(Seq::from_vec(items))
+}
+
+/// All features of every class, own and inherited, at the class's number. `own` has the features
+/// that each class declares, and `order` is one that `order_of` answers. Errs only where memory is
+/// refused.
+///
+/// Each class's row is made once, from the rows of its supertypes, so many paths to one supertype
+/// cost no more than one.
+pub fn features_table(
+    alloc: Global,
+    graph: &[Seq<usize>],
+    own: &[Seq<usize>],
+    order: &[usize],
+) -> Result<Vec<Seq<usize>>, AllocError>
+    requires graph { InRange graph.now }
+    requires own { length own.now ≡ length graph.now }
+    requires order { IsOrder graph.now order.now }
+    ensures len { IfOk result (λ t. length t.items ≡ length graph.now) }
+    ensures rows { IfOk result (λ t. (c : ℕ) → c < length graph.now → row t.items c ≡ all_features graph.now own.now c) }
+{
+    let mut rows = Vec::new(alloc);
+    'empty: for _class in 0..graph.len() {
+        rows.push(Seq::new(alloc))?;
+    }
+    // The rows of a class's supertypes are made by now: they stand before it in the order.
+    'classes: for c in order {
+        let made = merged(
+            alloc,
+            graph[*c].as_slice(),
+            rows.as_slice(),
+            own[*c].as_slice(),
+        )?;
+        rows[*c] = made;
+    }
+    Ok(rows)
+}

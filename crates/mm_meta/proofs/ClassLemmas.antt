@@ -1,0 +1,88 @@
+-- The rows of classes: how long they are, and that what they hold is small.
+use Rattle.std.proofs.Common.{◌≡◌, ◌∙◌, ◌+◌, ◌*◌, ◌<◌, ◌≤◌, ◌++◌, ◌^◌, ℕ, zero, suc, true, false, cond, List, [], ◌∷◌, Option, Some, None, ap, arith, get_or, length, refl, subst, sym, nat_eq}
+use Rattle.std.specs.Prelude.{IsTrue}
+use Rattle.std.specs.List.{All, cons_option, filter_map, flat_map, list_all, list_any}
+use Rattle.std.specs.Str.{bytes_eq}
+use Rattle.std.proofs.lemmas.Bool.Decides.{nat_tests}
+use Rattle.std.proofs.lemmas.List.{length-map}
+use Rattle.std.proofs.lemmas.List.Elements.{All-append, All-cons, All-map, All-nil, All-push}
+use Rattle.std.proofs.lemmas.List.Quantifiers.{position-Some}
+use Rattle.std.proofs.lemmas.Option.{slice_get-get_or}
+use Rattle.mm_types.specs.Features.{all_features, listed, with_new}
+use Rattle.mm_types.specs.Graph.{row}
+use Rattle.mm_types.specs.Raw.{RawMetamodel, class_fits, is_within_limits}
+use Rattle.mm_types.specs.Resolved.{class_named, graph_of, own_from, own_of}
+use Rattle.mm_types.specs.declared.raw.RawClass.{RawClass}
+use Rattle.mm_graph.specs.Order.{InRange}
+use Rattle.mm_meta.proofs.ResolverLemmas.{own_low}
+
+named_within : (cs : List RawClass) (n : List ℕ) (c : ℕ) → class_named cs n ≡ Some c → c < length cs
+named_within [] n c h = cc
+named_within (d ∷ ds) n c h = (position-Some (λ x. bytes_eq x.name n) (d ∷ ds) c d h).0
+
+named_more : (cs : List RawClass) (n : List ℕ) (rest : List ℕ) (o : Option ℕ) → class_named cs n ≡ o → All (λ (c : ℕ). c < length cs) rest
+    → All (λ (c : ℕ). c < length cs) (cons_option o rest)
+named_more cs n rest None is h = h
+named_more cs n rest (Some c) is h = All-cons (λ (c : ℕ). c < length cs) c rest (named_within cs n c is) h
+
+all_named : (cs : List RawClass) (ns : List (List ℕ)) → All (λ (c : ℕ). c < length cs) (filter_map (class_named cs) ns)
+all_named cs [] = All-nil (λ (c : ℕ). c < length cs)
+all_named cs (n ∷ ns) = named_more cs n (filter_map (class_named cs) ns) (class_named cs n) refl (all_named cs ns)
+
+-- each supertype that is named is a class
+pub graph_in_range : (cs : List RawClass) → InRange (graph_of cs)
+graph_in_range cs k d low =
+    let supers : RawClass → List ℕ = λ (c : RawClass). filter_map (class_named cs) c.supers in
+    subst (λ (n : ℕ). All (λ (e : ℕ). e < n) (get_or (graph_of cs) k d)) (sym (length-map cs supers))
+    (All-map (λ (es : List ℕ). All (λ (e : ℕ). e < length cs) es) supers cs (λ i x less. all_named cs (get_or cs i x).supers) k d low)
+
+pub length-own_from : (first : ℕ) (cs : List RawClass) → length (own_from first cs) ≡ length cs
+length-own_from first [] = refl
+length-own_from first (c ∷ cs) = ap suc (length-own_from (first + length c.features) cs)
+
+-- a number of 32 bits
+abbrev pub IsSmall : ℕ → Type 0
+IsSmall n = n < 2 ^ 32
+
+pub few_classes : (raw : RawMetamodel) → IsTrue (is_within_limits raw) → length raw.classes ≤ 1000
+few_classes raw within = grind (arith, nat_tests)
+
+pub small_own : (raw : RawMetamodel) (c : ℕ) → IsTrue (is_within_limits raw) → All IsSmall (row (own_of raw.classes) c)
+small_own raw c within k d low =
+    let all : list_all class_fits raw.classes ≡ true = grind (arith, nat_tests) in
+    let few : length raw.classes ≤ 1000 = few_classes raw within in
+    let below : get_or (row (own_of raw.classes) c) k d < 0 + 256 * length raw.classes =
+    own_low 0 raw.classes c k (get_or (row (own_of raw.classes) c) k d) all (slice_get-get_or (row (own_of raw.classes) c) k d low) in
+    omega arith
+
+pub small_supers : (raw : RawMetamodel) (c : ℕ) → IsTrue (is_within_limits raw) → c < length raw.classes → All IsSmall (row (graph_of raw.classes) c)
+small_supers raw c within inside k d low =
+    let supers : RawClass → List ℕ = λ (c : RawClass). filter_map (class_named raw.classes) c.supers in
+    let long : length (graph_of raw.classes) ≡ length raw.classes = length-map raw.classes supers in
+    let few : length raw.classes ≤ 1000 = few_classes raw within in
+    let below : get_or (row (graph_of raw.classes) c) k d < length (graph_of raw.classes) = graph_in_range raw.classes c [] (omega arith) k d low in
+    omega arith
+
+all_flat : (P : ℕ → Type 0) (f : ℕ → List ℕ) → ((e : ℕ) → All P (f e)) → (es : List ℕ) → All P (flat_map f es)
+all_flat P f h [] = All-nil P
+all_flat P f h (e ∷ es) = All-append P (f e) (flat_map f es) (h e) (all_flat P f h es)
+
+all_with_new : (P : ℕ → Type 0) (seen xs : List ℕ) → All P seen → ((k d : ℕ) → k < length xs → P (get_or xs k d)) → All P (with_new seen xs)
+all_with_new P seen [] h all = h
+all_with_new P seen (x ∷ xs) h all =
+    all_with_new P (cond (list_any (nat_eq x) seen) seen (seen ++ x ∷ [])) xs
+    (elim (list_any (nat_eq x) seen) as (λ b. All P (cond b seen (seen ++ x ∷ []))) [ true ↦ h | false ↦ All-push P seen x h (all 0 0 (omega arith)) ])
+    (λ k d low. all (suc k) d (omega arith))
+
+all_listed : (P : ℕ → Type 0) (g own : List (List ℕ)) → ((d : ℕ) → All P (row own d)) → (depth c : ℕ) → All P (listed g own depth c)
+all_listed P g own h zero c = All-nil P
+all_listed P g own h (suc depth) c =
+    All-append P (flat_map (listed g own depth) (row g c)) (row own c) (all_flat P (listed g own depth) (all_listed P g own h depth) (row g c)) (h c)
+
+-- what holds of each class's own features holds of all features of a class
+pub all_of_all_features : (P : ℕ → Type 0) (g own : List (List ℕ)) (c : ℕ) → ((d : ℕ) → All P (row own d)) → All P (all_features g own c)
+unfolding all_features
+all_of_all_features P g own c h = all_with_new P [] (listed g own (length g) c) (All-nil P) (all_listed P g own h (length g) c)
+
+pub long_graph : (cs : List RawClass) (g : List (List ℕ)) → g ≡ graph_of cs → length g ≡ length cs
+long_graph cs g is = ap length is ∙ length-map cs (λ c. filter_map (class_named cs) c.supers)

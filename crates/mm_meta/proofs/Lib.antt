@@ -1,0 +1,5 @@
+mod ClassLemmas
+mod MetaLemmas
+mod NameLemmas
+mod ResolverLemmas
+mod TableLemmas

@@ -1,0 +1,3 @@
+pub mod NameTable
+pub mod Resolver
+pub mod Meta

@@ -1,0 +1,16 @@
+//! A well-formed metamodel with its names resolved, and what it answers by number and by name.
+#![tactic(auto)]
+
+mod classes;
+mod features;
+mod literals;
+mod meta;
+mod name_table;
+mod resolution;
+mod resolver;
+mod tables;
+#[cfg(test)]
+mod tests;
+
+pub use meta::Meta;
+pub use resolver::Resolver;

@@ -1,0 +1,44 @@
+//! The values that literals write.
+ghost use Rattle.std.specs.Prelude.{◌≡◌, ◌-◌, ◌^◌, None, Some, codes, false, if◌then◌else◌, neg_ℤ, option_and_then, pos, true};
+ghost use Rattle.std.specs.Str.{bytes_eq};
+ghost use Rattle.mm_types.specs.Integers.{integer};
+ghost use Rattle.mm_types.specs.Resolved.{int_within, type_default as default_of_type};
+ghost use Rattle.mm_types.specs.declared.value.Value.TheVariants as Value;
+
+use mm_types::integers::integer_of;
+use mm_types::{DataType, Value};
+
+/// The value of 32 bits, signed, that a literal writes.
+pub fn int_value(text: &str) -> Option<Value>
+    ensures { result ≡ option_and_then (int_within (neg_ℤ (pos (2 ^ 31))) (pos (2 ^ 31 - 1))) (integer text.now) }
+{
+    match integer_of(text.as_bytes()) {
+        Some(n) if i64::from(i32::MIN) <= n && n <= i64::from(i32::MAX) => Some(Value::Int(n)),
+        _ => None,
+    }
+}
+
+/// The truth value that a literal writes.
+pub fn boolean_value(text: &str) -> Option<Value>
+    ensures { result ≡ (if bytes_eq text.now (codes "true") then Some (Value.Bool true) else (if bytes_eq text.now (codes "false") then Some (Value.Bool false) else None)) }
+{
+    if text == "true" {
+        return Some(Value::Bool(true));
+    }
+    if text == "false" {
+        return Some(Value::Bool(false));
+    }
+    None
+}
+
+/// The default of a type: null, 0, false, the first literal.
+pub fn type_default(t: DataType) -> Value
+    ensures { result ≡ default_of_type t }
+{
+    match t {
+        DataType::EString => Value::Null,
+        DataType::EInt | DataType::ELong => Value::Int(0),
+        DataType::EBoolean => Value::Bool(false),
+        DataType::Enum(_) => Value::Literal(0),
+    }
+}

@@ -1,0 +1,111 @@
+//! The tables that a resolver is made of.
+ghost use Rattle.std.specs.Prelude.{◌≡◌, ◌+◌, ◌<◌, ◌^◌, ◌≤◌, IfOk, IsTrue, length, map};
+ghost use Rattle.std.specs.List.{list_all, range_with_len};
+ghost use Rattle.mm_types.specs.Raw.{class_fits};
+ghost use Rattle.mm_types.specs.Resolved.{own_of};
+ghost use Rattle.mm_types.specs.Lookups.{name_in};
+ghost use Rattle.mm_meta.specs.NameTable.{AreTablesOf, IsTableOf};
+
+use crate::name_table::NameTable;
+use mm_types::{Class, Enumeration, Feature, FeatureNo, RawClass, Seq};
+use std::alloc::{AllocError, Global};
+
+/// A table for each class of the features that it declares.
+pub fn own_tables(alloc: Global, classes: &[RawClass]) -> Result<Vec<NameTable>, AllocError>
+    ensures { IfOk result (λ v. AreTablesOf v.items (map (λ c. map (λ f. f.name) c.features) classes.now)) }
+{
+    let mut tables = Vec::new(alloc);
+    'classes: for class in classes {
+        tables.push(NameTable::of(alloc, class.features.as_slice())?)?;
+    }
+    Ok(tables)
+}
+
+/// A table for each enumeration of its literals.
+pub fn literal_tables(alloc: Global, enums: &[Enumeration]) -> Result<Vec<NameTable>, AllocError>
+    ensures { IfOk result (λ v. AreTablesOf v.items (map (λ e. e.literals) enums.now)) }
+{
+    let mut tables = Vec::new(alloc);
+    'enums: for e in enums {
+        tables.push(NameTable::of(alloc, e.literals.as_slice())?)?;
+    }
+    Ok(tables)
+}
+
+/// The numbers from one on, as many as there are features.
+fn numbers_from(alloc: Global, first: usize, count: usize) -> Result<Seq<usize>, AllocError>
+    requires { first + count < 2 ^ 32 }
+    ensures { IfOk result (λ s. s ≡ range_with_len first count) }
+{
+    let mut numbers = Seq::new(alloc);
+    'numbers: for n in first..first + count {
+        numbers.push(n)?;
+    }
+    Ok(numbers)
+}
+
+/// The numbers of the features that each class declares.
+pub fn own_numbers(alloc: Global, classes: &[RawClass]) -> Result<Vec<Seq<usize>>, AllocError>
+    requires few { length classes.now ≤ 1000 }
+    requires fits { IsTrue (list_all class_fits classes.now) }
+    ensures { IfOk result (λ v. v.items ≡ own_of classes.now) }
+{
+    let mut rows = Vec::new(alloc);
+    let mut next = 0;
+    'classes: for class in classes {
+        let count = class.features.len();
+        rows.push(numbers_from(alloc, next, count)?)?;
+        next += count;
+    }
+    Ok(rows)
+}
+
+/// The names of some features, given all of them.
+fn names_of<'a>(
+    alloc: Global,
+    features: &'a [Feature],
+    numbers: &[FeatureNo],
+) -> Result<Vec<&'a str>, AllocError>
+    ensures { IfOk result (λ v. map (λ n. n.now) v.items ≡ map (name_in features.now) numbers.now) }
+{
+    let mut names: Vec<&'a str> = Vec::new(alloc);
+    'numbers: for number in numbers {
+        names.push(name_at(features, *number))?;
+    }
+    Ok(names)
+}
+
+fn name_at(features: &[Feature], number: FeatureNo) -> &str
+    ensures { result.now ≡ name_in features.now number }
+{
+    match features.get(number.0 as usize) {
+        Some(feature) => feature.name.as_str(),
+        None => "",
+    }
+}
+
+fn feature_table(
+    alloc: Global,
+    features: &[Feature],
+    numbers: &[FeatureNo],
+) -> Result<NameTable, AllocError>
+    ensures { IfOk result (λ t. IsTableOf t (map (name_in features.now) numbers.now)) }
+{
+    let names = names_of(alloc, features, numbers)?;
+    NameTable::of(alloc, names.as_slice())
+}
+
+/// A table for each class of all its features.
+pub fn feature_tables(
+    alloc: Global,
+    classes: &[Class],
+    features: &[Feature],
+) -> Result<Vec<NameTable>, AllocError>
+    ensures { IfOk result (λ v. AreTablesOf v.items (map (λ c. map (name_in features.now) c.all) classes.now)) }
+{
+    let mut tables = Vec::new(alloc);
+    'classes: for class in classes {
+        tables.push(feature_table(alloc, features, class.all.as_slice())?)?;
+    }
+    Ok(tables)
+}

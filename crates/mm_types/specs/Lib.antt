@@ -1,0 +1,12 @@
+pub mod Causes
+pub mod Refusals
+pub mod Graph
+pub mod Features
+pub mod Clashes
+pub mod Names
+pub mod Integers
+pub mod Raw
+pub mod Faults
+pub mod Resolved
+pub mod WellFormed
+pub mod Lookups

@@ -1,0 +1,120 @@
+-- What a resolved metamodel says of its classes, features and enumerations by number and by name.
+use Rattle.std.specs.Prelude.{ℕ, ◌≡◌, ◌<◌, ◌&&◌, ◌==◌, ℤ, pos, neg_ℤ, ◌^◌, ◌-◌, Bool, true, false, not, IsTrue, List, [], ◌∷◌, length, map, position, slice_get, nat_lt, Option, Some, None, option_map, option_and_then, if◌then◌else◌, int_le}
+use Rattle.std.specs.List.{find}
+use Rattle.std.specs.Option.{option_map_or}
+use Rattle.std.specs.Ordering.{int_eq}
+use Rattle.std.specs.Str.{bytes_eq}
+use Rattle.mm_types.specs.Graph.{Conforms}
+use Rattle.mm_types.specs.Resolved.{Metamodel, class_no, feature_no, literal_named}
+use Rattle.mm_types.specs.declared.class.Class.{Class}
+use Rattle.mm_types.specs.declared.class.Enumeration.{Enumeration}
+use Rattle.mm_types.specs.declared.feature.Feature.{Feature}
+use Rattle.mm_types.specs.declared.feature.Kind.{Kind}
+use Rattle.mm_types.specs.declared.feature.Kind.TheVariants.{Attribute, Reference}
+use Rattle.mm_types.specs.declared.feature.DataType.{DataType}
+use Rattle.mm_types.specs.declared.feature.DataType.TheVariants.{EString, EInt, ELong, EBoolean, Enum}
+use Rattle.mm_types.specs.declared.value.Value.{Value}
+use Rattle.mm_types.specs.declared.value.Value.TheVariants as value
+use Rattle.mm_types.specs.declared.numbers.ClassNo.{ClassNo}
+use Rattle.mm_types.specs.declared.numbers.FeatureNo.{FeatureNo}
+use Rattle.mm_types.specs.declared.numbers.ObjectNo.{ObjectNo}
+
+abbrev pub class : Metamodel → ClassNo → Option Class
+class m c = slice_get m.classes c.0
+
+abbrev pub feature : Metamodel → FeatureNo → Option Feature
+feature m f = slice_get m.features f.0
+
+abbrev pub class_by_name : Metamodel → List ℕ → Option ClassNo
+class_by_name m name = option_map class_no (position (λ c. bytes_eq c.name name) m.classes)
+
+-- all features of a class
+abbrev pub features : Metamodel → ClassNo → Option (List FeatureNo)
+features m c = option_map (λ k. k.all) (class m c)
+
+-- the name of the feature of a number among some, nothing where there is none
+abbrev pub name_in : List Feature → FeatureNo → List ℕ
+name_in fs f = option_map_or (λ g. g.name) (slice_get fs f.0) []
+
+abbrev pub feature_name : Metamodel → FeatureNo → List ℕ
+feature_name m = name_in m.features
+
+-- the feature of a name among all features of a class
+abbrev pub feature_by_name : Metamodel → ClassNo → List ℕ → Option FeatureNo
+feature_by_name m c name = option_and_then (find (λ f. bytes_eq (feature_name m f) name)) (features m c)
+
+-- the direct supertypes of each class
+abbrev pub supertypes : Metamodel → List (List ℕ)
+supertypes m = map (λ c. map (λ s. s.0) c.supers) m.classes
+
+-- a class is another, or inherits from it
+abbrev pub ConformsTo : Metamodel → ClassNo → ClassNo → Type 0
+ConformsTo m sub sup = (sub.0 < length m.classes) × Conforms (supertypes m) sub.0 sup.0
+
+abbrev pub kind_default : Kind → Value
+kind_default (Attribute t unique unsettable default) = default
+kind_default (Reference target containment opposite) = value.Null
+
+-- the default of a feature: null for a reference
+abbrev pub default : Metamodel → FeatureNo → Option Value
+default m f = option_map (λ g. kind_default g.kind) (feature m f)
+
+abbrev pub kind_opposite : Kind → Option FeatureNo
+kind_opposite (Attribute t unique unsettable default) = None
+kind_opposite (Reference target containment opposite) = opposite
+
+abbrev pub opposite : Metamodel → FeatureNo → Option FeatureNo
+opposite m f = option_and_then (λ g. kind_opposite g.kind) (feature m f)
+
+abbrev pub is_containment_kind : Kind → Bool
+is_containment_kind (Attribute t unique unsettable default) = false
+is_containment_kind (Reference target containment opposite) = containment
+
+-- a container reference is one whose opposite is containment
+abbrev pub is_container : Metamodel → FeatureNo → Bool
+is_container m f = option_map_or (λ g. is_containment_kind g.kind) (option_and_then (feature m) (opposite m f)) false
+
+-- the name of a literal, and the index of a name
+abbrev pub literal : Metamodel → ℕ → ℕ → Option (List ℕ)
+literal m e i = option_and_then (λ en. slice_get en.literals i) (slice_get m.enums e)
+
+abbrev pub literal_by_name : Metamodel → ℕ → List ℕ → Option ℕ
+literal_by_name m e name = literal_named m.enums e name
+
+-- the feature that holds a resource's roots: containment, of any number of objects of any class, without opposite
+abbrev pub contents : Metamodel → FeatureNo
+contents m = feature_no (length m.features)
+
+abbrev pub is_single : Feature → Bool
+is_single f = int_eq f.upper (pos 1)
+
+-- a value is one of a data type; null is one of no type here
+abbrev pub is_of_type : Metamodel → DataType → Value → Bool
+is_of_type m EString (value.Text text) = true
+is_of_type m EInt (value.Int n) = int_le (neg_ℤ (pos (2 ^ 31))) n && int_le n (pos (2 ^ 31 - 1))
+is_of_type m ELong (value.Int n) = true
+is_of_type m EBoolean (value.Bool b) = true
+is_of_type m (Enum e) (value.Literal i) = option_map_or (λ en. nat_lt i (length en.literals)) (slice_get m.enums e) false
+is_of_type m _ _ = false
+
+abbrev pub is_text_type : DataType → Bool
+is_text_type EString = true
+is_text_type _ = false
+
+-- an object of a class that conforms to the target
+abbrev pub IsObjectOf : Metamodel → Option ClassNo → ClassNo → Type 0
+IsObjectOf m None target = ⊥
+IsObjectOf m (Some c) target = ConformsTo m c target
+
+-- a value is one of a kind of feature, where the feature is single or not: null is one of a single text or reference, an
+-- object is one of its class's references, and a proxy and an adapter are none of any
+abbrev pub IsOfKind : Metamodel → (ObjectNo → Option ClassNo) → Bool → Kind → Value → Type 0
+IsOfKind m class_of single (Attribute t unique unsettable default) value.Null = IsTrue (single && is_text_type t)
+IsOfKind m class_of single (Attribute t unique unsettable default) v = IsTrue (is_of_type m t v)
+IsOfKind m class_of single (Reference target containment opposite) value.Null = IsTrue single
+IsOfKind m class_of single (Reference target containment opposite) (value.Object o) = IsObjectOf m (class_of o) target
+IsOfKind m class_of single (Reference target containment opposite) _ = ⊥
+
+-- a value is one of a feature's type
+abbrev pub IsTyped : Metamodel → (ObjectNo → Option ClassNo) → Feature → Value → Type 0
+IsTyped m class_of f v = IsOfKind m class_of (is_single f) f.kind v
