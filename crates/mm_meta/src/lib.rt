@@ -9,8 +9,6 @@ mod name_table;
 mod resolution;
 mod resolver;
 mod tables;
-#[cfg(test)]
-mod tests;
 
 pub use meta::Meta;
 pub use resolver::Resolver;

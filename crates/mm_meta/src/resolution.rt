@@ -21,6 +21,7 @@ pub struct Resolution {
 }
 
 impl Resolution {
+    /// What a well-formed document resolves to. Errs only where memory is refused.
     pub fn of(alloc: Global, raw: &RawMeta) -> Result<Self, AllocError>
         requires { WellFormed raw.now }
         ensures classes { IfOk result (λ r. r.classes ≡ classes_from raw.now.classes 0 raw.now.classes) }

@@ -1,5 +1,5 @@
 -- What a resolved metamodel says of its classes, features and enumerations by number and by name.
-use Rattle.std.specs.Prelude.{ℕ, ◌≡◌, ◌<◌, ◌&&◌, ◌==◌, ℤ, pos, neg_ℤ, ◌^◌, ◌-◌, Bool, true, false, not, IsTrue, List, [], ◌∷◌, length, map, position, slice_get, nat_lt, Option, Some, None, option_map, option_and_then, if◌then◌else◌, int_le}
+use Rattle.std.specs.Prelude.{ℕ, ◌<◌, ◌&&◌, pos, neg_ℤ, ◌^◌, ◌-◌, Bool, true, false, IsTrue, List, [], length, map, position, slice_get, nat_lt, Option, Some, None, option_map, option_and_then, int_le}
 use Rattle.std.specs.List.{find}
 use Rattle.std.specs.Option.{option_map_or}
 use Rattle.std.specs.Ordering.{int_eq}
@@ -7,7 +7,6 @@ use Rattle.std.specs.Str.{bytes_eq}
 use Rattle.mm_types.specs.Graph.{Conforms}
 use Rattle.mm_types.specs.Resolved.{Metamodel, class_no, feature_no, literal_named}
 use Rattle.mm_types.specs.declared.class.Class.{Class}
-use Rattle.mm_types.specs.declared.class.Enumeration.{Enumeration}
 use Rattle.mm_types.specs.declared.feature.Feature.{Feature}
 use Rattle.mm_types.specs.declared.feature.Kind.{Kind}
 use Rattle.mm_types.specs.declared.feature.Kind.TheVariants.{Attribute, Reference}

@@ -30,3 +30,6 @@ pub use refused::Refused;
 pub use seq::Seq;
 pub use text::Text;
 pub use value::Value;
+
+#[cfg(test)]
+mod tests;

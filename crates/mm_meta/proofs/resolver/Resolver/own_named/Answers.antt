@@ -14,8 +14,8 @@ returns c =
     row_read (own_of raw.classes) c.deref.result.now c.args.class c.in_ok-get.field-0.now rows_are c.in_ok-get.ensures.lookup.3.0 c.in_ok-get.ensures.lookup.1 ∙ sym c.as_slice.ensures in
     let value : c.copied.result ≡ own_named raw.classes c.args.class c.args.name.now =
     c.copied.ensures
-      ∙ (got _ _ c.get-2.result c.get-2.ensures.lookup
-      ∙ (ap (λ (r : List ℕ). slice_get r c.in_ok-index.index) (sym row_is) ∙ ap (option_and_then (slice_get (row (own_of raw.classes) c.args.class))) c.in_ok-index.ensures)) in
+    ∙ (got _ _ c.get-2.result c.get-2.ensures.lookup
+    ∙ (ap (λ (r : List ℕ). slice_get r c.in_ok-index.index) (sym row_is) ∙ ap (option_and_then (slice_get (row (own_of raw.classes) c.args.class))) c.in_ok-index.ensures)) in
     record {
       value = value;
       small = own_small_if raw c.args.class c.args.name.now c.copied.result (subst (λ (r : RawMetamodel). IsTrue (is_within_limits r)) c.self.view_is c.self.invariant.fits) value;

@@ -1,0 +1,32 @@
+-- What the bytes of a document give: the metamodel, or the lowest of the first three faults.
+use Rattle.std.specs.Prelude.{ℕ, ◌≡◌, List, Option, Some, None, Result, Ok, Err, if◌then◌else◌}
+use Rattle.std.specs.Str.{is_utf8}
+use Rattle.serde_json.specs.Data.{Data}
+use Rattle.serde_json.specs.Read.{read}
+use Rattle.mm_types.specs.Raw.{RawMetamodel, is_within_limits}
+use Rattle.mm_types.specs.declared.meta_fault.MetaFault.{MetaFault}
+use Rattle.mm_types.specs.declared.meta_fault.MetaFault.TheVariants.{Syntax, Layout, Limit, Memory}
+use Rattle.mm_load.specs.Layout.{document}
+
+-- within the limits or not
+abbrev pub limited : RawMetamodel → Result RawMetamodel MetaFault
+limited raw = if is_within_limits raw then Ok raw else Err Limit
+
+-- the limits, where the layout is right
+abbrev pub laid_out : Option RawMetamodel → Result RawMetamodel MetaFault
+laid_out None = Err Layout
+laid_out (Some raw) = limited raw
+
+-- the layout, where the bytes are JSON
+abbrev pub parsed : Option Data → Result RawMetamodel MetaFault
+parsed None = Err Syntax
+parsed (Some d) = laid_out (document d)
+
+-- the metamodel that the bytes write, or the lowest fault that applies
+unfoldable pub loaded : List ℕ → Result RawMetamodel MetaFault
+loaded bytes = if is_utf8 bytes then parsed (read bytes) else Err Syntax
+
+-- What the loader returned is that, unless memory was refused.
+abbrev pub Loads : Result RawMetamodel MetaFault → Result RawMetamodel MetaFault → Type 0
+Loads (Err Memory) wanted = Unit {0}
+Loads result wanted = wanted ≡ result

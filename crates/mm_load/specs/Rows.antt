@@ -1,0 +1,105 @@
+-- A layout is rows, one for each key that an object may have: the key, whether it is required, and how its value is read.
+use Rattle.std.specs.Prelude.{ℕ, ◌≡◌, ◌&&◌, ◌++◌, Bool, true, false, List, [], ◌∷◌, Option, Some, None, Result, Ok, Err, if◌then◌else◌, option_and_then, option_map}
+use Rattle.std.specs.List.{list_any}
+use Rattle.std.specs.Str.{bytes_eq}
+use Rattle.serde_json.specs.Data.{Data, Items, no_items, item, Members, no_members, member}
+use Rattle.serde_json.specs.Find.{as_array, as_object, as_str, get}
+use Rattle.mm_load.specs.declared.read_fault.ReadFault.{ReadFault}
+use Rattle.mm_load.specs.declared.read_fault.ReadFault.TheVariants.{Layout, Memory}
+
+infixl 10 ◌>>=◌
+abbrev pub ◌>>=◌ : {A B : Type 0} → Option A → (A → Option B) → Option B
+o >>= f = option_and_then f o
+
+-- What a reader returned is what the reading gives, unless memory was refused.
+abbrev pub Gives : {X : Type 0} → Result X ReadFault → Option X → Type 0
+Gives (Ok x) reading = reading ≡ Some x
+Gives (Err Layout) reading = reading ≡ None
+Gives (Err Memory) reading = Unit {0}
+
+-- ---- values
+
+-- a text
+abbrev pub text : Data → Option (List ℕ)
+text = as_str
+
+-- a text that may be absent
+abbrev pub literal : Data → Option (Option (List ℕ))
+literal d = option_map Some (as_str d)
+
+-- this text and no other
+abbrev pub word : List ℕ → Data → Option (Unit {0})
+word wanted d = do
+  found ← as_str d
+  if bytes_eq found wanted then Some tt else None
+
+-- each item in turn
+abbrev pub each : {X : Type 0} → (Data → Option X) → Items → Option (List X)
+each reading no_items = Some []
+each reading (item d ds) = do
+  x ← reading d
+  xs ← each reading ds
+  Some (x ∷ xs)
+
+-- an array of such values
+abbrev pub array_of : {X : Type 0} → (Data → Option X) → Data → Option (List X)
+array_of reading d = as_array d >>= each reading
+
+-- ---- rows
+
+abbrev pub or_absent : {X : Type 0} → (Data → Option X) → X → Option Data → Option X
+or_absent reading absent None = Some absent
+or_absent reading absent (Some d) = reading d
+
+abbrev pub required_at : {X : Type 0} → List ℕ → (Data → Option X) → Data → Option X
+required_at key reading d = get key d >>= reading
+
+abbrev pub optional_at : {X : Type 0} → List ℕ → (Data → Option X) → X → Data → Option X
+optional_at key reading absent d = or_absent reading absent (get key d)
+
+-- the keys of the rows, and what they say of an object
+pub record Rows (X : Type 0) : Type 0 where
+  pub keys : List (List ℕ)
+  pub reading : Data → Option X
+
+-- a key that has to be there
+abbrev pub required : {X : Type 0} → List ℕ → (Data → Option X) → Rows X
+required key reading = record { keys = key ∷ []; reading = required_at key reading }
+
+-- a key that may be absent, and what that says
+abbrev pub optional : {X : Type 0} → List ℕ → (Data → Option X) → X → Rows X
+optional key reading absent = record { keys = key ∷ []; reading = optional_at key reading absent }
+
+-- no rows yet: a value is made of what the rows behind it say
+abbrev pub makes : {X : Type 0} → X → Rows X
+makes x = record { keys = []; reading = λ d. Some x }
+
+-- one more row
+infixl 10 ◌also◌
+abbrev pub ◌also◌ : {A B : Type 0} → Rows (A → B) → Rows A → Rows B
+rows also row = record {
+  keys = rows.keys ++ row.keys;
+  reading = λ d. do
+    f ← rows.reading d
+    a ← row.reading d
+    Some (f a);
+}
+
+-- ---- objects
+
+-- each key is among the names
+abbrev pub only_keys : List (List ℕ) → Members → Bool
+only_keys names no_members = true
+only_keys names (member k d ms) = list_any (λ n. bytes_eq n k) names && only_keys names ms
+
+abbrev pub object_has_only : List (List ℕ) → Option Members → Bool
+object_has_only names (Some ms) = only_keys names ms
+object_has_only names None = false
+
+-- an object with no other keys
+abbrev pub has_only : List (List ℕ) → Data → Bool
+has_only names d = object_has_only names (as_object d)
+
+-- an object of these rows and no other
+abbrev pub object_of : {X : Type 0} → Rows X → Data → Option X
+object_of rows d = if has_only rows.keys d then rows.reading d else None

@@ -1,0 +1,15 @@
+//! A metamodel document is read: JSON to enumerations and classes whose names are unresolved.
+//!
+//! `specs/Layout.antt` is the layout of a document, row by row, and `specs/Loaded.antt` says which of
+//! the first three faults a document has.
+#![tactic(auto)]
+
+mod document;
+mod layout;
+mod load;
+mod members;
+mod read_fault;
+#[cfg(test)]
+mod tests;
+
+pub use load::load_meta;

@@ -1,0 +1,31 @@
+//! The bytes of a document are read.
+ghost use Rattle.mm_load.specs.Loaded.{Loads, loaded};
+
+use crate::layout::document_of;
+use crate::read_fault::ReadFault;
+use mm_types::{MetaFault, RawMeta};
+use serde_json::Value;
+use std::alloc::Global;
+
+/// The metamodel that a document writes, with its names unresolved; else the lowest fault that applies:
+///
+/// - `Syntax` where the bytes are no JSON, of at most 127 levels, in UTF-8;
+/// - `Layout` where the value has another shape than a metamodel, or a key that is not listed;
+/// - `Limit` where a count or a length passes its limit.
+///
+/// `Memory` only where memory was refused, whatever else applies. Of equal keys of an object the last counts.
+/// The time is linear in the document, but for the logarithm that the keys of a large object cost.
+pub fn load_meta(alloc: Global, bytes: &[u8]) -> Result<RawMeta, MetaFault>
+    ensures { Loads result (loaded bytes.now) }
+{
+    let value = match Value::from_slice(alloc, bytes) {
+        Ok(value) => value,
+        Err(error) if error.is_memory() => return Err(MetaFault::Memory),
+        Err(_) => return Err(MetaFault::Syntax),
+    };
+    match document_of(alloc, &value) {
+        Ok(document) => document.into_meta(),
+        Err(ReadFault::Memory) => Err(MetaFault::Memory),
+        Err(ReadFault::Layout) => Err(MetaFault::Layout),
+    }
+}

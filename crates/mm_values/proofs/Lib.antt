@@ -1,0 +1,5 @@
+pub mod HeldIn
+pub mod Place
+pub mod SlotLemmas
+pub mod UriLemmas
+pub mod RoomLemmas

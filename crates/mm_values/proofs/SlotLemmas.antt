@@ -1,0 +1,74 @@
+-- What a write to one slot does to the objects and their places.
+use Rattle.std.proofs.Common.{◌≡◌, ℕ, zero, suc, ◌<◌, ◌≤◌, ◌⊎◌, List, [], ◌∷◌, length, get_or, set, take, map, Option, Some, None, refl, inl, inr, sym, ap, ◌∙◌, arith}
+use Rattle.std.specs.Option.{option_map}
+use Rattle.std.proofs.lemmas.List.{map-set, length-set, length-map, length-take, get_or-set_same, get_or-set_other, get_or-map, get_or-take, set-get_or, set_past, get_or_default}
+use Rattle.std.proofs.lemmas.Bool.{cases_lt, cases_order}
+use Rattle.mm_types.specs.declared.numbers.ClassNo.{ClassNo}
+use Rattle.mm_types.specs.declared.numbers.FeatureNo.{FeatureNo}
+use Rattle.mm_values.specs.declared.objects.Slot.{Slot}
+use Rattle.mm_values.specs.declared.attribute_lists.Entry.{Entry}
+use Rattle.mm_values.specs.Held.{Held, with_held}
+use Rattle.mm_values.specs.Attributes.{held_in, HasPlace}
+use Rattle.mm_values.specs.Values.{put_held}
+use Rattle.mm_values.specs.Slots.{Slots, state_of, objects_of, HasPlaceAt, KeepsPlaces}
+
+abbrev pub row : List Slot → ℕ → Slots
+row xs n = record { slots = xs; next = n }
+
+take_set : {X : Type 0} (n i : ℕ) (xs : List X) (y : X) → take n (set xs i y) ≡ set (take n xs) i y
+take_set zero i xs y = refl
+take_set (suc n) i [] y = refl
+take_set (suc n) zero (x ∷ xs) y = refl
+take_set (suc n) (suc i) (x ∷ xs) y = ap (λ l. x ∷ l) (take_set n i xs y)
+
+pub objects-set : (xs : List Slot) (n i : ℕ) (y : Slot) → objects_of (row (set xs i y) n) ≡ set (objects_of (row xs n)) i (state_of y)
+objects-set xs n i y = ap (map state_of) (take_set n i xs y) ∙ map-set state_of (take n xs) i y
+
+-- the object of a slot that was made
+pub object-get_or : (xs : List Slot) (n i : ℕ) (d : Slot) → i < n → i < length xs → get_or (objects_of (row xs n)) i None ≡ state_of (get_or xs i d)
+object-get_or xs n i d made within =
+    let in_front : i < length (take n xs) = omega (arith, length-take n xs) in
+    get_or-map state_of (take n xs) i d None in_front ∙ ap state_of (get_or-take n xs i d made)
+
+-- an object that stays as it is
+pub objects_same : (xs : List Slot) (n i : ℕ) (y d : Slot) → i < length xs → state_of y ≡ state_of (get_or xs i d) → objects_of (row (set xs i y) n) ≡ objects_of (row xs n)
+objects_same xs n i y d within same = objects-set xs n i y ∙ elim (cases_lt i n) [
+  | inl made ↦ ap (set (objects_of (row xs n)) i) (same ∙ sym (object-get_or xs n i d made within)) ∙ set-get_or (objects_of (row xs n)) i None
+  | inr ahead ↦ set_past (objects_of (row xs n)) i (state_of y) (omega (arith, length-map (take n xs) state_of, length-take n xs))
+]
+
+-- each slot but one stays, and that one keeps its places or is dead
+pub kept_set : (xs : List Slot) (n n' i : ℕ) (y : Slot) → n ≤ n' → i < length xs → ((f : ℕ) (d : Slot) → ((i < n) × ((get_or xs i d).class ≡ None)) ⊎ HasPlace (get_or xs i d).lists f → ((i < n') × (y.class ≡ None)) ⊎ HasPlace y.lists f) → KeepsPlaces (row xs n) (row (set xs i y) n')
+kept_set xs n n' i y more within step = record { slots = length-set xs i y; places = places }
+  where
+    others : (o f : ℕ) → (o ≡ i → ⊥) → HasPlaceAt (row xs n) o f → HasPlaceAt (row (set xs i y) n') o f
+    others o f apart has d lt = rw (get_or-set_other xs i o y d apart) (elim (has d (omega (arith, length-set xs i y))) [
+      | inl dead ↦ inl (omega arith, dead.1)
+      | inr place ↦ inr place
+    ])
+
+    places : (o f : ℕ) → HasPlaceAt (row xs n) o f → HasPlaceAt (row (set xs i y) n') o f
+    places o f has = elim (cases_order o i) [
+      | inl same ↦ λ d lt. rw (same, get_or-set_same xs i y d within) (step f d (rw same at (has d (omega (arith, length-set xs i y)))))
+      | inr (inl less) ↦ others o f (λ e. omega arith) has
+      | inr (inr more) ↦ others o f (λ e. omega arith) has
+    ]
+
+-- what is put in the lists is put in the object
+pub state-put : (c : Option ClassNo) (l l' : List Entry) (f : FeatureNo) (h : Held) → held_in l' ≡ with_held (held_in l) f.0 h → state_of (record { class = c; lists = l' }) ≡ option_map (put_held f h) (state_of (record { class = c; lists = l }))
+state-put None l l' f h e = refl
+state-put (Some c) l l' f h e = ap (λ m. Some (record { class = c; held = m })) e
+
+-- lists that hold the same make the same object
+pub state_same : (c : Option ClassNo) (l l' : List Entry) → held_in l' ≡ held_in l → state_of (record { class = c; lists = l' }) ≡ state_of (record { class = c; lists = l })
+state_same None l l' e = refl
+state_same (Some c) l l' e = ap (λ m. Some (record { class = c; held = m })) e
+
+-- a slot that was read, and is written back with its class and no place less
+pub kept_read : (xs : List Slot) (n i : ℕ) (x : Slot) (l : List Entry) → i < length xs → x ≡ get_or xs i x → ((f : ℕ) → HasPlace x.lists f → HasPlace l f) → KeepsPlaces (row xs n) (row (set xs i (record { class = x.class; lists = l })) n)
+kept_read xs n i x l within read more = kept_set xs n n i (record { class = x.class; lists = l }) (omega arith) within (λ f d was.
+    let here : get_or xs i d ≡ x = get_or_default xs i d x within ∙ sym read in
+    elim (rw here at was) [
+      | inl dead ↦ inl dead
+      | inr place ↦ inr (more f place)
+    ])

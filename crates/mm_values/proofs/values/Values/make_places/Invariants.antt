@@ -1,0 +1,11 @@
+use Rattle.std.proofs.Common.{◌≡◌, length, take}
+use Rattle.std.specs.Prelude.{All}
+use Rattle.mm_values.specs.Room.{values_of, HasPlaceFor}
+use Rattle.mm_values.proofs.values.Values.make_places.Given as goal
+
+abbrev pub invariant-loop-edit : goal.invariant-loop-edit
+invariant-loop-edit l =
+    (values_of l.self ≡ values_of l.fn.self) ×
+    (l.self.objects.next ≡ l.fn.self.objects.next) ×
+    (length l.self.objects.slots ≡ length l.fn.self.objects.slots) ×
+    All (HasPlaceFor l.self.objects) (take l.edit-index l.edits)

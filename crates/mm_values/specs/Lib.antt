@@ -1,0 +1,6 @@
+pub mod Held
+pub mod Attributes
+pub mod Values
+pub mod Slots
+pub mod Uris
+pub mod Room

@@ -1,0 +1,7 @@
+-- A row of URIs.
+use Rattle.std.specs.Prelude.{ℕ, List}
+
+-- the URIs in the order of their resources, and how many more may come with no memory taken
+pub record UriRow : Type 0 where
+  pub uris : List (List ℕ)
+  pub room : ℕ

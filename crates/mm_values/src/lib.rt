@@ -1,0 +1,15 @@
+//! What a model repository holds besides links: objects by number, each with its class and its
+//! attribute lists, and the URIs of resources.
+//!
+//! Changes are planned as a list of edits. `Values::reserve_for` takes all the memory that a plan
+//! needs, and `Values::apply` then runs it and cannot fail.
+#![tactic(auto)]
+
+mod attribute_lists;
+mod edit;
+mod objects;
+mod uris;
+mod values;
+
+pub use edit::{ValueEdit, ValuePlan};
+pub use values::Values;

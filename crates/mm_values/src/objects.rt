@@ -1,0 +1,186 @@
+//! The objects of a repository, by number.
+ghost use Rattle.std.specs.Prelude.{◌≡◌, ◌+◌, ◌<◌, ◌≤◌, [], length, option_copied, OnOk, OnErr};
+ghost use Rattle.std.specs.Option.{option_map, option_and_then};
+ghost use Rattle.mm_values.specs.Values.{object_at, held_under, with_object, without_object, with_list};
+ghost use Rattle.mm_values.specs.Slots.{objects_of, state_of, HasPlaceAt, KeepsPlaces};
+
+use crate::attribute_lists::AttributeLists;
+use mm_types::{ClassNo, FeatureNo, ObjectNo, Seq, Value};
+use std::alloc::{AllocError, Global};
+use std::marker::Model;
+
+/// An object's class, where it is live, and its attribute lists.
+#[derive(Debug, Drop)]
+pub(crate) struct Slot {
+    class: Option<ClassNo>,
+    lists: AttributeLists,
+}
+
+/// The objects by number: `next` of them were made. The slots behind them are ready for objects to come.
+#[derive(Debug, Drop)]
+pub(crate) struct Objects {
+    slots: Vec<Slot>,
+    next: usize,
+}
+
+impl Model for Objects {
+    ghost use Rattle.mm_values.specs.Slots.{Slots, IsReady};
+
+    ghost Value = { Slots };
+
+    ghost view = { λ a. record { slots = a.slots.items; next = a.next } };
+
+    ghost invariant = { λ a. IsReady (record { slots = a.slots.items; next = a.next }) };
+}
+
+impl Objects {
+    /// No objects. Takes no memory.
+    pub fn new(alloc: Global) -> Self
+        ensures none { objects_of result ≡ [] }
+        ensures no_slots { result.slots ≡ [] }
+    {
+        Objects {
+            slots: Vec::new(alloc),
+            next: 0,
+        }
+    }
+
+    /// How many objects were made.
+    pub fn next(&self) -> usize
+        ensures made { result ≡ length (objects_of self.now) }
+        ensures next { result ≡ self.now.next }
+    {
+        self.next
+    }
+
+    // The slot of an object that was made.
+    fn slot(&self, object: ObjectNo) -> Option<&Slot>
+        ensures { object_at (objects_of self.now) object ≡ option_and_then state_of (option_copied result) }
+    {
+        let index = object.0 as usize;
+        if index < self.next {
+            Some(&self.slots[index])
+        } else {
+            None
+        }
+    }
+
+    /// The class of a live object.
+    pub fn class(&self, object: ObjectNo) -> Option<ClassNo>
+        ensures { result ≡ option_map (λ s. s.class) (object_at (objects_of self.now) object) }
+    {
+        self.slot(object)?.class
+    }
+
+    /// What a live object holds under an attribute.
+    pub fn list(&self, object: ObjectNo, feature: FeatureNo) -> Option<&[Value]>
+        ensures { option_copied result ≡ option_map (λ s. (held_under s feature).list) (object_at (objects_of self.now) object) }
+    {
+        let slot = self.slot(object)?;
+        slot.class.map(|_| slot.lists.list(feature))
+    }
+
+    /// Whether an attribute of a live object is set.
+    pub fn flag(&self, object: ObjectNo, feature: FeatureNo) -> Option<bool>
+        ensures { result ≡ option_map (λ s. (held_under s feature).flag) (object_at (objects_of self.now) object) }
+    {
+        let slot = self.slot(object)?;
+        slot.class.map(|_| slot.lists.flag(feature))
+    }
+
+    // Makes one more slot ready. Where memory is refused nothing has changed.
+    fn add_slot(&mut self) -> Result<(), AllocError>
+        ensures objects { objects_of self.new ≡ objects_of self.old }
+        ensures next { self.new.next ≡ self.old.next }
+        ensures ok { OnOk result (length self.new.slots ≡ length self.old.slots + 1) }
+        ensures err { OnErr result (self.new ≡ self.old) }
+    {
+        let alloc = *self.slots.allocator();
+        self.slots.push(Slot {
+            class: None,
+            lists: AttributeLists::new(alloc),
+        })?;
+        Ok(())
+    }
+
+    /// How many objects may be made with no memory taken.
+    pub fn ready(&self) -> usize
+        ensures { result + self.now.next ≡ length self.now.slots }
+    {
+        self.slots.len() - self.next
+    }
+
+    /// Makes slots ready for more objects. Errs where memory is refused.
+    pub fn reserve(&mut self, additional: usize) -> Result<(), AllocError>
+        ensures objects { objects_of self.new ≡ objects_of self.old }
+        ensures ok { OnOk result (self.new.next + additional ≤ length self.new.slots) }
+    {
+        for _have in self.ready()..additional {
+            self.add_slot()?;
+        }
+        Ok(())
+    }
+
+    /// Makes a place for what an attribute of an object will hold, also of one that is still to be
+    /// made. Errs where memory is refused.
+    pub fn make_place(&mut self, object: ObjectNo, feature: FeatureNo) -> Result<(), AllocError>
+        ensures objects { objects_of self.new ≡ objects_of self.old }
+        ensures next { self.new.next ≡ self.old.next }
+        ensures kept { KeepsPlaces self.old self.new }
+        ensures ok { OnOk result (HasPlaceAt self.new object.0 feature.0) }
+    {
+        let index = object.0 as usize;
+        if index >= self.slots.len() {
+            return Ok(());
+        }
+        let slot = &mut self.slots[index];
+        if index < self.next && slot.class.is_none() {
+            return Ok(());
+        }
+        slot.lists.make_place(feature)
+    }
+
+    /// Makes an object, in a slot that is ready. Takes no memory.
+    pub fn add(&mut self, class: ClassNo)
+        requires { self.old.next < length self.old.slots }
+        ensures objects { objects_of self.new ≡ with_object (objects_of self.old) class }
+        ensures next { self.new.next ≡ self.old.next + 1 }
+        ensures kept { KeepsPlaces self.old self.new }
+    {
+        let slot = &mut self.slots[self.next];
+        slot.class = Some(class);
+        self.next += 1;
+    }
+
+    /// Ends an object, and gives back what it held.
+    pub fn remove(&mut self, object: ObjectNo)
+        ensures objects { objects_of self.new ≡ without_object (objects_of self.old) object }
+        ensures next { self.new.next ≡ self.old.next }
+        ensures kept { KeepsPlaces self.old self.new }
+    {
+        let index = object.0 as usize;
+        if index < self.next {
+            let alloc = *self.slots.allocator();
+            self.slots[index] = Slot {
+                class: None,
+                lists: AttributeLists::new(alloc),
+            };
+        }
+    }
+
+    /// Replaces what a live object holds under an attribute, in its place. Takes no memory.
+    pub fn put(&mut self, object: ObjectNo, feature: FeatureNo, list: Seq<Value>, flag: bool)
+        requires { HasPlaceAt self.old object.0 feature.0 }
+        ensures objects { objects_of self.new ≡ with_list (objects_of self.old) object feature (record { list = list; flag = flag }) }
+        ensures next { self.new.next ≡ self.old.next }
+        ensures kept { KeepsPlaces self.old self.new }
+    {
+        let index = object.0 as usize;
+        if index < self.next {
+            let slot = &mut self.slots[index];
+            if slot.class.is_some() {
+                slot.lists.put(feature, list, flag);
+            }
+        }
+    }
+}

@@ -1,0 +1,160 @@
+//! What a repository holds besides links.
+ghost use Rattle.std.specs.Prelude.{◌≡◌, List, [], ◌∷◌, length, option_copied, All, OnOk};
+
+use crate::edit::{ValueEdit, ValuePlan};
+use crate::objects::Objects;
+use crate::uris::Uris;
+use mm_types::{ClassNo, FeatureNo, ObjectNo, ResourceNo, Value};
+use std::alloc::{AllocError, Global};
+
+/// Objects by number, each with its class and its attribute lists, and the URIs of resources.
+#[derive(Drop)]
+pub struct Values {
+    objects: Objects,
+    uris: Uris,
+}
+
+impl Values {
+    ghost use Rattle.mm_values.specs.Values.{class_of, list_of, flag_of, uri_of, resource_of, edited, applied};
+    ghost use Rattle.mm_values.specs.Room.{values_of, HasRoom, HasPlaceFor};
+    ghost use Rattle.mm_values.specs.Slots.{KeepsPlaces};
+    ghost use Rattle.mm_values.specs.declared.edit.ValueEdit.{ValueEdit};
+
+    /// No objects and no resources. Takes no memory.
+    pub fn new(alloc: Global) -> Self
+        ensures { values_of result ≡ record { objects = []; uris = [] } }
+    {
+        Values {
+            objects: Objects::new(alloc),
+            uris: Uris::new(alloc),
+        }
+    }
+
+    /// The number that the next object gets: how many were made, dropped ones among them.
+    pub fn next(&self) -> usize
+        ensures { result ≡ length (values_of self.now).objects }
+    {
+        self.objects.next()
+    }
+
+    /// How many resources there are.
+    pub fn resources(&self) -> usize
+        ensures { result ≡ length (values_of self.now).uris }
+    {
+        self.uris.len()
+    }
+
+    /// The class of an object (EMF: EObject.eClass); `None` where no live object has the number.
+    pub fn class(&self, object: ObjectNo) -> Option<ClassNo>
+        ensures { result ≡ class_of (values_of self.now) object }
+    {
+        self.objects.class(object)
+    }
+
+    /// The values that an object has under an attribute (EMF: eGet), none where it holds none;
+    /// `None` where no live object has the number.
+    pub fn list(&self, object: ObjectNo, feature: FeatureNo) -> Option<&[Value]>
+        ensures { option_copied result ≡ list_of (values_of self.now) object feature }
+    {
+        self.objects.list(object, feature)
+    }
+
+    /// The flag that was put with the values of an attribute (EMF: eIsSet); `None` where no live object
+    /// has the number.
+    pub fn flag(&self, object: ObjectNo, feature: FeatureNo) -> Option<bool>
+        ensures { result ≡ flag_of (values_of self.now) object feature }
+    {
+        self.objects.flag(object, feature)
+    }
+
+    /// The URI of a resource (EMF: Resource.getURI); `None` where no resource has the number.
+    pub fn uri(&self, resource: ResourceNo) -> Option<&str>
+        ensures { option_copied result ≡ uri_of (values_of self.now) resource }
+    {
+        self.uris.get(resource)
+    }
+
+    /// The resource of a URI (EMF: ResourceSet.getResource); `None` where no resource has it.
+    pub fn resource_of(&self, uri: &str) -> Option<ResourceNo>
+        ensures { result ≡ resource_of (values_of self.now) uri.now }
+    {
+        self.uris.find(uri)
+    }
+
+    /// Takes all the memory that a plan needs. Errs where memory is refused, or where there would be
+    /// more than 2^32 resources; `apply` may be called only after `Ok`. Nothing that is seen changes.
+    pub fn reserve_for(&mut self, plan: &ValuePlan) -> Result<(), AllocError>
+        ensures unchanged { values_of self.new ≡ values_of self.old }
+        ensures ok { OnOk result (HasRoom self.new plan.now) }
+    {
+        let edits = plan.as_slice();
+        let new_objects = edits.iter().filter(|e| e.is_new_object()).count();
+        self.objects.reserve(new_objects)?;
+        self.make_places(edits)?;
+        let new_uris = edits.iter().filter(|e| e.is_new_uri()).count();
+        self.uris.reserve(new_uris)
+    }
+
+    /// Makes the edits of a plan, in their order. Takes no memory.
+    pub fn apply(&mut self, plan: ValuePlan)
+        requires { HasRoom self.old plan }
+        ensures { values_of self.new ≡ applied (values_of self.old) plan }
+    {
+        for edit in plan.into_vec() {
+            self.apply_edit(edit);
+        }
+    }
+
+    // Makes one edit, and keeps the room for those that follow.
+    fn apply_edit(&mut self, edit: ValueEdit)
+        requires { HasRoom self.old (edit ∷ []) }
+        ensures edited { values_of self.new ≡ edited (values_of self.old) edit }
+        ensures room { (rest : List ValueEdit) → HasRoom self.old (edit ∷ rest) → HasRoom self.new rest }
+    {
+        match edit {
+            ValueEdit::NewObject(class) => self.objects.add(class),
+            ValueEdit::DropObject(object) => self.objects.remove(object),
+            ValueEdit::PutList {
+                object,
+                feature,
+                list,
+                flag,
+            } => self.objects.put(object, feature, list, flag),
+            ValueEdit::NewUri(uri) => self.uris.add(uri),
+        }
+    }
+
+    // Makes a place for each list that is put.
+    fn make_places(&mut self, edits: &[ValueEdit]) -> Result<(), AllocError>
+        ensures unchanged { values_of self.new ≡ values_of self.old }
+        ensures next { self.new.objects.next ≡ self.old.objects.next }
+        ensures slots { length self.new.objects.slots ≡ length self.old.objects.slots }
+        ensures ok { OnOk result (All (HasPlaceFor self.new.objects) edits.now) }
+    {
+        for edit in edits {
+            self.make_place_for(edit)?;
+        }
+        Ok(())
+    }
+
+    // Makes a place for a list that is put.
+    fn make_place_for(&mut self, edit: &ValueEdit) -> Result<(), AllocError>
+        ensures unchanged { values_of self.new ≡ values_of self.old }
+        ensures next { self.new.objects.next ≡ self.old.objects.next }
+        ensures kept { KeepsPlaces self.old.objects self.new.objects }
+        ensures ok { OnOk result (HasPlaceFor self.new.objects edit.now) }
+    {
+        match edit {
+            ValueEdit::PutList {
+                object,
+                feature,
+                list: _,
+                flag: _,
+            } => self.objects.make_place(*object, *feature),
+            ValueEdit::NewObject(_) | ValueEdit::DropObject(_) | ValueEdit::NewUri(_) => Ok(()),
+        }
+    }
+}
+
+#[cfg(test)]
+mod tests;
