@@ -10,8 +10,8 @@ use indexmap::IndexSet;
 use mm_types::{Seq, Text};
 use std::alloc::{AllocError, Global};
 
-/// Whether a name stands twice.
-fn has_repeats(alloc: Global, names: &[&str]) -> Result<bool, AllocError>
+/// Whether a name stands twice. Errs only where memory is refused.
+pub fn has_repeats(alloc: Global, names: &[&str]) -> Result<bool, AllocError>
     ensures { IfOk result (λ b. b ≡ repeats [] (map (λ n. n.now) names.now)) }
 {
     let mut seen: IndexSet<&str> = IndexSet::new(alloc);

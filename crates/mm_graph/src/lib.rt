@@ -13,7 +13,7 @@ mod reach;
 #[cfg(test)]
 mod tests;
 
-pub use clash::clashes;
+pub use clash::{clashes, has_repeats};
 pub use features::features_table;
 pub use order::order_of;
 pub use reach::{conform_table, conforming, first_on_cycle, reached_from};

@@ -67,6 +67,13 @@ impl<'a> Resolver<'a> {
         self.class_table.position(name)
     }
 
+    /// The position of the enumeration of a name.
+    pub fn enumeration(&self, name: &str) -> Option<usize>
+        ensures { result ≡ enum_named self.now.enums name.now }
+    {
+        self.enum_table.position(name)
+    }
+
     /// The data type or enumeration of a name.
     pub fn data_type(&self, name: &str) -> Option<DataType>
         ensures { result ≡ data_type_named self.now.enums name.now }

@@ -1,0 +1,6 @@
+mod NamesBefore
+mod Unique
+mod Opposing
+mod Inside
+mod Deciding
+mod Faulting
