@@ -100,16 +100,20 @@ abbrev pub is_text_type : DataType → Bool
 is_text_type EString = true
 is_text_type _ = false
 
+-- a value is one of an attribute, single or not, of a data type: null is one of a single text
+abbrev pub is_attribute_value : Metamodel → Bool → DataType → Value → Bool
+is_attribute_value m single t value.Null = single && is_text_type t
+is_attribute_value m single t v = is_of_type m t v
+
 -- an object of a class that conforms to the target
 abbrev pub IsObjectOf : Metamodel → Option ClassNo → ClassNo → Type 0
 IsObjectOf m None target = ⊥
 IsObjectOf m (Some c) target = ConformsTo m c target
 
--- a value is one of a kind of feature, where the feature is single or not: null is one of a single text or reference, an
--- object is one of its class's references, and a proxy and an adapter are none of any
+-- a value is one of a kind of feature, where the feature is single or not: null is one of a single reference, an object is
+-- one of its class's references, and a proxy and an adapter are none of any
 abbrev pub IsOfKind : Metamodel → (ObjectNo → Option ClassNo) → Bool → Kind → Value → Type 0
-IsOfKind m class_of single (Attribute t unique unsettable default) value.Null = IsTrue (single && is_text_type t)
-IsOfKind m class_of single (Attribute t unique unsettable default) v = IsTrue (is_of_type m t v)
+IsOfKind m class_of single (Attribute t unique unsettable default) v = IsTrue (is_attribute_value m single t v)
 IsOfKind m class_of single (Reference target containment opposite) value.Null = IsTrue single
 IsOfKind m class_of single (Reference target containment opposite) (value.Object o) = IsObjectOf m (class_of o) target
 IsOfKind m class_of single (Reference target containment opposite) _ = ⊥

@@ -1,0 +1,144 @@
+//! `mmrepo --meta FILE` reads a metamodel, and runs the script on its standard input.
+#![tactic(auto)]
+
+use clap::error::ErrorKind;
+use mm_check::check;
+use mm_load::load_meta;
+use mm_meta::Meta;
+use mm_types::MetaFault;
+use script_program::{RunFault, meta_file, read_all, run};
+use std::alloc::AllocError;
+use std::io::{BufWriter, Write};
+use std::process::ExitCode;
+use std::{env, fs, io};
+
+/// Why the program stops before the end of the script.
+#[derive(Drop)]
+enum Stop {
+    /// The words are no arguments of the program, or ask for help.
+    Arguments(clap::Error),
+    /// The metamodel is refused.
+    Metamodel(MetaFault),
+    /// A stream failed, an input is too long, or memory was refused.
+    Run(RunFault),
+}
+
+impl From<AllocError> for Stop {
+    fn from(_error: AllocError) -> Stop {
+        Stop::Run(RunFault::Memory)
+    }
+}
+
+impl From<RunFault> for Stop {
+    fn from(fault: RunFault) -> Stop {
+        Stop::Run(fault)
+    }
+}
+
+impl From<MetaFault> for Stop {
+    fn from(fault: MetaFault) -> Stop {
+        match fault {
+            MetaFault::Memory => Stop::Run(RunFault::Memory),
+            _ => Stop::Metamodel(fault),
+        }
+    }
+}
+
+/// The words that the program was called with.
+fn words_of(rt: &HostRuntime) -> Result<Vec<String>, Stop> {
+    let Ok(args) = env::args(rt) else {
+        return Err(Stop::Run(RunFault::Memory));
+    };
+    let mut words = Vec::new(rt.alloc());
+    for word in args {
+        if words.push(word).is_err() {
+            return Err(Stop::Run(RunFault::Memory));
+        }
+    }
+    Ok(words)
+}
+
+/// The path of the metamodel file, copied out of the words.
+fn path_of(rt: &HostRuntime, args: &[String]) -> Result<String, Stop> {
+    let mut words = Vec::new(rt.alloc());
+    for word in args {
+        if words.push(word.as_str()).is_err() {
+            return Err(Stop::Run(RunFault::Memory));
+        }
+    }
+    match meta_file(rt.alloc(), words.as_slice()) {
+        Ok(path) => Ok(String::from_str(rt.alloc(), path)?),
+        Err(error) => Err(Stop::Arguments(error)),
+    }
+}
+
+fn read_file(rt: &HostRuntime, path: &str) -> Result<Vec<u8>, Stop> {
+    let Ok(mut file) = fs::open(rt, path) else {
+        return Err(Stop::Run(RunFault::Read));
+    };
+    let bytes = read_all(rt.alloc(), &mut file)?;
+    Ok(bytes)
+}
+
+fn load(rt: &HostRuntime, path: &str) -> Result<Meta, Stop> {
+    let bytes = read_file(rt, path)?;
+    let raw = load_meta(rt.alloc(), bytes.as_slice())?;
+    let meta = check(rt.alloc(), raw)?;
+    Ok(meta)
+}
+
+/// Runs the script and writes what is left in the buffer, whatever the outcome.
+fn run_script(rt: &HostRuntime, meta: Meta) -> Result<(), Stop> {
+    let Ok(mut writer) = BufWriter::new(rt.alloc(), io::writer(rt)) else {
+        return Err(Stop::Run(RunFault::Memory));
+    };
+    let outcome = run(rt.alloc(), &mut rt.reader(), &mut writer, meta);
+    let flushed = writer.flush();
+    outcome?;
+    if flushed.is_err() {
+        return Err(Stop::Run(RunFault::Write));
+    }
+    Ok(())
+}
+
+fn start(rt: &HostRuntime) -> Result<(), Stop> {
+    let words = words_of(rt)?;
+    let path = path_of(rt, words.as_slice())?;
+    let meta = load(rt, path.as_str())?;
+    run_script(rt, meta)
+}
+
+fn report_arguments(rt: &HostRuntime, error: clap::Error) -> u8 {
+    if matches!(error.kind(), ErrorKind::OutOfMemory) {
+        return report_run(rt, RunFault::Memory);
+    }
+    let is_help = !error.use_stderr();
+    let _ = error.print(rt);
+    if is_help { 0 } else { 2 }
+}
+
+fn report_metamodel(rt: &HostRuntime, fault: MetaFault) -> u8 {
+    let _ = eprintln!(rt; "metamodel refused: {fault}");
+    1
+}
+
+fn report_run(rt: &HostRuntime, fault: RunFault) -> u8 {
+    let _ = eprintln!(rt; "run stopped: {fault}");
+    3
+}
+
+/// Says on standard error why the program stops, and answers its status.
+fn report(rt: &HostRuntime, stop: Stop) -> u8 {
+    match stop {
+        Stop::Arguments(error) => report_arguments(rt, error),
+        Stop::Metamodel(fault) => report_metamodel(rt, fault),
+        Stop::Run(fault) => report_run(rt, fault),
+    }
+}
+
+fn main(rt: HostRuntime) -> ExitCode {
+    match start(&rt) {
+        Ok(()) => ExitCode::SUCCESS,
+        Err(stop) => ExitCode::from(report(&rt, stop)),
+    }
+}

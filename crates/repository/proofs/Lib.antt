@@ -1,0 +1,2 @@
+pub mod LegalLemmas
+pub mod RunLemmas

@@ -1,0 +1,30 @@
+use Rattle.std.proofs.Common.{◌≡◌, ◌≤◌, ◌+◌, ◌∷◌, [], ◌++◌, length, vec_len, vec_capacity, arith, ap, sym, refl, List, append_assoc, ◌∙◌}
+use Rattle.std.specs.Vec.Iter.{into_iter_items}
+use Rattle.std.proofs.lemmas.List.{append-nil}
+use Rattle.std.proofs.lemmas.Grind.{common_steps}
+use Rattle.repository.proofs.RunLemmas.{Chained-push, run-chained}
+use Rattle.repository.proofs.repository.Repository.run_all.Goals as goal
+
+empty : {X : Type 0} (xs : List X) → length xs ≡ 0 → xs ≡ []
+empty [] h = refl
+empty (x ∷ xs) h = absurd (omega arith)
+
+pub commands-preserved : goal.commands-preserved
+commands-preserved c =
+    let h = c.in-Some.ensures.steps in
+    let room : vec_len c.push_reserved.new.self + length (into_iter_items c.next.new.self) ≤ vec_capacity c.push_reserved.new.self = let e = ap length h.0 in grind (arith, common_steps) in
+    let len : length c.push_reserved.new.self.items ≡ length (c.commands.yielded ++ (c.in-Some.command ∷ [])) = grind (arith, common_steps) in
+    let all : (c.commands.yielded ++ (c.in-Some.command ∷ [])) ++ into_iter_items c.next.new.self ≡ c.args.commands.items = append_assoc c.commands.yielded (c.in-Some.command ∷ []) (into_iter_items c.next.new.self) ∙ ap (λ xs. c.commands.yielded ++ xs) (sym h.0) ∙ c.commands.invariant.4 in (
+      tt,
+      tt,
+      room,
+      len,
+      all,
+      rw (c.push_reserved.ensures.items) (Chained-push _ _ _ _ _ _ _ c.commands.invariant.5 c.execute.ensures),
+    )
+
+pub returns-clause-run : goal.returns-clause-run
+returns-clause-run c =
+    let none : into_iter_items c.commands.command-iterator ≡ [] = empty _ (grind (arith, common_steps)) in
+    let all : c.commands.yielded ≡ c.args.commands.items = sym (append-nil _) ∙ ap (λ xs. c.commands.yielded ++ xs) (sym none) ∙ c.commands.invariant.4 in
+    rw (← all) (run-chained _ _ _ _ c.commands.invariant.5)

@@ -1,0 +1,16 @@
+//! The repository: objects of classes known only at run time, each command answered or refused.
+//!
+//! `specs/Step.antt` says what a command does, and `specs/Run.antt` what a list of them does.
+#![tactic(auto)]
+
+mod command;
+mod conditions;
+mod features;
+mod plan;
+mod reads;
+mod reply;
+mod repository;
+
+pub use command::Command;
+pub use reply::{Answer, Failure, Reply};
+pub use repository::Repository;

@@ -1,0 +1,212 @@
+//! The repository.
+ghost use Rattle.std.specs.Prelude.{◌≡◌, false, length, IfOk, IfErr, OnErr};
+ghost use Rattle.mm_types.specs.declared.value.Value.TheVariants as v;
+ghost use Rattle.mm_types.specs.declared.refused.Refused.TheVariants.{Memory};
+ghost use Rattle.repository.specs.State as s;
+ghost use Rattle.repository.specs.Step as step;
+ghost use Rattle.repository.specs.Run.{Executed, IsRun, class_outcome, flag_outcome, is_memory_refusal, outcome_of, value_outcome};
+ghost use Rattle.repository.specs.Plan.{command_of};
+ghost use Rattle.repository.specs.Repository.{state_of};
+ghost use Rattle.repository.specs.declared.command.Command.TheVariants.{Create, Set, Unset, Get, IsSet, Class};
+
+use crate::command::Command;
+use crate::conditions::{create_refusal, feature_refusal, set_refusal};
+use crate::plan::{Change, Planned, plan};
+use crate::reads::{copied, is_set_at, replied, replied_class, replied_flag, value_at};
+use crate::reply::{Failure, Reply};
+use mm_meta::Meta;
+use mm_types::{ClassNo, FeatureNo, Node, ObjectNo, Refused, Value};
+use mm_values::Values;
+use std::alloc::Global;
+use std::marker::Model;
+
+/// Objects of a metamodel's classes with what they hold (EMF: Resource with EObjects; MOF 2.5.1: Extent).
+///
+/// A command that is refused changes nothing. Contracts see a repository as its `State`, which is always legal.
+#[derive(Drop)]
+pub struct Repository {
+    alloc: Global,
+    meta: Meta,
+    values: Values,
+}
+
+impl Model for Repository {
+    ghost use Rattle.repository.specs.State.{State};
+    ghost use Rattle.std.specs.Coded.{codes};
+    ghost use Rattle.repository.specs.Repository.{state, IsLegalInside, coded_map};
+
+    ghost Value = { State };
+
+    ghost coded = { Prim.hlevel (codes, coded_map) };
+
+    ghost view = { state };
+
+    ghost invariant = { IsLegalInside };
+}
+
+impl Repository {
+    /// An empty repository of a metamodel. Takes no memory.
+    pub fn new(alloc: Global, meta: Meta) -> Self
+        ensures { result ≡ s.empty_state meta }
+    {
+        Repository {
+            alloc,
+            meta,
+            values: Values::new(alloc),
+        }
+    }
+
+    /// The metamodel. Takes no memory.
+    pub fn meta(&self) -> &Meta
+        ensures { result.now ≡ self.now.metamodel }
+    {
+        &self.meta
+    }
+
+    /// Makes an object of a class, each of whose attributes has its default (EMF: EFactory.create).
+    ///
+    /// Refused, the first that applies: `NoClass`, `Abstract`, `Limit` where 1,000,000 objects were made, `Memory`.
+    pub fn create(&mut self, class: ClassNo) -> Result<Reply, Refused>
+        ensures { Executed self.old (Create class) (outcome_of result) self.new }
+    {
+        self.change(Change::Create(class))
+    }
+
+    /// Sets a single attribute of an object (EMF: EObject.eSet).
+    ///
+    /// Refused, the first that applies: `NoObject` where the node or the value is an object that does not live,
+    /// `NoResource`, `NoFeature`, `WrongType`, `TextLength` above 65,535 bytes, `Memory`.
+    pub fn e_set(&mut self, node: Node, feature: FeatureNo, value: Value) -> Result<Reply, Refused>
+        ensures { Executed self.old (Set node feature value) (outcome_of result) self.new }
+    {
+        self.change(Change::Set {
+            node,
+            feature,
+            value,
+        })
+    }
+
+    /// Takes a single attribute of an object back to its default (EMF: EObject.eUnset).
+    ///
+    /// Refused, the first that applies: `NoObject`, `NoResource`, `NoFeature`, `Memory`.
+    pub fn e_unset(&mut self, node: Node, feature: FeatureNo) -> Result<Reply, Refused>
+        ensures { Executed self.old (Unset node feature) (outcome_of result) self.new }
+    {
+        self.change(Change::Unset { node, feature })
+    }
+
+    /// The value of a single attribute of an object: what was set, or the default (EMF: EObject.eGet).
+    ///
+    /// Refused, the first that applies: `NoObject`, `NoResource`, `NoFeature`, `Memory`.
+    pub fn e_get(&self, node: Node, feature: FeatureNo) -> Result<Value, Refused>
+        ensures { Executed self.now (Get node feature) (value_outcome result) self.now }
+    {
+        if let Some(refused) = feature_refusal(&self.meta, &self.values, node, feature) {
+            return Err(refused);
+        }
+        copied(value_at(&self.meta, &self.values, node, feature))
+    }
+
+    /// Whether a single attribute of an object is set (EMF: EObject.eIsSet): an unsettable one where `e_set` was the
+    /// last to change it, another where its value differs from its default. Takes no memory.
+    ///
+    /// Refused, the first that applies: `NoObject`, `NoResource`, `NoFeature`.
+    pub fn e_is_set(&self, node: Node, feature: FeatureNo) -> Result<bool, Refused>
+        ensures read { Executed self.now (IsSet node feature) (flag_outcome result) self.now }
+        ensures kind { IfErr result (λ r. is_memory_refusal r ≡ false) }
+    {
+        if let Some(refused) = feature_refusal(&self.meta, &self.values, node, feature) {
+            return Err(refused);
+        }
+        Ok(is_set_at(&self.meta, &self.values, node, feature))
+    }
+
+    /// The class of an object (EMF: EObject.eClass). Takes no memory. Refused with `NoObject` where none lives.
+    pub fn e_class(&self, object: ObjectNo) -> Result<ClassNo, Refused>
+        ensures read { Executed self.now (Class object) (class_outcome result) self.now }
+        ensures kind { IfErr result (λ r. is_memory_refusal r ≡ false) }
+    {
+        match self.values.class(object) {
+            Some(class) => Ok(class),
+            None => Err(Refused::NoObject),
+        }
+    }
+
+    /// Does a command.
+    pub fn execute(&mut self, command: Command) -> Result<Reply, Failure>
+        ensures { Executed self.old command result self.new }
+    {
+        let result = match command {
+            Command::Create(class) => self.create(class),
+            Command::Set {
+                node,
+                feature,
+                value,
+            } => self.e_set(node, feature, value),
+            Command::Unset { node, feature } => self.e_unset(node, feature),
+            Command::Get { node, feature } => replied(self.e_get(node, feature)),
+            Command::IsSet { node, feature } => replied_flag(self.e_is_set(node, feature)),
+            Command::Class(object) => replied_class(self.e_class(object)),
+        };
+        match result {
+            Ok(reply) => Ok(reply),
+            Err(refused) => Err(Failure { refused }),
+        }
+    }
+
+    /// Does commands one after another, refused ones among them. Where there is no memory for their outcomes the
+    /// commands come back, and none was done.
+    pub fn run_all(
+        &mut self,
+        commands: Vec<Command>,
+    ) -> Result<Vec<Result<Reply, Failure>>, Vec<Command>>
+        ensures run { IfOk result (λ os. IsRun self.old commands.items os.items self.new) }
+        ensures each { IfOk result (λ os. length os.items ≡ length commands.items) }
+        ensures given_back { IfErr result (λ cs. cs.items ≡ commands.items) }
+        ensures unchanged { OnErr result (self.new ≡ self.old) }
+    {
+        let Ok(mut outcomes) = Vec::with_capacity(self.alloc, commands.len()) else {
+            return Err(commands);
+        };
+        'commands: for command in commands {
+            outcomes.push_reserved(self.execute(command));
+        }
+        Ok(outcomes)
+    }
+
+    // Every change goes these five steps; after the third nothing can fail.
+    fn change(&mut self, change: Change) -> Result<Reply, Refused>
+        ensures { Executed self.old (command_of change) (outcome_of result) self.new }
+    {
+        // Conditions that need no memory.
+        if let Some(refused) = self.early_refusal(&change) {
+            return Err(refused);
+        }
+        // The plan, or the refusal that planning finds.
+        let Planned { answer, values } = plan(self.alloc, &self.meta, &self.values, change)?;
+        // All memory that the plan needs.
+        if self.values.reserve_for(&values).is_err() {
+            return Err(Refused::Memory);
+        }
+        // The edits.
+        self.values.apply(values);
+        // What is told.
+        Ok(Reply { answer })
+    }
+
+    fn early_refusal(&self, change: &Change) -> Option<Refused>
+        ensures { result ≡ step.early_refusal self.now (command_of change.now) }
+    {
+        match change {
+            Change::Create(class) => create_refusal(&self.meta, *class),
+            Change::Set {
+                node,
+                feature,
+                value,
+            } => set_refusal(&self.meta, &self.values, *node, *feature, value),
+            Change::Unset { node, feature } => {
+                feature_refusal(&self.meta, &self.values, *node, *feature)
+            }
+        }
+    }
+}

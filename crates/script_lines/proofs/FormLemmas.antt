@@ -1,0 +1,37 @@
+-- Forms of a line, by cases.
+use Rattle.std.proofs.Common.{◌≡◌, ◌<◌, ◌≤◌, ℕ, Bool, true, false, List, [], ◌∷◌, None, IsUtf8, arith, cond, length, refl}
+use Rattle.std.specs.Str.{is_utf8}
+use Rattle.std.proofs.lemmas.Str.{IsUtf8-from_is_utf8, is_utf8-from_IsUtf8}
+use Rattle.script_lines.specs.Words.{words}
+use Rattle.script_lines.specs.Forms.{form, form_of, line_of}
+use Rattle.script_lines.specs.declared.line.Line.TheVariants.{Bad}
+
+-- ---- numbers of words
+
+pub few_words : (ws : List (List ℕ)) → length ws < 2 → None ≡ form_of ws
+few_words [] few = refl
+few_words (v ∷ []) few = refl
+few_words (v ∷ a ∷ ws) few = absurd (omega arith)
+
+pub many_words : (ws : List (List ℕ)) → 5 ≤ length ws → None ≡ form_of ws
+many_words [] many = absurd (omega arith)
+many_words (v ∷ []) many = absurd (omega arith)
+many_words (v ∷ a ∷ []) many = absurd (omega arith)
+many_words (v ∷ a ∷ b ∷ []) many = absurd (omega arith)
+many_words (v ∷ a ∷ b ∷ c ∷ []) many = absurd (omega arith)
+many_words (v ∷ a ∷ b ∷ c ∷ d ∷ ws) many = refl
+
+-- ---- texts and other bytes
+
+at_false : {X : Type 0} (b : Bool) (x y : X) → (b ≡ true → y ≡ x) → y ≡ cond b x y
+at_false true x y h = h refl
+at_false false x y h = refl
+
+-- bytes that are no text have no form
+pub not_text : (bytes : List ℕ) → ¬ (IsUtf8 bytes) → Bad ≡ form bytes
+unfolding form
+not_text bytes h = at_false (is_utf8 bytes) _ Bad (λ e. absurd (h (IsUtf8-from_is_utf8 bytes e)))
+
+pub text_form : (bytes : List ℕ) → IsUtf8 bytes → form bytes ≡ line_of (words bytes)
+unfolding form
+text_form bytes h = let e = is_utf8-from_IsUtf8 bytes h in rw e refl

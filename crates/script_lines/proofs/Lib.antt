@@ -1,0 +1,4 @@
+mod LineLemmas
+mod WordLemmas
+mod ValueLemmas
+mod FormLemmas

@@ -1,0 +1,89 @@
+-- What a line asks for: its first word says what is done, the others to what.
+use Rattle.std.specs.Prelude.{ℕ, List, [], ◌∷◌, Option, Some, None, option_map, option_and_then, codes, if◌then◌else◌}
+use Rattle.std.specs.Str.{bytes_eq, is_utf8}
+use Rattle.script_lines.specs.Words.{words}
+use Rattle.script_lines.specs.Values.{name_in, node_in, object_in, value_in}
+use Rattle.script_lines.specs.declared.form.Form.{Form}
+use Rattle.script_lines.specs.declared.form.Form.TheVariants as asks
+use Rattle.script_lines.specs.declared.line.Line.{Line}
+use Rattle.script_lines.specs.declared.line.Line.TheVariants as line
+
+infixl 10 ◌>>=◌
+abbrev pub ◌>>=◌ : {A B : Type 0} → Option A → (A → Option B) → Option B
+o >>= f = option_and_then f o
+
+-- `new NAME`
+abbrev pub new_form : List ℕ → Option Form
+new_form c = option_map asks.New (name_in c)
+
+-- `class OBJ`
+abbrev pub class_form : List ℕ → Option Form
+class_form o = option_map asks.Class (object_in o)
+
+-- `get NODE NAME`
+abbrev pub get_form : List ℕ → List ℕ → Option Form
+get_form n f = do
+  node ← node_in n
+  feature ← name_in f
+  Some (asks.Get node feature)
+
+-- `isset NODE NAME`
+abbrev pub isset_form : List ℕ → List ℕ → Option Form
+isset_form n f = do
+  node ← node_in n
+  feature ← name_in f
+  Some (asks.IsSet node feature)
+
+-- `unset NODE NAME`
+abbrev pub unset_form : List ℕ → List ℕ → Option Form
+unset_form n f = do
+  node ← node_in n
+  feature ← name_in f
+  Some (asks.Unset node feature)
+
+-- `set NODE NAME VALUE`
+abbrev pub set_form : List ℕ → List ℕ → List ℕ → Option Form
+set_form n f v = do
+  node ← node_in n
+  feature ← name_in f
+  value ← value_in v
+  Some (asks.Set node feature value)
+
+-- the forms of a verb and one argument
+abbrev pub with_one : List ℕ → List ℕ → Option Form
+with_one verb a =
+    if bytes_eq verb (codes "new") then new_form a
+    else if bytes_eq verb (codes "class") then class_form a
+    else None
+
+-- the forms of a verb and two arguments
+abbrev pub with_two : List ℕ → List ℕ → List ℕ → Option Form
+with_two verb a b =
+    if bytes_eq verb (codes "get") then get_form a b
+    else if bytes_eq verb (codes "isset") then isset_form a b
+    else if bytes_eq verb (codes "unset") then unset_form a b
+    else None
+
+-- the forms of a verb and three arguments
+abbrev pub with_three : List ℕ → List ℕ → List ℕ → List ℕ → Option Form
+with_three verb a b c = if bytes_eq verb (codes "set") then set_form a b c else None
+
+-- the form of a verb and its arguments
+abbrev pub form_of : List (List ℕ) → Option Form
+form_of (verb ∷ a ∷ []) = with_one verb a
+form_of (verb ∷ a ∷ b ∷ []) = with_two verb a b
+form_of (verb ∷ a ∷ b ∷ c ∷ []) = with_three verb a b c
+form_of _ = None
+
+-- a line with words has a form or is bad
+abbrev pub line_with : Option Form → Line
+line_with None = line.Bad
+line_with (Some f) = line.Form f
+
+abbrev pub line_of : List (List ℕ) → Line
+line_of [] = line.Blank
+line_of ws = line_with (form_of ws)
+
+-- what the bytes of a line ask for
+unfoldable pub form : List ℕ → Line
+form bytes = if is_utf8 bytes then line_of (words bytes) else line.Bad

@@ -1,0 +1,2 @@
+mod OutputLemmas
+pub mod Turns

@@ -1,0 +1,22 @@
+-- The names of the faults that stop a run.
+use Rattle.std.specs.Prelude.{ℕ, List, codes}
+use Rattle.script_program.specs.declared.run_fault.RunFault.{RunFault}
+use Rattle.script_program.specs.declared.run_fault.RunFault.TheVariants.{Read, Write, TooLong, Memory}
+
+abbrev pub fault_name : RunFault → List ℕ
+fault_name Read = codes "READ"
+fault_name Write = codes "WRITE"
+fault_name TooLong = codes "TOO_LONG"
+fault_name Memory = codes "MEMORY"
+
+-- a fault that stops a run before its first line
+abbrev pub IsReadOrTooLong : RunFault → Type 0
+IsReadOrTooLong Read = Unit {0}
+IsReadOrTooLong TooLong = Unit {0}
+IsReadOrTooLong _ = ⊥
+
+-- a fault that may stop it between lines
+abbrev pub IsWriteOrMemory : RunFault → Type 0
+IsWriteOrMemory Write = Unit {0}
+IsWriteOrMemory Memory = Unit {0}
+IsWriteOrMemory _ = ⊥

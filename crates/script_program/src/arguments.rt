@@ -1,0 +1,54 @@
+//! The program's command line.
+ghost use Rattle.std.specs.Prelude.{◌≡◌, Some, true, IfOk, IfErr, codes};
+ghost use Rattle.clap.specs.Words.{first_of, kind_of, matches_of, takes};
+ghost use Rattle.script_program.specs.CommandLine.{program, texts};
+
+use clap::error::ErrorKind;
+use clap::{Arg, ArgAction, Command, Error};
+use std::alloc::Global;
+
+/// What `--help` says before the options.
+const ABOUT: &str = "Runs a script over a repository of objects whose classes a metamodel gives.";
+
+/// What `--help` says behind the options.
+const EXPLAINED: &str = "\
+The metamodel is a JSON document of classes, their attributes and references. The script is read
+from standard input, a line at a time, and what each line answers is printed on standard output:
+
+  new Book               a new object of a class: its number, as #0
+  set #0 name \"Emma\"     puts a value into a feature: ok
+  get #0 name            what a feature holds: \"Emma\"
+
+A value is null, true, false, a number, a JSON string, :LITERAL or #N. A line that can't be done
+prints why, as `refused 8 TYPE`, and changes nothing; a line that is none prints `bad line`.
+
+Example:
+  printf 'new Book\\nset #0 name \"Emma\"\\nget #0 name\\n' | mmrepo --meta library.json
+
+Exit status: 0 the script was run, 1 the metamodel is refused, 2 wrong arguments, 3 the run stopped
+because a stream failed, the input is too long or memory was refused.";
+
+/// The value of `--meta`, among the words that the program was called with: the first word is the
+/// program's name.
+///
+/// Errs as `clap` does: with the text of `--help`, with what is wrong in the words, or for want of
+/// memory.
+pub fn meta_file<'a>(alloc: Global, words: &'a [&'a str]) -> Result<&'a str, Error>
+    // It is the first value that the words give `--meta`.
+    ensures value { IfOk result (λ file. first_of (codes "meta") (matches_of program (texts words.entry.now)) ≡ Some file.now) }
+    // Words that the command line takes are refused for want of memory alone.
+    ensures passes { IfErr result (λ e. takes program (texts words.entry.now) ≡ true → kind_of e ≡ ErrorKind.OutOfMemory) }
+{
+    let meta = Arg::new(alloc, "meta")
+        .long("meta")
+        .value_name("FILE")
+        .help("The metamodel, a JSON document")
+        .required(true)
+        .action(ArgAction::Set);
+    let command = Command::new(alloc, "mmrepo")
+        .about(ABOUT)
+        .after_help(EXPLAINED)
+        .arg(meta)?;
+    let matches = command.try_get_matches_from(words)?;
+    Ok(matches.get_str("meta").unwrap())
+}

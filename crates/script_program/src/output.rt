@@ -1,0 +1,209 @@
+//! What a run prints.
+ghost use Rattle.std.specs.Prelude.{◌≡◌, ◌++◌, ◌∷◌, [], OnErr, OnOk, take, length};
+ghost use Rattle.std.specs.Io.{StartsWith};
+ghost use Rattle.std.specs.Fmt.{decimal, signed_decimal};
+ghost use Rattle.mm_types.specs.Refusals.{refusal_detail};
+ghost use Rattle.script_program.specs.Printed.{cause_detail, json_text, node_text, refused_text, value_text};
+
+use json::Writer;
+use mm_types::{DocFault, Node, Refused, Value};
+use std::alloc::{AllocError, Global};
+use std::marker::Model;
+use std::mem;
+
+/// A text that grows at its end, seen as its bytes. Where memory is refused it stays as it was.
+#[derive(Drop)]
+pub struct Output {
+    alloc: Global,
+    bytes: Vec<u8>,
+}
+
+impl Model for Output {
+    ghost use Rattle.std.specs.Prelude.{List, ℕ};
+
+    ghost Value = { List ℕ };
+
+    ghost view = { λ o. o.bytes.items };
+}
+
+impl Output {
+    /// An empty text. Takes no memory.
+    pub fn new(alloc: Global) -> Self
+        ensures { result ≡ [] }
+    {
+        Output {
+            alloc,
+            bytes: Vec::new(alloc),
+        }
+    }
+
+    /// The text's bytes.
+    pub fn as_bytes(&self) -> &[u8]
+        ensures { result.now ≡ self.now }
+    {
+        self.bytes.as_slice()
+    }
+
+    /// Makes the text empty; its memory is kept. Takes no memory.
+    pub fn clear(&mut self)
+        ensures { self.new ≡ [] }
+    {
+        self.bytes.clear();
+    }
+
+    /// Adds a text as it stands.
+    pub fn text(&mut self, text: &str) -> Result<(), AllocError>
+        ensures ok { OnOk result (self.new ≡ self.old ++ text.now) }
+        ensures err { OnErr result (self.new ≡ self.old) }
+    {
+        self.bytes.extend_from_slice(text.as_bytes())
+    }
+
+    fn natural(&mut self, n: u32) -> Result<(), AllocError>
+        ensures ok { OnOk result (self.new ≡ self.old ++ decimal n) }
+        ensures err { OnErr result (self.new ≡ self.old) }
+    {
+        let mut buffer = itoa::Buffer::new();
+        self.text(buffer.format(n))
+    }
+
+    fn integer(&mut self, n: i64) -> Result<(), AllocError>
+        ensures ok { OnOk result (self.new ≡ self.old ++ signed_decimal n) }
+        ensures err { OnErr result (self.new ≡ self.old) }
+    {
+        let mut buffer = itoa::Buffer::new();
+        self.text(buffer.format(n))
+    }
+
+    /// Adds a text as a JSON string, with the escapes that `serde_json` writes.
+    pub fn json(&mut self, text: &str) -> Result<(), AllocError>
+        ensures ok { OnOk result (self.new ≡ self.old ++ json_text text.now) }
+        ensures err { OnErr result (self.new ≡ self.old) }
+    {
+        let bytes = mem::replace(&mut self.bytes, Vec::new(self.alloc));
+        let mut writer = Writer::new(bytes);
+        let result = writer.string(text);
+        self.bytes = writer.into_inner();
+        result
+    }
+
+    /// Takes back what was added behind `start` where memory was refused.
+    fn whole(&mut self, start: usize, added: Result<(), AllocError>) -> Result<(), AllocError>
+        ensures same { result ≡ added }
+        ensures ok { OnOk result (self.new ≡ self.old) }
+        ensures err { OnErr result (self.new ≡ take start self.old) }
+    {
+        if added.is_err() {
+            self.bytes.truncate(start);
+        }
+        added
+    }
+
+    fn node_parts(&mut self, node: Node) -> Result<(), AllocError>
+        ensures ok { OnOk result (self.new ≡ self.old ++ node_text node) }
+        ensures err { OnErr result (StartsWith self.new self.old) }
+    {
+        match node {
+            Node::Object(object) => {
+                self.text("#")?;
+                self.natural(object.0)
+            }
+            Node::Resource(resource) => {
+                self.text("r")?;
+                self.natural(resource.0)
+            }
+        }
+    }
+
+    /// Adds a node: `#3` for an object, `r0` for a resource.
+    pub fn node(&mut self, node: Node) -> Result<(), AllocError>
+        ensures ok { OnOk result (self.new ≡ self.old ++ node_text node) }
+        ensures err { OnErr result (self.new ≡ self.old) }
+    {
+        let start = self.bytes.len();
+        let added = self.node_parts(node);
+        self.whole(start, added)
+    }
+
+    fn value_parts(&mut self, value: &Value, literal: &str) -> Result<(), AllocError>
+        ensures ok { OnOk result (self.new ≡ self.old ++ value_text literal.now value.now) }
+        ensures err { OnErr result (StartsWith self.new self.old) }
+    {
+        match value {
+            Value::Null => self.text("null"),
+            Value::Bool(true) => self.text("true"),
+            Value::Bool(false) => self.text("false"),
+            Value::Int(n) => self.integer(*n),
+            Value::Text(text) => self.json(text.as_str()),
+            Value::Literal(_) => {
+                self.text(":")?;
+                self.text(literal)
+            }
+            Value::Object(object) => self.node(Node::Object(*object)),
+            Value::Proxy(text) => {
+                self.text("proxy ")?;
+                self.json(text.as_str())
+            }
+            Value::Adapter(adapter) => {
+                self.text("A")?;
+                self.natural(adapter.0)
+            }
+        }
+    }
+
+    /// Adds a value: `null`, `true`, `-12`, `"Emma"`, `:NOVEL`, `#3`, `proxy "http://m.example/b#/0"`
+    /// or `A7`. The name of its literal is passed where it is one; else `literal` is not looked at.
+    pub fn value(&mut self, value: &Value, literal: &str) -> Result<(), AllocError>
+        ensures ok { OnOk result (self.new ≡ self.old ++ value_text literal.now value.now) }
+        ensures err { OnErr result (self.new ≡ self.old) }
+    {
+        let start = self.bytes.len();
+        let added = self.value_parts(value, literal);
+        self.whole(start, added)
+    }
+
+    fn cause_parts(&mut self, cause: DocFault) -> Result<(), AllocError>
+        ensures ok { OnOk result (self.new ≡ self.old ++ cause_detail cause) }
+        ensures err { OnErr result (StartsWith self.new self.old) }
+    {
+        self.text(" ")?;
+        self.natural(cause.number())?;
+        self.text(" ")?;
+        self.text(cause.name())
+    }
+
+    fn detail(&mut self, refused: Refused) -> Result<(), AllocError>
+        ensures ok { OnOk result (self.new ≡ self.old ++ refusal_detail refused) }
+        ensures err { OnErr result (self.new ≡ self.old) }
+    {
+        match refused {
+            Refused::Document(cause) => {
+                let start = self.bytes.len();
+                let added = self.cause_parts(cause);
+                self.whole(start, added)
+            }
+            _ => Ok(()),
+        }
+    }
+
+    fn refused_parts(&mut self, refused: Refused) -> Result<(), AllocError>
+        ensures ok { OnOk result (self.new ≡ self.old ++ refused_text refused) }
+        ensures err { OnErr result (StartsWith self.new self.old) }
+    {
+        self.text("refused ")?;
+        self.natural(refused.number())?;
+        self.text(" ")?;
+        self.text(refused.name())?;
+        self.detail(refused)
+    }
+
+    /// Adds why a command is refused: `refused 8 TYPE`, or `refused 18 DOCUMENT 10 ONE_SIDED`.
+    pub fn refused(&mut self, refused: Refused) -> Result<(), AllocError>
+        ensures ok { OnOk result (self.new ≡ self.old ++ refused_text refused) }
+        ensures err { OnErr result (self.new ≡ self.old) }
+    {
+        let start = self.bytes.len();
+        let added = self.refused_parts(refused);
+        self.whole(start, added)
+    }
+}

@@ -1,0 +1,47 @@
+//! The counts of a run.
+ghost use Rattle.std.specs.Prelude.{◌≡◌};
+ghost use Rattle.script_program.specs.Script.{no_lines, with_turn};
+ghost use Rattle.script_program.specs.Streams.{max_input};
+ghost use Rattle.script_program.specs.Summary.{IsWithin};
+
+use crate::turn::Turn;
+
+/// The counts of a run that came to its end.
+#[derive(Clone, Copy, Debug, PartialEq, Eq)]
+pub struct Summary {
+    /// How many lines were not blank.
+    pub lines: u64,
+    /// How many of them printed a refusal.
+    pub refused: u64,
+    /// How many of them printed `bad line`.
+    pub bad: u64,
+    /// How many of the refusals were for want of memory.
+    pub no_memory: u64,
+}
+
+impl Summary {
+    pub(crate) fn new() -> Self
+        ensures { result ≡ no_lines }
+    {
+        Summary {
+            lines: 0,
+            refused: 0,
+            bad: 0,
+            no_memory: 0,
+        }
+    }
+
+    /// The counts after one more line.
+    pub(crate) fn with(self, turn: Turn) -> Self
+        requires { IsWithin self max_input }
+        ensures { result ≡ with_turn self turn }
+    {
+        let refused = matches!(turn, Turn::Refused | Turn::Lost);
+        Summary {
+            lines: self.lines + u64::from(turn != Turn::Blank),
+            refused: self.refused + u64::from(refused),
+            bad: self.bad + u64::from(turn == Turn::Bad),
+            no_memory: self.no_memory + u64::from(turn == Turn::Lost),
+        }
+    }
+}
