@@ -1,2 +1,4 @@
 pub mod RowLemmas
+pub mod TakeLemmas
+pub mod KindLemmas
 pub mod LoadLemmas

@@ -1,13 +1,14 @@
--- Keys one by one, and items one by one.
-use Rattle.std.proofs.Common.{◌≡◌, ◌∙◌, ◌++◌, ◌+◌, ◌<◌, Bor, List, Option, Some, None, [], ◌∷◌, ℕ, add-one, ap, append_assoc, drop, drop-cons, get_or, length, map, option_map, refl, string_bytes, sym}
-use Rattle.std.specs.Prelude.{String, option_and_then}
+-- What is read yet of an array, and the keys of an object one by one.
+use Rattle.std.proofs.Common.{◌≡◌, ◌++◌, Bool, true, false, cond, Bor, List, Option, Some, None, [], ◌∷◌, ℕ, map, option_map, refl, string_bytes}
+use Rattle.std.specs.Prelude.{Result, String}
 use Rattle.std.specs.declared.alloc.Global.{Global}
 use Rattle.std.specs.List.{list_all, list_any}
 use Rattle.std.specs.Str.{bytes_eq}
 use Rattle.serde_json.specs.Data.{Data}
-use Rattle.serde_json.specs.View.{items_view, members_view, view}
+use Rattle.serde_json.specs.View.{members_view}
 use Rattle.serde_json.specs.declared.value.Value.{Value}
-use Rattle.mm_load.specs.Rows.{each, only_keys}
+use Rattle.mm_load.specs.declared.read_fault.ReadFault.{ReadFault}
+use Rattle.mm_load.specs.Rows.{Gives, Rows, has_only, object_of, only_keys}
 
 -- the list, and behind it what is read yet
 abbrev pub with_front : {X : Type 0} → List X → Option (List X) → Option (List X)
@@ -22,29 +23,14 @@ pub keys_among : (names : List (Bor (List ℕ))) (es : List (String Global × Va
 keys_among names [] = refl
 keys_among names (e ∷ es) = rw (any_map names (string_bytes e.0), keys_among names es) refl
 
-at_item : {X : Type 0} (reading : Data → Option X) (vs : List Value) (i : ℕ) (d : Value) → i < length vs
-    → each reading (items_view (drop i vs)) ≡ option_and_then (λ x. option_and_then (λ xs. Some (x ∷ xs)) (each reading (items_view (drop (i + 1) vs)))) (reading (view (get_or vs i d)))
-at_item reading vs i d within = rw (add-one, drop-cons vs i d) refl
+opened_at : {X : Type 0} (reading : Data → Option X) (r : Result X ReadFault) (m d : Data) (b : Bool) → Some m ≡ cond b (Some d) None
+    → Gives r (reading m) → Gives r (cond b (reading d) None)
+opened_at reading r m d true is h =
+    let same : m ≡ d = cc in
+    rw (← same) h
+opened_at reading r m d false is h = cc
 
-front_moved : {X : Type 0} (front : List X) (x : X) (r : Option (List X))
-    → with_front (front ++ x ∷ []) r ≡ with_front front (option_and_then (λ xs. Some (x ∷ xs)) r)
-front_moved front x None = refl
-front_moved front x (Some xs) = ap Some (append_assoc front (x ∷ []) xs)
-
--- one more item was read
-pub each_more : {X : Type 0} (reading : Data → Option X) (vs : List Value) (i : ℕ) (d : Value) (front : List X) (x : X) (all : Option (List X))
-    → i < length vs → reading (view (get_or vs i d)) ≡ Some x → with_front front (each reading (items_view (drop i vs))) ≡ all
-    → with_front (front ++ x ∷ []) (each reading (items_view (drop (i + 1) vs))) ≡ all
-each_more {X} reading vs i d front x all within is h =
-    let rest = each reading (items_view (drop (i + 1) vs)) in
-    let here = at_item reading vs i d within ∙ ap (λ (o : Option X). option_and_then (λ x. option_and_then (λ xs. Some (x ∷ xs)) rest) o) is in
-    front_moved front x rest ∙ (sym (ap (with_front front) here) ∙ h)
-
--- an item was refused
-pub each_refused : {X : Type 0} (reading : Data → Option X) (vs : List Value) (i : ℕ) (d : Value) (front : List X) (all : Option (List X))
-    → i < length vs → reading (view (get_or vs i d)) ≡ None → with_front front (each reading (items_view (drop i vs))) ≡ all
-    → all ≡ None
-each_refused {X} reading vs i d front all within is h =
-    let rest = each reading (items_view (drop (i + 1) vs)) in
-    let here = at_item reading vs i d within ∙ ap (λ (o : Option X). option_and_then (λ x. option_and_then (λ xs. Some (x ∷ xs)) rest) o) is in
-    sym h ∙ ap (with_front front) here
+-- an object with no other keys is what its rows say
+pub opened : {X : Type 0} (rows : Rows X) (r : Result X ReadFault) (m d : Data) → Some m ≡ cond (has_only rows.keys d) (Some d) None
+    → Gives r (rows.reading m) → Gives r (object_of rows d)
+opened rows r m d is h = opened_at rows.reading r m d (has_only rows.keys d) is h

@@ -1,42 +1,101 @@
 -- The layout of a metamodel document: the rows of each kind of object. Any other key is refused.
-use Rattle.std.specs.Prelude.{ℕ, pos, true, false, List, [], Option, None, codes}
+use Rattle.std.specs.Prelude.{ℕ, ℤ, pos, ◌||◌, Bool, true, false, not, List, [], Option, None, codes}
+use Rattle.std.specs.Option.{option_or}
+use Rattle.std.specs.Ordering.{int_eq}
 use Rattle.serde_json.specs.Data.{Data}
 use Rattle.mm_types.specs.Raw.{RawMetamodel}
+use Rattle.mm_types.specs.declared.class.Enumeration.{Enumeration}
 use Rattle.mm_types.specs.declared.raw.RawClass.{RawClass}
 use Rattle.mm_types.specs.declared.raw.RawFeature.{RawFeature}
-use Rattle.mm_types.specs.declared.raw.RawKind.TheVariants.{Attribute}
-use Rattle.mm_load.specs.Rows.{Rows, ◌also◌, array_of, literal, makes, object_of, optional, required, text, word}
+use Rattle.mm_types.specs.declared.raw.RawKind.{RawKind}
+use Rattle.mm_types.specs.declared.raw.RawKind.TheVariants.{Attribute, Reference}
+use Rattle.mm_load.specs.declared.head.Head.{Head}
+use Rattle.mm_load.specs.Rows.{Rows, ◌also◌, ◌such_that◌, array_of, array_of_some, flag, given, makes, object_of, optional, required, text, whole_number, word}
 
--- unique, not unsettable, and at most one value
-abbrev pub new_attribute : List ℕ → Unit {0} → List ℕ → Option (List ℕ) → RawFeature
-new_attribute name kind type_name default =
-    record { name = name; type_name = type_name; lower = pos 0; upper = pos 1; kind = Attribute true false default }
+-- ---- features
 
--- what a feature says
-abbrev pub feature_rows : Rows RawFeature
-feature_rows = makes new_attribute
+abbrev pub new_head : List ℕ → List ℕ → ℤ → ℤ → Head
+new_head name type_name lower upper = record { name = name; type_name = type_name; lower = lower; upper = upper }
+
+-- what every feature says
+abbrev pub feature_rows : Rows Head
+feature_rows = makes new_head
     -- its name
     also required (codes "name") text
-    -- its kind: the one that there is
-    also required (codes "kind") (word (codes "attribute"))
     -- the name of its type
     also required (codes "type") text
+    -- how many values it should have at least, or 0
+    also optional (codes "lower") whole_number (pos 0)
+    -- how many it may have at most, or 1
+    also optional (codes "upper") whole_number (pos 1)
+
+abbrev pub new_attribute : Unit {0} → Bool → Bool → Option (List ℕ) → RawKind
+new_attribute kind unique unsettable default = Attribute unique unsettable default
+
+-- what an attribute says beside
+abbrev pub attribute_rows : Rows RawKind
+attribute_rows = makes new_attribute
+    -- that it is one
+    also required (codes "kind") (word (codes "attribute"))
+    -- whether it repeats no value, or true
+    also optional (codes "unique") flag true
+    -- whether being set is a state of its own, or false
+    also optional (codes "unsettable") flag false
     -- the literal of its default, or none
-    also optional (codes "default") literal None
+    also optional (codes "default") (given text) None
 
--- an object of those rows
+abbrev pub new_reference : Unit {0} → Bool → Option (List ℕ) → RawKind
+new_reference kind containment opposite = Reference containment opposite
+
+-- what a reference says beside
+abbrev pub reference_rows : Rows RawKind
+reference_rows = makes new_reference
+    -- that it is one
+    also required (codes "kind") (word (codes "reference"))
+    -- whether it holds its objects as parts, or false
+    also optional (codes "containment") flag false
+    -- the name of its opposite, or none
+    also optional (codes "opposite") (given text) None
+
+abbrev pub new_feature : Head → RawKind → RawFeature
+new_feature head kind =
+    record { name = head.name; type_name = head.type_name; lower = head.lower; upper = head.upper; kind = kind }
+
+abbrev pub is_unsettable : RawKind → Bool
+is_unsettable (Attribute unique unsettable default) = unsettable
+is_unsettable (Reference containment opposite) = false
+
+-- single where it is unsettable
+abbrev pub unsets_one : RawFeature → Bool
+unsets_one f = not (is_unsettable f.kind) || int_eq f.upper (pos 1)
+
+-- an object of the rows of features and attributes, which is single where it is unsettable
+unfoldable pub attribute : Data → Option RawFeature
+attribute d = object_of (makes new_feature also feature_rows also attribute_rows) d such_that unsets_one
+
+-- an object of the rows of features and references
+unfoldable pub reference : Data → Option RawFeature
+reference = object_of (makes new_feature also feature_rows also reference_rows)
+
+-- an attribute or a reference
 unfoldable pub feature : Data → Option RawFeature
-feature = object_of feature_rows
+feature d = option_or (attribute d) (reference d)
 
--- concrete, with no supertypes
-abbrev pub new_class : List ℕ → List RawFeature → RawClass
-new_class name features = record { name = name; is_abstract = false; supers = []; features = features }
+-- ---- classes
+
+abbrev pub new_class : List ℕ → Bool → List (List ℕ) → List RawFeature → RawClass
+new_class name is_abstract supers features =
+    record { name = name; is_abstract = is_abstract; supers = supers; features = features }
 
 -- what a class says
 abbrev pub class_rows : Rows RawClass
 class_rows = makes new_class
     -- its name
     also required (codes "name") text
+    -- whether it has no objects of its own, or false
+    also optional (codes "abstract") flag false
+    -- the names of its supertypes, in order, or none
+    also optional (codes "supers") (array_of text) []
     -- the features that it declares, in order, or none
     also optional (codes "features") (array_of feature) []
 
@@ -44,13 +103,33 @@ class_rows = makes new_class
 unfoldable pub class : Data → Option RawClass
 class = object_of class_rows
 
--- with no enumerations
-abbrev pub new_document : List RawClass → RawMetamodel
-new_document classes = record { enums = []; classes = classes }
+-- ---- enumerations
+
+abbrev pub new_enumeration : List ℕ → List (List ℕ) → Enumeration
+new_enumeration name literals = record { name = name; literals = literals }
+
+-- what an enumeration says
+abbrev pub enumeration_rows : Rows Enumeration
+enumeration_rows = makes new_enumeration
+    -- its name
+    also required (codes "name") text
+    -- its literals, in order, and one at least
+    also required (codes "literals") (array_of_some text)
+
+-- an object of those rows
+unfoldable pub enumeration : Data → Option Enumeration
+enumeration = object_of enumeration_rows
+
+-- ---- documents
+
+abbrev pub new_document : List Enumeration → List RawClass → RawMetamodel
+new_document enums classes = record { enums = enums; classes = classes }
 
 -- what the document says
 abbrev pub document_rows : Rows RawMetamodel
 document_rows = makes new_document
+    -- the enumerations, in order, or none
+    also optional (codes "enums") (array_of enumeration) []
     -- the classes, in order
     also required (codes "classes") (array_of class)
 

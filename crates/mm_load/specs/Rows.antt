@@ -1,9 +1,9 @@
 -- A layout is rows, one for each key that an object may have: the key, whether it is required, and how its value is read.
-use Rattle.std.specs.Prelude.{ℕ, ◌≡◌, ◌&&◌, ◌++◌, Bool, true, false, List, [], ◌∷◌, Option, Some, None, Result, Ok, Err, if◌then◌else◌, option_and_then, option_map}
+use Rattle.std.specs.Prelude.{ℕ, ◌≡◌, ◌&&◌, ◌++◌, ◌^◌, ℤ, pos, neg_ℤ, int_le, int_lt, Bool, true, false, List, [], ◌∷◌, Option, Some, None, Result, Ok, Err, if◌then◌else◌, option_and_then, option_map}
 use Rattle.std.specs.List.{list_any}
 use Rattle.std.specs.Str.{bytes_eq}
 use Rattle.serde_json.specs.Data.{Data, Items, no_items, item, Members, no_members, member}
-use Rattle.serde_json.specs.Find.{as_array, as_object, as_str, get}
+use Rattle.serde_json.specs.Find.{as_array, as_bool, as_i64, as_number, as_object, as_str, get, get_member}
 use Rattle.mm_load.specs.declared.read_fault.ReadFault.{ReadFault}
 use Rattle.mm_load.specs.declared.read_fault.ReadFault.TheVariants.{Layout, Memory}
 
@@ -17,15 +17,35 @@ Gives (Ok x) reading = reading ≡ Some x
 Gives (Err Layout) reading = reading ≡ None
 Gives (Err Memory) reading = Unit {0}
 
+-- what passes the test, and else nothing
+infixl 5 ◌such_that◌
+abbrev pub ◌such_that◌ : {X : Type 0} → Option X → (X → Bool) → Option X
+o such_that passes = option_and_then (λ x. if passes x then Some x else None) o
+
 -- ---- values
 
 -- a text
 abbrev pub text : Data → Option (List ℕ)
 text = as_str
 
--- a text that may be absent
-abbrev pub literal : Data → Option (Option (List ℕ))
-literal d = option_map Some (as_str d)
+-- what may be absent, and is not
+abbrev pub given : {X : Type 0} → (Data → Option X) → Data → Option (Option X)
+given reading d = option_map Some (reading d)
+
+-- true or false
+abbrev pub flag : Data → Option Bool
+flag = as_bool
+
+-- from -2147483648 to 2147483647
+abbrev pub in_32_bits : ℤ → Bool
+in_32_bits z = int_le (neg_ℤ (pos (2 ^ 31))) z && int_lt z (pos (2 ^ 31))
+
+abbrev pub if_in_32_bits : ℤ → Option ℤ
+if_in_32_bits z = if in_32_bits z then Some z else None
+
+-- a whole number of 32 bits, signed
+abbrev pub whole_number : Data → Option ℤ
+whole_number d = as_number d >>= as_i64 >>= if_in_32_bits
 
 -- this text and no other
 abbrev pub word : List ℕ → Data → Option (Unit {0})
@@ -44,6 +64,14 @@ each reading (item d ds) = do
 -- an array of such values
 abbrev pub array_of : {X : Type 0} → (Data → Option X) → Data → Option (List X)
 array_of reading d = as_array d >>= each reading
+
+abbrev pub if_any : {X : Type 0} → List X → Option (List X)
+if_any [] = None
+if_any (x ∷ xs) = Some (x ∷ xs)
+
+-- an array of one such value at least
+abbrev pub array_of_some : {X : Type 0} → (Data → Option X) → Data → Option (List X)
+array_of_some reading d = array_of reading d >>= if_any
 
 -- ---- rows
 
@@ -103,3 +131,7 @@ has_only names d = object_has_only names (as_object d)
 -- an object of these rows and no other
 abbrev pub object_of : {X : Type 0} → Rows X → Data → Option X
 object_of rows d = if has_only rows.keys d then rows.reading d else None
+
+-- the members of other names than these are in the new object as they were in the old
+abbrev pub KeepsOthers : List (List ℕ) → Members → Members → Type 0
+KeepsOthers names old new = (k : List ℕ) → list_any (λ n. bytes_eq n k) names ≡ false → get_member k new ≡ get_member k old

@@ -1,8 +1,17 @@
 //! A document of the right layout, whatever its counts and lengths.
 ghost use Rattle.std.specs.Prelude.{◌≡◌};
+ghost use Rattle.serde_json.specs.Data.{object};
+ghost use Rattle.serde_json.specs.View.{members_view};
+ghost use Rattle.mm_load.specs.Rows.{Gives, Rows};
+ghost use Rattle.mm_load.specs.Layout.{document_rows};
 ghost use Rattle.mm_load.specs.Loaded.{limited};
 
+use crate::from_json::FromJson;
+use crate::members::{only_members_of, optional, required};
+use crate::read_fault::ReadFault;
 use mm_types::{Enumeration, MetaFault, RawClass, RawMeta, Seq};
+use serde_json::{Map, Value};
+use std::alloc::Global;
 use std::marker::Model;
 
 /// What a document says, seen as the metamodel that it would be within the limits.
@@ -36,5 +45,27 @@ impl Document {
             return Err(MetaFault::Limit);
         }
         Ok(RawMeta::new(self.enums, self.classes))
+    }
+}
+
+fn document_of(alloc: Global, mut members: Map<String, Value>) -> Result<Document, ReadFault>
+    ensures { Gives result (document_rows.reading (object (members_view members.entries))) }
+{
+    let enums = optional(alloc, &mut members, "enums", Seq::new(alloc))?;
+    let classes = required(alloc, &mut members, "classes")?;
+    Ok(Document::new(enums, classes))
+}
+
+impl FromJson for Document {
+    ghost use Rattle.mm_load.specs.Layout.{document};
+
+    ghost reads = { document };
+
+    #[tactic(auto, unfolding(crate::specs::Layout::document))]
+    fn from_json(alloc: Global, value: Value) -> Result<Document, ReadFault> {
+        match only_members_of(value, &["enums", "classes"]) {
+            Some(members) => document_of(alloc, members),
+            None => Err(ReadFault::Layout),
+        }
     }
 }

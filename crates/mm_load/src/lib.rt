@@ -4,8 +4,12 @@
 //! the first three faults a document has.
 #![tactic(auto)]
 
+mod class;
 mod document;
-mod layout;
+mod enumeration;
+mod feature;
+mod from_json;
+mod head;
 mod load;
 mod members;
 mod read_fault;

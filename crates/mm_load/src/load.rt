@@ -1,7 +1,8 @@
 //! The bytes of a document are read.
 ghost use Rattle.mm_load.specs.Loaded.{Loads, loaded};
 
-use crate::layout::document_of;
+use crate::document::Document;
+use crate::from_json::FromJson;
 use crate::read_fault::ReadFault;
 use mm_types::{MetaFault, RawMeta};
 use serde_json::Value;
@@ -14,7 +15,8 @@ use std::alloc::Global;
 /// - `Limit` where a count or a length passes its limit.
 ///
 /// `Memory` only where memory was refused, whatever else applies. Of equal keys of an object the last counts.
-/// The time is linear in the document, but for the logarithm that the keys of a large object cost.
+/// The time is linear in the document, but for the logarithm that the keys of a large object cost. The texts are
+/// moved out of the parsed JSON, which is freed part by part as it is read.
 pub fn load_meta(alloc: Global, bytes: &[u8]) -> Result<RawMeta, MetaFault>
     ensures { Loads result (loaded bytes.now) }
 {
@@ -23,7 +25,7 @@ pub fn load_meta(alloc: Global, bytes: &[u8]) -> Result<RawMeta, MetaFault>
         Err(error) if error.is_memory() => return Err(MetaFault::Memory),
         Err(_) => return Err(MetaFault::Syntax),
     };
-    match document_of(alloc, &value) {
+    match Document::from_json(alloc, value) {
         Ok(document) => document.into_meta(),
         Err(ReadFault::Memory) => Err(MetaFault::Memory),
         Err(ReadFault::Layout) => Err(MetaFault::Layout),

@@ -1,13 +1,15 @@
-//! What the keys of a JSON object say.
-ghost use Rattle.std.specs.Prelude.{◌≡◌, map, string_bytes};
+//! The members of a JSON object are taken by their keys.
+ghost use Rattle.std.specs.Prelude.{◌≡◌, [], ◌∷◌, Some, None, is_some, map, option_map, option_and_then, string_bytes, if◌then◌else◌};
 ghost use Rattle.std.specs.List.{list_all, list_any};
 ghost use Rattle.std.specs.Str.{bytes_eq};
 ghost use Rattle.std.specs.BTreeMap.{keys};
+ghost use Rattle.serde_json.specs.Data.{object};
+ghost use Rattle.serde_json.specs.Find.{as_object, get_member};
 ghost use Rattle.serde_json.specs.View.{members_view, view};
-ghost use Rattle.mm_load.specs.Rows.{Gives, has_only, literal, only_keys, optional_at, required_at, text, word};
+ghost use Rattle.mm_load.specs.Rows.{Gives, KeepsOthers, has_only, only_keys, optional_at, required_at, word};
 
+use crate::from_json::FromJson;
 use crate::read_fault::ReadFault;
-use mm_types::Text;
 use serde_json::{Map, Value};
 use std::alloc::Global;
 
@@ -23,57 +25,86 @@ fn all_keys_among(members: &Map<String, Value>, names: &[&str]) -> bool
     members.keys().all(|key| is_one_of(key.as_str(), names))
 }
 
-fn has_only_keys(members: &Map<String, Value>, names: &[&str]) -> bool
+/// Whether the keys of an object are all among these. Takes no memory.
+pub fn has_only_keys(members: &Map<String, Value>, names: &[&str]) -> bool
     ensures { result ≡ only_keys (map (λ n. n.now) names.now) (members_view members.now.entries) }
 {
     all_keys_among(members, names)
 }
 
-/// Whether a value is an object whose keys are all among these.
-pub fn is_object_of(value: &Value, names: &[&str]) -> bool
-    ensures { result ≡ has_only (map (λ n. n.now) names.now) (view value.now) }
+/// The members of an object. Takes no memory.
+pub fn members_of(value: Value) -> Option<Map<String, Value>>
+    ensures { option_map (λ m. members_view m.entries) result ≡ as_object (view value) }
 {
-    match value.as_object() {
-        Some(members) => has_only_keys(members, names),
+    match value {
+        Value::Object(members) => Some(members),
+        _ => None,
+    }
+}
+
+/// The members of an object whose keys are all among these. Takes no memory.
+pub fn only_members_of(value: Value, names: &[&str]) -> Option<Map<String, Value>>
+    ensures { option_map (λ m. object (members_view m.entries)) result
+        ≡ (if has_only (map (λ n. n.now) names.now) (view value) then Some (view value) else None) }
+{
+    let members = members_of(value)?;
+    if !has_only_keys(&members, names) {
+        return None;
+    }
+    Some(members)
+}
+
+fn take(members: &mut Map<String, Value>, key: &str) -> Option<Value>
+    ensures value { option_map view result ≡ get_member key.now (members_view members.old.entries) }
+    ensures others { KeepsOthers (key.now ∷ []) (members_view members.old.entries) (members_view members.new.entries) }
+{
+    members.remove(key)
+}
+
+/// What a key says, which is taken out. `Layout` where the key is absent or its value has another layout.
+pub fn required<T: FromJson>(
+    alloc: Global,
+    members: &mut Map<String, Value>,
+    key: &str,
+) -> Result<T, ReadFault>
+    ensures read { Gives result (required_at key.now T.reads (object (members_view members.old.entries))) }
+    ensures others { KeepsOthers (key.now ∷ []) (members_view members.old.entries) (members_view members.new.entries) }
+{
+    match take(members, key) {
+        Some(value) => T::from_json(alloc, value),
+        None => Err(ReadFault::Layout),
+    }
+}
+
+/// What a key says, which is taken out, or another value where the key is absent. `Layout` where its value has
+/// another layout.
+pub fn optional<T: FromJson + Drop>(
+    alloc: Global,
+    members: &mut Map<String, Value>,
+    key: &str,
+    absent: T,
+) -> Result<T, ReadFault>
+    ensures read { Gives result (optional_at key.now T.reads absent (object (members_view members.old.entries))) }
+    ensures others { KeepsOthers (key.now ∷ []) (members_view members.old.entries) (members_view members.new.entries) }
+{
+    match take(members, key) {
+        Some(value) => T::from_json(alloc, value),
+        None => Ok(absent),
+    }
+}
+
+fn find<'v>(members: &'v Map<String, Value>, key: &str) -> Option<&'v Value>
+    ensures { option_map (λ v. view v.now) result ≡ get_member key.now (members_view members.now.entries) }
+{
+    members.get(key)
+}
+
+/// Whether a key holds this text. Takes no memory.
+pub fn is_word(members: &Map<String, Value>, key: &str, wanted: &str) -> bool
+    ensures { result ≡ is_some (required_at key.now (word wanted.now) (object (members_view members.now.entries))) }
+{
+    match find(members, key) {
+        Some(found) => found.as_str() == Some(wanted),
         None => false,
-    }
-}
-
-/// The text of a key. `Layout` where the key is absent or holds no text.
-pub fn required_text(alloc: Global, value: &Value, key: &str) -> Result<Text, ReadFault>
-    ensures { Gives result (required_at key.now text (view value.now)) }
-{
-    let Some(found) = value.get(key) else {
-        return Err(ReadFault::Layout);
-    };
-    match found.as_str() {
-        Some(text) => Ok(Text::from_str(alloc, text)?),
-        None => Err(ReadFault::Layout),
-    }
-}
-
-/// The text of a key, or none where the key is absent. `Layout` where it holds no text.
-pub fn optional_text(alloc: Global, value: &Value, key: &str) -> Result<Option<Text>, ReadFault>
-    ensures { Gives result (optional_at key.now literal None (view value.now)) }
-{
-    let Some(found) = value.get(key) else {
-        return Ok(None);
-    };
-    match found.as_str() {
-        Some(text) => Ok(Some(Text::from_str(alloc, text)?)),
-        None => Err(ReadFault::Layout),
-    }
-}
-
-/// `Layout` where a key is absent or holds anything but this text. Takes no memory.
-pub fn require_word(value: &Value, key: &str, wanted: &str) -> Result<(), ReadFault>
-    ensures { Gives result (required_at key.now (word wanted.now) (view value.now)) }
-{
-    let Some(found) = value.get(key) else {
-        return Err(ReadFault::Layout);
-    };
-    match found.as_str() {
-        Some(text) if text == wanted => Ok(()),
-        _ => Err(ReadFault::Layout),
     }
 }

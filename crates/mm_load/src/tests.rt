@@ -4,6 +4,8 @@ use mm_types::{MetaFault, RawFeature, RawKind};
 use std::alloc::{AllocError, Global};
 use std::test::Fail;
 
+mod library;
+
 /// The fault of a document, or none; memory apart.
 fn fault_of(alloc: Global, document: &[u8]) -> Result<Option<MetaFault>, MetaFault> {
     match load_meta(alloc, document) {
@@ -57,6 +59,9 @@ fn documents_of_the_layout_are_read(rt: HostRuntime) -> Result<(), Fail> {
         r#" { "classes" : [ { "name" : "A" } ] } "#,
         r#"{"classes":[{"features":[],"name":""}]}"#,
         r#"{"classes":7,"classes":[]}"#,
+        r#"{"classes":[],"enums":[]}"#,
+        r#"{"enums":[{"literals":["L"],"name":"E"}],"classes":[]}"#,
+        r#"{"classes":[{"name":"A","abstract":true,"supers":[]}]}"#,
     ];
     for document in documents {
         let fault = fault_of(rt.alloc(), document.as_bytes())?;
@@ -73,13 +78,18 @@ fn documents_of_another_layout_are_refused(rt: HostRuntime) -> Result<(), Fail> 
         r#"{"classes":{}}"#,
         r#"{"classes":null}"#,
         r#"{"classes":[],"classes":7}"#,
-        r#"{"classes":[],"enums":[]}"#,
+        r#"{"enums":[]}"#,
+        r#"{"classes":[],"enums":{}}"#,
+        r#"{"classes":[],"enums":[{"name":"E"}]}"#,
+        r#"{"classes":[],"enums":[{"name":"E","literals":[]}]}"#,
+        r#"{"classes":[],"enums":[{"name":"E","literals":[7]}]}"#,
         r#"{"classes":[7]}"#,
         r#"{"classes":[{}]}"#,
         r#"{"classes":[{"name":7}]}"#,
         r#"{"classes":[{"name":"A"},{"Name":"B"}]}"#,
-        r#"{"classes":[{"name":"A","abstract":true}]}"#,
-        r#"{"classes":[{"name":"A","supers":[]}]}"#,
+        r#"{"classes":[{"name":"A","abstract":1}]}"#,
+        r#"{"classes":[{"name":"A","supers":"B"}]}"#,
+        r#"{"classes":[{"name":"A","supers":[["B"]]}]}"#,
         r#"{"classes":[{"name":"A","features":null}]}"#,
         r#"{"classes":[{"name":"A","features":["f"]}]}"#,
     ];
@@ -90,16 +100,28 @@ fn documents_of_another_layout_are_refused(rt: HostRuntime) -> Result<(), Fail> 
     Ok(())
 }
 
+/// The fault of a document of one feature of these members.
+fn feature_fault_of(alloc: Global, members: &str) -> Result<Option<MetaFault>, MetaFault> {
+    match document_of_feature(alloc, members) {
+        Ok(document) => fault_of(alloc, document.as_bytes()),
+        Err(_) => Err(MetaFault::Memory),
+    }
+}
+
 #[test]
 fn features_of_the_layout_are_read(rt: HostRuntime) -> Result<(), Fail> {
     let rows = [
         r#""name":"f","kind":"attribute","type":"EInt""#,
         r#""default":"","type":"EInt","kind":"attribute","name":"f""#,
         r#""name":7,"name":"f","kind":"attribute","type":"EInt""#,
+        r#""name":"f","kind":"reference","kind":"attribute","type":"EInt","unique":true"#,
+        r#""name":"f","kind":"attribute","type":"EInt","lower":-2147483648,"upper":2147483647"#,
+        r#""name":"f","kind":"attribute","type":"EInt","unsettable":true,"upper":1"#,
+        r#""name":"f","kind":"attribute","type":"EInt","unsettable":false,"upper":-1"#,
+        r#""name":"f","kind":"reference","type":"A","containment":true,"opposite":"g""#,
     ];
     for members in rows {
-        let document = document_of_feature(rt.alloc(), members)?;
-        let fault = fault_of(rt.alloc(), document.as_bytes())?;
+        let fault = feature_fault_of(rt.alloc(), members)?;
         assert_eq!(rt; fault, None, "{members}");
     }
     Ok(())
@@ -110,17 +132,59 @@ fn features_of_another_layout_are_refused(rt: HostRuntime) -> Result<(), Fail> {
     let rows = [
         r#""kind":"attribute","type":"EInt""#,
         r#""name":"f","type":"EInt""#,
-        r#""name":"f","kind":"reference","type":"A""#,
+        r#""name":"f","kind":"Attribute","type":"A""#,
         r#""name":"f","kind":null,"type":"EInt""#,
         r#""name":"f","kind":"attribute""#,
         r#""name":"f","kind":"attribute","type":"EInt","default":1"#,
         r#""name":"f","kind":"attribute","type":"EInt","default":null"#,
-        r#""name":"f","kind":"attribute","type":"EInt","lower":0"#,
+        r#""name":"f","kind":"attribute","type":"EInt","unique":0"#,
+        r#""name":"f","kind":"attribute","type":"EInt","unsettable":true,"upper":-1"#,
     ];
     for members in rows {
-        let document = document_of_feature(rt.alloc(), members)?;
-        let fault = fault_of(rt.alloc(), document.as_bytes())?;
+        let fault = feature_fault_of(rt.alloc(), members)?;
         assert_eq!(rt; fault, Some(MetaFault::Layout), "{members}");
+    }
+    Ok(())
+}
+
+#[test]
+fn keys_are_those_of_the_kind(rt: HostRuntime) -> Result<(), Fail> {
+    let rows = [
+        r#""name":"f","kind":"attribute","type":"EInt","containment":false"#,
+        r#""name":"f","kind":"attribute","type":"EInt","opposite":"g""#,
+        r#""name":"f","kind":"reference","type":"A","default":"""#,
+        r#""name":"f","kind":"reference","type":"A","unique":true"#,
+        r#""name":"f","kind":"reference","type":"A","unsettable":false"#,
+        r#""name":"f","kind":"reference","type":"A","Lower":1"#,
+    ];
+    for members in rows {
+        let fault = feature_fault_of(rt.alloc(), members)?;
+        assert_eq!(rt; fault, Some(MetaFault::Layout), "{members}");
+    }
+    Ok(())
+}
+
+#[test]
+fn bounds_are_whole_numbers_of_32_bits(rt: HostRuntime) -> Result<(), Fail> {
+    for bound in [
+        "2147483648",
+        "-2147483649",
+        "1.0",
+        "1e0",
+        "-0",
+        "null",
+        "\"1\"",
+    ] {
+        let members = format!(in rt.alloc();
+            "\"name\":\"f\",\"kind\":\"reference\",\"type\":\"A\",\"lower\":{bound}"
+        )?;
+        let fault = feature_fault_of(rt.alloc(), members.as_str())?;
+        assert_eq!(rt; fault, Some(MetaFault::Layout), "a lower bound of {bound}");
+        let members = format!(in rt.alloc();
+            "\"name\":\"f\",\"kind\":\"reference\",\"type\":\"A\",\"upper\":{bound}"
+        )?;
+        let fault = feature_fault_of(rt.alloc(), members.as_str())?;
+        assert_eq!(rt; fault, Some(MetaFault::Layout), "an upper bound of {bound}");
     }
     Ok(())
 }
@@ -204,6 +268,50 @@ fn names_have_255_bytes(rt: HostRuntime) -> Result<(), Fail> {
         let document = document_with(rt.alloc(), 0, class.as_str())?;
         let fault = fault_of(rt.alloc(), document.as_bytes())?;
         assert_eq!(rt; fault, want, "a name of {len} bytes");
+    }
+    Ok(())
+}
+
+#[test]
+fn enums_are_1000_at_most(rt: HostRuntime) -> Result<(), Fail> {
+    let row = r#"{"name":"E","literals":["L"]}"#;
+    for (count, want) in [(999, None), (1_000, Some(MetaFault::Limit))] {
+        let enums = r#"{"name":"E","literals":["L"]},"#.repeat(rt.alloc(), count)?;
+        let document = format!(in rt.alloc();
+            "{{\"classes\":[],\"enums\":[{}{row}]}}",
+            enums.as_str()
+        )?;
+        let fault = fault_of(rt.alloc(), document.as_bytes())?;
+        assert_eq!(rt; fault, want, "{count} enums and one");
+    }
+    Ok(())
+}
+
+#[test]
+fn supertypes_are_64_at_most(rt: HostRuntime) -> Result<(), Fail> {
+    for (count, want) in [(63, None), (64, Some(MetaFault::Limit))] {
+        let supers = "\"B\",".repeat(rt.alloc(), count)?;
+        let class = format!(in rt.alloc();
+            "{{\"name\":\"A\",\"supers\":[{}\"B\"]}}",
+            supers.as_str()
+        )?;
+        let document = document_with(rt.alloc(), 0, class.as_str())?;
+        let fault = fault_of(rt.alloc(), document.as_bytes())?;
+        assert_eq!(rt; fault, want, "{count} supertypes and one");
+    }
+    Ok(())
+}
+
+#[test]
+fn opposites_have_255_bytes(rt: HostRuntime) -> Result<(), Fail> {
+    for (len, want) in [(255, None), (256, Some(MetaFault::Limit))] {
+        let opposite = "g".repeat(rt.alloc(), len)?;
+        let members = format!(in rt.alloc();
+            "\"name\":\"f\",\"kind\":\"reference\",\"type\":\"A\",\"opposite\":\"{}\"",
+            opposite.as_str()
+        )?;
+        let fault = feature_fault_of(rt.alloc(), members.as_str())?;
+        assert_eq!(rt; fault, want, "an opposite of {len} bytes");
     }
     Ok(())
 }

@@ -6,10 +6,10 @@ use Rattle.mm_load.proofs.load.load_meta.Goals as goal
 pub returns-in-Err-2 : goal.returns-in-Err-2
 returns-in-Err-2 c = not_json c.args.bytes.now (c.in-Err.ensures.err (λ m. let e : false ≡ true = c.if-is_memory.ensures.1 m in cc))
 
-pub returns-in-Ok-document_of : goal.returns-in-Ok-document_of
-returns-in-Ok-document_of c =
-    loads_equal _ _ (json c.args.bytes.now _ c.in-Ok.ensures.ok.0 c.in-Ok.ensures.ok.1 ∙ (ap laid_out c.in-Ok-document_of.ensures ∙ sym c.into_meta.ensures))
+pub returns-in-Ok-from_json : goal.returns-in-Ok-from_json
+returns-in-Ok-from_json c =
+    loads_equal _ _ (json c.args.bytes.now _ c.in-Ok.ensures.ok.0 c.in-Ok.ensures.ok.1 ∙ (ap laid_out c.in-Ok-from_json.ensures ∙ sym c.into_meta.ensures))
 
-pub returns : goal.returns
-returns c =
+pub returns-in-Err-Layout : goal.returns-in-Err-Layout
+returns-in-Err-Layout c =
     json c.args.bytes.now _ c.in-Ok.ensures.ok.0 c.in-Ok.ensures.ok.1 ∙ ap laid_out (rw c.in-Err-Layout.field-0-is at c.in-Err-Layout.ensures)

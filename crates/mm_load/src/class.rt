@@ -1,0 +1,42 @@
+//! Classes are read.
+ghost use Rattle.std.specs.Prelude.{◌≡◌};
+ghost use Rattle.serde_json.specs.Data.{object};
+ghost use Rattle.serde_json.specs.View.{members_view};
+ghost use Rattle.mm_load.specs.Rows.{Gives, Rows};
+ghost use Rattle.mm_load.specs.Layout.{class_rows};
+
+use crate::from_json::FromJson;
+use crate::members::{only_members_of, optional, required};
+use crate::read_fault::ReadFault;
+use mm_types::{RawClass, Seq};
+use serde_json::{Map, Value};
+use std::alloc::Global;
+
+fn class_of(alloc: Global, mut members: Map<String, Value>) -> Result<RawClass, ReadFault>
+    ensures { Gives result (class_rows.reading (object (members_view members.entries))) }
+{
+    let name = required(alloc, &mut members, "name")?;
+    let is_abstract = optional(alloc, &mut members, "abstract", false)?;
+    let supers = optional(alloc, &mut members, "supers", Seq::new(alloc))?;
+    let features = optional(alloc, &mut members, "features", Seq::new(alloc))?;
+    Ok(RawClass {
+        name,
+        is_abstract,
+        supers,
+        features,
+    })
+}
+
+impl FromJson for RawClass {
+    ghost use Rattle.mm_load.specs.Layout.{class};
+
+    ghost reads = { class };
+
+    #[tactic(auto, unfolding(crate::specs::Layout::class))]
+    fn from_json(alloc: Global, value: Value) -> Result<RawClass, ReadFault> {
+        match only_members_of(value, &["name", "abstract", "supers", "features"]) {
+            Some(members) => class_of(alloc, members),
+            None => Err(ReadFault::Layout),
+        }
+    }
+}

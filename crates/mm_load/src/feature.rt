@@ -1,0 +1,145 @@
+//! Features are read: what every feature says, and what an attribute or a reference says beside.
+ghost use Rattle.std.specs.Prelude.{◌≡◌};
+ghost use Rattle.serde_json.specs.Data.{object};
+ghost use Rattle.serde_json.specs.View.{members_view};
+ghost use Rattle.mm_load.specs.Rows.{Gives, KeepsOthers, Rows};
+ghost use Rattle.mm_load.specs.Layout.{attribute, attribute_rows, feature, feature_rows, reference, reference_rows, unsets_one};
+
+use crate::from_json::FromJson;
+use crate::head::Head;
+use crate::members::{has_only_keys, is_word, members_of, optional, required};
+use crate::read_fault::ReadFault;
+use mm_types::{RawFeature, RawKind};
+use serde_json::{Map, Value};
+use std::alloc::Global;
+
+/// What every feature says, which is taken out.
+fn take_head(alloc: Global, members: &mut Map<String, Value>) -> Result<Head, ReadFault>
+    ensures read { Gives result (feature_rows.reading (object (members_view members.old.entries))) }
+    ensures others { KeepsOthers feature_rows.keys (members_view members.old.entries) (members_view members.new.entries) }
+{
+    let name = required(alloc, members, "name")?;
+    let type_name = required(alloc, members, "type")?;
+    let lower = optional(alloc, members, "lower", 0)?;
+    let upper = optional(alloc, members, "upper", 1)?;
+    Ok(Head {
+        name,
+        type_name,
+        lower,
+        upper,
+    })
+}
+
+/// What an attribute says beside, which is taken out.
+fn take_attribute(alloc: Global, members: &mut Map<String, Value>) -> Result<RawKind, ReadFault>
+    ensures { Gives result (attribute_rows.reading (object (members_view members.old.entries))) }
+{
+    if !is_word(members, "kind", "attribute") {
+        return Err(ReadFault::Layout);
+    }
+    let unique = optional(alloc, members, "unique", true)?;
+    let unsettable = optional(alloc, members, "unsettable", false)?;
+    let default = optional(alloc, members, "default", None)?;
+    Ok(RawKind::Attribute {
+        unique,
+        unsettable,
+        default,
+    })
+}
+
+/// What a reference says beside, which is taken out.
+fn take_reference(alloc: Global, members: &mut Map<String, Value>) -> Result<RawKind, ReadFault>
+    ensures { Gives result (reference_rows.reading (object (members_view members.old.entries))) }
+{
+    if !is_word(members, "kind", "reference") {
+        return Err(ReadFault::Layout);
+    }
+    let containment = optional(alloc, members, "containment", false)?;
+    let opposite = optional(alloc, members, "opposite", None)?;
+    Ok(RawKind::Reference {
+        containment,
+        opposite,
+    })
+}
+
+/// Whether a feature is single, or not unsettable.
+fn unsets_one_at_most(feature: &RawFeature) -> bool
+    ensures { result ≡ unsets_one feature.now }
+{
+    match &feature.kind {
+        RawKind::Attribute { unsettable, .. } => !*unsettable || feature.upper == 1,
+        RawKind::Reference { .. } => true,
+    }
+}
+
+#[tactic(auto, unfolding(crate::specs::Layout::attribute))]
+fn attribute_of(alloc: Global, members: Map<String, Value>) -> Result<RawFeature, ReadFault>
+    ensures { Gives result (attribute (object (members_view members.entries))) }
+{
+    let keys = [
+        "name",
+        "type",
+        "lower",
+        "upper",
+        "kind",
+        "unique",
+        "unsettable",
+        "default",
+    ];
+    if !has_only_keys(&members, &keys) {
+        return Err(ReadFault::Layout);
+    }
+    let mut members = members;
+    let head = take_head(alloc, &mut members)?;
+    let kind = take_attribute(alloc, &mut members)?;
+    let feature = head.with(kind);
+    if !unsets_one_at_most(&feature) {
+        return Err(ReadFault::Layout);
+    }
+    Ok(feature)
+}
+
+#[tactic(auto, unfolding(crate::specs::Layout::reference))]
+fn reference_of(alloc: Global, members: Map<String, Value>) -> Result<RawFeature, ReadFault>
+    ensures { Gives result (reference (object (members_view members.entries))) }
+{
+    let keys = [
+        "name",
+        "type",
+        "lower",
+        "upper",
+        "kind",
+        "containment",
+        "opposite",
+    ];
+    if !has_only_keys(&members, &keys) {
+        return Err(ReadFault::Layout);
+    }
+    let mut members = members;
+    let head = take_head(alloc, &mut members)?;
+    let kind = take_reference(alloc, &mut members)?;
+    Ok(head.with(kind))
+}
+
+fn feature_of(alloc: Global, members: Map<String, Value>) -> Result<RawFeature, ReadFault>
+    ensures { Gives result (feature (object (members_view members.entries))) }
+{
+    if is_word(&members, "kind", "attribute") {
+        return attribute_of(alloc, members);
+    }
+    reference_of(alloc, members)
+}
+
+impl FromJson for RawFeature {
+    ghost use Rattle.mm_load.specs.Layout.{feature};
+
+    ghost reads = { feature };
+
+    #[tactic(auto, unfolding(crate::specs::Layout::feature, crate::specs::Layout::attribute, crate::specs::Layout::reference))]
+    fn from_json(alloc: Global, value: Value) -> Result<RawFeature, ReadFault> {
+        match members_of(value) {
+            Some(members) => feature_of(alloc, members),
+            None => Err(ReadFault::Layout),
+        }
+    }
+}

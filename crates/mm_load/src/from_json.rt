@@ -1,0 +1,80 @@
+//! JSON values are read as truth values, numbers, texts, and sequences of what is read.
+ghost use Rattle.std.specs.Prelude.{◌≡◌, Option};
+ghost use Rattle.serde_json.specs.Data.{Data};
+ghost use Rattle.serde_json.specs.View.{items_view, view};
+ghost use Rattle.mm_load.specs.Rows.{Gives, array_of, each, flag, given, text, whole_number};
+
+use crate::read_fault::ReadFault;
+use mm_types::{Seq, Text, limits};
+use serde_json::Value;
+use std::alloc::Global;
+
+/// A type that JSON values are read as, each by the definition that it gives as `reads`.
+pub trait FromJson: Sized {
+    ghost reads: { Data → Option Self };
+
+    /// What a value says, or `Layout` where it has another layout. Its texts are moved, and what is left of it is
+    /// freed, so that reading a document takes little memory beside the parsed one.
+    fn from_json(alloc: Global, value: Value) -> Result<Self, ReadFault>
+        ensures { Gives result (reads (view value)) };
+}
+
+impl FromJson for bool {
+    ghost reads = { flag };
+
+    fn from_json(_alloc: Global, value: Value) -> Result<bool, ReadFault> {
+        value.as_bool().ok_or(ReadFault::Layout)
+    }
+}
+
+impl FromJson for i32 {
+    ghost reads = { whole_number };
+
+    fn from_json(_alloc: Global, value: Value) -> Result<i32, ReadFault> {
+        let Some(number) = value.as_i64() else {
+            return Err(ReadFault::Layout);
+        };
+        i32::try_from(number).map_err(|_| ReadFault::Layout)
+    }
+}
+
+impl FromJson for Text {
+    ghost reads = { text };
+
+    fn from_json(_alloc: Global, value: Value) -> Result<Text, ReadFault> {
+        match value {
+            Value::String(text) => Ok(Text::from_string(text)),
+            _ => Err(ReadFault::Layout),
+        }
+    }
+}
+
+fn each_of<T: FromJson + Drop>(alloc: Global, values: Vec<Value>) -> Result<Seq<T>, ReadFault>
+    ensures { Gives result (each T.reads (items_view values.items)) }
+{
+    // Room for the whole list at once: within the limits none is longer than that of the classes may be.
+    let mut items = Vec::with_capacity(alloc, values.len().min(limits::CLASSES))?;
+    'values: for value in values {
+        items.push(T::from_json(alloc, value)?)?;
+    }
+    Ok(Seq::from_vec(items))
+}
+
+impl<T: FromJson + Drop> FromJson for Seq<T> {
+    ghost reads = { array_of T.FromJson.reads };
+
+    fn from_json(alloc: Global, value: Value) -> Result<Seq<T>, ReadFault> {
+        match value {
+            Value::Array(values) => each_of(alloc, values),
+            _ => Err(ReadFault::Layout),
+        }
+    }
+}
+
+impl<T: FromJson + Drop> FromJson for Option<T> {
+    ghost reads = { given T.FromJson.reads };
+
+    fn from_json(alloc: Global, value: Value) -> Result<Option<T>, ReadFault> {
+        Ok(Some(T::from_json(alloc, value)?))
+    }
+}

@@ -1,0 +1,29 @@
+//! What every feature says.
+ghost use Rattle.std.specs.Prelude.{◌≡◌};
+ghost use Rattle.mm_load.specs.Layout.{new_feature};
+
+use mm_types::{RawFeature, RawKind, Text};
+
+/// A feature without what an attribute or a reference says beside.
+#[derive(Debug, Drop)]
+pub struct Head {
+    pub name: Text,
+    pub type_name: Text,
+    pub lower: i32,
+    pub upper: i32,
+}
+
+impl Head {
+    /// The feature of a kind. Takes no memory.
+    pub fn with(self, kind: RawKind) -> RawFeature
+        ensures { result ≡ new_feature self kind }
+    {
+        RawFeature {
+            name: self.name,
+            type_name: self.type_name,
+            lower: self.lower,
+            upper: self.upper,
+            kind,
+        }
+    }
+}
