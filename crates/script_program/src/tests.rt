@@ -1,4 +1,8 @@
-//! Command lines, streams that fail, and printed texts.
+//! Command lines, metamodels, scripts, streams that fail, and printed texts.
 mod arguments;
+mod metamodels;
 mod printed;
+mod repositories;
+mod runs;
+mod scripts;
 mod streams;

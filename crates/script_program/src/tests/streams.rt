@@ -9,16 +9,16 @@ const SCRIPT: &str = "new Book\nget #0 name";
 
 /// Gives one byte of a text per read, and fails at a read that is told by its number, from 0.
 #[derive(Drop)]
-struct OneByte<'a> {
+pub struct OneByte<'a> {
     rest: &'a [u8],
     reads: usize,
     fails_at: usize,
 }
 
 impl<'a> OneByte<'a> {
-    fn new(fails_at: usize) -> OneByte<'a> {
+    pub fn new(text: &'a str, fails_at: usize) -> OneByte<'a> {
         OneByte {
-            rest: SCRIPT.as_bytes(),
+            rest: text.as_bytes(),
             reads: 0,
             fails_at,
         }
@@ -44,7 +44,7 @@ impl<'a> Read for OneByte<'a> {
 
 #[test]
 fn one_byte_per_read_is_the_whole(rt: HostRuntime) -> Result<(), Fail> {
-    let mut reader = OneByte::new(1_000);
+    let mut reader = OneByte::new(SCRIPT, 1_000);
     let found = read_all(rt.alloc(), &mut reader)?;
     assert_eq!(rt; found.as_slice(), SCRIPT.as_bytes());
     let mut reader = SCRIPT.as_bytes();
@@ -56,7 +56,7 @@ fn one_byte_per_read_is_the_whole(rt: HostRuntime) -> Result<(), Fail> {
 #[test]
 fn a_read_that_fails_is_told(rt: HostRuntime) {
     for k in 0..SCRIPT.len() {
-        let mut reader = OneByte::new(k);
+        let mut reader = OneByte::new(SCRIPT, k);
         let outcome = read_all(rt.alloc(), &mut reader);
         assert!(rt; matches!(outcome, Err(RunFault::Read)), "at {k}");
     }
@@ -81,10 +81,20 @@ fn an_endless_input_is_too_long(rt: HostRuntime) {
 
 /// Takes one byte per write, and fails or takes none at a write that is told by its number, from 0.
 #[derive(Drop)]
-struct Narrow {
-    taken: Vec<u8>,
+pub struct Narrow {
+    pub taken: Vec<u8>,
     stops_at: usize,
     errs: bool,
+}
+
+impl Narrow {
+    pub fn new(alloc: Global, stops_at: usize, errs: bool) -> Narrow {
+        Narrow {
+            taken: Vec::new(alloc),
+            stops_at,
+            errs,
+        }
+    }
 }
 
 impl Write for Narrow {
@@ -109,22 +119,14 @@ impl Write for Narrow {
 
 #[test]
 fn one_byte_per_write_is_the_whole(rt: HostRuntime) -> Result<(), Fail> {
-    let mut writer = Narrow {
-        taken: Vec::new(rt.alloc()),
-        stops_at: 1_000,
-        errs: true,
-    };
+    let mut writer = Narrow::new(rt.alloc(), 1_000, true);
     write_all(&mut writer, SCRIPT.as_bytes())?;
     assert_eq!(rt; writer.taken.as_slice(), SCRIPT.as_bytes());
     Ok(())
 }
 
 fn check_stop(rt: &impl Abort, alloc: Global, stops_at: usize, errs: bool) {
-    let mut writer = Narrow {
-        taken: Vec::new(alloc),
-        stops_at,
-        errs,
-    };
+    let mut writer = Narrow::new(alloc, stops_at, errs);
     let outcome = write_all(&mut writer, SCRIPT.as_bytes());
     assert!(rt; matches!(outcome, Err(RunFault::Write)));
     assert_eq!(rt; writer.taken.len(), stops_at);
