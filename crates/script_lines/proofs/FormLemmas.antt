@@ -1,5 +1,5 @@
 -- Forms of a line, by cases.
-use Rattle.std.proofs.Common.{◌≡◌, ◌<◌, ◌≤◌, ℕ, Bool, true, false, List, [], ◌∷◌, None, IsUtf8, arith, cond, length, refl}
+use Rattle.std.proofs.Common.{◌≡◌, ◌<◌, ◌≤◌, ℕ, Bool, true, false, List, [], ◌∷◌, None, IsUtf8, arith, cond, length, refl, take}
 use Rattle.std.specs.Str.{is_utf8}
 use Rattle.std.proofs.lemmas.Str.{IsUtf8-from_is_utf8, is_utf8-from_IsUtf8}
 use Rattle.script_lines.specs.Words.{words}
@@ -20,6 +20,15 @@ many_words (v ∷ a ∷ []) many = absurd (omega arith)
 many_words (v ∷ a ∷ b ∷ []) many = absurd (omega arith)
 many_words (v ∷ a ∷ b ∷ c ∷ []) many = absurd (omega arith)
 many_words (v ∷ a ∷ b ∷ c ∷ d ∷ ws) many = refl
+
+-- the first words tell the form
+pub first_words : (ws : List (List ℕ)) → line_of (take 5 ws) ≡ line_of ws
+first_words [] = refl
+first_words (v ∷ []) = refl
+first_words (v ∷ a ∷ []) = refl
+first_words (v ∷ a ∷ b ∷ []) = refl
+first_words (v ∷ a ∷ b ∷ c ∷ []) = refl
+first_words (v ∷ a ∷ b ∷ c ∷ d ∷ ws) = refl
 
 -- ---- texts and other bytes
 

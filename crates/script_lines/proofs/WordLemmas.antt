@@ -1,5 +1,5 @@
 -- Going on by one step through a line.
-use Rattle.std.proofs.Common.{◌==◌, sub-one, ◌≡◌, ◌≢◌, ◌+◌, ◌-◌, ◌<◌, ◌++◌, ℕ, zero, suc, Bool, true, false, List, [], ◌∷◌, add-one, append_assoc, arith, drop, drop-cons, get_or, length, refl, take}
+use Rattle.std.proofs.Common.{ap, ◌∙◌, ◌==◌, sub-one, ◌≡◌, ◌≢◌, ◌+◌, ◌-◌, ◌<◌, ◌≤◌, ◌++◌, ℕ, zero, suc, Bool, true, false, List, [], ◌∷◌, add-one, append_assoc, arith, drop, drop-cons, get_or, length, refl, take}
 use Rattle.std.proofs.lemmas.List.{take_rest}
 use Rattle.std.proofs.lemmas.Bool.Decides.{nat_tests}
 use Rattle.script_lines.specs.Words.{quoted_len, word_len, words_after}
@@ -39,3 +39,18 @@ pub word_taken : (ws : List (List ℕ)) (rest : List ℕ) (all : List (List ℕ)
 word_taken ws rest all n some space is pos h =
     let first = first_word rest n some space is pos in
     rw (take_rest rest n, append_assoc, ← first) h
+
+found_at : (n : ℕ) (ws more : List (List ℕ)) → length ws ≤ n → (length ws < n → more ≡ []) → ws ≡ take n (ws ++ more)
+found_at zero [] more few none = refl
+found_at (suc n) [] more few none = let e : more ≡ [] = none (omega arith) in rw e refl
+found_at zero (w ∷ ws) more few none = absurd (omega arith)
+found_at (suc n) (w ∷ ws) more few none = ap (λ x. w ∷ x) (found_at n ws more (omega arith) (λ low. none (omega arith)))
+
+none_after : (rest : List ℕ) → length rest ≡ 0 → words_after 0 rest ≡ []
+none_after [] none = refl
+none_after (c ∷ cs) none = absurd (omega arith)
+
+-- the words found are the first ones, where nothing is left or five are found
+pub first_found : (ws : List (List ℕ)) (rest : List ℕ) (all : List (List ℕ)) → ws ++ words_after 0 rest ≡ all → length ws ≤ 5
+    → (length ws < 5 → length rest ≡ 0) → ws ≡ take 5 all
+first_found ws rest all is few none = found_at 5 ws (words_after 0 rest) few (λ low. none_after rest (none low)) ∙ ap (take 5) is

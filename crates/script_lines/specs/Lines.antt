@@ -1,6 +1,7 @@
 -- The lines of a script: each ends with a newline, but the last need not.
-use Rattle.std.specs.Prelude.{ℕ, ◌==◌, ◌≡◌, ◌<◌, List, [], ◌∷◌, Option, Some, None, length, suc, if◌then◌else◌}
+use Rattle.std.specs.Prelude.{ℕ, ◌==◌, ◌≡◌, ◌<◌, ◌++◌, Bool, not, List, [], ◌∷◌, Option, Some, None, length, suc, if◌then◌else◌}
 use Rattle.std.specs.Borrow.{Bor}
+use Rattle.std.specs.List.{list_all}
 
 -- one more byte before the first line
 abbrev pub with_byte : ℕ → List (List ℕ) → List (List ℕ)
@@ -10,6 +11,14 @@ with_byte c (l ∷ ls) = (c ∷ l) ∷ ls
 abbrev pub lines : List ℕ → List (List ℕ)
 lines [] = []
 lines (c ∷ cs) = if c == 10 then [] ∷ lines cs else with_byte c (lines cs)
+
+-- the lines, each with a newline behind it
+abbrev pub with_newlines : List (List ℕ) → List ℕ
+with_newlines [] = []
+with_newlines (l ∷ ls) = l ++ 10 ∷ with_newlines ls
+
+abbrev pub has_no_newline : List ℕ → Bool
+has_no_newline l = list_all (λ c. not (c == 10)) l
 
 -- how many bytes stand before the first newline
 abbrev pub line_len : List ℕ → ℕ

@@ -3,6 +3,7 @@
 #![tactic(auto)]
 
 mod form;
+pub mod laws;
 mod line;
 mod lines;
 mod memory;

@@ -114,6 +114,7 @@ fn lines_that_fit_no_form(rt: HostRuntime) -> Result<(), Fail> {
         "get #0 a b",
         "frob #0 a",
         "set #0 a",
+        "set #0 a 1 2 3 4 5",
     ];
     for line in lines {
         let got = shown(rt.alloc(), line.as_bytes())?;
@@ -162,6 +163,7 @@ fn a_script_is_cut_at_its_newlines(rt: HostRuntime) -> Result<(), Fail> {
         let got = bracketed(rt.alloc(), script)?;
         assert_eq!(rt; got.as_str(), want);
     }
+    laws::a_script_is_its_lines();
     Ok(())
 }
 

@@ -1,5 +1,5 @@
 //! A line is cut into words at its spaces; a word that begins with a quotation mark goes on to the next one.
-ghost use Rattle.std.specs.Prelude.{◌≡◌, ◌==◌, ◌<◌, ◌≤◌, IfOk, IfSome, false, length, map, position};
+ghost use Rattle.std.specs.Prelude.{◌≡◌, ◌==◌, ◌<◌, ◌≤◌, IfOk, IfSome, false, length, map, position, take};
 ghost use Rattle.script_lines.specs.Words.{plain_len, quoted_len, word_len, words};
 
 use std::alloc::{AllocError, Global};
@@ -55,13 +55,17 @@ fn word_len_of(bytes: &[u8]) -> usize
     }
 }
 
-/// The words of a line, each of them once looked at.
+/// One word more than the longest form has: what follows can't make a form of a line.
+const MOST_WORDS: usize = 5;
+
+/// The first words of a line, as many as tell which form it fits: a line of many words takes no more
+/// memory than one of a few.
 pub fn words_of<'a>(alloc: Global, line: &'a [u8]) -> Result<Vec<&'a [u8]>, AllocError>
-    ensures { IfOk result (λ v. map (λ w. w.now) v.items ≡ words line.now) }
+    ensures { IfOk result (λ v. map (λ w. w.now) v.items ≡ take 5 (words line.now)) }
 {
     let mut found = Vec::new(alloc);
     let mut rest = line;
-    'words: while !rest.is_empty() {
+    'words: while !rest.is_empty() && found.len() < MOST_WORDS {
         if rest[0] == b' ' {
             rest = &rest[1..];
         } else {
