@@ -1,0 +1,4 @@
+pub mod ListedFacts
+pub mod NumberFacts
+pub mod ReserveFacts
+pub mod RoundFacts

@@ -1,0 +1,74 @@
+//! Attaching.
+ghost use Rattle.std.specs.Prelude.{◌≡◌, ◌∷◌, [], ◌++◌, None, Err, OnOk, OnErr, IfErr};
+ghost use Rattle.adapter_list.specs.Refusals.{attach_refusal, but_memory, list_refusal};
+
+use super::AdapterList;
+use crate::attach_refused::AttachRefused;
+use crate::attached::Attached;
+use crate::limits;
+use crate::refusal::refusal;
+use adapters::Adapter;
+use mm_types::{AdapterNo, Node, Refused};
+
+impl<A: Adapter> AdapterList<A> {
+    /// Attaches an adapter last in attach order, and reserves a place for its last notice (EMF: `eAdapters().add`).
+    ///
+    /// Refused with Limit where 100,000 are attached, AdapterTaken where the number is attached, AdapterFull where the
+    /// adapter can't count on, in this order, or Memory; the adapter comes back as it was, and the list is unchanged.
+    pub fn attach(
+        &mut self,
+        no: AdapterNo,
+        target: Node,
+        deep: bool,
+        mut adapter: A,
+    ) -> Result<(), AttachRefused<A>>
+        ensures ok { OnOk result (self.new.0 ≡ self.old.0 ++ (record { no = no; target = target; deep = deep; view = A.heard adapter } ∷ [])) }
+        ensures allowed { OnOk result (attach_refusal self.old.0 no (A.heard adapter) ≡ None) }
+        ensures reason { IfErr result (λ e. but_memory e.reason ≡ attach_refusal self.old.0 no (A.heard adapter)) }
+        ensures given_back { IfErr result (λ e. A.heard e.adapter ≡ A.heard adapter) }
+        ensures unchanged { OnErr result (self.new ≡ self.old) }
+    {
+        if let Some(reason) = self.list_refusal(no) {
+            return refuse(reason, adapter);
+        }
+        if let Err(reason) = adapter.reserve(1) {
+            return refuse(refusal(reason), adapter);
+        }
+        if self.released.reserve(self.attached.len() + 1).is_err() {
+            return refuse(Refused::Memory, adapter);
+        }
+        if self.attached.reserve(1).is_err() {
+            return refuse(Refused::Memory, adapter);
+        }
+        let Ok(_) = self.numbers.insert(no) else {
+            return refuse(Refused::Memory, adapter);
+        };
+        self.attached.push_reserved(Attached {
+            no,
+            target,
+            deep,
+            adapter,
+        });
+        Ok(())
+    }
+
+    /// Why the list takes no adapter of this number, where it doesn't.
+    fn list_refusal(&self, no: AdapterNo) -> Option<Refused>
+        ensures { result ≡ list_refusal self.now.0 no }
+    {
+        if self.attached.len() >= limits::ADAPTERS {
+            return Some(Refused::Limit);
+        }
+        if self.numbers.contains(&no) {
+            return Some(Refused::AdapterTaken);
+        }
+        None
+    }
+}
+
+/// Hands an adapter back.
+fn refuse<A>(reason: Refused, adapter: A) -> Result<(), AttachRefused<A>>
+    ensures { result ≡ Err (record { reason = reason; adapter = adapter }) }
+{
+    Err(AttachRefused { reason, adapter })
+}

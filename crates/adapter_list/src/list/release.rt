@@ -1,0 +1,85 @@
+//! Detaching and closing.
+ghost use Rattle.std.specs.Prelude.{◌≡◌, ◌≤◌, ◌<◌, None, length, map, option_map, IfNone, count_by, take, pos, false};
+ghost use Rattle.notice_chain.specs.Listed.{release, release_all, same_node};
+ghost use Rattle.notice_chain.specs.declared.kind.NoticeKind.TheVariants.{RemovingAdapter};
+ghost use Rattle.mm_types.specs.declared.value.Value.TheVariants.{Null, Adapter as AdapterValue};
+
+use super::AdapterList;
+use crate::attached::Attached;
+use adapters::Adapter;
+use mm_types::{AdapterNo, Node, Value};
+use notice_chain::{Notice, NoticeKind};
+
+impl<A: Adapter> AdapterList<A> {
+    /// Takes an adapter out of the list, tells it so last, and gives that notice with it; none where it is not attached.
+    /// Takes no memory (EMF: `eAdapters().remove`).
+    pub fn detach(&mut self, no: AdapterNo) -> Option<(Notice, A)>
+        ensures released { option_map (λ b. record { notice = b.0; view = A.heard b.1; others = self.new.0 }) result ≡ release no self.old.0 }
+        ensures absent { IfNone result (self.new ≡ self.old) }
+    {
+        let Some(place) = self.place_of(no) else {
+            return None;
+        };
+        let earlier = count_before(&self.attached, place, self.attached[place].target);
+        let _ = self.numbers.shift_remove_index(place);
+        let Attached {
+            no,
+            target,
+            deep: _,
+            mut adapter,
+        } = self.attached.remove(place);
+        adapter.notify_changed(last_notice(no, target, earlier));
+        Some((last_notice(no, target, earlier), adapter))
+    }
+
+    /// Hands out every adapter in attach order, each told so last and gone before the next is told. Takes no memory.
+    pub fn close(self) -> Vec<(AdapterNo, A)>
+        ensures { map (λ b. (b.0, A.heard b.1)) result.items ≡ release_all self.0 }
+    {
+        let AdapterList {
+            alloc: _,
+            attached,
+            numbers: _,
+            mut released,
+        } = self;
+        for one in attached {
+            let Attached {
+                no,
+                target,
+                deep: _,
+                mut adapter,
+            } = one;
+            adapter.notify_changed(last_notice(no, target, 0));
+            released.push_reserved((no, adapter));
+        }
+        released
+    }
+}
+
+/// The notice that an adapter hears last, at its index among the adapters attached to its target.
+fn last_notice(no: AdapterNo, target: Node, index: usize) -> Notice
+    requires { index ≤ 100000 }
+    ensures { result ≡ record { notifier = target; feature = None; kind = RemovingAdapter; old_value = AdapterValue no; new_value = Null; position = pos index; was_set = false } }
+{
+    Notice {
+        notifier: target,
+        feature: None,
+        kind: NoticeKind::RemovingAdapter,
+        old_value: Value::Adapter(no),
+        new_value: Value::Null,
+        position: index as i64,
+        was_set: false,
+    }
+}
+
+/// How many of the adapters before `place` have the target.
+fn count_before<A>(attached: &[Attached<A>], place: usize, target: Node) -> usize
+    requires { place < length attached.now }
+    ensures count { result ≡ count_by (λ a. same_node a.target target) (take place attached.now) }
+    ensures few { result ≤ place }
+{
+    attached[..place]
+        .iter()
+        .filter(|one| one.target == target)
+        .count()
+}

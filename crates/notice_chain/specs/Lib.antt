@@ -1,0 +1,4 @@
+pub mod Kinds
+pub mod View
+pub mod Listed
+pub mod Replay

@@ -1,0 +1,106 @@
+-- The attached adapters in attach order, who of them hears a notice, and what telling and releasing them does.
+use Rattle.std.specs.Prelude.{ℕ, ◌+◌, Bool, false, ◌&&◌, ◌==◌, nat_eq, nat_lt, nat_le, pos, List, [], ◌∷◌, ◌++◌, map, filter, take, length, count_by, position, remove, slice_get, ◌^◌, Option, None, option_and_then, option_map}
+use Rattle.std.specs.List.{list_any, find}
+use Rattle.mm_types.specs.declared.numbers.AdapterNo.{AdapterNo}
+use Rattle.mm_types.specs.declared.numbers.Node.{Node}
+use Rattle.mm_types.specs.declared.numbers.Node.TheVariants.{Object, Resource}
+use Rattle.mm_types.specs.declared.value.Value.TheVariants.{Null, Adapter}
+use Rattle.notice_chain.specs.View.{View, hear, hear_all}
+use Rattle.notice_chain.specs.declared.notice.Notice.{Notice}
+use Rattle.notice_chain.specs.declared.kind.NoticeKind.TheVariants.{RemovingAdapter}
+
+-- one attached adapter
+pub record Listed : Type 0 where
+  pub no : AdapterNo
+  pub target : Node
+  pub deep : Bool
+  pub view : View
+
+-- two nodes are one
+abbrev pub same_node : Node → Node → Bool
+same_node (Object x) (Object y) = x.0 == y.0
+same_node (Object x) (Resource y) = false
+same_node (Resource x) (Object y) = false
+same_node (Resource x) (Resource y) = x.0 == y.0
+
+-- two numbers are one
+abbrev pub same_no : AdapterNo → AdapterNo → Bool
+same_no x y = nat_eq x.0 y.0
+
+abbrev pub has_no : AdapterNo → Listed → Bool
+has_no number r = same_no number r.no
+
+abbrev pub has_target : Node → Listed → Bool
+has_target target r = same_node r.target target
+
+-- the adapter of a number
+abbrev pub adapter : AdapterNo → List Listed → Option Listed
+adapter number rs = find (has_no number) rs
+
+----------------------------------------------------------------- telling
+
+-- an adapter hears what its target tells
+abbrev pub hears : Listed → Notice → Bool
+hears r n = same_node r.target n.notifier
+
+-- the notices of a chain that it hears, in order
+abbrev pub heard_of : List Notice → Listed → List Notice
+heard_of ns r = filter (λ n. hears r n) ns
+
+-- those that hear a notice
+abbrev pub audience : Notice → List Listed → List Listed
+audience n rs = filter (λ r. hears r n) rs
+
+-- the numbers of those that hear a notice
+abbrev pub audience_numbers : Notice → List Listed → List AdapterNo
+audience_numbers n rs = map (λ r. r.no) (audience n rs)
+
+-- the adapter after some notices
+abbrev pub told_all : Listed → List Notice → Listed
+told_all r ns = record { no = r.no; target = r.target; deep = r.deep; view = hear_all r.view ns }
+
+-- the adapters after a chain: each has heard its own notices of it in turn, whatever the others hear
+abbrev pub tell_chain : List Notice → List Listed → List Listed
+tell_chain ns rs = map (λ r. told_all r (heard_of ns r)) rs
+
+-- who is told a notice, in attach order
+abbrev pub told_of : Notice → List Listed → List (AdapterNo × Notice)
+told_of n rs = map (λ r. (r.no, n)) (audience n rs)
+
+-- who is told what: the chain in order, each notice with its audience in attach order
+abbrev pub told_list : List Notice → List Listed → List (AdapterNo × Notice)
+told_list [] rs = []
+told_list (n ∷ ns) rs = told_of n rs ++ told_list ns rs
+
+----------------------------------------------------------------- counting on
+
+-- an adapter that has to hear k notices, k above 0, and then its last one, would count past the greatest u64
+abbrev pub is_full : ℕ → View → Bool
+is_full k v = nat_lt 0 k && nat_le (2 ^ 64) (v.told + (k + 1))
+
+-- one of the adapters can't count on through a chain
+abbrev pub is_chain_full : List Notice → List Listed → Bool
+is_chain_full ns rs = list_any (λ r. is_full (length (heard_of ns r)) r.view) rs
+
+----------------------------------------------------------------- releasing
+
+-- the notice that an adapter hears last, after the adapters before it
+abbrev pub last_notice : List Listed → Listed → Notice
+last_notice before r = record { notifier = r.target; feature = None; kind = RemovingAdapter; old_value = Adapter r.no; new_value = Null; position = pos (count_by (has_target r.target) before); was_set = false }
+
+-- what an adapter's release gives: its last notice, its view after it, and the ones that stay
+pub record Release : Type 0 where
+  pub notice : Notice
+  pub view : View
+  pub others : List Listed
+
+abbrev pub release_at : List Listed → ℕ → Listed → Release
+release_at rs i r = let n = last_notice (take i rs) r in record { notice = n; view = hear r.view n; others = remove rs i }
+
+-- the adapter of a number, released
+abbrev pub release : AdapterNo → List Listed → Option Release
+release number rs = option_and_then (λ i. option_map (release_at rs i) (slice_get rs i)) (position (has_no number) rs)
+
+-- all released in attach order, each gone before the next is told: each number with its view after its last notice
+abbrev pub release_all : List Listed → List (AdapterNo × View)
+release_all rs = map (λ r. (r.no, hear r.view (last_notice [] r))) rs
