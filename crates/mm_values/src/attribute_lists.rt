@@ -82,10 +82,21 @@ impl AttributeLists {
                     list: Seq::new(alloc),
                     flag: false,
                 };
+                self.grow()?;
                 self.entries.insert(at, entry)?;
                 Ok(())
             }
         }
+    }
+
+    // Makes room for an entry where there is none, by a quarter at a time: most objects hold little.
+    fn grow(&mut self) -> Result<(), AllocError>
+        ensures { self.new ≡ self.old }
+    {
+        if self.entries.len() < self.entries.capacity() {
+            return Ok(());
+        }
+        self.entries.reserve_exact(self.entries.len() / 4 + 1)
     }
 
     /// Replaces what is held under an attribute, in its place. Takes no memory.

@@ -147,16 +147,16 @@ fn put(
     ensures ok { IfOk result (λ p. p ≡ PutList object feature (value ∷ []) flag ∷ []) }
     ensures err { IfErr result (λ r. r ≡ Memory) }
 {
-    let mut list = Seq::new(alloc);
-    if list.push(value).is_err() {
+    let Ok(mut list) = Vec::with_capacity(alloc, 1) else {
         return Err(Refused::Memory);
-    }
+    };
+    list.push_reserved(value);
     one_edit(
         alloc,
         ValueEdit::PutList {
             object,
             feature,
-            list,
+            list: Seq::from_vec(list),
             flag,
         },
     )
@@ -166,9 +166,9 @@ fn one_edit(alloc: Global, edit: ValueEdit) -> Result<ValuePlan, Refused>
     ensures ok { IfOk result (λ p. p ≡ edit ∷ []) }
     ensures err { IfErr result (λ r. r ≡ Memory) }
 {
-    let mut plan = Seq::new(alloc);
-    if plan.push(edit).is_err() {
+    let Ok(mut edits) = Vec::with_capacity(alloc, 1) else {
         return Err(Refused::Memory);
-    }
-    Ok(plan)
+    };
+    edits.push_reserved(edit);
+    Ok(Seq::from_vec(edits))
 }

@@ -1,8 +1,11 @@
-use Rattle.mm_values.proofs.Place.{held_in-insert, place-insert}
+use Rattle.mm_values.proofs.Place.{held_in-insert, place-insert, rising_insert}
 use Rattle.mm_values.proofs.attribute_lists.AttributeLists.make_place.Goals as goal
 
 pub returns-in_ok-insert-in-Err-clause-held : goal.returns-in_ok-insert-in-Err-clause-held
-returns-in_ok-insert-in-Err-clause-held c = rw (c.in_ok-insert-in-Err.ensures.items, c.new.ensures, c.self.view_is) (held_in-insert _ _ _ c.in-Err.ensures.absent)
+returns-in_ok-insert-in-Err-clause-held c = rw (c.in_ok-insert-in-Err.ensures.items, c.new.ensures, c.self-in-Err.view_is, c.grow.ensures) (held_in-insert _ _ _ c.in-Err.ensures.absent)
 
 pub returns-in_ok-insert-in-Err-clause-kept : goal.returns-in_ok-insert-in-Err-clause-kept
-returns-in_ok-insert-in-Err-clause-kept c f place = rw (c.in_ok-insert-in-Err.ensures.items, c.new.ensures, c.self.view_is) (place-insert _ _ _ c.in-Err.ensures.absent f place)
+returns-in_ok-insert-in-Err-clause-kept c f place = rw (c.in_ok-insert-in-Err.ensures.items, c.new.ensures, c.self-in-Err.view_is, c.grow.ensures) (place-insert _ _ _ c.in-Err.ensures.absent f place)
+
+pub invariant_of-self-in-Err : goal.invariant_of-self-in-Err
+invariant_of-self-in-Err c = rw (c.in_ok-insert-in-Err.ensures.items, c.new.ensures) (rising_insert _ _ _ (rw (c.self-in-Err.view_is, c.grow.ensures) c.in-Err.ensures.absent) c.self-in-Err.invariant)
