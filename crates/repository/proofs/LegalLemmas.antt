@@ -1,5 +1,5 @@
 -- What a command that is not refused does keeps the state legal.
-use Rattle.std.proofs.Common.{◌≡◌, ℕ, zero, suc, ◌<◌, ◌≤◌, ◌+◌, eqb, Bool, true, false, ◌&&◌, not, IsTrue, nat_eq, nat_lt, List, [], ◌∷◌, ◌++◌, length, set, slice_index_or, Option, Some, None, unwrap_or, option_map, if◌then◌else◌, refl, sym, ap, subst, ◌∙◌, arith}
+use Rattle.std.proofs.Common.{◌≡◌, ℕ, zero, suc, eqb, Bool, true, false, ◌&&◌, IsTrue, List, [], ◌∷◌, slice_index_or, Option, Some, None, unwrap_or, option_map, if◌then◌else◌, refl, sym, ap, subst, arith}
 use Rattle.std.specs.List.{All}
 use Rattle.std.specs.Ordering.{nat_cmp}
 use Rattle.std.specs.FinMap as map
@@ -8,22 +8,20 @@ use Rattle.std.proofs.lemmas.List.{length-set, length-append}
 use Rattle.std.proofs.lemmas.List.Elements.{All-append, All-cons, All-nil, All-head, All-tail, All-set}
 use Rattle.std.specs.Option.{option_map_or}
 use Rattle.mm_types.specs.Resolved.{Metamodel}
-use Rattle.mm_types.specs.declared.limits.TheConstants.{OBJECTS}
 use Rattle.mm_types.specs.declared.numbers.ClassNo.{ClassNo}
 use Rattle.mm_types.specs.declared.numbers.FeatureNo.{FeatureNo}
 use Rattle.mm_types.specs.declared.numbers.Node.TheVariants as node
-use Rattle.mm_types.specs.declared.numbers.ObjectNo.{ObjectNo}
 use Rattle.mm_types.specs.declared.refused.Refused.{Refused}
 use Rattle.mm_types.specs.declared.refused.Refused.TheVariants.{NoObject, NoResource, NoClass, Abstract, NoFeature, WrongType, TextLength, Limit}
 use Rattle.mm_types.specs.declared.value.Value.{Value}
-use Rattle.mm_values.specs.Held.{Held, HeldMap, nothing_held}
-use Rattle.mm_values.specs.Values.{ObjectState, Objects, ValuesState, applied, object_at, put_held, with_list}
+use Rattle.mm_values.specs.Held.{Held, nothing_held}
+use Rattle.mm_values.specs.Values.{ObjectState, object_at, put_held}
 use Rattle.mm_values.proofs.HeldIn.{get-with_held, kept}
 use Rattle.repository.specs.declared.command.Command.{Command}
 use Rattle.repository.specs.declared.command.Command.TheVariants.{Create, Set, Unset, Get, IsSet, Class}
 use Rattle.repository.specs.State.{State, has_feature, is_attribute_of, is_node_live, is_resource_there, is_value_live, is_unsettable, takes}
-use Rattle.repository.specs.Legal.{IsLegal, IsLegalHeld, IsLegalObject, is_concrete, is_legal_list, is_short}
-use Rattle.repository.specs.Step.{◌unless◌, ◌else_by◌, done, early_refusal, edits, late_refusal}
+use Rattle.repository.specs.Legal.{IsLegal, IsLegalHeld, IsLegalObject, is_concrete, is_short}
+use Rattle.repository.specs.Step.{◌unless◌, ◌else_by◌, done, early_refusal, late_refusal}
 
 abbrev IsThere : Option Refused → Type 0
 IsThere None = ⊥

@@ -1,5 +1,5 @@
 -- The states that a repository can be in.
-use Rattle.std.specs.Prelude.{ℕ, ◌≡◌, ◌≤◌, ◌&&◌, Bool, true, false, not, IsTrue, List, [], ◌∷◌, length, nat_le, Option, Some, None, All}
+use Rattle.std.specs.Prelude.{◌≡◌, ◌≤◌, ◌&&◌, Bool, true, false, not, IsTrue, List, [], ◌∷◌, length, nat_le, Option, Some, None, All}
 use Rattle.std.specs.Option.{option_map_or}
 use Rattle.mm_types.specs.Lookups as lookups
 use Rattle.mm_types.specs.Resolved.{Metamodel}

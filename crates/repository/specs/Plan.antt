@@ -1,5 +1,5 @@
 -- What planning a change gives.
-use Rattle.std.specs.Prelude.{◌≡◌, MatchBool, Option, Some, None, Result, Ok, Err}
+use Rattle.std.specs.Prelude.{◌≡◌, MatchBool, Some, None, Result, Ok, Err}
 use Rattle.mm_types.specs.declared.refused.Refused.{Refused}
 use Rattle.repository.specs.declared.command.Command.{Command}
 use Rattle.repository.specs.declared.command.Command.TheVariants as command

@@ -1,5 +1,4 @@
 -- The state that a repository shows.
-use Rattle.std.specs.Prelude.{Bool}
 use Rattle.std.specs.Coded.{Coded, codes}
 use Rattle.std.specs.FinMap as map
 use Rattle.mm_values.specs.Held.{Held, HeldMap}

@@ -9,7 +9,7 @@ use Rattle.mm_types.specs.declared.value.Value.{Value}
 use Rattle.repository.specs.declared.reply.Answer.TheVariants as answer
 use Rattle.repository.specs.declared.reply.Reply.{Reply}
 use Rattle.repository.specs.State.{State}
-use Rattle.repository.specs.Step.{Outcome, refusal, refused, step}
+use Rattle.repository.specs.Step.{Outcome, refusal, step}
 
 abbrev pub is_memory_refusal : Refused → Bool
 is_memory_refusal Memory = true

@@ -123,6 +123,30 @@ const NAMED: [(&str, &str); 8] = [
     ),
 ];
 
+const EDGES: [(&str, &str); 5] = [
+    (r#"{"classes":[{"name":"_"},{"name":"A9_"}]}"#, "accepted"),
+    (r#"{"classes":[{"name":"A"},{"name":"a"}]}"#, "accepted"),
+    (
+        r#"{"classes":[{"name":"A","features":[{"name":"x","kind":"attribute","type":"A"}]}]}"#,
+        "6 NO_TYPE class 0 feature 0",
+    ),
+    (
+        r#"{"classes":[{"name":"A","features":[{"name":"x","kind":"reference","type":"A"}]}]}"#,
+        "accepted",
+    ),
+    (
+        r#"{"classes":[{"name":"A","supers":["B","C"]},{"name":"B","supers":["C"]},{"name":"C"}]}"#,
+        "accepted",
+    ),
+];
+
+#[test]
+fn names_types_and_supertypes_at_the_edge(rt: HostRuntime) -> Result<(), Fail> {
+    let wrong = first_wrong(rt.alloc(), &EDGES)?;
+    assert_eq!(rt; wrong.as_str(), "");
+    Ok(())
+}
+
 #[test]
 fn names_types_and_cycles_are_checked(rt: HostRuntime) -> Result<(), Fail> {
     let wrong = first_wrong(rt.alloc(), &NAMED)?;
@@ -187,6 +211,40 @@ const BOUNDED: [(&str, &str); 6] = [
     ),
 ];
 
+const DEFAULTS: [(&str, &str); 6] = [
+    (
+        r#"{"classes":[{"name":"A","features":[{"name":"x","kind":"attribute","type":"EInt","default":"-2147483648"}]}]}"#,
+        "accepted",
+    ),
+    (
+        r#"{"classes":[{"name":"A","features":[{"name":"x","kind":"attribute","type":"ELong","default":"9223372036854775808"}]}]}"#,
+        "12 DEFAULT class 0 feature 0",
+    ),
+    (
+        r#"{"classes":[{"name":"A","features":[{"name":"x","kind":"attribute","type":"EBoolean","default":"True"}]}]}"#,
+        "12 DEFAULT class 0 feature 0",
+    ),
+    (
+        r#"{"enums":[{"name":"E","literals":["a"]}],"classes":[{"name":"A","features":[{"name":"x","kind":"attribute","type":"E","default":"a"}]}]}"#,
+        "accepted",
+    ),
+    (
+        r#"{"classes":[{"name":"A","features":[{"name":"x","kind":"attribute","type":"EInt","upper":-2}]}]}"#,
+        "8 BOUNDS class 0 feature 0",
+    ),
+    (
+        r#"{"classes":[{"name":"A","features":[{"name":"x","kind":"attribute","type":"EInt","lower":1}]}]}"#,
+        "accepted",
+    ),
+];
+
+#[test]
+fn bounds_and_defaults_at_the_edge(rt: HostRuntime) -> Result<(), Fail> {
+    let wrong = first_wrong(rt.alloc(), &DEFAULTS)?;
+    assert_eq!(rt; wrong.as_str(), "");
+    Ok(())
+}
+
 #[test]
 fn bounds_and_defaults_are_checked(rt: HostRuntime) -> Result<(), Fail> {
     let wrong = first_wrong(rt.alloc(), &BOUNDED)?;
@@ -212,6 +270,32 @@ const OPPOSED: [(&str, &str); 4] = [
         "accepted",
     ),
 ];
+
+const PAIRS: [(&str, &str); 4] = [
+    (
+        r#"{"classes":[{"name":"A","features":[{"name":"x","kind":"reference","type":"A","opposite":"y"},{"name":"y","kind":"reference","type":"A"}]}]}"#,
+        "9 OPPOSITE class 0 feature 0",
+    ),
+    (
+        r#"{"classes":[{"name":"A","features":[{"name":"x","kind":"reference","type":"B","containment":true,"opposite":"y"}]},{"name":"B","features":[{"name":"y","kind":"reference","type":"A","containment":true,"opposite":"x"}]}]}"#,
+        "10 BOTH_CONTAIN class 0 feature 0",
+    ),
+    (
+        r#"{"classes":[{"name":"A","features":[{"name":"x","kind":"reference","type":"A","containment":true,"opposite":"y"},{"name":"y","kind":"reference","type":"A","upper":2,"opposite":"x"}]}]}"#,
+        "11 CONTAINER_BOUND class 0 feature 1",
+    ),
+    (
+        r#"{"classes":[{"name":"A","features":[{"name":"x","kind":"reference","type":"A","upper":-1,"opposite":"y"},{"name":"y","kind":"reference","type":"A","upper":2,"opposite":"x"}]}]}"#,
+        "accepted",
+    ),
+];
+
+#[test]
+fn opposites_at_the_edge(rt: HostRuntime) -> Result<(), Fail> {
+    let wrong = first_wrong(rt.alloc(), &PAIRS)?;
+    assert_eq!(rt; wrong.as_str(), "");
+    Ok(())
+}
 
 #[test]
 fn opposites_are_checked(rt: HostRuntime) -> Result<(), Fail> {

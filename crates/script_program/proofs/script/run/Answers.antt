@@ -1,4 +1,4 @@
-use Rattle.std.proofs.Common.{Option, Some, None, List, ℕ}
+use Rattle.std.proofs.Common.{Option, Some, None}
 use Rattle.std.specs.Prelude.{IfSome}
 use Rattle.repository.specs.State.{empty_state}
 use Rattle.script_program.proofs.Turns.{silent}

@@ -1,4 +1,4 @@
-use Rattle.std.proofs.Common.{◌≡◌, length, List, ℕ}
+use Rattle.std.proofs.Common.{length, List, ℕ}
 use Rattle.std.specs.Io.KnownBytes.{Appends}
 use Rattle.script_program.specs.Script.{Printed, texts}
 use Rattle.script_program.proofs.Turns.{GoesOn}
