@@ -15,9 +15,12 @@ const EXPLAINED: &str = "\
 The metamodel is a JSON document of classes, their attributes and references. The script is read
 from standard input, a line at a time, and what each line answers is printed on standard output:
 
-  new Book               a new object of a class: its number, as #0
-  set #0 name \"Emma\"     puts a value into a feature: ok
-  get #0 name            what a feature holds: \"Emma\"
+  new Book               makes an object of a class: its number, as #0
+  set #0 name \"Emma\"     sets a feature: ok
+  get #0 name            what a feature has: \"Emma\"
+  unset #0 name          takes a feature back to its default: ok
+  isset #0 name          whether a feature is set: false
+  class #0               the class of an object: class Book
 
 A value is null, true, false, a number, a JSON string, :LITERAL or #N. A line that can't be done
 prints why, as `refused 8 TYPE`, and changes nothing; a line that is none prints `bad line`.
