@@ -2,8 +2,11 @@
 ghost use Rattle.std.specs.Prelude.{◌≡◌, ◌-◌, [], Some, OnOk, IfOk, OnErr};
 ghost use Rattle.notice_chain.specs.Listed.{tell_chain, told_list};
 
+mod kinds;
+
 use super::*;
 use adapters::{Adapter, Counter, NoRoom, Recorder, Window};
+use kinds::make_poor;
 use mm_types::{AdapterNo, FeatureNo, Node, ObjectNo, Refused, Value};
 use notice_chain::{Chain, Notice, NoticeKind};
 use std::alloc::{AllocError, Global};
@@ -231,6 +234,34 @@ fn a_chain_that_one_adapter_cannot_hear_is_told_to_none(rt: HostRuntime) -> Resu
     let told = (Some(0), Some(18446744073709551613), Some(0));
     assert_eq!(&rt;
         refused_in_the_middle(alloc, first, full, third),
+        Ok((Refused::AdapterFull, told))
+    );
+    Ok(())
+}
+
+#[test]
+fn want_of_memory_decides_where_its_adapter_is_first(rt: HostRuntime) -> Result<(), Fail> {
+    let alloc = rt.alloc();
+    let poor: Box<dyn Adapter> = Box::new(alloc, make_poor())?;
+    let full: Box<dyn Adapter> = Box::new(alloc, Counter::starting_at(18446744073709551613))?;
+    let third: Box<dyn Adapter> = Box::new(alloc, Recorder::new(alloc))?;
+    let told = (Some(0), Some(18446744073709551613), Some(0));
+    assert_eq!(&rt;
+        refused_in_the_middle(alloc, poor, full, third),
+        Ok((Refused::Memory, told))
+    );
+    Ok(())
+}
+
+#[test]
+fn a_full_adapter_decides_where_it_is_first(rt: HostRuntime) -> Result<(), Fail> {
+    let alloc = rt.alloc();
+    let first: Box<dyn Adapter> = Box::new(alloc, Recorder::new(alloc))?;
+    let full: Box<dyn Adapter> = Box::new(alloc, Counter::starting_at(18446744073709551613))?;
+    let poor: Box<dyn Adapter> = Box::new(alloc, make_poor())?;
+    let told = (Some(0), Some(18446744073709551613), Some(0));
+    assert_eq!(&rt;
+        refused_in_the_middle(alloc, first, full, poor),
         Ok((Refused::AdapterFull, told))
     );
     Ok(())

@@ -7,12 +7,12 @@ use std::alloc::Global;
 use std::test::Fail;
 
 /// Books with a name and a number of pages.
-pub const BOOKS: &str = r#"{"classes":[{"name":"Book","features":[
+pub(crate) const BOOKS: &str = r#"{"classes":[{"name":"Book","features":[
 {"name":"name","kind":"attribute","type":"EString"},
 {"name":"pages","kind":"attribute","type":"EInt","default":"100"}]}]}"#;
 
 /// Libraries with books, members and staff.
-pub const LIBRARY: &str = r#"{"enums":[{"name":"Genre","literals":["NOVEL","POEM","PLAY"]}],
+pub(crate) const LIBRARY: &str = r#"{"enums":[{"name":"Genre","literals":["NOVEL","POEM","PLAY"]}],
 "classes":[
 {"name":"Named","abstract":true,"features":[
 {"name":"name","kind":"attribute","type":"EString"}]},
@@ -43,7 +43,7 @@ fn loaded(alloc: Global, text: &str) -> Result<Meta, MetaFault> {
 }
 
 /// The metamodel of a document.
-pub fn meta_of(alloc: Global, text: &str) -> Result<Meta, Fail> {
+pub(crate) fn meta_of(alloc: Global, text: &str) -> Result<Meta, Fail> {
     match loaded(alloc, text) {
         Ok(meta) => Ok(meta),
         Err(_) => Err(Fail::from("the metamodel is refused")),

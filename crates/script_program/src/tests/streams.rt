@@ -9,14 +9,14 @@ const SCRIPT: &str = "new Book\nget #0 name";
 
 /// Gives one byte of a text per read, and fails at a read that is told by its number, from 0.
 #[derive(Drop)]
-pub struct OneByte<'a> {
+pub(crate) struct OneByte<'a> {
     rest: &'a [u8],
     reads: usize,
     fails_at: usize,
 }
 
 impl<'a> OneByte<'a> {
-    pub fn new(text: &'a str, fails_at: usize) -> OneByte<'a> {
+    pub(crate) fn new(text: &'a str, fails_at: usize) -> OneByte<'a> {
         OneByte {
             rest: text.as_bytes(),
             reads: 0,
@@ -81,14 +81,14 @@ fn an_endless_input_is_too_long(rt: HostRuntime) {
 
 /// Takes one byte per write, and fails or takes none at a write that is told by its number, from 0.
 #[derive(Drop)]
-pub struct Narrow {
-    pub taken: Vec<u8>,
+pub(crate) struct Narrow {
+    pub(crate) taken: Vec<u8>,
     stops_at: usize,
     errs: bool,
 }
 
 impl Narrow {
-    pub fn new(alloc: Global, stops_at: usize, errs: bool) -> Narrow {
+    pub(crate) fn new(alloc: Global, stops_at: usize, errs: bool) -> Narrow {
         Narrow {
             taken: Vec::new(alloc),
             stops_at,
