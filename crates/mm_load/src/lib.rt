@@ -10,6 +10,7 @@ mod enumeration;
 mod feature;
 mod from_json;
 mod head;
+pub mod laws;
 mod load;
 mod members;
 mod read_fault;

@@ -1,0 +1,13 @@
+//! Laws of the definitions, each the contract of a function that does nothing.
+ghost use Rattle.std.specs.Prelude.{◌≡◌, List, Some, ℕ};
+ghost use Rattle.json.specs.Json.{Json, member, no_members};
+ghost use Rattle.serde_json.specs.Data.{Members, object};
+ghost use Rattle.serde_json.specs.Find.{get};
+ghost use Rattle.serde_json.specs.Read.{of_json, of_members};
+
+/// Of equal keys the last counts: whatever the members before it say, an object says of the key of its last member what
+/// that member says.
+pub fn the_last_of_equal_keys_counts()
+    ensures { (key : List ℕ) (last : Json) (before all : Members) → of_members (member key last no_members) before ≡ Some all
+        → get key (object all) ≡ of_json last }
+{}
