@@ -204,12 +204,30 @@ fn conforming(alloc: Global, meta: &Meta, sub: ClassNo) -> Result<String, Fail> 
     Ok(found)
 }
 
+/// The features of each class by number, for the classes of the library and one more.
+const HAD: [&str; 6] = [
+    " 0",
+    " 0 1 2 3",
+    " 0 4 5 6 7 8 9 10 11",
+    " 0 12 13 14",
+    " 15 16",
+    "",
+];
+
+fn had(alloc: Global, meta: &Meta, class: ClassNo) -> Result<String, Fail> {
+    let mut found = String::new(alloc);
+    for feature in 0..18u32 {
+        if meta.has_feature(class, FeatureNo(feature)) {
+            let feature = format!(in alloc; " {feature}")?;
+            found.push_str(feature.as_str())?;
+        }
+    }
+    Ok(found)
+}
+
 fn library(alloc: Global) -> Result<Meta, Fail> {
     let raw = document(alloc, LIBRARY)?;
-    match check(alloc, raw) {
-        Ok(meta) => Ok(meta),
-        Err(_) => Err(Fail::from("refused")),
-    }
+    Ok(check(alloc, raw)?)
 }
 
 #[test]
@@ -234,6 +252,16 @@ fn the_classes_of_the_library_conform(rt: HostRuntime) -> Result<(), Fail> {
     let meta = library(rt.alloc())?;
     for (sub, wanted) in CONFORMING.iter().enumerate() {
         let found = conforming(rt.alloc(), &meta, ClassNo(sub as u32))?;
+        assert_eq!(rt; found.as_str(), *wanted);
+    }
+    Ok(())
+}
+
+#[test]
+fn the_classes_of_the_library_have_their_features(rt: HostRuntime) -> Result<(), Fail> {
+    let meta = library(rt.alloc())?;
+    for (class, wanted) in HAD.iter().enumerate() {
+        let found = had(rt.alloc(), &meta, ClassNo(class as u32))?;
         assert_eq!(rt; found.as_str(), *wanted);
     }
     Ok(())

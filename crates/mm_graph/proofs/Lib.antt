@@ -6,3 +6,4 @@ pub mod Repeating
 pub mod Twice
 pub mod Places
 pub mod Clashing
+pub mod Belonging

@@ -22,14 +22,14 @@ pub record IsAdding (g : List (List ℕ)) (c : ℕ) (old s : List Bool) (i : ℕ
 same_test : (s : List Bool) (c k : ℕ) (b : Bool) → c < length s → k ≡ c → is_in (set s c b) k ≡ b
 same_test s c k b within e = rw e (get_or-set_same s c b false within)
 
-other_test : (s : List Bool) (c k : ℕ) (b : Bool) → k ≢ c → is_in (set s c b) k ≡ is_in s k
+pub other_test : (s : List Bool) (c k : ℕ) (b : Bool) → k ≢ c → is_in (set s c b) k ≡ is_in s k
 other_test s c k b n = get_or-set_other s c k b false n
 
 counted_set : (s : List Bool) (c : ℕ) (b old : Bool) → c < length s → is_in s c ≡ old
     → count_by not (set s c b) + cond (not old) 1 0 ≡ count_by not s + cond (not b) 1 0
 counted_set s c b old within is = rw (← is) (sum_by-set (λ x. cond (not x) 1 0) s c b false within)
 
-one_fewer : (s : List Bool) (c : ℕ) → c < length s → is_in s c ≡ false → count_by not (set s c true) + 1 ≡ count_by not s
+pub one_fewer : (s : List Bool) (c : ℕ) → c < length s → is_in s c ≡ false → count_by not (set s c true) + 1 ≡ count_by not s
 one_fewer s c within is = let e = counted_set s c true false within is in omega arith
 
 pub adding_none : (g : List (List ℕ)) (c : ℕ) (old : List Bool) → c < length old → is_in old c ≡ false → IsAdding g c old (set old c true) 0

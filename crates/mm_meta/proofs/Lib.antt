@@ -1,5 +1,6 @@
 mod ClassLemmas
 mod MetaLemmas
 mod NameLemmas
+mod OwnerLemmas
 mod ResolverLemmas
 mod TableLemmas

@@ -117,6 +117,18 @@ impl Meta {
         }
     }
 
+    /// Whether a feature is among all features of a class, own and inherited: whether the class conforms to the
+    /// feature's owner. Takes constant time.
+    pub fn has_feature(&self, class: ClassNo, feature: FeatureNo) -> bool
+        ensures { result ≡ m.has_feature self.now class feature }
+    {
+        let features = self.features.as_slice();
+        match features.get(feature.0 as usize) {
+            Some(found) => self.conforms(class, found.owner),
+            None => false,
+        }
+    }
+
     /// The default of a feature (EStructuralFeature.getDefaultValue): null for a reference.
     pub fn default(&self, feature: FeatureNo) -> Option<&Value>
         ensures { option_copied result ≡ m.default self.now feature }

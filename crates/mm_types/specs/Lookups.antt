@@ -1,6 +1,6 @@
 -- What a resolved metamodel says of its classes, features and enumerations by number and by name.
-use Rattle.std.specs.Prelude.{ℕ, ◌<◌, ◌&&◌, pos, neg_ℤ, ◌^◌, ◌-◌, Bool, true, false, IsTrue, List, [], length, map, position, slice_get, nat_lt, Option, Some, None, option_map, option_and_then, int_le}
-use Rattle.std.specs.List.{find}
+use Rattle.std.specs.Prelude.{ℕ, ◌<◌, ◌&&◌, pos, neg_ℤ, ◌^◌, ◌-◌, Bool, true, false, IsTrue, List, [], length, map, position, slice_get, nat_lt, Option, Some, None, option_map, option_and_then, nat_eq, int_le}
+use Rattle.std.specs.List.{find, list_any}
 use Rattle.std.specs.Option.{option_map_or}
 use Rattle.std.specs.Ordering.{int_eq}
 use Rattle.std.specs.Str.{bytes_eq}
@@ -30,6 +30,10 @@ class_by_name m name = option_map class_no (position (λ c. bytes_eq c.name name
 -- all features of a class
 abbrev pub features : Metamodel → ClassNo → Option (List FeatureNo)
 features m c = option_map (λ k. k.all) (class m c)
+
+-- a feature is among all features of a class
+abbrev pub has_feature : Metamodel → ClassNo → FeatureNo → Bool
+has_feature m c f = option_map_or (λ all. list_any (λ g. nat_eq g.0 f.0) all) (features m c) false
 
 -- the name of the feature of a number among some, nothing where there is none
 abbrev pub name_in : List Feature → FeatureNo → List ℕ

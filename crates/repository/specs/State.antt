@@ -1,6 +1,5 @@
 -- The state of a repository: what its nodes and their features are, and what they hold.
 use Rattle.std.specs.Prelude.{◌&&◌, Bool, true, false, not, [], length, nat_eq, slice_get, Option, is_some, nat_lt, option_and_then, unwrap_or, if◌then◌else◌}
-use Rattle.std.specs.List.{list_any}
 use Rattle.std.specs.Option.{option_map_or}
 use Rattle.std.specs.Ordering.{int_eq}
 use Rattle.std.specs.Str.{bytes_eq}
@@ -60,7 +59,7 @@ is_single_attribute f = lookups.is_single f && is_attribute_kind f.kind
 -- a feature is a single attribute among all features of a class
 abbrev pub is_attribute_of : Metamodel → ClassNo → FeatureNo → Bool
 is_attribute_of m c f =
-    option_map_or (list_any (λ g. nat_eq g.0 f.0)) (lookups.features m c) false && option_map_or is_single_attribute (lookups.feature m f) false
+    lookups.has_feature m c f && option_map_or is_single_attribute (lookups.feature m f) false
 
 -- a node has a feature; the one of a resource is no attribute
 abbrev pub has_feature : State → Node → FeatureNo → Bool

@@ -1,6 +1,5 @@
 //! What the metamodel says of an attribute that a command names.
-ghost use Rattle.std.specs.Prelude.{◌≡◌, nat_eq};
-ghost use Rattle.std.specs.List.{list_any};
+ghost use Rattle.std.specs.Prelude.{◌≡◌};
 ghost use Rattle.std.specs.Option.{option_copied, option_map_or};
 ghost use Rattle.mm_types.specs.Lookups as m;
 ghost use Rattle.repository.specs.State as s;
@@ -23,21 +22,12 @@ pub(crate) fn is_concrete(meta: &Meta, class: ClassNo) -> bool
 pub(crate) fn is_attribute_of(meta: &Meta, class: ClassNo, feature: FeatureNo) -> bool
     ensures { result ≡ s.is_attribute_of meta.now class feature }
 {
-    let is_among = match meta.features(class) {
-        Some(all) => contains(all, feature),
-        None => false,
-    };
+    let is_had = meta.has_feature(class, feature);
     let is_attribute = match meta.feature(feature) {
         Some(feature) => is_single_attribute(feature),
         None => false,
     };
-    is_among && is_attribute
-}
-
-fn contains(features: &[FeatureNo], feature: FeatureNo) -> bool
-    ensures { result ≡ list_any (λ g. nat_eq g.0 feature.0) features.now }
-{
-    features.iter().any(|g| g.0 == feature.0)
+    is_had && is_attribute
 }
 
 fn is_single_attribute(feature: &Feature) -> bool
