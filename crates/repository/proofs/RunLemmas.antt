@@ -4,20 +4,13 @@ use Rattle.std.specs.Prelude.{MatchBool}
 use Rattle.repository.specs.declared.command.Command.{Command}
 use Rattle.repository.specs.State.{State}
 use Rattle.repository.specs.Step.{Outcome, Stepped, step}
-use Rattle.repository.specs.Run.{Executed, IsRun, IsWanting, Ran, commands_kept, is_memory, outcomes_kept, run}
+use Rattle.repository.specs.Run.{AllExecuted, Executed, IsRun, IsWanting, Ran, commands_kept, is_memory, outcomes_kept, run}
 
--- each command was done in the state that the one before it left
-abbrev pub Chained : State → List Command → List Outcome → State → Type 0
-Chained s [] [] t = s ≡ t
-Chained s [] (o ∷ os) t = ⊥
-Chained s (c ∷ cs) [] t = ⊥
-Chained s (c ∷ cs) (o ∷ os) t = (u : State) × Executed s c o u × Chained u cs os t
-
-pub Chained-push : (cs : List Command) (os : List Outcome) (s t u : State) (c : Command) (o : Outcome) → Chained s cs os t → Executed t c o u → Chained s (cs ++ (c ∷ [])) (os ++ (o ∷ [])) u
-Chained-push [] [] s t u c o h x = (u, subst (λ (q : State). Executed q c o u) (sym h) x, refl)
-Chained-push [] (p ∷ os) s t u c o h x = absurd h
-Chained-push (d ∷ cs) [] s t u c o h x = absurd h
-Chained-push (d ∷ cs) (p ∷ os) s t u c o h x = (h.0, h.1, Chained-push cs os h.0 t u c o h.2 x)
+pub AllExecuted-push : (cs : List Command) (os : List Outcome) (s t u : State) (c : Command) (o : Outcome) → AllExecuted s cs os t → Executed t c o u → AllExecuted s (cs ++ (c ∷ [])) (os ++ (o ∷ [])) u
+AllExecuted-push [] [] s t u c o h x = (u, subst (λ (q : State). Executed q c o u) (sym h) x, refl)
+AllExecuted-push [] (p ∷ os) s t u c o h x = absurd h
+AllExecuted-push (d ∷ cs) [] s t u c o h x = absurd h
+AllExecuted-push (d ∷ cs) (p ∷ os) s t u c o h x = (h.0, h.1, AllExecuted-push cs os h.0 t u c o h.2 x)
 
 after-memory : (s u : State) (c : Command) (o : Outcome) → Executed s c o u → is_memory o ≡ true → s ≡ u
 after-memory s u c o x e =
@@ -27,18 +20,18 @@ after-memory s u c o x e =
 stepped : (s u : State) (c : Command) (o : Outcome) → Executed s c o u → is_memory o ≡ false → step s c ≡ record { outcome = o; after = u }
 stepped s u c o x e = subst (λ (b : Bool). MatchBool b (IsWanting s c u) (step s c ≡ record { outcome = o; after = u })) e x
 
--- commands and outcomes that are chained are a run
-pub run-chained : (cs : List Command) (os : List Outcome) (s t : State) → Chained s cs os t → IsRun s cs os t
-run-chained [] [] s t h = ap (λ (q : State). record { outcomes = []; after = q }) h
-run-chained [] (o ∷ os) s t h = absurd h
-run-chained (c ∷ cs) [] s t h = absurd h
-run-chained (c ∷ cs) (o ∷ os) s t h =
+-- what is done one command after another is a run
+pub run-executed : (cs : List Command) (os : List Outcome) (s t : State) → AllExecuted s cs os t → IsRun s cs os t
+run-executed [] [] s t h = ap (λ (q : State). record { outcomes = []; after = q }) h
+run-executed [] (o ∷ os) s t h = absurd h
+run-executed (c ∷ cs) [] s t h = absurd h
+run-executed (c ∷ cs) (o ∷ os) s t h =
     let go : (b : Bool) → is_memory o ≡ b → run s (if b then commands_kept cs os else c ∷ commands_kept cs os) ≡ record { outcomes = if b then outcomes_kept os else o ∷ outcomes_kept os; after = t } =
     λ (b : Bool). elim b as (λ b. is_memory o ≡ b → run s (if b then commands_kept cs os else c ∷ commands_kept cs os) ≡ record { outcomes = if b then outcomes_kept os else o ∷ outcomes_kept os; after = t }) [
-      | true ↦ λ e. ap (λ (q : State). run q (commands_kept cs os)) (after-memory s h.0 c o h.1 e) ∙ run-chained cs os h.0 t h.2
+      | true ↦ λ e. ap (λ (q : State). run q (commands_kept cs os)) (after-memory s h.0 c o h.1 e) ∙ run-executed cs os h.0 t h.2
       | false ↦ λ e.
           let one : step s c ≡ record { outcome = o; after = h.0 } = stepped s h.0 c o h.1 e in
-          let rest : run h.0 (commands_kept cs os) ≡ record { outcomes = outcomes_kept os; after = t } = run-chained cs os h.0 t h.2 in
+          let rest : run h.0 (commands_kept cs os) ≡ record { outcomes = outcomes_kept os; after = t } = run-executed cs os h.0 t h.2 in
           ap (λ (q : Stepped). let r : Ran = run q.after (commands_kept cs os) in record { outcomes = q.outcome ∷ r.outcomes; after = r.after }) one ∙ ap (λ (r : Ran). record { outcomes = o ∷ r.outcomes; after = r.after }) rest
     ] in
     go (is_memory o) refl

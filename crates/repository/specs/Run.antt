@@ -58,6 +58,13 @@ class_outcome (Err r) = Err (record { refused = r })
 abbrev pub Executed : State → Command → Outcome → State → Type 0
 Executed s c o t = MatchBool (is_memory o) (IsWanting s c t) (step s c ≡ record { outcome = o; after = t })
 
+-- each command of a list was done in the state that the one before it left
+abbrev pub AllExecuted : State → List Command → List Outcome → State → Type 0
+AllExecuted s [] [] t = s ≡ t
+AllExecuted s [] (o ∷ os) t = ⊥
+AllExecuted s (c ∷ cs) [] t = ⊥
+AllExecuted s (c ∷ cs) (o ∷ os) t = (u : State) × Executed s c o u × AllExecuted u cs os t
+
 -- the outcomes of a list of commands, and the state after them
 pub record Ran : Type 0 where
   pub outcomes : List Outcome

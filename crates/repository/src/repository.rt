@@ -4,7 +4,7 @@ ghost use Rattle.mm_types.specs.declared.value.Value.TheVariants as v;
 ghost use Rattle.mm_types.specs.declared.refused.Refused.TheVariants.{Memory};
 ghost use Rattle.repository.specs.State as s;
 ghost use Rattle.repository.specs.Step as step;
-ghost use Rattle.repository.specs.Run.{Executed, IsRun, class_outcome, flag_outcome, is_memory_refusal, outcome_of, value_outcome};
+ghost use Rattle.repository.specs.Run.{AllExecuted, Executed, IsRun, class_outcome, flag_outcome, is_memory_refusal, outcome_of, value_outcome};
 ghost use Rattle.repository.specs.Plan.{command_of};
 ghost use Rattle.repository.specs.Repository.{state_of};
 ghost use Rattle.repository.specs.declared.command.Command.TheVariants.{Create, Set, Unset, Get, IsSet, Class};
@@ -160,6 +160,7 @@ impl Repository {
         &mut self,
         commands: Vec<Command>,
     ) -> Result<Vec<Result<Reply, Failure>>, Vec<Command>>
+        ensures steps { IfOk result (λ os. AllExecuted self.old commands.items os.items self.new) }
         ensures run { IfOk result (λ os. IsRun self.old commands.items os.items self.new) }
         ensures each { IfOk result (λ os. length os.items ≡ length commands.items) }
         ensures given_back { IfErr result (λ cs. cs.items ≡ commands.items) }

@@ -2,7 +2,7 @@ use Rattle.std.proofs.Common.{◌≡◌, ◌≤◌, ◌+◌, ◌∷◌, [], ◌+
 use Rattle.std.specs.Vec.Iter.{into_iter_items}
 use Rattle.std.proofs.lemmas.List.{append-nil}
 use Rattle.std.proofs.lemmas.Grind.{common_steps}
-use Rattle.repository.proofs.RunLemmas.{Chained-push, run-chained}
+use Rattle.repository.proofs.RunLemmas.{AllExecuted-push, run-executed}
 use Rattle.repository.proofs.repository.Repository.run_all.Goals as goal
 
 empty : {X : Type 0} (xs : List X) → length xs ≡ 0 → xs ≡ []
@@ -20,11 +20,17 @@ commands-preserved c =
       room,
       len,
       all,
-      rw (c.push_reserved.ensures.items) (Chained-push _ _ _ _ _ _ _ c.commands.invariant.5 c.execute.ensures),
+      rw (c.push_reserved.ensures.items) (AllExecuted-push _ _ _ _ _ _ _ c.commands.invariant.5 c.execute.ensures),
     )
 
 pub returns-clause-run : goal.returns-clause-run
 returns-clause-run c =
     let none : into_iter_items c.commands.command-iterator ≡ [] = empty _ (grind (arith, common_steps)) in
     let all : c.commands.yielded ≡ c.args.commands.items = sym (append-nil _) ∙ ap (λ xs. c.commands.yielded ++ xs) (sym none) ∙ c.commands.invariant.4 in
-    rw (← all) (run-chained _ _ _ _ c.commands.invariant.5)
+    rw (← all) (run-executed _ _ _ _ c.commands.invariant.5)
+
+pub returns-clause-steps : goal.returns-clause-steps
+returns-clause-steps c =
+    let none : into_iter_items c.commands.command-iterator ≡ [] = empty _ (grind (arith, common_steps)) in
+    let all : c.commands.yielded ≡ c.args.commands.items = sym (append-nil _) ∙ ap (λ xs. c.commands.yielded ++ xs) (sym none) ∙ c.commands.invariant.4 in
+    rw (← all) c.commands.invariant.5

@@ -1,6 +1,6 @@
 use Rattle.std.proofs.Common.{◌≡◌, ◌≤◌, ◌+◌, ◌++◌, length, vec_len, vec_capacity}
 use Rattle.std.specs.Vec.Iter.{into_iter_items}
-use Rattle.repository.proofs.RunLemmas.{Chained}
+use Rattle.repository.specs.Run.{AllExecuted}
 use Rattle.repository.proofs.repository.Repository.run_all.Given as goal
 
 abbrev pub invariant-commands : goal.invariant-commands
@@ -10,4 +10,4 @@ invariant-commands l =
     (vec_len l.outcomes + length (into_iter_items l.command-iterator) ≤ vec_capacity l.outcomes) ×
     (length l.outcomes.items ≡ length l.yielded) ×
     (l.yielded ++ into_iter_items l.command-iterator ≡ l.fn.commands.items) ×
-    Chained l.initial.self l.yielded l.outcomes.items l.self
+    AllExecuted l.initial.self l.yielded l.outcomes.items l.self
