@@ -1,5 +1,6 @@
 //! Command lines, metamodels, scripts, streams that fail, and printed texts.
 mod arguments;
+mod memory;
 mod metamodels;
 mod printed;
 mod repositories;

@@ -37,17 +37,15 @@ pub(crate) const LIBRARY: &str = r#"{"enums":[{"name":"Genre","literals":["NOVEL
 {"name":"subs","kind":"reference","type":"Folder","upper":-1,"containment":true,"opposite":"parent"},
 {"name":"parent","kind":"reference","type":"Folder","opposite":"subs"}]}]}"#;
 
-fn loaded(alloc: Global, text: &str) -> Result<Meta, MetaFault> {
+/// The metamodel of a document, or its fault.
+pub(crate) fn loaded(alloc: Global, text: &str) -> Result<Meta, MetaFault> {
     let raw = load_meta(alloc, text.as_bytes())?;
     check(alloc, raw)
 }
 
 /// The metamodel of a document.
 pub(crate) fn meta_of(alloc: Global, text: &str) -> Result<Meta, Fail> {
-    match loaded(alloc, text) {
-        Ok(meta) => Ok(meta),
-        Err(_) => Err(Fail::from("the metamodel is refused")),
-    }
+    Ok(loaded(alloc, text)?)
 }
 
 /// The fault of a document as it is printed, or `accepted`.

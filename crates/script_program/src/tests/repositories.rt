@@ -1,19 +1,17 @@
-//! A repository by its calls: answers, refusals, and want of memory.
+//! A repository by its calls: answers and refusals.
 use super::metamodels::{BOOKS, LIBRARY, meta_of};
 use mm_types::{ClassNo, FeatureNo, Node, ObjectNo, Refused, ResourceNo, Text, Value};
-use repository::{Answer, Command, Repository};
+use repository::{Command, Repository};
 use std::alloc::Global;
 use std::test::Fail;
 
-const NAME: FeatureNo = FeatureNo(0);
+pub(crate) const NAME: FeatureNo = FeatureNo(0);
 
-const PAGES: FeatureNo = FeatureNo(1);
-
-fn object(number: u32) -> Node {
+pub(crate) fn object(number: u32) -> Node {
     Node::Object(ObjectNo(number))
 }
 
-fn set(node: Node, feature: FeatureNo, value: Value) -> Command {
+pub(crate) fn set(node: Node, feature: FeatureNo, value: Value) -> Command {
     Command::Set {
         node,
         feature,
@@ -102,45 +100,5 @@ fn a_million_objects_are_the_limit(rt: HostRuntime) -> Result<(), Fail> {
     }
     let one_more = repository.create(ClassNo(0));
     assert!(rt; matches!(one_more, Err(Refused::Limit)));
-    Ok(())
-}
-
-fn pages(repository: &Repository) -> Result<Value, Refused> {
-    repository.e_get(object(0), PAGES)
-}
-
-/// Where memory is refused in the middle of a call nothing has changed, and the same call again is done. To be run
-/// with each allocation refused in turn.
-#[test]
-fn a_refused_growth_changes_nothing(rt: HostRuntime) -> Result<(), Fail> {
-    let mut repository = Repository::new(rt.alloc(), meta_of(rt.alloc(), BOOKS)?);
-    if repository.create(ClassNo(0)).is_err() {
-        assert!(rt; matches!(pages(&repository), Err(Refused::NoObject)));
-        let again = repository.create(ClassNo(0))?;
-        assert!(rt; matches!(again.answer, Answer::Object(ObjectNo(0))));
-    }
-    if repository.e_set(object(0), PAGES, Value::Int(7)).is_err() {
-        assert!(rt; matches!(pages(&repository)?, Value::Int(100)));
-        repository.e_set(object(0), PAGES, Value::Int(7))?;
-    }
-    assert!(rt; matches!(pages(&repository)?, Value::Int(7)));
-    Ok(())
-}
-
-/// The same of a text that is read, and of an attribute that is unset.
-#[test]
-fn a_refused_copy_changes_nothing(rt: HostRuntime) -> Result<(), Fail> {
-    let mut repository = Repository::new(rt.alloc(), meta_of(rt.alloc(), BOOKS)?);
-    repository.create(ClassNo(0))?;
-    repository.e_set(object(0), NAME, text(rt.alloc(), "Emma")?)?;
-    if repository.e_get(object(0), NAME).is_err() {
-        let again = repository.e_get(object(0), NAME)?;
-        assert!(rt; matches!(again, Value::Text(_)));
-    }
-    if repository.e_unset(object(0), NAME).is_err() {
-        assert!(rt; repository.e_is_set(object(0), NAME)?);
-        repository.e_unset(object(0), NAME)?;
-    }
-    assert!(rt; !repository.e_is_set(object(0), NAME)?);
     Ok(())
 }
