@@ -26,15 +26,14 @@ fn run(values: &mut Values, plan: ValuePlan) -> Result<(), AllocError> {
     Ok(())
 }
 
-#[test]
-fn makes_each_edit(rt: HostRuntime) -> Result<(), Fail> {
-    let mut values = Values::new(rt.alloc());
-    let mut list = Seq::new(rt.alloc());
+/// An object that holds two values, a resource, and an object that is gone.
+fn each_edit(alloc: Global) -> Result<ValuePlan, AllocError> {
+    let mut list = Seq::new(alloc);
     list.push(Value::Int(4))?;
     list.push(Value::Null)?;
-    let mut plan = Seq::new(rt.alloc());
+    let mut plan = Seq::new(alloc);
     plan.push(ValueEdit::NewObject(ClassNo(7)))?;
-    plan.push(new_uri(rt.alloc(), "a.xmi")?)?;
+    plan.push(new_uri(alloc, "a.xmi")?)?;
     plan.push(ValueEdit::NewObject(ClassNo(8)))?;
     plan.push(ValueEdit::PutList {
         object: ObjectNo(0),
@@ -43,29 +42,46 @@ fn makes_each_edit(rt: HostRuntime) -> Result<(), Fail> {
         flag: true,
     })?;
     plan.push(ValueEdit::DropObject(ObjectNo(1)))?;
-    plan.push(put(rt.alloc(), 1, 3, 5)?)?;
-    run(&mut values, plan)?;
+    plan.push(put(alloc, 1, 3, 5)?)?;
+    Ok(plan)
+}
 
+/// The class of an object, and what it holds under the features 3 and 4.
+fn held(alloc: Global, values: &Values, object: u32) -> Result<String, AllocError> {
+    let object = ObjectNo(object);
+    let (three, four) = (FeatureNo(3), FeatureNo(4));
+    let class = values.class(object);
+    let lists = (values.list(object, three), values.list(object, four));
+    let flags = (values.flag(object, three), values.flag(object, four));
+    format!(in alloc; "{class:?} {lists:?} {flags:?}")
+}
+
+/// How many resources there are, their URIs, and which has a URI.
+fn resources(alloc: Global, values: &Values) -> Result<String, AllocError> {
+    let uris = (values.uri(ResourceNo(0)), values.uri(ResourceNo(1)));
+    let found = (values.resource_of("a.xmi"), values.resource_of("b.xmi"));
+    format!(in alloc; "{} {uris:?} {found:?}", values.resources())
+}
+
+#[test]
+fn makes_each_edit(rt: HostRuntime) -> Result<(), Fail> {
+    let mut values = Values::new(rt.alloc());
+    run(&mut values, each_edit(rt.alloc())?)?;
+    let wanted = [
+        "Some(ClassNo(7)) (Some([Int(4), Null]), Some([])) (Some(true), Some(false))",
+        "None (None, None) (None, None)",
+        "None (None, None) (None, None)",
+    ];
+    for (object, wanted) in (0..3).zip(wanted) {
+        let found = held(rt.alloc(), &values, object)?;
+        assert_eq!(rt; found.as_str(), wanted);
+    }
+    let found = resources(rt.alloc(), &values)?;
+    assert_eq!(rt;
+        found.as_str(),
+        "1 (Some(\"a.xmi\"), None) (Some(ResourceNo(0)), None)"
+    );
     assert_eq!(rt; values.next(), 2);
-    assert_eq!(rt; values.class(ObjectNo(0)), Some(ClassNo(7)));
-    assert_eq!(rt; values.class(ObjectNo(1)), None);
-    assert_eq!(rt; values.class(ObjectNo(2)), None);
-
-    let held = format!(in rt.alloc(); "{:?}", values.list(ObjectNo(0), FeatureNo(3)))?;
-    assert_eq!(rt; held.as_str(), "Some([Int(4), Null])");
-    let empty = format!(in rt.alloc(); "{:?}", values.list(ObjectNo(0), FeatureNo(4)))?;
-    assert_eq!(rt; empty.as_str(), "Some([])");
-    assert!(rt; values.list(ObjectNo(1), FeatureNo(3)).is_none());
-
-    assert_eq!(rt; values.flag(ObjectNo(0), FeatureNo(3)), Some(true));
-    assert_eq!(rt; values.flag(ObjectNo(0), FeatureNo(4)), Some(false));
-    assert_eq!(rt; values.flag(ObjectNo(1), FeatureNo(3)), None);
-
-    assert_eq!(rt; values.resources(), 1);
-    assert_eq!(rt; values.uri(ResourceNo(0)), Some("a.xmi"));
-    assert_eq!(rt; values.uri(ResourceNo(1)), None);
-    assert_eq!(rt; values.resource_of("a.xmi"), Some(ResourceNo(0)));
-    assert_eq!(rt; values.resource_of("b.xmi"), None);
     Ok(())
 }
 
