@@ -1,4 +1,4 @@
-pub mod ListedFacts
-pub mod NumberFacts
-pub mod ReserveFacts
-pub mod RoundFacts
+pub mod ListedLemmas
+pub mod NumberLemmas
+pub mod ReserveLemmas
+pub mod RoundLemmas

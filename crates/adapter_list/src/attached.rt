@@ -1,6 +1,6 @@
 //! One attached adapter.
 ghost use Rattle.std.specs.Prelude.{◌≡◌, ◌≤◌, filter, length, count_by};
-ghost use Rattle.notice_chain.specs.Listed.{same_node};
+ghost use Rattle.mm_types.specs.Same.{same_node};
 
 use adapters::Adapter;
 use mm_types::{AdapterNo, Node};
@@ -11,9 +11,9 @@ use notice_chain::Notice;
 pub struct Attached<A = Box<dyn Adapter>> {
     /// The number under which it is attached.
     pub no: AdapterNo,
-    /// The node that it hears.
+    /// The node whose notices it hears.
     pub target: Node,
-    /// Whether it is to hear what is below its target too (EMF: EContentAdapter).
+    /// Whether it hears the notices of all nodes below its target too (EMF: EContentAdapter).
     pub deep: bool,
     /// The adapter itself.
     pub adapter: A,

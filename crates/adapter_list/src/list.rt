@@ -1,7 +1,6 @@
 //! The list of attached adapters.
-ghost use Rattle.std.specs.Prelude.{◌≡◌, ◌≤◌, ◌<◌, [], length, map, option_map, slice_get, IfSome, position};
-ghost use Rattle.std.specs.List.{IsDistinct};
-ghost use Rattle.notice_chain.specs.Listed.{adapter, has_no, release_all, same_no};
+ghost use Rattle.std.specs.Prelude.{◌≡◌, ◌+◌, ◌^◌, ◌≤◌, ◌<◌, [], length, option_map, slice_get, All, IfSome, position};
+ghost use Rattle.notice_chain.specs.Listed.{HasDistinctNumbers, adapter, has_no};
 ghost use Rattle.adapter_list.specs.Attached.{listed_one, HasReserve};
 
 mod attach;
@@ -11,35 +10,36 @@ mod tell;
 use crate::attached::Attached;
 use adapters::Adapter;
 use indexmap::IndexSet;
+use mm_types::limits::ADAPTERS;
 use mm_types::{AdapterNo, Node};
 use std::alloc::Global;
 use std::marker::Model;
 
-/// The attached adapters, in attach order (EMF: the adapters of all notifiers). It is seen as the list of them by what they
-/// have heard, and the list of their places, of which only a delivery speaks.
+/// The attached adapters, in attach order (EMF: the adapters of all notifiers). It is seen as two lists: the adapters by what
+/// they have heard, and the numbers of their places, which only a delivery mentions.
 ///
-/// Their numbers are distinct, at most 100,000 are attached, and each has a place in reserve for its last notice.
+/// Their numbers are distinct, at most 100,000 are attached, and each has a place in reserve for its last notice, which it can
+/// count.
 #[derive(Drop)]
 pub struct AdapterList<A: Adapter> {
     alloc: Global,
     attached: Vec<Attached<A>>,
-    /// The numbers of `attached`, in the same order: an adapter is found by its number without a scan.
+    /// The numbers of `attached`, in the same order, to find an adapter by its number.
     numbers: IndexSet<AdapterNo>,
-    /// Always empty: the room from which `close` hands the adapters out.
+    /// Always empty: `close` fills it, and takes no memory for that.
     released: Vec<(AdapterNo, A)>,
 }
 
 impl<A: Adapter> Model for AdapterList<A> {
-    ghost use Rattle.std.specs.Prelude.{List, ℕ, length, ◌≤◌, ◌≡◌, vec_len, vec_capacity};
-    ghost use Rattle.std.specs.List.{IsDistinct};
-    ghost use Rattle.notice_chain.specs.Listed.{Listed, same_no};
-    ghost use Rattle.adapter_list.specs.Attached.{listed, places_of, numbers_of, HasReserve};
+    ghost use Rattle.std.specs.Prelude.{List, ℕ, vec_len, vec_capacity};
+    ghost use Rattle.notice_chain.specs.Listed.{Listed};
+    ghost use Rattle.adapter_list.specs.Attached.{listed, places_of, IsSound};
 
     ghost Value = { List Listed × List ℕ };
 
     ghost view = { λ l. (listed A.heard l.attached.items, places_of A.places l.attached.items) };
 
-    ghost invariant = { λ l. (length l.attached.items ≤ 100000) × (vec_len l.released ≡ 0) × (length l.attached.items ≤ vec_capacity l.released) × HasReserve (places_of A.places l.attached.items) × (l.numbers.keys ≡ numbers_of l.attached.items) × IsDistinct same_no l.numbers.keys };
+    ghost invariant = { λ l. IsSound A.heard A.places l.attached.items l.numbers.keys (vec_len l.released) (vec_capacity l.released) };
 }
 
 impl<A: Adapter> AdapterList<A> {
@@ -62,7 +62,7 @@ impl<A: Adapter> AdapterList<A> {
         self.attached.len()
     }
 
-    /// The number and the target of the adapter at `i` in attach order; none past the last. Takes no memory.
+    /// The number and the target of the adapter at `i` in attach order; None past the last. Takes no memory.
     pub fn at(&self, i: usize) -> Option<(AdapterNo, Node)>
         ensures { result ≡ option_map (λ r. (r.no, r.target)) (slice_get self.now.0 i) }
     {
@@ -72,7 +72,7 @@ impl<A: Adapter> AdapterList<A> {
         }
     }
 
-    /// How many notices the adapter was told; none where it is not attached. Takes no memory.
+    /// How many notices the adapter was told; None where it is not attached. Takes no memory.
     pub fn told(&self, no: AdapterNo) -> Option<u64>
         ensures { result ≡ option_map (λ r. r.view.told) (adapter no self.now.0) }
     {
@@ -82,7 +82,7 @@ impl<A: Adapter> AdapterList<A> {
         }
     }
 
-    /// How many notices the adapter keeps; none where it is not attached. Takes no memory.
+    /// How many notices the adapter keeps; None where it is not attached. Takes no memory.
     pub fn kept_len(&self, no: AdapterNo) -> Option<u64>
         ensures { result ≡ option_map (λ r. length r.view.kept) (adapter no self.now.0) }
     {
@@ -92,11 +92,12 @@ impl<A: Adapter> AdapterList<A> {
         }
     }
 
-    /// What holds of every list, for proofs that know it by its view: there are no more adapters than there may be, their
-    /// numbers are distinct, and each has a place in reserve.
+    /// What holds of every list, for callers whose proofs need it: there are no more adapters than there may be, their numbers
+    /// are distinct, each can count its last notice, and each has a place in reserve for it.
     pub fn keeps_its_rules(&self)
-        ensures few { length self.now.0 ≤ 100000 }
-        ensures distinct { IsDistinct same_no (map (λ r. r.no) self.now.0) }
+        ensures few { length self.now.0 ≤ ADAPTERS }
+        ensures distinct { HasDistinctNumbers self.now.0 }
+        ensures countable { All (λ r. r.view.told + 1 < 2 ^ 64) self.now.0 }
         ensures reserve { HasReserve self.now.1 }
         ensures places { length self.now.1 ≡ length self.now.0 }
     {

@@ -1,4 +1,4 @@
-//! What is to be told, with every copy made.
+//! A chain that is ready to be delivered.
 ghost use Rattle.std.specs.Prelude.{◌≡◌, ◌∷◌, ◌++◌, [], OnOk};
 
 use mm_types::AdapterNo;
@@ -6,7 +6,7 @@ use notice_chain::Notice;
 use std::alloc::{AllocError, Global};
 use std::marker::Model;
 
-/// The copies of a chain for the adapters that hear it, and the list of who is told what. It is made before anything
+/// The copies of a chain for the adapters that hear it, and the list of who is notified of what. It is made before anything
 /// changes, so that its delivery takes no memory.
 #[derive(Drop)]
 pub struct Round {
@@ -23,7 +23,7 @@ impl Model for Round {
 }
 
 impl Round {
-    /// A round in which nothing is told.
+    /// A round without notices.
     pub(crate) fn new(alloc: Global) -> Self
         ensures { result ≡ record { copies = []; told = [] } }
     {
@@ -48,7 +48,7 @@ impl Round {
         Ok(())
     }
 
-    /// The copies with the places of their adapters, and the list of who is told what.
+    /// The copies with the places of their adapters, and the list of who is notified of what.
     pub(crate) fn into_parts(self) -> (Vec<(usize, Notice)>, Vec<(AdapterNo, Notice)>)
         ensures copies { result.0.items ≡ self.copies }
         ensures told { result.1.items ≡ self.told }

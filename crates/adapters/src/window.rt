@@ -1,57 +1,59 @@
 //! An adapter that keeps the latest notices.
-ghost use Rattle.std.specs.Prelude.{◌≡◌, ◌+◌, ◌-◌, ◌^◌, ◌≤◌, ◌<◌, ◌↔◌, [], Some, IfOk, OnOk, IsErrOf};
+ghost use Rattle.std.specs.Prelude.{◌≡◌, ◌+◌, ◌^◌, ◌≤◌, ◌<◌, ◌↔◌, [], Some, IfOk, OnOk, IsErrOf};
 ghost use Rattle.notice_chain.specs.View.{View};
+ghost use Rattle.adapters.specs.Counting.{places_left};
 
 use crate::adapter::{Adapter, NoRoom};
+use crate::count::Count;
 use circular_buffer::HeapCircularBuffer;
 use notice_chain::Notice;
 use std::alloc::{AllocError, Global};
 
-/// Keeps the latest notices, as many as it was made for.
+/// Keeps the last notices that it hears, as many as it was made for.
 #[derive(Drop)]
 pub struct Window {
     latest: HeapCircularBuffer<Notice>,
-    told: u64,
+    count: Count,
 }
 
 impl Window {
-    /// A window that keeps the last `n` notices, from 1 to 1,000,000. Errs only where memory is refused.
+    /// A window that keeps the last `n` notices, from 1 to 1,000,000, and has heard nothing yet. Errs only when out of memory.
     pub fn new(alloc: Global, n: u64) -> Result<Window, AllocError>
         requires some { 1 ≤ n }
         requires within { n ≤ 1000000 }
         ensures { IfOk result (λ w. ⟦<Window as Adapter>⟧.heard w ≡ record { told = 0; room = Some n; kept = [] }) }
     {
         let latest = HeapCircularBuffer::with_capacity(alloc, n as usize)?;
-        Ok(Window { latest, told: 0 })
+        Ok(Window {
+            latest,
+            count: Count::starting_at(0),
+        })
     }
 }
 
 impl Adapter for Window {
-    ghost heard = { λ w. record { told = w.told; room = Some w.latest.capacity; kept = w.latest.items } };
+    ghost heard = { λ w. record { told = w.count.told; room = Some w.latest.capacity; kept = w.latest.items } };
 
-    ghost places = { λ w. 18446744073709551615 - w.told };
+    ghost places = { λ w. places_left w.count.told };
 
-    /// It needs no memory for what it is to hear, so it is refused only where it can't count on.
+    /// It needs no memory for what it is to hear, so the only refusal is Full.
     fn reserve(&mut self, n: u64) -> Result<(), NoRoom>
-        ensures ok { OnOk result (self.old.told + n < 2 ^ 64) }
-        ensures full { IsErrOf result NoRoom.Full ↔ (2 ^ 64 ≤ self.old.told + n) }
+        ensures ok { OnOk result (self.old.count.told + n < 2 ^ 64) }
+        ensures full { IsErrOf result NoRoom.Full ↔ (2 ^ 64 ≤ self.old.count.told + n) }
         ensures needs_no_memory { IsErrOf result NoRoom.Memory → ⊥ }
         ensures unchanged { self.new ≡ self.old }
-        ensures countable { self.new.told < 2 ^ 64 }
+        ensures countable { self.new.count.told < 2 ^ 64 }
     {
-        if n > u64::MAX - self.told {
-            return Err(NoRoom::Full);
-        }
-        Ok(())
+        self.count.reserve(n)
     }
 
     fn notify_changed(&mut self, notice: Notice) {
         let _ = self.latest.push_back(notice);
-        self.told += 1;
+        self.count.add();
     }
 
     fn told(&self) -> u64 {
-        self.told
+        self.count.told()
     }
 
     fn room(&self) -> Option<u64> {

@@ -3,3 +3,4 @@ pub mod Checker
 pub mod Search
 pub mod Opposites
 pub mod Literals
+pub mod Found

@@ -1,10 +1,11 @@
 //! A metamodel document with what its check needs.
 ghost use Rattle.std.specs.Prelude.{◌≡◌, IfOk, length, map, slice_get};
 ghost use Rattle.std.specs.Option.{option_copied};
-ghost use Rattle.mm_types.specs.WellFormed.{feature_at};
+ghost use Rattle.mm_types.specs.WellFormed.{WellFormed, feature_at};
+ghost use Rattle.mm_meta.specs.Resolution.{IsResolutionOf};
 ghost use Rattle.mm_check.specs.Search.{feature_count};
 
-use mm_meta::Resolver;
+use mm_meta::{Resolution, Resolver};
 use mm_types::{Enumeration, RawClass, RawFeature, RawMeta, Seq, Text};
 use std::alloc::{AllocError, Global};
 use std::marker::Model;
@@ -64,6 +65,14 @@ impl<'a> Checker<'a> {
             graph,
             names,
         })
+    }
+
+    /// What the document resolves to, where it is well-formed. Errs only where memory is refused.
+    pub fn resolution(&self, alloc: Global) -> Result<Resolution, AllocError>
+        requires { WellFormed self.now }
+        ensures { IfOk result (IsResolutionOf self.now) }
+    {
+        Resolution::of(alloc, &self.resolver, self.graph.as_slice())
     }
 
     /// How many enumerations there are.

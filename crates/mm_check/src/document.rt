@@ -2,9 +2,10 @@
 ghost use Rattle.std.specs.Prelude.{◌≡◌, IfOk};
 ghost use Rattle.mm_types.specs.WellFormed.{IsFault};
 ghost use Rattle.mm_check.specs.Checks.{Checks};
+ghost use Rattle.mm_check.specs.Found.{Finds};
 
 use crate::checker::Checker;
-use mm_meta::Meta;
+use mm_meta::{Meta, Resolution};
 use mm_types::{Condition, MetaFault, Place, RawMeta};
 use std::alloc::{AllocError, Global};
 
@@ -21,12 +22,23 @@ const CONDITIONS: [Condition; 9] = [
     Condition::Default,
 ];
 
+/// What the check of a document finds.
+#[derive(Drop)]
+enum Found {
+    /// The first condition, in the order of their numbers, that applies somewhere, and the first place at which it does.
+    Fault(Condition, Place),
+    /// The document is well-formed, and resolves to this.
+    Resolution(Resolution),
+}
+
 /// The first condition, in the order of their numbers, that applies somewhere, and the first place at
 /// which it does.
-fn first_fault(alloc: Global, raw: &RawMeta) -> Result<Option<(Condition, Place)>, AllocError>
-    ensures { IfOk result (λ f. IsFault raw.now f) }
+fn first_fault(
+    alloc: Global,
+    checker: &Checker<'_>,
+) -> Result<Option<(Condition, Place)>, AllocError>
+    ensures { IfOk result (λ f. IsFault checker.now f) }
 {
-    let checker = Checker::new(alloc, raw)?;
     'conditions: for condition in CONDITIONS.iter() {
         if let Some(place) = checker.first_place(alloc, *condition)? {
             return Ok(Some((*condition, place)));
@@ -35,17 +47,37 @@ fn first_fault(alloc: Global, raw: &RawMeta) -> Result<Option<(Condition, Place)
     Ok(None)
 }
 
+/// What a checker finds. Errs only where memory is refused.
+fn found_by(alloc: Global, checker: &Checker<'_>) -> Result<Found, AllocError>
+    ensures { IfOk result (Finds checker.now) }
+{
+    match first_fault(alloc, checker)? {
+        Some((condition, place)) => Ok(Found::Fault(condition, place)),
+        None => Ok(Found::Resolution(checker.resolution(alloc)?)),
+    }
+}
+
+/// What the check of a document finds. Errs only where memory is refused.
+fn found_in(alloc: Global, raw: &RawMeta) -> Result<Found, AllocError>
+    ensures { IfOk result (Finds raw.now) }
+{
+    let checker = Checker::new(alloc, raw)?;
+    found_by(alloc, &checker)
+}
+
 /// The metamodel that a document gives, where it is well-formed; else its first fault. Errs besides
 /// only where memory is refused.
 pub fn check(alloc: Global, raw: RawMeta) -> Result<Meta, MetaFault>
     ensures { Checks raw result }
 {
-    match first_fault(alloc, &raw) {
-        Ok(None) => match Meta::new(alloc, raw) {
-            Ok(meta) => Ok(meta),
-            Err(_) => Err(MetaFault::Memory),
-        },
-        Ok(Some((condition, place))) => Err(MetaFault::IllFormed(condition, place)),
+    match found_in(alloc, &raw) {
+        Ok(Found::Resolution(resolution)) => {
+            match Meta::new(alloc, raw, resolution) {
+                Ok(meta) => Ok(meta),
+                Err(_) => Err(MetaFault::Memory),
+            }
+        }
+        Ok(Found::Fault(condition, place)) => Err(MetaFault::IllFormed(condition, place)),
         Err(_) => Err(MetaFault::Memory),
     }
 }

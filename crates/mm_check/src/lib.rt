@@ -7,7 +7,5 @@ mod duplicates;
 mod features;
 mod opposites;
 mod places;
-#[cfg(test)]
-mod tests;
 
 pub use document::check;

@@ -10,8 +10,6 @@ mod features;
 pub mod laws;
 mod order;
 mod reach;
-#[cfg(test)]
-mod tests;
 
 pub use clash::{clashes, has_repeats};
 pub use features::features_table;

@@ -14,7 +14,5 @@ pub mod laws;
 mod load;
 mod members;
 mod read_fault;
-#[cfg(test)]
-mod tests;
 
 pub use load::load_meta;

@@ -16,7 +16,7 @@ use Rattle.mm_types.specs.declared.class.Enumeration.{Enumeration}
 use Rattle.mm_types.specs.declared.numbers.ClassNo.{ClassNo}
 use Rattle.mm_types.specs.declared.numbers.FeatureNo.{FeatureNo}
 use Rattle.mm_types.specs.declared.raw.RawClass.{RawClass}
-use Rattle.mm_meta.specs.Meta.{IsOfDocument}
+use Rattle.mm_types.specs.OfDocument.{IsOfDocument}
 use Rattle.mm_meta.proofs.ClassLemmas.{few_classes as few_raw, long_graph}
 use Rattle.mm_meta.proofs.NameLemmas.{position-map}
 use Rattle.mm_meta.proofs.ResolverLemmas.{few_features as few_own, literal_low, named_at}

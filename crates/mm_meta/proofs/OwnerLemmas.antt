@@ -23,7 +23,7 @@ use Rattle.mm_types.specs.declared.numbers.ClassNo.{ClassNo}
 use Rattle.mm_types.specs.declared.numbers.FeatureNo.{FeatureNo}
 use Rattle.mm_types.specs.declared.raw.RawClass.{RawClass}
 use Rattle.mm_graph.proofs.Belonging.{HasDeclarer, has_declarer}
-use Rattle.mm_meta.specs.Meta.{IsOfDocument}
+use Rattle.mm_types.specs.OfDocument.{IsOfDocument}
 use Rattle.mm_meta.proofs.ClassLemmas.{graph_in_range, long_graph}
 use Rattle.mm_meta.proofs.MetaLemmas.{length-classes_from, supertypes_resolved}
 

@@ -1,3 +1,4 @@
 pub mod NameTable
 pub mod Resolver
 pub mod Meta
+pub mod Resolution

@@ -1,9 +1,8 @@
 -- What the tables of a metamodel hold.
-use Rattle.std.specs.Prelude.{◌≡◌, IsTrue, map}
-use Rattle.mm_types.specs.Raw.{RawMetamodel, is_within_limits}
-use Rattle.mm_types.specs.Resolved.{Metamodel, resolved}
+use Rattle.std.specs.Prelude.{◌≡◌, map}
+use Rattle.mm_types.specs.OfDocument.{IsOfDocument}
+use Rattle.mm_types.specs.Resolved.{Metamodel}
 use Rattle.mm_types.specs.Lookups.{feature_name, supertypes}
-use Rattle.mm_types.specs.WellFormed.{WellFormed}
 use Rattle.mm_types.specs.declared.value.Value.TheVariants.{Null}
 use Rattle.mm_graph.specs.ConformTable.{IsConformTable}
 use Rattle.mm_meta.specs.NameTable.{AreTablesOf, IsTableOf}
@@ -12,13 +11,6 @@ use Rattle.mm_meta.specs.declared.meta.Meta.TheInside.{Inside}
 -- the resolved metamodel
 abbrev pub metamodel : Inside → Metamodel
 metamodel m = record { enums = m.enums; classes = m.classes; features = m.features }
-
--- a metamodel is that of some document that is well-formed and within the limits
-pub record IsOfDocument (m : Metamodel) : Type 0 where
-  pub raw : RawMetamodel
-  pub fits : IsTrue (is_within_limits raw)
-  pub well_formed : WellFormed raw
-  pub is : m ≡ resolved raw
 
 pub record IsMeta (m : Inside) : Type 0 where
   pub of_document : IsOfDocument (metamodel m)

@@ -11,4 +11,5 @@ mod resolver;
 mod tables;
 
 pub use meta::Meta;
+pub use resolution::Resolution;
 pub use resolver::Resolver;

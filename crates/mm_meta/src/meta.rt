@@ -43,16 +43,20 @@ impl Model for Meta {
 }
 
 impl Meta {
-    /// The metamodel that a document gives. Errs only where memory is refused.
-    pub fn new(alloc: Global, raw: RawMeta) -> Result<Self, AllocError>
-        requires { WellFormed raw }
+    ghost use Rattle.mm_types.specs.OfDocument.{IsOfDocument};
+    ghost use Rattle.mm_meta.specs.Resolution.{IsResolutionOf};
+
+    /// The metamodel that a well-formed document gives, and what it resolves to. Errs only where memory is refused.
+    pub fn new(alloc: Global, raw: RawMeta, resolution: Resolution) -> Result<Self, AllocError>
+        requires well_formed { WellFormed raw }
+        requires resolution { IsResolutionOf raw resolution }
         ensures { IfOk result (λ m. m ≡ resolved raw) }
     {
         let Resolution {
             classes,
             features,
             conformance,
-        } = Resolution::of(alloc, &raw)?;
+        } = resolution;
         let (enums, _classes) = raw.into_parts();
         let class_table = NameTable::of(alloc, classes.as_slice())?;
         let literal_tables = literal_tables(alloc, enums.as_slice())?;
@@ -67,6 +71,13 @@ impl Meta {
             feature_tables,
             null: Value::Null,
         })
+    }
+
+    /// What holds of every metamodel, for proofs that know it by its view: it is that of a well-formed document.
+    pub fn is_of_document(&self)
+        ensures { IsOfDocument self.now }
+    {
+        let _ = &self.null;
     }
 
     /// The class of a name. `Resource` names none.

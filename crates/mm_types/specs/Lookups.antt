@@ -109,19 +109,11 @@ abbrev pub is_attribute_value : Metamodel → Bool → DataType → Value → Bo
 is_attribute_value m single t value.Null = single && is_text_type t
 is_attribute_value m single t v = is_of_type m t v
 
--- an object of a class that conforms to the target
-abbrev pub IsObjectOf : Metamodel → Option ClassNo → ClassNo → Type 0
-IsObjectOf m None target = ⊥
-IsObjectOf m (Some c) target = ConformsTo m c target
-
--- a value is one of a kind of feature, where the feature is single or not: null is one of a single reference, an object is
--- one of its class's references, and a proxy and an adapter are none of any
-abbrev pub IsOfKind : Metamodel → (ObjectNo → Option ClassNo) → Bool → Kind → Value → Type 0
-IsOfKind m class_of single (Attribute t unique unsettable default) v = IsTrue (is_attribute_value m single t v)
-IsOfKind m class_of single (Reference target containment opposite) value.Null = IsTrue single
-IsOfKind m class_of single (Reference target containment opposite) (value.Object o) = IsObjectOf m (class_of o) target
-IsOfKind m class_of single (Reference target containment opposite) _ = ⊥
+-- a value is one of an attribute's type; no reference has values yet
+abbrev pub is_of_kind : Metamodel → Bool → Kind → Value → Bool
+is_of_kind m single (Attribute t unique unsettable default) v = is_attribute_value m single t v
+is_of_kind m single (Reference target containment opposite) v = false
 
 -- a value is one of a feature's type
-abbrev pub IsTyped : Metamodel → (ObjectNo → Option ClassNo) → Feature → Value → Type 0
-IsTyped m class_of f v = IsOfKind m class_of (is_single f) f.kind v
+abbrev pub takes : Metamodel → FeatureNo → Value → Bool
+takes m f v = option_map_or (λ g. is_of_kind m (is_single g) g.kind v) (feature m f) false

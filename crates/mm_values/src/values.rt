@@ -155,6 +155,3 @@ impl Values {
         }
     }
 }
-
-#[cfg(test)]
-mod tests;

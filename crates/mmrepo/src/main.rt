@@ -17,6 +17,8 @@ use std::{env, fs, io};
 enum Stop {
     /// The words are no arguments of the program, or ask for help.
     Arguments(clap::Error),
+    /// An argument is not UTF-8.
+    NotUtf8,
     /// The metamodel is refused.
     Metamodel(MetaFault),
     /// A stream failed, an input is too long, or memory was refused.
@@ -46,8 +48,10 @@ impl From<MetaFault> for Stop {
 
 /// The words that the program was called with.
 fn words_of(rt: &HostRuntime) -> Result<Vec<String>, Stop> {
-    let Ok(args) = env::args(rt) else {
-        return Err(Stop::Run(RunFault::Memory));
+    let args = match env::args(rt) {
+        Ok(args) => args,
+        Err(error) if error.kind() == io::ErrorKind::InvalidData => return Err(Stop::NotUtf8),
+        Err(_) => return Err(Stop::Run(RunFault::Memory)),
     };
     let mut words = Vec::new(rt.alloc());
     for word in args {
@@ -117,6 +121,11 @@ fn report_arguments(rt: &HostRuntime, error: clap::Error) -> u8 {
     if is_help { 0 } else { 2 }
 }
 
+fn report_not_utf8(rt: &HostRuntime) -> u8 {
+    let _ = eprintln!(rt; "error: an argument is not UTF-8");
+    2
+}
+
 fn report_metamodel(rt: &HostRuntime, fault: MetaFault) -> u8 {
     let _ = eprintln!(rt; "metamodel refused: {fault}");
     1
@@ -131,6 +140,7 @@ fn report_run(rt: &HostRuntime, fault: RunFault) -> u8 {
 fn report(rt: &HostRuntime, stop: Stop) -> u8 {
     match stop {
         Stop::Arguments(error) => report_arguments(rt, error),
+        Stop::NotUtf8 => report_not_utf8(rt),
         Stop::Metamodel(fault) => report_metamodel(rt, fault),
         Stop::Run(fault) => report_run(rt, fault),
     }

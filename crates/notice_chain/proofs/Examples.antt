@@ -1,14 +1,18 @@
 -- What the definitions make of a few notices.
-use Rattle.std.proofs.Common.{◌≡◌, ℕ, pos, negsuc, ℤ, false, true, List, [], ◌∷◌, Some, None, refl}
+use Rattle.std.proofs.Common.{◌≡◌, ℕ, pos, negsuc, ℤ, false, true, List, [], ◌∷◌, map, Some, None, refl}
 use Rattle.mm_types.specs.declared.value.Value.{Value}
 use Rattle.mm_types.specs.declared.value.Value.TheVariants as value
 use Rattle.mm_types.specs.declared.numbers.Node.TheVariants.{Object}
+use Rattle.mm_types.specs.declared.end.End.{End}
+use Rattle.mm_types.specs.Ends.{Ends, Held}
+use Rattle.mm_types.specs.Same.{same_node}
 use Rattle.notice_chain.specs.declared.kind.NoticeKind.{NoticeKind}
 use Rattle.notice_chain.specs.declared.kind.NoticeKind.TheVariants as kind
 use Rattle.notice_chain.specs.declared.notice.Notice.{Notice}
 use Rattle.notice_chain.specs.View.{hear_all}
-use Rattle.notice_chain.specs.Listed.{Listed, audience_numbers, last_notice}
-use Rattle.notice_chain.specs.Replay.{Held, replayed}
+use Rattle.notice_chain.specs.Listed.{Listed, audience_numbers, has_no, last_notice}
+use Rattle.notice_chain.specs.Released.{released}
+use Rattle.notice_chain.specs.Replay.{is_passed_over, replayed, replayed_all}
 
 abbrev number : ℕ → Value
 number n = value.Int (pos n)
@@ -91,3 +95,38 @@ hearers = refl
 
 index-among-them : (last_notice (attached 5 0 ∷ attached 3 1 ∷ []) (attached 1 0)).position ≡ pos 1
 index-among-them = refl
+
+abbrev one-of-three : List Listed
+one-of-three = attached 5 0 ∷ attached 3 1 ∷ attached 1 0 ∷ []
+
+-- both adapters of object 0 are released: each is at index 0, since the other is gone or not attached before it
+released-in-turn : (released (λ r. same_node r.target (Object (record { 0 = 0 }))) one-of-three).told ≡ (record { 0 = 5 }, last_notice [] (attached 5 0)) ∷ (record { 0 = 1 }, last_notice [] (attached 1 0)) ∷ []
+released-in-turn = refl
+
+-- one alone is at its index among those that stay
+released-alone : map (λ t. t.1.position) (released (has_no (record { 0 = 1 })) one-of-three).told ≡ pos 1 ∷ []
+released-alone = refl
+
+abbrev end : ℕ → ℕ → End
+end o f = record { node = Object (record { 0 = o }); feature = record { 0 = f } }
+
+-- every end holds 7, 8 and 9
+abbrev threes : Ends
+threes = λ d. three
+
+-- a REMOVE and an ADD at feature 3 of object 0, one after another, and what is at another feature
+replayed-here : replayed_all (λ f. false) threes (of kind.Remove (number 8) value.Null (pos 1) ∷ added 2 ∷ []) (end 0 3) ≡ held (number 7 ∷ number 9 ∷ number 2 ∷ [])
+replayed-here = refl
+
+replayed-there : replayed_all (λ f. false) threes (of kind.Remove (number 8) value.Null (pos 1) ∷ added 2 ∷ []) (end 0 4) ≡ three
+replayed-there = refl
+
+-- an ADD past the end is passed over, and so is the last notice of an adapter, which names no end
+passed-past : is_passed_over threes (added 4) ≡ true
+passed-past = refl
+
+passed-last : is_passed_over threes (last_notice [] (attached 5 0)) ≡ true
+passed-last = refl
+
+not-passed : is_passed_over threes (added 3) ≡ false
+not-passed = refl

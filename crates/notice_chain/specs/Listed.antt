@@ -1,9 +1,9 @@
--- The attached adapters in attach order, who of them hears a notice, and what telling and releasing them does.
-use Rattle.std.specs.Prelude.{ℕ, ◌+◌, Bool, false, ◌&&◌, ◌==◌, nat_eq, nat_lt, nat_le, pos, List, [], ◌∷◌, ◌++◌, map, filter, take, length, count_by, position, remove, slice_get, ◌^◌, Option, None, option_and_then, option_map}
-use Rattle.std.specs.List.{list_any, find}
+-- The attached adapters in attach order: which of them hear a notice, and what notifying and releasing them does.
+use Rattle.std.specs.Prelude.{ℕ, ◌+◌, Bool, false, ◌&&◌, nat_eq, nat_lt, nat_le, pos, List, [], ◌∷◌, ◌++◌, map, filter, take, length, count_by, position, remove, slice_get, ◌^◌, Option, None, option_and_then, option_map}
+use Rattle.std.specs.List.{IsDistinct, list_any, find}
 use Rattle.mm_types.specs.declared.numbers.AdapterNo.{AdapterNo}
 use Rattle.mm_types.specs.declared.numbers.Node.{Node}
-use Rattle.mm_types.specs.declared.numbers.Node.TheVariants.{Object, Resource}
+use Rattle.mm_types.specs.Same.{same_node}
 use Rattle.mm_types.specs.declared.value.Value.TheVariants.{Null, Adapter}
 use Rattle.notice_chain.specs.View.{View, hear, hear_all}
 use Rattle.notice_chain.specs.declared.notice.Notice.{Notice}
@@ -16,14 +16,7 @@ pub record Listed : Type 0 where
   pub deep : Bool
   pub view : View
 
--- two nodes are one
-abbrev pub same_node : Node → Node → Bool
-same_node (Object x) (Object y) = x.0 == y.0
-same_node (Object x) (Resource y) = false
-same_node (Resource x) (Object y) = false
-same_node (Resource x) (Resource y) = x.0 == y.0
-
--- two numbers are one
+-- two numbers are the same
 abbrev pub same_no : AdapterNo → AdapterNo → Bool
 same_no x y = nat_eq x.0 y.0
 
@@ -33,13 +26,17 @@ has_no number r = same_no number r.no
 abbrev pub has_target : Node → Listed → Bool
 has_target target r = same_node r.target target
 
+-- no two have the same number
+abbrev pub HasDistinctNumbers : List Listed → Type 0
+HasDistinctNumbers rs = IsDistinct same_no (map (λ r. r.no) rs)
+
 -- the adapter of a number
 abbrev pub adapter : AdapterNo → List Listed → Option Listed
 adapter number rs = find (has_no number) rs
 
------------------------------------------------------------------ telling
+----------------------------------------------------------------- notifying
 
--- an adapter hears what its target tells
+-- an adapter hears the notices of its target
 abbrev pub hears : Listed → Notice → Bool
 hears r n = same_node r.target n.notifier
 
@@ -63,32 +60,45 @@ told_all r ns = record { no = r.no; target = r.target; deep = r.deep; view = hea
 abbrev pub tell_chain : List Notice → List Listed → List Listed
 tell_chain ns rs = map (λ r. told_all r (heard_of ns r)) rs
 
--- who is told a notice, in attach order
+-- the numbers of those that hear a notice, each with the notice
 abbrev pub told_of : Notice → List Listed → List (AdapterNo × Notice)
 told_of n rs = map (λ r. (r.no, n)) (audience n rs)
 
--- who is told what: the chain in order, each notice with its audience in attach order
+-- who is notified of what: the chain in order, each notice with its audience in attach order
 abbrev pub told_list : List Notice → List Listed → List (AdapterNo × Notice)
 told_list [] rs = []
 told_list (n ∷ ns) rs = told_of n rs ++ told_list ns rs
 
 ----------------------------------------------------------------- counting on
 
--- an adapter that has to hear k notices, k above 0, and then its last one, would count past the greatest u64
+-- an adapter that is to hear k notices, k above 0, and then its last one, would count past the greatest u64
 abbrev pub is_full : ℕ → View → Bool
 is_full k v = nat_lt 0 k && nat_le (2 ^ 64) (v.told + (k + 1))
 
--- one of the adapters can't count on through a chain
+-- one of the adapters can't count the notices of a chain that it hears
 abbrev pub is_chain_full : List Notice → List Listed → Bool
 is_chain_full ns rs = list_any (λ r. is_full (length (heard_of ns r)) r.view) rs
 
 ----------------------------------------------------------------- releasing
 
--- the notice that an adapter hears last, after the adapters before it
-abbrev pub last_notice : List Listed → Listed → Notice
-last_notice before r = record { notifier = r.target; feature = None; kind = RemovingAdapter; old_value = Adapter r.no; new_value = Null; position = pos (count_by (has_target r.target) before); was_set = false }
+-- the last notice of the adapter of a number, at this index among those with its target
+abbrev pub removing : AdapterNo → Node → ℕ → Notice
+removing number target index =
+    record {
+      notifier = target;
+      feature = None;
+      kind = RemovingAdapter;
+      old_value = Adapter number;
+      new_value = Null;
+      position = pos index;
+      was_set = false;
+    }
 
--- what an adapter's release gives: its last notice, its view after it, and the ones that stay
+-- the last notice of an adapter, where others stand before it
+abbrev pub last_notice : List Listed → Listed → Notice
+last_notice before r = removing r.no r.target (count_by (has_target r.target) before)
+
+-- what the release of an adapter gives: its last notice, its view after it, and the adapters that stay
 pub record Release : Type 0 where
   pub notice : Notice
   pub view : View
@@ -101,6 +111,10 @@ release_at rs i r = let n = last_notice (take i rs) r in record { notice = n; vi
 abbrev pub release : AdapterNo → List Listed → Option Release
 release number rs = option_and_then (λ i. option_map (release_at rs i) (slice_get rs i)) (position (has_no number) rs)
 
--- all released in attach order, each gone before the next is told: each number with its view after its last notice
+-- the first of all, released: its index is 0
+abbrev pub release_first : Listed → List Listed → Release
+release_first r rs = let n = last_notice [] r in record { notice = n; view = hear r.view n; others = rs }
+
+-- all released in attach order, each gone before the next is notified: each number with its view after its last notice
 abbrev pub release_all : List Listed → List (AdapterNo × View)
 release_all rs = map (λ r. (r.no, hear r.view (last_notice [] r))) rs

@@ -1,7 +1,8 @@
-//! What adapters are told: notices, chains of them, and what an adapter has heard of them.
+//! Notices of changes, and what they mean to adapters.
 //!
-//! A notice tells one change at one end, as EMF's Notification does. The definitions in `specs/` say what an adapter has
-//! heard, how the attached adapters are told and released, and what a notice makes of the end that it names.
+//! A notice reports one change at one end, as EMF's Notification does. The definitions in `specs/` say what an adapter has
+//! heard, which of the attached adapters are notified, how they are released, and what the ends hold after a list of
+//! notices: whoever knows what they held before can replay them.
 #![tactic(auto)]
 
 mod chain;
@@ -12,6 +13,3 @@ mod notice;
 pub use chain::Chain;
 pub use kind::NoticeKind;
 pub use notice::{NO_INDEX, Notice};
-
-#[cfg(test)]
-mod tests;

@@ -1,2 +1,4 @@
-pub mod LegalLemmas
+pub mod ReadLemmas
+mod LegalLemmas
+mod PlanLemmas
 pub mod RunLemmas

@@ -1,9 +1,10 @@
 -- A run, one command at a time.
-use Rattle.std.proofs.Common.{◌≡◌, Bool, true, false, List, [], ◌∷◌, ◌++◌, refl, sym, ap, subst, ◌∙◌, if◌then◌else◌}
+use Rattle.std.proofs.Common.{◌≡◌, Bool, true, false, List, [], ◌∷◌, ◌++◌, Some, None, refl, sym, ap, subst, ◌∙◌, if◌then◌else◌}
 use Rattle.std.specs.Prelude.{MatchBool}
 use Rattle.repository.specs.declared.command.Command.{Command}
+use Rattle.repository.specs.declared.command.Command.TheVariants.{Create, Set, Unset, Get, IsSet, Class}
 use Rattle.repository.specs.State.{State}
-use Rattle.repository.specs.Step.{Outcome, Stepped, step}
+use Rattle.repository.specs.Step.{Outcome, Stepped, done, refusal_of, step, step_unless}
 use Rattle.repository.specs.Run.{AllExecuted, Executed, IsRun, IsWanting, Ran, commands_kept, is_memory, outcomes_kept, run}
 
 pub AllExecuted-push : (cs : List Command) (os : List Outcome) (s t u : State) (c : Command) (o : Outcome) → AllExecuted s cs os t → Executed t c o u → AllExecuted s (cs ++ (c ∷ [])) (os ++ (o ∷ [])) u
@@ -15,7 +16,7 @@ AllExecuted-push (d ∷ cs) (p ∷ os) s t u c o h x = (h.0, h.1, AllExecuted-pu
 after-memory : (s u : State) (c : Command) (o : Outcome) → Executed s c o u → is_memory o ≡ true → s ≡ u
 after-memory s u c o x e =
     let y : IsWanting s c u = subst (λ (b : Bool). MatchBool b (IsWanting s c u) (step s c ≡ record { outcome = o; after = u })) e x in
-    sym y.1
+    sym y.state
 
 stepped : (s u : State) (c : Command) (o : Outcome) → Executed s c o u → is_memory o ≡ false → step s c ≡ record { outcome = o; after = u }
 stepped s u c o x e = subst (λ (b : Bool). MatchBool b (IsWanting s c u) (step s c ≡ record { outcome = o; after = u })) e x
@@ -35,3 +36,22 @@ run-executed (c ∷ cs) (o ∷ os) s t h =
           ap (λ (q : Stepped). let r : Ran = run q.after (commands_kept cs os) in record { outcomes = q.outcome ∷ r.outcomes; after = r.after }) one ∙ ap (λ (r : Ran). record { outcomes = o ∷ r.outcomes; after = r.after }) rest
     ] in
     go (is_memory o) refl
+
+-- no command changes the metamodel
+done-metamodel : (s : State) (c : Command) → (done s c).after.model.metamodel ≡ s.model.metamodel
+done-metamodel s (Create c) = refl
+done-metamodel s (Set n f v) = refl
+done-metamodel s (Unset n f) = refl
+done-metamodel s (Get n f) = refl
+done-metamodel s (IsSet n f) = refl
+done-metamodel s (Class o) = refl
+
+step-metamodel : (s : State) (c : Command) → (step s c).after.model.metamodel ≡ s.model.metamodel
+step-metamodel s c = elim (refusal_of s c) as (λ r. (step_unless s c r).after.model.metamodel ≡ s.model.metamodel) [ Some r ↦ refl | None ↦ done-metamodel s c ]
+
+pub executed-metamodel : (s t : State) (c : Command) (o : Outcome) → Executed s c o t → t.model.metamodel ≡ s.model.metamodel
+executed-metamodel s t c o x =
+    elim (is_memory o) as (λ b. MatchBool b (IsWanting s c t) (step s c ≡ record { outcome = o; after = t }) → t.model.metamodel ≡ s.model.metamodel) [
+      | true ↦ λ y. ap (λ (u : State). u.model.metamodel) y.state
+      | false ↦ λ e. sym (ap (λ (q : Stepped). q.after.model.metamodel) e) ∙ step-metamodel s c
+    ] x

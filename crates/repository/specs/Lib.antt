@@ -1,6 +1,8 @@
 pub mod State
-pub mod Legal
+pub mod Refusals
+pub mod Answers
 pub mod Step
 pub mod Run
-pub mod Plan
+pub mod Laws
+pub mod Views
 pub mod Repository

@@ -2,18 +2,13 @@
 use Rattle.std.specs.Coded.{Coded, codes}
 use Rattle.std.specs.FinMap as map
 use Rattle.mm_values.specs.Held.{Held, HeldMap}
-use Rattle.mm_types.specs.Resolved.{Metamodel}
-use Rattle.mm_values.specs.declared.values.Values.{Values}
 use Rattle.mm_values.specs.Room.{values_of}
-use Rattle.repository.specs.State.{State}
-use Rattle.repository.specs.Legal.{IsLegal}
+use Rattle.models.specs.Model.{model_of}
+use Rattle.repository.specs.State.{State, IsLegal}
 use Rattle.repository.specs.declared.repository.Repository.TheInside.{Inside}
 
-abbrev pub state_of : Metamodel → Values → State
-state_of m v = record { metamodel = m; values = values_of v }
-
 abbrev pub state : Inside → State
-state r = state_of r.meta r.values
+state r = record { model = model_of r.meta (values_of r.values) }
 
 abbrev pub IsLegalInside : Inside → Type 0
 IsLegalInside r = IsLegal (state r)

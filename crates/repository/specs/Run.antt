@@ -1,26 +1,22 @@
--- What lists of commands do, and how want of memory stands beside it.
-use Rattle.std.specs.Prelude.{◌≡◌, Bool, true, false, IsFalse, List, [], ◌∷◌, MatchBool, Result, Ok, Err, if◌then◌else◌}
+-- What lists of commands do, and when a command may be answered out of memory.
+use Rattle.std.specs.Prelude.{◌≡◌, ◌&&◌, Bool, true, false, not, IsTrue, List, [], ◌∷◌, MatchBool, Result, Ok, Err, if◌then◌else◌}
 use Rattle.std.specs.Option.{option_map_or}
 use Rattle.mm_types.specs.declared.refused.Refused.{Refused}
-use Rattle.mm_types.specs.declared.refused.Refused.TheVariants.{NoObject, NoResource, NoClass, Abstract, NoFeature, NotSingle, NotMany, NoAdapter, AdapterTaken, Memory}
+use Rattle.mm_types.specs.declared.refused.Refused.TheVariants.{NoObject, NoResource, NoClass, Abstract, NoFeature, NotSingle, NotMany, NoAdapter, AdapterTaken}
 use Rattle.repository.specs.declared.command.Command.{Command}
-use Rattle.mm_types.specs.declared.numbers.ClassNo.{ClassNo}
-use Rattle.mm_types.specs.declared.value.Value.{Value}
-use Rattle.repository.specs.declared.reply.Answer.TheVariants as answer
+use Rattle.repository.specs.declared.command.Command.TheVariants as command
+use Rattle.repository.specs.declared.reply.Answer.{Answer}
 use Rattle.repository.specs.declared.reply.Reply.{Reply}
 use Rattle.repository.specs.State.{State}
-use Rattle.repository.specs.Step.{Outcome, refusal, step}
+use Rattle.repository.specs.Step.{Outcome, refusal_of, step}
+use Rattle.handshake.specs.Plans.{is_memory_refusal}
 
-abbrev pub is_memory_refusal : Refused → Bool
-is_memory_refusal Memory = true
-is_memory_refusal _ = false
-
--- an outcome is the refusal for want of memory
+-- an outcome is out of memory
 abbrev pub is_memory : Outcome → Bool
 is_memory (Ok r) = false
 is_memory (Err f) = is_memory_refusal f.refused
 
--- the refusals that are found without memory, in whose place its want is never answered
+-- the refusals that are found without memory, in whose place out of memory is never answered
 abbrev pub is_plain : Refused → Bool
 is_plain NoObject = true
 is_plain NoResource = true
@@ -33,28 +29,34 @@ is_plain NoAdapter = true
 is_plain AdapterTaken = true
 is_plain _ = false
 
--- memory may be wanting for a command, and then nothing changes
-abbrev pub IsWanting : State → Command → State → Type 0
-IsWanting s c t = IsFalse (option_map_or is_plain (refusal s c) false) × (t ≡ s)
+-- a command makes or copies something, and so takes memory
+abbrev pub takes_memory : Command → Bool
+takes_memory (command.Create c) = true
+takes_memory (command.Set n f v) = true
+takes_memory (command.Unset n f) = true
+takes_memory (command.Get n f) = true
+takes_memory (command.IsSet n f) = false
+takes_memory (command.Class o) = false
 
--- a change's outcome, and a read's
-abbrev pub outcome_of : Result Reply Refused → Outcome
-outcome_of (Ok r) = Ok r
-outcome_of (Err r) = Err (record { refused = r })
+-- a command may be answered out of memory: it takes memory, and no refusal applies that is found without
+abbrev pub may_want_memory : State → Command → Bool
+may_want_memory s c = takes_memory c && not (option_map_or is_plain (refusal_of s c) false)
 
-abbrev pub value_outcome : Result Value Refused → Outcome
-value_outcome (Ok v) = Ok (record { answer = answer.Value v })
-value_outcome (Err r) = Err (record { refused = r })
+-- a command is answered out of memory, and then nothing changes
+pub record IsWanting (s : State) (c : Command) (t : State) : Type 0 where
+  pub may : IsTrue (may_want_memory s c)
+  pub state : t ≡ s
 
-abbrev pub flag_outcome : Result Bool Refused → Outcome
-flag_outcome (Ok b) = Ok (record { answer = answer.Flag b })
-flag_outcome (Err r) = Err (record { refused = r })
+-- the outcome of a change, and of a read
+abbrev pub change_outcome : Result Reply Refused → Outcome
+change_outcome (Ok r) = Ok r
+change_outcome (Err r) = Err (record { refused = r })
 
-abbrev pub class_outcome : Result ClassNo Refused → Outcome
-class_outcome (Ok c) = Ok (record { answer = answer.Class c })
-class_outcome (Err r) = Err (record { refused = r })
+abbrev pub read_outcome : {X : Type 0} → (X → Answer) → Result X Refused → Outcome
+read_outcome f (Ok x) = Ok (record { answer = f x })
+read_outcome f (Err r) = Err (record { refused = r })
 
--- a command was done: its outcome and the state after it are the step's, or memory was wanting
+-- a command was done: its outcome and the state after it are the step's, or it is answered out of memory
 abbrev pub Executed : State → Command → Outcome → State → Type 0
 Executed s c o t = MatchBool (is_memory o) (IsWanting s c t) (step s c ≡ record { outcome = o; after = t })
 
@@ -78,7 +80,7 @@ run s (c ∷ cs) =
     let rest = run one.after cs in
     record { outcomes = one.outcome ∷ rest.outcomes; after = rest.after }
 
--- the outcomes but those for want of memory, and the commands that had them
+-- the outcomes but those out of memory, and the commands that had them
 abbrev pub outcomes_kept : List Outcome → List Outcome
 outcomes_kept [] = []
 outcomes_kept (o ∷ os) = if is_memory o then outcomes_kept os else o ∷ outcomes_kept os
@@ -88,6 +90,6 @@ commands_kept cs [] = []
 commands_kept [] (o ∷ os) = []
 commands_kept (c ∷ cs) (o ∷ os) = if is_memory o then commands_kept cs os else c ∷ commands_kept cs os
 
--- the outcomes but those for want of memory are those of a run of the commands that had them, and so is the state after it
+-- the outcomes but those out of memory are those of a run of the commands that had them, and so is the state after it
 abbrev pub IsRun : State → List Command → List Outcome → State → Type 0
 IsRun s cs os t = run s (commands_kept cs os) ≡ record { outcomes = outcomes_kept os; after = t }

@@ -4,9 +4,7 @@
 #![tactic(auto)]
 
 mod command;
-mod conditions;
-mod features;
-mod plan;
+pub mod laws;
 mod reads;
 mod reply;
 mod repository;

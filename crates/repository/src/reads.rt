@@ -1,78 +1,76 @@
 //! What features have, and the reads as replies.
-ghost use Rattle.std.specs.Prelude.{◌≡◌, unwrap_or, option_copied, IfOk, IfErr};
-ghost use Rattle.mm_types.specs.declared.value.Value.TheVariants as v;
+ghost use Rattle.std.specs.Prelude.{◌≡◌, IfOk, IfErr, unwrap_or, option_copied};
+ghost use Rattle.mm_types.specs.Same.{same_value};
 ghost use Rattle.mm_types.specs.declared.refused.Refused.TheVariants.{Memory};
+ghost use Rattle.mm_types.specs.declared.value.Value.TheVariants.{Null};
 ghost use Rattle.mm_values.specs.Room.{values_of};
-ghost use Rattle.repository.specs.State as s;
-ghost use Rattle.repository.specs.Step as step;
-ghost use Rattle.repository.specs.Run.{class_outcome, flag_outcome, outcome_of, value_outcome};
-ghost use Rattle.repository.specs.Repository.{state_of};
+ghost use Rattle.models.specs.Model.{kept_flag, kept_values, model_of, reading};
+ghost use Rattle.models.specs.Reading as r;
+ghost use Rattle.models.specs.Reading.{at_end};
+ghost use Rattle.repository.specs.Answers as a;
+ghost use Rattle.repository.specs.Run.{change_outcome, read_outcome};
+ghost use Rattle.repository.specs.declared.reply.Answer.TheVariants as answer;
 
-use crate::features::is_unsettable;
 use crate::reply::{Answer, Reply};
+use handshake::{is_single, is_unsettable};
 use mm_meta::Meta;
-use mm_types::{ClassNo, FeatureNo, Node, ObjectNo, Refused, Value};
+use mm_types::{ClassNo, FeatureNo, Node, Refused, Value};
 use mm_values::Values;
 
-/// A read's value, as a reply.
-pub(crate) fn replied(read: Result<Value, Refused>) -> Result<Reply, Refused>
-    ensures { outcome_of result ≡ value_outcome read }
-{
-    match read {
-        Ok(value) => Ok(Reply {
-            answer: Answer::Value(value),
-        }),
-        Err(refused) => Err(refused),
-    }
-}
-
-/// Whether a feature was answered to be set, as a reply.
-pub(crate) fn replied_flag(read: Result<bool, Refused>) -> Result<Reply, Refused>
-    ensures { outcome_of result ≡ flag_outcome read }
-{
-    match read {
-        Ok(flag) => Ok(Reply {
-            answer: Answer::Flag(flag),
-        }),
-        Err(refused) => Err(refused),
-    }
-}
-
-/// The class of an object, as a reply.
-pub(crate) fn replied_class(read: Result<ClassNo, Refused>) -> Result<Reply, Refused>
-    ensures { outcome_of result ≡ class_outcome read }
-{
-    match read {
-        Ok(class) => Ok(Reply {
-            answer: Answer::Class(class),
-        }),
-        Err(refused) => Err(refused),
-    }
-}
-
-/// Whether a single attribute of a node is set.
-pub(crate) fn is_set_at(meta: &Meta, values: &Values, node: Node, feature: FeatureNo) -> bool
-    ensures { result ≡ step.is_set_at (state_of meta.now values.now) node feature }
+/// The values that a node keeps under an attribute.
+fn kept_list(values: &Values, node: Node, feature: FeatureNo) -> &[Value]
+    ensures { result.now ≡ kept_values (values_of values.now) node feature }
 {
     match node {
-        Node::Object(object) => is_set(meta, values, object, feature),
+        Node::Object(object) => values.list(object, feature).unwrap_or(&[]),
+        Node::Resource(_) => &[],
+    }
+}
+
+fn flag_at(values: &Values, node: Node, feature: FeatureNo) -> bool
+    ensures { result ≡ kept_flag (values_of values.now) node feature }
+{
+    match node {
+        Node::Object(object) => values.flag(object, feature).unwrap_or(false),
         Node::Resource(_) => false,
     }
 }
 
-fn is_set(meta: &Meta, values: &Values, object: ObjectNo, feature: FeatureNo) -> bool
-    ensures { result ≡ s.is_set (state_of meta.now values.now) object feature }
+/// The value that a feature of one value has: what was set, else its default. `None` stands for null.
+#[tactic(auto, using(crate::proofs::ReadLemmas::value_in_shown))]
+pub(crate) fn value_at<'a>(
+    meta: &'a Meta,
+    values: &'a Values,
+    node: Node,
+    feature: FeatureNo,
+) -> Option<&'a Value>
+    ensures { unwrap_or (option_copied result) Null ≡ a.value_at (reading (model_of meta.now (values_of values.now))) (at_end node feature) }
 {
-    if is_unsettable(meta, feature) {
-        return values.flag(object, feature).unwrap_or(false);
+    match kept_list(values, node, feature).first() {
+        Some(value) => Some(value),
+        None if is_single(meta, feature) => meta.default(feature),
+        None => None,
     }
-    let value = value_of(meta, values, object, feature).unwrap_or(&Value::Null);
+}
+
+/// Whether a feature of a node is set.
+#[tactic(auto, using(crate::proofs::ReadLemmas::is_nil_shown))]
+pub(crate) fn is_set_at(meta: &Meta, values: &Values, node: Node, feature: FeatureNo) -> bool
+    ensures { result ≡ r.is_set (reading (model_of meta.now (values_of values.now))) (at_end node feature) }
+{
+    if !is_single(meta, feature) {
+        return !kept_list(values, node, feature).is_empty();
+    }
+    if is_unsettable(meta, feature) {
+        return flag_at(values, node, feature);
+    }
+    let value = value_at(meta, values, node, feature).unwrap_or(&Value::Null);
     let default = meta.default(feature).unwrap_or(&Value::Null);
     !is_same(value, default)
 }
 
 fn is_same(a: &Value, b: &Value) -> bool
-    ensures { result ≡ s.is_same a.now b.now }
+    ensures { result ≡ same_value a.now b.now }
 {
     match (a, b) {
         (Value::Null, Value::Null) => true,
@@ -87,42 +85,9 @@ fn is_same(a: &Value, b: &Value) -> bool
     }
 }
 
-/// The value that a single attribute of a node has; `None` stands for null.
-pub(crate) fn value_at<'a>(
-    meta: &'a Meta,
-    values: &'a Values,
-    node: Node,
-    feature: FeatureNo,
-) -> Option<&'a Value>
-    ensures { unwrap_or (option_copied result) v.Null ≡ step.value_at (state_of meta.now values.now) node feature }
-{
-    match node {
-        Node::Object(object) => value_of(meta, values, object, feature),
-        Node::Resource(_) => None,
-    }
-}
-
-fn value_of<'a>(
-    meta: &'a Meta,
-    values: &'a Values,
-    object: ObjectNo,
-    feature: FeatureNo,
-) -> Option<&'a Value>
-    ensures { unwrap_or (option_copied result) v.Null ≡ s.value_of (state_of meta.now values.now) object feature }
-{
-    held(values, object, feature).or(meta.default(feature))
-}
-
-/// The value that an object holds under an attribute, if it holds one.
-fn held(values: &Values, object: ObjectNo, feature: FeatureNo) -> Option<&Value>
-    ensures { option_copied result ≡ s.held (values_of values.now) object feature }
-{
-    values.list(object, feature)?.first()
-}
-
 /// A copy of a value; `None` stands for null.
 pub(crate) fn copied(value: Option<&Value>) -> Result<Value, Refused>
-    ensures ok { IfOk result (λ w. w ≡ unwrap_or (option_copied value.entry) v.Null) }
+    ensures ok { IfOk result (λ w. w ≡ unwrap_or (option_copied value.entry) Null) }
     ensures memory { IfErr result (λ r. r ≡ Memory) }
 {
     let Some(value) = value else {
@@ -132,4 +97,28 @@ pub(crate) fn copied(value: Option<&Value>) -> Result<Value, Refused>
         Ok(value) => Ok(value),
         Err(_) => Err(Refused::Memory),
     }
+}
+
+/// A read's value, as a reply.
+pub(crate) fn replied(read: Result<Value, Refused>) -> Result<Reply, Refused>
+    ensures { change_outcome result ≡ read_outcome answer.Value read }
+{
+    let answer = Answer::Value(read?);
+    Ok(Reply { answer })
+}
+
+/// Whether a feature was answered to be set, as a reply.
+pub(crate) fn replied_flag(read: Result<bool, Refused>) -> Result<Reply, Refused>
+    ensures { change_outcome result ≡ read_outcome answer.Flag read }
+{
+    let answer = Answer::Flag(read?);
+    Ok(Reply { answer })
+}
+
+/// The class of an object, as a reply.
+pub(crate) fn replied_class(read: Result<ClassNo, Refused>) -> Result<Reply, Refused>
+    ensures { change_outcome result ≡ read_outcome answer.Class read }
+{
+    let answer = Answer::Class(read?);
+    Ok(Reply { answer })
 }

@@ -1,19 +1,17 @@
 //! The repository.
 ghost use Rattle.std.specs.Prelude.{◌≡◌, false, length, IfOk, IfErr, OnErr};
-ghost use Rattle.mm_types.specs.declared.value.Value.TheVariants as v;
-ghost use Rattle.mm_types.specs.declared.refused.Refused.TheVariants.{Memory};
+ghost use Rattle.handshake.specs.Plans.{is_memory_refusal};
 ghost use Rattle.repository.specs.State as s;
-ghost use Rattle.repository.specs.Step as step;
-ghost use Rattle.repository.specs.Run.{AllExecuted, Executed, IsRun, class_outcome, flag_outcome, is_memory_refusal, outcome_of, value_outcome};
-ghost use Rattle.repository.specs.Plan.{command_of};
-ghost use Rattle.repository.specs.Repository.{state_of};
+ghost use Rattle.repository.specs.Answers.{answer_of};
+ghost use Rattle.repository.specs.Views.{command_of};
+ghost use Rattle.repository.specs.Run.{AllExecuted, Executed, IsRun, change_outcome, read_outcome};
 ghost use Rattle.repository.specs.declared.command.Command.TheVariants.{Create, Set, Unset, Get, IsSet, Class};
+ghost use Rattle.repository.specs.declared.reply.Answer.TheVariants as answer;
 
 use crate::command::Command;
-use crate::conditions::{create_refusal, feature_refusal, set_refusal};
-use crate::plan::{Change, Planned, plan};
 use crate::reads::{copied, is_set_at, replied, replied_class, replied_flag, value_at};
-use crate::reply::{Failure, Reply};
+use crate::reply::{Answer, Failure, Reply};
+use handshake::{Change, early_refusal, feature_refusal, plan};
 use mm_meta::Meta;
 use mm_types::{ClassNo, FeatureNo, Node, ObjectNo, Refused, Value};
 use mm_values::Values;
@@ -58,7 +56,7 @@ impl Repository {
 
     /// The metamodel. Takes no memory.
     pub fn meta(&self) -> &Meta
-        ensures { result.now ≡ self.now.metamodel }
+        ensures { result.now ≡ self.now.model.metamodel }
     {
         &self.meta
     }
@@ -67,7 +65,7 @@ impl Repository {
     ///
     /// Refused, the first that applies: `NoClass`, `Abstract`, `Limit` where 1,000,000 objects were made, `Memory`.
     pub fn create(&mut self, class: ClassNo) -> Result<Reply, Refused>
-        ensures { Executed self.old (Create class) (outcome_of result) self.new }
+        ensures { Executed self.old (Create class) (change_outcome result) self.new }
     {
         self.change(Change::Create(class))
     }
@@ -77,7 +75,7 @@ impl Repository {
     /// Refused, the first that applies: `NoObject` where the node or the value is an object that does not live,
     /// `NoResource`, `NoFeature`, `WrongType`, `TextLength` above 65,535 bytes, `Memory`.
     pub fn e_set(&mut self, node: Node, feature: FeatureNo, value: Value) -> Result<Reply, Refused>
-        ensures { Executed self.old (Set node feature value) (outcome_of result) self.new }
+        ensures { Executed self.old (Set node feature value) (change_outcome result) self.new }
     {
         self.change(Change::Set {
             node,
@@ -90,7 +88,7 @@ impl Repository {
     ///
     /// Refused, the first that applies: `NoObject`, `NoResource`, `NoFeature`, `Memory`.
     pub fn e_unset(&mut self, node: Node, feature: FeatureNo) -> Result<Reply, Refused>
-        ensures { Executed self.old (Unset node feature) (outcome_of result) self.new }
+        ensures { Executed self.old (Unset node feature) (change_outcome result) self.new }
     {
         self.change(Change::Unset { node, feature })
     }
@@ -99,7 +97,7 @@ impl Repository {
     ///
     /// Refused, the first that applies: `NoObject`, `NoResource`, `NoFeature`, `Memory`.
     pub fn e_get(&self, node: Node, feature: FeatureNo) -> Result<Value, Refused>
-        ensures { Executed self.now (Get node feature) (value_outcome result) self.now }
+        ensures { Executed self.now (Get node feature) (read_outcome answer.Value result) self.now }
     {
         if let Some(refused) = feature_refusal(&self.meta, &self.values, node, feature) {
             return Err(refused);
@@ -112,7 +110,7 @@ impl Repository {
     ///
     /// Refused, the first that applies: `NoObject`, `NoResource`, `NoFeature`.
     pub fn e_is_set(&self, node: Node, feature: FeatureNo) -> Result<bool, Refused>
-        ensures read { Executed self.now (IsSet node feature) (flag_outcome result) self.now }
+        ensures read { Executed self.now (IsSet node feature) (read_outcome answer.Flag result) self.now }
         ensures kind { IfErr result (λ r. is_memory_refusal r ≡ false) }
     {
         if let Some(refused) = feature_refusal(&self.meta, &self.values, node, feature) {
@@ -123,7 +121,7 @@ impl Repository {
 
     /// The class of an object (EMF: EObject.eClass). Takes no memory. Refused with `NoObject` where none lives.
     pub fn e_class(&self, object: ObjectNo) -> Result<ClassNo, Refused>
-        ensures read { Executed self.now (Class object) (class_outcome result) self.now }
+        ensures read { Executed self.now (Class object) (read_outcome answer.Class result) self.now }
         ensures kind { IfErr result (λ r. is_memory_refusal r ≡ false) }
     {
         match self.values.class(object) {
@@ -175,39 +173,41 @@ impl Repository {
         Ok(outcomes)
     }
 
-    // Every change goes these five steps; after the third nothing can fail.
+    // Every change goes these steps; after the third nothing can fail.
     fn change(&mut self, change: Change) -> Result<Reply, Refused>
-        ensures { Executed self.old (command_of change) (outcome_of result) self.new }
+        ensures { Executed self.old (command_of change) (change_outcome result) self.new }
     {
         // Conditions that need no memory.
-        if let Some(refused) = self.early_refusal(&change) {
+        if let Some(refused) = early_refusal(&self.meta, &self.values, &change) {
             return Err(refused);
         }
         // The plan, or the refusal that planning finds.
-        let Planned { answer, values } = plan(self.alloc, &self.meta, &self.values, change)?;
+        let next = self.values.next();
+        let makes_object = matches!(&change, Change::Create(_));
+        let planned = match plan(self.alloc, &self.meta, &self.values, change) {
+            Ok(planned) => planned,
+            Err(refused) => return Err(refused),
+        };
         // All memory that the plan needs.
-        if self.values.reserve_for(&values).is_err() {
+        if self.values.reserve_for(&planned.values).is_err() {
             return Err(Refused::Memory);
         }
         // The edits.
-        self.values.apply(values);
-        // What is told.
-        Ok(Reply { answer })
+        self.values.apply(planned.values);
+        // The answer.
+        Ok(Reply {
+            answer: if makes_object {
+                Answer::Object(ObjectNo(next as u32))
+            } else {
+                Answer::Done
+            },
+        })
     }
 
-    fn early_refusal(&self, change: &Change) -> Option<Refused>
-        ensures { result ≡ step.early_refusal self.now (command_of change.now) }
+    /// What holds of every repository, for proofs that know it by its view: its state is legal.
+    pub fn is_legal(&self)
+        ensures { s.IsLegal self.now }
     {
-        match change {
-            Change::Create(class) => create_refusal(&self.meta, *class),
-            Change::Set {
-                node,
-                feature,
-                value,
-            } => set_refusal(&self.meta, &self.values, *node, *feature, value),
-            Change::Unset { node, feature } => {
-                feature_refusal(&self.meta, &self.values, *node, *feature)
-            }
-        }
+        let _ = &self.alloc;
     }
 }

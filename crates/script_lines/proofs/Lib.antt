@@ -1,4 +1,5 @@
 mod LineLemmas
 mod WordLemmas
+mod TextLemmas
 mod ValueLemmas
 mod FormLemmas

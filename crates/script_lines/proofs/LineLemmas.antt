@@ -1,22 +1,37 @@
 -- The first line of some bytes, and the lines of all of them.
-use Rattle.std.proofs.Common.{◌++◌, ◌⊎◌, inl, inr, ◌==◌, ◌≡◌, ◌+◌, ◌<◌, ℕ, suc, Bool, true, false, List, [], ◌∷◌, ap, ap₂, arith, cond, drop, length, refl, take}
-use Rattle.std.specs.List.{list_all}
+use Rattle.std.proofs.Common.{◌++◌, ◌⊎◌, inl, inr, ◌==◌, ◌≡◌, ◌+◌, ◌<◌, ℕ, suc, Bool, true, false, List, [], ◌∷◌, ap, ap₂, arith, cond, drop, length, not, refl, sym, take}
+use Rattle.std.specs.List.{after_first, before_first, list_all, position_or_len}
 use Rattle.std.proofs.lemmas.Bool.Decides.{nat_tests}
-use Rattle.script_lines.specs.Lines.{has_no_newline, line_len, lines, with_byte, with_newlines}
+use Rattle.std.proofs.lemmas.List.Sums.{position_or_len_is}
+use Rattle.memchr.specs.Find.{NoneBefore, Nowhere, Passes, is_byte}
+use Rattle.script_lines.specs.Lines.{has_no_newline, is_newline, lines, with_byte, with_newlines}
 
+eq_false : (b : Bool) → (b ≡ true → ⊥) → b ≡ false
+eq_false true h = absurd (h refl)
+eq_false false h = refl
+
+pub newline_at : (bs : List ℕ) (n : ℕ) → NoneBefore (Passes (is_byte 10) bs) 0 (length bs) n → Passes (is_byte 10) bs n → n ≡ position_or_len is_newline bs
+newline_at bs n before here =
+    sym (position_or_len_is is_newline bs n 0 (let h = before.high in omega arith) (λ k low. eq_false _ (before.before k (omega arith) low)) (λ low. here))
+
+pub no_newline : (bs : List ℕ) → Nowhere (Passes (is_byte 10) bs) 0 (length bs) → length bs ≡ position_or_len is_newline bs
+no_newline bs nowhere =
+    sym (position_or_len_is is_newline bs (length bs) 0 (omega arith) (λ k low. eq_false _ (nowhere k (omega arith) low)) (λ low. absurd (omega arith)))
+
+-- the lines of some bytes are the first one and those of what follows it
 first_at : (b : Bool) (c : ℕ) (cs : List ℕ) (n : ℕ) → lines cs ≡ take n cs ∷ lines (drop (n + 1) cs)
-    → cond b ([] ∷ lines cs) (with_byte c (lines cs)) ≡ take (cond b 0 (suc n)) (c ∷ cs) ∷ lines (drop (cond b 0 (suc n) + 1) (c ∷ cs))
+    → cond b ([] ∷ lines cs) (with_byte c (lines cs)) ≡ take (cond (not b) (1 + n) 0) (c ∷ cs) ∷ lines (drop (cond (not b) (1 + n) 0 + 1) (c ∷ cs))
 first_at true c cs n h = refl
-first_at false c cs n h = let e : suc n + 1 ≡ suc (n + 1) = omega arith in rw e (ap (with_byte c) h)
+first_at false c cs n h = let e : 1 + n + 1 ≡ suc (n + 1) = omega arith in let f : 1 + n ≡ suc n = omega arith in rw (e, f) (ap (with_byte c) h)
 
-first_only : (b : Bool) (c : ℕ) → cond b ([] ∷ []) ((c ∷ []) ∷ []) ≡ take (cond b 0 1) (c ∷ []) ∷ lines (drop (cond b 0 1 + 1) (c ∷ []))
+first_only : (b : Bool) (c : ℕ) → cond b ([] ∷ []) ((c ∷ []) ∷ []) ≡ take (cond (not b) (1 + 0) 0) (c ∷ []) ∷ lines (drop (cond (not b) (1 + 0) 0 + 1) (c ∷ []))
 first_only true c = refl
 first_only false c = refl
 
-pub first_line : (bs : List ℕ) → 0 < length bs → lines bs ≡ take (line_len bs) bs ∷ lines (drop (line_len bs + 1) bs)
+pub first_line : (bs : List ℕ) → 0 < length bs → lines bs ≡ before_first is_newline bs ∷ lines (after_first is_newline bs)
 first_line [] some = absurd (omega arith)
-first_line (c ∷ []) some = first_only (c == 10) c
-first_line (c ∷ d ∷ ds) some = first_at (c == 10) c (d ∷ ds) (line_len (d ∷ ds)) (first_line (d ∷ ds) (omega arith))
+first_line (c ∷ []) some = first_only (is_newline c) c
+first_line (c ∷ d ∷ ds) some = first_at (is_newline c) c (d ∷ ds) (position_or_len is_newline (d ∷ ds)) (first_line (d ∷ ds) (omega arith))
 
 -- ---- a script is its lines
 

@@ -1,8 +1,28 @@
 -- Going on by one step through a line.
-use Rattle.std.proofs.Common.{ap, ◌∙◌, ◌==◌, sub-one, ◌≡◌, ◌≢◌, ◌+◌, ◌-◌, ◌<◌, ◌≤◌, ◌++◌, ℕ, zero, suc, Bool, true, false, List, [], ◌∷◌, add-one, append_assoc, arith, drop, drop-cons, get_or, length, refl, take}
-use Rattle.std.proofs.lemmas.List.{take_rest}
+use Rattle.std.proofs.Common.{ap, ◌∙◌, ◌==◌, sub-one, ◌≡◌, ◌≢◌, ◌+◌, ◌-◌, ◌<◌, ◌≤◌, ◌++◌, ℕ, zero, suc, Bool, true, false, List, [], ◌∷◌, None, Some, nat_lt, add-one, append_assoc, arith, cond, drop, drop-cons, get_or, length, position, refl, take}
 use Rattle.std.proofs.lemmas.Bool.Decides.{nat_tests}
-use Rattle.script_lines.specs.Words.{quoted_len, word_len, words_after}
+use Rattle.std.proofs.lemmas.List.Quantifiers.{position-Some}
+use Rattle.std.proofs.lemmas.List.Sums.{prefix_len-le-length}
+use Rattle.script_lines.specs.Words.{is_space, plain_len, quoted_len, word_len, words_after}
+
+-- ---- the length of a word
+
+some_at : (b : Bool) (k n : ℕ) → cond b (Some k) None ≡ Some n → n ≡ k
+some_at true k n h = cc
+some_at false k n h = cc
+
+none_at : (b : Bool) (k l : ℕ) → nat_lt k l ≡ b → k ≤ l → cond b (Some k) None ≡ None → l ≡ k
+none_at true k l is low h = cc
+none_at false k l is low h = grind (arith, nat_tests)
+
+pub space_at : (bs : List ℕ) (n : ℕ) → position is_space bs ≡ Some n → n ≡ plain_len bs
+space_at bs n h = some_at _ _ n h
+
+pub no_space : (bs : List ℕ) → position is_space bs ≡ None → length bs ≡ plain_len bs
+no_space bs h = none_at _ _ (length bs) refl (prefix_len-le-length _ bs) h
+
+pub space_is : (bs : List ℕ) (n : ℕ) → position is_space bs ≡ Some n → get_or bs n 0 ≡ 32
+space_is bs n h = let e = position-Some is_space bs n 0 h in grind (arith, nat_tests)
 
 head_at : (e : Bool) (bs : List ℕ) (i : ℕ) → i < length bs → quoted_len e (drop i bs) ≡ quoted_len e (get_or bs i 0 ∷ drop (i + 1) bs)
 head_at e bs i within = rw (add-one, drop-cons bs i 0) refl
@@ -24,21 +44,24 @@ words_after-drop zero bs = refl
 words_after-drop (suc k) [] = refl
 words_after-drop (suc k) (c ∷ cs) = words_after-drop k cs
 
-first_word : (bs : List ℕ) (n : ℕ) → 0 < length bs → get_or bs 0 0 ≢ 32 → n ≡ word_len bs → 0 < n
-    → words_after 0 bs ≡ take n bs ∷ words_after 0 (drop n bs)
-first_word [] n some space is pos = absurd (omega arith)
-first_word (c ∷ cs) zero some space is pos = absurd (omega arith)
-first_word (c ∷ cs) (suc k) some space is pos =
-    let rest = words_after-drop k cs in
-    let other : (c == 32) ≡ false = grind (arith, nat_tests) in
-    rw (other, ← is, sub-one, rest) refl
+behind_first : (c : ℕ) (cs : List ℕ) (n : ℕ) → 0 < n → words_after (n - 1) cs ≡ words_after 0 (drop n (c ∷ cs))
+behind_first c cs zero some = absurd (omega arith)
+behind_first c cs (suc k) some = rw sub-one (words_after-drop k cs)
 
-pub word_taken : (ws : List (List ℕ)) (rest : List ℕ) (all : List (List ℕ)) (n : ℕ) → 0 < length rest → get_or rest 0 0 ≢ 32 → n ≡ word_len rest
-    → 0 < n → ws ++ words_after 0 rest ≡ all
-    → ws ++ take n rest ∷ [] ++ words_after 0 (take (length rest - n) (drop n rest)) ≡ all
-word_taken ws rest all n some space is pos h =
-    let first = first_word rest n some space is pos in
-    rw (take_rest rest n, append_assoc, ← first) h
+either_some : (b : Bool) (m n : ℕ) → 0 < cond b (suc m) (suc n)
+either_some true m n = omega arith
+either_some false m n = omega arith
+
+first_word : (bs : List ℕ) → 0 < length bs → get_or bs 0 0 ≢ 32 → words_after 0 bs ≡ take (word_len bs) bs ∷ words_after 0 (drop (word_len bs) bs)
+first_word [] some space = absurd (omega arith)
+first_word (c ∷ cs) some space =
+    let other : (c == 32) ≡ false = grind (arith, nat_tests) in
+    rw other (ap (λ x. take (word_len (c ∷ cs)) (c ∷ cs) ∷ x) (behind_first c cs (word_len (c ∷ cs)) (either_some (c == 34) _ _)))
+
+-- one more word is cut off
+pub word_taken : (ws : List (List ℕ)) (rest : List ℕ) (all : List (List ℕ)) → 0 < length rest → get_or rest 0 0 ≢ 32
+    → ws ++ words_after 0 rest ≡ all → (ws ++ take (word_len rest) rest ∷ []) ++ words_after 0 (drop (word_len rest) rest) ≡ all
+word_taken ws rest all some space h = rw (append_assoc, ← first_word rest some space) h
 
 found_at : (n : ℕ) (ws more : List (List ℕ)) → length ws ≤ n → (length ws < n → more ≡ []) → ws ≡ take n (ws ++ more)
 found_at zero [] more few none = refl
@@ -50,7 +73,7 @@ none_after : (rest : List ℕ) → length rest ≡ 0 → words_after 0 rest ≡ 
 none_after [] none = refl
 none_after (c ∷ cs) none = absurd (omega arith)
 
--- the words found are the first ones, where nothing is left or five are found
+-- the words found are the first five, where nothing is left or five are found
 pub first_found : (ws : List (List ℕ)) (rest : List ℕ) (all : List (List ℕ)) → ws ++ words_after 0 rest ≡ all → length ws ≤ 5
     → (length ws < 5 → length rest ≡ 0) → ws ≡ take 5 all
 first_found ws rest all is few none = found_at 5 ws (words_after 0 rest) few (λ low. none_after rest (none low)) ∙ ap (take 5) is

@@ -1,16 +1,13 @@
 -- What a line asks for: its first word says what is done, the others to what.
-use Rattle.std.specs.Prelude.{ℕ, List, [], ◌∷◌, Option, Some, None, option_map, option_and_then, codes, if◌then◌else◌}
+use Rattle.std.specs.Prelude.{ℕ, List, [], ◌∷◌, Option, Some, None, option_map, codes, if◌then◌else◌}
+use Rattle.std.specs.Option.{option_zip}
 use Rattle.std.specs.Str.{bytes_eq, is_utf8}
 use Rattle.script_lines.specs.Words.{words}
-use Rattle.script_lines.specs.Values.{name_in, node_in, object_in, value_in}
+use Rattle.script_lines.specs.Values.{feature_in, name_in, object_in, value_in}
 use Rattle.script_lines.specs.declared.form.Form.{Form}
 use Rattle.script_lines.specs.declared.form.Form.TheVariants as asks
 use Rattle.script_lines.specs.declared.line.Line.{Line}
 use Rattle.script_lines.specs.declared.line.Line.TheVariants as line
-
-infixl 10 ◌>>=◌
-abbrev pub ◌>>=◌ : {A B : Type 0} → Option A → (A → Option B) → Option B
-o >>= f = option_and_then f o
 
 -- `new NAME`
 abbrev pub new_form : List ℕ → Option Form
@@ -22,32 +19,19 @@ class_form o = option_map asks.Class (object_in o)
 
 -- `get NODE NAME`
 abbrev pub get_form : List ℕ → List ℕ → Option Form
-get_form n f = do
-  node ← node_in n
-  feature ← name_in f
-  Some (asks.Get node feature)
+get_form n f = option_map (λ p. asks.Get p.0 p.1) (feature_in n f)
 
 -- `isset NODE NAME`
 abbrev pub isset_form : List ℕ → List ℕ → Option Form
-isset_form n f = do
-  node ← node_in n
-  feature ← name_in f
-  Some (asks.IsSet node feature)
+isset_form n f = option_map (λ p. asks.IsSet p.0 p.1) (feature_in n f)
 
 -- `unset NODE NAME`
 abbrev pub unset_form : List ℕ → List ℕ → Option Form
-unset_form n f = do
-  node ← node_in n
-  feature ← name_in f
-  Some (asks.Unset node feature)
+unset_form n f = option_map (λ p. asks.Unset p.0 p.1) (feature_in n f)
 
 -- `set NODE NAME VALUE`
 abbrev pub set_form : List ℕ → List ℕ → List ℕ → Option Form
-set_form n f v = do
-  node ← node_in n
-  feature ← name_in f
-  value ← value_in v
-  Some (asks.Set node feature value)
+set_form n f v = option_map (λ p. asks.Set p.0.0 p.0.1 p.1) (option_zip (feature_in n f) (value_in v))
 
 -- the forms of a verb and one argument
 abbrev pub with_one : List ℕ → List ℕ → Option Form

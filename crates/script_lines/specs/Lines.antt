@@ -1,31 +1,37 @@
 -- The lines of a script: each ends with a newline, but the last need not.
-use Rattle.std.specs.Prelude.{ℕ, ◌==◌, ◌≡◌, ◌<◌, ◌++◌, Bool, not, List, [], ◌∷◌, Option, Some, None, length, suc, if◌then◌else◌}
+use Rattle.std.specs.Prelude.{ℕ, ◌==◌, ◌≡◌, ◌<◌, ◌++◌, Bool, not, List, [], ◌∷◌, Option, Some, None, length, if◌then◌else◌}
 use Rattle.std.specs.Borrow.{Bor}
-use Rattle.std.specs.List.{list_all}
+use Rattle.std.specs.List.{after_first, before_first, list_all}
+use Rattle.script_lines.specs.declared.grammar.TheConstants.{NEWLINE}
 
--- one more byte before the first line
+-- one more byte at the front of the first line
 abbrev pub with_byte : ℕ → List (List ℕ) → List (List ℕ)
 with_byte c [] = (c ∷ []) ∷ []
 with_byte c (l ∷ ls) = (c ∷ l) ∷ ls
 
+abbrev pub is_newline : ℕ → Bool
+is_newline c = c == NEWLINE
+
 abbrev pub lines : List ℕ → List (List ℕ)
 lines [] = []
-lines (c ∷ cs) = if c == 10 then [] ∷ lines cs else with_byte c (lines cs)
+lines (c ∷ cs) = if is_newline c then [] ∷ lines cs else with_byte c (lines cs)
 
 -- the lines, each with a newline behind it
 abbrev pub with_newlines : List (List ℕ) → List ℕ
 with_newlines [] = []
-with_newlines (l ∷ ls) = l ++ 10 ∷ with_newlines ls
+with_newlines (l ∷ ls) = l ++ NEWLINE ∷ with_newlines ls
 
 abbrev pub has_no_newline : List ℕ → Bool
-has_no_newline l = list_all (λ c. not (c == 10)) l
+has_no_newline l = list_all (λ c. not (is_newline c)) l
 
--- how many bytes stand before the first newline
-abbrev pub line_len : List ℕ → ℕ
-line_len [] = 0
-line_len (c ∷ cs) = if c == 10 then 0 else suc (line_len cs)
+-- some bytes are cut behind their first line: the bytes before the first newline; the rest is what follows that newline
+pub record IsCut (bytes line rest : List ℕ) : Type 0 where
+  pub line_is : line ≡ before_first is_newline bytes
+  pub rest_is : rest ≡ after_first is_newline bytes
+  pub shorter : length rest < length bytes
+  pub lines_are : lines bytes ≡ line ∷ lines rest
 
--- The first line of some bytes and what follows it, or nothing where there is no line.
-abbrev pub Takes : Option (Bor (List ℕ) × Bor (List ℕ)) → List ℕ → Type 0
-Takes None bytes = length bytes ≡ 0
-Takes (Some p) bytes = (lines bytes ≡ p.0.now ∷ lines p.1.now) × (length p.1.now < length bytes)
+-- what is answered is the first line of some bytes and what follows it, or nothing where there are no bytes
+abbrev pub CutsLine : Option (Bor (List ℕ) × Bor (List ℕ)) → List ℕ → Type 0
+CutsLine None bytes = length bytes ≡ 0
+CutsLine (Some p) bytes = IsCut bytes p.0.now p.1.now

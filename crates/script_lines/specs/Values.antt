@@ -1,5 +1,6 @@
--- The words of the language: names, nodes, and values.
-use Rattle.std.specs.Prelude.{ℕ, ◌==◌, ◌&&◌, ◌-◌, true, false, List, [], ◌∷◌, length, slice_index, Option, Some, None, option_map, option_and_then, codes, if◌then◌else◌}
+-- What single words write: names, nodes and values.
+use Rattle.std.specs.Prelude.{ℕ, ◌==◌, ◌&&◌, ◌-◌, Bool, true, false, nat_le, not, List, [], ◌∷◌, length, slice_index, Option, Some, None, option_map, option_and_then, codes, if◌then◌else◌}
+use Rattle.std.specs.Option.{option_zip}
 use Rattle.std.specs.Str.{bytes_eq, is_utf8}
 use Rattle.serde_json.specs.Read.{read}
 use Rattle.serde_json.specs.Find.{as_str}
@@ -9,8 +10,9 @@ use Rattle.mm_types.specs.declared.numbers.ObjectNo.{ObjectNo}
 use Rattle.mm_types.specs.declared.numbers.ResourceNo.{ResourceNo}
 use Rattle.mm_types.specs.declared.numbers.Node.{Node}
 use Rattle.mm_types.specs.declared.numbers.Node.TheVariants as node
-use Rattle.script_lines.specs.declared.word.Word.{Word}
-use Rattle.script_lines.specs.declared.word.Word.TheVariants as word
+use Rattle.script_lines.specs.declared.grammar.TheConstants.{BACKSLASH, LITERAL_MARK, OBJECT_MARK, QUOTE, RESOURCE_MARK, SPACE}
+use Rattle.script_lines.specs.declared.written_value.WrittenValue.{WrittenValue}
+use Rattle.script_lines.specs.declared.written_value.WrittenValue.TheVariants as written
 
 abbrev pub object : ℕ → ObjectNo
 object n = record { 0 = n }
@@ -21,31 +23,39 @@ resource n = record { 0 = n }
 abbrev pub name_in : List ℕ → Option (List ℕ)
 name_in w = if is_name w then Some w else None
 
--- the text that a JSON string writes, which the word's last quotation mark ends
+-- the text that a word writes as a JSON string; the string ends with the word
 abbrev pub text_in : List ℕ → Option (List ℕ)
-text_in w = if slice_index w (length w - 1) == 34 && is_utf8 w then option_and_then as_str (read w) else None
+text_in w = if slice_index w (length w - 1) == QUOTE && is_utf8 w then option_and_then as_str (read w) else None
+
+-- a byte stands for itself in a JSON string: it is no quotation mark, no backslash and no control character
+abbrev pub is_plain : ℕ → Bool
+is_plain c = nat_le SPACE c && (not (c == QUOTE) && not (c == BACKSLASH))
 
 -- `#3`
 abbrev pub object_in : List ℕ → Option ObjectNo
 object_in [] = None
-object_in (c ∷ cs) = if c == 35 then option_map object (natural cs) else None
+object_in (c ∷ cs) = if c == OBJECT_MARK then option_map object (natural cs) else None
 
 -- `#3`, an object, or `r0`, a resource
 abbrev pub node_in : List ℕ → Option Node
 node_in [] = None
-node_in (c ∷ cs) = if c == 35 then option_map (λ n. node.Object (object n)) (natural cs)
-    else if c == 114 then option_map (λ n. node.Resource (resource n)) (natural cs) else None
+node_in (c ∷ cs) = if c == OBJECT_MARK then option_map (λ n. node.Object (object n)) (natural cs)
+    else if c == RESOURCE_MARK then option_map (λ n. node.Resource (resource n)) (natural cs) else None
 
--- a text, a literal, an object or a number, told apart by their first byte
-abbrev pub other_value_in : List ℕ → Option Word
+-- `#3 pages`: a node, and the name of one of its features
+abbrev pub feature_in : List ℕ → List ℕ → Option (Node × List ℕ)
+feature_in n f = option_zip (node_in n) (name_in f)
+
+-- a text, a literal, an object or a number; the first byte says which of them
+abbrev pub other_value_in : List ℕ → Option WrittenValue
 other_value_in [] = None
-other_value_in (c ∷ cs) = if c == 34 then option_map word.Text (text_in (c ∷ cs))
-    else if c == 58 then option_map word.Literal (name_in cs)
-    else if c == 35 then option_map (λ n. word.Object (object n)) (natural cs)
-    else option_map word.Int (integer (c ∷ cs))
+other_value_in (c ∷ cs) = if c == QUOTE then option_map written.Text (text_in (c ∷ cs))
+    else if c == LITERAL_MARK then option_map written.Literal (name_in cs)
+    else if c == OBJECT_MARK then option_map (λ n. written.Object (object n)) (natural cs)
+    else option_map written.Int (integer (c ∷ cs))
 
-abbrev pub value_in : List ℕ → Option Word
-value_in w = if bytes_eq w (codes "null") then Some word.Null
-    else if bytes_eq w (codes "true") then Some (word.Bool true)
-    else if bytes_eq w (codes "false") then Some (word.Bool false)
+abbrev pub value_in : List ℕ → Option WrittenValue
+value_in w = if bytes_eq w (codes "null") then Some written.Null
+    else if bytes_eq w (codes "true") then Some (written.Bool true)
+    else if bytes_eq w (codes "false") then Some (written.Bool false)
     else other_value_in w

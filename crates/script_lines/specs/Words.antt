@@ -1,29 +1,34 @@
 -- The words of a line: they are separated by spaces, and a word that begins with a quotation mark goes on
 -- to the next one that no backslash escapes.
-use Rattle.std.specs.Prelude.{ℕ, zero, suc, ◌==◌, ◌-◌, Bool, true, false, List, [], ◌∷◌, take, length, position, unwrap_or, if◌then◌else◌}
+use Rattle.std.specs.Prelude.{ℕ, zero, suc, ◌==◌, ◌-◌, Bool, true, false, List, [], ◌∷◌, take, if◌then◌else◌}
+use Rattle.std.specs.List.{position_or_len}
+use Rattle.script_lines.specs.declared.grammar.TheConstants.{BACKSLASH, QUOTE, SPACE}
+
+abbrev pub is_space : ℕ → Bool
+is_space c = c == SPACE
 
 -- how many bytes stand before the first space
 abbrev pub plain_len : List ℕ → ℕ
-plain_len bs = unwrap_or (position (λ c. c == 32) bs) (length bs)
+plain_len = position_or_len is_space
 
--- how many bytes a word has left behind its first quotation mark: up to the next one that no backslash
--- escapes, and from there to the next space
+-- how many bytes of a word follow its first quotation mark: up to the next one that no backslash escapes, and from
+-- there to the next space
 abbrev pub quoted_len : Bool → List ℕ → ℕ
 quoted_len escaped [] = 0
 quoted_len true (c ∷ cs) = suc (quoted_len false cs)
-quoted_len false (c ∷ cs) = if c == 34 then suc (plain_len cs)
-    else if c == 92 then suc (quoted_len true cs) else suc (quoted_len false cs)
+quoted_len false (c ∷ cs) = if c == QUOTE then suc (plain_len cs)
+    else if c == BACKSLASH then suc (quoted_len true cs) else suc (quoted_len false cs)
 
 -- how long the word is that begins here
 abbrev pub word_len : List ℕ → ℕ
 word_len [] = 0
-word_len (c ∷ cs) = if c == 34 then suc (quoted_len false cs) else suc (plain_len cs)
+word_len (c ∷ cs) = if c == QUOTE then suc (quoted_len false cs) else suc (plain_len cs)
 
 -- the words behind the next k bytes
 abbrev pub words_after : ℕ → List ℕ → List (List ℕ)
 words_after k [] = []
 words_after (suc k) (c ∷ cs) = words_after k cs
-words_after zero (c ∷ cs) = if c == 32 then words_after 0 cs
+words_after zero (c ∷ cs) = if is_space c then words_after 0 cs
     else take (word_len (c ∷ cs)) (c ∷ cs) ∷ words_after (word_len (c ∷ cs) - 1) cs
 
 abbrev pub words : List ℕ → List (List ℕ)

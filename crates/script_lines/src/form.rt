@@ -1,35 +1,36 @@
 //! What a line asks for.
-use crate::word::Word;
-use mm_types::{Node, ObjectNo, Text};
+use crate::name::Name;
+use crate::written_value::WrittenValue;
+use mm_types::{Node, ObjectNo};
 
-/// What a line asks for, its classes and features by the names that stand in it.
-#[derive(Debug, Drop)]
-pub enum Form {
-    /// An object of a class (EMF: EFactory.create).
+/// What a line asks for. Classes and features are given by the names that stand in the line.
+#[derive(Drop)]
+pub enum Form<'a> {
+    /// A new object of a class (EMF: EFactory.create).
     New {
-        class: Text,
+        class: Name<'a>,
     },
-    /// A single value put into a feature (EMF: EObject.eSet).
+    /// A single value for a feature (EMF: EObject.eSet).
     Set {
         node: Node,
-        feature: Text,
-        value: Word,
+        feature: Name<'a>,
+        value: WrittenValue<'a>,
     },
     /// A feature taken back to its default (EMF: EObject.eUnset).
     Unset {
         node: Node,
-        feature: Text,
+        feature: Name<'a>,
     },
     /// Whether a feature is set (EMF: EObject.eIsSet).
     IsSet {
         node: Node,
-        feature: Text,
+        feature: Name<'a>,
     },
     /// The class of an object (EMF: EObject.eClass).
     Class(ObjectNo),
     /// What a feature holds (EMF: EObject.eGet).
     Get {
         node: Node,
-        feature: Text,
+        feature: Name<'a>,
     },
 }

@@ -3,21 +3,20 @@
 #![tactic(auto)]
 
 mod form;
+pub mod grammar;
 pub mod laws;
 mod line;
 mod lines;
-mod memory;
+mod name;
 mod parse;
+mod texts;
 mod values;
-mod word;
 mod words;
+mod written_value;
 
 pub use form::Form;
 pub use line::Line;
 pub use lines::next_line;
-pub use memory::Memory;
+pub use name::Name;
 pub use parse::parse_line;
-pub use word::Word;
-
-#[cfg(test)]
-mod tests;
+pub use written_value::WrittenValue;

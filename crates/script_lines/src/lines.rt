@@ -1,18 +1,20 @@
 //! The lines of a script.
 ghost use Rattle.std.specs.Prelude.{◌≡◌, ◌≤◌, ◌+◌, drop, length};
-ghost use Rattle.script_lines.specs.Lines.{Takes, line_len};
+ghost use Rattle.std.specs.List.{position_or_len};
+ghost use Rattle.script_lines.specs.Lines.{CutsLine, is_newline};
+
+use crate::grammar::NEWLINE;
+use memchr::memchr;
 
 /// How many bytes stand before the first newline.
 fn line_len_of(bytes: &[u8]) -> usize
-    ensures value { result ≡ line_len bytes.now }
+    ensures value { result ≡ position_or_len is_newline bytes.now }
     ensures within { result ≤ length bytes.now }
 {
-    'bytes: for (i, byte) in bytes.iter().enumerate() {
-        if *byte == b'\n' {
-            return i;
-        }
+    match memchr(NEWLINE, bytes) {
+        Some(n) => n,
+        None => bytes.len(),
     }
-    bytes.len()
 }
 
 /// What follows a line of `n` bytes and its newline.
@@ -27,11 +29,11 @@ fn after_line(bytes: &[u8], n: usize) -> &[u8]
     }
 }
 
-/// The first line of a script, without its newline, and what follows it; `None` where there is no line.
+/// The first line of a script, without its newline, and what follows that newline; `None` where the script is empty.
 ///
-/// A script's lines end with newlines, but the last need not.
+/// The last line of a script need not end with a newline: then nothing follows it.
 pub fn next_line(bytes: &[u8]) -> Option<(&[u8], &[u8])>
-    ensures { Takes result bytes.now }
+    ensures { CutsLine result bytes.now }
 {
     if bytes.is_empty() {
         return None;

@@ -4,73 +4,57 @@ ghost use Rattle.script_lines.specs.Forms.{class_form, form, form_of as the_form
 
 use crate::form::Form;
 use crate::line::Line;
-use crate::memory::Memory;
-use crate::values::{name_of, node_of, object_of, value_of};
+use crate::name::Name;
+use crate::values::{feature_of, object_of, value_of};
 use crate::words::words_of;
-use std::alloc::Global;
+use std::alloc::{AllocError, Global};
 use std::str;
 
 /// `new NAME`
-fn new_of(alloc: Global, class: &[u8]) -> Result<Option<Form>, Memory>
-    ensures { IfOk result (λ o. o ≡ new_form class.now) }
+fn new_of(class: &str) -> Option<Form<'_>>
+    ensures { result ≡ new_form class.now }
 {
-    Ok(name_of(alloc, class)?.map(|class| Form::New { class }))
-}
-
-/// `get NODE NAME`
-fn get_of(alloc: Global, node: &[u8], feature: &[u8]) -> Result<Option<Form>, Memory>
-    ensures { IfOk result (λ o. o ≡ get_form node.now feature.now) }
-{
-    let Some(node) = node_of(node) else {
-        return Ok(None);
-    };
-    let Some(feature) = name_of(alloc, feature)? else {
-        return Ok(None);
-    };
-    Ok(Some(Form::Get { node, feature }))
+    Name::from_word(class).map(|class| Form::New { class })
 }
 
 /// `class OBJ`
-fn class_of(object: &[u8]) -> Option<Form>
+fn class_of(object: &str) -> Option<Form<'static>>
     ensures { result ≡ class_form object.now }
 {
-    object_of(object).map(Form::Class)
+    Some(Form::Class(object_of(object)?))
+}
+
+/// `get NODE NAME`
+fn get_of<'a>(node: &str, feature: &'a str) -> Option<Form<'a>>
+    ensures { result ≡ get_form node.now feature.now }
+{
+    feature_of(node, feature).map(|(node, feature)| Form::Get { node, feature })
 }
 
 /// `isset NODE NAME`
-fn isset_of(alloc: Global, node: &[u8], feature: &[u8]) -> Result<Option<Form>, Memory>
-    ensures { IfOk result (λ o. o ≡ isset_form node.now feature.now) }
+fn isset_of<'a>(node: &str, feature: &'a str) -> Option<Form<'a>>
+    ensures { result ≡ isset_form node.now feature.now }
 {
-    let Some(node) = node_of(node) else {
-        return Ok(None);
-    };
-    let Some(feature) = name_of(alloc, feature)? else {
-        return Ok(None);
-    };
-    Ok(Some(Form::IsSet { node, feature }))
+    feature_of(node, feature).map(|(node, feature)| Form::IsSet { node, feature })
 }
 
 /// `unset NODE NAME`
-fn unset_of(alloc: Global, node: &[u8], feature: &[u8]) -> Result<Option<Form>, Memory>
-    ensures { IfOk result (λ o. o ≡ unset_form node.now feature.now) }
+fn unset_of<'a>(node: &str, feature: &'a str) -> Option<Form<'a>>
+    ensures { result ≡ unset_form node.now feature.now }
 {
-    let Some(node) = node_of(node) else {
-        return Ok(None);
-    };
-    let Some(feature) = name_of(alloc, feature)? else {
-        return Ok(None);
-    };
-    Ok(Some(Form::Unset { node, feature }))
+    feature_of(node, feature).map(|(node, feature)| Form::Unset { node, feature })
 }
 
 /// `set NODE NAME VALUE`
-fn set_of(alloc: Global, node: &[u8], feature: &[u8], value: &[u8]) -> Result<Option<Form>, Memory>
+fn set_of<'a>(
+    alloc: Global,
+    node: &str,
+    feature: &'a str,
+    value: &'a str,
+) -> Result<Option<Form<'a>>, AllocError>
     ensures { IfOk result (λ o. o ≡ set_form node.now feature.now value.now) }
 {
-    let Some(node) = node_of(node) else {
-        return Ok(None);
-    };
-    let Some(feature) = name_of(alloc, feature)? else {
+    let Some((node, feature)) = feature_of(node, feature) else {
         return Ok(None);
     };
     let Some(value) = value_of(alloc, value)? else {
@@ -83,45 +67,45 @@ fn set_of(alloc: Global, node: &[u8], feature: &[u8], value: &[u8]) -> Result<Op
     }))
 }
 
-/// The forms of a verb and one argument.
-fn with_one_of(alloc: Global, verb: &[u8], a: &[u8]) -> Result<Option<Form>, Memory>
-    ensures { IfOk result (λ o. o ≡ with_one verb.now a.now) }
+/// The form of a verb and one argument.
+fn with_one_of<'a>(verb: &str, a: &'a str) -> Option<Form<'a>>
+    ensures { result ≡ with_one verb.now a.now }
 {
-    if verb == b"new".as_slice() {
-        new_of(alloc, a)
-    } else if verb == b"class".as_slice() {
-        Ok(class_of(a))
+    if verb == "new" {
+        new_of(a)
+    } else if verb == "class" {
+        class_of(a)
     } else {
-        Ok(None)
+        None
     }
 }
 
-/// The forms of a verb and two arguments.
-fn with_two_of(alloc: Global, verb: &[u8], a: &[u8], b: &[u8]) -> Result<Option<Form>, Memory>
-    ensures { IfOk result (λ o. o ≡ with_two verb.now a.now b.now) }
+/// The form of a verb and two arguments.
+fn with_two_of<'a>(verb: &str, a: &str, b: &'a str) -> Option<Form<'a>>
+    ensures { result ≡ with_two verb.now a.now b.now }
 {
-    if verb == b"get".as_slice() {
-        get_of(alloc, a, b)
-    } else if verb == b"isset".as_slice() {
-        isset_of(alloc, a, b)
-    } else if verb == b"unset".as_slice() {
-        unset_of(alloc, a, b)
+    if verb == "get" {
+        get_of(a, b)
+    } else if verb == "isset" {
+        isset_of(a, b)
+    } else if verb == "unset" {
+        unset_of(a, b)
     } else {
-        Ok(None)
+        None
     }
 }
 
-/// The forms of a verb and three arguments.
-fn with_three_of(
+/// The form of a verb and three arguments.
+fn with_three_of<'a>(
     alloc: Global,
-    verb: &[u8],
-    a: &[u8],
-    b: &[u8],
-    c: &[u8],
-) -> Result<Option<Form>, Memory>
+    verb: &str,
+    a: &str,
+    b: &'a str,
+    c: &'a str,
+) -> Result<Option<Form<'a>>, AllocError>
     ensures { IfOk result (λ o. o ≡ with_three verb.now a.now b.now c.now) }
 {
-    if verb == b"set".as_slice() {
+    if verb == "set" {
         set_of(alloc, a, b, c)
     } else {
         Ok(None)
@@ -129,21 +113,21 @@ fn with_three_of(
 }
 
 /// The form of a verb and its arguments.
-fn form_of(alloc: Global, words: &[&[u8]]) -> Result<Option<Form>, Memory>
+fn form_of<'a>(alloc: Global, words: &[&'a str]) -> Result<Option<Form<'a>>, AllocError>
     ensures { IfOk result (λ o. o ≡ the_form_of (map (λ w. w.now) words.now)) }
 {
     match words {
         [] => Ok(None),
         [_] => Ok(None),
-        [verb, a] => with_one_of(alloc, verb, a),
-        [verb, a, b] => with_two_of(alloc, verb, a, b),
+        [verb, a] => Ok(with_one_of(verb, a)),
+        [verb, a, b] => Ok(with_two_of(verb, a, b)),
         [verb, a, b, c] => with_three_of(alloc, verb, a, b, c),
         _ => Ok(None),
     }
 }
 
 /// What the words of a line ask for.
-fn line_of(alloc: Global, words: &[&[u8]]) -> Result<Line, Memory>
+fn line_of<'a>(alloc: Global, words: &[&'a str]) -> Result<Line<'a>, AllocError>
     ensures { IfOk result (λ l. l ≡ the_line_of (map (λ w. w.now) words.now)) }
 {
     if words.is_empty() {
@@ -155,19 +139,16 @@ fn line_of(alloc: Global, words: &[&[u8]]) -> Result<Line, Memory>
     }
 }
 
-/// What a line asks for. Errs only where memory is refused.
+/// What a line asks for. Errs only where memory is refused for the text that the line writes as a value.
 ///
 /// A line is the bytes between two newlines, without them. It is blank where it is empty or has only
-/// spaces, and bad where it is not UTF-8 or fits no form of the language; the time is linear in its
+/// spaces, and bad where it is not UTF-8 or fits no form of the language. The time is linear in its
 /// length.
-pub fn parse_line(alloc: Global, line: &[u8]) -> Result<Line, Memory>
+pub fn parse_line(alloc: Global, line: &[u8]) -> Result<Line<'_>, AllocError>
     ensures { IfOk result (λ l. l ≡ form line.now) }
 {
     match str::from_utf8(line) {
-        Ok(_) => {
-            let words = words_of(alloc, line)?;
-            line_of(alloc, words.as_slice())
-        }
+        Ok(line) => line_of(alloc, words_of(line).as_slice()),
         Err(_) => Ok(Line::Bad),
     }
 }

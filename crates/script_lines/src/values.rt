@@ -1,105 +1,96 @@
-//! Names, nodes and values, each from one word.
-ghost use Rattle.std.specs.Prelude.{◌≡◌, IfOk};
-ghost use Rattle.serde_json.specs.Find.{as_str};
-ghost use Rattle.serde_json.specs.View.{view};
-ghost use Rattle.script_lines.specs.Values.{name_in, node_in, object_in, other_value_in, text_in, value_in};
+//! Nodes, features and values, read from words.
+ghost use Rattle.std.specs.Prelude.{◌≡◌, ◌≢◌, ◌<◌, IfOk, length, option_map, slice_index};
+ghost use Rattle.script_lines.specs.Values.{feature_in, node_in, object_in, other_value_in, text_in, value_in};
+ghost use Rattle.script_lines.specs.declared.written_value.WrittenValue.TheVariants as written;
 
-use crate::memory::Memory;
-use crate::word::Word;
+use crate::grammar::{LITERAL_MARK, OBJECT_MARK, QUOTE, RESOURCE_MARK};
+use crate::name::Name;
+use crate::texts::text_of;
+use crate::words::after_byte;
+use crate::written_value::WrittenValue;
 use mm_types::integers::{integer_of, natural_of};
-use mm_types::names::is_name;
-use mm_types::{Node, ObjectNo, ResourceNo, Text};
-use serde_json::Value;
-use std::alloc::Global;
-use std::str;
-
-/// The text that a word is, where it is a name.
-pub fn name_of(alloc: Global, word: &[u8]) -> Result<Option<Text>, Memory>
-    ensures { IfOk result (λ o. o ≡ name_in word.now) }
-{
-    if !is_name(word) {
-        return Ok(None);
-    }
-    match str::from_utf8(word) {
-        Ok(name) => Ok(Some(Text::from_str(alloc, name)?)),
-        Err(_) => unreachable!(),
-    }
-}
+use mm_types::{Node, ObjectNo, ResourceNo};
+use std::alloc::{AllocError, Global};
 
 /// The object that a word names: `#3`.
-pub fn object_of(word: &[u8]) -> Option<ObjectNo>
+pub fn object_of(word: &str) -> Option<ObjectNo>
     ensures { result ≡ object_in word.now }
 {
-    let (first, number) = word.split_first()?;
-    match first {
-        b'#' => natural_of(number).map(ObjectNo),
+    let (first, number) = word.as_bytes().split_first()?;
+    match *first {
+        OBJECT_MARK => natural_of(number).map(ObjectNo),
         _ => None,
     }
 }
 
 /// The node that a word names: `#3` or `r0`.
-pub fn node_of(word: &[u8]) -> Option<Node>
+fn node_of(word: &str) -> Option<Node>
     ensures { result ≡ node_in word.now }
 {
-    let (first, number) = word.split_first()?;
-    match first {
-        b'#' => natural_of(number).map(|n| Node::Object(ObjectNo(n))),
-        b'r' => natural_of(number).map(|n| Node::Resource(ResourceNo(n))),
+    let (first, number) = word.as_bytes().split_first()?;
+    match *first {
+        OBJECT_MARK => natural_of(number).map(|n| Node::Object(ObjectNo(n))),
+        RESOURCE_MARK => natural_of(number).map(|n| Node::Resource(ResourceNo(n))),
         _ => None,
     }
 }
 
-/// The text that a JSON value is, which is moved.
-fn string_of(value: Value) -> Option<Text>
-    ensures { result ≡ as_str (view value) }
+/// The node, and the name of one of its features, that two words give: `#3 pages`.
+pub fn feature_of<'a>(node: &str, name: &'a str) -> Option<(Node, Name<'a>)>
+    ensures { result ≡ feature_in node.now name.now }
 {
-    match value {
-        Value::String(text) => Some(Text::from_string(text)),
-        _ => None,
+    node_of(node).zip(Name::from_word(name))
+}
+
+/// The text that a word writes, as a value.
+fn text_value_of(alloc: Global, word: &str) -> Result<Option<WrittenValue<'_>>, AllocError>
+    ensures { IfOk result (λ o. o ≡ option_map written.Text (text_in word.now)) }
+{
+    match text_of(alloc, word)? {
+        Some(text) => Ok(Some(WrittenValue::Text(text))),
+        None => Ok(None),
     }
 }
 
-/// The text that a word writes as a JSON string.
-fn text_of(alloc: Global, word: &[u8]) -> Result<Option<Text>, Memory>
-    ensures { IfOk result (λ o. o ≡ text_in word.now) }
+/// The literal, object or number that a word writes; its first byte says which of them.
+fn plain_value_of(word: &str) -> Option<WrittenValue<'_>>
+    requires some { 0 < length word.now }
+    requires no_text { slice_index word.now 0 ≢ QUOTE }
+    ensures { result ≡ other_value_in word.now }
 {
-    if word.is_empty() || word[word.len() - 1] != b'"' {
-        return Ok(None);
-    }
-    match Value::from_slice(alloc, word) {
-        Ok(value) => Ok(string_of(value)),
-        Err(error) if error.is_memory() => Err(Memory),
-        Err(_) => Ok(None),
+    let rest = &word.as_bytes()[1..];
+    match word.as_bytes()[0] {
+        LITERAL_MARK => Some(WrittenValue::Literal(Name::from_word(after_byte(word))?)),
+        OBJECT_MARK => Some(WrittenValue::Object(ObjectNo(natural_of(rest)?))),
+        _ => Some(WrittenValue::Int(integer_of(word.as_bytes())?)),
     }
 }
 
-/// The value that a word writes, told by its first byte.
-fn other_value_of(alloc: Global, word: &[u8]) -> Result<Option<Word>, Memory>
+/// The text, literal, object or number that a word writes; its first byte says which of them.
+fn other_value_of(alloc: Global, word: &str) -> Result<Option<WrittenValue<'_>>, AllocError>
     ensures { IfOk result (λ o. o ≡ other_value_in word.now) }
 {
-    let Some((first, rest)) = word.split_first() else {
+    if word.is_empty() {
         return Ok(None);
-    };
-    match first {
-        b'"' => Ok(text_of(alloc, word)?.map(Word::Text)),
-        b':' => Ok(name_of(alloc, rest)?.map(Word::Literal)),
-        b'#' => Ok(natural_of(rest).map(|n| Word::Object(ObjectNo(n)))),
-        _ => Ok(integer_of(word).map(Word::Int)),
     }
+    if word.as_bytes()[0] == QUOTE {
+        return text_value_of(alloc, word);
+    }
+    Ok(plain_value_of(word))
 }
 
 /// The value that a word writes.
-pub fn value_of(alloc: Global, word: &[u8]) -> Result<Option<Word>, Memory>
+pub fn value_of(alloc: Global, word: &str) -> Result<Option<WrittenValue<'_>>, AllocError>
     ensures { IfOk result (λ o. o ≡ value_in word.now) }
 {
-    if word == b"null".as_slice() {
-        return Ok(Some(Word::Null));
+    if word == "null" {
+        return Ok(Some(WrittenValue::Null));
     }
-    if word == b"true".as_slice() {
-        return Ok(Some(Word::Bool(true)));
+    if word == "true" {
+        return Ok(Some(WrittenValue::Bool(true)));
     }
-    if word == b"false".as_slice() {
-        return Ok(Some(Word::Bool(false)));
+    if word == "false" {
+        return Ok(Some(WrittenValue::Bool(false)));
     }
     other_value_of(alloc, word)
 }

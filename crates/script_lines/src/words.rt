@@ -1,20 +1,22 @@
-//! A line is cut into words at its spaces; a word that begins with a quotation mark goes on to the next one.
-ghost use Rattle.std.specs.Prelude.{◌≡◌, ◌==◌, ◌<◌, ◌≤◌, IfOk, IfSome, false, length, map, position, take};
-ghost use Rattle.script_lines.specs.Words.{plain_len, quoted_len, word_len, words};
+//! A line is cut into words at its spaces. A word that begins with a quotation mark goes on to the next one.
+ghost use Rattle.std.specs.Prelude.{◌≡◌, ◌<◌, ◌≤◌, drop, false, length, map, position, slice_index, take};
+ghost use Rattle.std.specs.Str.{IsUtf8};
+ghost use Rattle.script_lines.specs.Words.{is_space, plain_len, quoted_len, word_len, words};
 
-use std::alloc::{AllocError, Global};
+use crate::grammar::{BACKSLASH, QUOTE, SPACE};
+use arrayvec::ArrayVec;
 
 fn first_space(bytes: &[u8]) -> Option<usize>
-    ensures value { result ≡ position (λ c. c == 32) bytes.now }
-    ensures within { IfSome result (λ n. n < length bytes.now) }
+    ensures { result ≡ position is_space bytes.now }
 {
-    bytes.iter().position(|b| *b == b' ')
+    bytes.iter().position(|b| *b == SPACE)
 }
 
 /// How many bytes stand before the first space.
 fn plain_len_of(bytes: &[u8]) -> usize
     ensures value { result ≡ plain_len bytes.now }
     ensures within { result ≤ length bytes.now }
+    ensures end { result < length bytes.now → slice_index bytes.now result ≡ SPACE }
 {
     match first_space(bytes) {
         Some(n) => n,
@@ -22,18 +24,19 @@ fn plain_len_of(bytes: &[u8]) -> usize
     }
 }
 
-/// How many bytes a word has left behind its first quotation mark.
+/// How many bytes of a word follow its first quotation mark.
 fn quoted_len_of(bytes: &[u8]) -> usize
     ensures value { result ≡ quoted_len false bytes.now }
     ensures within { result ≤ length bytes.now }
+    ensures end { result < length bytes.now → slice_index bytes.now result ≡ SPACE }
 {
     let mut escaped = false;
     'bytes: for (i, byte) in bytes.iter().enumerate() {
         if escaped {
             escaped = false;
-        } else if *byte == b'"' {
+        } else if *byte == QUOTE {
             return i + 1 + plain_len_of(&bytes[i + 1..]);
-        } else if *byte == b'\\' {
+        } else if *byte == BACKSLASH {
             escaped = true;
         }
     }
@@ -46,33 +49,53 @@ fn word_len_of(bytes: &[u8]) -> usize
     ensures value { result ≡ word_len bytes.now }
     ensures some { 0 < result }
     ensures within { result ≤ length bytes.now }
+    ensures end { result < length bytes.now → slice_index bytes.now result ≡ SPACE }
 {
     let rest = &bytes[1..];
-    if bytes[0] == b'"' {
+    if bytes[0] == QUOTE {
         1 + quoted_len_of(rest)
     } else {
         1 + plain_len_of(rest)
     }
 }
 
-/// One word more than the longest form has: what follows can't make a form of a line.
-const MOST_WORDS: usize = 5;
-
-/// The first words of a line, as many as tell which form it fits: a line of many words takes no more
-/// memory than one of a few.
-pub fn words_of<'a>(alloc: Global, line: &'a [u8]) -> Result<Vec<&'a [u8]>, AllocError>
-    ensures { IfOk result (λ v. map (λ w. w.now) v.items ≡ take 5 (words line.now)) }
+/// The word that a text begins with, and what follows it.
+fn first_word(text: &str) -> (&str, &str)
+    requires { 0 < length text.now }
+    ensures word { result.0.now ≡ take (word_len text.now) text.now }
+    ensures rest { result.1.now ≡ drop (word_len text.now) text.now }
+    ensures shorter { length result.1.now < length text.now }
+    ensures text { IsUtf8 result.1.now }
 {
-    let mut found = Vec::new(alloc);
+    text.split_at(word_len_of(text.as_bytes()))
+}
+
+/// What follows the ASCII byte that a text begins with.
+pub fn after_byte(text: &str) -> &str
+    requires some { 0 < length text.now }
+    requires ascii { slice_index text.now 0 < 128 }
+    ensures { result.now ≡ drop 1 text.now }
+{
+    &text[1..]
+}
+
+/// How many words of a line are looked at: one more than the longest form has, since a line of more words fits none.
+pub const MOST_WORDS: usize = 5;
+
+/// The first words of a line, as many as are looked at.
+pub fn words_of(line: &str) -> ArrayVec<&str, MOST_WORDS>
+    ensures { map (λ w. w.now) result.items ≡ take MOST_WORDS (words line.now) }
+{
+    let mut found = ArrayVec::new();
     let mut rest = line;
-    'words: while !rest.is_empty() && found.len() < MOST_WORDS {
-        if rest[0] == b' ' {
-            rest = &rest[1..];
+    'words: while !rest.is_empty() && !found.is_full() {
+        if rest.as_bytes()[0] == SPACE {
+            rest = after_byte(rest);
         } else {
-            let n = word_len_of(rest);
-            found.push(&rest[..n])?;
-            rest = &rest[n..];
+            let (word, more) = first_word(rest);
+            found.push(word);
+            rest = more;
         }
     }
-    Ok(found)
+    found
 }

@@ -1,2 +1,3 @@
 mod OutputLemmas
-pub mod Turns
+mod ScriptLemmas
+mod LostLemmas

@@ -12,11 +12,13 @@ fault_name Memory = codes "MEMORY"
 -- a fault that stops a run before its first line
 abbrev pub IsReadOrTooLong : RunFault → Type 0
 IsReadOrTooLong Read = Unit {0}
+IsReadOrTooLong Write = ⊥
 IsReadOrTooLong TooLong = Unit {0}
-IsReadOrTooLong _ = ⊥
+IsReadOrTooLong Memory = ⊥
 
--- a fault that may stop it between lines
+-- a fault that may stop a run between lines
 abbrev pub IsWriteOrMemory : RunFault → Type 0
+IsWriteOrMemory Read = ⊥
 IsWriteOrMemory Write = Unit {0}
+IsWriteOrMemory TooLong = ⊥
 IsWriteOrMemory Memory = Unit {0}
-IsWriteOrMemory _ = ⊥

@@ -4,5 +4,7 @@ pub mod Streams
 pub mod Printed
 pub mod Bind
 pub mod Answers
+pub mod Turns
 pub mod Script
+pub mod Lost
 pub mod Summary

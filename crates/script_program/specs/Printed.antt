@@ -11,6 +11,8 @@ use Rattle.mm_types.specs.declared.numbers.Node.TheVariants as node
 use Rattle.mm_types.specs.declared.refused.Refused.{Refused}
 use Rattle.mm_types.specs.declared.value.Value.{Value}
 use Rattle.mm_types.specs.declared.value.Value.TheVariants as value
+use Rattle.script_lines.specs.declared.grammar.TheConstants.{LITERAL_MARK, OBJECT_MARK, RESOURCE_MARK, SPACE}
+use Rattle.script_program.specs.declared.output.TheConstants.{ADAPTER_MARK}
 
 -- a text as a JSON string
 abbrev pub json_text : List ℕ → List ℕ
@@ -18,24 +20,24 @@ json_text t = compact_text (string t)
 
 -- `#3` or `r0`
 abbrev pub node_text : Node → List ℕ
-node_text (node.Object o) = 35 ∷ decimal o.0
-node_text (node.Resource r) = 114 ∷ decimal r.0
+node_text (node.Object o) = OBJECT_MARK ∷ decimal o.0
+node_text (node.Resource r) = RESOURCE_MARK ∷ decimal r.0
 
--- a value; the name of the literal is told, where it is one
+-- a value; where it is a literal, `literal` is its name
 abbrev pub value_text : List ℕ → Value → List ℕ
 value_text literal value.Null = codes "null"
 value_text literal (value.Bool true) = codes "true"
 value_text literal (value.Bool false) = codes "false"
 value_text literal (value.Int n) = signed_decimal n
 value_text literal (value.Text t) = json_text t
-value_text literal (value.Literal index) = 58 ∷ literal
-value_text literal (value.Object o) = 35 ∷ decimal o.0
+value_text literal (value.Literal index) = LITERAL_MARK ∷ literal
+value_text literal (value.Object o) = OBJECT_MARK ∷ decimal o.0
 value_text literal (value.Proxy t) = codes "proxy " ++ json_text t
-value_text literal (value.Adapter a) = 65 ∷ decimal a.0
+value_text literal (value.Adapter a) = ADAPTER_MARK ∷ decimal a.0
 
 -- as ` 10 ONE_SIDED`
 abbrev pub cause_detail : DocFault → List ℕ
-cause_detail cause = 32 ∷ cause_text cause
+cause_detail cause = SPACE ∷ cause_text cause
 
 -- as `refused 8 TYPE` or `refused 18 DOCUMENT 10 ONE_SIDED`
 abbrev pub refused_text : Refused → List ℕ

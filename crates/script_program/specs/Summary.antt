@@ -2,7 +2,7 @@
 use Rattle.std.specs.Prelude.{◌≤◌, ℕ}
 use Rattle.script_program.specs.declared.summary.Summary.{Summary}
 
--- no count passes n
+-- no count is above n
 pub record IsWithin (s : Summary) (n : ℕ) : Type 0 where
   pub lines : s.lines ≤ n
   pub refused : s.refused ≤ n

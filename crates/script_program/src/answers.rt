@@ -6,14 +6,14 @@ ghost use Rattle.mm_types.specs.Lookups.{literal};
 ghost use Rattle.script_program.specs.Bind.{enum_of};
 ghost use Rattle.script_program.specs.Answers as a;
 
-use crate::bind::enum_of;
+use crate::bind::{NOTHING, enum_of};
 use crate::output::Output;
 use mm_meta::Meta;
 use mm_types::{ClassNo, FeatureNo, Node, Value};
 use repository::{Answer, Command, Failure, Reply};
 use std::alloc::AllocError;
 
-/// The feature that a command names.
+/// The feature that a command names; one of no metamodel where it names none.
 pub(crate) fn feature_of(command: &Command) -> FeatureNo
     ensures { result ≡ a.feature_of command.now }
 {
@@ -22,7 +22,7 @@ pub(crate) fn feature_of(command: &Command) -> FeatureNo
         Command::Unset { feature, .. } => *feature,
         Command::Get { feature, .. } => *feature,
         Command::IsSet { feature, .. } => *feature,
-        Command::Create(_) | Command::Class(_) => FeatureNo(u32::MAX),
+        Command::Create(_) | Command::Class(_) => FeatureNo(NOTHING),
     }
 }
 
@@ -71,7 +71,7 @@ fn print_answer(
     }
 }
 
-/// Adds the lines that a command prints; the feature is the one that it names.
+/// Adds the line that a command prints; the feature is the one that it names.
 pub(crate) fn print_outcome(
     output: &mut Output,
     meta: &Meta,

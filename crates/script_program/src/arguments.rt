@@ -13,7 +13,7 @@ const ABOUT: &str = "Runs a script over a repository of objects whose classes a 
 /// What `--help` says behind the options.
 const EXPLAINED: &str = "\
 The metamodel is a JSON document of classes, their attributes and references. The script is read
-from standard input, a line at a time, and what each line answers is printed on standard output:
+from standard input, and what each of its lines answers is printed on standard output:
 
   new Book               makes an object of a class: its number, as #0
   set #0 name \"Emma\"     sets a feature: ok
@@ -23,7 +23,7 @@ from standard input, a line at a time, and what each line answers is printed on 
   class #0               the class of an object: class Book
 
 A value is null, true, false, a number, a JSON string, :LITERAL or #N. A line that can't be done
-prints why, as `refused 8 TYPE`, and changes nothing; a line that is none prints `bad line`.
+prints why, as `refused 8 TYPE`, and changes nothing; a line that does not parse prints `bad line`.
 
 Example:
   printf 'new Book\\nset #0 name \"Emma\"\\nget #0 name\\n' | mmrepo --meta library.json
@@ -31,15 +31,13 @@ Example:
 Exit status: 0 the script was run, 1 the metamodel is refused, 2 wrong arguments, 3 the run stopped
 because a stream failed, the input is too long or memory was refused.";
 
-/// The value of `--meta`, among the words that the program was called with: the first word is the
-/// program's name.
+/// The value of `--meta` among the words of the command line, the first of which is the program's name.
 ///
-/// Errs as `clap` does: with the text of `--help`, with what is wrong in the words, or for want of
-/// memory.
+/// Errs as `clap` does: with the text of `--help`, with what is wrong in the words, or where memory is refused.
 pub fn meta_file<'a>(alloc: Global, words: &'a [&'a str]) -> Result<&'a str, Error>
     // It is the first value that the words give `--meta`.
     ensures value { IfOk result (λ file. first_of (codes "meta") (matches_of program (texts words.entry.now)) ≡ Some file.now) }
-    // Words that the command line takes are refused for want of memory alone.
+    // Words that fit the command line are refused only where memory is.
     ensures passes { IfErr result (λ e. takes program (texts words.entry.now) ≡ true → kind_of e ≡ ErrorKind.OutOfMemory) }
 {
     let meta = Arg::new(alloc, "meta")

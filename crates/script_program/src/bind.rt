@@ -5,15 +5,15 @@ ghost use Rattle.script_program.specs.Bind as b;
 use mm_meta::Meta;
 use mm_types::{ClassNo, DataType, FeatureNo, Kind, Node, Value};
 use repository::{Command, Repository};
-use script_lines::{Form, Word};
+use script_lines::{Form, WrittenValue};
 
-/// The number that no class, no feature and no literal has.
-const NOTHING: u32 = u32::MAX;
+/// A number that no class, no feature and no literal has.
+pub(crate) const NOTHING: u32 = u32::MAX;
 
-/// The command that a form asks for, its classes, features and literals by number. What the metamodel has no name for
-/// gets a number that nothing has, so that the repository refuses it. Takes no memory.
-pub(crate) fn bind(repository: &Repository, form: Form) -> Command
-    ensures { result ≡ b.bind repository.now form }
+/// The command that a form asks for: the names of classes, features and literals are looked up in the metamodel. A name
+/// that is not there gets the number `NOTHING`, so that the repository refuses the command. Takes no memory.
+pub(crate) fn bind(repository: &Repository, form: Form<'_>) -> Command
+    ensures { result ≡ b.bind repository.now form.entry }
 {
     match form {
         Form::New { class } => Command::Create(class_number(repository.meta(), class.as_str())),
@@ -41,13 +41,13 @@ pub(crate) fn bind(repository: &Repository, form: Form) -> Command
     }
 }
 
-fn set_command(meta: &Meta, node: Node, feature: FeatureNo, value: Word) -> Command
-    ensures { result ≡ b.set_command meta.now node feature value }
+fn set_command(meta: &Meta, node: Node, feature: FeatureNo, written: WrittenValue<'_>) -> Command
+    ensures { result ≡ b.set_command meta.now node feature written.entry }
 {
     Command::Set {
         node,
         feature,
-        value: value_in(meta, feature, value),
+        value: value_in(meta, feature, written),
     }
 }
 
@@ -99,7 +99,7 @@ fn enum_of_type(value_type: DataType) -> Option<u32>
 {
     match value_type {
         DataType::Enum(e) => Some(e),
-        _ => None,
+        DataType::EString | DataType::EInt | DataType::ELong | DataType::EBoolean => None,
     }
 }
 
@@ -112,15 +112,15 @@ fn literal_number(meta: &Meta, feature: FeatureNo, name: &str) -> u32
     meta.literal_by_name(e, name).unwrap_or(NOTHING)
 }
 
-fn value_in(meta: &Meta, feature: FeatureNo, word: Word) -> Value
-    ensures { result ≡ b.value_in meta.now feature word }
+fn value_in(meta: &Meta, feature: FeatureNo, written: WrittenValue<'_>) -> Value
+    ensures { result ≡ b.value_in meta.now feature written.entry }
 {
-    match word {
-        Word::Null => Value::Null,
-        Word::Bool(flag) => Value::Bool(flag),
-        Word::Int(n) => Value::Int(n),
-        Word::Text(text) => Value::Text(text),
-        Word::Literal(name) => Value::Literal(literal_number(meta, feature, name.as_str())),
-        Word::Object(object) => Value::Object(object),
+    match written {
+        WrittenValue::Null => Value::Null,
+        WrittenValue::Bool(flag) => Value::Bool(flag),
+        WrittenValue::Int(n) => Value::Int(n),
+        WrittenValue::Text(text) => Value::Text(text),
+        WrittenValue::Literal(name) => Value::Literal(literal_number(meta, feature, name.as_str())),
+        WrittenValue::Object(object) => Value::Object(object),
     }
 }

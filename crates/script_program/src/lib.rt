@@ -1,9 +1,10 @@
-//! The program's parts: its command line, the reading of a script, what a run prints, and its writing.
+//! The program's parts: its command line, reading a script, running it, and writing what it prints.
 #![tactic(auto)]
 
 mod answers;
 mod arguments;
 mod bind;
+pub mod laws;
 mod line;
 mod output;
 mod reading;
@@ -15,11 +16,8 @@ mod writing;
 
 pub use arguments::meta_file;
 pub use output::Output;
-pub use reading::{MAX_INPUT, read_all};
+pub use reading::read_all;
 pub use run_fault::RunFault;
 pub use script::run;
 pub use summary::Summary;
 pub use writing::write_all;
-
-#[cfg(test)]
-mod tests;

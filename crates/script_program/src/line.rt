@@ -1,8 +1,8 @@
-//! A line of a script is taken.
-ghost use Rattle.std.specs.Prelude.{◌≡◌, [], IsTrue, IfOk};
+//! A line of a script is run.
+ghost use Rattle.std.specs.Prelude.{◌≡◌, [], IfOk};
 ghost use Rattle.script_lines.specs.Forms as forms;
-ghost use Rattle.script_program.specs.Bind as b;
-ghost use Rattle.script_program.specs.Script.{is_form, is_lost, outcome_turn, take_command, take_line};
+ghost use Rattle.script_program.specs.Script.{RunsCommand, RunsLine};
+ghost use Rattle.script_program.specs.Turns.{outcome_turn};
 
 use crate::answers::{feature_of, print_outcome};
 use crate::bind::bind;
@@ -10,10 +10,10 @@ use crate::output::Output;
 use crate::turn::Turn;
 use mm_types::Refused;
 use repository::{Command, Failure, Reply, Repository};
-use script_lines::{Line, Memory, parse_line};
-use std::alloc::Global;
+use script_lines::{Line, parse_line};
+use std::alloc::{AllocError, Global};
 
-/// As what an outcome counts.
+/// How the outcome of a command is counted.
 fn turn_of(outcome: &Result<Reply, Failure>) -> Turn
     ensures { result ≡ outcome_turn outcome.now }
 {
@@ -29,14 +29,14 @@ fn turn_of(outcome: &Result<Reply, Failure>) -> Turn
     }
 }
 
-/// Does a command and prints what it answers. Errs where memory is refused for what is printed.
-fn take_one(
+/// Executes a command and prints what it answers. Errs where memory is refused for what is printed.
+fn run_command(
     repository: &mut Repository,
     output: &mut Output,
     command: Command,
-) -> Result<Turn, Memory>
+) -> Result<Turn, AllocError>
     requires { output.old ≡ [] }
-    ensures { IfOk result (λ t. take_command (is_lost t) repository.old command ≡ record { printed = record { text = output.new; turn = t }; after = repository.new }) }
+    ensures { IfOk result (λ t. RunsCommand repository.old command (record { text = output.new; turn = t }) repository.new) }
 {
     let feature = feature_of(&command);
     let outcome = repository.execute(command);
@@ -44,17 +44,18 @@ fn take_one(
     Ok(turn_of(&outcome))
 }
 
-/// Takes a line: parses it, does what it asks for and prints the answer. Errs where memory is refused to the program
-/// itself; a repository's want of memory is printed as a refusal.
-pub(crate) fn take(
+/// Runs a line: parses it, executes the command that it asks for and prints what that answers.
+///
+/// Errs where memory is refused to the program itself. A command that the repository answers out of memory prints that
+/// refusal.
+pub(crate) fn run_line(
     alloc: Global,
     repository: &mut Repository,
     output: &mut Output,
     line: &[u8],
-) -> Result<Turn, Memory>
+) -> Result<Turn, AllocError>
     requires { output.old ≡ [] }
-    ensures taken { IfOk result (λ t. take_line (is_lost t) repository.old (forms.form line.now) ≡ record { printed = record { text = output.new; turn = t }; after = repository.new }) }
-    ensures lost { IfOk result (λ t. IsTrue (is_lost t) → IsTrue (is_form (forms.form line.now))) }
+    ensures { IfOk result (λ t. RunsLine repository.old (forms.form line.now) (record { text = output.new; turn = t }) repository.new) }
 {
     match parse_line(alloc, line)? {
         Line::Blank => Ok(Turn::Blank),
@@ -64,7 +65,7 @@ pub(crate) fn take(
         }
         Line::Form(form) => {
             let command = bind(repository, form);
-            take_one(repository, output, command)
+            run_command(repository, output, command)
         }
     }
 }

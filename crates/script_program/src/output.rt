@@ -7,9 +7,13 @@ ghost use Rattle.script_program.specs.Printed.{cause_detail, json_text, node_tex
 
 use json::Writer;
 use mm_types::{DocFault, Node, Refused, Value};
+use script_lines::grammar::{LITERAL_MARK, OBJECT_MARK, RESOURCE_MARK, SPACE};
 use std::alloc::{AllocError, Global};
 use std::marker::Model;
 use std::mem;
+
+/// Stands before the number of an adapter: `A7`.
+const ADAPTER_MARK: u8 = b'A';
 
 /// A text that grows at its end, seen as its bytes. Where memory is refused it stays as it was.
 #[derive(Drop)]
@@ -59,6 +63,14 @@ impl Output {
         self.bytes.extend_from_slice(text.as_bytes())
     }
 
+    fn byte(&mut self, byte: u8) -> Result<(), AllocError>
+        ensures ok { OnOk result (self.new ≡ self.old ++ byte ∷ []) }
+        ensures err { OnErr result (self.new ≡ self.old) }
+    {
+        self.bytes.push(byte)?;
+        Ok(())
+    }
+
     fn natural(&mut self, n: u32) -> Result<(), AllocError>
         ensures ok { OnOk result (self.new ≡ self.old ++ decimal n) }
         ensures err { OnErr result (self.new ≡ self.old) }
@@ -105,11 +117,11 @@ impl Output {
     {
         match node {
             Node::Object(object) => {
-                self.text("#")?;
+                self.byte(OBJECT_MARK)?;
                 self.natural(object.0)
             }
             Node::Resource(resource) => {
-                self.text("r")?;
+                self.byte(RESOURCE_MARK)?;
                 self.natural(resource.0)
             }
         }
@@ -136,7 +148,7 @@ impl Output {
             Value::Int(n) => self.integer(*n),
             Value::Text(text) => self.json(text.as_str()),
             Value::Literal(_) => {
-                self.text(":")?;
+                self.byte(LITERAL_MARK)?;
                 self.text(literal)
             }
             Value::Object(object) => self.node(Node::Object(*object)),
@@ -145,14 +157,14 @@ impl Output {
                 self.json(text.as_str())
             }
             Value::Adapter(adapter) => {
-                self.text("A")?;
+                self.byte(ADAPTER_MARK)?;
                 self.natural(adapter.0)
             }
         }
     }
 
     /// Adds a value: `null`, `true`, `-12`, `"Emma"`, `:NOVEL`, `#3`, `proxy "http://m.example/b#/0"`
-    /// or `A7`. The name of its literal is passed where it is one; else `literal` is not looked at.
+    /// or `A7`. Where it is a literal, `literal` is its name; else `literal` is not looked at.
     pub fn value(&mut self, value: &Value, literal: &str) -> Result<(), AllocError>
         ensures ok { OnOk result (self.new ≡ self.old ++ value_text literal.now value.now) }
         ensures err { OnErr result (self.new ≡ self.old) }
@@ -166,9 +178,9 @@ impl Output {
         ensures ok { OnOk result (self.new ≡ self.old ++ cause_detail cause) }
         ensures err { OnErr result (StartsWith self.new self.old) }
     {
-        self.text(" ")?;
+        self.byte(SPACE)?;
         self.natural(cause.number())?;
-        self.text(" ")?;
+        self.byte(SPACE)?;
         self.text(cause.name())
     }
 
@@ -192,7 +204,7 @@ impl Output {
     {
         self.text("refused ")?;
         self.natural(refused.number())?;
-        self.text(" ")?;
+        self.byte(SPACE)?;
         self.text(refused.name())?;
         self.detail(refused)
     }

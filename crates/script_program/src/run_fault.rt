@@ -8,9 +8,9 @@ use std::fmt;
 pub enum RunFault {
     /// The script, or the metamodel file, can't be read.
     Read,
-    /// What is printed can't be written.
+    /// The output can't be written.
     Write,
-    /// The script, or the metamodel file, is longer than 16,777,216 bytes.
+    /// The script, or the metamodel file, has more than `INPUT_BYTES` bytes.
     TooLong,
     /// Memory was refused to the program itself.
     Memory,

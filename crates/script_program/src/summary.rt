@@ -1,10 +1,10 @@
 //! The counts of a run.
 ghost use Rattle.std.specs.Prelude.{◌≡◌};
-ghost use Rattle.script_program.specs.Script.{no_lines, with_turn};
-ghost use Rattle.script_program.specs.Streams.{max_input};
+ghost use Rattle.script_program.specs.Turns.{no_lines, with_turn};
 ghost use Rattle.script_program.specs.Summary.{IsWithin};
 
 use crate::turn::Turn;
+use mm_types::limits::INPUT_BYTES;
 
 /// The counts of a run that came to its end.
 #[derive(Clone, Copy, Debug, PartialEq, Eq)]
@@ -15,7 +15,7 @@ pub struct Summary {
     pub refused: u64,
     /// How many of them printed `bad line`.
     pub bad: u64,
-    /// How many of the refusals were for want of memory.
+    /// How many of the refused lines were out of memory.
     pub no_memory: u64,
 }
 
@@ -33,7 +33,7 @@ impl Summary {
 
     /// The counts after one more line.
     pub(crate) fn with(self, turn: Turn) -> Self
-        requires { IsWithin self max_input }
+        requires { IsWithin self INPUT_BYTES }
         ensures { result ≡ with_turn self turn }
     {
         let refused = matches!(turn, Turn::Refused | Turn::Lost);

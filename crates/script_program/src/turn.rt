@@ -1,16 +1,16 @@
-//! As what a line counts.
+//! How a line is counted.
 
-/// As what a line counts.
-#[derive(Clone, Copy, Debug, PartialEq, Eq)]
+/// How a line is counted.
+#[derive(Clone, Copy, PartialEq, Eq)]
 pub enum Turn {
-    /// It was blank.
+    /// It is blank.
     Blank,
-    /// It was a bad line.
+    /// It does not parse.
     Bad,
     /// Its command was done.
     Done,
     /// Its command was refused.
     Refused,
-    /// Its command was refused for want of memory.
+    /// Its command was answered out of memory.
     Lost,
 }

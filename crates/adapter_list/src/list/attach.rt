@@ -5,16 +5,16 @@ ghost use Rattle.adapter_list.specs.Refusals.{attach_refusal, but_memory, list_r
 use super::AdapterList;
 use crate::attach_refused::AttachRefused;
 use crate::attached::Attached;
-use crate::limits;
 use crate::refusal::refusal;
 use adapters::Adapter;
-use mm_types::{AdapterNo, Node, Refused};
+use mm_types::{AdapterNo, Node, Refused, limits};
 
 impl<A: Adapter> AdapterList<A> {
     /// Attaches an adapter last in attach order, and reserves a place for its last notice (EMF: `eAdapters().add`).
     ///
-    /// Refused with Limit where 100,000 are attached, AdapterTaken where the number is attached, AdapterFull where the
-    /// adapter can't count on, in this order, or Memory; the adapter comes back as it was, and the list is unchanged.
+    /// Refused, in this order, with Limit where 100,000 are attached, AdapterTaken where the number is attached and
+    /// AdapterFull where the adapter can't count its last notice; or with Memory when out of memory. The adapter comes back
+    /// with what it has heard, and the list is unchanged.
     pub fn attach(
         &mut self,
         no: AdapterNo,
@@ -52,7 +52,7 @@ impl<A: Adapter> AdapterList<A> {
         Ok(())
     }
 
-    /// Why the list takes no adapter of this number, where it doesn't.
+    /// Why the list takes no adapter of this number; None where it takes one.
     fn list_refusal(&self, no: AdapterNo) -> Option<Refused>
         ensures { result ≡ list_refusal self.now.0 no }
     {
@@ -66,7 +66,7 @@ impl<A: Adapter> AdapterList<A> {
     }
 }
 
-/// Hands an adapter back.
+/// Gives an adapter back.
 fn refuse<A>(reason: Refused, adapter: A) -> Result<(), AttachRefused<A>>
     ensures { result ≡ Err (record { reason = reason; adapter = adapter }) }
 {

@@ -1,18 +1,18 @@
 //! Detaching and closing.
-ghost use Rattle.std.specs.Prelude.{◌≡◌, ◌≤◌, ◌<◌, None, length, map, option_map, IfNone, count_by, take, pos, false};
-ghost use Rattle.notice_chain.specs.Listed.{release, release_all, same_node};
-ghost use Rattle.notice_chain.specs.declared.kind.NoticeKind.TheVariants.{RemovingAdapter};
-ghost use Rattle.mm_types.specs.declared.value.Value.TheVariants.{Null, Adapter as AdapterValue};
+ghost use Rattle.std.specs.Prelude.{◌≡◌, ◌≤◌, ◌<◌, None, length, map, option_map, IfNone, count_by, take};
+ghost use Rattle.notice_chain.specs.Listed.{release, release_all, removing};
+ghost use Rattle.mm_types.specs.Same.{same_node};
 
 use super::AdapterList;
 use crate::attached::Attached;
 use adapters::Adapter;
+use mm_types::limits::ADAPTERS;
 use mm_types::{AdapterNo, Node, Value};
 use notice_chain::{Notice, NoticeKind};
 
 impl<A: Adapter> AdapterList<A> {
-    /// Takes an adapter out of the list, tells it so last, and gives that notice with it; none where it is not attached.
-    /// Takes no memory (EMF: `eAdapters().remove`).
+    /// Takes an adapter out of the list, notifies it of that, and gives it back with that notice, its last one; None where it
+    /// is not attached. Takes no memory (EMF: `eAdapters().remove`).
     pub fn detach(&mut self, no: AdapterNo) -> Option<(Notice, A)>
         ensures released { option_map (λ b. record { notice = b.0; view = A.heard b.1; others = self.new.0 }) result ≡ release no self.old.0 }
         ensures absent { IfNone result (self.new ≡ self.old) }
@@ -32,7 +32,8 @@ impl<A: Adapter> AdapterList<A> {
         Some((last_notice(no, target, earlier), adapter))
     }
 
-    /// Hands out every adapter in attach order, each told so last and gone before the next is told. Takes no memory.
+    /// Gives every adapter back, in attach order: each is notified of that last, and is gone before the next one is notified.
+    /// Takes no memory.
     pub fn close(self) -> Vec<(AdapterNo, A)>
         ensures { map (λ b. (b.0, A.heard b.1)) result.items ≡ release_all self.0 }
     {
@@ -56,10 +57,10 @@ impl<A: Adapter> AdapterList<A> {
     }
 }
 
-/// The notice that an adapter hears last, at its index among the adapters attached to its target.
+/// The last notice of an adapter, with its index among the adapters attached to its target.
 fn last_notice(no: AdapterNo, target: Node, index: usize) -> Notice
-    requires { index ≤ 100000 }
-    ensures { result ≡ record { notifier = target; feature = None; kind = RemovingAdapter; old_value = AdapterValue no; new_value = Null; position = pos index; was_set = false } }
+    requires { index ≤ ADAPTERS }
+    ensures { result ≡ removing no target index }
 {
     Notice {
         notifier: target,

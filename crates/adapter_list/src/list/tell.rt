@@ -1,9 +1,9 @@
-//! Who hears a notice, what is reserved for a chain, and its delivery.
+//! Which adapters hear a notice, what is reserved for a chain, and its delivery.
 ghost use Rattle.std.specs.Prelude.{◌≡◌, ◌≤◌, ◌<◌, ◌+◌, ◌^◌, ◌∷◌, [], ◌++◌, ◌↔◌, ℕ, List, map, drop, length, slice_index, true, false, OnOk, IfOk, IfErr, IsErrOf};
 ghost use Rattle.notice_chain.specs.Listed.{Listed, audience_numbers, is_chain_full, told_of};
 ghost use Rattle.adapter_list.specs.Attached.{listed_one};
 ghost use Rattle.adapter_list.specs.Refusals.{IsChainRefusal};
-ghost use Rattle.adapter_list.specs.Rounds.{RoundFits, round_of, copies_from, delivered, heard_at, tell_at, use_place};
+ghost use Rattle.adapter_list.specs.Rounds.{RoundFits, round_of, copies_from, delivered, heard_at, tell_at, told_by, use_place};
 
 use super::AdapterList;
 use crate::attached::{Attached, heard_count, hears};
@@ -15,7 +15,7 @@ use notice_chain::{Chain, Notice};
 use std::alloc::AllocError;
 
 impl<A: Adapter> AdapterList<A> {
-    /// The numbers of the adapters that hear a notice, in attach order. Errs only where memory is refused.
+    /// The numbers of the adapters that hear a notice, in attach order. Errs only when out of memory.
     pub fn audience(&self, notice: &Notice) -> Result<Vec<AdapterNo>, AllocError>
         ensures { IfOk result (λ v. v.items ≡ audience_numbers notice.now self.now.0) }
     {
@@ -26,15 +26,15 @@ impl<A: Adapter> AdapterList<A> {
         Ok(numbers)
     }
 
-    /// Reserves all that a chain needs: the places of each adapter that hears of it, one more for its last notice, and every
-    /// copy. What the adapters have heard and kept stays as it was, whatever the answer.
+    /// Reserves all that a chain needs: for each adapter a place for each notice of it that it hears, and one more for its last
+    /// notice; and the copies of the notices. Whatever the answer, the adapters have heard and keep what they did.
     ///
-    /// Refused with AdapterFull where an adapter that hears of it can't count on, or with Memory: the first adapter in
-    /// attach order that refuses decides.
+    /// Refused with AdapterFull where an adapter can't count the notices that it hears, or with Memory when out of memory. The
+    /// first adapter in attach order that refuses decides.
     pub fn reserve_all(&mut self, chain: &Chain) -> Result<Round, Refused>
         ensures kept { self.new.0 ≡ self.old.0 }
         ensures round { IfOk result (λ r. r ≡ round_of chain.now self.old.0) }
-        ensures fits { IfOk result (λ r. RoundFits self.new.1 r.copies) }
+        ensures fits { IfOk result (λ r. RoundFits self.new.0 self.new.1 r) }
         ensures counted { OnOk result (is_chain_full chain.now self.old.0 ≡ false) }
         ensures reason { IfErr result (λ e. IsChainRefusal (is_chain_full chain.now self.old.0) e) }
     {
@@ -48,12 +48,16 @@ impl<A: Adapter> AdapterList<A> {
         }
     }
 
-    /// Tells a round: each adapter its own notices in turn. It gives who was told what: the notices in the order of the
-    /// chain, each with its audience in attach order. It can't fail and takes no memory.
+    /// Notifies the adapters of a round that fits them, each of its own notices in turn, and gives the list of who was notified
+    /// of what: the notices in the order of the chain, each with its audience in attach order. It takes no memory.
+    ///
+    /// A round fits the adapters for which it was reserved. After an adapter was attached or detached it need not fit: the
+    /// places count the adapters, and the round names them.
     pub fn deliver(&mut self, round: Round) -> Vec<(AdapterNo, Notice)>
-        requires reserved { RoundFits self.old.1 round.copies }
+        requires reserved { RoundFits self.old.0 self.old.1 round }
         ensures heard { self.new.0 ≡ delivered round.copies self.old.0 }
         ensures told { result.items ≡ round.told }
+        ensures by_number { result.items ≡ told_by round.copies self.old.0 }
     {
         let (copies, told) = round.into_parts();
         for (place, notice) in copies {
@@ -62,7 +66,7 @@ impl<A: Adapter> AdapterList<A> {
         told
     }
 
-    /// Tells the adapter at `place` a notice.
+    /// Notifies the adapter at `place`.
     fn tell_at(&mut self, place: usize, notice: Notice)
         requires within { place < length self.old.1 }
         requires two { 2 ≤ slice_index self.old.1 place }
@@ -149,7 +153,7 @@ fn push_if_hears<A: Adapter>(
     notice: &Notice,
     numbers: &mut Vec<AdapterNo>,
 ) -> Result<(), AllocError>
-    ensures { OnOk result ((rs : List Listed) → numbers.old.items ++ audience_numbers notice.now (listed_one A.heard one.now ∷ rs) ≡ numbers.new.items ++ audience_numbers notice.now rs) }
+    ensures { OnOk result (numbers.new.items ≡ numbers.old.items ++ audience_numbers notice.now (listed_one A.heard one.now ∷ [])) }
 {
     if !hears(one, notice) {
         return Ok(());
@@ -165,8 +169,8 @@ fn add_if_hears<A: Adapter>(
     notice: &Notice,
     round: &mut Round,
 ) -> Result<(), AllocError>
-    ensures copies { OnOk result ((rs : List Listed) → round.old.copies ++ copies_from place notice.now (listed_one A.heard one.now ∷ rs) ≡ round.new.copies ++ copies_from (place + 1) notice.now rs) }
-    ensures told { OnOk result ((rs : List Listed) → round.old.told ++ told_of notice.now (listed_one A.heard one.now ∷ rs) ≡ round.new.told ++ told_of notice.now rs) }
+    ensures copies { OnOk result (round.new.copies ≡ round.old.copies ++ copies_from place notice.now (listed_one A.heard one.now ∷ [])) }
+    ensures told { OnOk result (round.new.told ≡ round.old.told ++ told_of notice.now (listed_one A.heard one.now ∷ [])) }
 {
     if !hears(one, notice) {
         return Ok(());

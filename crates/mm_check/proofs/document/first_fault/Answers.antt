@@ -1,31 +1,29 @@
-use Rattle.std.proofs.Common.{◌+◌, arith, get_or, subst}
-use Rattle.mm_types.specs.Raw.{RawMetamodel}
+use Rattle.std.proofs.Common.{◌+◌, arith, get_or}
 use Rattle.mm_types.specs.declared.meta_fault.Condition.TheVariants.{Name}
-use Rattle.mm_check.specs.Search.{IsFirstPlace}
 use Rattle.mm_check.proofs.Faulting.{conditions, first_fault, none_more, none_yet, number_at, well_formed}
 use Rattle.mm_check.proofs.document.first_fault.Goals as goal
 
 pub first_place-requires : goal.first_place-requires
 first_place-requires c =
     let number = number_at c.conditions.condition-index Name c.conditions-test.true in
-    rw (c.in_ok-checker.ensures, number) c.conditions.invariant
+    rw number c.conditions.invariant
 
 pub conditions-init : goal.conditions-init
-conditions-init c = none_yet c.args.raw.now
+conditions-init c = none_yet c.args.checker.now
 
 pub conditions-preserved : goal.conditions-preserved
 conditions-preserved c =
     let i = c.conditions.condition-index in
     let k = get_or conditions i Name in
-    let found : IsFirstPlace c.args.raw.now k c.in_ok-place.field-0 = subst (λ (r : RawMetamodel). IsFirstPlace r k c.in_ok-place.field-0) c.in_ok-checker.ensures c.in_ok-place.ensures in
-    none_more c.args.raw.now k (i + 4) (i + 1 + 4) (number_at i Name c.conditions-test.true) (omega arith) c.conditions.invariant (rw c.in_default.is at found)
+    none_more c.args.checker.now k (i + 4) (i + 1 + 4) (number_at i Name c.conditions-test.true) (omega arith) c.conditions.invariant
+    (rw c.in_default.is at c.in_ok-place.ensures)
 
 pub returns-in-Some : goal.returns-in-Some
 returns-in-Some c =
     let i = c.conditions.condition-index in
     let k = get_or conditions i Name in
-    let found : IsFirstPlace c.args.raw.now k c.in_ok-place.field-0 = subst (λ (r : RawMetamodel). IsFirstPlace r k c.in_ok-place.field-0) c.in_ok-checker.ensures c.in_ok-place.ensures in
-    first_fault c.args.raw.now k c.in-Some.place (i + 4) (number_at i Name c.conditions-test.true) c.conditions.invariant (rw c.in-Some.is at found)
+    first_fault c.args.checker.now k c.in-Some.place (i + 4) (number_at i Name c.conditions-test.true) c.conditions.invariant
+    (rw c.in-Some.is at c.in_ok-place.ensures)
 
 pub returns : goal.returns
-returns c = well_formed c.args.raw.now (c.conditions.condition-index + 4) (omega arith) c.conditions.invariant
+returns c = well_formed c.args.checker.now (c.conditions.condition-index + 4) (omega arith) c.conditions.invariant

@@ -1,7 +1,7 @@
 use Rattle.std.proofs.Common.{Option, Some, None}
 use Rattle.std.specs.Prelude.{IfSome}
 use Rattle.repository.specs.State.{empty_state}
-use Rattle.script_program.proofs.Turns.{silent}
+use Rattle.script_program.proofs.ScriptLemmas.{silent}
 use Rattle.script_program.proofs.script.run.Goals as goal
 
 all_some : {X : Type 0} (P : X → Type 0) (o : Option X) → ((x : X) → P x) → IfSome o P

@@ -1,19 +1,27 @@
 use Rattle.std.proofs.Common.{rules, ◌≡◌, ◌<◌, length, ◌∙◌, ap, sym, remove}
 use Rattle.std.proofs.lemmas.List.{length-map}
 use Rattle.adapter_list.specs.Attached.{numbers_of}
-use Rattle.adapter_list.proofs.ListedFacts.{release_is, release_none, last_notice_is, HasReserve-at, HasReserve-remove, read_once, remove-map}
+use Rattle.adapter_list.proofs.ListedLemmas.{release-at, release-absent, last_notice-listed, AreReady-at, AreReady-remove, read_once, remove-map}
 use Rattle.adapter_list.proofs.list.AdapterList.detach.Goals as goal
 
 pub notify_changed-requires : goal.notify_changed-requires
 notify_changed-requires g c =
     let within : c.in-Some.place < length c.self.inside.attached.items = rw (length-map) at (rw (← c.self.view_is) at c.in-Some.ensures.within) in
-    HasReserve-at g.A.Adapter.places c.self.inside.attached.items _ _ c.self.invariant.3 within c.remove-target.ensures.value
+    let ready = AreReady-at g.A.Adapter.heard g.A.Adapter.places c.self.inside.attached.items _ _ c.self.invariant.ready within c.remove-target.ensures.value in
+    ready.reserve
 
 pub invariant_of-self : goal.invariant_of-self
 invariant_of-self g c =
     let removed = c.remove-target.ensures.items in
-    let numbers = c.shift_remove_index.ensures.keys ∙ ap (λ ks. remove ks c.in-Some.place) c.self.invariant.4 ∙ remove-map (λ a. a.no) c.self.inside.attached.items c.in-Some.place ∙ ap numbers_of (sym removed) in
-    (search rules, search rules, search rules, rw removed (HasReserve-remove g.A.Adapter.places c.self.inside.attached.items _ c.self.invariant.3), numbers, c.shift_remove_index.ensures.unique)
+    let numbers = c.shift_remove_index.ensures.keys ∙ ap (λ ks. remove ks c.in-Some.place) c.self.invariant.numbered ∙ remove-map (λ a. a.no) c.self.inside.attached.items c.in-Some.place ∙ ap numbers_of (sym removed) in
+    record {
+      few = search rules;
+      ready = rw removed (AreReady-remove g.A.Adapter.heard g.A.Adapter.places c.self.inside.attached.items _ c.self.invariant.ready);
+      numbered = numbers;
+      distinct = c.shift_remove_index.ensures.unique;
+      unused = c.self.invariant.unused;
+      releasable = search rules;
+    }
 
 pub returns-clause-released : goal.returns-clause-released
 returns-clause-released g c =
@@ -21,8 +29,8 @@ returns-clause-released g c =
     let h : c.in-Some.place < length items = rw (length-map) at (rw (← c.self.view_is) at c.in-Some.ensures.within) in
     let same : c.index.result.now ≡ c.remove-target.result = read_once items c.in-Some.place _ _ h c.index.ensures c.remove-target.ensures.value in
     let count = rw (c.deref.ensures.value, same) at c.count_before-earlier.ensures.count in
-    let notice = c.last_notice-2.ensures ∙ last_notice_is g.A.Adapter.heard items c.in-Some.place c.remove-target.result _ count in
-    rw (c.remove-target.ensures.items, ← c.self.view_is) (release_is g.A.Adapter.heard items c.args.no c.in-Some.place c.remove-target.result _ _ (rw (← c.self.view_is) at c.in-Some.ensures.place) h c.remove-target.ensures.value notice (rw (c.notify_changed.ensures.view, c.last_notice.ensures, c.last_notice-2.ensures)))
+    let notice = c.last_notice-2.ensures ∙ last_notice-listed g.A.Adapter.heard items c.in-Some.place c.remove-target.result _ count in
+    rw (c.remove-target.ensures.items, ← c.self.view_is) (release-at g.A.Adapter.heard items c.args.no c.in-Some.place c.remove-target.result _ _ (rw (← c.self.view_is) at c.in-Some.ensures.place) h c.remove-target.ensures.value notice (rw (c.notify_changed.ensures.view, c.last_notice.ensures, c.last_notice-2.ensures)))
 
 pub returns-in_default-clause-released : goal.returns-in_default-clause-released
-returns-in_default-clause-released g c = rw (← c.self.view_is) (release_none g.A.Adapter.heard c.self.inside.attached.items c.args.no (rw (← c.self.view_is) at c.in_default.ensures.place))
+returns-in_default-clause-released g c = rw (← c.self.view_is) (release-absent g.A.Adapter.heard c.self.inside.attached.items c.args.no (rw (← c.self.view_is) at c.in_default.ensures.place))

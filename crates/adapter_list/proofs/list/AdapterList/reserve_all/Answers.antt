@@ -1,14 +1,16 @@
-use Rattle.std.proofs.Common.{◌≡◌, List, ℕ, length, ap, sym, subst, ◌∙◌}
+use Rattle.std.proofs.Common.{◌≡◌, List, length, ap, sym, subst, ◌∙◌}
 use Rattle.notice_chain.specs.Listed.{Listed}
-use Rattle.notice_chain.specs.declared.notice.Notice.{Notice}
-use Rattle.adapter_list.specs.Rounds.{RoundView, RoundFits, round_copies}
-use Rattle.adapter_list.proofs.RoundFacts.{fits-round}
+use Rattle.adapter_list.specs.Rounds.{RoundView, RoundFits, round_of}
+use Rattle.adapter_list.proofs.RoundLemmas.{CopiesFit-round_copies, told_by-round_copies}
 use Rattle.adapter_list.proofs.list.AdapterList.reserve_all.Goals as goal
 
 pub returns-in-Ok-clause-fits : goal.returns-in-Ok-clause-fits
 returns-in-Ok-clause-fits g c =
     let ns = c.as_slice-chain.result.now in
-    let kept = c.in_default.ensures.kept in
-    let copies : c.in-Ok.round.copies ≡ round_copies ns c.args.self.now.0 = ap (λ (r : RoundView). r.copies) c.in-Ok.ensures ∙ ap (λ (rs : List Listed). round_copies ns rs) kept in
-    let long : length c.args.self.now.0 ≡ length c.reserve_places.new.self.1 = ap (λ (rs : List Listed). length rs) (sym kept) ∙ sym c.in_default.ensures.as_many in
-    subst (λ (cs : List (ℕ × Notice)). RoundFits c.reserve_places.new.self.1 cs) (sym copies) (fits-round ns c.args.self.now.0 c.reserve_places.new.self.1 long c.in_default.ensures.ok)
+    let rs = c.reserve_places.new.self.0 in
+    let ps = c.reserve_places.new.self.1 in
+    let kept : rs ≡ c.args.self.now.0 = c.in_default.ensures.kept in
+    let long : length c.args.self.now.0 ≡ length ps = ap (λ (qs : List Listed). length qs) (sym kept) ∙ sym c.in_default.ensures.as_many in
+    let fits : RoundFits c.args.self.now.0 ps (round_of ns c.args.self.now.0) = record { copies_fit = CopiesFit-round_copies ns c.args.self.now.0 ps long c.in_default.ensures.ok; told_is = sym (told_by-round_copies ns c.args.self.now.0) } in
+    let here : RoundFits rs ps (round_of ns rs) = subst (λ (qs : List Listed). RoundFits qs ps (round_of ns qs)) (sym kept) fits in
+    subst (λ (r : RoundView). RoundFits rs ps r) (sym c.in-Ok.ensures) here

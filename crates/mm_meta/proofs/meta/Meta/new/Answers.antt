@@ -7,16 +7,16 @@ use Rattle.mm_meta.proofs.meta.Meta.new.Goals as goal
 
 pub invariant_of-result : goal.invariant_of-result
 invariant_of-result c =
-    let parts = c.in_ok-classes.ensures in
+    let parts = c.requires.resolution in
     record {
       of_document = record {
         raw = c.args.raw;
         fits = c.into_parts-enums.ensures.fits;
-        well_formed = c.requires;
+        well_formed = c.requires.well_formed;
         is = resolved_is c.args.raw _ c.into_parts-enums.ensures.enums parts.classes parts.features;
       };
       conforms =
-          subst (λ (g : List (List ℕ)). IsConformTable g c.in_ok-classes.field-0.conformance)
+          subst (λ (g : List (List ℕ)). IsConformTable g c.args.resolution.conformance)
           (sym (ap (map (λ (k : Class). map (λ (s : ClassNo). s.0) k.supers)) parts.classes ∙ supertypes_resolved c.args.raw.classes)) parts.conformance;
       finds_classes = rw c.as_slice.ensures at c.in_ok-class_table.ensures;
       finds_literals = rw c.as_slice-2.ensures at c.in_ok-literal_tables.ensures;
@@ -25,4 +25,4 @@ invariant_of-result c =
     }
 
 pub returns : goal.returns
-returns c = resolved_is c.args.raw _ c.into_parts-enums.ensures.enums c.in_ok-classes.ensures.classes c.in_ok-classes.ensures.features
+returns c = resolved_is c.args.raw _ c.into_parts-enums.ensures.enums c.requires.resolution.classes c.requires.resolution.features

@@ -1,0 +1,132 @@
+-- What one write to the list of attached adapters shows.
+use Rattle.std.proofs.Common.{◌≡◌, ℕ, ◌+◌, ◌-◌, ◌≤◌, ◌<◌, Bool, cond, Some, None, List, [], ◌∷◌, ◌++◌, map, length, get_or, set, take, drop, remove, position, count_by, slice_get, option_map, false, pos, zero, suc, subst, add-one, refl, sym, ap, ◌∙◌, arith, slice_index, All, ◌^◌}
+use Rattle.std.specs.List.{prefix_len, fold}
+use Rattle.std.proofs.lemmas.Option.{slice_get-map, slice_get_read}
+use Rattle.std.proofs.lemmas.List.{take-map, drop-map, map-append, length-map}
+use Rattle.std.proofs.lemmas.List.Elements.{All-append, All-drop, All-get_or, All-map, All-push, All-rest, All-set, All-take, All-weaker}
+use Rattle.notice_chain.specs.View.{View, hear}
+use Rattle.notice_chain.specs.Listed.{told_all, last_notice, release, has_no}
+use Rattle.mm_types.specs.Same.{same_node}
+use Rattle.notice_chain.specs.declared.kind.NoticeKind.TheVariants.{RemovingAdapter}
+use Rattle.notice_chain.specs.declared.notice.Notice.{Notice}
+use Rattle.mm_types.specs.declared.value.Value.TheVariants.{Null, Adapter}
+use Rattle.mm_types.specs.declared.numbers.AdapterNo.{AdapterNo}
+use Rattle.adapter_list.specs.declared.attached.Attached.{Attached}
+use Rattle.adapter_list.specs.Attached.{AreReady, HasReserve, IsReady, listed_one, listed, places_of, numbers_of}
+use Rattle.adapter_list.specs.Rounds.{tell_at, use_place}
+
+module _ {A : Type 0} where
+  pub listed-set : (heard : A → View) (xs : List (Attached A)) (i : ℕ) (n : Notice) (x y : Attached A) → x ≡ get_or xs i x → listed_one heard y ≡ told_all (listed_one heard x) (n ∷ []) → listed heard (set xs i y) ≡ tell_at (listed heard xs) i n
+  listed-set heard [] i n x y e p = refl
+  listed-set heard (z ∷ zs) zero n x y e p = ap (λ r. r ∷ listed heard zs) (p ∙ ap (λ (q : Attached A). told_all (listed_one heard q) (n ∷ [])) e)
+  listed-set heard (z ∷ zs) (suc i) n x y e p = ap (λ rs. listed_one heard z ∷ rs) (listed-set heard zs i n x y e p)
+
+  pub places_of-set : (places : A → ℕ) (xs : List (Attached A)) (i : ℕ) (x y : Attached A) → x ≡ get_or xs i x → places y.adapter + 1 ≡ places x.adapter → places_of places (set xs i y) ≡ use_place (places_of places xs) i
+  places_of-set places [] i x y e p = refl
+  places_of-set places (z ∷ zs) zero x y e p =
+      let q : places x.adapter ≡ places z.adapter = ap (λ (w : Attached A). places w.adapter) e in
+      let r : places y.adapter ≡ places z.adapter - 1 = omega arith in
+      ap (λ k. k ∷ places_of places zs) r
+  places_of-set places (z ∷ zs) (suc i) x y e p = ap (λ rs. places z.adapter ∷ rs) (places_of-set places zs i x y e p)
+
+module _ {X Y : Type 0} (f : X → Y) where
+  pub prefix_len-map : (p : Y → Bool) (xs : List X) → prefix_len p (map f xs) ≡ prefix_len (λ x. p (f x)) xs
+  prefix_len-map p [] = refl
+  prefix_len-map p (x ∷ xs) = ap (λ k. cond (p (f x)) (1 + k) 0) (prefix_len-map p xs)
+
+  pub position-map : (p : Y → Bool) (xs : List X) → position p (map f xs) ≡ position (λ x. p (f x)) xs
+  position-map p xs = rw (prefix_len-map, length-map)
+
+  pub fold-map : {B : Type 0} (g : B → Y → B) (a : B) (xs : List X) → fold g a (map f xs) ≡ fold (λ b x. g b (f x)) a xs
+  fold-map g a [] = refl
+  fold-map g a (x ∷ xs) = fold-map g (g a (f x)) xs
+
+  pub count_by-map : (p : Y → Bool) (xs : List X) → count_by p (map f xs) ≡ count_by (λ x. p (f x)) xs
+  count_by-map p xs = fold-map (λ a y. a + cond (p y) 1 0) 0 xs
+
+  pub remove-map : (xs : List X) (i : ℕ) → remove (map f xs) i ≡ map f (remove xs i)
+  remove-map xs i = rw (take-map f i xs, drop-map f (suc i) xs, map-append f (take i xs) (drop (suc i) xs))
+
+module _ {A : Type 0} where
+  pub release-at : (heard : A → View) (xs : List (Attached A)) (number : AdapterNo) (i : ℕ) (x : Attached A) (n : Notice) (v : View) → Some i ≡ position (has_no number) (listed heard xs) → i < length xs → x ≡ get_or xs i x → n ≡ last_notice (take i (listed heard xs)) (listed_one heard x) → v ≡ hear (heard x.adapter) n → Some (record { notice = n; view = v; others = listed heard (remove xs i) }) ≡ release number (listed heard xs)
+  release-at heard xs number i x n v at h e nn vv =
+      let there : position (has_no number) (listed heard xs) ≡ Some i = sym at in
+      let one : slice_get (listed heard xs) i ≡ Some (listed_one heard x) = slice_get-map (listed_one heard) xs i ∙ ap (option_map (listed_one heard)) (slice_get_read xs (length xs) i x refl h e) in
+      rw (there, one, remove-map (listed_one heard) xs i, ← nn, vv)
+
+  pub last_notice-listed : (heard : A → View) (xs : List (Attached A)) (i : ℕ) (x : Attached A) (k : ℕ) → k ≡ count_by (λ a. same_node a.target x.target) (take i xs) → record { notifier = x.target; feature = None; kind = RemovingAdapter; old_value = Adapter x.no; new_value = Null; position = pos k; was_set = false } ≡ last_notice (take i (listed heard xs)) (listed_one heard x)
+  last_notice-listed heard xs i x k e = rw (e, take-map (listed_one heard) i xs, count_by-map (listed_one heard) (λ q. same_node q.target x.target) (take i xs))
+
+  pub places_of-grow : (places : A → ℕ) (xs : List (Attached A)) (i : ℕ) (x y : Attached A) → x ≡ get_or xs i x → places x.adapter ≤ places y.adapter → (k : ℕ) → slice_index (places_of places xs) k ≤ slice_index (places_of places (set xs i y)) k
+  places_of-grow places [] i x y e l k = omega arith
+  places_of-grow places (z ∷ zs) zero x y e l zero = let q : places x.adapter ≡ places z.adapter = ap (λ (w : Attached A). places w.adapter) e in omega arith
+  places_of-grow places (z ∷ zs) zero x y e l (suc k) = omega arith
+  places_of-grow places (z ∷ zs) (suc i) x y e l zero = omega arith
+  places_of-grow places (z ∷ zs) (suc i) x y e l (suc k) = places_of-grow places zs i x y e l k
+
+  pub slice_index-map : (f : Attached A → ℕ) (xs : List (Attached A)) (i : ℕ) (x : Attached A) → i < length xs → x ≡ get_or xs i x → slice_index (map f xs) i ≡ f x
+  slice_index-map f [] i x h e = absurd (omega arith)
+  slice_index-map f (y ∷ ys) zero x h e = sym (ap f e)
+  slice_index-map f (y ∷ ys) (suc i) x h e = slice_index-map f ys i x (omega arith) e
+
+  pub slice_index-map_set : (f : Attached A → ℕ) (xs : List (Attached A)) (i : ℕ) (y : Attached A) → i < length xs → slice_index (map f (set xs i y)) i ≡ f y
+  slice_index-map_set f [] i y h = absurd (omega arith)
+  slice_index-map_set f (x ∷ xs) zero y h = refl
+  slice_index-map_set f (x ∷ xs) (suc i) y h = slice_index-map_set f xs i y (omega arith)
+
+  pub listed-set_same : (heard : A → View) (xs : List (Attached A)) (i : ℕ) (x y : Attached A) → x ≡ get_or xs i x → listed_one heard y ≡ listed_one heard x → listed heard (set xs i y) ≡ listed heard xs
+  listed-set_same heard [] i x y e p = refl
+  listed-set_same heard (z ∷ zs) zero x y e p = ap (λ r. r ∷ listed heard zs) (p ∙ ap (listed_one heard) e)
+  listed-set_same heard (z ∷ zs) (suc i) x y e p = ap (λ rs. listed_one heard z ∷ rs) (listed-set_same heard zs i x y e p)
+
+  pub read_once : (xs : List (Attached A)) (i : ℕ) (x y : Attached A) → i < length xs → x ≡ get_or xs i x → y ≡ get_or xs i y → x ≡ y
+  read_once [] i x y h e k = absurd (omega arith)
+  read_once (z ∷ zs) zero x y h e k = e ∙ sym k
+  read_once (z ∷ zs) (suc i) x y h e k = read_once zs i x y (omega arith) e k
+
+  pub release-absent : (heard : A → View) (xs : List (Attached A)) (number : AdapterNo) → None ≡ position (has_no number) (listed heard xs) → None ≡ release number (listed heard xs)
+  release-absent heard xs number at =
+      let there : position (has_no number) (listed heard xs) ≡ None = sym at in
+      rw there
+
+  pub numbers_of-set : (xs : List (Attached A)) (i : ℕ) (x y : Attached A) → x ≡ get_or xs i x → y.no ≡ x.no → numbers_of (set xs i y) ≡ numbers_of xs
+  numbers_of-set [] i x y e p = refl
+  numbers_of-set (z ∷ zs) zero x y e p = ap (λ k. k ∷ numbers_of zs) (p ∙ ap (λ (q : Attached A). q.no) e)
+  numbers_of-set (z ∷ zs) (suc i) x y e p = ap (λ ks. z.no ∷ ks) (numbers_of-set zs i x y e p)
+
+  pub slice_index-told : (heard : A → View) (xs : List (Attached A)) (i : ℕ) (x : Attached A) → i < length xs → x ≡ get_or xs i x → slice_index (map (λ r. r.view.told) (listed heard xs)) i ≡ (heard x.adapter).told
+  slice_index-told heard [] i x h e = absurd (omega arith)
+  slice_index-told heard (y ∷ ys) zero x h e = sym (ap (λ (q : Attached A). (heard q.adapter).told) e)
+  slice_index-told heard (y ∷ ys) (suc i) x h e = slice_index-told heard ys i x (omega arith) e
+
+  pub drop-listed : (heard : A → View) (xs : List (Attached A)) (i : ℕ) (x : Attached A) → i < length xs → x ≡ get_or xs i x → drop i (listed heard xs) ≡ listed_one heard x ∷ drop (i + 1) (listed heard xs)
+  drop-listed heard [] i x h e = absurd (omega arith)
+  drop-listed heard (y ∷ ys) zero x h e = ap (λ q. listed_one heard q ∷ listed heard ys) (sym e)
+  drop-listed heard (y ∷ ys) (suc i) x h e = subst (λ (k : ℕ). drop (suc i) (listed heard (y ∷ ys)) ≡ listed_one heard x ∷ drop k (listed heard (y ∷ ys))) (sym (add-one (suc i))) (rw add-one at (drop-listed heard ys i x (omega arith) e))
+
+module _ {A : Type 0} (heard : A → View) (places : A → ℕ) where
+  abbrev ready : Attached A → Type 0
+  ready a = IsReady (heard a.adapter) (places a.adapter)
+
+  pub AreReady-at : (xs : List (Attached A)) (i : ℕ) (x : Attached A) → AreReady heard places xs → i < length xs → x ≡ get_or xs i x → IsReady (heard x.adapter) (places x.adapter)
+  AreReady-at xs i x h l e = subst ready (sym e) (All-get_or ready xs i x l h)
+
+  pub AreReady-set : (xs : List (Attached A)) (i : ℕ) (y : Attached A) → AreReady heard places xs → IsReady (heard y.adapter) (places y.adapter) → AreReady heard places (set xs i y)
+  AreReady-set xs i y h k = All-set ready xs i y k h
+
+  pub AreReady-push : (xs : List (Attached A)) (x : Attached A) → AreReady heard places xs → IsReady (heard x.adapter) (places x.adapter) → AreReady heard places (xs ++ x ∷ [])
+  AreReady-push xs x h k = All-push ready xs x h k
+
+  pub AreReady-remove : (xs : List (Attached A)) (i : ℕ) → AreReady heard places xs → AreReady heard places (remove xs i)
+  AreReady-remove xs i h = All-append ready (take i xs) (drop (suc i) xs) (All-take ready i xs h) (All-drop ready (suc i) xs h)
+
+  pub AreReady-rest : (x : Attached A) (xs ys : List (Attached A)) → ys ≡ x ∷ xs → AreReady heard places ys → AreReady heard places xs
+  AreReady-rest x xs ys e h = All-rest ready x xs ys e h
+
+  pub HasReserve-from_ready : (xs : List (Attached A)) → AreReady heard places xs → HasReserve (places_of places xs)
+  HasReserve-from_ready xs h =
+      All-map (λ p. 1 ≤ p) (λ (a : Attached A). places a.adapter) xs (All-weaker ready (λ a. 1 ≤ places a.adapter) (λ a r. r.reserve) xs h)
+
+  pub countable-from_ready : (xs : List (Attached A)) → AreReady heard places xs → All (λ r. r.view.told + 1 < 2 ^ 64) (listed heard xs)
+  countable-from_ready xs h =
+      All-map (λ r. r.view.told + 1 < 2 ^ 64) (listed_one heard) xs (All-weaker ready (λ a. (heard a.adapter).told + 1 < 2 ^ 64) (λ a r. omega (arith, r.reserve, r.countable)) xs h)

@@ -1,0 +1,71 @@
+-- How an adapter is found by its number, and why one is not taken.
+use Rattle.std.proofs.Common.{◌≡◌, ℕ, ◌<◌, Bool, true, false, cond, ◌||◌, ◌++◌, if◌then◌else◌, nat_lt, nat_le, List, [], ◌∷◌, map, length, get_or, position, slice_get, Some, None, option_map, option_and_then, refl, sym, ap, ◌∙◌, arith}
+use Rattle.std.specs.List.{find, list_any, position_or_len}
+use Rattle.std.proofs.lemmas.List.Folds.{find_at}
+use Rattle.std.proofs.lemmas.List.{map-append}
+use Rattle.indexmap.specs.IndexSet.{insert_key}
+use Rattle.std.proofs.lemmas.Option.{slice_get-map, slice_get_read, slice_get_past, none-some}
+use Rattle.std.proofs.lemmas.Bool.{leb-false, ltb-false}
+use Rattle.mm_types.specs.declared.limits.TheConstants.{ADAPTERS}
+use Rattle.mm_types.specs.declared.numbers.AdapterNo.{AdapterNo}
+use Rattle.mm_types.specs.declared.refused.Refused.TheVariants as refused
+use Rattle.notice_chain.specs.View.{View}
+use Rattle.notice_chain.specs.Listed.{Listed, adapter, has_no, same_no}
+use Rattle.adapter_list.specs.declared.attached.Attached.{Attached}
+use Rattle.adapter_list.specs.Attached.{listed_one, listed, numbers_of}
+use Rattle.adapter_list.specs.Refusals.{list_refusal}
+use Rattle.adapter_list.proofs.ListedLemmas.{position-map}
+
+find-position : {X : Type 0} (p : X → Bool) (xs : List X) → find p xs ≡ option_and_then (slice_get xs) (position p xs)
+find-position p xs =
+    elim (nat_lt (position_or_len p xs) (length xs)) as (λ b. nat_lt (position_or_len p xs) (length xs) ≡ b → find p xs ≡ option_and_then (slice_get xs) (cond b (Some (position_or_len p xs)) None)) [
+      | true ↦ λ h. find_at p xs
+      | false ↦ λ h. find_at p xs ∙ slice_get_past xs (position_or_len p xs) (ltb-false _ _ h)
+    ] refl
+
+list_any-map : {X Y : Type 0} (f : X → Y) (p : Y → Bool) (xs : List X) → list_any p (map f xs) ≡ list_any (λ x. p (f x)) xs
+list_any-map f p [] = refl
+list_any-map f p (x ∷ xs) = ap (λ b. p (f x) || b) (list_any-map f p xs)
+
+module _ {A : Type 0} (heard : A → View) (xs : List (Attached A)) where
+  pub map-listed : (ys : List (Attached A)) → map (λ r. r.no) (listed heard ys) ≡ numbers_of ys
+  map-listed [] = refl
+  map-listed (y ∷ ys) = ap (λ ns. y.no ∷ ns) (map-listed ys)
+
+  -- the numbers stand in attach order, so the place of a number is its adapter's
+  pub position-numbers : (keys : List AdapterNo) (number : AdapterNo) → keys ≡ numbers_of xs → position (same_no number) keys ≡ position (has_no number) (listed heard xs)
+  position-numbers keys number e = ap (position (same_no number)) e ∙ position-map (λ (a : Attached A). a.no) (same_no number) xs ∙ sym (position-map (listed_one heard) (has_no number) xs)
+
+  pub list_any-numbers : (keys : List AdapterNo) (number : AdapterNo) → keys ≡ numbers_of xs → list_any (same_no number) keys ≡ list_any (has_no number) (listed heard xs)
+  list_any-numbers keys number e = ap (list_any (same_no number)) e ∙ list_any-map (λ (a : Attached A). a.no) (same_no number) xs ∙ sym (list_any-map (listed_one heard) (has_no number) xs)
+
+  pub adapter-found : (number : AdapterNo) (i : ℕ) (x : Attached A) → Some i ≡ position (has_no number) (listed heard xs) → i < length xs → x ≡ get_or xs i x → Some (listed_one heard x) ≡ adapter number (listed heard xs)
+  adapter-found number i x at h e =
+      let there : slice_get (listed heard xs) i ≡ Some (listed_one heard x) = slice_get-map (listed_one heard) xs i ∙ ap (option_map (listed_one heard)) (slice_get_read xs (length xs) i x refl h e) in
+      sym (find-position (has_no number) (listed heard xs) ∙ ap (option_and_then (slice_get (listed heard xs))) (sym at) ∙ there)
+
+  pub adapter-absent : (number : AdapterNo) → None ≡ position (has_no number) (listed heard xs) → None ≡ adapter number (listed heard xs)
+  adapter-absent number at = sym (find-position (has_no number) (listed heard xs) ∙ ap (option_and_then (slice_get (listed heard xs))) (sym at))
+
+below : (n : ℕ) → n < ADAPTERS → nat_le ADAPTERS n ≡ false
+below n h = grind (arith, h)
+
+pub list_refusal-taken : (rs : List Listed) (number : AdapterNo) → length rs < ADAPTERS → true ≡ list_any (has_no number) rs → Some refused.AdapterTaken ≡ list_refusal rs number
+list_refusal-taken rs number few taken = rw (below (length rs) few, ← taken) refl
+
+pub list_refusal-none : (rs : List Listed) (number : AdapterNo) → length rs < ADAPTERS → false ≡ list_any (has_no number) rs → None ≡ list_refusal rs number
+list_refusal-none rs number few taken = rw (below (length rs) few, ← taken) refl
+
+-- a number that the list takes: there is room for one more, and it is new
+pub allowed_from_none : (rs : List Listed) (number : AdapterNo) → None ≡ list_refusal rs number → (length rs < ADAPTERS) × (list_any (has_no number) rs ≡ false)
+allowed_from_none rs number none = by (nat_le ADAPTERS (length rs)) refl (list_any (has_no number) rs) refl none
+  where
+    by : (b : Bool) → nat_le ADAPTERS (length rs) ≡ b → (d : Bool) → list_any (has_no number) rs ≡ d → None ≡ (cond b (Some refused.Limit) (cond d (Some refused.AdapterTaken) None)) → (length rs < ADAPTERS) × (list_any (has_no number) rs ≡ false)
+    by true h d k e = absurd (none-some _ e)
+    by false h true k e = absurd (none-some _ e)
+    by false h false k e = (leb-false _ _ h, k)
+
+-- a new number goes last, as its adapter does
+pub numbers_of-push : {A : Type 0} (xs after : List (Attached A)) (x : Attached A) (keys new : List AdapterNo) → keys ≡ numbers_of xs → list_any (same_no x.no) keys ≡ false → new ≡ insert_key same_no keys x.no → after ≡ xs ++ (x ∷ []) → new ≡ numbers_of after
+numbers_of-push xs after x keys new e absent inserted pushed =
+    inserted ∙ ap (λ b. if b then keys else (keys ++ (x.no ∷ []))) absent ∙ ap (λ ks. ks ++ (x.no ∷ [])) e ∙ sym (ap numbers_of pushed ∙ map-append (λ a. a.no) xs (x ∷ []))

@@ -1,4 +1,0 @@
-//! How many adapters there may be.
-
-/// How many adapters a list has attached at most.
-pub const ADAPTERS: usize = 100_000;

@@ -1,0 +1,47 @@
+//! The count of the notices that an adapter has heard.
+ghost use Rattle.std.specs.Prelude.{◌≡◌, ◌+◌, ◌^◌, ◌≤◌, ◌<◌, ◌↔◌, OnOk, IsErrOf};
+
+use crate::adapter::NoRoom;
+
+/// The number of notices that an adapter has heard, where it takes no memory to hear one.
+#[derive(Drop)]
+pub(crate) struct Count {
+    told: u64,
+}
+
+impl Count {
+    /// A count that stands at `told`.
+    pub(crate) fn starting_at(told: u64) -> Count
+        ensures { result.told ≡ told }
+    {
+        Count { told }
+    }
+
+    /// How many were counted.
+    pub(crate) fn told(&self) -> u64
+        ensures { result ≡ self.now.told }
+    {
+        self.told
+    }
+
+    /// Full exactly where it can't count `n` more; never Memory.
+    pub(crate) fn reserve(&self, n: u64) -> Result<(), NoRoom>
+        ensures ok { OnOk result (self.now.told + n < 2 ^ 64) }
+        ensures full { IsErrOf result NoRoom.Full ↔ (2 ^ 64 ≤ self.now.told + n) }
+        ensures needs_no_memory { IsErrOf result NoRoom.Memory → ⊥ }
+        ensures in_range { self.now.told < 2 ^ 64 }
+    {
+        if n > u64::MAX - self.told {
+            return Err(NoRoom::Full);
+        }
+        Ok(())
+    }
+
+    /// Counts one more.
+    pub(crate) fn add(&mut self)
+        requires { self.old.told + 1 < 2 ^ 64 }
+        ensures { self.new.told ≡ self.old.told + 1 }
+    {
+        self.told += 1;
+    }
+}

@@ -1,0 +1,70 @@
+//! A case as it is written.
+use crate::expand::push_line;
+use crate::fault::CaseFault;
+use std::alloc::Global;
+
+/// A case: a metamodel, a script over it, and what the two must give.
+#[derive(Drop)]
+pub struct Case<'a> {
+    /// What it shows.
+    pub name: &'a str,
+    /// The name of its metamodel's file, without `.json`; where there is none, the document is the metamodel.
+    pub metamodel: Option<&'a str>,
+    /// The metamodel's text, where it stands in the case.
+    pub document: Vec<u8>,
+    /// The script, each line with its newline.
+    script: Vec<u8>,
+    /// What must be printed.
+    pub expected: Vec<u8>,
+}
+
+impl<'a> Case<'a> {
+    /// Reads a case: a line with its name, and then lines up to an empty one.
+    ///
+    /// `metamodel NAME` names its metamodel's file, `document TEXT` is its metamodel, `> TEXT` is a line of the script, and
+    /// any other line is one that must be printed.
+    pub fn parse(alloc: Global, text: &'a str) -> Result<Case<'a>, CaseFault> {
+        let mut lines = text.lines();
+        let mut case = Case {
+            name: lines.next().unwrap_or(""),
+            metamodel: None,
+            document: Vec::new(alloc),
+            script: Vec::new(alloc),
+            expected: Vec::new(alloc),
+        };
+        for line in lines.take_while(|line| !line.is_empty()) {
+            case.push(line)?;
+        }
+        Ok(case)
+    }
+
+    /// The script, if the case has one.
+    pub fn script(&self) -> Option<&[u8]> {
+        if self.script.is_empty() {
+            return None;
+        }
+        Some(self.script.as_slice())
+    }
+
+    /// The script without its last newline.
+    pub fn unended_script(&self) -> Option<&[u8]> {
+        self.script()
+            .and_then(|bytes| bytes.strip_suffix(b"\n".as_slice()))
+    }
+
+    /// Adds a line.
+    fn push(&mut self, line: &'a str) -> Result<(), CaseFault> {
+        if let Some(name) = line.strip_prefix("metamodel ") {
+            self.metamodel = Some(name);
+            Ok(())
+        } else if let Some(text) = line.strip_prefix("document ") {
+            push_line(&mut self.document, text)
+        } else if let Some(text) = line.strip_prefix("> ") {
+            push_line(&mut self.script, text)
+        } else if line == ">" {
+            push_line(&mut self.script, "")
+        } else {
+            push_line(&mut self.expected, line)
+        }
+    }
+}

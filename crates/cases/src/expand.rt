@@ -1,0 +1,61 @@
+//! Marks in a case's text: what is long or can't be seen is written short.
+//!
+//! `<<xFF>>` is a byte by its two hexadecimal digits. `<<3* ab%,>>` is a text so many times, each `%` in it being how often
+//! it came before: `ab0,ab1,ab2,`.
+use crate::fault::CaseFault;
+use std::io::Write;
+
+/// Adds a text once, with `number` in place of each `%`.
+fn push_numbered(out: &mut Vec<u8>, text: &str, number: u32) -> Result<(), CaseFault> {
+    for (i, piece) in text.split('%').enumerate() {
+        if i > 0 {
+            write!(out, "{number}")?;
+        }
+        out.extend_from_slice(piece.as_bytes())?;
+    }
+    Ok(())
+}
+
+/// Adds what a mark stands for.
+fn push_mark(out: &mut Vec<u8>, mark: &str) -> Result<(), CaseFault> {
+    if let Some(digits) = mark.strip_prefix('x') {
+        let Ok(byte) = u8::from_str_radix(digits, 16) else {
+            return Err(CaseFault::Mark);
+        };
+        out.push(byte)?;
+        return Ok(());
+    }
+    let Some((count, text)) = mark.split_once("* ") else {
+        return Err(CaseFault::Mark);
+    };
+    let Ok(count) = count.parse::<u32>() else {
+        return Err(CaseFault::Mark);
+    };
+    for number in 0..count {
+        push_numbered(out, text, number)?;
+    }
+    Ok(())
+}
+
+/// Adds a text whose first part, up to `>>`, is a mark.
+fn push_after_mark(out: &mut Vec<u8>, text: &str) -> Result<(), CaseFault> {
+    let Some((mark, rest)) = text.split_once(">>") else {
+        return Err(CaseFault::Mark);
+    };
+    push_mark(out, mark)?;
+    out.extend_from_slice(rest.as_bytes())?;
+    Ok(())
+}
+
+/// Adds a line: its text with each mark replaced by what it stands for, and a newline.
+pub fn push_line(out: &mut Vec<u8>, text: &str) -> Result<(), CaseFault> {
+    for (i, piece) in text.split("<<").enumerate() {
+        if i == 0 {
+            out.extend_from_slice(piece.as_bytes())?;
+        } else {
+            push_after_mark(out, piece)?;
+        }
+    }
+    out.push(b'\n')?;
+    Ok(())
+}

@@ -1,0 +1,162 @@
+//! Runs cases and compares what each gives with what it expects.
+//!
+//! `cases FILE..` reads files of cases and the metamodels that they name; CONTRIBUTING.md explains how a case is written.
+//! A case that differs is printed with what was expected and what it gave, and the status is then 1. The last line counts
+//! the cases.
+#![tactic(auto)]
+
+mod case;
+mod expand;
+mod fault;
+mod outcome;
+
+use case::Case;
+use fault::CaseFault;
+use outcome::outcome_of;
+use std::io::{BufWriter, Read, Write};
+use std::process::ExitCode;
+use std::{env, fs, io};
+
+/// How many cases gave what they expect, and how many did not.
+#[derive(Clone, Copy)]
+struct Tally {
+    passed: u64,
+    failed: u64,
+}
+
+impl Tally {
+    fn with(self, passes: bool) -> Tally {
+        Tally {
+            passed: self.passed.saturating_add(u64::from(passes)),
+            failed: self.failed.saturating_add(u64::from(!passes)),
+        }
+    }
+}
+
+/// The bytes of a file in the folder where the program runs.
+fn read_file(rt: &HostRuntime, path: &str) -> Result<Vec<u8>, CaseFault> {
+    let Ok(mut file) = fs::open(rt, path) else {
+        return Err(CaseFault::Unreadable);
+    };
+    let mut bytes = Vec::new(rt.alloc());
+    match file.read_to_end(&mut bytes) {
+        Ok(_) => Ok(bytes),
+        Err(_) => Err(CaseFault::Unreadable),
+    }
+}
+
+/// Writes a difference.
+fn report<W: Write>(writer: &mut W, case: &Case<'_>, given: &[u8]) -> Result<(), io::Error> {
+    writeln!(writer, "case differs: {}", case.name)?;
+    writeln!(writer, "expected:")?;
+    writer.write_all(case.expected.as_slice())?;
+    writeln!(writer, "given:")?;
+    writer.write_all(given)
+}
+
+/// The metamodel of a case.
+fn metamodel_of(rt: &HostRuntime, case: &Case<'_>) -> Result<Vec<u8>, CaseFault> {
+    match case.metamodel {
+        Some(name) => {
+            let path = format!(in rt.alloc(); "{name}.json")?;
+            read_file(rt, path.as_str())
+        }
+        None => Ok(Vec::from_slice(rt.alloc(), case.document.as_slice())?),
+    }
+}
+
+/// Runs a case, with the last newline of its script and without it; answers whether it gives what it expects.
+fn passes<W: Write>(rt: &HostRuntime, writer: &mut W, case: &Case<'_>) -> Result<bool, CaseFault> {
+    let metamodel = metamodel_of(rt, case)?;
+    let scripts = [case.script(), case.unended_script()];
+    for script in scripts {
+        let given = outcome_of(rt.alloc(), metamodel.as_slice(), script)?;
+        if given.as_slice() != case.expected.as_slice() {
+            report(writer, case, given.as_slice())?;
+            return Ok(false);
+        }
+    }
+    Ok(true)
+}
+
+/// Parses a case and runs it.
+fn parse_and_run<W: Write>(
+    rt: &HostRuntime,
+    writer: &mut W,
+    text: &str,
+) -> Result<bool, CaseFault> {
+    let case = Case::parse(rt.alloc(), text)?;
+    passes(rt, writer, &case)
+}
+
+/// Runs a case; one that can't be run is written and does not pass.
+fn run_case<W: Write>(rt: &HostRuntime, writer: &mut W, text: &str) -> Result<bool, io::Error> {
+    match parse_and_run(rt, writer, text) {
+        Ok(passes) => Ok(passes),
+        Err(fault) => {
+            let name = text.lines().next().unwrap_or("");
+            writeln!(writer, "case can't be run: {name}: {fault}")?;
+            Ok(false)
+        }
+    }
+}
+
+/// Runs the cases of a text: each begins with a line `== NAME`.
+fn run_cases<W: Write>(
+    rt: &HostRuntime,
+    writer: &mut W,
+    text: &str,
+    tally: Tally,
+) -> Result<Tally, io::Error> {
+    let mut tally = tally;
+    for case in text.split("\n== ").skip(1) {
+        tally = tally.with(run_case(rt, writer, case)?);
+    }
+    Ok(tally)
+}
+
+/// Runs the cases of a file; a file that can't be read counts as a case that fails.
+fn run_file<W: Write>(
+    rt: &HostRuntime,
+    writer: &mut W,
+    path: &str,
+    tally: Tally,
+) -> Result<Tally, io::Error> {
+    match read_file(rt, path).map(|bytes| String::from_utf8(bytes)) {
+        Ok(Ok(text)) => run_cases(rt, writer, text.as_str(), tally),
+        _ => {
+            writeln!(writer, "file can't be read: {path}")?;
+            Ok(tally.with(false))
+        }
+    }
+}
+
+/// Runs the files that the arguments name; answers whether each case passes.
+fn run_files<W: Write>(rt: &HostRuntime, writer: &mut W) -> Result<bool, io::Error> {
+    let mut tally = Tally {
+        passed: 0,
+        failed: 0,
+    };
+    for path in env::args(rt)?.skip(1) {
+        tally = run_file(rt, writer, path.as_str(), tally)?;
+    }
+    writeln!(
+        writer,
+        "cases: {} passed, {} failed",
+        tally.passed, tally.failed
+    )?;
+    writer.flush()?;
+    Ok(tally.failed == 0)
+}
+
+fn start(rt: &HostRuntime) -> Result<bool, io::Error> {
+    let mut writer = BufWriter::new(rt.alloc(), io::writer(rt))?;
+    run_files(rt, &mut writer)
+}
+
+fn main(rt: HostRuntime) -> ExitCode {
+    match start(&rt) {
+        Ok(true) => ExitCode::SUCCESS,
+        _ => ExitCode::FAILURE,
+    }
+}

@@ -1,0 +1,5 @@
+use Rattle.handshake.proofs.LegalLemmas.{change-keeps-legal}
+use Rattle.handshake.proofs.laws.keeps_legal.Goals as goal
+
+pub returns : goal.returns
+returns c = change-keeps-legal

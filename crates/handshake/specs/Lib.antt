@@ -1,0 +1,5 @@
+pub mod Effects
+pub mod Named
+pub mod Refusals
+pub mod Plans
+pub mod Laws

@@ -1,0 +1,225 @@
+//! Small graphs with answers by hand, and a ladder with more paths than can be walked one by one.
+ghost use Rattle.std.specs.Prelude.{◌<◌, ◌↔◌, IsTrue};
+ghost use Rattle.std.specs.List.{All};
+ghost use Rattle.mm_graph.specs.Order.{InRange};
+
+use mm_graph::{
+    clashes, conform_table, conforming, features_table, first_on_cycle, laws, order_of,
+    reached_from,
+};
+use mm_types::{Seq, Text};
+use std::alloc::{AllocError, Global};
+use std::fmt::Debug;
+use std::test::Fail;
+
+/// Rows of numbers, as a graph has them.
+fn rows_of(alloc: Global, rows: &[&[usize]]) -> Result<Vec<Seq<usize>>, AllocError> {
+    let mut made = Vec::new(alloc);
+    for row in rows {
+        let items = Vec::from_slice(alloc, row)?;
+        made.push(Seq::from_vec(items))?;
+    }
+    Ok(made)
+}
+
+fn is_below(numbers: &[usize], count: usize) -> bool
+    ensures { IsTrue result ↔ All (λ n. n < count) numbers.now }
+{
+    numbers.iter().all(|n| *n < count)
+}
+
+/// Whether every supertype is a class.
+fn is_in_range(graph: &[Seq<usize>]) -> bool
+    ensures { IsTrue result ↔ InRange graph.now }
+{
+    let count = graph.len();
+    graph
+        .iter()
+        .all(|supers| is_below(supers.as_slice(), count))
+}
+
+/// Class 0 inherits the features of class 3 by two ways; classes 1 and 2 do not know each other.
+fn diamond(alloc: Global) -> Result<Vec<Seq<usize>>, AllocError> {
+    rows_of(alloc, &[&[2, 1], &[3], &[3], &[]])
+}
+
+/// A ladder of diamonds: each class 3i is the supertype of 3i+1 and 3i+2, and these of 3i+3.
+fn ladder(alloc: Global, count: usize) -> Result<Vec<Seq<usize>>, AllocError> {
+    let mut graph = Vec::new(alloc);
+    for c in 0..count {
+        let mut supers = Seq::new(alloc);
+        if c > 0 {
+            match c % 3 {
+                0 => {
+                    supers.push(c - 2)?;
+                    supers.push(c - 1)?;
+                }
+                1 => supers.push(c - 1)?,
+                _ => supers.push(c - 2)?,
+            }
+        }
+        graph.push(supers)?;
+    }
+    Ok(graph)
+}
+
+/// Rows, each between brackets.
+fn shown<T: Debug>(alloc: Global, rows: &[Seq<T>]) -> Result<String, AllocError> {
+    let mut shown = String::new(alloc);
+    for row in rows {
+        let row = format!(in alloc; "{:?}", row.as_slice())?;
+        shown.push_str(row.as_str())?;
+    }
+    Ok(shown)
+}
+
+/// An order of the classes in which each comes behind its supertypes, and all features of each class, where `own` has the
+/// features that each declares.
+fn inherited(alloc: Global, graph: &[Seq<usize>], own: &[Seq<usize>]) -> Result<String, Fail> {
+    if !is_in_range(graph) || own.len() != graph.len() {
+        return Err(Fail::new("these are no classes"));
+    }
+    let Some(order) = order_of(alloc, graph)? else {
+        return Err(Fail::new("there is a cycle"));
+    };
+    laws::all_features_from_supers(graph, own, &order);
+    laws::order_rules_out_cycles(graph, &order);
+    let table = features_table(alloc, graph, own, &order)?;
+    let rows = shown(alloc, &table)?;
+    Ok(format!(in alloc; "{order:?} {rows}")?)
+}
+
+#[test]
+fn features_are_inherited_through_a_diamond_in_order(rt: HostRuntime) -> Result<(), Fail> {
+    let alloc = rt.alloc();
+    let graph = diamond(alloc)?;
+    let own = rows_of(alloc, &[&[40], &[20], &[30, 31], &[10, 11]])?;
+    let found = inherited(alloc, &graph, &own)?;
+    let wanted = "[3, 2, 1, 0] [10, 11, 30, 31, 20, 40][10, 11, 20][10, 11, 30, 31][10, 11]";
+    assert_eq!(rt; found.as_str(), wanted);
+    Ok(())
+}
+
+/// For each class the classes that it conforms to, and those that one class conforms to and that it reaches.
+fn conformance(alloc: Global, graph: &[Seq<usize>], class: usize) -> Result<String, Fail> {
+    if !is_in_range(graph) || class >= graph.len() {
+        return Err(Fail::new("these are no classes"));
+    }
+    let table = conform_table(alloc, graph)?;
+    let rows = shown(alloc, table.as_slice())?;
+    let conforming = conforming(alloc, graph, class)?;
+    let reached = reached_from(alloc, graph, class)?;
+    let (conforming, reached) = (conforming.as_slice(), reached.as_slice());
+    Ok(format!(in alloc; "{rows} {conforming:?} {reached:?}")?)
+}
+
+/// The conformance of the diamond, and what class 1 conforms to and reaches.
+const CONFORMANCE: &str =
+    "[true, true, true, true][false, true, false, true][false, false, true, true][false, false, false, true] [false, true, false, true] [false, false, false, true]";
+
+#[test]
+fn classes_conform_through_two_steps_and_not_sideways(rt: HostRuntime) -> Result<(), Fail> {
+    let graph = diamond(rt.alloc())?;
+    let found = conformance(rt.alloc(), &graph, 1)?;
+    assert_eq!(rt; found.as_str(), CONFORMANCE);
+    Ok(())
+}
+
+/// The first class on a cycle, whether there is an order of the classes, and what class 0 reaches.
+fn cycle_of(alloc: Global, graph: &[Seq<usize>]) -> Result<String, Fail> {
+    if !is_in_range(graph) || graph.is_empty() {
+        return Err(Fail::new("these are no classes"));
+    }
+    let first = first_on_cycle(alloc, graph)?;
+    let has_order = order_of(alloc, graph)?.is_some();
+    let reached = reached_from(alloc, graph, 0)?;
+    Ok(format!(in alloc; "{first:?} {has_order} {:?}", reached.as_slice())?)
+}
+
+#[test]
+fn a_cycle_is_found_at_its_first_class(rt: HostRuntime) -> Result<(), Fail> {
+    // Class 0 reaches the cycle of 1, 2 and 3, and does not stand on it.
+    let graph = rows_of(rt.alloc(), &[&[2], &[2], &[3], &[1]])?;
+    let found = cycle_of(rt.alloc(), &graph)?;
+    assert_eq!(rt; found.as_str(), "Some(1) false [false, true, true, true]");
+    Ok(())
+}
+
+fn names_of(alloc: Global, rows: &[[&str; 2]]) -> Result<Vec<Seq<Text>>, AllocError> {
+    let mut names = Vec::new(alloc);
+    for [first, second] in rows {
+        let mut own = Seq::new(alloc);
+        own.push(Text::from_str(alloc, *first)?)?;
+        own.push(Text::from_str(alloc, *second)?)?;
+        names.push(own)?;
+    }
+    Ok(names)
+}
+
+/// For each class whether two of its features share a name.
+fn clashing(alloc: Global, graph: &[Seq<usize>], names: &[Seq<Text>]) -> Result<String, Fail> {
+    if !is_in_range(graph) || names.len() != graph.len() {
+        return Err(Fail::new("these are no classes"));
+    }
+    let mut found = String::new(alloc);
+    for c in 0..graph.len() {
+        let clash = clashes(alloc, graph, names, c)?;
+        found.push_str(if clash { "clash " } else { "ok " })?;
+    }
+    Ok(found)
+}
+
+/// The names of the features that each class of the diamond declares.
+const NAMES: [[&str; 2]; 4] = [
+    ["id", "kind"],
+    ["size", "owner"],
+    ["size", "price"],
+    ["name", "number"],
+];
+
+#[test]
+fn names_clash_across_a_diamond(rt: HostRuntime) -> Result<(), Fail> {
+    let graph = diamond(rt.alloc())?;
+    let names = names_of(rt.alloc(), &NAMES)?;
+    let found = clashing(rt.alloc(), &graph, &names)?;
+    assert_eq!(rt; found.as_str(), "clash ok ok ok ");
+    Ok(())
+}
+
+/// A feature of its own for each class, of the class's number.
+fn one_each(alloc: Global, count: usize) -> Result<Vec<Seq<usize>>, AllocError> {
+    let mut own = Vec::new(alloc);
+    for c in 0..count {
+        let mut features = Seq::new(alloc);
+        features.push(c)?;
+        own.push(features)?;
+    }
+    Ok(own)
+}
+
+/// The first class on a cycle, how many features the last class has, and whether it conforms to every class.
+fn last_of(alloc: Global, graph: &[Seq<usize>], own: &[Seq<usize>]) -> Result<String, Fail> {
+    if !is_in_range(graph) || own.len() != graph.len() {
+        return Err(Fail::new("these are no classes"));
+    }
+    let Some(order) = order_of(alloc, graph)? else {
+        return Err(Fail::new("there is a cycle"));
+    };
+    let first = first_on_cycle(alloc, graph)?;
+    let table = features_table(alloc, graph, own, &order)?;
+    let rows = conform_table(alloc, graph)?;
+    let (Some(features), Some(conforms)) = (table.last(), rows.as_slice().last()) else {
+        return Err(Fail::new("there is no class"));
+    };
+    let conforms_to_all = conforms.as_slice().iter().all(|conforms| *conforms);
+    Ok(format!(in alloc; "{first:?} {} {conforms_to_all}", features.len())?)
+}
+
+#[test]
+fn many_paths_take_little_time(rt: HostRuntime) -> Result<(), Fail> {
+    let graph = ladder(rt.alloc(), 901)?;
+    let own = one_each(rt.alloc(), 901)?;
+    let found = last_of(rt.alloc(), &graph, &own)?;
+    assert_eq!(rt; found.as_str(), "None 901 true");
+    Ok(())
+}

@@ -1,0 +1,90 @@
+//! Texts, values and sequences by their calls.
+use mm_types::{AdapterNo, ObjectNo, Seq, Text, Value};
+use std::alloc::{AllocError, Global};
+use std::test::Fail;
+
+/// A text as it is, as it is copied, and as its `String`.
+fn texts(alloc: Global) -> Result<String, AllocError> {
+    let text = Text::from_str(alloc, "a é")?;
+    let copy = text.clone()?;
+    let made = Text::from_string(copy.into_string());
+    format!(in alloc; "{} {}", text.as_str(), made.as_str())
+}
+
+#[test]
+fn texts_keep_their_string(rt: HostRuntime) -> Result<(), Fail> {
+    let found = texts(rt.alloc())?;
+    assert_eq!(rt; found.as_str(), "a é a é");
+    Ok(())
+}
+
+/// A value and a copy of it, as they are shown.
+fn shown_twice(alloc: Global, value: &Value) -> Result<String, AllocError> {
+    let copy = value.clone()?;
+    format!(in alloc; "{value:?} {copy:?}")
+}
+
+const VALUES: [(Value, &str); 6] = [
+    (Value::Null, "Null Null"),
+    (Value::Bool(true), "Bool(true) Bool(true)"),
+    (Value::Int(-5), "Int(-5) Int(-5)"),
+    (Value::Literal(7), "Literal(7) Literal(7)"),
+    (
+        Value::Object(ObjectNo(3)),
+        "Object(ObjectNo(3)) Object(ObjectNo(3))",
+    ),
+    (
+        Value::Adapter(AdapterNo(9)),
+        "Adapter(AdapterNo(9)) Adapter(AdapterNo(9))",
+    ),
+];
+
+#[test]
+fn values_are_cloned(rt: HostRuntime) -> Result<(), Fail> {
+    for (value, wanted) in &VALUES {
+        let found = shown_twice(rt.alloc(), value)?;
+        assert_eq!(rt; found.as_str(), *wanted);
+    }
+    Ok(())
+}
+
+/// A text and a proxy, each beside its copy.
+fn texts_shown(alloc: Global) -> Result<String, AllocError> {
+    let text = Value::Text(Text::from_str(alloc, "a")?);
+    let text = shown_twice(alloc, &text)?;
+    let proxy = Value::Proxy(Text::from_str(alloc, "b#/0")?);
+    let proxy = shown_twice(alloc, &proxy)?;
+    format!(in alloc; "{text} {proxy}")
+}
+
+#[test]
+fn values_of_text_are_cloned(rt: HostRuntime) -> Result<(), Fail> {
+    let found = texts_shown(rt.alloc())?;
+    let wanted = "Text(\"a\") Text(\"a\") Proxy(\"b#/0\") Proxy(\"b#/0\")";
+    assert_eq!(rt; found.as_str(), wanted);
+    Ok(())
+}
+
+/// How many items a sequence has, whether it has none, and its items by each call that gives them.
+fn sequence(alloc: Global, numbers: Seq<usize>) -> Result<String, AllocError> {
+    let (len, is_empty) = (numbers.len(), numbers.is_empty());
+    let mut shown = format!(in alloc; "{len} {is_empty} {:?}", numbers.as_slice())?;
+    let items = format!(in alloc; " {:?}", numbers.into_vec())?;
+    shown.push_str(items.as_str())?;
+    Ok(shown)
+}
+
+fn three_numbers(alloc: Global) -> Result<Seq<usize>, AllocError> {
+    let mut numbers = Seq::from_vec(Vec::from_slice(alloc, &[3, 1])?);
+    numbers.push(2)?;
+    Ok(numbers)
+}
+
+#[test]
+fn sequences_keep_their_items(rt: HostRuntime) -> Result<(), Fail> {
+    let found = sequence(rt.alloc(), three_numbers(rt.alloc())?)?;
+    assert_eq!(rt; found.as_str(), "3 false [3, 1, 2] [3, 1, 2]");
+    let found = sequence(rt.alloc(), Seq::new(rt.alloc()))?;
+    assert_eq!(rt; found.as_str(), "0 true [] []");
+    Ok(())
+}

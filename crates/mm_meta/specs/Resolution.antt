@@ -1,0 +1,12 @@
+-- What a document resolves to.
+use Rattle.std.specs.Prelude.{◌≡◌}
+use Rattle.mm_types.specs.Raw.{RawMetamodel}
+use Rattle.mm_types.specs.Resolved.{classes_from, features_from, graph_of}
+use Rattle.mm_graph.specs.ConformTable.{IsConformTable}
+use Rattle.mm_meta.specs.declared.resolution.Resolution.{Resolution}
+
+-- the classes and features of a document by number, and which classes conform to which
+pub record IsResolutionOf (raw : RawMetamodel) (r : Resolution) : Type 0 where
+  pub classes : r.classes ≡ classes_from raw.classes 0 raw.classes
+  pub features : r.features ≡ features_from raw 0 raw.classes
+  pub conformance : IsConformTable (graph_of raw.classes) r.conformance

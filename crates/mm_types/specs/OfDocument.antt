@@ -1,0 +1,12 @@
+-- The metamodels that documents give.
+use Rattle.std.specs.Prelude.{◌≡◌, IsTrue}
+use Rattle.mm_types.specs.Raw.{RawMetamodel, is_within_limits}
+use Rattle.mm_types.specs.Resolved.{Metamodel, resolved}
+use Rattle.mm_types.specs.WellFormed.{WellFormed}
+
+-- a metamodel is that of some document that is well-formed and within the limits
+pub record IsOfDocument (m : Metamodel) : Type 0 where
+  pub raw : RawMetamodel
+  pub fits : IsTrue (is_within_limits raw)
+  pub well_formed : WellFormed raw
+  pub is : m ≡ resolved raw

@@ -1,0 +1,45 @@
+//! Command lines that the program takes, and others.
+use clap::error::ErrorKind;
+use script_program::meta_file;
+use std::alloc::Global;
+use std::test::Fail;
+
+#[test]
+fn the_file_of_the_metamodel_is_read_from_the_words(rt: HostRuntime) -> Result<(), Fail> {
+    let cases: [(&[&str], &str); 3] = [
+        (&["mmrepo", "--meta", "a.json"], "a.json"),
+        (&["mmrepo", "--meta=b.json"], "b.json"),
+        (&["", "--meta", "c d"], "c d"),
+    ];
+    for (words, file) in &cases {
+        assert_eq!(rt; meta_file(rt.alloc(), *words)?, *file);
+    }
+    Ok(())
+}
+
+fn kind_of(alloc: Global, words: &[&str]) -> Option<ErrorKind> {
+    match meta_file(alloc, words) {
+        Ok(_) => None,
+        Err(error) => Some(error.kind()),
+    }
+}
+
+#[test]
+fn other_words_are_refused(rt: HostRuntime) {
+    let cases: [(&[&str], ErrorKind); 5] = [
+        (&["mmrepo"], ErrorKind::MissingRequiredArgument),
+        (
+            &["mmrepo", "--meta", "a", "--meta", "b"],
+            ErrorKind::ArgumentConflict,
+        ),
+        (
+            &["mmrepo", "--meta", "a", "--other"],
+            ErrorKind::UnknownArgument,
+        ),
+        (&["mmrepo", "--meta"], ErrorKind::InvalidValue),
+        (&["mmrepo", "--help"], ErrorKind::DisplayHelp),
+    ];
+    for (words, kind) in &cases {
+        assert_eq!(rt; kind_of(rt.alloc(), *words), Some(*kind));
+    }
+}

@@ -1,0 +1,173 @@
+//! Adapters that are attached, notified, refused and detached.
+use crate::notices::added;
+use crate::poor::Poor;
+use crate::telling::{attach, tell, three, three_notices};
+use adapter_list::AdapterList;
+use adapters::{Adapter, Counter, Recorder, Window};
+use mm_types::{AdapterNo, Node, ObjectNo, Refused};
+use notice_chain::Chain;
+use std::alloc::Global;
+use std::test::Fail;
+
+/// How many notices the three adapters of a list were told.
+fn told_of_three<A: Adapter>(list: &AdapterList<A>) -> [Option<u64>; 3] {
+    [
+        list.told(AdapterNo(5)),
+        list.told(AdapterNo(6)),
+        list.told(AdapterNo(7)),
+    ]
+}
+
+/// A counter that can hear two notices more, and so not two and its last one.
+const NEARLY_FULL: u64 = 18446744073709551613;
+
+/// Why three notices are not delivered to a list of three adapters at object 1, and how many each was told then.
+fn refused_to_three<A: Adapter>(
+    alloc: Global,
+    adapters: [A; 3],
+) -> Result<(Option<Refused>, [Option<u64>; 3]), Fail> {
+    let mut list = three(alloc, [1, 1, 1], adapters)?;
+    let chain = three_notices(alloc)?;
+    let refused = tell(&mut list, &chain).err();
+    Ok((refused, told_of_three(&list)))
+}
+
+/// That no adapter was notified.
+const NONE_TOLD: [Option<u64>; 3] = [Some(0), Some(NEARLY_FULL), Some(0)];
+
+#[test]
+fn a_chain_that_one_adapter_cannot_hear_notifies_none(rt: HostRuntime) -> Result<(), Fail> {
+    let alloc = rt.alloc();
+    let first: Box<dyn Adapter> = Box::new(alloc, Recorder::new(alloc))?;
+    let full: Box<dyn Adapter> = Box::new(alloc, Counter::starting_at(NEARLY_FULL))?;
+    let third: Box<dyn Adapter> = Box::new(alloc, Recorder::new(alloc))?;
+    let found = refused_to_three(alloc, [first, full, third])?;
+    assert_eq!(rt; found, (Some(Refused::AdapterFull), NONE_TOLD));
+    Ok(())
+}
+
+#[test]
+fn an_adapter_that_is_refused_memory_decides_where_it_is_first(
+    rt: HostRuntime,
+) -> Result<(), Fail> {
+    let alloc = rt.alloc();
+    let poor: Box<dyn Adapter> = Box::new(alloc, Poor::new())?;
+    let full: Box<dyn Adapter> = Box::new(alloc, Counter::starting_at(NEARLY_FULL))?;
+    let third: Box<dyn Adapter> = Box::new(alloc, Recorder::new(alloc))?;
+    let found = refused_to_three(alloc, [poor, full, third])?;
+    assert_eq!(rt; found, (Some(Refused::Memory), NONE_TOLD));
+    Ok(())
+}
+
+#[test]
+fn a_full_adapter_decides_where_it_is_first(rt: HostRuntime) -> Result<(), Fail> {
+    let alloc = rt.alloc();
+    let first: Box<dyn Adapter> = Box::new(alloc, Recorder::new(alloc))?;
+    let full: Box<dyn Adapter> = Box::new(alloc, Counter::starting_at(NEARLY_FULL))?;
+    let poor: Box<dyn Adapter> = Box::new(alloc, Poor::new())?;
+    let found = refused_to_three(alloc, [first, full, poor])?;
+    assert_eq!(rt; found, (Some(Refused::AdapterFull), NONE_TOLD));
+    Ok(())
+}
+
+/// Three counters: two at object 1, and one at object 2 between them.
+fn counters(alloc: Global) -> Result<Box<AdapterList<Counter>>, Fail> {
+    let counters = [Counter::new(), Counter::new(), Counter::new()];
+    three(alloc, [1, 2, 1], counters)
+}
+
+/// The number and the target of the adapter at each place, and at the place past the last.
+const PLACES: [Option<(AdapterNo, Node)>; 4] = [
+    Some((AdapterNo(5), Node::Object(ObjectNo(1)))),
+    Some((AdapterNo(6), Node::Object(ObjectNo(2)))),
+    Some((AdapterNo(7), Node::Object(ObjectNo(1)))),
+    None,
+];
+
+#[test]
+fn adapters_stand_in_attach_order(rt: HostRuntime) -> Result<(), Fail> {
+    let list = counters(rt.alloc())?;
+    assert_eq!(rt; list.len(), 3);
+    for (i, wanted) in PLACES.iter().enumerate() {
+        assert!(rt; list.at(i) == *wanted, "at {i}");
+    }
+    assert_eq!(rt; list.told(AdapterNo(8)), None);
+    assert_eq!(rt; list.kept_len(AdapterNo(5)), Some(0));
+    let audience = list.audience(&added(1, 0))?;
+    let found = format!(in rt.alloc(); "{audience:?}")?;
+    assert_eq!(rt; found.as_str(), "[AdapterNo(5), AdapterNo(7)]");
+    Ok(())
+}
+
+/// Delivers three notices to a list of two adapters at object 1 and one at object 2 between them. Shows who is told
+/// what, by the adapter's number and the notice's position, how many each was told, and how many the first keeps.
+fn delivered<A: Adapter>(alloc: Global, adapters: [A; 3]) -> Result<String, Fail> {
+    let mut list = three(alloc, [1, 2, 1], adapters)?;
+    let chain = three_notices(alloc)?;
+    let told = tell(&mut list, &chain)?;
+    let mut shown = String::new(alloc);
+    for (no, notice) in &told {
+        let one = format!(in alloc; "{} {}, ", no.0, notice.position)?;
+        shown.push_str(one.as_str())?;
+    }
+    let (told, kept) = (told_of_three(&list), list.kept_len(AdapterNo(5)));
+    Ok(format!(in alloc; "{shown}told {told:?} kept {kept:?}")?)
+}
+
+const DELIVERED: &str = "5 0, 7 0, 6 0, 5 1, 7 1, told [Some(2), Some(1), Some(2)] kept Some(1)";
+
+#[test]
+fn a_chain_is_delivered_in_order_to_its_audience(rt: HostRuntime) -> Result<(), Fail> {
+    let alloc = rt.alloc();
+    let first: Box<dyn Adapter> = Box::new(alloc, Window::new(alloc, 1)?)?;
+    let second: Box<dyn Adapter> = Box::new(alloc, Recorder::new(alloc))?;
+    let third: Box<dyn Adapter> = Box::new(alloc, Counter::new())?;
+    let found = delivered(alloc, [first, second, third])?;
+    assert_eq!(rt; found.as_str(), DELIVERED);
+    Ok(())
+}
+
+#[test]
+fn a_window_of_two_in_a_list_keeps_two_of_three(rt: HostRuntime) -> Result<(), Fail> {
+    let alloc = rt.alloc();
+    let mut list = Box::new(alloc, AdapterList::new(alloc))?;
+    attach(&mut list, 5, 1, Window::new(alloc, 2)?)?;
+    let chain = Chain::from_vec(vec![in alloc; added(1, 0), added(1, 1), added(1, 2)]?);
+    assert!(rt; tell(&mut list, &chain).is_ok());
+    assert_eq!(rt; list.told(AdapterNo(5)), Some(3));
+    assert_eq!(rt; list.kept_len(AdapterNo(5)), Some(2));
+    Ok(())
+}
+
+/// The position in the last notice of an adapter that is detached, and how many it was told.
+fn detached<A: Adapter>(list: &mut AdapterList<A>, no: u32) -> Option<(i64, u64)> {
+    match list.detach(AdapterNo(no)) {
+        Some((notice, adapter)) => Some((notice.position, adapter.told())),
+        None => None,
+    }
+}
+
+#[test]
+fn a_detached_adapter_is_told_its_index_at_the_target(rt: HostRuntime) -> Result<(), Fail> {
+    let mut list = counters(rt.alloc())?;
+    let found = [
+        detached(&mut list, 7),
+        detached(&mut list, 5),
+        detached(&mut list, 5),
+    ];
+    assert_eq!(rt; found, [Some((1, 1)), Some((0, 1)), None]);
+    assert_eq!(rt; list.len(), 1);
+    Ok(())
+}
+
+#[test]
+fn a_taken_number_and_a_full_adapter_are_not_attached(rt: HostRuntime) -> Result<(), Fail> {
+    let mut list = Box::new(rt.alloc(), AdapterList::new(rt.alloc()))?;
+    attach(&mut list, 5, 1, Counter::new())?;
+    let taken = attach(&mut list, 5, 2, Counter::new());
+    assert_eq!(rt; taken, Err(Refused::AdapterTaken));
+    let last = Counter::starting_at(18446744073709551615);
+    assert_eq!(rt; attach(&mut list, 6, 2, last), Err(Refused::AdapterFull));
+    assert_eq!(rt; list.len(), 1);
+    Ok(())
+}

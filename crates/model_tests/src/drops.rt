@@ -1,0 +1,55 @@
+//! Each adapter is dropped once: after it was detached, after the list was closed, and with the list.
+use crate::tally::Tally;
+use crate::telling::three;
+use adapters::Adapter;
+use mm_types::AdapterNo;
+use std::alloc::Global;
+use std::cell::Cell;
+use std::rc::Rc;
+use std::test::Fail;
+
+/// How many parts are dropped when one of three adapters is detached, when it is dropped, when the list is closed, and
+/// at the end.
+fn drops_on_the_way<A: Adapter>(
+    alloc: Global,
+    adapters: [A; 3],
+    drops: &Cell<u64>,
+) -> Result<[u64; 4], Fail> {
+    let mut list = three(alloc, [1, 2, 1], adapters)?;
+    let detached = list.detach(AdapterNo(6));
+    let after_detach = drops.get();
+    drop(detached);
+    let after_drop = drops.get();
+    let closed = Box::into_inner(list).close();
+    let after_close = drops.get();
+    drop(closed);
+    Ok([after_detach, after_drop, after_close, drops.get()])
+}
+
+#[test]
+fn each_part_is_dropped_once(rt: HostRuntime) -> Result<(), Fail> {
+    let alloc = rt.alloc();
+    let drops = Rc::new(alloc, Cell::new(0))?;
+    let first: Box<dyn Adapter> = Box::new(alloc, Tally::new(&drops)?)?;
+    let second: Box<dyn Adapter> = Box::new(alloc, Tally::new(&drops)?)?;
+    let third: Box<dyn Adapter> = Box::new(alloc, Tally::new(&drops)?)?;
+    let found = drops_on_the_way(alloc, [first, second, third], &drops)?;
+    assert_eq!(rt; found, [0, 1, 1, 3]);
+    Ok(())
+}
+
+#[test]
+fn a_dropped_list_drops_its_adapters(rt: HostRuntime) -> Result<(), Fail> {
+    let alloc = rt.alloc();
+    let drops = Rc::new(alloc, Cell::new(0))?;
+    let adapters = [
+        Tally::new(&drops)?,
+        Tally::new(&drops)?,
+        Tally::new(&drops)?,
+    ];
+    let list = three(alloc, [1, 2, 1], adapters)?;
+    assert_eq!(rt; drops.get(), 0);
+    drop(list);
+    assert_eq!(rt; drops.get(), 3);
+    Ok(())
+}

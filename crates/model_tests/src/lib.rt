@@ -1,0 +1,40 @@
+//! Tests of the crates of models and scripts, by calls that a script can't make: streams that fail, memory that is
+//! refused, adapters and their list, and what a command line gives.
+//!
+//! What a script prints stands among the cases.
+#![tactic(auto)]
+
+#[cfg(test)]
+mod adapter_kinds;
+#[cfg(test)]
+mod arguments;
+#[cfg(test)]
+mod attached;
+#[cfg(test)]
+mod books;
+#[cfg(test)]
+mod drops;
+#[cfg(test)]
+mod latest;
+#[cfg(test)]
+mod memory;
+#[cfg(test)]
+mod notices;
+#[cfg(test)]
+mod poor;
+#[cfg(test)]
+mod printed;
+#[cfg(test)]
+mod repositories;
+#[cfg(test)]
+mod runs;
+#[cfg(test)]
+mod script_text;
+#[cfg(test)]
+mod stored_values;
+#[cfg(test)]
+mod streams;
+#[cfg(test)]
+mod tally;
+#[cfg(test)]
+mod telling;

@@ -1,0 +1,231 @@
+//! A call that is refused memory in its middle: nothing has changed, and the same call again is done.
+//!
+//! These tests are for runs in which the n-th allocation is refused, for every n, and pass in each of them: one is
+//! refused, so what finds no memory is asked for once more.
+use crate::books::{BOOK, NAME, PAGES, object, repository, text};
+use mm_types::{FeatureNo, ObjectNo, Refused, Value};
+use repository::{Command, Failure, Reply, Repository};
+use std::alloc::{AllocError, Global};
+use std::fmt::Debug;
+use std::test::Fail;
+
+fn books(alloc: Global) -> Result<Box<Repository>, Fail> {
+    match repository(alloc) {
+        Ok(repository) => Ok(repository),
+        Err(_) => Ok(repository(alloc)?),
+    }
+}
+
+fn emma(alloc: Global) -> Result<Value, AllocError> {
+    match text(alloc, "Emma") {
+        Ok(emma) => Ok(emma),
+        Err(_) => text(alloc, "Emma"),
+    }
+}
+
+/// A value as it is shown.
+fn shown<T: Debug>(alloc: Global, value: &T) -> Result<String, AllocError> {
+    match format!(in alloc; "{value:?}") {
+        Ok(shown) => Ok(shown),
+        Err(_) => format!(in alloc; "{value:?}"),
+    }
+}
+
+fn read(repository: &Repository, feature: FeatureNo) -> Result<Value, Refused> {
+    match repository.e_get(object(0), feature) {
+        Err(Refused::Memory) => repository.e_get(object(0), feature),
+        found => found,
+    }
+}
+
+/// What reads say of the first object, its name, its pages and whether it is named, and of the place of a second.
+fn state(alloc: Global, repository: &Repository) -> Result<String, AllocError> {
+    let name = read(repository, NAME);
+    let pages = read(repository, PAGES);
+    let is_named = repository.e_is_set(object(0), NAME);
+    let next = repository.e_class(ObjectNo(1));
+    shown(alloc, &(name, pages, is_named, next))
+}
+
+/// Fails unless the call was refused memory and has changed nothing.
+fn unchanged(
+    alloc: Global,
+    repository: &Repository,
+    before: &str,
+    refused: Refused,
+) -> Result<(), Fail> {
+    let after = state(alloc, repository)?;
+    if matches!(refused, Refused::Memory) && after.as_str() == before {
+        return Ok(());
+    }
+    Err(Fail::new(format_args!("{refused:?}: {before}, then {after}")))
+}
+
+fn create(alloc: Global, repository: &mut Repository) -> Result<(), Fail> {
+    let before = state(alloc, repository)?;
+    if let Err(refused) = repository.create(BOOK) {
+        unchanged(alloc, repository, before.as_str(), refused)?;
+        repository.create(BOOK)?;
+    }
+    Ok(())
+}
+
+fn e_set(alloc: Global, repository: &mut Repository) -> Result<(), Fail> {
+    let before = state(alloc, repository)?;
+    if let Err(refused) = repository.e_set(object(0), NAME, emma(alloc)?) {
+        unchanged(alloc, repository, before.as_str(), refused)?;
+        repository.e_set(object(0), NAME, emma(alloc)?)?;
+    }
+    Ok(())
+}
+
+fn e_get(alloc: Global, repository: &Repository) -> Result<(), Fail> {
+    let before = state(alloc, repository)?;
+    if let Err(refused) = repository.e_get(object(0), NAME) {
+        unchanged(alloc, repository, before.as_str(), refused)?;
+        let found = repository.e_get(object(0), NAME)?;
+        if !matches!(found, Value::Text(_)) {
+            return Err(Fail::new("the name is not read"));
+        }
+    }
+    Ok(())
+}
+
+fn e_unset(alloc: Global, repository: &mut Repository) -> Result<(), Fail> {
+    let before = state(alloc, repository)?;
+    if let Err(refused) = repository.e_unset(object(0), NAME) {
+        unchanged(alloc, repository, before.as_str(), refused)?;
+        repository.e_unset(object(0), NAME)?;
+    }
+    Ok(())
+}
+
+#[test]
+fn a_refused_call_changes_nothing(rt: HostRuntime) -> Result<(), Fail> {
+    let mut repository = books(rt.alloc())?;
+    create(rt.alloc(), &mut repository)?;
+    e_set(rt.alloc(), &mut repository)?;
+    e_get(rt.alloc(), &repository)?;
+    let named = state(rt.alloc(), &repository)?;
+    let wanted = "(Ok(Text(\"Emma\")), Ok(Int(100)), Ok(true), Err(NoObject))";
+    assert_eq!(rt; named.as_str(), wanted);
+    e_unset(rt.alloc(), &mut repository)?;
+    let unnamed = state(rt.alloc(), &repository)?;
+    let wanted = "(Ok(Null), Ok(Int(100)), Ok(false), Err(NoObject))";
+    assert_eq!(rt; unnamed.as_str(), wanted);
+    Ok(())
+}
+
+/// A command by its place in the list: an object is made, named, read, asked whether it is named, unset and asked for
+/// its class.
+fn command(alloc: Global, at: u32) -> Result<Command, AllocError> {
+    let (node, feature) = (object(0), NAME);
+    Ok(match at {
+        0 => Command::Create(BOOK),
+        1 => Command::Set {
+            node,
+            feature,
+            value: emma(alloc)?,
+        },
+        2 => Command::Get { node, feature },
+        3 => Command::IsSet { node, feature },
+        4 => Command::Unset { node, feature },
+        _ => Command::Class(ObjectNo(0)),
+    })
+}
+
+fn execute(alloc: Global, repository: &mut Repository, at: u32) -> Result<Reply, Fail> {
+    let before = state(alloc, repository)?;
+    match repository.execute(command(alloc, at)?) {
+        Ok(reply) => Ok(reply),
+        Err(Failure { refused }) => {
+            unchanged(alloc, repository, before.as_str(), refused)?;
+            Ok(repository.execute(command(alloc, at)?)?)
+        }
+    }
+}
+
+/// What each command answers.
+const ANSWERS: [&str; 6] = [
+    "Object(ObjectNo(0))",
+    "Done",
+    "Value(Text(\"Emma\"))",
+    "Flag(true)",
+    "Done",
+    "Class(ClassNo(0))",
+];
+
+#[test]
+fn a_refused_command_changes_nothing(rt: HostRuntime) -> Result<(), Fail> {
+    let mut repository = books(rt.alloc())?;
+    for (at, wanted) in (0..6).zip(ANSWERS) {
+        let answer = execute(rt.alloc(), &mut repository, at)?.answer;
+        let found = shown(rt.alloc(), &answer)?;
+        assert_eq!(rt; found.as_str(), wanted);
+    }
+    Ok(())
+}
+
+/// The first three commands.
+fn commands(alloc: Global) -> Result<Vec<Command>, AllocError> {
+    let mut commands = three_places(alloc)?;
+    for at in 0..3 {
+        commands.push(command(alloc, at)?)?;
+    }
+    Ok(commands)
+}
+
+/// An empty list with room for three commands.
+fn three_places(alloc: Global) -> Result<Vec<Command>, AllocError> {
+    match Vec::with_capacity(alloc, 3) {
+        Ok(places) => Ok(places),
+        Err(_) => Vec::with_capacity(alloc, 3),
+    }
+}
+
+/// What three commands give: all are done, or one is refused and the rest goes on as if it weren't there.
+const OUTCOMES: [&str; 4] = [
+    "[Ok(Reply { answer: Object(ObjectNo(0)) }), Ok(Reply { answer: Done }), Ok(Reply { answer: Value(Text(\"Emma\")) })]",
+    "[Err(Failure { refused: Memory }), Err(Failure { refused: NoObject }), Err(Failure { refused: NoObject })]",
+    "[Ok(Reply { answer: Object(ObjectNo(0)) }), Err(Failure { refused: Memory }), Ok(Reply { answer: Value(Null) })]",
+    "[Ok(Reply { answer: Object(ObjectNo(0)) }), Ok(Reply { answer: Done }), Err(Failure { refused: Memory })]",
+];
+
+/// The three commands.
+const COMMANDS: &str =
+    "[Create(ClassNo(0)), Set { node: Object(ObjectNo(0)), feature: FeatureNo(0), value: Text(\"Emma\") }, Get { node: Object(ObjectNo(0)), feature: FeatureNo(0) }]";
+
+/// What reads say of an empty repository.
+const EMPTY: &str = "(Err(NoObject), Err(NoObject), Err(NoObject), Err(NoObject))";
+
+/// Runs a list that was given back, over a repository that is to be as it was.
+fn run_again(
+    alloc: Global,
+    repository: &mut Repository,
+    given_back: Vec<Command>,
+) -> Result<Vec<Result<Reply, Failure>>, Fail> {
+    let now = state(alloc, repository)?;
+    let list = shown(alloc, &given_back)?;
+    if now.as_str() != EMPTY || list.as_str() != COMMANDS {
+        return Err(Fail::new(format_args!("{now}: {list}")));
+    }
+    match repository.run_all(given_back) {
+        Ok(outcomes) => Ok(outcomes),
+        Err(_) => Err(Fail::new("the list is refused twice")),
+    }
+}
+
+#[test]
+fn a_refused_list_is_given_back(rt: HostRuntime) -> Result<(), Fail> {
+    let mut repository = books(rt.alloc())?;
+    let outcomes = match repository.run_all(commands(rt.alloc())?) {
+        Ok(outcomes) => outcomes,
+        Err(given_back) => run_again(rt.alloc(), &mut repository, given_back)?,
+    };
+    let found = shown(rt.alloc(), &outcomes)?;
+    assert!(rt;
+        OUTCOMES.iter().any(|wanted| found.as_str() == *wanted),
+        "{found}"
+    );
+    Ok(())
+}

@@ -1,0 +1,55 @@
+//! The kinds of notices by number and name, and a chain that gives its notices back.
+use crate::books::object;
+use mm_types::{FeatureNo, ObjectNo, Value};
+use notice_chain::{Chain, NO_INDEX, Notice, NoticeKind};
+use std::test::Fail;
+
+/// A value is added to the feature 3 of an object, at a position.
+pub(crate) fn added(number: u32, position: i64) -> Notice {
+    Notice {
+        notifier: object(number),
+        feature: Some(FeatureNo(3)),
+        kind: NoticeKind::Add,
+        old_value: Value::Null,
+        new_value: Value::Object(ObjectNo(9)),
+        position,
+        was_set: false,
+    }
+}
+
+const KINDS: [(NoticeKind, u32, &str); 7] = [
+    (NoticeKind::Set, 1, "SET"),
+    (NoticeKind::Unset, 2, "UNSET"),
+    (NoticeKind::Add, 3, "ADD"),
+    (NoticeKind::Remove, 4, "REMOVE"),
+    (NoticeKind::Move, 7, "MOVE"),
+    (NoticeKind::RemovingAdapter, 8, "REMOVING_ADAPTER"),
+    (NoticeKind::Resolve, 9, "RESOLVE"),
+];
+
+#[test]
+fn kinds_have_numbers_and_names(rt: HostRuntime) {
+    for (kind, number, name) in &KINDS {
+        assert!(rt;
+            kind.number() == *number && kind.name() == *name,
+            "at {name}"
+        );
+    }
+}
+
+#[test]
+fn a_chain_gives_its_notices_back(rt: HostRuntime) -> Result<(), Fail> {
+    let mut chain = Chain::new(rt.alloc());
+    assert!(rt; chain.is_empty());
+    chain.push(added(0, 0))?;
+    chain.push(added(0, 1).clone()?)?;
+    assert_eq!(rt; chain.len(), 2);
+    let again = Chain::from_vec(chain.into_vec());
+    assert_eq!(rt; again.as_slice()[1].position, 1);
+    Ok(())
+}
+
+#[test]
+fn no_index_is_below_every_position(rt: HostRuntime) {
+    assert_eq!(rt; NO_INDEX, -1);
+}

@@ -1,0 +1,61 @@
+//! Lists of attached adapters, and a chain that is delivered to one.
+ghost use Rattle.std.specs.Prelude.{◌≡◌, OnOk, IfOk, OnErr};
+ghost use Rattle.notice_chain.specs.Listed.{tell_chain, told_list};
+
+use crate::books::object;
+use crate::notices::added;
+use adapter_list::AdapterList;
+use adapter_list::laws::the_round_of_a_chain_tells_it;
+use adapters::Adapter;
+use mm_types::{AdapterNo, Refused};
+use notice_chain::{Chain, Notice};
+use std::alloc::{AllocError, Global};
+use std::test::Fail;
+
+/// Attaches an adapter, or says why it is refused; a refused adapter is dropped.
+pub(crate) fn attach<A: Adapter>(
+    list: &mut AdapterList<A>,
+    no: u32,
+    target: u32,
+    adapter: A,
+) -> Result<(), Refused> {
+    match list.attach(AdapterNo(no), object(target), false, adapter) {
+        Ok(()) => Ok(()),
+        Err(refused) => Err(refused.reason),
+    }
+}
+
+/// A list of three adapters, numbered 5, 6 and 7, each at the object that is given for it.
+pub(crate) fn three<A: Adapter>(
+    alloc: Global,
+    targets: [u32; 3],
+    adapters: [A; 3],
+) -> Result<Box<AdapterList<A>>, Fail> {
+    let mut list = Box::new(alloc, AdapterList::new(alloc))?;
+    let [first, second, third] = adapters;
+    attach(&mut list, 5, targets[0], first)?;
+    attach(&mut list, 6, targets[1], second)?;
+    attach(&mut list, 7, targets[2], third)?;
+    Ok(list)
+}
+
+/// Three notices: two at object 1, and one at object 2 between them.
+pub(crate) fn three_notices(alloc: Global) -> Result<Chain, AllocError> {
+    Ok(Chain::from_vec(vec![in alloc; added(1, 0), added(2, 0), added(1, 1)]?))
+}
+
+/// Delivers a chain; gives who was told what, in order. Its contract is what a caller can say of the two calls together.
+pub(crate) fn tell<A: Adapter>(
+    list: &mut AdapterList<A>,
+    chain: &Chain,
+) -> Result<Vec<(AdapterNo, Notice)>, Refused>
+    ensures heard { OnOk result (list.new.0 ≡ tell_chain chain.now list.old.0) }
+    ensures told { IfOk result (λ ts. ts.items ≡ told_list chain.now list.old.0) }
+    ensures refused { OnErr result (list.new.0 ≡ list.old.0) }
+{
+    the_round_of_a_chain_tells_it();
+    match list.reserve_all(chain) {
+        Ok(round) => Ok(list.deliver(round)),
+        Err(reason) => Err(reason),
+    }
+}

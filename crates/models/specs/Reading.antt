@@ -1,0 +1,77 @@
+-- What can be read of a model: its objects, and what each end holds. Commands are refused and answered by this alone, so two
+-- models that read the same are one to every caller.
+use Rattle.std.specs.Prelude.{ℕ, ◌&&◌, not, Bool, true, false, List, length, nat_lt, Option, is_some}
+use Rattle.std.specs.Option.{option_map_or}
+use Rattle.mm_types.specs.Lookups as lookups
+use Rattle.mm_types.specs.Resolved.{Metamodel}
+use Rattle.mm_types.specs.Shapes.{Shape, shape}
+use Rattle.mm_types.specs.Ends.{Ends, Held, shown}
+use Rattle.mm_types.specs.Ends as ends
+use Rattle.mm_types.specs.declared.numbers.ClassNo.{ClassNo}
+use Rattle.mm_types.specs.declared.numbers.FeatureNo.{FeatureNo}
+use Rattle.mm_types.specs.declared.numbers.ObjectNo.{ObjectNo}
+use Rattle.mm_types.specs.declared.numbers.Node.{Node}
+use Rattle.mm_types.specs.declared.numbers.Node.TheVariants as node
+use Rattle.mm_types.specs.declared.end.End.{End}
+use Rattle.mm_types.specs.declared.value.Value.{Value}
+use Rattle.mm_types.specs.declared.value.Value.TheVariants as value
+
+-- `next` is the number that the next object gets, `values` what stands at each end, `flag` whether an unsettable attribute is set
+pub record Reading : Type 0 where
+  pub metamodel : Metamodel
+  pub next : ℕ
+  pub class : ObjectNo → Option ClassNo
+  pub uris : List (List ℕ)
+  pub values : End → List Value
+  pub flag : End → Bool
+
+abbrev pub at_end : Node → FeatureNo → End
+at_end n f = record { node = n; feature = f }
+
+-- the shape of an end's feature
+abbrev pub shape_at : Reading → End → Shape
+shape_at r e = shape r.metamodel e.feature
+
+-- what ends hold, as it is told: an empty single one holds null
+abbrev pub held_at : Reading → Ends
+held_at r e = record { values = shown (shape_at r e).is_single (r.values e); flag = r.flag e }
+
+-- an end is set
+abbrev pub is_set : Reading → End → Bool
+is_set r e = ends.is_set (shape_at r e) (held_at r e)
+
+---------------------------------------------------------------- who lives, and what it has
+
+abbrev pub is_live : Reading → ObjectNo → Bool
+is_live r o = is_some (r.class o)
+
+-- an object that is named as a node, and as a value, lives
+abbrev pub is_node_live : Reading → Node → Bool
+is_node_live r (node.Object o) = is_live r o
+is_node_live r (node.Resource k) = true
+
+abbrev pub is_value_live : Reading → Value → Bool
+is_value_live r (value.Object o) = is_live r o
+is_value_live r _ = true
+
+-- a resource that is named as a node is there
+abbrev pub is_resource_there : Reading → Node → Bool
+is_resource_there r (node.Object o) = true
+is_resource_there r (node.Resource k) = nat_lt k.0 (length r.uris)
+
+-- the features that commands know today: attributes of one value
+abbrev pub is_known : Shape → Bool
+is_known a = not a.is_reference && a.is_single
+
+-- a class has a feature that commands know
+abbrev pub class_has : Metamodel → ClassNo → FeatureNo → Bool
+class_has m c f = lookups.has_feature m c f && is_known (shape m f)
+
+-- a node has a feature that commands know
+abbrev pub has_feature : Reading → Node → FeatureNo → Bool
+has_feature r (node.Object o) f = option_map_or (λ c. class_has r.metamodel c f) (r.class o) false
+has_feature r (node.Resource k) f = false
+
+-- a value is one of a feature's type
+abbrev pub takes : Reading → FeatureNo → Value → Bool
+takes r f v = lookups.takes r.metamodel f v

@@ -1,0 +1,22 @@
+//! The bytes that the language of scripts gives a meaning.
+
+/// Stands before the number of an object: `#3`.
+pub const OBJECT_MARK: u8 = b'#';
+
+/// Stands before the number of a resource: `r0`.
+pub const RESOURCE_MARK: u8 = b'r';
+
+/// Stands before the name of a literal: `:NOVEL`.
+pub const LITERAL_MARK: u8 = b':';
+
+/// Begins and ends a text: `"Emma"`.
+pub const QUOTE: u8 = b'"';
+
+/// Escapes the byte behind it in a text.
+pub const BACKSLASH: u8 = b'\\';
+
+/// Separates words.
+pub const SPACE: u8 = b' ';
+
+/// Ends a line.
+pub const NEWLINE: u8 = b'\n';

@@ -1,0 +1,72 @@
+//! Texts, read from words that are JSON strings.
+ghost use Rattle.std.specs.Prelude.{◌≡◌, IfOk, IfSome, Some};
+ghost use Rattle.std.specs.List.{list_all};
+ghost use Rattle.serde_json.specs.Find.{as_str};
+ghost use Rattle.serde_json.specs.View.{view};
+ghost use Rattle.script_lines.specs.Values.{is_plain, text_in};
+
+use crate::grammar::{BACKSLASH, QUOTE, SPACE};
+use mm_types::Text;
+use serde_json::Value;
+use std::alloc::{AllocError, Global};
+
+/// Whether each byte stands for itself in a JSON string.
+fn are_plain(bytes: &[u8]) -> bool
+    ensures { result ≡ list_all is_plain bytes.now }
+{
+    bytes
+        .iter()
+        .all(|b| *b >= SPACE && (*b != QUOTE && *b != BACKSLASH))
+}
+
+/// The text between a word's quotation marks, if each of its bytes stands for itself.
+fn plain_text(word: &str) -> Option<&str>
+    ensures { IfSome result (λ t. text_in word.now ≡ Some t.now) }
+{
+    let bytes = word.as_bytes();
+    let len = bytes.len();
+    if len < 2 || bytes[0] != QUOTE || bytes[len - 1] != QUOTE {
+        return None;
+    }
+    if !are_plain(&bytes[1..len - 1]) {
+        return None;
+    }
+    Some(&word[1..len - 1])
+}
+
+/// The text that a JSON value is; it is moved.
+fn string_of(value: Value) -> Option<Text>
+    ensures { result ≡ as_str (view value) }
+{
+    match value {
+        Value::String(text) => Some(Text::from_string(text)),
+        _ => None,
+    }
+}
+
+/// The text that a word writes as a JSON string, read by `serde_json`.
+fn escaped_text(alloc: Global, word: &str) -> Result<Option<Text>, AllocError>
+    ensures { IfOk result (λ o. o ≡ text_in word.now) }
+{
+    let bytes = word.as_bytes();
+    if bytes.is_empty() || bytes[bytes.len() - 1] != QUOTE {
+        return Ok(None);
+    }
+    match Value::from_str(alloc, word) {
+        Ok(value) => Ok(string_of(value)),
+        Err(error) if error.is_memory() => Err(AllocError),
+        Err(_) => Ok(None),
+    }
+}
+
+/// The text that a word writes as a JSON string.
+///
+/// A text without escapes is copied as it stands: reading it as JSON would take many times as long.
+pub fn text_of(alloc: Global, word: &str) -> Result<Option<Text>, AllocError>
+    ensures { IfOk result (λ o. o ≡ text_in word.now) }
+{
+    match plain_text(word) {
+        Some(text) => Ok(Some(Text::from_str(alloc, text)?)),
+        None => escaped_text(alloc, word),
+    }
+}

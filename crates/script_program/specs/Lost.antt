@@ -1,0 +1,66 @@
+-- What a script prints, as a function of its bytes and of the numbers of its lost lines: those whose commands are
+-- answered out of memory.
+use Rattle.std.specs.Prelude.{◌==◌, ℕ, suc, Bool, true, false, IsTrue, List, [], ◌∷◌, slice_get, Err, if◌then◌else◌}
+use Rattle.std.specs.List.{All, list_any}
+use Rattle.std.specs.List.Sorted.{IsStrictlyIncreasing}
+use Rattle.std.specs.Option.{option_map_or}
+use Rattle.mm_types.specs.declared.refused.Refused.TheVariants.{Memory}
+use Rattle.repository.specs.State.{State}
+use Rattle.repository.specs.Step.{step}
+use Rattle.repository.specs.declared.command.Command.{Command}
+use Rattle.script_lines.specs.Forms.{form}
+use Rattle.script_lines.specs.Lines.{lines}
+use Rattle.script_lines.specs.declared.line.Line.{Line}
+use Rattle.script_lines.specs.declared.line.Line.TheVariants as line
+use Rattle.script_program.specs.Bind.{bind}
+use Rattle.script_program.specs.Script.{bad_printed, blank_printed, command_printed}
+use Rattle.script_program.specs.Turns.{Printed, is_lost}
+
+-- what a line prints, and the state after it
+pub record LineRun : Type 0 where
+  pub printed : Printed
+  pub after : State
+
+-- a command does its step, or it is lost: answered out of memory, and nothing changes
+abbrev pub run_command : Bool → State → Command → LineRun
+run_command true s c = record { printed = command_printed s.model.metamodel c (Err (record { refused = Memory })); after = s }
+run_command false s c = let one = step s c in record { printed = command_printed s.model.metamodel c one.outcome; after = one.after }
+
+abbrev pub run_line : Bool → State → Line → LineRun
+run_line lost s line.Blank = record { printed = blank_printed; after = s }
+run_line lost s line.Bad = record { printed = bad_printed; after = s }
+run_line lost s (line.Form f) = run_command lost s (bind s f)
+
+abbrev pub is_in : List ℕ → ℕ → Bool
+is_in m k = list_any (λ j. j == k) m
+
+-- what the lines from number k on print, where the lines whose numbers are in m are lost
+unfoldable pub printed_from : List ℕ → ℕ → State → List (List ℕ) → List Printed
+printed_from m k s [] = []
+printed_from m k s (l ∷ ls) = let one = run_line (is_in m k) s (form l) in one.printed ∷ printed_from m (suc k) one.after ls
+
+-- what a script prints, line by line, from a state on; its lines are numbered from 0
+abbrev pub script : State → List ℕ → List ℕ → List Printed
+script s bytes lost = printed_from lost 0 s (lines bytes)
+
+-- the numbers of the lines that were lost, where the first of these lines has the number k
+abbrev pub lost_from : ℕ → List Printed → List ℕ
+lost_from k [] = []
+lost_from k (p ∷ ps) = if is_lost p.turn then k ∷ lost_from (suc k) ps else lost_from (suc k) ps
+
+abbrev pub lost_lines : List Printed → List ℕ
+lost_lines = lost_from 0
+
+abbrev pub is_form : Line → Bool
+is_form line.Blank = false
+is_form line.Bad = false
+is_form (line.Form f) = true
+
+-- the line of a number asks for a command
+abbrev pub is_command_at : List (List ℕ) → ℕ → Bool
+is_command_at ls j = option_map_or (λ l. is_form (form l)) (slice_get ls j) false
+
+-- numbers of lines that ask for commands, each number once
+pub record AreCommands (ls : List (List ℕ)) (numbers : List ℕ) : Type 0 where
+  pub each_once : IsStrictlyIncreasing numbers
+  pub commands : All (λ j. IsTrue (is_command_at ls j)) numbers
