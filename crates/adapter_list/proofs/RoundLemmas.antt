@@ -209,7 +209,7 @@ CopiesFit-first i n cs ps f =
     let one : length (copies_for i ((i, n) ∷ cs)) ≡ suc (length (copies_for i cs)) = ap length (copies_for-here i i n cs refl) in
     omega (arith, more, one)
 
--- and once it is told the rest fits
+-- and once it is delivered the rest fits
 pub CopiesFit-rest : (i : ℕ) (n : Notice) (cs : List (ℕ × Notice)) (ps : List ℕ) → CopiesFit ps ((i, n) ∷ cs) → CopiesFit (use_place ps i) cs
 CopiesFit-rest i n cs ps f =
     let go : (k : ℕ) → k < length (use_place ps i) → length (copies_for k cs) < slice_index (use_place ps i) k =
@@ -229,7 +229,7 @@ CopiesFit-rest i n cs ps f =
     ] refl in
     record { within = subst (λ (m : ℕ). AreWithin m cs) (sym (length-use_place ps i)) f.within.1; places = go }
 
------------------------------------------------------------------ who is told
+----------------------------------------------------------------- who is notified
 
 -- the copies of one notice for those from place j on are told to its audience among them
 told_by-copies_from : (all : List Listed) (j : ℕ) (n : Notice) (rs : List Listed) → ((i : ℕ) → slice_get all (j + i) ≡ slice_get rs i) → told_by (copies_from j n rs) all ≡ told_of n rs

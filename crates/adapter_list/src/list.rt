@@ -16,7 +16,7 @@ use std::alloc::Global;
 use std::marker::Model;
 
 /// The attached adapters, in attach order (EMF: the adapters of all notifiers). It is seen as two lists: the adapters by what
-/// they have heard, and the numbers of their places, which only a delivery mentions.
+/// they have heard, and how many places each has, which only a delivery mentions.
 ///
 /// Their numbers are distinct, at most 100,000 are attached, and each has a place in reserve for its last notice, which it can
 /// count.

@@ -5,7 +5,7 @@ use Rattle.notice_chain.specs.View.{View, hear}
 use Rattle.notice_chain.specs.Listed.{Listed, Release, last_notice}
 use Rattle.notice_chain.specs.declared.notice.Notice.{Notice}
 
--- who is told what last, the released with their views after it, and those that stay
+-- who is notified last of what, the released with their views after it, and those that stay
 pub record Released : Type 0 where
   pub told : List (AdapterNo × Notice)
   pub views : List (AdapterNo × View)
