@@ -19,10 +19,10 @@ use Rattle.mm_types.specs.declared.numbers.Node.TheVariants as node
 use Rattle.mm_types.specs.declared.refused.Refused.{Refused}
 use Rattle.mm_types.specs.declared.refused.Refused.TheVariants.{NoObject, NoResource, NoClass, Abstract, NoFeature, WrongType, TextLength, Limit}
 use Rattle.mm_types.specs.declared.value.Value.{Value}
-use Rattle.mm_values.specs.Held.{Held, is_nothing, nothing_held}
-use Rattle.mm_values.specs.Values.{ObjectState, object_at, put_held}
-use Rattle.mm_values.proofs.HeldIn.{get-with_held, kept}
-use Rattle.models.specs.Legal.{IsLegal, IsLegalHeld, IsLegalObject, IsUniqueList, is_bounded, is_concrete, is_legal_list, is_legal_value, is_short}
+use Rattle.mm_values.specs.Stored.{Stored, is_nothing, nothing_stored}
+use Rattle.mm_values.specs.Values.{ObjectState, object_at, put_stored}
+use Rattle.mm_values.proofs.StoredIn.{get-with_stored, kept}
+use Rattle.models.specs.Legal.{IsLegal, IsLegalStored, IsLegalObject, IsUniqueList, is_bounded, is_concrete, is_legal_list, is_legal_value, is_short}
 use Rattle.models.specs.Model.{Model, reading}
 use Rattle.models.specs.Reading.{class_has, has_feature, is_node_live, is_resource_there, is_value_live}
 use Rattle.handshake.specs.declared.change.Change.{Change}
@@ -72,11 +72,11 @@ same_number : (f g : FeatureNo) → f.0 ≡ g.0 → f ≡ g
 same_number f g e = ap (λ (n : ℕ). record { 0 = n }) e
 
 -- what holds nothing is legal
-nothing-legal : (m : Metamodel) (c : ClassNo) (f : FeatureNo) → IsLegalHeld m c f nothing_held
+nothing-legal : (m : Metamodel) (c : ClassNo) (f : FeatureNo) → IsLegalStored m c f nothing_stored
 nothing-legal m c f = record { values = refl; unique = unique-none (shape m f).is_unique; flag = flag-off (shape m f).is_unsettable }
 
 -- and so is one value of the feature's type
-one-legal : (m : Metamodel) (c : ClassNo) (f : FeatureNo) (v : Value) → IsTrue (class_has m c f) → IsTrue (takes m f v) → IsTrue (is_short v) → IsLegalHeld m c f (record { list = v ∷ []; flag = (shape m f).is_unsettable })
+one-legal : (m : Metamodel) (c : ClassNo) (f : FeatureNo) (v : Value) → IsTrue (class_has m c f) → IsTrue (takes m f v) → IsTrue (is_short v) → IsLegalStored m c f (record { list = v ∷ []; flag = (shape m f).is_unsettable })
 one-legal m c f v has taken short =
     record {
       values = rw (has, taken, short, one-bounded (shape m f)) refl;
@@ -85,26 +85,26 @@ one-legal m c f v has taken short =
     }
 
 -- what is kept of it
-kept-legal : (m : Metamodel) (c : ClassNo) (f : FeatureNo) (h : Held) → IsLegalHeld m c f h → IsLegalHeld m c f (unwrap_or (kept h) nothing_held)
+kept-legal : (m : Metamodel) (c : ClassNo) (f : FeatureNo) (h : Stored) → IsLegalStored m c f h → IsLegalStored m c f (unwrap_or (kept h) nothing_stored)
 kept-legal m c f h legal =
-    elim (is_nothing h) as (λ b. IsLegalHeld m c f (unwrap_or (if b then None else Some h) nothing_held)) [ true ↦ nothing-legal m c f | false ↦ legal ]
+    elim (is_nothing h) as (λ b. IsLegalStored m c f (unwrap_or (if b then None else Some h) nothing_stored)) [ true ↦ nothing-legal m c f | false ↦ legal ]
 
 -- a new object holds nothing
-created : (m : Metamodel) (c : ClassNo) → IsTrue (is_concrete m c) → IsLegalObject m (Some (record { class = c; held = map.empty }))
-created m c concrete = (concrete, λ f. subst (λ (h : Option Held). IsLegalHeld m c f (unwrap_or h nothing_held)) (sym (map.get-empty nat_cmp f.0)) (nothing-legal m c f))
+created : (m : Metamodel) (c : ClassNo) → IsTrue (is_concrete m c) → IsLegalObject m (Some (record { class = c; stored = map.empty }))
+created m c concrete = (concrete, λ f. subst (λ (h : Option Stored). IsLegalStored m c f (unwrap_or h nothing_stored)) (sym (map.get-empty nat_cmp f.0)) (nothing-legal m c f))
 
 -- an object after something was put under a feature
-put-legal : (m : Metamodel) (o : ObjectState) (f : FeatureNo) (h : Held) → IsLegalObject m (Some o) → IsLegalHeld m o.class f h → IsLegalObject m (Some (put_held f h o))
+put-legal : (m : Metamodel) (o : ObjectState) (f : FeatureNo) (h : Stored) → IsLegalObject m (Some o) → IsLegalStored m o.class f h → IsLegalObject m (Some (put_stored f h o))
 put-legal m o f h legal held =
-    let at : (g : FeatureNo) (b : Bool) → eqb g.0 f.0 ≡ b → IsLegalHeld m o.class g (unwrap_or (if b then kept h else map.get o.held g.0) nothing_held) =
-    λ g b. elim b as (λ b. eqb g.0 f.0 ≡ b → IsLegalHeld m o.class g (unwrap_or (if b then kept h else map.get o.held g.0) nothing_held)) [
-      | true ↦ λ e. subst (λ (k : FeatureNo). IsLegalHeld m o.class k (unwrap_or (kept h) nothing_held)) (same_number f g (grind (arith, nat_tests))) (kept-legal m o.class f h held)
+    let at : (g : FeatureNo) (b : Bool) → eqb g.0 f.0 ≡ b → IsLegalStored m o.class g (unwrap_or (if b then kept h else map.get o.stored g.0) nothing_stored) =
+    λ g b. elim b as (λ b. eqb g.0 f.0 ≡ b → IsLegalStored m o.class g (unwrap_or (if b then kept h else map.get o.stored g.0) nothing_stored)) [
+      | true ↦ λ e. subst (λ (k : FeatureNo). IsLegalStored m o.class k (unwrap_or (kept h) nothing_stored)) (same_number f g (grind (arith, nat_tests))) (kept-legal m o.class f h held)
       | false ↦ λ e. legal.1 g
     ] in
-    (legal.0, λ g. subst (λ (r : Option Held). IsLegalHeld m o.class g (unwrap_or r nothing_held)) (sym (get-with_held o.held f.0 h g.0)) (at g (eqb g.0 f.0) refl))
+    (legal.0, λ g. subst (λ (r : Option Stored). IsLegalStored m o.class g (unwrap_or r nothing_stored)) (sym (get-with_stored o.stored f.0 h g.0)) (at g (eqb g.0 f.0) refl))
 
 -- the object at a number after something was put for it that is legal for its class
-put-at : (m : Metamodel) (o : Option ObjectState) (f : FeatureNo) (h : Held) → IsLegalObject m o → ((x : ObjectState) → o ≡ Some x → IsLegalHeld m x.class f h) → IsLegalObject m (option_map (put_held f h) o)
+put-at : (m : Metamodel) (o : Option ObjectState) (f : FeatureNo) (h : Stored) → IsLegalObject m o → ((x : ObjectState) → o ≡ Some x → IsLegalStored m x.class f h) → IsLegalObject m (option_map (put_stored f h) o)
 put-at m None f h legal held = tt
 put-at m (Some o) f h legal held = put-legal m o f h legal (held o refl)
 
@@ -144,6 +144,6 @@ change-keeps-legal s (Unset (node.Object o) f) legal early late =
       count = rw (length-set s.values.objects o.0 _) legal.count;
       objects =
           All-set (IsLegalObject m) s.values.objects o.0 _
-          (put-at m x f nothing_held (legal-at (IsLegalObject m) s.values.objects o.0 tt legal.objects) (λ y e. nothing-legal m y.class f)) legal.objects;
+          (put-at m x f nothing_stored (legal-at (IsLegalObject m) s.values.objects o.0 tt legal.objects) (λ y e. nothing-legal m y.class f)) legal.objects;
     }
 change-keeps-legal s (Unset (node.Resource r) f) legal early late = legal

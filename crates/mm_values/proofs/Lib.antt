@@ -1,4 +1,4 @@
-pub mod HeldIn
+pub mod StoredIn
 pub mod Place
 pub mod SlotLemmas
 pub mod UriLemmas

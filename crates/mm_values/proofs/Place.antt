@@ -10,10 +10,10 @@ use Rattle.std.proofs.lemmas.List.Edits.{length-insert, get_or-insert_below, get
 use Rattle.std.proofs.lemmas.Bool.Decides.{nat_tests}
 use Rattle.std.proofs.lemmas.Grind.{common_steps}
 use Rattle.std.proofs.lemmas.Bool.{cases_lt}
-use Rattle.mm_values.specs.Held.{nothing_held, with_held}
-use Rattle.mm_values.specs.Attributes.{held_in, held_of, place_for, feature_at, IsRising, IsAt, IsGapFor, HasPlace}
+use Rattle.mm_values.specs.Stored.{nothing_stored, with_stored}
+use Rattle.mm_values.specs.Attributes.{stored_in, stored_of, place_for, feature_at, IsRising, IsAt, IsGapFor, HasPlace}
 use Rattle.mm_values.specs.declared.attribute_lists.Entry.{Entry}
-use Rattle.mm_values.proofs.HeldIn.{NoneBefore, kept, found, get-held_in, get-with_held, same_held, found_absent, found_present, found-set, found-insert, unwrap_or-kept}
+use Rattle.mm_values.proofs.StoredIn.{NoneBefore, kept, found, get-stored_in, get-with_stored, same_stored, found_absent, found_present, found-set, found-insert, unwrap_or-kept}
 
 module _ (l : List Entry) (rising : IsRising l) (f : ℕ) where
   -- the comparisons with f rise along the row, as a binary search asks
@@ -39,14 +39,14 @@ module _ (l : List Entry) (rising : IsRising l) (f at : ℕ) (is_at : IsAt l f a
   none_before_at : NoneBefore l f at
   none_before_at j lt same = omega (arith, rising j at lt is_at.in_range, is_at.has_feature)
 
-  -- what is held is what the entry there holds
-  pub held_at : unwrap_or (map.get (held_in l) f) nothing_held ≡ held_of (get_or l at (place_for 0))
-  held_at = ap (λ o. unwrap_or o nothing_held) (get-held_in l f ∙ found_present l f at is_at none_before_at) ∙ unwrap_or-kept (held_of (get_or l at (place_for 0)))
+  -- what is stored is what the entry there holds
+  pub stored_at : unwrap_or (map.get (stored_in l) f) nothing_stored ≡ stored_of (get_or l at (place_for 0))
+  stored_at = ap (λ o. unwrap_or o nothing_stored) (get-stored_in l f ∙ found_present l f at is_at none_before_at) ∙ unwrap_or-kept (stored_of (get_or l at (place_for 0)))
 
-  -- an entry of the attribute that is written there is what is held then
-  pub held_in-set : (e : Entry) → e.feature.0 ≡ f → held_in (set l at e) ≡ with_held (held_in l) f (held_of e)
-  held_in-set e is = same_held _ _ (λ q. get-held_in (set l at e) q ∙ found-set l f at e is is_at none_before_at q
-      ∙ ap (λ r. cond (eqb q f) (kept (held_of e)) r) (sym (get-held_in l q)) ∙ sym (get-with_held (held_in l) f (held_of e) q))
+  -- an entry of the attribute that is written there is what is stored then
+  pub stored_in-set : (e : Entry) → e.feature.0 ≡ f → stored_in (set l at e) ≡ with_stored (stored_in l) f (stored_of e)
+  stored_in-set e is = same_stored _ _ (λ q. get-stored_in (set l at e) q ∙ found-set l f at e is is_at none_before_at q
+      ∙ ap (λ r. cond (eqb q f) (kept (stored_of e)) r) (sym (get-stored_in l q)) ∙ sym (get-with_stored (stored_in l) f (stored_of e) q))
 
   feature_at-set : (e : Entry) → e.feature.0 ≡ f → (i : ℕ) → feature_at (set l at e) i ≡ feature_at l i
   feature_at-set e is i = grind (arith, common_steps, is_at.in_range, is_at.has_feature, is)
@@ -63,9 +63,9 @@ module _ (l : List Entry) (f at : ℕ) (gap : IsGapFor l f at) where
   none : NoneBefore l f (length l)
   none j lt same = grind (arith, gap.smaller_before j, gap.greater_after j)
 
-  -- nothing is held under an attribute that has a gap
-  pub held_in_gap : unwrap_or (map.get (held_in l) f) nothing_held ≡ nothing_held
-  held_in_gap = ap (λ o. unwrap_or o nothing_held) (get-held_in l f ∙ found_absent l f none)
+  -- nothing is stored under an attribute that has a gap
+  pub stored_in_gap : unwrap_or (map.get (stored_in l) f) nothing_stored ≡ nothing_stored
+  stored_in_gap = ap (λ o. unwrap_or o nothing_stored) (get-stored_in l f ∙ found_absent l f none)
 
   -- it has no place
   pub no_place : HasPlace l f → ⊥
@@ -74,9 +74,9 @@ module _ (l : List Entry) (f at : ℕ) (gap : IsGapFor l f at) where
   none_found : (q : ℕ) → cond (eqb q f) None (found l q) ≡ found l q
   none_found q = grind (arith, nat_tests, found_absent l f none)
 
-  -- a place that is made in the gap changes nothing that is held
-  pub held_in-insert : held_in (insert l at (place_for f)) ≡ held_in l
-  held_in-insert = same_held _ _ (λ q. get-held_in _ q ∙ found-insert l f at (λ j lt same. omega (arith, gap.smaller_before j lt)) q ∙ none_found q ∙ sym (get-held_in l q))
+  -- a place that is made in the gap changes nothing that is stored
+  pub stored_in-insert : stored_in (insert l at (place_for f)) ≡ stored_in l
+  stored_in-insert = same_stored _ _ (λ q. get-stored_in _ q ∙ found-insert l f at (λ j lt same. omega (arith, gap.smaller_before j lt)) q ∙ none_found q ∙ sym (get-stored_in l q))
 
   feature_below : (i : ℕ) → i < at → feature_at (insert l at (place_for f)) i ≡ feature_at l i
   feature_below i below = ap (λ (e : Entry). e.feature.0) (get_or-insert_below l at (place_for f) (place_for 0) i below gap.in_range)

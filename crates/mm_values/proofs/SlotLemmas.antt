@@ -7,9 +7,9 @@ use Rattle.mm_types.specs.declared.numbers.ClassNo.{ClassNo}
 use Rattle.mm_types.specs.declared.numbers.FeatureNo.{FeatureNo}
 use Rattle.mm_values.specs.declared.objects.Slot.{Slot}
 use Rattle.mm_values.specs.declared.attribute_lists.Entry.{Entry}
-use Rattle.mm_values.specs.Held.{Held, with_held}
-use Rattle.mm_values.specs.Attributes.{held_in, HasPlace}
-use Rattle.mm_values.specs.Values.{put_held}
+use Rattle.mm_values.specs.Stored.{Stored, with_stored}
+use Rattle.mm_values.specs.Attributes.{stored_in, HasPlace}
+use Rattle.mm_values.specs.Values.{put_stored}
 use Rattle.mm_values.specs.Slots.{Slots, state_of, objects_of, HasPlaceAt, KeepsPlaces}
 
 abbrev pub row : List Slot → ℕ → Slots
@@ -55,14 +55,14 @@ kept_set xs n n' i y more within step = record { slots = length-set xs i y; plac
     ]
 
 -- what is put in the lists is put in the object
-pub state-put : (c : Option ClassNo) (l l' : List Entry) (f : FeatureNo) (h : Held) → held_in l' ≡ with_held (held_in l) f.0 h → state_of (record { class = c; lists = l' }) ≡ option_map (put_held f h) (state_of (record { class = c; lists = l }))
+pub state-put : (c : Option ClassNo) (l l' : List Entry) (f : FeatureNo) (h : Stored) → stored_in l' ≡ with_stored (stored_in l) f.0 h → state_of (record { class = c; lists = l' }) ≡ option_map (put_stored f h) (state_of (record { class = c; lists = l }))
 state-put None l l' f h e = refl
-state-put (Some c) l l' f h e = ap (λ m. Some (record { class = c; held = m })) e
+state-put (Some c) l l' f h e = ap (λ m. Some (record { class = c; stored = m })) e
 
 -- lists that hold the same make the same object
-pub state_same : (c : Option ClassNo) (l l' : List Entry) → held_in l' ≡ held_in l → state_of (record { class = c; lists = l' }) ≡ state_of (record { class = c; lists = l })
+pub state_same : (c : Option ClassNo) (l l' : List Entry) → stored_in l' ≡ stored_in l → state_of (record { class = c; lists = l' }) ≡ state_of (record { class = c; lists = l })
 state_same None l l' e = refl
-state_same (Some c) l l' e = ap (λ m. Some (record { class = c; held = m })) e
+state_same (Some c) l l' e = ap (λ m. Some (record { class = c; stored = m })) e
 
 -- a slot that was read, and is written back with its class and no place less
 pub kept_read : (xs : List Slot) (n i : ℕ) (x : Slot) (l : List Entry) → i < length xs → x ≡ get_or xs i x → ((f : ℕ) → HasPlace x.lists f → HasPlace l f) → KeepsPlaces (row xs n) (row (set xs i (record { class = x.class; lists = l })) n)

@@ -3,18 +3,18 @@ use Rattle.std.specs.Prelude.{◌≡◌, ℕ, ◌<◌, ◌≤◌, false, List, [
 use Rattle.std.specs.FinMap as map
 use Rattle.mm_types.specs.declared.numbers.FeatureNo.{FeatureNo}
 use Rattle.mm_values.specs.declared.attribute_lists.Entry.{Entry}
-use Rattle.mm_values.specs.Held.{Held, HeldMap, nothing_held, with_held}
+use Rattle.mm_values.specs.Stored.{Stored, StoredMap, nothing_stored, with_stored}
 
-abbrev pub held_of : Entry → Held
-held_of e = record { list = e.list; flag = e.flag }
+abbrev pub stored_of : Entry → Stored
+stored_of e = record { list = e.list; flag = e.flag }
 
 -- under each attribute, what its first entry holds
-abbrev pub held_in : List Entry → HeldMap
-held_in [] = map.empty
-held_in (e ∷ l) = with_held (held_in l) e.feature.0 (held_of e)
+abbrev pub stored_in : List Entry → StoredMap
+stored_in [] = map.empty
+stored_in (e ∷ l) = with_stored (stored_in l) e.feature.0 (stored_of e)
 
-abbrev pub held_under : List Entry → FeatureNo → Held
-held_under l f = unwrap_or (map.get (held_in l) f.0) nothing_held
+abbrev pub stored_under : List Entry → FeatureNo → Stored
+stored_under l f = unwrap_or (map.get (stored_in l) f.0) nothing_stored
 
 -- an entry that is only a place
 abbrev pub place_for : ℕ → Entry

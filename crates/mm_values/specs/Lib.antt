@@ -1,4 +1,4 @@
-pub mod Held
+pub mod Stored
 pub mod Attributes
 pub mod Values
 pub mod Slots

@@ -3,7 +3,7 @@ use Rattle.std.specs.Prelude.{◌≡◌, ℕ, ◌<◌, ◌≤◌, ◌⊎◌, Lis
 use Rattle.std.specs.Option.{option_map}
 use Rattle.std.specs.FinMap as map
 use Rattle.mm_values.specs.declared.objects.Slot.{Slot}
-use Rattle.mm_values.specs.Attributes.{held_in, HasPlace}
+use Rattle.mm_values.specs.Attributes.{stored_in, HasPlace}
 use Rattle.mm_values.specs.Values.{Objects, ObjectState}
 
 pub record Slots : Type 0 where
@@ -11,7 +11,7 @@ pub record Slots : Type 0 where
   pub next : ℕ
 
 abbrev pub state_of : Slot → Option ObjectState
-state_of s = option_map (λ c. record { class = c; held = held_in s.lists }) s.class
+state_of s = option_map (λ c. record { class = c; stored = stored_in s.lists }) s.class
 
 abbrev pub objects_of : Slots → Objects
 objects_of r = map state_of (take r.next r.slots)
@@ -19,7 +19,7 @@ objects_of r = map state_of (take r.next r.slots)
 -- the slots from `next` on are ready: they hold nothing
 pub record IsReady (r : Slots) : Type 0 where
   pub in_range : r.next ≤ length r.slots
-  pub holds_nothing : (i : ℕ) (d : Slot) → r.next ≤ i → i < length r.slots → held_in (slice_index_or r.slots i d).lists ≡ map.empty
+  pub holds_nothing : (i : ℕ) (d : Slot) → r.next ≤ i → i < length r.slots → stored_in (slice_index_or r.slots i d).lists ≡ map.empty
 
 abbrev pub IsDead : Slots → ℕ → Slot → Type 0
 IsDead r o s = (o < r.next) × (s.class ≡ None)

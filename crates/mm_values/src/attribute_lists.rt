@@ -1,13 +1,13 @@
 //! What one object holds under its attributes.
 ghost use Rattle.std.specs.Prelude.{◌≡◌, ℕ, [], IfOk, IfErr, OnOk, OnErr};
-ghost use Rattle.mm_values.specs.Held.{with_held};
-ghost use Rattle.mm_values.specs.Attributes.{held_in, held_under, HasPlace, IsAt, IsGapFor};
+ghost use Rattle.mm_values.specs.Stored.{with_stored};
+ghost use Rattle.mm_values.specs.Attributes.{stored_in, stored_under, HasPlace, IsAt, IsGapFor};
 
 use mm_types::{FeatureNo, Seq, Value};
 use std::alloc::{AllocError, Global};
 use std::marker::Model;
 
-/// What is held under one attribute. Where the list is empty and the flag off it is only a place,
+/// What is stored under one attribute. Where the list is empty and the flag off it is only a place,
 /// made ahead for a list to come.
 #[derive(Debug, Drop)]
 pub(crate) struct Entry {
@@ -36,7 +36,7 @@ impl Model for AttributeLists {
 }
 
 impl AttributeLists {
-    /// Nothing held, and no place. Takes no memory.
+    /// Nothing stored, and no place. Takes no memory.
     pub fn new(alloc: Global) -> Self
         ensures { result ≡ [] }
     {
@@ -47,7 +47,7 @@ impl AttributeLists {
 
     /// The values under an attribute; none where it holds none.
     pub fn list(&self, feature: FeatureNo) -> &[Value]
-        ensures { result.now ≡ (held_under self.now feature).list }
+        ensures { result.now ≡ (stored_under self.now feature).list }
     {
         match self.find(feature) {
             Ok(at) => self.entries[at].list.as_slice(),
@@ -57,7 +57,7 @@ impl AttributeLists {
 
     /// Whether an attribute is set, where that is a state of its own.
     pub fn flag(&self, feature: FeatureNo) -> bool
-        ensures { result ≡ (held_under self.now feature).flag }
+        ensures { result ≡ (stored_under self.now feature).flag }
     {
         match self.find(feature) {
             Ok(at) => self.entries[at].flag,
@@ -68,7 +68,7 @@ impl AttributeLists {
     /// Makes a place for what an attribute will hold. Errs where memory is refused, and then nothing
     /// has changed.
     pub fn make_place(&mut self, feature: FeatureNo) -> Result<(), AllocError>
-        ensures held { held_in self.new ≡ held_in self.old }
+        ensures stored { stored_in self.new ≡ stored_in self.old }
         ensures kept { (f : ℕ) → HasPlace self.old f → HasPlace self.new f }
         ensures ok { OnOk result (HasPlace self.new feature.0) }
         ensures err { OnErr result (self.new ≡ self.old) }
@@ -99,10 +99,10 @@ impl AttributeLists {
         self.entries.reserve_exact(self.entries.len() / 4 + 1)
     }
 
-    /// Replaces what is held under an attribute, in its place. Takes no memory.
+    /// Replaces what is stored under an attribute, in its place. Takes no memory.
     pub fn put(&mut self, feature: FeatureNo, list: Seq<Value>, flag: bool)
         requires { HasPlace self.old feature.0 }
-        ensures held { held_in self.new ≡ with_held (held_in self.old) feature.0 (record { list = list; flag = flag }) }
+        ensures stored { stored_in self.new ≡ with_stored (stored_in self.old) feature.0 (record { list = list; flag = flag }) }
         ensures kept { (f : ℕ) → HasPlace self.old f → HasPlace self.new f }
     {
         match self.find(feature) {

@@ -1,7 +1,7 @@
 //! The objects of a repository, by number.
 ghost use Rattle.std.specs.Prelude.{◌≡◌, ◌+◌, ◌<◌, ◌≤◌, [], length, option_copied, OnOk, OnErr};
 ghost use Rattle.std.specs.Option.{option_map, option_and_then};
-ghost use Rattle.mm_values.specs.Values.{object_at, held_under, with_object, without_object, with_list};
+ghost use Rattle.mm_values.specs.Values.{object_at, stored_under, with_object, without_object, with_list};
 ghost use Rattle.mm_values.specs.Slots.{objects_of, state_of, HasPlaceAt, KeepsPlaces};
 
 use crate::attribute_lists::AttributeLists;
@@ -74,7 +74,7 @@ impl Objects {
 
     /// What a live object holds under an attribute.
     pub fn list(&self, object: ObjectNo, feature: FeatureNo) -> Option<&[Value]>
-        ensures { option_copied result ≡ option_map (λ s. (held_under s feature).list) (object_at (objects_of self.now) object) }
+        ensures { option_copied result ≡ option_map (λ s. (stored_under s feature).list) (object_at (objects_of self.now) object) }
     {
         let slot = self.slot(object)?;
         slot.class.map(|_| slot.lists.list(feature))
@@ -82,7 +82,7 @@ impl Objects {
 
     /// Whether an attribute of a live object is set.
     pub fn flag(&self, object: ObjectNo, feature: FeatureNo) -> Option<bool>
-        ensures { result ≡ option_map (λ s. (held_under s feature).flag) (object_at (objects_of self.now) object) }
+        ensures { result ≡ option_map (λ s. (stored_under s feature).flag) (object_at (objects_of self.now) object) }
     {
         let slot = self.slot(object)?;
         slot.class.map(|_| slot.lists.flag(feature))

@@ -12,8 +12,8 @@ use Rattle.mm_types.specs.declared.numbers.ClassNo.{ClassNo}
 use Rattle.mm_types.specs.declared.numbers.FeatureNo.{FeatureNo}
 use Rattle.mm_types.specs.declared.value.Value.{Value}
 use Rattle.mm_types.specs.declared.value.Value.TheVariants as value
-use Rattle.mm_values.specs.Held.{Held}
-use Rattle.mm_values.specs.Values.{ObjectState, held_under}
+use Rattle.mm_values.specs.Stored.{Stored}
+use Rattle.mm_values.specs.Values.{ObjectState, stored_under}
 use Rattle.models.specs.Reading.{class_has}
 use Rattle.models.specs.Model.{Model}
 
@@ -43,14 +43,14 @@ IsUniqueList true vs = IsDistinct same_value vs
 IsUniqueList false vs = Unit {0}
 
 -- what an object keeps under a feature: no value twice where it is unique, and a flag where it is unsettable and has a value
-pub record IsLegalHeld (m : Metamodel) (c : ClassNo) (f : FeatureNo) (h : Held) : Type 0 where
+pub record IsLegalStored (m : Metamodel) (c : ClassNo) (f : FeatureNo) (h : Stored) : Type 0 where
   pub values : IsTrue (is_legal_list m c f h.list)
   pub unique : IsUniqueList (shape m f).is_unique h.list
   pub flag : h.flag ≡ ((shape m f).is_unsettable && not (is_nil h.list))
 
 abbrev pub IsLegalObject : Metamodel → Option ObjectState → Type 0
 IsLegalObject m None = Unit {0}
-IsLegalObject m (Some o) = IsTrue (is_concrete m o.class) × ((f : FeatureNo) → IsLegalHeld m o.class f (held_under o f))
+IsLegalObject m (Some o) = IsTrue (is_concrete m o.class) × ((f : FeatureNo) → IsLegalStored m o.class f (stored_under o f))
 
 -- the metamodel is an accepted one, there are no more objects than there may be, and each is legal
 pub record IsLegal (s : Model) : Type 0 where

@@ -1,7 +1,7 @@
 -- The state that a repository shows.
 use Rattle.std.specs.Coded.{Coded, codes}
 use Rattle.std.specs.FinMap as map
-use Rattle.mm_values.specs.Held.{Held, HeldMap}
+use Rattle.mm_values.specs.Stored.{Stored, StoredMap}
 use Rattle.mm_values.specs.Room.{values_of}
 use Rattle.models.specs.Model.{model_of}
 use Rattle.repository.specs.State.{State, IsLegal}
@@ -14,8 +14,8 @@ abbrev pub IsLegalInside : Inside → Type 0
 IsLegalInside r = IsLegal (state r)
 
 -- what an object holds, as data
-coded_held : Coded Held
-coded_held = Prim.hlevel codes
+coded_stored : Coded Stored
+coded_stored = Prim.hlevel codes
 
-pub coded_map : Coded HeldMap
-coded_map = map.code (Prim.hlevel codes) coded_held
+pub coded_map : Coded StoredMap
+coded_map = map.code (Prim.hlevel codes) coded_stored

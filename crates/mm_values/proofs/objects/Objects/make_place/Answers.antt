@@ -7,7 +7,7 @@ pub returns-clause-objects : goal.returns-clause-objects
 returns-clause-objects c =
     let slot = c.index_mut-slot.result.now in
     let within : c.args.object.0 < length c.self.inside.slots.items = omega arith in
-    rw (← c.self.view_is) (objects_same c.self.inside.slots.items c.self.inside.next c.args.object.0 _ slot within (state_same slot.class slot.lists c.make_place.new.self c.make_place.ensures.held ∙ ap state_of c.index_mut-slot.ensures.value))
+    rw (← c.self.view_is) (objects_same c.self.inside.slots.items c.self.inside.next c.args.object.0 _ slot within (state_same slot.class slot.lists c.make_place.new.self c.make_place.ensures.stored ∙ ap state_of c.index_mut-slot.ensures.value))
 
 pub returns-clause-kept : goal.returns-clause-kept
 returns-clause-kept c =

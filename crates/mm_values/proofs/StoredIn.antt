@@ -5,38 +5,38 @@ use Rattle.std.specs.Ordering.{nat_cmp, eq_by_cmp}
 use Rattle.std.specs.Cmp.{nat_cmp_total}
 use Rattle.std.specs.FinMap as map
 use Rattle.std.proofs.lemmas.Bool.Decides.{nat_tests}
-use Rattle.mm_values.specs.Held.{Held, HeldMap, nothing_held, is_nothing, with_held}
-use Rattle.mm_values.specs.Attributes.{held_in, held_of, place_for, feature_at, IsAt}
+use Rattle.mm_values.specs.Stored.{Stored, StoredMap, nothing_stored, is_nothing, with_stored}
+use Rattle.mm_values.specs.Attributes.{stored_in, stored_of, place_for, feature_at, IsAt}
 use Rattle.mm_values.specs.declared.attribute_lists.Entry.{Entry}
 
--- what a look-up answers where h is held
-abbrev pub kept : Held → Option Held
+-- what a look-up answers where h is stored
+abbrev pub kept : Stored → Option Stored
 kept h = if is_nothing h then None else Some h
 
--- what is held in the first entry of the attribute
-abbrev pub found : List Entry → ℕ → Option Held
+-- what is stored in the first entry of the attribute
+abbrev pub found : List Entry → ℕ → Option Stored
 found [] q = None
-found (e ∷ l) q = if eqb q e.feature.0 then kept (held_of e) else found l q
+found (e ∷ l) q = if eqb q e.feature.0 then kept (stored_of e) else found l q
 
 -- only equal numbers tie
 tied : (q k : ℕ) → eq_by_cmp nat_cmp q k ≡ eqb q k
 tied q k = grind (arith, nat_tests)
 
-with_held_cases : (m : HeldMap) (k : ℕ) (h : Held) (q : ℕ) (b : Bool) → map.get (cond b (map.remove m k) (map.insert m k h)) q ≡ cond (eqb q k) (cond b None (Some h)) (map.get m q)
-with_held_cases m k h q true = map.get-remove nat_cmp_total m k q ∙ ap (λ b. cond b None (map.get m q)) (tied q k)
-with_held_cases m k h q false = map.get-insert nat_cmp_total m k h q ∙ ap (λ b. cond b (Some h) (map.get m q)) (tied q k)
+with_stored_cases : (m : StoredMap) (k : ℕ) (h : Stored) (q : ℕ) (b : Bool) → map.get (cond b (map.remove m k) (map.insert m k h)) q ≡ cond (eqb q k) (cond b None (Some h)) (map.get m q)
+with_stored_cases m k h q true = map.get-remove nat_cmp_total m k q ∙ ap (λ b. cond b None (map.get m q)) (tied q k)
+with_stored_cases m k h q false = map.get-insert nat_cmp_total m k h q ∙ ap (λ b. cond b (Some h) (map.get m q)) (tied q k)
 
--- what `with_held` answers
-pub get-with_held : (m : HeldMap) (k : ℕ) (h : Held) (q : ℕ) → map.get (with_held m k h) q ≡ (if eqb q k then kept h else map.get m q)
-get-with_held m k h q = with_held_cases m k h q (is_nothing h)
+-- what `with_stored` answers
+pub get-with_stored : (m : StoredMap) (k : ℕ) (h : Stored) (q : ℕ) → map.get (with_stored m k h) q ≡ (if eqb q k then kept h else map.get m q)
+get-with_stored m k h q = with_stored_cases m k h q (is_nothing h)
 
-pub get-held_in : (l : List Entry) (q : ℕ) → map.get (held_in l) q ≡ found l q
-get-held_in [] q = map.get-empty nat_cmp q
-get-held_in (e ∷ l) q = get-with_held (held_in l) e.feature.0 (held_of e) q ∙ ap (λ r. cond (eqb q e.feature.0) (kept (held_of e)) r) (get-held_in l q)
+pub get-stored_in : (l : List Entry) (q : ℕ) → map.get (stored_in l) q ≡ found l q
+get-stored_in [] q = map.get-empty nat_cmp q
+get-stored_in (e ∷ l) q = get-with_stored (stored_in l) e.feature.0 (stored_of e) q ∙ ap (λ r. cond (eqb q e.feature.0) (kept (stored_of e)) r) (get-stored_in l q)
 
 -- maps that answer alike are equal
-pub same_held : (m n : HeldMap) → ((q : ℕ) → map.get m q ≡ map.get n q) → m ≡ n
-same_held m n same = map.same_map nat_cmp_total map.nat_cmp-IsAntisymmetric m n same
+pub same_stored : (m n : StoredMap) → ((q : ℕ) → map.get m q ≡ map.get n q) → m ≡ n
+same_stored m n same = map.same_map nat_cmp_total map.nat_cmp-IsAntisymmetric m n same
 
 -- no entry before place i is the attribute's
 abbrev pub NoneBefore : List Entry → ℕ → ℕ → Type 0
@@ -52,13 +52,13 @@ pub found_absent : (l : List Entry) (f : ℕ) → NoneBefore l f (length l) → 
 found_absent [] f none = refl
 found_absent (x ∷ l) f none = grind (arith, nat_tests, none 0 (omega arith), found_absent l f (none_before_tail x l f _ none))
 
-pub found_present : (l : List Entry) (f i : ℕ) → IsAt l f i → NoneBefore l f i → found l f ≡ kept (held_of (get_or l i (place_for 0)))
+pub found_present : (l : List Entry) (f i : ℕ) → IsAt l f i → NoneBefore l f i → found l f ≡ kept (stored_of (get_or l i (place_for 0)))
 found_present [] f i at none = absurd (omega (arith, at.in_range))
 found_present (x ∷ l) f zero at none = grind (arith, nat_tests, at.has_feature)
 found_present (x ∷ l) f (suc i) at none = grind (arith, nat_tests, none 0 (omega arith), found_present l f i (is_at_tail x l f i at) (none_before_tail x l f i none))
 
 -- an entry that is written over its attribute's sets what is found there
-pub found-set : (l : List Entry) (f i : ℕ) (e : Entry) → e.feature.0 ≡ f → IsAt l f i → NoneBefore l f i → (q : ℕ) → found (set l i e) q ≡ (if eqb q f then kept (held_of e) else found l q)
+pub found-set : (l : List Entry) (f i : ℕ) (e : Entry) → e.feature.0 ≡ f → IsAt l f i → NoneBefore l f i → (q : ℕ) → found (set l i e) q ≡ (if eqb q f then kept (stored_of e) else found l q)
 found-set [] f i e is at none q = absurd (omega (arith, at.in_range))
 found-set (x ∷ l) f zero e is at none q = grind (arith, nat_tests, at.has_feature, is)
 found-set (x ∷ l) f (suc i) e is at none q = grind (arith, nat_tests, none 0 (omega arith), found-set l f i e is (is_at_tail x l f i at) (none_before_tail x l f i none) q)
@@ -69,12 +69,12 @@ found-insert l f zero none q = refl
 found-insert [] f (suc i) none q = refl
 found-insert (x ∷ l) f (suc i) none q = grind (arith, nat_tests, none 0 (omega arith), found-insert l f i (none_before_tail x l f i none) q)
 
-nothing_kept : (list : List _) (flag : Bool) → unwrap_or (kept (record { list = list; flag = flag })) nothing_held ≡ record { list = list; flag = flag }
+nothing_kept : (list : List _) (flag : Bool) → unwrap_or (kept (record { list = list; flag = flag })) nothing_stored ≡ record { list = list; flag = flag }
 nothing_kept [] false = refl
 nothing_kept [] true = refl
 nothing_kept (v ∷ vs) false = refl
 nothing_kept (v ∷ vs) true = refl
 
--- what is kept is what was held, and nothing else is nothing
-pub unwrap_or-kept : (h : Held) → unwrap_or (kept h) nothing_held ≡ h
+-- what is kept is what was stored, and nothing else is nothing
+pub unwrap_or-kept : (h : Stored) → unwrap_or (kept h) nothing_stored ≡ h
 unwrap_or-kept h = nothing_kept h.list h.flag

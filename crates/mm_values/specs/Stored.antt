@@ -1,0 +1,25 @@
+-- What an object stores under its attributes: values, and whether the attribute is set.
+use Rattle.std.specs.Prelude.{ℕ, Bool, false, List, [], ◌&&◌, not, if◌then◌else◌}
+use Rattle.std.specs.Ordering.{nat_cmp}
+use Rattle.std.specs.FinMap as map
+use Rattle.mm_types.specs.Same.{is_nil}
+use Rattle.mm_types.specs.declared.value.Value.{Value}
+
+-- the values under an attribute, and whether it is set, where that is a state of its own
+pub record Stored : Type 0 where
+  pub list : List Value
+  pub flag : Bool
+
+abbrev pub nothing_stored : Stored
+nothing_stored = record { list = []; flag = false }
+
+abbrev pub is_nothing : Stored → Bool
+is_nothing h = is_nil h.list && not h.flag
+
+-- what is stored under each attribute's number that holds anything
+abbrev pub StoredMap : Type 0
+StoredMap = map.FinMap nat_cmp Stored
+
+-- what holds nothing is not kept
+abbrev pub with_stored : StoredMap → ℕ → Stored → StoredMap
+with_stored m f h = if is_nothing h then map.remove m f else map.insert m f h
