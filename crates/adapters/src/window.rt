@@ -1,6 +1,7 @@
 //! An adapter that keeps the latest notices.
 ghost use Rattle.std.specs.Prelude.{◌≡◌, ◌+◌, ◌^◌, ◌≤◌, ◌<◌, ◌↔◌, [], Some, IfOk, OnOk, IsErrOf};
 ghost use Rattle.notice_chain.specs.View.{View};
+ghost use Rattle.mm_types.specs.declared.limits.TheConstants.{WINDOW_NOTICES};
 ghost use Rattle.adapters.specs.Counting.{places_left};
 
 use crate::adapter::{Adapter, NoRoom};
@@ -17,10 +18,10 @@ pub struct Window {
 }
 
 impl Window {
-    /// A window that keeps the last `n` notices, from 1 to 1,000,000, and has heard nothing yet. Errs only when out of memory.
+    /// A window that keeps the last `n` notices, from 1 to `limits::WINDOW_NOTICES` of them, and has heard nothing yet. Errs only when out of memory.
     pub fn new(alloc: Global, n: u64) -> Result<Window, AllocError>
         requires some { 1 ≤ n }
-        requires within { n ≤ 1000000 }
+        requires within { n ≤ WINDOW_NOTICES }
         ensures { IfOk result (λ w. ⟦<Window as Adapter>⟧.heard w ≡ record { told = 0; room = Some n; kept = [] }) }
     {
         let latest = HeapCircularBuffer::with_capacity(alloc, n as usize)?;

@@ -1,5 +1,5 @@
 -- The conditions, one after another.
-use Rattle.std.proofs.Common.{◌≡◌, ◌∙◌, ◌+◌, ◌<◌, ◌⊎◌, List, [], ◌∷◌, ℕ, zero, suc, ap, arith, get_or, refl, subst, sym, ⊎_elim}
+use Rattle.std.proofs.Common.{◌≡◌, ◌∙◌, ◌+◌, ◌<◌, ◌⊎◌, ℕ, zero, suc, arith, get_or, refl, subst, sym, ⊎_elim}
 use Rattle.std.proofs.lemmas.Bool.{cases_order}
 use Rattle.mm_types.specs.Faults.{condition_number}
 use Rattle.mm_types.specs.Raw.{RawMetamodel}
@@ -7,24 +7,8 @@ use Rattle.mm_types.specs.WellFormed.{Applies, IsBefore, IsFirstFault, WellForme
 use Rattle.mm_types.specs.declared.meta_fault.Condition.{Condition}
 use Rattle.mm_types.specs.declared.meta_fault.Condition.TheVariants.{Name, DuplicateName, NoType, Cycle, Bounds, Opposite, BothContain, ContainerBound, Default}
 use Rattle.mm_types.specs.declared.meta_fault.Place.{Place}
+use Rattle.mm_types.proofs.FaultOrder.{conditions, same_condition}
 use Rattle.mm_check.specs.Search.{IsFirstAt, NoneBelow}
-
-abbrev pub conditions : List Condition
-conditions = Name ∷ DuplicateName ∷ NoType ∷ Cycle ∷ Bounds ∷ Opposite ∷ BothContain ∷ ContainerBound ∷ Default ∷ []
-
-condition_back : (k : Condition) → get_or (Name ∷ Name ∷ Name ∷ Name ∷ conditions) (condition_number k) Name ≡ k
-condition_back Name = refl
-condition_back DuplicateName = refl
-condition_back NoType = refl
-condition_back Cycle = refl
-condition_back Bounds = refl
-condition_back Opposite = refl
-condition_back BothContain = refl
-condition_back ContainerBound = refl
-condition_back Default = refl
-
-same_condition : (k l : Condition) → condition_number k ≡ condition_number l → k ≡ l
-same_condition k l e = sym (condition_back k) ∙ (ap (λ n. get_or (Name ∷ Name ∷ Name ∷ Name ∷ conditions) n Name) e ∙ condition_back l)
 
 number_low : (k : Condition) → condition_number k < 13
 number_low Name = omega arith

@@ -1,5 +1,4 @@
 -- What the check of a document finds.
-use Rattle.std.specs.Prelude.{None, Some}
 use Rattle.mm_types.specs.Raw.{RawMetamodel}
 use Rattle.mm_types.specs.WellFormed.{IsFirstFault, WellFormed}
 use Rattle.mm_meta.specs.Resolution.{IsResolutionOf}

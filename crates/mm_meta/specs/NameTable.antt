@@ -1,5 +1,5 @@
 -- Tables that find names in lists of them.
-use Rattle.std.specs.Prelude.{ℕ, ◌≡◌, List, position}
+use Rattle.std.specs.Prelude.{ℕ, ◌≡◌, List, Option, option_and_then, position, slice_get}
 use Rattle.std.specs.List.{AllZip}
 use Rattle.std.specs.Str.{bytes_eq}
 use Rattle.indexmap.specs.IndexMap.{get_by_text}
@@ -8,6 +8,10 @@ use Rattle.mm_meta.specs.declared.name_table.NameTable.{NameTable}
 -- at each name that stands in the list the table has the position at which it stands first
 pub record IsTableOf (t : NameTable) (names : List (List ℕ)) : Type 0 where
   pub at : (q : List ℕ) → get_by_text t.positions q ≡ position (λ n. bytes_eq n q) names
+
+-- the position at which a name stands first in the list at an index
+abbrev pub position_in : List (List (List ℕ)) → ℕ → List ℕ → Option ℕ
+position_in lists index name = option_and_then (position (λ n. bytes_eq n name)) (slice_get lists index)
 
 -- a table for each list of names
 abbrev pub AreTablesOf : List NameTable → List (List (List ℕ)) → Type 0

@@ -1,9 +1,7 @@
 //! The values that literals write.
-ghost use Rattle.std.specs.Prelude.{◌≡◌, ◌-◌, ◌^◌, None, Some, codes, false, if◌then◌else◌, neg_ℤ, option_and_then, pos, true};
-ghost use Rattle.std.specs.Str.{bytes_eq};
+ghost use Rattle.std.specs.Prelude.{◌≡◌, ◌-◌, ◌^◌, neg_ℤ, option_and_then, pos};
 ghost use Rattle.mm_types.specs.Integers.{integer};
-ghost use Rattle.mm_types.specs.Resolved.{int_within, type_default as default_of_type};
-ghost use Rattle.mm_types.specs.declared.value.Value.TheVariants as Value;
+ghost use Rattle.mm_types.specs.Resolved.{int_within, truth_value, type_default as default_of_type};
 
 use mm_types::integers::integer_of;
 use mm_types::{DataType, Value};
@@ -20,7 +18,7 @@ pub fn int_value(text: &str) -> Option<Value>
 
 /// The truth value that a literal writes.
 pub fn boolean_value(text: &str) -> Option<Value>
-    ensures { result ≡ (if bytes_eq text.now (codes "true") then Some (Value.Bool true) else (if bytes_eq text.now (codes "false") then Some (Value.Bool false) else None)) }
+    ensures { result ≡ truth_value text.now }
 {
     if text == "true" {
         return Some(Value::Bool(true));

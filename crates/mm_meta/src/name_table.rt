@@ -1,7 +1,7 @@
 //! Look-ups by name.
 ghost use Rattle.std.specs.Prelude.{◌≡◌, ◌∷◌, ◌++◌, [], ℕ, List, length, map, IfOk, OnOk, position, option_and_then, slice_get};
 ghost use Rattle.std.specs.Str.{bytes_eq};
-ghost use Rattle.mm_meta.specs.NameTable.{AreTablesOf, IsTableOf};
+ghost use Rattle.mm_meta.specs.NameTable.{AreTablesOf, IsTableOf, position_in};
 
 use indexmap::IndexMap;
 use mm_types::{Class, Enumeration, RawClass, RawFeature, Text};
@@ -111,7 +111,7 @@ impl NameTable {
 
 /// The position at which a name stands first in the list of the table at an index.
 pub fn position_at(tables: &[NameTable], index: usize, name: &str) -> Option<usize>
-    ensures { (lists : List (List (List ℕ))) → AreTablesOf tables.now lists → result ≡ option_and_then (position (λ n. bytes_eq n name.now)) (slice_get lists index) }
+    ensures { (lists : List (List (List ℕ))) → AreTablesOf tables.now lists → result ≡ position_in lists index name.now }
 {
     tables.get(index)?.position(name)
 }

@@ -1,8 +1,7 @@
 //! The classes and features of a well-formed metamodel, and which classes conform to which.
-ghost use Rattle.std.specs.Prelude.{◌≡◌, ◌<◌, ℕ, IfOk, length};
-ghost use Rattle.mm_types.specs.Graph.{row};
-ghost use Rattle.mm_types.specs.Features.{all_features as features_of};
-ghost use Rattle.mm_types.specs.Resolved.{classes_from, graph_of, own_of};
+ghost use Rattle.std.specs.Prelude.{◌≡◌, IfOk, length};
+ghost use Rattle.mm_types.specs.Resolved.{classes_from, graph_of};
+ghost use Rattle.mm_meta.specs.Resolution.{AreFeaturesOf};
 ghost use Rattle.mm_types.specs.WellFormed.{WellFormed};
 
 use crate::resolver::Resolver;
@@ -65,7 +64,7 @@ fn all_features(
     requires well_formed { WellFormed resolver.now }
     requires graph { graph.now ≡ graph_of resolver.now.classes }
     ensures len { IfOk result (λ t. length t.items ≡ length resolver.now.classes) }
-    ensures rows { IfOk result (λ t. (c : ℕ) → c < length resolver.now.classes → row t.items c ≡ features_of (graph_of resolver.now.classes) (own_of resolver.now.classes) c) }
+    ensures rows { IfOk result (λ t. AreFeaturesOf resolver.now.classes t.items) }
 {
     match order_of(alloc, graph)? {
         Some(order) => features_table(alloc, graph, resolver.own(), order.as_slice()),

@@ -1,5 +1,5 @@
 -- What a resolved metamodel says of its classes, features and enumerations by number and by name.
-use Rattle.std.specs.Prelude.{ℕ, ◌<◌, ◌&&◌, pos, neg_ℤ, ◌^◌, ◌-◌, Bool, true, false, IsTrue, List, [], length, map, position, slice_get, nat_lt, Option, Some, None, option_map, option_and_then, nat_eq, int_le}
+use Rattle.std.specs.Prelude.{ℕ, ◌<◌, ◌&&◌, pos, neg_ℤ, ◌^◌, ◌-◌, Bool, true, false, List, [], length, map, position, slice_get, nat_lt, Option, None, option_map, option_and_then, nat_eq, int_le}
 use Rattle.std.specs.List.{find, list_any}
 use Rattle.std.specs.Option.{option_map_or}
 use Rattle.std.specs.Ordering.{int_eq}
@@ -16,7 +16,6 @@ use Rattle.mm_types.specs.declared.value.Value.{Value}
 use Rattle.mm_types.specs.declared.value.Value.TheVariants as value
 use Rattle.mm_types.specs.declared.numbers.ClassNo.{ClassNo}
 use Rattle.mm_types.specs.declared.numbers.FeatureNo.{FeatureNo}
-use Rattle.mm_types.specs.declared.numbers.ObjectNo.{ObjectNo}
 
 abbrev pub class : Metamodel → ClassNo → Option Class
 class m c = slice_get m.classes c.0

@@ -1,6 +1,7 @@
 -- A JSON string of plain bytes reads as what stands between its quotation marks.
-use Rattle.std.proofs.Common.{◌∙◌, ◌≡◌, ◌≤◌, ◌-◌, ◌&&◌, ◌==◌, ℕ, Bool, true, false, List, [], ◌∷◌, ◌++◌, Some, ap, append-nil, arith, drop, get_or, length, nat_le, not, refl, sub-one, sym, take}
+use Rattle.std.proofs.Common.{◌∙◌, ◌≡◌, ◌≤◌, ◌-◌, ◌&&◌, ◌==◌, ℕ, true, List, [], ◌∷◌, ◌++◌, Some, ap, append-nil, arith, drop, get_or, length, nat_le, not, refl, sub-one, sym, take}
 use Rattle.std.specs.List.{list_all}
+use Rattle.std.proofs.lemmas.Bool.{and_parts}
 use Rattle.std.proofs.lemmas.Bool.Decides.{nat_tests}
 use Rattle.std.specs.Prelude.{option_and_then}
 use Rattle.json.specs.Json.{if_last, value}
@@ -22,27 +23,19 @@ read-quoted : (t : List ℕ) → read (quoted t) ≡ Some (string t)
 unfolding value
 read-quoted t = ap (λ ts. option_and_then of_json (option_and_then (λ p. if_last p.0 p.1) (value max_depth ts))) (tokens-quoted t)
 
-first_true : (a b : Bool) → (a && b) ≡ true → a ≡ true
-first_true true b h = refl
-first_true false b h = h
-
-second_true : (a b : Bool) → (a && b) ≡ true → b ≡ true
-second_true true b h = h
-second_true false b h = cc
-
 escape_plain_byte : (c : ℕ) → is_plain c ≡ true → escape_byte c ≡ c ∷ []
 escape_plain_byte c h =
-    let other : (not (c == 34) && not (c == 92)) ≡ true = second_true (nat_le 32 c) _ h in
-    let quote : not (c == 34) ≡ true = first_true _ _ other in
-    let slash : not (c == 92) ≡ true = second_true (not (c == 34)) _ other in
-    let low : nat_le 32 c ≡ true = first_true _ _ h in
+    let other : (not (c == 34) && not (c == 92)) ≡ true = (and_parts (nat_le 32 c) _ h).1 in
+    let quote : not (c == 34) ≡ true = (and_parts (not (c == 34)) _ other).0 in
+    let slash : not (c == 92) ≡ true = (and_parts (not (c == 34)) _ other).1 in
+    let low : nat_le 32 c ≡ true = (and_parts (nat_le 32 c) _ h).0 in
     escape_byte_plain c (λ e. grind (arith, nat_tests)) (λ e. grind (arith, nat_tests)) (grind (arith, nat_tests))
 
 escape-plain : (t : List ℕ) → list_all is_plain t ≡ true → escape t ≡ t
 escape-plain [] h = refl
 escape-plain (c ∷ cs) h =
-    let one = escape_plain_byte c (first_true (is_plain c) _ h) in
-    let more = escape-plain cs (second_true (is_plain c) _ h) in
+    let one = escape_plain_byte c (and_parts (is_plain c) _ h).0 in
+    let more = escape-plain cs (and_parts (is_plain c) _ h).1 in
     rw (one, more) refl
 
 -- ---- a word between quotation marks

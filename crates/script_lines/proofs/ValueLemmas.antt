@@ -1,36 +1,24 @@
 -- Names are ASCII, and a text is what serde_json reads.
-use Rattle.std.proofs.Common.{◌≡◌, ◌-◌, ◌&&◌, ◌<◌, ℕ, zero, suc, Bool, true, false, List, [], ◌∷◌, Option, None, Some, IsUtf8, arith, cond, get_or, length, nat_eq, nat_lt, refl, slice_index}
+use Rattle.std.proofs.Common.{◌≡◌, ◌-◌, ◌&&◌, ◌<◌, ℕ, Bool, true, false, List, Option, None, Some, IsUtf8, arith, cond, length, nat_eq, nat_lt, refl, slice_index}
 use Rattle.std.specs.Prelude.{option_and_then}
-use Rattle.std.specs.List.{list_all}
 use Rattle.std.specs.Str.{IsAscii, is_utf8}
 use Rattle.std.proofs.lemmas.Str.{IsUtf8-from_is_utf8, is_utf8-from_IsUtf8}
+use Rattle.std.proofs.lemmas.Bool.{and_parts}
 use Rattle.std.proofs.lemmas.Bool.Decides.{nat_tests}
 use Rattle.serde_json.specs.Data.{Data}
 use Rattle.serde_json.specs.Read.{read}
 use Rattle.serde_json.specs.Find.{as_str}
 use Rattle.mm_types.specs.Names.{is_name, is_name_byte}
+use Rattle.mm_types.proofs.IntegerLemmas.{all_ascii}
 use Rattle.script_lines.specs.Values.{text_in}
 
 -- ---- names
-
-first_true : (a b : Bool) → (a && b) ≡ true → a ≡ true
-first_true true b h = refl
-first_true false b h = h
-
-second_true : (a b : Bool) → (a && b) ≡ true → b ≡ true
-second_true true b h = h
-second_true false b h = cc
-
-all_ascii : (p : ℕ → Bool) → ((c : ℕ) → p c ≡ true → c < 128) → (w : List ℕ) → list_all p w ≡ true → (i : ℕ) → get_or w i 0 < 128
-all_ascii p below [] h i = omega arith
-all_ascii p below (c ∷ cs) h zero = below c (first_true _ _ h)
-all_ascii p below (c ∷ cs) h (suc i) = all_ascii p below cs (second_true (p c) _ h) i
 
 name_byte_ascii : (c : ℕ) → is_name_byte c ≡ true → c < 128
 name_byte_ascii c h = grind (arith, nat_tests)
 
 pub name_ascii : (w : List ℕ) → is_name w ≡ true → IsAscii w
-name_ascii w h = all_ascii is_name_byte name_byte_ascii w (first_true _ _ (second_true (nat_lt 0 (length w)) _ h))
+name_ascii w h = all_ascii is_name_byte name_byte_ascii w (and_parts _ _ (and_parts (nat_lt 0 (length w)) _ h).1).0
 
 -- ---- texts
 

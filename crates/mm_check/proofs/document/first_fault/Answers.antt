@@ -1,6 +1,7 @@
 use Rattle.std.proofs.Common.{◌+◌, arith, get_or}
 use Rattle.mm_types.specs.declared.meta_fault.Condition.TheVariants.{Name}
-use Rattle.mm_check.proofs.Faulting.{conditions, first_fault, none_more, none_yet, number_at, well_formed}
+use Rattle.mm_types.proofs.FaultOrder.{conditions}
+use Rattle.mm_check.proofs.Faulting.{first_fault, none_more, none_yet, number_at, well_formed}
 use Rattle.mm_check.proofs.document.first_fault.Goals as goal
 
 pub first_place-requires : goal.first_place-requires
