@@ -1,7 +1,7 @@
 //! Small graphs with answers by hand, and a ladder with more paths than can be walked one by one.
-ghost use Rattle.std.specs.Prelude.{◌<◌, ◌↔◌, IsTrue};
+ghost use Rattle.std.specs.Prelude.{◌≡◌, ◌<◌, ◌↔◌, IsTrue, length};
 ghost use Rattle.std.specs.List.{All};
-ghost use Rattle.mm_graph.specs.Order.{InRange};
+ghost use Rattle.mm_graph.specs.Order.{InRange, IsOrder};
 
 use mm_graph::{
     clashes, conform_table, conforming, features_table, first_on_cycle, laws, order_of,
@@ -73,20 +73,33 @@ fn shown<T: Debug>(alloc: Global, rows: &[Seq<T>]) -> Result<String, AllocError>
     Ok(shown)
 }
 
-/// An order of the classes in which each comes behind its supertypes, and all features of each class, where `own` has the
-/// features that each declares.
+/// An order, and all features of each class, where `own` has the features that each declares.
+fn inherited_by(
+    alloc: Global,
+    graph: &[Seq<usize>],
+    own: &[Seq<usize>],
+    order: &[usize],
+) -> Result<String, AllocError>
+    requires graph { InRange graph.now }
+    requires own { length own.now ≡ length graph.now }
+    requires order { IsOrder graph.now order.now }
+{
+    laws::all_features_from_supers(graph, own, order);
+    laws::order_rules_out_cycles(graph, order);
+    let table = features_table(alloc, graph, own, order)?;
+    let rows = shown(alloc, &table)?;
+    format!(in alloc; "{order:?} {rows}")
+}
+
+/// An order of the classes in which each comes behind its supertypes, and all features of each class.
 fn inherited(alloc: Global, graph: &[Seq<usize>], own: &[Seq<usize>]) -> Result<String, Fail> {
     if !is_in_range(graph) || own.len() != graph.len() {
         return Err(Fail::new("these are no classes"));
     }
-    let Some(order) = order_of(alloc, graph)? else {
-        return Err(Fail::new("there is a cycle"));
-    };
-    laws::all_features_from_supers(graph, own, &order);
-    laws::order_rules_out_cycles(graph, &order);
-    let table = features_table(alloc, graph, own, &order)?;
-    let rows = shown(alloc, &table)?;
-    Ok(format!(in alloc; "{order:?} {rows}")?)
+    match order_of(alloc, graph)? {
+        Some(order) => Ok(inherited_by(alloc, graph, own, &order)?),
+        None => Err(Fail::new("there is a cycle")),
+    }
 }
 
 #[test]
@@ -197,22 +210,44 @@ fn one_each(alloc: Global, count: usize) -> Result<Vec<Seq<usize>>, AllocError> 
     Ok(own)
 }
 
+/// How many features the last class has.
+fn last_features(
+    alloc: Global,
+    graph: &[Seq<usize>],
+    own: &[Seq<usize>],
+    order: &[usize],
+) -> Result<Option<usize>, AllocError>
+    requires graph { InRange graph.now }
+    requires own { length own.now ≡ length graph.now }
+    requires order { IsOrder graph.now order.now }
+{
+    let table = features_table(alloc, graph, own, order)?;
+    Ok(table.last().map(|features| features.len()))
+}
+
+/// Whether the last class conforms to every class.
+fn last_conforms(alloc: Global, graph: &[Seq<usize>]) -> Result<Option<bool>, AllocError>
+    requires graph { InRange graph.now }
+{
+    let rows = conform_table(alloc, graph)?;
+    let Some(conforms) = rows.as_slice().last() else {
+        return Ok(None);
+    };
+    Ok(Some(conforms.as_slice().iter().all(|conforms| *conforms)))
+}
+
 /// The first class on a cycle, how many features the last class has, and whether it conforms to every class.
 fn last_of(alloc: Global, graph: &[Seq<usize>], own: &[Seq<usize>]) -> Result<String, Fail> {
     if !is_in_range(graph) || own.len() != graph.len() {
         return Err(Fail::new("these are no classes"));
     }
-    let Some(order) = order_of(alloc, graph)? else {
-        return Err(Fail::new("there is a cycle"));
+    let features = match order_of(alloc, graph)? {
+        Some(order) => last_features(alloc, graph, own, &order)?,
+        None => None,
     };
     let first = first_on_cycle(alloc, graph)?;
-    let table = features_table(alloc, graph, own, &order)?;
-    let rows = conform_table(alloc, graph)?;
-    let (Some(features), Some(conforms)) = (table.last(), rows.as_slice().last()) else {
-        return Err(Fail::new("there is no class"));
-    };
-    let conforms_to_all = conforms.as_slice().iter().all(|conforms| *conforms);
-    Ok(format!(in alloc; "{first:?} {} {conforms_to_all}", features.len())?)
+    let conforms = last_conforms(alloc, graph)?;
+    Ok(format!(in alloc; "{first:?} {features:?} {conforms:?}")?)
 }
 
 #[test]
@@ -220,6 +255,6 @@ fn many_paths_take_little_time(rt: HostRuntime) -> Result<(), Fail> {
     let graph = ladder(rt.alloc(), 901)?;
     let own = one_each(rt.alloc(), 901)?;
     let found = last_of(rt.alloc(), &graph, &own)?;
-    assert_eq!(rt; found.as_str(), "None 901 true");
+    assert_eq!(rt; found.as_str(), "None Some(901) Some(true)");
     Ok(())
 }

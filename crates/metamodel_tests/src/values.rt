@@ -24,26 +24,33 @@ fn shown_twice(alloc: Global, value: &Value) -> Result<String, AllocError> {
     format!(in alloc; "{value:?} {copy:?}")
 }
 
-const VALUES: [(Value, &str); 6] = [
-    (Value::Null, "Null Null"),
-    (Value::Bool(true), "Bool(true) Bool(true)"),
-    (Value::Int(-5), "Int(-5) Int(-5)"),
-    (Value::Literal(7), "Literal(7) Literal(7)"),
-    (
-        Value::Object(ObjectNo(3)),
-        "Object(ObjectNo(3)) Object(ObjectNo(3))",
-    ),
-    (
-        Value::Adapter(AdapterNo(9)),
-        "Adapter(AdapterNo(9)) Adapter(AdapterNo(9))",
-    ),
+/// A value of each kind that holds no text.
+fn value(at: u32) -> Value {
+    match at {
+        0 => Value::Null,
+        1 => Value::Bool(true),
+        2 => Value::Int(-5),
+        3 => Value::Literal(7),
+        4 => Value::Object(ObjectNo(3)),
+        _ => Value::Adapter(AdapterNo(9)),
+    }
+}
+
+/// These values, each beside its copy.
+const VALUES: [&str; 6] = [
+    "Null Null",
+    "Bool(true) Bool(true)",
+    "Int(-5) Int(-5)",
+    "Literal(7) Literal(7)",
+    "Object(ObjectNo(3)) Object(ObjectNo(3))",
+    "Adapter(AdapterNo(9)) Adapter(AdapterNo(9))",
 ];
 
 #[test]
 fn values_are_cloned(rt: HostRuntime) -> Result<(), Fail> {
-    for (value, wanted) in &VALUES {
-        let found = shown_twice(rt.alloc(), value)?;
-        assert_eq!(rt; found.as_str(), *wanted);
+    for (at, wanted) in (0..6).zip(VALUES) {
+        let found = shown_twice(rt.alloc(), &value(at))?;
+        assert_eq!(rt; found.as_str(), wanted);
     }
     Ok(())
 }

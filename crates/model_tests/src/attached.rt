@@ -1,12 +1,11 @@
 //! Adapters that are attached, notified, refused and detached.
 use crate::notices::added;
-use crate::poor::Poor;
-use crate::telling::{attach, tell, three, three_notices};
+use crate::telling::{Kind, NEARLY_FULL, adapter, attach, tell, three, three_notices};
 use adapter_list::AdapterList;
-use adapters::{Adapter, Counter, Recorder, Window};
+use adapters::{Adapter, Counter, Window};
 use mm_types::{AdapterNo, Node, ObjectNo, Refused};
-use notice_chain::Chain;
-use std::alloc::Global;
+use notice_chain::{Chain, Notice};
+use std::alloc::{AllocError, Global};
 use std::test::Fail;
 
 /// How many notices the three adapters of a list were told.
@@ -18,19 +17,40 @@ fn told_of_three<A: Adapter>(list: &AdapterList<A>) -> [Option<u64>; 3] {
     ]
 }
 
-/// A counter that can hear two notices more, and so not two and its last one.
-const NEARLY_FULL: u64 = 18446744073709551613;
-
 /// Why three notices are not delivered to a list of three adapters at object 1, and how many each was told then.
 fn refused_to_three<A: Adapter>(
     alloc: Global,
-    adapters: [A; 3],
+    first: A,
+    second: A,
+    third: A,
 ) -> Result<(Option<Refused>, [Option<u64>; 3]), Fail> {
-    let mut list = three(alloc, [1, 1, 1], adapters)?;
+    let mut list = three(alloc, [1, 1, 1], first, second, third)?;
     let chain = three_notices(alloc)?;
-    let refused = tell(&mut list, &chain).err();
-    Ok((refused, told_of_three(&list)))
+    let refused = tell(&mut *list, &chain).err();
+    Ok((refused, told_of_three(&*list)))
 }
+
+/// Three adapters of which some can't hear a chain, and why it is refused: the first of them decides.
+const REFUSED: [(Kind, Kind, Kind, Refused); 3] = [
+    (
+        Kind::Recorder,
+        Kind::NearlyFull,
+        Kind::Recorder,
+        Refused::AdapterFull,
+    ),
+    (
+        Kind::Poor,
+        Kind::NearlyFull,
+        Kind::Recorder,
+        Refused::Memory,
+    ),
+    (
+        Kind::Recorder,
+        Kind::NearlyFull,
+        Kind::Poor,
+        Refused::AdapterFull,
+    ),
+];
 
 /// That no adapter was notified.
 const NONE_TOLD: [Option<u64>; 3] = [Some(0), Some(NEARLY_FULL), Some(0)];
@@ -38,42 +58,23 @@ const NONE_TOLD: [Option<u64>; 3] = [Some(0), Some(NEARLY_FULL), Some(0)];
 #[test]
 fn a_chain_that_one_adapter_cannot_hear_notifies_none(rt: HostRuntime) -> Result<(), Fail> {
     let alloc = rt.alloc();
-    let first: Box<dyn Adapter> = Box::new(alloc, Recorder::new(alloc))?;
-    let full: Box<dyn Adapter> = Box::new(alloc, Counter::starting_at(NEARLY_FULL))?;
-    let third: Box<dyn Adapter> = Box::new(alloc, Recorder::new(alloc))?;
-    let found = refused_to_three(alloc, [first, full, third])?;
-    assert_eq!(rt; found, (Some(Refused::AdapterFull), NONE_TOLD));
-    Ok(())
-}
-
-#[test]
-fn an_adapter_that_is_refused_memory_decides_where_it_is_first(
-    rt: HostRuntime,
-) -> Result<(), Fail> {
-    let alloc = rt.alloc();
-    let poor: Box<dyn Adapter> = Box::new(alloc, Poor::new())?;
-    let full: Box<dyn Adapter> = Box::new(alloc, Counter::starting_at(NEARLY_FULL))?;
-    let third: Box<dyn Adapter> = Box::new(alloc, Recorder::new(alloc))?;
-    let found = refused_to_three(alloc, [poor, full, third])?;
-    assert_eq!(rt; found, (Some(Refused::Memory), NONE_TOLD));
-    Ok(())
-}
-
-#[test]
-fn a_full_adapter_decides_where_it_is_first(rt: HostRuntime) -> Result<(), Fail> {
-    let alloc = rt.alloc();
-    let first: Box<dyn Adapter> = Box::new(alloc, Recorder::new(alloc))?;
-    let full: Box<dyn Adapter> = Box::new(alloc, Counter::starting_at(NEARLY_FULL))?;
-    let poor: Box<dyn Adapter> = Box::new(alloc, Poor::new())?;
-    let found = refused_to_three(alloc, [first, full, poor])?;
-    assert_eq!(rt; found, (Some(Refused::AdapterFull), NONE_TOLD));
+    for (first, second, third, reason) in &REFUSED {
+        let (first, second) = (adapter(alloc, *first)?, adapter(alloc, *second)?);
+        let found = refused_to_three(alloc, first, second, adapter(alloc, *third)?)?;
+        assert_eq!(rt; found, (Some(*reason), NONE_TOLD));
+    }
     Ok(())
 }
 
 /// Three counters: two at object 1, and one at object 2 between them.
 fn counters(alloc: Global) -> Result<Box<AdapterList<Counter>>, Fail> {
-    let counters = [Counter::new(), Counter::new(), Counter::new()];
-    three(alloc, [1, 2, 1], counters)
+    three(
+        alloc,
+        [1, 2, 1],
+        Counter::new(),
+        Counter::new(),
+        Counter::new(),
+    )
 }
 
 /// The number and the target of the adapter at each place, and at the place past the last.
@@ -84,6 +85,16 @@ const PLACES: [Option<(AdapterNo, Node)>; 4] = [
     None,
 ];
 
+/// Who hears a notice.
+fn audience<A: Adapter>(
+    alloc: Global,
+    list: &AdapterList<A>,
+    notice: &Notice,
+) -> Result<String, AllocError> {
+    let audience = list.audience(notice)?;
+    format!(in alloc; "{audience:?}")
+}
+
 #[test]
 fn adapters_stand_in_attach_order(rt: HostRuntime) -> Result<(), Fail> {
     let list = counters(rt.alloc())?;
@@ -93,25 +104,29 @@ fn adapters_stand_in_attach_order(rt: HostRuntime) -> Result<(), Fail> {
     }
     assert_eq!(rt; list.told(AdapterNo(8)), None);
     assert_eq!(rt; list.kept_len(AdapterNo(5)), Some(0));
-    let audience = list.audience(&added(1, 0))?;
-    let found = format!(in rt.alloc(); "{audience:?}")?;
+    let found = audience(rt.alloc(), &list, &added(1, 0))?;
     assert_eq!(rt; found.as_str(), "[AdapterNo(5), AdapterNo(7)]");
     Ok(())
 }
 
-/// Delivers three notices to a list of two adapters at object 1 and one at object 2 between them. Shows who is told
-/// what, by the adapter's number and the notice's position, how many each was told, and how many the first keeps.
-fn delivered<A: Adapter>(alloc: Global, adapters: [A; 3]) -> Result<String, Fail> {
-    let mut list = three(alloc, [1, 2, 1], adapters)?;
-    let chain = three_notices(alloc)?;
-    let told = tell(&mut list, &chain)?;
+/// Who is told what, by the adapter's number and the notice's position.
+fn told(alloc: Global, told: &[(AdapterNo, Notice)]) -> Result<String, AllocError> {
     let mut shown = String::new(alloc);
-    for (no, notice) in &told {
+    for (no, notice) in told {
         let one = format!(in alloc; "{} {}, ", no.0, notice.position)?;
         shown.push_str(one.as_str())?;
     }
-    let (told, kept) = (told_of_three(&list), list.kept_len(AdapterNo(5)));
-    Ok(format!(in alloc; "{shown}told {told:?} kept {kept:?}")?)
+    Ok(shown)
+}
+
+/// Delivers three notices to a list of two adapters at object 1 and one at object 2 between them. Shows who is told
+/// what, how many each was told, and how many the first keeps.
+fn delivered<A: Adapter>(alloc: Global, first: A, second: A, third: A) -> Result<String, Fail> {
+    let mut list = three(alloc, [1, 2, 1], first, second, third)?;
+    let chain = three_notices(alloc)?;
+    let told = told(alloc, &tell(&mut *list, &chain)?)?;
+    let (counts, kept) = (told_of_three(&*list), list.kept_len(AdapterNo(5)));
+    Ok(format!(in alloc; "{told}told {counts:?} kept {kept:?}")?)
 }
 
 const DELIVERED: &str = "5 0, 7 0, 6 0, 5 1, 7 1, told [Some(2), Some(1), Some(2)] kept Some(1)";
@@ -119,21 +134,19 @@ const DELIVERED: &str = "5 0, 7 0, 6 0, 5 1, 7 1, told [Some(2), Some(1), Some(2
 #[test]
 fn a_chain_is_delivered_in_order_to_its_audience(rt: HostRuntime) -> Result<(), Fail> {
     let alloc = rt.alloc();
-    let first: Box<dyn Adapter> = Box::new(alloc, Window::new(alloc, 1)?)?;
-    let second: Box<dyn Adapter> = Box::new(alloc, Recorder::new(alloc))?;
-    let third: Box<dyn Adapter> = Box::new(alloc, Counter::new())?;
-    let found = delivered(alloc, [first, second, third])?;
+    let first = adapter(alloc, Kind::WindowOfOne)?;
+    let second = adapter(alloc, Kind::Recorder)?;
+    let found = delivered(alloc, first, second, adapter(alloc, Kind::Counter)?)?;
     assert_eq!(rt; found.as_str(), DELIVERED);
     Ok(())
 }
 
 #[test]
 fn a_window_of_two_in_a_list_keeps_two_of_three(rt: HostRuntime) -> Result<(), Fail> {
-    let alloc = rt.alloc();
-    let mut list = Box::new(alloc, AdapterList::new(alloc))?;
-    attach(&mut list, 5, 1, Window::new(alloc, 2)?)?;
-    let chain = Chain::from_vec(vec![in alloc; added(1, 0), added(1, 1), added(1, 2)]?);
-    assert!(rt; tell(&mut list, &chain).is_ok());
+    let mut list = Box::new(rt.alloc(), AdapterList::new(rt.alloc()))?;
+    attach(&mut list, 5, 1, Window::new(rt.alloc(), 2)?)?;
+    let notices = vec![in rt.alloc(); added(1, 0), added(1, 1), added(1, 2)]?;
+    assert!(rt; tell(&mut *list, &Chain::from_vec(notices)).is_ok());
     assert_eq!(rt; list.told(AdapterNo(5)), Some(3));
     assert_eq!(rt; list.kept_len(AdapterNo(5)), Some(2));
     Ok(())
@@ -150,12 +163,9 @@ fn detached<A: Adapter>(list: &mut AdapterList<A>, no: u32) -> Option<(i64, u64)
 #[test]
 fn a_detached_adapter_is_told_its_index_at_the_target(rt: HostRuntime) -> Result<(), Fail> {
     let mut list = counters(rt.alloc())?;
-    let found = [
-        detached(&mut list, 7),
-        detached(&mut list, 5),
-        detached(&mut list, 5),
-    ];
-    assert_eq!(rt; found, [Some((1, 1)), Some((0, 1)), None]);
+    assert_eq!(rt; detached(&mut list, 7), Some((1, 1)));
+    assert_eq!(rt; detached(&mut list, 5), Some((0, 1)));
+    assert_eq!(rt; detached(&mut list, 5), None);
     assert_eq!(rt; list.len(), 1);
     Ok(())
 }

@@ -12,10 +12,12 @@ use std::test::Fail;
 /// at the end.
 fn drops_on_the_way<A: Adapter>(
     alloc: Global,
-    adapters: [A; 3],
+    first: A,
+    second: A,
+    third: A,
     drops: &Cell<u64>,
 ) -> Result<[u64; 4], Fail> {
-    let mut list = three(alloc, [1, 2, 1], adapters)?;
+    let mut list = three(alloc, [1, 2, 1], first, second, third)?;
     let detached = list.detach(AdapterNo(6));
     let after_detach = drops.get();
     drop(detached);
@@ -33,21 +35,16 @@ fn each_part_is_dropped_once(rt: HostRuntime) -> Result<(), Fail> {
     let first: Box<dyn Adapter> = Box::new(alloc, Tally::new(&drops)?)?;
     let second: Box<dyn Adapter> = Box::new(alloc, Tally::new(&drops)?)?;
     let third: Box<dyn Adapter> = Box::new(alloc, Tally::new(&drops)?)?;
-    let found = drops_on_the_way(alloc, [first, second, third], &drops)?;
+    let found = drops_on_the_way(alloc, first, second, third, &drops)?;
     assert_eq!(rt; found, [0, 1, 1, 3]);
     Ok(())
 }
 
 #[test]
 fn a_dropped_list_drops_its_adapters(rt: HostRuntime) -> Result<(), Fail> {
-    let alloc = rt.alloc();
-    let drops = Rc::new(alloc, Cell::new(0))?;
-    let adapters = [
-        Tally::new(&drops)?,
-        Tally::new(&drops)?,
-        Tally::new(&drops)?,
-    ];
-    let list = three(alloc, [1, 2, 1], adapters)?;
+    let drops = Rc::new(rt.alloc(), Cell::new(0))?;
+    let (first, second) = (Tally::new(&drops)?, Tally::new(&drops)?);
+    let list = three(rt.alloc(), [1, 2, 1], first, second, Tally::new(&drops)?)?;
     assert_eq!(rt; drops.get(), 0);
     drop(list);
     assert_eq!(rt; drops.get(), 3);

@@ -13,6 +13,8 @@ mod attached;
 #[cfg(test)]
 mod books;
 #[cfg(test)]
+mod caller;
+#[cfg(test)]
 mod drops;
 #[cfg(test)]
 mod latest;

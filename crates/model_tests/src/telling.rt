@@ -4,13 +4,40 @@ ghost use Rattle.notice_chain.specs.Listed.{tell_chain, told_list};
 
 use crate::books::object;
 use crate::notices::added;
+use crate::poor::Poor;
 use adapter_list::AdapterList;
 use adapter_list::laws::the_round_of_a_chain_tells_it;
-use adapters::Adapter;
+use adapters::{Adapter, Counter, Recorder, Window};
 use mm_types::{AdapterNo, Refused};
 use notice_chain::{Chain, Notice};
 use std::alloc::{AllocError, Global};
 use std::test::Fail;
+
+/// An adapter by what it can hear.
+#[derive(Clone, Copy)]
+pub(crate) enum Kind {
+    Recorder,
+    Counter,
+    /// A counter that can hear two notices more, and so not two and its last one.
+    NearlyFull,
+    /// A counter that is refused memory for all but its last notice.
+    Poor,
+    /// A window that keeps one notice.
+    WindowOfOne,
+}
+
+/// How many notices a nearly full counter was told.
+pub(crate) const NEARLY_FULL: u64 = 18446744073709551613;
+
+pub(crate) fn adapter(alloc: Global, kind: Kind) -> Result<Box<dyn Adapter>, AllocError> {
+    match kind {
+        Kind::Recorder => Ok(Box::new(alloc, Recorder::new(alloc))?),
+        Kind::Counter => Ok(Box::new(alloc, Counter::new())?),
+        Kind::NearlyFull => Ok(Box::new(alloc, Counter::starting_at(NEARLY_FULL))?),
+        Kind::Poor => Ok(Box::new(alloc, Poor::new())?),
+        Kind::WindowOfOne => Ok(Box::new(alloc, Window::new(alloc, 1)?)?),
+    }
+}
 
 /// Attaches an adapter, or says why it is refused; a refused adapter is dropped.
 pub(crate) fn attach<A: Adapter>(
@@ -29,10 +56,11 @@ pub(crate) fn attach<A: Adapter>(
 pub(crate) fn three<A: Adapter>(
     alloc: Global,
     targets: [u32; 3],
-    adapters: [A; 3],
+    first: A,
+    second: A,
+    third: A,
 ) -> Result<Box<AdapterList<A>>, Fail> {
     let mut list = Box::new(alloc, AdapterList::new(alloc))?;
-    let [first, second, third] = adapters;
     attach(&mut list, 5, targets[0], first)?;
     attach(&mut list, 6, targets[1], second)?;
     attach(&mut list, 7, targets[2], third)?;
