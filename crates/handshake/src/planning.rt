@@ -1,6 +1,5 @@
 //! The edits that make a change.
-ghost use Rattle.std.specs.Prelude.{◌≡◌, [], ◌∷◌, IfOk, IfErr};
-ghost use Rattle.mm_types.specs.declared.refused.Refused.TheVariants.{Memory};
+ghost use Rattle.std.specs.Prelude.{◌≡◌};
 ghost use Rattle.mm_types.specs.Resolved.{Metamodel};
 ghost use Rattle.mm_values.specs.Room.{values_of};
 ghost use Rattle.models.specs.Model.{model_of};
@@ -25,7 +24,7 @@ pub fn plan(alloc: Global, meta: &Meta, values: &Values, change: Change) -> Resu
     ensures { Plans result (model_of meta.now (values_of values.now)) change }
 {
     match change {
-        Change::Create(class) => plan_create(alloc, values, class),
+        Change::Create(class) => plan_create(values, class),
         Change::Set {
             node,
             feature,
@@ -35,13 +34,13 @@ pub fn plan(alloc: Global, meta: &Meta, values: &Values, change: Change) -> Resu
     }
 }
 
-fn plan_create(alloc: Global, values: &Values, class: ClassNo) -> Result<Planned, Refused>
+fn plan_create(values: &Values, class: ClassNo) -> Result<Planned, Refused>
     ensures { (m : Metamodel) → Plans result (model_of m (values_of values.now)) (Create class) }
 {
     if values.next() >= limits::OBJECTS {
         return Err(Refused::Limit);
     }
-    let values = one_edit(alloc, ValueEdit::NewObject(class))?;
+    let values = ValuePlan::one(ValueEdit::NewObject(class));
     Ok(Planned { values })
 }
 
@@ -65,49 +64,28 @@ fn plan_set(
         return Err(Refused::Memory);
     };
     list.push_reserved(value);
-    let values = put(alloc, node, feature, Seq::from_vec(list), flag)?;
+    let values = put(alloc, node, feature, Seq::from_vec(list), flag);
     Ok(Planned { values })
 }
 
 fn plan_unset(alloc: Global, node: Node, feature: FeatureNo) -> Result<Planned, Refused>
     ensures { (m : Metamodel) (values : Values) → Plans result (model_of m (values_of values)) (Unset node feature) }
 {
-    let values = put(alloc, node, feature, Seq::new(alloc), false)?;
+    let values = put(alloc, node, feature, Seq::new(alloc), false);
     Ok(Planned { values })
 }
 
 /// The edits that put a list at an end; none at a resource's, which keeps no values of attributes.
-fn put(
-    alloc: Global,
-    node: Node,
-    feature: FeatureNo,
-    list: Seq<Value>,
-    flag: bool,
-) -> Result<ValuePlan, Refused>
-    ensures ok { IfOk result (λ p. p ≡ put_values (at_end node feature) list flag) }
-    ensures err { IfErr result (λ r. r ≡ Memory) }
+fn put(alloc: Global, node: Node, feature: FeatureNo, list: Seq<Value>, flag: bool) -> ValuePlan
+    ensures { result ≡ put_values (at_end node feature) list flag }
 {
     match node {
-        Node::Object(object) => one_edit(
-            alloc,
-            ValueEdit::PutList {
-                object,
-                feature,
-                list,
-                flag,
-            },
-        ),
-        Node::Resource(_) => Ok(Seq::new(alloc)),
+        Node::Object(object) => ValuePlan::one(ValueEdit::PutList {
+            object,
+            feature,
+            list,
+            flag,
+        }),
+        Node::Resource(_) => ValuePlan::none(alloc),
     }
-}
-
-fn one_edit(alloc: Global, edit: ValueEdit) -> Result<ValuePlan, Refused>
-    ensures ok { IfOk result (λ p. p ≡ edit ∷ []) }
-    ensures err { IfErr result (λ r. r ≡ Memory) }
-{
-    let Ok(mut edits) = Vec::with_capacity(alloc, 1) else {
-        return Err(Refused::Memory);
-    };
-    edits.push_reserved(edit);
-    Ok(Seq::from_vec(edits))
 }

@@ -30,10 +30,10 @@ const NATURALS: [(&str, Option<u32>); 5] = [
 #[test]
 fn numbers_are_read(rt: HostRuntime) {
     for (word, number) in &INTEGERS {
-        assert!(rt; integer_of(word.as_bytes()) == *number, "at {word}");
+        assert!(rt; integer_of(word) == *number, "at {word}");
     }
     for (word, number) in &NATURALS {
-        assert!(rt; natural_of(word.as_bytes()) == *number, "at {word}");
+        assert!(rt; natural_of(word) == *number, "at {word}");
     }
 }
 

@@ -10,7 +10,7 @@ use mm_types::{DataType, Value};
 pub fn int_value(text: &str) -> Option<Value>
     ensures { result ≡ option_and_then (int_within (neg_ℤ (pos (2 ^ 31))) (pos (2 ^ 31 - 1))) (integer text.now) }
 {
-    match integer_of(text.as_bytes()) {
+    match integer_of(text) {
         Some(n) if i64::from(i32::MIN) <= n && n <= i64::from(i32::MAX) => Some(Value::Int(n)),
         _ => None,
     }

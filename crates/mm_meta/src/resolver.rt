@@ -114,7 +114,7 @@ impl<'a> Resolver<'a> {
         match t {
             DataType::EString => Ok(Some(Value::Text(Text::from_str(alloc, text)?))),
             DataType::EInt => Ok(int_value(text)),
-            DataType::ELong => Ok(integer_of(text.as_bytes()).map(|n| Value::Int(n))),
+            DataType::ELong => Ok(integer_of(text).map(|n| Value::Int(n))),
             DataType::EBoolean => Ok(boolean_value(text)),
             DataType::Enum(e) => Ok(self.literal(e, text).map(|index| Value::Literal(index))),
         }

@@ -1,6 +1,7 @@
 pub mod Stored
 pub mod Attributes
 pub mod Values
+pub mod Plan
 pub mod Slots
 pub mod Uris
 pub mod Room

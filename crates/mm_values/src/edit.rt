@@ -36,6 +36,3 @@ impl ValueEdit {
         matches!(self, ValueEdit::NewUri(_))
     }
 }
-
-/// Edits, which are made in their order.
-pub type ValuePlan = Seq<ValueEdit>;

@@ -8,8 +8,10 @@
 mod attribute_lists;
 mod edit;
 mod objects;
+mod plan;
 mod uris;
 mod values;
 
-pub use edit::{ValueEdit, ValuePlan};
+pub use edit::ValueEdit;
+pub use plan::ValuePlan;
 pub use values::Values;

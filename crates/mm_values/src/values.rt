@@ -1,10 +1,11 @@
 //! What a repository holds besides links.
 ghost use Rattle.std.specs.Prelude.{◌≡◌, List, [], ◌∷◌, length, option_copied, All, OnOk};
 
-use crate::edit::{ValueEdit, ValuePlan};
+use crate::edit::ValueEdit;
 use crate::objects::Objects;
+use crate::plan::{Edits, ValuePlan};
 use crate::uris::Uris;
-use mm_types::{ClassNo, FeatureNo, ObjectNo, ResourceNo, Value};
+use mm_types::{ClassNo, FeatureNo, ObjectNo, ResourceNo, Seq, Value};
 use std::alloc::{AllocError, Global};
 
 /// Objects by number, each with its class and its attribute lists, and the URIs of resources.
@@ -92,6 +93,9 @@ impl Values {
         self.objects.reserve(new_objects)?;
         self.make_places(edits)?;
         let new_uris = edits.iter().filter(|e| e.is_new_uri()).count();
+        if new_uris == 0 {
+            return Ok(());
+        }
         self.uris.reserve(new_uris)
     }
 
@@ -100,7 +104,18 @@ impl Values {
         requires { HasRoom self.old plan }
         ensures { values_of self.new ≡ applied (values_of self.old) plan }
     {
-        for edit in plan.into_vec() {
+        match plan.into_edits() {
+            Edits::One(edit) => self.apply_edit(edit),
+            Edits::Many(edits) => self.apply_all(edits),
+        }
+    }
+
+    // Makes edits, in their order.
+    fn apply_all(&mut self, edits: Seq<ValueEdit>)
+        requires { HasRoom self.old edits }
+        ensures { values_of self.new ≡ applied (values_of self.old) edits }
+    {
+        for edit in edits.into_vec() {
             self.apply_edit(edit);
         }
     }

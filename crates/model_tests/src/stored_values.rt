@@ -93,7 +93,7 @@ fn each_edit(alloc: Global) -> Result<ValuePlan, AllocError> {
     plan.push(put_two(alloc)?)?;
     plan.push(ValueEdit::DropObject(ObjectNo(1)))?;
     plan.push(put(alloc, 1, 3, 5)?)?;
-    Ok(plan)
+    Ok(ValuePlan::from_seq(plan))
 }
 
 const AFTER_EACH_EDIT: &str = "1 (Some(\"a.xmi\"), None) (Some(ResourceNo(0)), None)
@@ -106,7 +106,7 @@ None (None, None) (None, None)
 #[test]
 fn each_edit_is_made(rt: HostRuntime) -> Result<(), Fail> {
     let alloc = rt.alloc();
-    let found = seen_after(alloc, each_edit(alloc)?, Seq::new(alloc), [3, 4])?;
+    let found = seen_after(alloc, each_edit(alloc)?, ValuePlan::none(alloc), [3, 4])?;
     assert_eq!(rt; found.as_str(), AFTER_EACH_EDIT);
     Ok(())
 }
@@ -115,13 +115,11 @@ fn make_and_drop(alloc: Global) -> Result<ValuePlan, AllocError> {
     let mut plan = Seq::new(alloc);
     plan.push(ValueEdit::NewObject(ClassNo(1)))?;
     plan.push(ValueEdit::DropObject(ObjectNo(0)))?;
-    Ok(plan)
+    Ok(ValuePlan::from_seq(plan))
 }
 
-fn make(alloc: Global, class: u32) -> Result<ValuePlan, AllocError> {
-    let mut plan = Seq::new(alloc);
-    plan.push(ValueEdit::NewObject(ClassNo(class)))?;
-    Ok(plan)
+fn make(class: u32) -> ValuePlan {
+    ValuePlan::one(ValueEdit::NewObject(ClassNo(class)))
 }
 
 const AFTER_A_DROP: &str = "0 (None, None) (None, None)
@@ -134,7 +132,7 @@ None (None, None) (None, None)
 #[test]
 fn no_number_is_given_twice(rt: HostRuntime) -> Result<(), Fail> {
     let alloc = rt.alloc();
-    let found = seen_after(alloc, make_and_drop(alloc)?, make(alloc, 2)?, [3, 4])?;
+    let found = seen_after(alloc, make_and_drop(alloc)?, make(2), [3, 4])?;
     assert_eq!(rt; found.as_str(), AFTER_A_DROP);
     Ok(())
 }
@@ -144,7 +142,7 @@ fn two_features(alloc: Global) -> Result<ValuePlan, AllocError> {
     plan.push(put(alloc, 0, 9, 90)?)?;
     plan.push(put(alloc, 0, 5, 50)?)?;
     plan.push(put(alloc, 0, 5, 51)?)?;
-    Ok(plan)
+    Ok(ValuePlan::from_seq(plan))
 }
 
 const AFTER_TWO_FEATURES: &str = "0 (None, None) (None, None)
@@ -157,7 +155,7 @@ None (None, None) (None, None)
 #[test]
 fn values_are_put_under_one_feature_alone(rt: HostRuntime) -> Result<(), Fail> {
     let alloc = rt.alloc();
-    let found = seen_after(alloc, make(alloc, 1)?, two_features(alloc)?, [9, 5])?;
+    let found = seen_after(alloc, make(1), two_features(alloc)?, [9, 5])?;
     assert_eq!(rt; found.as_str(), AFTER_TWO_FEATURES);
     Ok(())
 }
@@ -167,7 +165,7 @@ fn three_uris(alloc: Global) -> Result<ValuePlan, AllocError> {
     plan.push(new_uri(alloc, "a.xmi")?)?;
     plan.push(new_uri(alloc, "a.xmi")?)?;
     plan.push(new_uri(alloc, "b.xmi")?)?;
-    Ok(plan)
+    Ok(ValuePlan::from_seq(plan))
 }
 
 const AFTER_THREE_URIS: &str =
@@ -181,16 +179,17 @@ None (None, None) (None, None)
 #[test]
 fn each_uri_is_kept_once(rt: HostRuntime) -> Result<(), Fail> {
     let alloc = rt.alloc();
-    let found = seen_after(alloc, three_uris(alloc)?, Seq::new(alloc), [3, 4])?;
+    let found = seen_after(alloc, three_uris(alloc)?, ValuePlan::none(alloc), [3, 4])?;
     assert_eq!(rt; found.as_str(), AFTER_THREE_URIS);
     Ok(())
 }
 
 fn object_and_uri(alloc: Global) -> Result<ValuePlan, AllocError> {
-    let mut plan = make(alloc, 1)?;
+    let mut plan = Seq::new(alloc);
+    plan.push(ValueEdit::NewObject(ClassNo(1)))?;
     plan.push(put(alloc, 0, 2, 3)?)?;
     plan.push(new_uri(alloc, "a.xmi")?)?;
-    Ok(plan)
+    Ok(ValuePlan::from_seq(plan))
 }
 
 const AFTER_ROOM_WAS_RESERVED: &str = "0 (None, None) (None, None)

@@ -1,6 +1,7 @@
 //! The repository.
-ghost use Rattle.std.specs.Prelude.{◌≡◌, false, length, IfOk, IfErr, OnErr};
+ghost use Rattle.std.specs.Prelude.{◌≡◌, false, length, unwrap_or, option_copied, Ok, Err, IfOk, IfErr, OnErr};
 ghost use Rattle.handshake.specs.Plans.{is_memory_refusal};
+ghost use Rattle.mm_types.specs.declared.value.Value.TheVariants.{Null};
 ghost use Rattle.repository.specs.State as s;
 ghost use Rattle.repository.specs.Answers.{answer_of};
 ghost use Rattle.repository.specs.Views.{command_of};
@@ -103,6 +104,20 @@ impl Repository {
             return Err(refused);
         }
         copied(value_at(&self.meta, &self.values, node, feature))
+    }
+
+    /// The value that `e_get` answers, where it is kept; `None` stands for null. Takes no memory.
+    ///
+    /// Refused, the first that applies: `NoObject`, `NoResource`, `NoFeature`.
+    pub fn value(&self, node: Node, feature: FeatureNo) -> Result<Option<&Value>, Refused>
+        ensures ok { IfOk result (λ v. Executed self.now (Get node feature) (read_outcome answer.Value (Ok (unwrap_or (option_copied v) Null))) self.now) }
+        ensures err { IfErr result (λ r. Executed self.now (Get node feature) (read_outcome answer.Value (Err r)) self.now) }
+        ensures kind { IfErr result (λ r. is_memory_refusal r ≡ false) }
+    {
+        if let Some(refused) = feature_refusal(&self.meta, &self.values, node, feature) {
+            return Err(refused);
+        }
+        Ok(value_at(&self.meta, &self.values, node, feature))
     }
 
     /// Whether a single attribute of an object is set (EMF: EObject.eIsSet): an unsettable one where `e_set` was the

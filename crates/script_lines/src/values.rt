@@ -16,9 +16,8 @@ use std::alloc::{AllocError, Global};
 pub fn object_of(word: &str) -> Option<ObjectNo>
     ensures { result ≡ object_in word.now }
 {
-    let (first, number) = word.as_bytes().split_first()?;
-    match *first {
-        OBJECT_MARK => natural_of(number).map(ObjectNo),
+    match *word.as_bytes().first()? {
+        OBJECT_MARK => natural_of(after_byte(word)).map(ObjectNo),
         _ => None,
     }
 }
@@ -27,10 +26,9 @@ pub fn object_of(word: &str) -> Option<ObjectNo>
 fn node_of(word: &str) -> Option<Node>
     ensures { result ≡ node_in word.now }
 {
-    let (first, number) = word.as_bytes().split_first()?;
-    match *first {
-        OBJECT_MARK => natural_of(number).map(|n| Node::Object(ObjectNo(n))),
-        RESOURCE_MARK => natural_of(number).map(|n| Node::Resource(ResourceNo(n))),
+    match *word.as_bytes().first()? {
+        OBJECT_MARK => natural_of(after_byte(word)).map(|n| Node::Object(ObjectNo(n))),
+        RESOURCE_MARK => natural_of(after_byte(word)).map(|n| Node::Resource(ResourceNo(n))),
         _ => None,
     }
 }
@@ -58,11 +56,10 @@ fn plain_value_of(word: &str) -> Option<WrittenValue<'_>>
     requires no_text { slice_index word.now 0 ≢ QUOTE }
     ensures { result ≡ other_value_in word.now }
 {
-    let rest = &word.as_bytes()[1..];
     match word.as_bytes()[0] {
         LITERAL_MARK => Some(WrittenValue::Literal(Name::from_word(after_byte(word))?)),
-        OBJECT_MARK => Some(WrittenValue::Object(ObjectNo(natural_of(rest)?))),
-        _ => Some(WrittenValue::Int(integer_of(word.as_bytes())?)),
+        OBJECT_MARK => Some(WrittenValue::Object(ObjectNo(natural_of(after_byte(word))?))),
+        _ => Some(WrittenValue::Int(integer_of(word)?)),
     }
 }
 

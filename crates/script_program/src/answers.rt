@@ -1,10 +1,11 @@
 //! What is printed for a command.
-ghost use Rattle.std.specs.Prelude.{◌≡◌, ◌++◌, OnOk, OnErr};
+ghost use Rattle.std.specs.Prelude.{◌≡◌, ◌++◌, Ok, OnOk, OnErr};
 ghost use Rattle.std.specs.Io.{StartsWith};
 ghost use Rattle.std.specs.Option.{option_copied, option_and_then};
 ghost use Rattle.mm_types.specs.Lookups.{literal};
 ghost use Rattle.script_program.specs.Bind.{enum_of};
 ghost use Rattle.script_program.specs.Answers as a;
+ghost use Rattle.repository.specs.declared.reply.Answer.TheVariants as answer;
 
 use crate::bind::{NOTHING, enum_of};
 use crate::output::Output;
@@ -69,6 +70,19 @@ fn print_answer(
             output.text(class_name(meta, *class))
         }
     }
+}
+
+/// Adds the line that a read of a feature prints.
+pub(crate) fn print_value(
+    output: &mut Output,
+    meta: &Meta,
+    feature: FeatureNo,
+    value: &Value,
+) -> Result<(), AllocError>
+    ensures ok { OnOk result (output.new ≡ output.old ++ a.outcome_text meta.now feature (Ok (record { answer = answer.Value value.now }))) }
+{
+    output.value(value, literal_name(meta, feature, value))?;
+    output.text("\n")
 }
 
 /// Adds the line that a command prints; the feature is the one that it names.

@@ -1,14 +1,15 @@
 //! A line of a script is run.
 ghost use Rattle.std.specs.Prelude.{◌≡◌, [], IfOk};
+ghost use Rattle.repository.specs.declared.command.Command.TheVariants.{Get};
 ghost use Rattle.script_lines.specs.Forms as forms;
 ghost use Rattle.script_program.specs.Script.{RunsCommand, RunsLine};
 ghost use Rattle.script_program.specs.Turns.{outcome_turn};
 
-use crate::answers::{feature_of, print_outcome};
+use crate::answers::{feature_of, print_outcome, print_value};
 use crate::bind::bind;
 use crate::output::Output;
 use crate::turn::Turn;
-use mm_types::Refused;
+use mm_types::{FeatureNo, Node, Refused, Value};
 use repository::{Command, Failure, Reply, Repository};
 use script_lines::{Line, parse_line};
 use std::alloc::{AllocError, Global};
@@ -25,6 +26,30 @@ fn turn_of(outcome: &Result<Reply, Failure>) -> Turn
             } else {
                 Turn::Refused
             }
+        }
+    }
+}
+
+/// Reads a feature and prints its value from where it is kept. Errs where memory is refused for what is printed.
+fn run_get(
+    repository: &Repository,
+    output: &mut Output,
+    node: Node,
+    feature: FeatureNo,
+) -> Result<Turn, AllocError>
+    requires { output.old ≡ [] }
+    ensures { IfOk result (λ t. RunsCommand repository.now (Get node feature) (record { text = output.new; turn = t }) repository.now) }
+{
+    match repository.value(node, feature) {
+        Ok(value) => {
+            let value = value.unwrap_or(&Value::Null);
+            print_value(output, repository.meta(), feature, value)?;
+            Ok(Turn::Done)
+        }
+        Err(refused) => {
+            let outcome = Err(Failure { refused });
+            print_outcome(output, repository.meta(), feature, &outcome)?;
+            Ok(turn_of(&outcome))
         }
     }
 }
@@ -65,7 +90,10 @@ pub(crate) fn run_line(
         }
         Line::Form(form) => {
             let command = bind(repository, form);
-            run_command(repository, output, command)
+            match command {
+                Command::Get { node, feature } => run_get(repository, output, node, feature),
+                other => run_command(repository, output, other),
+            }
         }
     }
 }

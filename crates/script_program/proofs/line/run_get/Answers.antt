@@ -1,0 +1,34 @@
+use Rattle.std.proofs.Common.{◌≡◌, ◌∙◌, ◌++◌, List, ℕ, Ok, ap, rules, subst}
+use Rattle.std.specs.Prelude.{option_copied, unwrap_or}
+use Rattle.mm_types.specs.Resolved.{Metamodel}
+use Rattle.mm_types.specs.declared.value.Value.{Value}
+use Rattle.mm_types.specs.declared.value.Value.TheVariants.{Null}
+use Rattle.repository.specs.Run.{Executed}
+use Rattle.repository.specs.Step.{Outcome}
+use Rattle.repository.specs.declared.command.Command.TheVariants.{Get}
+use Rattle.repository.specs.declared.reply.Answer.TheVariants as answer
+use Rattle.script_program.specs.Answers.{outcome_text}
+use Rattle.script_program.specs.Turns.{Printed}
+use Rattle.script_program.specs.declared.turn.Turn.{Turn}
+use Rattle.script_program.specs.declared.turn.Turn.TheVariants.{Done}
+use Rattle.script_program.proofs.line.run_get.Goals as goal
+
+printed_as : Turn → List ℕ → Printed
+printed_as turn text = record { text = text; turn = turn }
+
+read : Value → Outcome
+read v = Ok (record { answer = answer.Value v })
+
+pub returns-in_ok-print_value-in-Ok : goal.returns-in_ok-print_value-in-Ok
+unfolding printed_as read
+returns-in_ok-print_value-in-Ok c =
+    let s = c.args.repository.now in
+    let f = c.args.feature in
+    let v : Value = c.unwrap_or-value.result.now in
+    let shown : unwrap_or (option_copied c.in-Ok.value) Null ≡ v = search rules in
+    let ran : Executed s (Get c.args.node f) (read v) s = subst (λ (w : Value). Executed s (Get c.args.node f) (read w) s) shown c.in-Ok.ensures.ok in
+    let text : c.print_value.new.output ≡ outcome_text s.model.metamodel f (read v) =
+    c.in_ok-print_value-in-Ok.ensures.ok ∙
+    (ap (λ (old : List ℕ). old ++ outcome_text c.meta.result.now f (read v)) c.requires ∙
+    ap (λ (m : Metamodel). outcome_text m f (read v)) c.meta.ensures) in
+    (read v, ran, ap (printed_as Done) text)
