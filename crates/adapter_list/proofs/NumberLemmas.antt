@@ -16,7 +16,7 @@ use Rattle.adapter_list.specs.Attached.{listed_one, listed, numbers_of}
 use Rattle.adapter_list.specs.Refusals.{list_refusal}
 use Rattle.adapter_list.proofs.ListedLemmas.{position-map}
 
-find-position : {X : Type 0} (p : X → Bool) (xs : List X) → find p xs ≡ option_and_then (slice_get xs) (position p xs)
+pub find-position : {X : Type 0} (p : X → Bool) (xs : List X) → find p xs ≡ option_and_then (slice_get xs) (position p xs)
 find-position p xs =
     elim (nat_lt (position_or_len p xs) (length xs)) as (λ b. nat_lt (position_or_len p xs) (length xs) ≡ b → find p xs ≡ option_and_then (slice_get xs) (cond b (Some (position_or_len p xs)) None)) [
       | true ↦ λ h. find_at p xs

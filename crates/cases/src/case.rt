@@ -23,7 +23,7 @@ impl<'a> Case<'a> {
     ///
     /// `metamodel NAME` names its metamodel's file, `document TEXT` is its metamodel, `> TEXT` is a line of the script, and
     /// any other line is one that must be printed.
-    pub fn parse(alloc: Global, text: &'a str) -> Result<Case<'a>, CaseFault> {
+    pub(crate) fn parse(alloc: Global, text: &'a str) -> Result<Case<'a>, CaseFault> {
         let mut lines = text.lines();
         let mut case = Case {
             name: lines.next().unwrap_or(""),
@@ -39,7 +39,7 @@ impl<'a> Case<'a> {
     }
 
     /// The script, if the case has one.
-    pub fn script(&self) -> Option<&[u8]> {
+    pub(crate) fn script(&self) -> Option<&[u8]> {
         if self.script.is_empty() {
             return None;
         }
@@ -47,7 +47,7 @@ impl<'a> Case<'a> {
     }
 
     /// The script without its last newline.
-    pub fn unended_script(&self) -> Option<&[u8]> {
+    pub(crate) fn unended_script(&self) -> Option<&[u8]> {
         self.script()
             .and_then(|bytes| bytes.strip_suffix(b"\n".as_slice()))
     }

@@ -48,7 +48,7 @@ fn push_after_mark(out: &mut Vec<u8>, text: &str) -> Result<(), CaseFault> {
 }
 
 /// Adds a line: its text with each mark replaced by what it stands for, and a newline.
-pub fn push_line(out: &mut Vec<u8>, text: &str) -> Result<(), CaseFault> {
+pub(crate) fn push_line(out: &mut Vec<u8>, text: &str) -> Result<(), CaseFault> {
     for (i, piece) in text.split("<<").enumerate() {
         if i == 0 {
             out.extend_from_slice(piece.as_bytes())?;

@@ -17,14 +17,14 @@ use Rattle.mm_types.specs.declared.numbers.ClassNo.{ClassNo}
 use Rattle.mm_types.specs.declared.numbers.FeatureNo.{FeatureNo}
 use Rattle.mm_types.specs.declared.numbers.Node.TheVariants as node
 use Rattle.mm_types.specs.declared.refused.Refused.{Refused}
-use Rattle.mm_types.specs.declared.refused.Refused.TheVariants.{NoObject, NoResource, NoClass, Abstract, NoFeature, WrongType, TextLength, Limit}
+use Rattle.mm_types.specs.declared.refused.Refused.TheVariants.{Abstract, NoFeature, WrongType, TextLength, Limit}
 use Rattle.mm_types.specs.declared.value.Value.{Value}
 use Rattle.mm_values.specs.Stored.{Stored, is_nothing, nothing_stored}
 use Rattle.mm_values.specs.Values.{ObjectState, object_at, put_stored}
 use Rattle.mm_values.proofs.StoredIn.{get-with_stored, kept}
-use Rattle.models.specs.Legal.{IsLegal, IsLegalStored, IsLegalObject, IsUniqueList, is_bounded, is_concrete, is_legal_list, is_legal_value, is_short}
+use Rattle.models.specs.Legal.{IsLegalStored, IsLegalObject, IsUniqueList, is_bounded, is_concrete, is_short}
 use Rattle.models.specs.Model.{Model, reading}
-use Rattle.models.specs.Reading.{class_has, has_feature, is_node_live, is_resource_there, is_value_live}
+use Rattle.models.specs.Reading.{class_has, has_feature}
 use Rattle.handshake.specs.declared.change.Change.{Change}
 use Rattle.handshake.specs.declared.change.Change.TheVariants.{Create, Set, Unset}
 use Rattle.handshake.specs.Laws.{KeepsLegal}
@@ -34,11 +34,11 @@ IsThere None = ⊥
 IsThere (Some r) = Unit {0}
 
 -- where nothing refuses, each thing that was asked for holds
-unless-none : (r : Refused) (b : Bool) → (r unless b) ≡ None → IsTrue b
+pub unless-none : (r : Refused) (b : Bool) → (r unless b) ≡ None → IsTrue b
 unless-none r true e = refl
 unless-none r false e = absurd (subst IsThere e tt)
 
-else-none : (a b : Option Refused) → (a else_by b) ≡ None → (a ≡ None) × (b ≡ None)
+pub else-none : (a b : Option Refused) → (a else_by b) ≡ None → (a ≡ None) × (b ≡ None)
 else-none None b e = (refl, e)
 else-none (Some r) b e = absurd (subst IsThere e tt)
 

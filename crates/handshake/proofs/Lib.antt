@@ -1,1 +1,3 @@
 pub mod LegalLemmas
+pub mod ReadLemmas
+pub mod ReplayLemmas

@@ -1,5 +1,5 @@
 -- What planning a change gives.
-use Rattle.std.specs.Prelude.{◌≡◌, Bool, true, false, MatchBool, Some, None, Result, Ok, Err}
+use Rattle.std.specs.Prelude.{◌≡◌, Bool, true, false, MatchBool, [], Some, None, Result, Ok, Err, if◌then◌else◌}
 use Rattle.mm_types.specs.declared.refused.Refused.{Refused}
 use Rattle.mm_types.specs.declared.refused.Refused.TheVariants.{Memory}
 use Rattle.mm_values.specs.Values as values
@@ -8,17 +8,19 @@ use Rattle.handshake.specs.declared.change.Change.{Change}
 use Rattle.handshake.specs.declared.planned.Planned.{Planned}
 use Rattle.handshake.specs.Effects.{after}
 use Rattle.handshake.specs.Refusals.{late_refusal}
+use Rattle.handshake.specs.Tellings.{chain}
 
 abbrev pub is_memory_refusal : Refused → Bool
 is_memory_refusal Memory = true
 is_memory_refusal _ = false
 
--- edits that make a change, which nothing refuses
-pub record IsPlanOf (s : Model) (c : Change) (p : Planned) : Type 0 where
+-- edits that make a change, which nothing refuses, and its chain, where somebody may hear it
+pub record IsPlanOf (is_heard : Bool) (s : Model) (c : Change) (p : Planned) : Type 0 where
   pub allowed : late_refusal (reading s) c ≡ None
   pub values_made : values.applied s.values p.values ≡ (after s c).values
+  pub tells : p.chain ≡ (if is_heard then chain (reading s) c else [])
 
 -- the plan, the refusal that planning finds, or out of memory
-abbrev pub Plans : Result Planned Refused → Model → Change → Type 0
-Plans (Ok p) s c = IsPlanOf s c p
-Plans (Err r) s c = MatchBool (is_memory_refusal r) (Unit {0}) (late_refusal (reading s) c ≡ Some r)
+abbrev pub Plans : Bool → Result Planned Refused → Model → Change → Type 0
+Plans is_heard (Ok p) s c = IsPlanOf is_heard s c p
+Plans is_heard (Err r) s c = MatchBool (is_memory_refusal r) (Unit {0}) (late_refusal (reading s) c ≡ Some r)

@@ -67,6 +67,19 @@ fn is_value_live(values: &Values, value: &Value) -> bool
     }
 }
 
+/// Why a node can't be named: `NoObject` or `NoResource`. Takes no memory.
+pub fn node_refusal(values: &Values, node: Node) -> Option<Refused>
+    ensures { (m : Metamodel) → result ≡ named.node_refusal (reading (model_of m (values_of values.now))) node }
+{
+    match node {
+        Node::Object(object) if values.class(object).is_none() => Some(Refused::NoObject),
+        Node::Resource(resource) if resource.0 as usize >= values.resources() => {
+            Some(Refused::NoResource)
+        }
+        _ => None,
+    }
+}
+
 /// Why a feature of a node can't be named: `NoObject`, `NoResource` or `NoFeature`.
 pub fn feature_refusal(
     meta: &Meta,

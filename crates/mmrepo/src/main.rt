@@ -1,16 +1,23 @@
 //! `mmrepo --meta FILE` reads a metamodel, and runs the script on its standard input.
 #![tactic(auto)]
 
+use adapters::{Adapter, Counter, Recorder, Window};
 use clap::error::ErrorKind;
 use mm_check::check;
 use mm_load::load_meta;
 use mm_meta::Meta;
 use mm_types::MetaFault;
 use script_program::{RunFault, meta_file, read_all, run};
-use std::alloc::AllocError;
+use std::alloc::{AllocError, AllocFailed};
 use std::io::{BufWriter, Write};
 use std::process::ExitCode;
 use std::{env, fs, io};
+
+/// How many of the boxes keep every notice.
+const RECORDERS: u64 = 4;
+
+/// How many notices the last box can still count, its last one included.
+const LEFT: u64 = 2;
 
 /// Why the program stops before the end of the script.
 #[derive(Drop)]
@@ -27,6 +34,12 @@ enum Stop {
 
 impl From<AllocError> for Stop {
     fn from(_error: AllocError) -> Stop {
+        Stop::Run(RunFault::Memory)
+    }
+}
+
+impl<T: Drop> From<AllocFailed<T>> for Stop {
+    fn from(_error: AllocFailed<T>) -> Stop {
         Stop::Run(RunFault::Memory)
     }
 }
@@ -84,19 +97,29 @@ fn read_file(rt: &HostRuntime, path: &str) -> Result<Vec<u8>, Stop> {
     Ok(bytes)
 }
 
-fn load(rt: &HostRuntime, path: &str) -> Result<Meta, Stop> {
+fn load(rt: &HostRuntime, path: &str) -> Result<Box<Meta>, Stop> {
     let bytes = read_file(rt, path)?;
     let raw = load_meta(rt.alloc(), bytes.as_slice())?;
     let meta = check(rt.alloc(), raw)?;
-    Ok(meta)
+    Ok(Box::new(rt.alloc(), meta)?)
 }
 
-/// Runs the script and writes what is left in the buffer, whatever the outcome.
-fn run_script(rt: &HostRuntime, meta: Meta) -> Result<(), Stop> {
+/// Runs the script and writes what is left in the buffer, whatever the outcome. Its boxes are A1 to A4, which keep every notice,
+/// A5 and A6, which keep the last 2 and the last 100, A7, which counts, and A8, which can count two more.
+fn run_script(rt: &HostRuntime, meta: Box<Meta>) -> Result<(), Stop> {
+    let mut boxes: Vec<Box<dyn Adapter>> = Vec::new(rt.alloc());
+    for _ in 0..RECORDERS {
+        boxes.push(Box::new(rt.alloc(), Recorder::new(rt.alloc()))?)?;
+    }
+    boxes.push(Box::new(rt.alloc(), Window::new(rt.alloc(), 2)?)?)?;
+    boxes.push(Box::new(rt.alloc(), Window::new(rt.alloc(), 100)?)?)?;
+    boxes.push(Box::new(rt.alloc(), Counter::new())?)?;
+    boxes.push(Box::new(rt.alloc(), Counter::starting_at(u64::MAX - LEFT))?)?;
     let Ok(mut writer) = BufWriter::new(rt.alloc(), io::writer(rt)) else {
         return Err(Stop::Run(RunFault::Memory));
     };
-    let outcome = run(rt.alloc(), &mut rt.reader(), &mut writer, meta);
+    let meta = Box::into_inner(meta);
+    let outcome = run(rt.alloc(), &mut rt.reader(), &mut writer, meta, boxes);
     let flushed = writer.flush();
     outcome?;
     if flushed.is_err() {

@@ -1,12 +1,11 @@
-//! A metamodel of books, a repository of them, and a script that is run over one.
+//! A metamodel of books, and repositories of them.
+use adapters::Adapter;
 use mm_check::check;
 use mm_load::load_meta;
 use mm_meta::Meta;
-use mm_types::{ClassNo, FeatureNo, MetaFault, Node, ObjectNo, Text, Value};
+use mm_types::{AdapterNo, ClassNo, FeatureNo, MetaFault, Node, ObjectNo, Refused, Text, Value};
 use repository::Repository;
-use script_program::{RunFault, Summary, run};
 use std::alloc::{AllocError, Global};
-use std::io::{Read, Write};
 use std::test::Fail;
 
 /// Books with a name and a number of pages.
@@ -28,24 +27,47 @@ pub(crate) fn text(alloc: Global, text: &str) -> Result<Value, AllocError> {
     Ok(Value::Text(Text::from_str(alloc, text)?))
 }
 
-fn books(alloc: Global) -> Result<Box<Meta>, MetaFault> {
+pub(crate) fn books(alloc: Global) -> Result<Box<Meta>, MetaFault> {
     let raw = load_meta(alloc, BOOKS.as_bytes())?;
     let meta = check(alloc, raw)?;
     Box::new(alloc, meta).map_err(|_| MetaFault::Memory)
 }
 
 /// An empty repository of books.
-pub(crate) fn repository(alloc: Global) -> Result<Box<Repository>, MetaFault> {
+pub(crate) fn repository<A: Adapter>(alloc: Global) -> Result<Box<Repository<A>>, MetaFault> {
     let meta = Box::into_inner(books(alloc)?);
     Box::new(alloc, Repository::new(alloc, meta)).map_err(|_| MetaFault::Memory)
 }
 
-/// Runs a script over an empty repository of books.
-pub(crate) fn run_books<R: Read, W: Write>(
+/// A repository of one book, which is object 0.
+pub(crate) fn one_book<A: Adapter>(alloc: Global) -> Result<Box<Repository<A>>, Fail> {
+    let mut repository = repository(alloc)?;
+    repository.create(BOOK)?;
+    Ok(repository)
+}
+
+/// Attaches an adapter to the first book, or says why it is refused; a refused adapter is dropped.
+pub(crate) fn attach<A: Adapter>(
+    repository: &mut Repository<A>,
+    no: u32,
+    adapter: A,
+) -> Result<(), Refused> {
+    match repository.attach(AdapterNo(no), object(0), false, adapter) {
+        Ok(_) => Ok(()),
+        Err(failure) => Err(failure.refused),
+    }
+}
+
+/// A repository of one book, with three adapters at it, numbered 5, 6 and 7.
+pub(crate) fn watched<A: Adapter>(
     alloc: Global,
-    reader: &mut R,
-    writer: &mut W,
-) -> Result<Result<Summary, RunFault>, Fail> {
-    let meta = books(alloc)?;
-    Ok(run(alloc, reader, writer, Box::into_inner(meta)))
+    first: A,
+    second: A,
+    third: A,
+) -> Result<Box<Repository<A>>, Fail> {
+    let mut repository = one_book(alloc)?;
+    attach(&mut repository, 5, first)?;
+    attach(&mut repository, 6, second)?;
+    attach(&mut repository, 7, third)?;
+    Ok(repository)
 }

@@ -1,63 +1,52 @@
-//! A whole caller of a list of adapters, as docs/ADAPTERS.md shows it.
+//! A whole caller of a repository with an adapter, as docs/ADAPTERS.md shows it.
+use crate::books::books;
 use crate::latest::Latest;
-use adapter_list::AdapterList;
 use adapters::Adapter;
-use mm_types::{AdapterNo, FeatureNo, Node, ObjectNo, Refused, Text, Value};
-use notice_chain::{Chain, NO_INDEX, Notice, NoticeKind};
-use std::alloc::{AllocError, Global};
+use mm_meta::Meta;
+use mm_types::{AdapterNo, ClassNo, FeatureNo, Node, Text, Value};
+use repository::{Answer, Repository};
+use std::alloc::Global;
 use std::test::Fail;
 
-const BOOK: Node = Node::Object(ObjectNo(0));
+const BOOK: ClassNo = ClassNo(0);
 
 const NAME: FeatureNo = FeatureNo(0);
 
 const VIEW: AdapterNo = AdapterNo(1);
 
-/// What a change tells: the book, which had no name, is called Emma.
-fn named_emma(alloc: Global) -> Result<Chain, AllocError> {
-    let emma = Value::Text(Text::from_str(alloc, "Emma")?);
-    let mut chain = Chain::new(alloc);
-    chain.push(Notice {
-        notifier: BOOK,
-        feature: Some(NAME),
-        kind: NoticeKind::Set,
-        old_value: Value::Null,
-        new_value: emma,
-        position: NO_INDEX,
-        was_set: false,
-    })?;
-    Ok(chain)
-}
-
-/// Makes a change and notifies the views of it, or says why it is refused.
-fn change<A: Adapter>(views: &mut AdapterList<A>, chain: &Chain) -> Result<(), Refused> {
-    let round = match views.reserve_all(chain) {
-        Ok(round) => round,
-        Err(refused) => return Err(refused),
-    };
-    // The change is made here: nothing can fail from now on.
-    let _who_was_told_what = views.deliver(round);
-    Ok(())
-}
-
-/// Attaches a view to the book, makes a change, and detaches the view: it comes back with what it heard.
-fn session<A: Adapter>(alloc: Global, view: A) -> Result<Option<A>, Fail> {
-    let mut views = AdapterList::new(alloc);
-    if let Err(refused) = views.attach(VIEW, BOOK, false, view) {
-        return Err(Fail::new(refused.reason));
+/// Attaches a view to a book, names the book, and detaches the view: it comes back with what it heard.
+fn name_book<A: Adapter>(
+    alloc: Global,
+    repository: &mut Repository<A>,
+    book: Node,
+    view: A,
+) -> Result<Option<A>, Fail> {
+    if let Err(failure) = repository.attach(VIEW, book, false, view) {
+        return Err(Fail::new(failure.refused));
     }
-    let chain = named_emma(alloc)?;
-    change(&mut views, &chain)?;
-    match views.detach(VIEW) {
-        Some((_removing_adapter, view)) => Ok(Some(view)),
+    let emma = Value::Text(Text::from_str(alloc, "Emma")?);
+    let _who_was_notified_of_what = repository.e_set(book, NAME, emma)?.told;
+    let mut released = repository.detach(VIEW)?.released.into_vec();
+    match released.pop() {
+        Some((_no, view)) => Ok(Some(view)),
         None => Ok(None),
     }
 }
 
+/// Makes a repository with one book, and names the book while a view is attached to it.
+fn session<A: Adapter>(alloc: Global, meta: Meta, view: A) -> Result<Option<A>, Fail> {
+    let mut repository = Box::new(alloc, Repository::new(alloc, meta))?;
+    let Answer::Object(book) = repository.create(BOOK)?.answer else {
+        return Err(Fail::new("no book is made"));
+    };
+    name_book(alloc, &mut repository, Node::Object(book), view)
+}
+
 #[test]
 fn a_view_is_attached_notified_and_detached(rt: HostRuntime) -> Result<(), Fail> {
+    let meta = books(rt.alloc())?;
     let view: Box<dyn Adapter> = Box::new(rt.alloc(), Latest::new())?;
-    let Some(view) = session(rt.alloc(), view)? else {
+    let Some(view) = session(rt.alloc(), Box::into_inner(meta), view)? else {
         return Err(Fail::new("the view is not given back"));
     };
     assert_eq!(rt; view.told(), 2);

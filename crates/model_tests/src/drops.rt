@@ -1,4 +1,6 @@
-//! Each adapter is dropped once: after it was detached, after the list was closed, and with the list.
+//! Each adapter is dropped once: after it was detached, after its owner was closed, and with its owner, which is a list or a
+//! repository.
+use crate::books::watched;
 use crate::tally::Tally;
 use crate::telling::three;
 use adapters::Adapter;
@@ -40,6 +42,38 @@ fn each_part_is_dropped_once(rt: HostRuntime) -> Result<(), Fail> {
     Ok(())
 }
 
+/// How many parts are dropped when one of a repository's three adapters is detached, when what came back is dropped, when
+/// the repository is closed, and at the end.
+fn drops_of_a_repository<A: Adapter>(
+    alloc: Global,
+    first: A,
+    second: A,
+    third: A,
+    drops: &Cell<u64>,
+) -> Result<[u64; 4], Fail> {
+    let mut repository = watched(alloc, first, second, third)?;
+    let reply = repository.detach(AdapterNo(6))?;
+    let after_detach = drops.get();
+    drop(reply);
+    let after_drop = drops.get();
+    let closed = Box::into_inner(repository).close();
+    let after_close = drops.get();
+    drop(closed);
+    Ok([after_detach, after_drop, after_close, drops.get()])
+}
+
+#[test]
+fn each_part_of_a_repository_is_dropped_once(rt: HostRuntime) -> Result<(), Fail> {
+    let alloc = rt.alloc();
+    let drops = Rc::new(alloc, Cell::new(0))?;
+    let first: Box<dyn Adapter> = Box::new(alloc, Tally::new(&drops)?)?;
+    let second: Box<dyn Adapter> = Box::new(alloc, Tally::new(&drops)?)?;
+    let third: Box<dyn Adapter> = Box::new(alloc, Tally::new(&drops)?)?;
+    let found = drops_of_a_repository(alloc, first, second, third, &drops)?;
+    assert_eq!(rt; found, [0, 1, 1, 3]);
+    Ok(())
+}
+
 #[test]
 fn a_dropped_list_drops_its_adapters(rt: HostRuntime) -> Result<(), Fail> {
     let drops = Rc::new(rt.alloc(), Cell::new(0))?;
@@ -47,6 +81,17 @@ fn a_dropped_list_drops_its_adapters(rt: HostRuntime) -> Result<(), Fail> {
     let list = three(rt.alloc(), [1, 2, 1], first, second, Tally::new(&drops)?)?;
     assert_eq!(rt; drops.get(), 0);
     drop(list);
+    assert_eq!(rt; drops.get(), 3);
+    Ok(())
+}
+
+#[test]
+fn a_dropped_repository_drops_its_adapters(rt: HostRuntime) -> Result<(), Fail> {
+    let drops = Rc::new(rt.alloc(), Cell::new(0))?;
+    let (first, second) = (Tally::new(&drops)?, Tally::new(&drops)?);
+    let repository = watched(rt.alloc(), first, second, Tally::new(&drops)?)?;
+    assert_eq!(rt; drops.get(), 0);
+    drop(repository);
     assert_eq!(rt; drops.get(), 3);
     Ok(())
 }

@@ -1,5 +1,5 @@
 //! Tests of the crates of models and scripts, by calls that a script can't make: streams that fail, memory that is
-//! refused, adapters and their list, and what a command line gives.
+//! refused, adapters with their list and their repository, and what a command line gives.
 //!
 //! What a script prints stands among the cases.
 #![tactic(auto)]
@@ -15,17 +15,29 @@ mod books;
 #[cfg(test)]
 mod caller;
 #[cfg(test)]
+mod calls;
+#[cfg(test)]
+mod closing;
+#[cfg(test)]
 mod drops;
 #[cfg(test)]
 mod latest;
 #[cfg(test)]
 mod memory;
 #[cfg(test)]
+mod memory_adapters;
+#[cfg(test)]
 mod notices;
+#[cfg(test)]
+mod notified;
 #[cfg(test)]
 mod poor;
 #[cfg(test)]
 mod printed;
+#[cfg(test)]
+mod refused_adapters;
+#[cfg(test)]
+mod replies;
 #[cfg(test)]
 mod repositories;
 #[cfg(test)]

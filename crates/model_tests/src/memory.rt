@@ -3,20 +3,22 @@
 //! These tests are for runs in which the n-th allocation is refused, for every n, and pass in each of them: one is
 //! refused, so what finds no memory is asked for once more.
 use crate::books::{BOOK, NAME, PAGES, object, repository, text};
+use crate::replies::{fail, outcomes_text, reply_text};
+use adapters::{Adapter, Counter};
 use mm_types::{FeatureNo, ObjectNo, Refused, Value};
 use repository::{Command, Failure, Reply, Repository};
 use std::alloc::{AllocError, Global};
 use std::fmt::Debug;
 use std::test::Fail;
 
-fn books(alloc: Global) -> Result<Box<Repository>, Fail> {
+pub(crate) fn books<A: Adapter>(alloc: Global) -> Result<Box<Repository<A>>, Fail> {
     match repository(alloc) {
         Ok(repository) => Ok(repository),
         Err(_) => Ok(repository(alloc)?),
     }
 }
 
-fn emma(alloc: Global) -> Result<Value, AllocError> {
+pub(crate) fn emma(alloc: Global) -> Result<Value, AllocError> {
     match text(alloc, "Emma") {
         Ok(emma) => Ok(emma),
         Err(_) => text(alloc, "Emma"),
@@ -31,7 +33,7 @@ fn shown<T: Debug>(alloc: Global, value: &T) -> Result<String, AllocError> {
     }
 }
 
-fn read(repository: &Repository, feature: FeatureNo) -> Result<Value, Refused> {
+fn read<A: Adapter>(repository: &Repository<A>, feature: FeatureNo) -> Result<Value, Refused> {
     match repository.e_get(object(0), feature) {
         Err(Refused::Memory) => repository.e_get(object(0), feature),
         found => found,
@@ -39,7 +41,10 @@ fn read(repository: &Repository, feature: FeatureNo) -> Result<Value, Refused> {
 }
 
 /// What reads say of the first object, its name, its pages and whether it is named, and of the place of a second.
-fn state(alloc: Global, repository: &Repository) -> Result<String, AllocError> {
+pub(crate) fn state<A: Adapter>(
+    alloc: Global,
+    repository: &Repository<A>,
+) -> Result<String, AllocError> {
     let name = read(repository, NAME);
     let pages = read(repository, PAGES);
     let is_named = repository.e_is_set(object(0), NAME);
@@ -48,9 +53,9 @@ fn state(alloc: Global, repository: &Repository) -> Result<String, AllocError> {
 }
 
 /// Fails unless the call was refused memory and has changed nothing.
-fn unchanged(
+pub(crate) fn unchanged<A: Adapter>(
     alloc: Global,
-    repository: &Repository,
+    repository: &Repository<A>,
     before: &str,
     refused: Refused,
 ) -> Result<(), Fail> {
@@ -61,7 +66,10 @@ fn unchanged(
     Err(Fail::new(format_args!("{refused:?}: {before}, then {after}")))
 }
 
-fn create(alloc: Global, repository: &mut Repository) -> Result<(), Fail> {
+pub(crate) fn create<A: Adapter>(
+    alloc: Global,
+    repository: &mut Repository<A>,
+) -> Result<(), Fail> {
     let before = state(alloc, repository)?;
     if let Err(refused) = repository.create(BOOK) {
         unchanged(alloc, repository, before.as_str(), refused)?;
@@ -70,7 +78,7 @@ fn create(alloc: Global, repository: &mut Repository) -> Result<(), Fail> {
     Ok(())
 }
 
-fn e_set(alloc: Global, repository: &mut Repository) -> Result<(), Fail> {
+fn e_set<A: Adapter>(alloc: Global, repository: &mut Repository<A>) -> Result<(), Fail> {
     let before = state(alloc, repository)?;
     if let Err(refused) = repository.e_set(object(0), NAME, emma(alloc)?) {
         unchanged(alloc, repository, before.as_str(), refused)?;
@@ -79,7 +87,7 @@ fn e_set(alloc: Global, repository: &mut Repository) -> Result<(), Fail> {
     Ok(())
 }
 
-fn e_get(alloc: Global, repository: &Repository) -> Result<(), Fail> {
+fn e_get<A: Adapter>(alloc: Global, repository: &Repository<A>) -> Result<(), Fail> {
     let before = state(alloc, repository)?;
     if let Err(refused) = repository.e_get(object(0), NAME) {
         unchanged(alloc, repository, before.as_str(), refused)?;
@@ -91,7 +99,7 @@ fn e_get(alloc: Global, repository: &Repository) -> Result<(), Fail> {
     Ok(())
 }
 
-fn e_unset(alloc: Global, repository: &mut Repository) -> Result<(), Fail> {
+fn e_unset<A: Adapter>(alloc: Global, repository: &mut Repository<A>) -> Result<(), Fail> {
     let before = state(alloc, repository)?;
     if let Err(refused) = repository.e_unset(object(0), NAME) {
         unchanged(alloc, repository, before.as_str(), refused)?;
@@ -102,7 +110,7 @@ fn e_unset(alloc: Global, repository: &mut Repository) -> Result<(), Fail> {
 
 #[test]
 fn a_refused_call_changes_nothing(rt: HostRuntime) -> Result<(), Fail> {
-    let mut repository = books(rt.alloc())?;
+    let mut repository: Box<Repository<Counter>> = books(rt.alloc())?;
     create(rt.alloc(), &mut repository)?;
     e_set(rt.alloc(), &mut repository)?;
     e_get(rt.alloc(), &repository)?;
@@ -118,7 +126,7 @@ fn a_refused_call_changes_nothing(rt: HostRuntime) -> Result<(), Fail> {
 
 /// A command by its place in the list: an object is made, named, read, asked whether it is named, unset and asked for
 /// its class.
-fn command(alloc: Global, at: u32) -> Result<Command, AllocError> {
+fn command<A: Adapter>(alloc: Global, at: u32) -> Result<Command<A>, AllocError> {
     let (node, feature) = (object(0), NAME);
     Ok(match at {
         0 => Command::Create(BOOK),
@@ -134,13 +142,17 @@ fn command(alloc: Global, at: u32) -> Result<Command, AllocError> {
     })
 }
 
-fn execute(alloc: Global, repository: &mut Repository, at: u32) -> Result<Reply, Fail> {
+fn execute<A: Adapter>(
+    alloc: Global,
+    repository: &mut Repository<A>,
+    at: u32,
+) -> Result<Reply<A>, Fail> {
     let before = state(alloc, repository)?;
     match repository.execute(command(alloc, at)?) {
         Ok(reply) => Ok(reply),
-        Err(Failure { refused }) => {
+        Err(Failure { refused, .. }) => {
             unchanged(alloc, repository, before.as_str(), refused)?;
-            Ok(repository.execute(command(alloc, at)?)?)
+            repository.execute(command(alloc, at)?).map_err(fail)
         }
     }
 }
@@ -157,17 +169,17 @@ const ANSWERS: [&str; 6] = [
 
 #[test]
 fn a_refused_command_changes_nothing(rt: HostRuntime) -> Result<(), Fail> {
-    let mut repository = books(rt.alloc())?;
+    let mut repository: Box<Repository<Counter>> = books(rt.alloc())?;
     for (at, wanted) in (0..6).zip(ANSWERS) {
-        let answer = execute(rt.alloc(), &mut repository, at)?.answer;
-        let found = shown(rt.alloc(), &answer)?;
+        let reply = execute(rt.alloc(), &mut repository, at)?;
+        let found = reply_text(rt.alloc(), &reply)?;
         assert_eq!(rt; found.as_str(), wanted);
     }
     Ok(())
 }
 
 /// The first three commands.
-fn commands(alloc: Global) -> Result<Vec<Command>, AllocError> {
+fn commands<A: Adapter>(alloc: Global) -> Result<Vec<Command<A>>, AllocError> {
     let mut commands = three_places(alloc)?;
     for at in 0..3 {
         commands.push(command(alloc, at)?)?;
@@ -176,7 +188,7 @@ fn commands(alloc: Global) -> Result<Vec<Command>, AllocError> {
 }
 
 /// An empty list with room for three commands.
-fn three_places(alloc: Global) -> Result<Vec<Command>, AllocError> {
+fn three_places<A: Adapter>(alloc: Global) -> Result<Vec<Command<A>>, AllocError> {
     match Vec::with_capacity(alloc, 3) {
         Ok(places) => Ok(places),
         Err(_) => Vec::with_capacity(alloc, 3),
@@ -185,27 +197,50 @@ fn three_places(alloc: Global) -> Result<Vec<Command>, AllocError> {
 
 /// What three commands give: all are done, or one is refused and the rest goes on as if it weren't there.
 const OUTCOMES: [&str; 4] = [
-    "[Ok(Reply { answer: Object(ObjectNo(0)) }), Ok(Reply { answer: Done }), Ok(Reply { answer: Value(Text(\"Emma\")) })]",
-    "[Err(Failure { refused: Memory }), Err(Failure { refused: NoObject }), Err(Failure { refused: NoObject })]",
-    "[Ok(Reply { answer: Object(ObjectNo(0)) }), Err(Failure { refused: Memory }), Ok(Reply { answer: Value(Null) })]",
-    "[Ok(Reply { answer: Object(ObjectNo(0)) }), Ok(Reply { answer: Done }), Err(Failure { refused: Memory })]",
+    "Object(ObjectNo(0))\nDone\nValue(Text(\"Emma\"))\n",
+    "refused 28\nrefused 1\nrefused 1\n",
+    "Object(ObjectNo(0))\nrefused 28\nValue(Null)\n",
+    "Object(ObjectNo(0))\nDone\nrefused 28\n",
 ];
 
-/// The three commands.
+/// The three commands, each on a line.
 const COMMANDS: &str =
-    "[Create(ClassNo(0)), Set { node: Object(ObjectNo(0)), feature: FeatureNo(0), value: Text(\"Emma\") }, Get { node: Object(ObjectNo(0)), feature: FeatureNo(0) }]";
+    "create ClassNo(0)\nset Object(ObjectNo(0)) FeatureNo(0) Text(\"Emma\")\nget Object(ObjectNo(0)) FeatureNo(0)\n";
+
+/// A command as it is shown.
+fn command_text<A: Adapter>(alloc: Global, command: &Command<A>) -> Result<String, AllocError> {
+    match command {
+        Command::Create(class) => format!(in alloc; "create {class:?}\n"),
+        Command::Set {
+            node,
+            feature,
+            value,
+        } => format!(in alloc; "set {node:?} {feature:?} {value:?}\n"),
+        Command::Get { node, feature } => format!(in alloc; "get {node:?} {feature:?}\n"),
+        _ => format!(in alloc; "another\n"),
+    }
+}
+
+/// Commands as they are shown.
+fn commands_text<A: Adapter>(alloc: Global, commands: &[Command<A>]) -> Result<String, AllocError> {
+    let mut text = String::new(alloc);
+    for command in commands {
+        text.push_str(command_text(alloc, command)?.as_str())?;
+    }
+    Ok(text)
+}
 
 /// What reads say of an empty repository.
 const EMPTY: &str = "(Err(NoObject), Err(NoObject), Err(NoObject), Err(NoObject))";
 
 /// Runs a list that was given back, over a repository that is to be as it was.
-fn run_again(
+fn run_again<A: Adapter>(
     alloc: Global,
-    repository: &mut Repository,
-    given_back: Vec<Command>,
-) -> Result<Vec<Result<Reply, Failure>>, Fail> {
+    repository: &mut Repository<A>,
+    given_back: Vec<Command<A>>,
+) -> Result<Vec<Result<Reply<A>, Failure<A>>>, Fail> {
     let now = state(alloc, repository)?;
-    let list = shown(alloc, &given_back)?;
+    let list = commands_text(alloc, given_back.as_slice())?;
     if now.as_str() != EMPTY || list.as_str() != COMMANDS {
         return Err(Fail::new(format_args!("{now}: {list}")));
     }
@@ -217,12 +252,12 @@ fn run_again(
 
 #[test]
 fn a_refused_list_is_given_back(rt: HostRuntime) -> Result<(), Fail> {
-    let mut repository = books(rt.alloc())?;
+    let mut repository: Box<Repository<Counter>> = books(rt.alloc())?;
     let outcomes = match repository.run_all(commands(rt.alloc())?) {
         Ok(outcomes) => outcomes,
         Err(given_back) => run_again(rt.alloc(), &mut repository, given_back)?,
     };
-    let found = shown(rt.alloc(), &outcomes)?;
+    let found = outcomes_text(rt.alloc(), outcomes.as_slice())?;
     assert!(rt;
         OUTCOMES.iter().any(|wanted| found.as_str() == *wanted),
         "{found}"

@@ -1,21 +1,21 @@
-//! An adapter that is refused memory.
+//! An adapter that is refused memory once.
 ghost use Rattle.std.specs.Prelude.{◌-◌, [], Some};
 
 use adapters::{Adapter, NoRoom};
 use notice_chain::Notice;
 
-/// A counter that finds memory once: for its last notice, when it is attached.
+/// A counter that is refused memory at its second reserve alone: it is attached, and the next chain is refused.
 #[derive(Drop)]
 pub(crate) struct Poor {
     told: u64,
-    has_reserved: bool,
+    reserves: u64,
 }
 
 impl Poor {
     pub(crate) fn new() -> Poor {
         Poor {
             told: 0,
-            has_reserved: false,
+            reserves: 0,
         }
     }
 }
@@ -29,10 +29,10 @@ impl Adapter for Poor {
         if n > u64::MAX - self.told {
             return Err(NoRoom::Full);
         }
-        if self.has_reserved {
+        self.reserves = self.reserves.wrapping_add(1);
+        if self.reserves == 2 {
             return Err(NoRoom::Memory);
         }
-        self.has_reserved = true;
         Ok(())
     }
 

@@ -1,12 +1,14 @@
 //! A repository by its calls.
 use crate::books::{BOOK, NAME, object, repository, text};
+use crate::replies::outcomes_text;
+use adapters::{Adapter, Counter};
 use mm_types::Refused;
-use repository::Command;
+use repository::{Command, Repository};
 use std::alloc::{AllocError, Global};
 use std::test::Fail;
 
 /// A book is made, named and read.
-fn commands(alloc: Global) -> Result<Vec<Command>, AllocError> {
+fn commands<A: Adapter>(alloc: Global) -> Result<Vec<Command<A>>, AllocError> {
     let (node, feature) = (object(0), NAME);
     let mut commands = Vec::new(alloc);
     commands.push(Command::Create(BOOK))?;
@@ -19,25 +21,29 @@ fn commands(alloc: Global) -> Result<Vec<Command>, AllocError> {
     Ok(commands)
 }
 
-/// What these commands give.
-const OUTCOMES: &str =
-    "[Ok(Reply { answer: Object(ObjectNo(0)) }), Ok(Reply { answer: Done }), Ok(Reply { answer: Value(Text(\"Emma\")) })]";
+/// What these commands give: nobody is notified, and no adapter comes back.
+const OUTCOMES: &str = "Object(ObjectNo(0))\nDone\nValue(Text(\"Emma\"))\n";
 
-#[test]
-fn a_list_of_commands_makes_names_and_reads_a_book(rt: HostRuntime) -> Result<(), Fail> {
-    let mut repository = repository(rt.alloc())?;
-    let commands = commands(rt.alloc())?;
+/// What these commands give in an empty repository.
+fn outcomes<A: Adapter>(alloc: Global) -> Result<String, Fail> {
+    let mut repository: Box<Repository<A>> = repository(alloc)?;
+    let commands = commands(alloc)?;
     let Ok(outcomes) = repository.run_all(commands) else {
         return Err(Fail::new("out of memory for the outcomes"));
     };
-    let found = format!(in rt.alloc(); "{outcomes:?}")?;
+    Ok(outcomes_text(alloc, outcomes.as_slice())?)
+}
+
+#[test]
+fn a_list_of_commands_makes_names_and_reads_a_book(rt: HostRuntime) -> Result<(), Fail> {
+    let found = outcomes::<Box<dyn Adapter>>(rt.alloc())?;
     assert_eq!(rt; found.as_str(), OUTCOMES);
     Ok(())
 }
 
 #[test]
 fn a_million_objects_are_the_limit(rt: HostRuntime) -> Result<(), Fail> {
-    let mut repository = repository(rt.alloc())?;
+    let mut repository: Box<Repository<Counter>> = repository(rt.alloc())?;
     for _ in 0..1_000_000u32 {
         repository.create(BOOK)?;
     }

@@ -1,10 +1,23 @@
 //! Runs over streams that give or take a byte at a time, and that fail.
-use crate::books::run_books;
+use crate::books::books;
 use crate::streams::{Narrow, OneByte};
-use script_program::RunFault;
+use adapters::Recorder;
+use script_program::{RunFault, Summary, run};
 use std::alloc::Global;
+use std::io::{Read, Write};
 use std::process::Abort;
 use std::test::Fail;
+
+/// Runs a script over an empty repository of books.
+fn run_books<R: Read, W: Write>(
+    alloc: Global,
+    reader: &mut R,
+    writer: &mut W,
+) -> Result<Result<Summary, RunFault>, Fail> {
+    let meta = books(alloc)?;
+    let boxes: Vec<Recorder> = Vec::new(alloc);
+    Ok(run(alloc, reader, writer, Box::into_inner(meta), boxes))
+}
 
 const SCRIPT: &str = "new Book\nget #0 pages";
 

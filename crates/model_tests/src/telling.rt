@@ -20,7 +20,9 @@ pub(crate) enum Kind {
     Counter,
     /// A counter that can hear two notices more, and so not two and its last one.
     NearlyFull,
-    /// A counter that is refused memory for all but its last notice.
+    /// A counter that can hear its last notice alone.
+    LastAlone,
+    /// A counter that is refused memory at its second reserve.
     Poor,
     /// A window that keeps one notice.
     WindowOfOne,
@@ -29,11 +31,15 @@ pub(crate) enum Kind {
 /// How many notices a nearly full counter was told.
 pub(crate) const NEARLY_FULL: u64 = 18446744073709551613;
 
+/// How many notices a counter was told that can hear its last one alone.
+pub(crate) const LAST_ALONE: u64 = 18446744073709551614;
+
 pub(crate) fn adapter(alloc: Global, kind: Kind) -> Result<Box<dyn Adapter>, AllocError> {
     match kind {
         Kind::Recorder => Ok(Box::new(alloc, Recorder::new(alloc))?),
         Kind::Counter => Ok(Box::new(alloc, Counter::new())?),
         Kind::NearlyFull => Ok(Box::new(alloc, Counter::starting_at(NEARLY_FULL))?),
+        Kind::LastAlone => Ok(Box::new(alloc, Counter::starting_at(LAST_ALONE))?),
         Kind::Poor => Ok(Box::new(alloc, Poor::new())?),
         Kind::WindowOfOne => Ok(Box::new(alloc, Window::new(alloc, 1)?)?),
     }

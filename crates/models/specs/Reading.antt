@@ -36,6 +36,10 @@ shape_at r e = shape r.metamodel e.feature
 abbrev pub held_at : Reading → Ends
 held_at r e = record { values = shown (shape_at r e).is_single (r.values e); flag = r.flag e }
 
+-- what a single end has
+abbrev pub value_at : Reading → End → Value
+value_at r e = ends.value_in (held_at r e).values 0
+
 -- an end is set
 abbrev pub is_set : Reading → End → Bool
 is_set r e = ends.is_set (shape_at r e) (held_at r e)

@@ -1,32 +1,237 @@
 -- Every command of a legal state leaves a legal one.
-use Rattle.std.proofs.Common.{◌≡◌, Option, Some, None, refl, subst}
-use Rattle.mm_types.specs.Conditions.{◌else_by◌}
+use Rattle.std.proofs.Common.{◌≡◌, ◌≤◌, ◌<◌, ◌+◌, ◌^◌, ◌⊎◌, inl, inr, ◌&&◌, ℕ, zero, suc, Bool, true, false, IsTrue, List, [], ◌∷◌, ◌++◌, map, length, nat_le, nat_lt, slice_index_or, slice_set, Option, Some, None, option_map, is_some, Ok, if◌then◌else◌, refl, sym, ap, ◌∙◌, subst, arith, true≢false, length-append}
+use Rattle.std.specs.Prelude.{MatchBool}
+use Rattle.std.specs.List.{All, list_any}
+use Rattle.std.proofs.lemmas.Bool.{or_parts, leb-false, ltb-false}
+use Rattle.std.proofs.lemmas.List.{append-nil, length-map}
+use Rattle.std.proofs.lemmas.List.Elements.{All-append, All-cons, All-nil, All-head, All-tail}
+use Rattle.mm_types.specs.Conditions.{◌where_so◌}
+use Rattle.mm_types.specs.declared.limits.TheConstants.{ADAPTERS}
+use Rattle.mm_types.specs.declared.numbers.AdapterNo.{AdapterNo}
+use Rattle.mm_types.specs.declared.numbers.FeatureNo.{FeatureNo}
+use Rattle.mm_types.specs.declared.numbers.Node.{Node}
+use Rattle.mm_types.specs.declared.numbers.Node.TheVariants as node
 use Rattle.mm_types.specs.declared.refused.Refused.{Refused}
+use Rattle.mm_types.specs.declared.refused.Refused.TheVariants.{NoObject, NoResource, AdapterFull, AdapterTaken, Limit}
+use Rattle.mm_types.specs.Shapes.{shape}
+use Rattle.mm_values.specs.Stored.{Stored, nothing_stored}
+use Rattle.mm_values.specs.Values.{Objects, ObjectState, put_stored}
+use Rattle.notice_chain.specs.View.{View}
+use Rattle.notice_chain.specs.Listed.{HasDistinctNumbers, Listed, has_no, heard_of, is_chain_full, is_full, tell_chain}
+use Rattle.notice_chain.specs.declared.notice.Notice.{Notice}
+use Rattle.notice_chain.proofs.ViewLemmas.{told-hear_all}
+use Rattle.adapter_list.specs.Refusals.{attach_refusal, list_refusal, view_refusal}
+use Rattle.models.specs.Legal as models
+use Rattle.models.specs.Model.{Model, reading}
+use Rattle.models.specs.Reading.{Reading}
+use Rattle.handshake.specs.Effects as effects
+use Rattle.handshake.specs.Named.{node_refusal}
+use Rattle.handshake.specs.declared.change.Change.{Change}
 use Rattle.handshake.specs.declared.change.Change.TheVariants as change
-use Rattle.handshake.proofs.LegalLemmas.{change-keeps-legal}
+use Rattle.handshake.proofs.LegalLemmas.{change-keeps-legal, else-none, unless-none}
 use Rattle.repository.specs.declared.command.Command.{Command}
-use Rattle.repository.specs.declared.command.Command.TheVariants.{Create, Set, Unset, Get, IsSet, Class}
-use Rattle.repository.specs.State.{State, IsLegal}
-use Rattle.repository.specs.Step.{done, refusal_of, step_unless}
+use Rattle.repository.specs.declared.command.Command.TheVariants.{Create, Set, Unset, Attach, Detach, Get, IsSet, Class, AdapterTold, AdapterKept}
+use Rattle.repository.specs.State.{State, IsLegal, IsLegalAdapter, is_there, reads}
+use Rattle.repository.specs.Refusals.{chain, early_refusal, late_refusal}
+use Rattle.repository.specs.Run.{Executed, IsWanting, is_memory}
+use Rattle.repository.specs.Step.{Stepped, adapters_after, done, joins, leaves, model_after, refusal_of, releases, step, step_unless}
+use Rattle.repository.specs.Views.{Outcome}
+use Rattle.repository.specs.declared.reply.Reply.{Reply}
 use Rattle.repository.specs.Laws.{KeepsLegal}
+use Rattle.notice_chain.specs.Released.{Released}
+use Rattle.repository.proofs.QuietLemmas.{releases-quiet}
+use Rattle.repository.proofs.OthersLemmas.{distinct-push, others-all, others-distinct, others-few}
 
 abbrev IsThere : Option Refused → Type 0
 IsThere None = ⊥
 IsThere (Some r) = Unit {0}
 
-else-none : (a b : Option Refused) → (a else_by b) ≡ None → (a ≡ None) × (b ≡ None)
-else-none None b e = (refl, e)
-else-none (Some r) b e = absurd (subst IsThere e tt)
+where-none : (r : Refused) (b : Bool) → (r where_so b) ≡ None → b ≡ false
+where-none r true e = absurd (subst IsThere e tt)
+where-none r false e = refl
 
--- a command that nothing refuses leaves a legal state
-done-legal : (s : State) (c : Command) → IsLegal s → refusal_of s c ≡ None → IsLegal (done s c).after
-done-legal s (Create c) legal free = let none = else-none _ _ free in change-keeps-legal s.model (change.Create c) legal none.0 none.1
-done-legal s (Set n f v) legal free = let none = else-none _ _ free in change-keeps-legal s.model (change.Set n f v) legal none.0 none.1
-done-legal s (Unset n f) legal free = let none = else-none _ _ free in change-keeps-legal s.model (change.Unset n f) legal none.0 none.1
-done-legal s (Get n f) legal free = legal
-done-legal s (IsSet n f) legal free = legal
-done-legal s (Class o) legal free = legal
+both-true : (a b : Bool) → IsTrue a → IsTrue b → IsTrue (a && b)
+both-true true b x y = y
+both-true false b x y = x
 
-pub step-legal : (s : State) (c : Command) → KeepsLegal s c
+---------------------------------------------------------------- no node goes
+
+abbrev is_object : Option ObjectState → Bool
+is_object o = is_some (option_map (λ (s : ObjectState). s.class) o)
+
+push-live : (os : Objects) (x : Option ObjectState) (i : ℕ) → is_object (slice_index_or os i None) ≡ true → is_object (slice_index_or (os ++ x ∷ []) i None) ≡ true
+push-live [] x i h = absurd (true≢false (sym h))
+push-live (o ∷ os) x zero h = h
+push-live (o ∷ os) x (suc i) h = push-live os x i h
+
+put-object : (f : FeatureNo) (h : Stored) (o : Option ObjectState) → is_object (option_map (put_stored f h) o) ≡ is_object o
+put-object f h None = refl
+put-object f h (Some o) = refl
+
+put-live : (os : Objects) (f : FeatureNo) (h : Stored) (k i : ℕ) → is_object (slice_index_or (slice_set os k (option_map (put_stored f h) (slice_index_or os k None))) i None) ≡ is_object (slice_index_or os i None)
+put-live [] f h k i = refl
+put-live (o ∷ os) f h zero zero = put-object f h o
+put-live (o ∷ os) f h zero (suc i) = refl
+put-live (o ∷ os) f h (suc k) zero = refl
+put-live (o ∷ os) f h (suc k) (suc i) = put-live os f h k i
+
+first-true : (a b : Bool) → (a && b) ≡ true → a ≡ true
+first-true true b h = refl
+first-true false b h = h
+
+-- a node that is there is there after every change
+change-keeps-node : (s : Model) (c : Change) (n : Node) → IsTrue (is_there (reading s) n) → IsTrue (is_there (reading (effects.after s c)) n)
+change-keeps-node s (change.Create c) (node.Object o) h = both-true _ true (push-live s.values.objects _ o.0 (first-true _ true h)) refl
+change-keeps-node s (change.Set (node.Object k) f v) (node.Object o) h = ap (λ b. b && true) (put-live s.values.objects f (record { list = v ∷ []; flag = (shape s.metamodel f).is_unsettable }) k.0 o.0) ∙ h
+change-keeps-node s (change.Set (node.Resource k) f v) (node.Object o) h = h
+change-keeps-node s (change.Unset (node.Object k) f) (node.Object o) h = ap (λ b. b && true) (put-live s.values.objects f nothing_stored k.0 o.0) ∙ h
+change-keeps-node s (change.Unset (node.Resource k) f) (node.Object o) h = h
+change-keeps-node s (change.Create c) (node.Resource r) h = h
+change-keeps-node s (change.Set (node.Object k) f v) (node.Resource r) h = h
+change-keeps-node s (change.Set (node.Resource k) f v) (node.Resource r) h = h
+change-keeps-node s (change.Unset (node.Object k) f) (node.Resource r) h = h
+change-keeps-node s (change.Unset (node.Resource k) f) (node.Resource r) h = h
+
+keeps-node : (s : State) (c : Command View) (n : Node) → IsTrue (is_there (reads s) n) → IsTrue (is_there (reading (model_after s.model c)) n)
+keeps-node s (Create c) n h = change-keeps-node s.model (change.Create c) n h
+keeps-node s (Set m f v) n h = change-keeps-node s.model (change.Set m f v) n h
+keeps-node s (Unset m f) n h = change-keeps-node s.model (change.Unset m f) n h
+keeps-node s (Attach number target deep view) n h = h
+keeps-node s (Detach number) n h = h
+keeps-node s (Get m f) n h = h
+keeps-node s (IsSet m f) n h = h
+keeps-node s (Class o) n h = h
+keeps-node s (AdapterTold number) n h = h
+keeps-node s (AdapterKept number) n h = h
+
+---------------------------------------------------------------- the model
+
+model-legal : (s : State) (c : Command View) → models.IsLegal s.model → early_refusal (reads s) s.adapters c ≡ None → late_refusal (reads s) s.adapters c ≡ None → models.IsLegal (model_after s.model c)
+model-legal s (Create c) legal early late = change-keeps-legal s.model (change.Create c) legal early late
+model-legal s (Set n f v) legal early late = change-keeps-legal s.model (change.Set n f v) legal early late
+model-legal s (Unset n f) legal early late = change-keeps-legal s.model (change.Unset n f) legal early late
+model-legal s (Attach number target deep view) legal early late = legal
+model-legal s (Detach number) legal early late = legal
+model-legal s (Get n f) legal early late = legal
+model-legal s (IsSet n f) legal early late = legal
+model-legal s (Class o) legal early late = legal
+model-legal s (AdapterTold number) legal early late = legal
+model-legal s (AdapterKept number) legal early late = legal
+
+---------------------------------------------------------------- the adapters after a chain
+
+pub numbers-tell_chain : (ns : List Notice) (rs : List Listed) → map (λ r. r.no) (tell_chain ns rs) ≡ map (λ r. r.no) rs
+numbers-tell_chain ns [] = refl
+numbers-tell_chain ns (r ∷ rs) = ap (λ xs. r.no ∷ xs) (numbers-tell_chain ns rs)
+
+count-on : (t k : ℕ) → (nat_lt 0 k && nat_le (2 ^ 64) (t + (k + 1))) ≡ false → t + 1 < 2 ^ 64 → t + k + 1 < 2 ^ 64
+count-on t k free last =
+    elim (nat_lt 0 k) as (λ b. nat_lt 0 k ≡ b → (b && nat_le (2 ^ 64) (t + (k + 1))) ≡ false → t + k + 1 < 2 ^ 64) [
+      | true ↦ λ e f. omega (arith, leb-false _ _ f)
+      | false ↦ λ e f. omega (arith, ltb-false _ _ e, last)
+    ] refl free
+
+told-legal : (r t : Reading) (ns : List Notice) (rs : List Listed) → ((n : Node) → IsTrue (is_there r n) → IsTrue (is_there t n)) → is_chain_full ns rs ≡ false → All (IsLegalAdapter r) rs → All (IsLegalAdapter t) (tell_chain ns rs)
+told-legal r t ns [] stays free legal = All-nil (IsLegalAdapter t)
+told-legal r t ns (a ∷ rs) stays free legal =
+    let both = or_parts (is_full (length (heard_of ns a)) a.view) (is_chain_full ns rs) free in
+    let one = All-head (IsLegalAdapter r) a rs legal in
+    All-cons (IsLegalAdapter t) _ _
+    (record {
+      target = stays a.target one.target;
+      countable = rw (told-hear_all a.view (heard_of ns a)) (count-on a.view.told (length (heard_of ns a)) both.0 one.countable);
+    })
+    (told-legal r t ns rs stays both.1 (All-tail (IsLegalAdapter r) a rs legal))
+
+---------------------------------------------------------------- one more adapter
+
+-- what a command attaches: nothing, or one adapter, after the conditions on it, and then nobody leaves
+record Joins (r : Reading) (rs : List Listed) (c : Command View) : Type 0 where
+  pub one : Listed
+  pub joins_one : joins c ≡ one ∷ []
+  pub early : early_refusal r rs c ≡ node_refusal r one.target
+  pub late : late_refusal r rs c ≡ attach_refusal rs one.no one.view
+  pub quiet : (releases r rs c).others ≡ rs
+
+attaches : (r : Reading) (rs : List Listed) (c : Command View) → (joins c ≡ []) ⊎ Joins r rs c
+attaches r rs (Create c) = inl refl
+attaches r rs (Set n f v) = inl refl
+attaches r rs (Unset n f) = inl refl
+attaches r rs (Attach number target deep view) = inr (record { one = record { no = number; target = target; deep = deep; view = view }; joins_one = refl; early = refl; late = refl; quiet = ap (λ (x : Released). x.others) (releases-quiet rs) })
+attaches r rs (Detach number) = inl refl
+attaches r rs (Get n f) = inl refl
+attaches r rs (IsSet n f) = inl refl
+attaches r rs (Class o) = inl refl
+attaches r rs (AdapterTold number) = inl refl
+attaches r rs (AdapterKept number) = inl refl
+
+-- a number that the list takes: there is room for one more, and it is new
+pub list-free : (rs : List Listed) (number : AdapterNo) → list_refusal rs number ≡ None → (length rs < ADAPTERS) × (list_any (has_no number) rs ≡ false)
+list-free rs number none =
+    elim (nat_le ADAPTERS (length rs)) as (λ b. nat_le ADAPTERS (length rs) ≡ b → (if b then Some Limit else if list_any (has_no number) rs then Some AdapterTaken else None) ≡ None → (length rs < ADAPTERS) × (list_any (has_no number) rs ≡ false)) [
+      | true ↦ λ e f. absurd (subst IsThere f tt)
+      | false ↦ λ e f. (leb-false _ _ e, where-none AdapterTaken _ f)
+    ] refl none
+
+view-countable : (v : View) → view_refusal v ≡ None → v.told + 1 < 2 ^ 64
+view-countable v none = leb-false _ _ (where-none AdapterFull _ none)
+
+node-there : (r : Reading) (n : Node) → node_refusal r n ≡ None → IsTrue (is_there r n)
+node-there r n none = let both = else-none _ _ none in both-true _ _ (unless-none NoObject _ both.0) (unless-none NoResource _ both.1)
+
+---------------------------------------------------------------- a command that nothing refuses
+
+-- what is needed of the adapters after it
+record AreLegal (r : Reading) (rs : List Listed) : Type 0 where
+  pub few : length rs ≤ ADAPTERS
+  pub distinct : HasDistinctNumbers rs
+  pub adapters : All (IsLegalAdapter r) rs
+
+joined-legal : (r t : Reading) (rs : List Listed) (c : Command View) → ((n : Node) → IsTrue (is_there r n) → IsTrue (is_there t n)) → early_refusal r rs c ≡ None → late_refusal r rs c ≡ None → AreLegal t (releases r rs c).others → AreLegal t (adapters_after r rs c)
+joined-legal r t rs c stays early late legal = by (attaches r rs c)
+  where
+    by : (joins c ≡ []) ⊎ Joins r rs c → AreLegal t ((releases r rs c).others ++ joins c)
+    by (inl none) = rw none (subst (AreLegal t) (sym (append-nil _)) legal)
+    by (inr j) =
+        let one = j.one in
+        let target = node-there r one.target (sym j.early ∙ early) in
+        let free = else-none _ _ (sym j.late ∙ late) in
+        let room = list-free rs one.no free.0 in
+        let before : AreLegal t rs = subst (AreLegal t) j.quiet legal in
+        rw (j.joins_one, j.quiet) (record {
+          few = omega (arith, length-append rs (one ∷ []), room.0);
+          distinct = distinct-push rs one before.distinct room.1;
+          adapters = All-append (IsLegalAdapter t) rs (one ∷ []) before.adapters (All-cons (IsLegalAdapter t) one [] (record { target = stays one.target target; countable = view-countable one.view free.1 }) (All-nil (IsLegalAdapter t)));
+        })
+
+done-legal : (s : State) (c : Command View) → IsLegal s → refusal_of s c ≡ None → IsLegal (done s c).after
+done-legal s c legal free =
+    let r = reads s in
+    let t = reading (model_after s.model c) in
+    let rs = s.adapters in
+    let ns = chain r c in
+    let first = else-none _ _ free in
+    let later = else-none _ _ first.1 in
+    let told = tell_chain ns rs in
+    let as_many : length told ≡ length rs = length-map rs _ in
+    let adapters = joined-legal r t rs c (keeps-node s c) first.0 later.0 (record {
+      few = omega (arith, others-few [] told (leaves c), as_many, legal.few);
+      distinct = others-distinct [] told (leaves c) (rw (numbers-tell_chain ns rs) legal.distinct);
+      adapters = others-all (IsLegalAdapter t) [] told (leaves c) (All-nil (IsLegalAdapter t)) (told-legal r t ns rs (keeps-node s c) (where-none AdapterFull _ later.1) legal.adapters);
+    }) in
+    record { model = model-legal s c legal.model first.0 later.0; few = adapters.few; distinct = adapters.distinct; adapters = adapters.adapters }
+
+pub step-legal : (s : State) (c : Command View) → KeepsLegal s c
 step-legal s c legal =
     elim (refusal_of s c) as (λ r. refusal_of s c ≡ r → IsLegal (step_unless s c r).after) [ Some r ↦ λ e. legal | None ↦ λ e. done-legal s c legal e ] refl
+
+-- what was executed leaves a legal state too, where memory may be refused
+pub executed-legal : (s t : State) (c : Command View) (o : Outcome) → Executed s c o t → IsLegal s → IsLegal t
+executed-legal s t c o x legal =
+    elim (is_memory o) as (λ b. MatchBool b (IsWanting s c o t) (step s c ≡ record { outcome = o; after = t }) → IsLegal t) [
+      | true ↦ λ y. subst IsLegal (sym y.state) legal
+      | false ↦ λ e. subst IsLegal (ap (λ (q : Stepped). q.after) e) (step-legal s c legal)
+    ] x
+
+pub stepped-legal : (s t : State) (c : Command View) (r : Reply View) → IsLegal s → step s c ≡ record { outcome = Ok r; after = t } → IsLegal t
+stepped-legal s t c r legal e = subst IsLegal (ap (λ (q : Stepped). q.after) e) (step-legal s c legal)

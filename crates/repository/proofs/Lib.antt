@@ -1,4 +1,7 @@
-pub mod ReadLemmas
-mod LegalLemmas
-mod PlanLemmas
+pub mod AdapterLemmas
+pub mod OthersLemmas
+pub mod QuietLemmas
+pub mod AttachLemmas
+pub mod PlanLemmas
+pub mod LegalLemmas
 pub mod RunLemmas

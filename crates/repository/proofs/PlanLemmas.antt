@@ -1,26 +1,53 @@
--- What a plan's refusal makes of its command.
-use Rattle.std.proofs.Common.{◌≡◌, Bool, true, false, not, IsTrue, Option, Some, None, Err, if◌then◌else◌, refl, ap, ◌∙◌}
-use Rattle.std.specs.Prelude.{MatchBool}
+-- What a plan, or its refusal, makes of its command.
+use Rattle.std.proofs.Common.{◌≡◌, inl, inr, Bool, true, false, not, IsTrue, List, [], ◌++◌, Option, Some, None, Ok, Err, if◌then◌else◌, refl, ap, sym, ◌∙◌}
+use Rattle.std.specs.Prelude.{nat_lt}
 use Rattle.std.specs.Option.{option_map_or}
-use Rattle.mm_types.specs.Conditions.{◌else_by◌}
+use Rattle.std.proofs.lemmas.List.{append-nil}
+use Rattle.mm_types.specs.Conditions.{◌else_by◌, ◌where_so◌}
 use Rattle.mm_types.specs.Lookups.{takes}
 use Rattle.mm_types.specs.declared.limits.TheConstants.{OBJECTS}
 use Rattle.mm_types.specs.declared.refused.Refused.{Refused}
-use Rattle.mm_types.specs.declared.refused.Refused.TheVariants.{WrongType, TextLength, Limit}
+use Rattle.mm_types.specs.declared.refused.Refused.TheVariants.{WrongType, TextLength, Limit, AdapterFull, Memory}
+use Rattle.mm_types.specs.declared.numbers.AdapterNo.{AdapterNo}
+use Rattle.notice_chain.specs.Listed.{Listed, is_chain_full, tell_chain, told_list}
+use Rattle.notice_chain.specs.Released.{Released, released}
+use Rattle.notice_chain.specs.declared.notice.Notice.{Notice}
+use Rattle.adapter_list.specs.Refusals.{IsChainRefusal}
 use Rattle.models.specs.Legal.{is_short}
+use Rattle.models.specs.Model.{Model}
 use Rattle.models.specs.Reading.{Reading}
-use Rattle.handshake.specs.Plans.{is_memory_refusal}
+use Rattle.handshake.specs.Effects as effects
+use Rattle.handshake.specs.Plans.{Plans, is_memory_refusal}
 use Rattle.handshake.specs.Refusals.{early_refusal, late_refusal}
+use Rattle.handshake.specs.Tellings.{chain}
 use Rattle.handshake.specs.declared.change.Change.{Change}
 use Rattle.handshake.specs.declared.change.Change.TheVariants.{Create, Set, Unset}
-use Rattle.repository.specs.Run.{Executed, IsWanting, is_plain, may_want_memory}
+use Rattle.repository.specs.Answers.{answer_of}
+use Rattle.repository.specs.declared.reply.Answer.{Answer}
+use Rattle.repository.specs.Run.{Executed, is_plain, may_want_memory}
 use Rattle.repository.specs.State.{State, reads}
-use Rattle.repository.specs.Step.{Stepped, refusal_of, step, step_unless}
+use Rattle.repository.specs.Step.{Stepped, done, refusal_of, step, step_unless}
 use Rattle.repository.specs.Views.{command_of}
-use Rattle.std.specs.Prelude.{nat_lt}
+use Rattle.repository.proofs.AdapterLemmas.{Heard, released-nobody}
 
--- no refusal that planning finds is one of those that are found without memory
-late-not-plain : (r : Reading) (c : Change) → option_map_or is_plain (late_refusal r c) false ≡ false
+-- a refusal that is found without memory
+plain : Option Refused → Bool
+plain o = option_map_or is_plain o false
+
+full : State → Change → Option Refused
+full s c = AdapterFull where_so is_chain_full (chain (reads s) c) s.adapters
+
+---------------------------------------------------------------- the refusal of a change
+
+-- where nothing is found before planning
+refusal-planned : (s : State) (c : Change) → early_refusal (reads s) c ≡ None → refusal_of s (command_of c) ≡ (late_refusal (reads s) c else_by full s c)
+unfolding full
+refusal-planned s (Create c) early = rw early refl
+refusal-planned s (Set n f v) early = rw early refl
+refusal-planned s (Unset n f) early = rw early refl
+
+late-not-plain : (r : Reading) (c : Change) → plain (late_refusal r c) ≡ false
+unfolding plain
 late-not-plain r (Create c) = elim (nat_lt r.next OBJECTS) as (λ b. option_map_or is_plain (if b then None else Some Limit) false ≡ false) [ true ↦ refl | false ↦ refl ]
 late-not-plain r (Set n f v) =
     elim (takes r.metamodel f v) as (λ a. option_map_or is_plain ((if a then None else Some WrongType) else_by (if is_short v then None else Some TextLength)) false ≡ false) [
@@ -29,24 +56,84 @@ late-not-plain r (Set n f v) =
     ]
 late-not-plain r (Unset n f) = refl
 
--- what is refused is what planning finds, where nothing is found before
-refusal-late : (s : State) (c : Change) → early_refusal (reads s) c ≡ None → refusal_of s (command_of c) ≡ late_refusal (reads s) c
-refusal-late s (Create c) early = rw early refl
-refusal-late s (Set n f v) early = rw early refl
-refusal-late s (Unset n f) early = rw early refl
+full-not-plain : (s : State) (c : Change) (o : Option Refused) → plain o ≡ false → plain (o else_by full s c) ≡ false
+unfolding plain full
+full-not-plain s c None h = elim (is_chain_full (chain (reads s) c) s.adapters) as (λ b. option_map_or is_plain (AdapterFull where_so b) false ≡ false) [ true ↦ refl | false ↦ refl ]
+full-not-plain s c (Some r) h = h
 
 not-plain : (s : State) (c : Change) → early_refusal (reads s) c ≡ None → not (option_map_or is_plain (refusal_of s (command_of c)) false) ≡ true
-not-plain s c early = ap (λ (o : Option Refused). not (option_map_or is_plain o false)) (refusal-late s c early) ∙ ap not (late-not-plain (reads s) c)
+unfolding plain
+not-plain s c early = ap (λ (o : Option Refused). not (option_map_or is_plain o false)) (refusal-planned s c early) ∙ ap not (full-not-plain s c (late_refusal (reads s) c) (late-not-plain (reads s) c))
 
 may-want : (s : State) (c : Change) → early_refusal (reads s) c ≡ None → IsTrue (may_want_memory s (command_of c))
 may-want s (Create c) early = not-plain s (Create c) early
 may-want s (Set n f v) early = not-plain s (Set n f v) early
 may-want s (Unset n f) early = not-plain s (Unset n f) early
 
-pub planned-err : (s : State) (c : Change) (r : Refused) → early_refusal (reads s) c ≡ None → MatchBool (is_memory_refusal r) (Unit {0}) (late_refusal (reads s) c ≡ Some r) → Executed s (command_of c) (Err (record { refused = r })) s
-planned-err s c r early found =
-    let done : Stepped = record { outcome = Err (record { refused = r }); after = s } in
-    elim (is_memory_refusal r) as (λ b. MatchBool b (Unit {0}) (late_refusal (reads s) c ≡ Some r) → MatchBool b (IsWanting s (command_of c) s) (step s (command_of c) ≡ done)) [
-      | true ↦ λ u. record { may = may-want s c early; state = refl }
-      | false ↦ λ late. ap (step_unless s (command_of c)) (refusal-late s c early ∙ late)
-    ] found
+---------------------------------------------------------------- what is executed
+
+refused_as : (s : State) (c : Change) (r : Refused) → is_memory_refusal r ≡ false → refusal_of s (command_of c) ≡ Some r → Executed s (command_of c) (Err (record { refused = r; given_back = None })) s
+refused_as s (Create c) r other found = rw other (ap (step_unless s (command_of (Create c))) found)
+refused_as s (Set n f v) r other found = rw other (ap (step_unless s (command_of (Set n f v))) found)
+refused_as s (Unset n f) r other found = rw other (ap (step_unless s (command_of (Unset n f))) found)
+
+pub out_of_memory : (s : State) (c : Change) → early_refusal (reads s) c ≡ None → Executed s (command_of c) (Err (record { refused = Memory; given_back = None })) s
+out_of_memory s (Create c) early = record { may = may-want s (Create c) early; outcome = refl; state = refl }
+out_of_memory s (Set n f v) early = record { may = may-want s (Set n f v) early; outcome = refl; state = refl }
+out_of_memory s (Unset n f) early = record { may = may-want s (Unset n f) early; outcome = refl; state = refl }
+
+-- what planning refuses
+pub planned_err : (s : State) (c : Change) (b : Bool) (r : Refused) → early_refusal (reads s) c ≡ None → Plans b (Err r) s.model c → Executed s (command_of c) (Err (record { refused = r; given_back = None })) s
+planned_err s c b Memory early h = out_of_memory s c early
+planned_err s c b r early h = refused_as s c r refl (refusal-planned s c early ∙ ap (λ (o : Option Refused). o else_by full s c) h)
+
+-- what the adapters refuse
+pub chain_err : (s : State) (c : Change) (made : List Notice) (r : Refused) → early_refusal (reads s) c ≡ None → late_refusal (reads s) c ≡ None → Heard made (chain (reads s) c) s.adapters → IsChainRefusal (is_chain_full made s.adapters) r → Executed s (command_of c) (Err (record { refused = r; given_back = None })) s
+unfolding full
+chain_err s c made r early late heard (inl e) = rw e (out_of_memory s c early)
+chain_err s c made r early late heard (inr h) =
+    let found : refusal_of s (command_of c) ≡ Some AdapterFull = refusal-planned s c early ∙ ap (λ (o : Option Refused). o else_by full s c) late ∙ ap (λ b. AdapterFull where_so b) (sym heard.full ∙ h.1) in
+    rw (h.0) (refused_as s c AdapterFull refl found)
+
+-- what is done by a change that tells these notices
+done_telling : (m : Model) (ns : List Notice) (rs : List Listed) (a : Answer) → (let x : Released = released (λ a. false) (tell_chain ns rs) in let y : Stepped = record {
+  outcome = Ok (record { answer = a; told = told_list ns rs ++ x.told; released = x.views });
+  after = record { model = m; adapters = x.others ++ [] };
+} in y) ≡ record { outcome = Ok (record { answer = a; told = told_list ns rs; released = [] }); after = record { model = m; adapters = tell_chain ns rs } }
+done_telling m ns rs a =
+    ap (λ (x : Released). let y : Stepped = record {
+      outcome = Ok (record { answer = a; told = told_list ns rs ++ x.told; released = x.views });
+      after = record { model = m; adapters = x.others ++ [] };
+    } in y) (released-nobody (tell_chain ns rs))
+    ∙ ap (λ (told : List (AdapterNo × Notice)). let y : Stepped = record {
+      outcome = Ok (record { answer = a; told = told; released = [] });
+      after = record { model = m; adapters = tell_chain ns rs ++ [] };
+    } in y) (append-nil (told_list ns rs))
+    ∙ ap (λ (adapters : List Listed). let y : Stepped = record {
+      outcome = Ok (record { answer = a; told = told_list ns rs; released = [] });
+      after = record { model = m; adapters = adapters };
+    } in y) (append-nil (tell_chain ns rs))
+
+done_change : (s : State) (c : Change) → done s (command_of c) ≡ record {
+  outcome = Ok (record { answer = answer_of (reads s) s.adapters (command_of c); told = told_list (chain (reads s) c) s.adapters; released = [] });
+  after = record { model = effects.after s.model c; adapters = tell_chain (chain (reads s) c) s.adapters };
+}
+done_change s (Create c) = done_telling (effects.after s.model (Create c)) [] s.adapters (answer_of (reads s) s.adapters (command_of (Create c)))
+done_change s (Set n f v) = done_telling (effects.after s.model (Set n f v)) (chain (reads s) (Set n f v)) s.adapters (answer_of (reads s) s.adapters (command_of (Set n f v)))
+done_change s (Unset n f) = done_telling (effects.after s.model (Unset n f)) (chain (reads s) (Unset n f)) s.adapters (answer_of (reads s) s.adapters (command_of (Unset n f)))
+
+-- a change that was made, with the notices that somebody may hear
+pub changed : (s : State) (c : Change) (made : List Notice) → early_refusal (reads s) c ≡ None → late_refusal (reads s) c ≡ None → Heard made (chain (reads s) c) s.adapters → is_chain_full made s.adapters ≡ false → Executed s (command_of c) (Ok (record { answer = answer_of (reads s) s.adapters (command_of c); told = told_list made s.adapters; released = [] })) (record { model = effects.after s.model c; adapters = tell_chain made s.adapters })
+unfolding full
+changed s c made early late heard free =
+    let found : refusal_of s (command_of c) ≡ None = refusal-planned s c early ∙ ap (λ (o : Option Refused). o else_by full s c) late ∙ ap (λ b. AdapterFull where_so b) (sym heard.full ∙ free) in
+    ap (step_unless s (command_of c)) found ∙ rw (heard.told, heard.adapters) (done_change s c)
+
+-- the same, for a reply and a state that are known by their parts
+pub changed_to : (s t : State) (c : Change) (made : List Notice) (a : Answer) (told : List (AdapterNo × Notice)) → early_refusal (reads s) c ≡ None → late_refusal (reads s) c ≡ None → Heard made (chain (reads s) c) s.adapters → is_chain_full made s.adapters ≡ false → a ≡ answer_of (reads s) s.adapters (command_of c) → told ≡ told_list made s.adapters → t.model ≡ effects.after s.model c → t.adapters ≡ tell_chain made s.adapters → step s (command_of c) ≡ record { outcome = Ok (record { answer = a; told = told; released = [] }); after = t }
+changed_to s t c made a told early late heard free answered told_is model adapters =
+    changed s c made early late heard free
+    ∙ ap (λ (b : Answer). let y : Stepped = record { outcome = Ok (record { answer = b; told = told_list made s.adapters; released = [] }); after = record { model = effects.after s.model c; adapters = tell_chain made s.adapters } } in y) (sym answered)
+    ∙ ap (λ (x : List (AdapterNo × Notice)). let y : Stepped = record { outcome = Ok (record { answer = a; told = x; released = [] }); after = record { model = effects.after s.model c; adapters = tell_chain made s.adapters } } in y) (sym told_is)
+    ∙ ap (λ (m : Model). let y : Stepped = record { outcome = Ok (record { answer = a; told = told; released = [] }); after = record { model = m; adapters = tell_chain made s.adapters } } in y) (sym model)
+    ∙ ap (λ (rs : List Listed). let y : Stepped = record { outcome = Ok (record { answer = a; told = told; released = [] }); after = record { model = t.model; adapters = rs } } in y) (sym adapters)

@@ -1,28 +1,33 @@
 -- A run, one command at a time.
-use Rattle.std.proofs.Common.{◌≡◌, Bool, true, false, List, [], ◌∷◌, ◌++◌, Some, None, refl, sym, ap, subst, ◌∙◌, if◌then◌else◌}
+use Rattle.std.proofs.Common.{◌≡◌, Bool, true, false, List, [], ◌∷◌, ◌++◌, Option, Some, None, Ok, Err, refl, sym, ap, subst, ◌∙◌, if◌then◌else◌}
 use Rattle.std.specs.Prelude.{MatchBool}
 use Rattle.repository.specs.declared.command.Command.{Command}
-use Rattle.repository.specs.declared.command.Command.TheVariants.{Create, Set, Unset, Get, IsSet, Class}
+use Rattle.repository.specs.declared.command.Command.TheVariants.{Create, Set, Unset, Attach, Detach, Get, IsSet, Class, AdapterTold, AdapterKept}
 use Rattle.repository.specs.State.{State}
-use Rattle.repository.specs.Step.{Outcome, Stepped, done, refusal_of, step, step_unless}
+use Rattle.notice_chain.specs.View.{View}
+use Rattle.repository.specs.Views.{Outcome, brought}
+use Rattle.repository.specs.declared.reply.Failure.{Failure}
+use Rattle.mm_types.specs.declared.refused.Refused.{Refused}
+use Rattle.handshake.specs.Plans.{is_memory_refusal}
+use Rattle.repository.specs.Step.{Stepped, done, refusal_of, step, step_unless}
 use Rattle.repository.specs.Run.{AllExecuted, Executed, IsRun, IsWanting, Ran, commands_kept, is_memory, outcomes_kept, run}
 
-pub AllExecuted-push : (cs : List Command) (os : List Outcome) (s t u : State) (c : Command) (o : Outcome) → AllExecuted s cs os t → Executed t c o u → AllExecuted s (cs ++ (c ∷ [])) (os ++ (o ∷ [])) u
+pub AllExecuted-push : (cs : List (Command View)) (os : List Outcome) (s t u : State) (c : Command View) (o : Outcome) → AllExecuted s cs os t → Executed t c o u → AllExecuted s (cs ++ (c ∷ [])) (os ++ (o ∷ [])) u
 AllExecuted-push [] [] s t u c o h x = (u, subst (λ (q : State). Executed q c o u) (sym h) x, refl)
 AllExecuted-push [] (p ∷ os) s t u c o h x = absurd h
 AllExecuted-push (d ∷ cs) [] s t u c o h x = absurd h
 AllExecuted-push (d ∷ cs) (p ∷ os) s t u c o h x = (h.0, h.1, AllExecuted-push cs os h.0 t u c o h.2 x)
 
-after-memory : (s u : State) (c : Command) (o : Outcome) → Executed s c o u → is_memory o ≡ true → s ≡ u
+after-memory : (s u : State) (c : Command View) (o : Outcome) → Executed s c o u → is_memory o ≡ true → s ≡ u
 after-memory s u c o x e =
-    let y : IsWanting s c u = subst (λ (b : Bool). MatchBool b (IsWanting s c u) (step s c ≡ record { outcome = o; after = u })) e x in
+    let y : IsWanting s c o u = subst (λ (b : Bool). MatchBool b (IsWanting s c o u) (step s c ≡ record { outcome = o; after = u })) e x in
     sym y.state
 
-stepped : (s u : State) (c : Command) (o : Outcome) → Executed s c o u → is_memory o ≡ false → step s c ≡ record { outcome = o; after = u }
-stepped s u c o x e = subst (λ (b : Bool). MatchBool b (IsWanting s c u) (step s c ≡ record { outcome = o; after = u })) e x
+stepped : (s u : State) (c : Command View) (o : Outcome) → Executed s c o u → is_memory o ≡ false → step s c ≡ record { outcome = o; after = u }
+stepped s u c o x e = subst (λ (b : Bool). MatchBool b (IsWanting s c o u) (step s c ≡ record { outcome = o; after = u })) e x
 
 -- what is done one command after another is a run
-pub run-executed : (cs : List Command) (os : List Outcome) (s t : State) → AllExecuted s cs os t → IsRun s cs os t
+pub run-executed : (cs : List (Command View)) (os : List Outcome) (s t : State) → AllExecuted s cs os t → IsRun s cs os t
 run-executed [] [] s t h = ap (λ (q : State). record { outcomes = []; after = q }) h
 run-executed [] (o ∷ os) s t h = absurd h
 run-executed (c ∷ cs) [] s t h = absurd h
@@ -38,20 +43,51 @@ run-executed (c ∷ cs) (o ∷ os) s t h =
     go (is_memory o) refl
 
 -- no command changes the metamodel
-done-metamodel : (s : State) (c : Command) → (done s c).after.model.metamodel ≡ s.model.metamodel
+done-metamodel : (s : State) (c : Command View) → (done s c).after.model.metamodel ≡ s.model.metamodel
 done-metamodel s (Create c) = refl
 done-metamodel s (Set n f v) = refl
 done-metamodel s (Unset n f) = refl
+done-metamodel s (Attach number target deep view) = refl
+done-metamodel s (Detach number) = refl
 done-metamodel s (Get n f) = refl
 done-metamodel s (IsSet n f) = refl
 done-metamodel s (Class o) = refl
+done-metamodel s (AdapterTold number) = refl
+done-metamodel s (AdapterKept number) = refl
 
-step-metamodel : (s : State) (c : Command) → (step s c).after.model.metamodel ≡ s.model.metamodel
+step-metamodel : (s : State) (c : Command View) → (step s c).after.model.metamodel ≡ s.model.metamodel
 step-metamodel s c = elim (refusal_of s c) as (λ r. (step_unless s c r).after.model.metamodel ≡ s.model.metamodel) [ Some r ↦ refl | None ↦ done-metamodel s c ]
 
-pub executed-metamodel : (s t : State) (c : Command) (o : Outcome) → Executed s c o t → t.model.metamodel ≡ s.model.metamodel
+pub executed-metamodel : (s t : State) (c : Command View) (o : Outcome) → Executed s c o t → t.model.metamodel ≡ s.model.metamodel
 executed-metamodel s t c o x =
-    elim (is_memory o) as (λ b. MatchBool b (IsWanting s c t) (step s c ≡ record { outcome = o; after = t }) → t.model.metamodel ≡ s.model.metamodel) [
+    elim (is_memory o) as (λ b. MatchBool b (IsWanting s c o t) (step s c ≡ record { outcome = o; after = t }) → t.model.metamodel ≡ s.model.metamodel) [
       | true ↦ λ y. ap (λ (u : State). u.model.metamodel) y.state
       | false ↦ λ e. sym (ap (λ (q : Stepped). q.after.model.metamodel) e) ∙ step-metamodel s c
+    ] x
+
+---------------------------------------------------------------- refusals
+
+failed : Outcome → Option (Option View)
+failed (Ok r) = None
+failed (Err f) = Some f.given_back
+
+inner : Option (Option View) → Option View
+inner None = None
+inner (Some o) = o
+
+abbrev IsFailed : Option (Option View) → Type 0
+IsFailed None = ⊥
+IsFailed (Some o) = Unit {0}
+
+step-refused : (s : State) (c : Command View) (r : Option Refused) (t : State) (f : Failure View) → step_unless s c r ≡ record { outcome = Err f; after = t } → (t ≡ s) × (f.given_back ≡ brought c)
+unfolding failed inner
+step-refused s c (Some r) t f e = (sym (ap (λ (q : Stepped). q.after) e), sym (ap (λ (q : Stepped). inner (failed q.outcome)) e))
+step-refused s c None t f e = absurd (subst IsFailed (ap (λ (q : Stepped). failed q.outcome) (sym e)) tt)
+
+pub refused-nothing : (s t : State) (c : Command View) (f : Failure View) → Executed s c (Err f) t → (t ≡ s) × (f.given_back ≡ brought c)
+unfolding failed inner
+refused-nothing s t c f x =
+    elim (is_memory_refusal f.refused) as (λ b. MatchBool b (IsWanting s c (Err f) t) (step s c ≡ record { outcome = Err f; after = t }) → (t ≡ s) × (f.given_back ≡ brought c)) [
+      | true ↦ λ y. (y.state, ap (λ (o : Outcome). inner (failed o)) y.outcome)
+      | false ↦ λ e. step-refused s c (refusal_of s c) t f e
     ] x

@@ -1,8 +1,8 @@
 pub mod State
+pub mod Views
 pub mod Refusals
 pub mod Answers
 pub mod Step
 pub mod Run
 pub mod Laws
-pub mod Views
 pub mod Repository

@@ -1,36 +1,75 @@
 -- Why a command is refused: the first condition that applies, in the order of their numbers.
-use Rattle.std.specs.Prelude.{Option, Some, None, option_and_then}
-use Rattle.mm_types.specs.Conditions.{◌else_by◌}
+use Rattle.std.specs.Prelude.{List, [], Option, Some, None, is_some}
+use Rattle.std.specs.Option.{option_map_or}
+use Rattle.mm_types.specs.Conditions.{◌unless◌, ◌where_so◌, ◌else_by◌}
+use Rattle.mm_types.specs.declared.numbers.AdapterNo.{AdapterNo}
 use Rattle.mm_types.specs.declared.refused.Refused.{Refused}
+use Rattle.mm_types.specs.declared.refused.Refused.TheVariants.{NoAdapter, AdapterFull}
+use Rattle.notice_chain.specs.View.{View}
+use Rattle.notice_chain.specs.Listed.{Listed, adapter, is_chain_full}
+use Rattle.notice_chain.specs.declared.notice.Notice.{Notice}
+use Rattle.adapter_list.specs.Refusals.{attach_refusal}
 use Rattle.models.specs.Reading.{Reading}
-use Rattle.handshake.specs.Named.{feature_refusal, object_refusal}
+use Rattle.handshake.specs.Named.{feature_refusal, node_refusal, object_refusal}
 use Rattle.handshake.specs.Refusals as planned
+use Rattle.handshake.specs.Tellings as planned_chain
 use Rattle.handshake.specs.declared.change.Change.{Change}
 use Rattle.handshake.specs.declared.change.Change.TheVariants as change
 use Rattle.repository.specs.declared.command.Command.{Command}
 use Rattle.repository.specs.declared.command.Command.TheVariants as command
 
 -- the change that a command makes of the model, if it makes one
-abbrev pub change_of : Command → Option Change
+abbrev pub change_of : Command View → Option Change
 change_of (command.Create c) = Some (change.Create c)
 change_of (command.Set n f v) = Some (change.Set n f v)
 change_of (command.Unset n f) = Some (change.Unset n f)
+change_of (command.Attach number target deep view) = None
+change_of (command.Detach number) = None
 change_of (command.Get n f) = None
 change_of (command.IsSet n f) = None
 change_of (command.Class o) = None
+change_of (command.AdapterTold number) = None
+change_of (command.AdapterKept number) = None
 
--- what is found without memory
-abbrev pub early_refusal : Reading → Command → Option Refused
-early_refusal r (command.Create c) = planned.early_refusal r (change.Create c)
-early_refusal r (command.Set n f v) = planned.early_refusal r (change.Set n f v)
-early_refusal r (command.Unset n f) = planned.early_refusal r (change.Unset n f)
-early_refusal r (command.Get n f) = feature_refusal r n f
-early_refusal r (command.IsSet n f) = feature_refusal r n f
-early_refusal r (command.Class o) = object_refusal r o
+-- the notices that its change tells
+abbrev pub chain : Reading → Command View → List Notice
+chain r c = option_map_or (planned_chain.chain r) (change_of c) []
 
--- what planning finds
-abbrev pub late_refusal : Reading → Command → Option Refused
-late_refusal r c = option_and_then (planned.late_refusal r) (change_of c)
+---------------------------------------------------------------- what is found without memory
 
-abbrev pub refusal : Reading → Command → Option Refused
-refusal r c = early_refusal r c else_by late_refusal r c
+abbrev pub adapter_refusal : List Listed → AdapterNo → Option Refused
+adapter_refusal rs number = NoAdapter unless is_some (adapter number rs)
+
+abbrev pub early_refusal : Reading → List Listed → Command View → Option Refused
+early_refusal r rs (command.Create c) = planned.early_refusal r (change.Create c)
+early_refusal r rs (command.Set n f v) = planned.early_refusal r (change.Set n f v)
+early_refusal r rs (command.Unset n f) = planned.early_refusal r (change.Unset n f)
+early_refusal r rs (command.Attach number target deep view) = node_refusal r target
+early_refusal r rs (command.Detach number) = adapter_refusal rs number
+early_refusal r rs (command.Get n f) = feature_refusal r n f
+early_refusal r rs (command.IsSet n f) = feature_refusal r n f
+early_refusal r rs (command.Class o) = object_refusal r o
+early_refusal r rs (command.AdapterTold number) = adapter_refusal rs number
+early_refusal r rs (command.AdapterKept number) = adapter_refusal rs number
+
+---------------------------------------------------------------- what is found later
+
+-- what planning finds, and what the list of adapters does
+abbrev pub late_refusal : Reading → List Listed → Command View → Option Refused
+late_refusal r rs (command.Create c) = planned.late_refusal r (change.Create c)
+late_refusal r rs (command.Set n f v) = planned.late_refusal r (change.Set n f v)
+late_refusal r rs (command.Unset n f) = planned.late_refusal r (change.Unset n f)
+late_refusal r rs (command.Attach number target deep view) = attach_refusal rs number view
+late_refusal r rs (command.Detach number) = None
+late_refusal r rs (command.Get n f) = None
+late_refusal r rs (command.IsSet n f) = None
+late_refusal r rs (command.Class o) = None
+late_refusal r rs (command.AdapterTold number) = None
+late_refusal r rs (command.AdapterKept number) = None
+
+-- an adapter that hears of it can't count on
+abbrev pub full_refusal : Reading → List Listed → Command View → Option Refused
+full_refusal r rs c = AdapterFull where_so is_chain_full (chain r c) rs
+
+abbrev pub refusal : Reading → List Listed → Command View → Option Refused
+refusal r rs c = early_refusal r rs c else_by late_refusal r rs c else_by full_refusal r rs c

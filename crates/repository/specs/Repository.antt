@@ -7,10 +7,10 @@ use Rattle.models.specs.Model.{model_of}
 use Rattle.repository.specs.State.{State, IsLegal}
 use Rattle.repository.specs.declared.repository.Repository.TheInside.{Inside}
 
-abbrev pub state : Inside → State
-state r = record { model = model_of r.meta (values_of r.values) }
+abbrev pub state : {A : Type 0} → Inside A → State
+state r = record { model = model_of r.meta (values_of r.values); adapters = r.adapters.0 }
 
-abbrev pub IsLegalInside : Inside → Type 0
+abbrev pub IsLegalInside : {A : Type 0} → Inside A → Type 0
 IsLegalInside r = IsLegal (state r)
 
 -- what an object holds, as data

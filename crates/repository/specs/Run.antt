@@ -1,14 +1,16 @@
 -- What lists of commands do, and when a command may be answered out of memory.
-use Rattle.std.specs.Prelude.{◌≡◌, ◌&&◌, Bool, true, false, not, IsTrue, List, [], ◌∷◌, MatchBool, Result, Ok, Err, if◌then◌else◌}
+use Rattle.std.specs.Prelude.{◌≡◌, ◌&&◌, Bool, true, false, not, IsTrue, List, [], ◌∷◌, None, MatchBool, Result, Ok, Err, if◌then◌else◌}
 use Rattle.std.specs.Option.{option_map_or}
 use Rattle.mm_types.specs.declared.refused.Refused.{Refused}
-use Rattle.mm_types.specs.declared.refused.Refused.TheVariants.{NoObject, NoResource, NoClass, Abstract, NoFeature, NotSingle, NotMany, NoAdapter, AdapterTaken}
+use Rattle.mm_types.specs.declared.refused.Refused.TheVariants.{NoObject, NoResource, NoClass, Abstract, NoFeature, NotSingle, NotMany, NoAdapter, AdapterTaken, Memory}
+use Rattle.notice_chain.specs.View.{View}
 use Rattle.repository.specs.declared.command.Command.{Command}
 use Rattle.repository.specs.declared.command.Command.TheVariants as command
 use Rattle.repository.specs.declared.reply.Answer.{Answer}
 use Rattle.repository.specs.declared.reply.Reply.{Reply}
 use Rattle.repository.specs.State.{State}
-use Rattle.repository.specs.Step.{Outcome, refusal_of, step}
+use Rattle.repository.specs.Views.{Outcome}
+use Rattle.repository.specs.Step.{failure, refusal_of, step}
 use Rattle.handshake.specs.Plans.{is_memory_refusal}
 
 -- an outcome is out of memory
@@ -30,38 +32,43 @@ is_plain AdapterTaken = true
 is_plain _ = false
 
 -- a command makes or copies something, and so takes memory
-abbrev pub takes_memory : Command → Bool
+abbrev pub takes_memory : Command View → Bool
 takes_memory (command.Create c) = true
 takes_memory (command.Set n f v) = true
 takes_memory (command.Unset n f) = true
+takes_memory (command.Attach number target deep view) = true
+takes_memory (command.Detach number) = true
 takes_memory (command.Get n f) = true
 takes_memory (command.IsSet n f) = false
 takes_memory (command.Class o) = false
+takes_memory (command.AdapterTold number) = false
+takes_memory (command.AdapterKept number) = false
 
 -- a command may be answered out of memory: it takes memory, and no refusal applies that is found without
-abbrev pub may_want_memory : State → Command → Bool
+abbrev pub may_want_memory : State → Command View → Bool
 may_want_memory s c = takes_memory c && not (option_map_or is_plain (refusal_of s c) false)
 
--- a command is answered out of memory, and then nothing changes
-pub record IsWanting (s : State) (c : Command) (t : State) : Type 0 where
+-- a command is answered out of memory: then nothing changes, no adapter has heard anything, and what it brought comes back
+pub record IsWanting (s : State) (c : Command View) (o : Outcome) (t : State) : Type 0 where
   pub may : IsTrue (may_want_memory s c)
+  pub outcome : o ≡ Err (failure c Memory)
   pub state : t ≡ s
 
--- the outcome of a change, and of a read
-abbrev pub change_outcome : Result Reply Refused → Outcome
+-- the outcome of a command that brings no adapter, and of a read
+abbrev pub change_outcome : Result (Reply View) Refused → Outcome
 change_outcome (Ok r) = Ok r
-change_outcome (Err r) = Err (record { refused = r })
+change_outcome (Err r) = Err (record { refused = r; given_back = None })
 
 abbrev pub read_outcome : {X : Type 0} → (X → Answer) → Result X Refused → Outcome
-read_outcome f (Ok x) = Ok (record { answer = f x })
-read_outcome f (Err r) = Err (record { refused = r })
+read_outcome f (Ok x) = Ok (record { answer = f x; told = []; released = [] })
+read_outcome f (Err r) = Err (record { refused = r; given_back = None })
 
 -- a command was done: its outcome and the state after it are the step's, or it is answered out of memory
-abbrev pub Executed : State → Command → Outcome → State → Type 0
-Executed s c o t = MatchBool (is_memory o) (IsWanting s c t) (step s c ≡ record { outcome = o; after = t })
+abbrev pub Executed : State → Command View → Outcome → State → Type 0
+Executed s c o t = MatchBool (is_memory o) (IsWanting s c o t) (step s c ≡ record { outcome = o; after = t })
 
 -- each command of a list was done in the state that the one before it left
-abbrev pub AllExecuted : State → List Command → List Outcome → State → Type 0
+abbrev pub AllExecuted : State → List (Command View) → List Outcome → State → Type 0
 AllExecuted s [] [] t = s ≡ t
 AllExecuted s [] (o ∷ os) t = ⊥
 AllExecuted s (c ∷ cs) [] t = ⊥
@@ -73,7 +80,7 @@ pub record Ran : Type 0 where
   pub after : State
 
 -- one step after another
-abbrev pub run : State → List Command → Ran
+abbrev pub run : State → List (Command View) → Ran
 run s [] = record { outcomes = []; after = s }
 run s (c ∷ cs) =
     let one = step s c in
@@ -85,11 +92,11 @@ abbrev pub outcomes_kept : List Outcome → List Outcome
 outcomes_kept [] = []
 outcomes_kept (o ∷ os) = if is_memory o then outcomes_kept os else o ∷ outcomes_kept os
 
-abbrev pub commands_kept : List Command → List Outcome → List Command
+abbrev pub commands_kept : List (Command View) → List Outcome → List (Command View)
 commands_kept cs [] = []
 commands_kept [] (o ∷ os) = []
 commands_kept (c ∷ cs) (o ∷ os) = if is_memory o then commands_kept cs os else c ∷ commands_kept cs os
 
 -- the outcomes but those out of memory are those of a run of the commands that had them, and so is the state after it
-abbrev pub IsRun : State → List Command → List Outcome → State → Type 0
+abbrev pub IsRun : State → List (Command View) → List Outcome → State → Type 0
 IsRun s cs os t = run s (commands_kept cs os) ≡ record { outcomes = outcomes_kept os; after = t }

@@ -1,45 +1,97 @@
 -- What a command does: its reply and the state after it.
-use Rattle.std.specs.Prelude.{Option, Some, None, Result, Ok, Err}
+use Rattle.std.specs.Prelude.{true, Bool, false, List, [], ◌∷◌, ◌++◌, Option, Some, None, Ok, Err}
 use Rattle.std.specs.Option.{option_map_or}
+use Rattle.mm_types.specs.declared.numbers.AdapterNo.{AdapterNo}
 use Rattle.mm_types.specs.declared.refused.Refused.{Refused}
+use Rattle.notice_chain.specs.View.{View}
+use Rattle.notice_chain.specs.Listed.{Listed, has_no, tell_chain, told_list}
+use Rattle.notice_chain.specs.Released.{Released, released}
 use Rattle.models.specs.Model.{Model}
+use Rattle.models.specs.Reading.{Reading}
 use Rattle.handshake.specs.Effects as effects
 use Rattle.repository.specs.declared.command.Command.{Command}
+use Rattle.repository.specs.declared.command.Command.TheVariants as command
 use Rattle.repository.specs.declared.reply.Reply.{Reply}
 use Rattle.repository.specs.declared.reply.Failure.{Failure}
 use Rattle.repository.specs.State.{State, reads}
-use Rattle.repository.specs.Refusals.{change_of, refusal}
+use Rattle.repository.specs.Views.{Outcome, brought}
+use Rattle.repository.specs.Refusals.{chain, change_of, refusal}
 use Rattle.repository.specs.Answers.{answer_of}
-
-abbrev pub Outcome : Type 0
-Outcome = Result Reply Failure
 
 -- what a command gives, and the state after it
 pub record Stepped : Type 0 where
   pub outcome : Outcome
   pub after : State
 
--- a refused command leaves the state as it was
-abbrev pub refused : State → Refused → Stepped
-refused s r = record { outcome = Err (record { refused = r }); after = s }
+-- a refused command leaves the state as it was, and gives back what it brought
+abbrev pub failure : Command View → Refused → Failure View
+failure c r = record { refused = r; given_back = brought c }
 
-abbrev pub model_after : Model → Command → Model
+abbrev pub refused : State → Command View → Refused → Stepped
+refused s c r = record { outcome = Err (failure c r); after = s }
+
+-- whether a command releases an adapter
+abbrev pub leaves : Command View → Listed → Bool
+leaves (command.Create c) a = false
+leaves (command.Set n f v) a = false
+leaves (command.Unset n f) a = false
+leaves (command.Attach number target deep view) a = false
+leaves (command.Detach number) a = has_no number a
+leaves (command.Get n f) a = false
+leaves (command.IsSet n f) a = false
+leaves (command.Class o) a = false
+leaves (command.AdapterTold number) a = false
+leaves (command.AdapterKept number) a = false
+
+-- the adapter that it attaches
+abbrev pub joins : Command View → List Listed
+joins (command.Create c) = []
+joins (command.Set n f v) = []
+joins (command.Unset n f) = []
+joins (command.Attach number target deep view) = record { no = number; target = target; deep = deep; view = view } ∷ []
+joins (command.Detach number) = []
+joins (command.Get n f) = []
+joins (command.IsSet n f) = []
+joins (command.Class o) = []
+joins (command.AdapterTold number) = []
+joins (command.AdapterKept number) = []
+
+-- the chain is told to those that hear it, and then those that leave are told their last notice
+abbrev pub releases : Reading → List Listed → Command View → Released
+releases r rs c = released (leaves c) (tell_chain (chain r c) rs)
+
+abbrev pub reply : Reading → List Listed → Command View → Reply View
+reply r rs c =
+    record {
+      answer = answer_of r rs c;
+      told = told_list (chain r c) rs ++ (releases r rs c).told;
+      released = (releases r rs c).views;
+    }
+
+abbrev pub adapters_after : Reading → List Listed → Command View → List Listed
+adapters_after r rs c = (releases r rs c).others ++ joins c
+
+abbrev pub model_after : Model → Command View → Model
 model_after s c = option_map_or (effects.after s) (change_of c) s
 
-abbrev pub done : State → Command → Stepped
+abbrev pub done : State → Command View → Stepped
 done s c =
     record {
-      outcome = Ok (record { answer = answer_of (reads s) c });
-      after = record { model = model_after s.model c };
+      outcome = Ok (reply (reads s) s.adapters c);
+      after = record { model = model_after s.model c; adapters = adapters_after (reads s) s.adapters c };
     }
 
 -- the first refusal that applies, if one does
-abbrev pub refusal_of : State → Command → Option Refused
-refusal_of s c = refusal (reads s) c
+abbrev pub refusal_of : State → Command View → Option Refused
+refusal_of s c = refusal (reads s) s.adapters c
 
-abbrev pub step_unless : State → Command → Option Refused → Stepped
-step_unless s c (Some r) = refused s r
+abbrev pub step_unless : State → Command View → Option Refused → Stepped
+step_unless s c (Some r) = refused s c r
 step_unless s c None = done s c
 
-abbrev pub step : State → Command → Stepped
+abbrev pub step : State → Command View → Stepped
 step s c = step_unless s c (refusal_of s c)
+
+-- closing releases all adapters: each number with its view after its last notice
+abbrev pub closed : State → List (AdapterNo × View)
+closed s = (released (λ a. true) s.adapters).views

@@ -1,11 +1,61 @@
--- Changes as commands.
+-- Commands and outcomes with views in the place of adapters: of an adapter only what it has heard is determined.
+use Rattle.std.specs.Prelude.{map, Option, Some, None, Result, Ok, Err, option_map}
 use Rattle.handshake.specs.declared.change.Change.{Change}
 use Rattle.handshake.specs.declared.change.Change.TheVariants as change
+use Rattle.mm_types.specs.declared.refused.Refused.{Refused}
+use Rattle.notice_chain.specs.View.{View}
 use Rattle.repository.specs.declared.command.Command.{Command}
 use Rattle.repository.specs.declared.command.Command.TheVariants as command
+use Rattle.repository.specs.declared.reply.Reply.{Reply}
+use Rattle.repository.specs.declared.reply.Failure.{Failure}
+
+-- what a command gives
+abbrev pub Outcome : Type 0
+Outcome = Result (Reply View) (Failure View)
 
 -- the command that asks for a change
-abbrev pub command_of : Change → Command
+abbrev pub command_of : {A : Type 0} → Change → Command A
 command_of (change.Create c) = command.Create c
 command_of (change.Set n f v) = command.Set n f v
 command_of (change.Unset n f) = command.Unset n f
+
+-- the adapter that a command brings
+abbrev pub brought : {A : Type 0} → Command A → Option A
+brought (command.Create c) = None
+brought (command.Set n f v) = None
+brought (command.Unset n f) = None
+brought (command.Attach number target deep adapter) = Some adapter
+brought (command.Detach number) = None
+brought (command.Get n f) = None
+brought (command.IsSet n f) = None
+brought (command.Class o) = None
+brought (command.AdapterTold number) = None
+brought (command.AdapterKept number) = None
+
+module _ {A : Type 0} (heard : A → View) where
+  abbrev pub command_view : Command A → Command View
+  command_view (command.Create c) = command.Create c
+  command_view (command.Set n f v) = command.Set n f v
+  command_view (command.Unset n f) = command.Unset n f
+  command_view (command.Attach number target deep adapter) = command.Attach number target deep (heard adapter)
+  command_view (command.Detach number) = command.Detach number
+  command_view (command.Get n f) = command.Get n f
+  command_view (command.IsSet n f) = command.IsSet n f
+  command_view (command.Class o) = command.Class o
+  command_view (command.AdapterTold number) = command.AdapterTold number
+  command_view (command.AdapterKept number) = command.AdapterKept number
+
+  abbrev pub reply_view : Reply A → Reply View
+  reply_view r = record { answer = r.answer; told = r.told; released = map (λ b. (b.0, heard b.1)) r.released }
+
+  abbrev pub failure_view : Failure A → Failure View
+  failure_view f = record { refused = f.refused; given_back = option_map heard f.given_back }
+
+  abbrev pub outcome_view : Result (Reply A) (Failure A) → Outcome
+  outcome_view (Ok r) = Ok (reply_view r)
+  outcome_view (Err f) = Err (failure_view f)
+
+  -- a reply or its refusal, of a command that brings no adapter
+  abbrev pub changed_view : Result (Reply A) Refused → Result (Reply View) Refused
+  changed_view (Ok r) = Ok (reply_view r)
+  changed_view (Err r) = Err r

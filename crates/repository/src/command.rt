@@ -1,10 +1,10 @@
 //! The calls of a repository, as values.
-
-use mm_types::{ClassNo, FeatureNo, Node, ObjectNo, Value};
+use adapters::Adapter;
+use mm_types::{AdapterNo, ClassNo, FeatureNo, Node, ObjectNo, Value};
 
 /// A call of the repository, as a value.
-#[derive(Debug, Drop)]
-pub enum Command {
+#[derive(Drop)]
+pub enum Command<A = Box<dyn Adapter>> {
     /// Makes an object of a class (EMF: EFactory.create; MOF 2.5.1: Reflection, Factory.create).
     Create(ClassNo),
     /// Sets a feature of one value (EMF: EObject.eSet; MOF 2.5.1: Reflection, Object.set).
@@ -18,6 +18,16 @@ pub enum Command {
         node: Node,
         feature: FeatureNo,
     },
+    /// Attaches an adapter to a node, last in attach order (EMF: Notifier.eAdapters().add). A deep one is also notified of what
+    /// happens below the node (EMF: EContentAdapter).
+    Attach {
+        no: AdapterNo,
+        target: Node,
+        deep: bool,
+        adapter: A,
+    },
+    /// Detaches an adapter, and gives it back with its last notice told (EMF: Notifier.eAdapters().remove).
+    Detach(AdapterNo),
     /// Asks for what a feature has (EMF: EObject.eGet; MOF 2.5.1: Reflection, Object.get).
     Get {
         node: Node,
@@ -30,4 +40,8 @@ pub enum Command {
     },
     /// Asks for the class of an object (EMF: EObject.eClass; MOF 2.5.1: Reflection, Element.getMetaClass).
     Class(ObjectNo),
+    /// Asks how many notices an adapter was told.
+    AdapterTold(AdapterNo),
+    /// Asks how many notices an adapter keeps.
+    AdapterKept(AdapterNo),
 }

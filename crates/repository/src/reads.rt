@@ -1,124 +1,75 @@
-//! What features have, and the reads as replies.
-ghost use Rattle.std.specs.Prelude.{◌≡◌, IfOk, IfErr, unwrap_or, option_copied};
-ghost use Rattle.mm_types.specs.Same.{same_value};
-ghost use Rattle.mm_types.specs.declared.refused.Refused.TheVariants.{Memory};
-ghost use Rattle.mm_types.specs.declared.value.Value.TheVariants.{Null};
-ghost use Rattle.mm_values.specs.Room.{values_of};
-ghost use Rattle.models.specs.Model.{kept_flag, kept_values, model_of, reading};
-ghost use Rattle.models.specs.Reading as r;
-ghost use Rattle.models.specs.Reading.{at_end};
-ghost use Rattle.repository.specs.Answers as a;
+//! Replies and refusals of commands that bring no adapter.
+ghost use Rattle.std.specs.Prelude.{◌≡◌, []};
+ghost use Rattle.notice_chain.specs.View.{View};
 ghost use Rattle.repository.specs.Run.{change_outcome, read_outcome};
+ghost use Rattle.repository.specs.Views.{changed_view, outcome_view};
 ghost use Rattle.repository.specs.declared.reply.Answer.TheVariants as answer;
 
-use crate::reply::{Answer, Reply};
-use handshake::{is_single, is_unsettable};
-use mm_meta::Meta;
-use mm_types::{ClassNo, FeatureNo, Node, Refused, Value};
-use mm_values::Values;
+use crate::reply::{Answer, Failure, Reply};
+use mm_types::{ClassNo, Refused, Seq, Value};
+use std::alloc::Global;
 
-/// The values that a node keeps under an attribute.
-fn kept_list(values: &Values, node: Node, feature: FeatureNo) -> &[Value]
-    ensures { result.now ≡ kept_values (values_of values.now) node feature }
+/// An answer, as the reply of a command that notifies nobody. Takes no memory.
+pub(crate) fn reply<A>(alloc: Global, answer: Answer) -> Reply<A>
+    ensures { result ≡ record { answer = answer; told = []; released = [] } }
 {
-    match node {
-        Node::Object(object) => values.list(object, feature).unwrap_or(&[]),
-        Node::Resource(_) => &[],
-    }
-}
-
-fn flag_at(values: &Values, node: Node, feature: FeatureNo) -> bool
-    ensures { result ≡ kept_flag (values_of values.now) node feature }
-{
-    match node {
-        Node::Object(object) => values.flag(object, feature).unwrap_or(false),
-        Node::Resource(_) => false,
-    }
-}
-
-/// The value that a feature of one value has: what was set, else its default. `None` stands for null.
-#[tactic(auto, using(crate::proofs::ReadLemmas::value_in_shown))]
-pub(crate) fn value_at<'a>(
-    meta: &'a Meta,
-    values: &'a Values,
-    node: Node,
-    feature: FeatureNo,
-) -> Option<&'a Value>
-    ensures { unwrap_or (option_copied result) Null ≡ a.value_at (reading (model_of meta.now (values_of values.now))) (at_end node feature) }
-{
-    match kept_list(values, node, feature).first() {
-        Some(value) => Some(value),
-        None if is_single(meta, feature) => meta.default(feature),
-        None => None,
-    }
-}
-
-/// Whether a feature of a node is set.
-#[tactic(auto, using(crate::proofs::ReadLemmas::is_nil_shown))]
-pub(crate) fn is_set_at(meta: &Meta, values: &Values, node: Node, feature: FeatureNo) -> bool
-    ensures { result ≡ r.is_set (reading (model_of meta.now (values_of values.now))) (at_end node feature) }
-{
-    if !is_single(meta, feature) {
-        return !kept_list(values, node, feature).is_empty();
-    }
-    if is_unsettable(meta, feature) {
-        return flag_at(values, node, feature);
-    }
-    let value = value_at(meta, values, node, feature).unwrap_or(&Value::Null);
-    let default = meta.default(feature).unwrap_or(&Value::Null);
-    !is_same(value, default)
-}
-
-fn is_same(a: &Value, b: &Value) -> bool
-    ensures { result ≡ same_value a.now b.now }
-{
-    match (a, b) {
-        (Value::Null, Value::Null) => true,
-        (Value::Bool(a), Value::Bool(b)) => a == b,
-        (Value::Int(a), Value::Int(b)) => a == b,
-        (Value::Text(a), Value::Text(b)) => a.as_str() == b.as_str(),
-        (Value::Literal(a), Value::Literal(b)) => a == b,
-        (Value::Object(a), Value::Object(b)) => a.0 == b.0,
-        (Value::Proxy(a), Value::Proxy(b)) => a.as_str() == b.as_str(),
-        (Value::Adapter(a), Value::Adapter(b)) => a.0 == b.0,
-        _ => false,
-    }
-}
-
-/// A copy of a value; `None` stands for null.
-pub(crate) fn copied(value: Option<&Value>) -> Result<Value, Refused>
-    ensures ok { IfOk result (λ w. w ≡ unwrap_or (option_copied value.entry) Null) }
-    ensures memory { IfErr result (λ r. r ≡ Memory) }
-{
-    let Some(value) = value else {
-        return Ok(Value::Null);
-    };
-    match value.clone() {
-        Ok(value) => Ok(value),
-        Err(_) => Err(Refused::Memory),
+    Reply {
+        answer,
+        told: Seq::new(alloc),
+        released: Seq::new(alloc),
     }
 }
 
 /// A read's value, as a reply.
-pub(crate) fn replied(read: Result<Value, Refused>) -> Result<Reply, Refused>
-    ensures { change_outcome result ≡ read_outcome answer.Value read }
+pub(crate) fn replied<A>(alloc: Global, read: Result<Value, Refused>) -> Result<Reply<A>, Refused>
+    ensures { (heard : A → View) → change_outcome (changed_view heard result) ≡ read_outcome answer.Value read }
 {
-    let answer = Answer::Value(read?);
-    Ok(Reply { answer })
+    let value = read?;
+    Ok(reply(alloc, Answer::Value(value)))
 }
 
 /// Whether a feature was answered to be set, as a reply.
-pub(crate) fn replied_flag(read: Result<bool, Refused>) -> Result<Reply, Refused>
-    ensures { change_outcome result ≡ read_outcome answer.Flag read }
+pub(crate) fn replied_flag<A>(
+    alloc: Global,
+    read: Result<bool, Refused>,
+) -> Result<Reply<A>, Refused>
+    ensures { (heard : A → View) → change_outcome (changed_view heard result) ≡ read_outcome answer.Flag read }
 {
-    let answer = Answer::Flag(read?);
-    Ok(Reply { answer })
+    let flag = read?;
+    Ok(reply(alloc, Answer::Flag(flag)))
 }
 
 /// The class of an object, as a reply.
-pub(crate) fn replied_class(read: Result<ClassNo, Refused>) -> Result<Reply, Refused>
-    ensures { change_outcome result ≡ read_outcome answer.Class read }
+pub(crate) fn replied_class<A>(
+    alloc: Global,
+    read: Result<ClassNo, Refused>,
+) -> Result<Reply<A>, Refused>
+    ensures { (heard : A → View) → change_outcome (changed_view heard result) ≡ read_outcome answer.Class read }
 {
-    let answer = Answer::Class(read?);
-    Ok(Reply { answer })
+    let class = read?;
+    Ok(reply(alloc, Answer::Class(class)))
+}
+
+/// What is counted of an adapter, as a reply.
+pub(crate) fn replied_count<A>(
+    alloc: Global,
+    read: Result<u64, Refused>,
+) -> Result<Reply<A>, Refused>
+    ensures { (heard : A → View) → change_outcome (changed_view heard result) ≡ read_outcome answer.Count read }
+{
+    let count = read?;
+    Ok(reply(alloc, Answer::Count(count)))
+}
+
+/// The outcome of a command that brings no adapter.
+pub(crate) fn outcome<A>(found: Result<Reply<A>, Refused>) -> Result<Reply<A>, Failure<A>>
+    ensures { (heard : A → View) → outcome_view heard result ≡ change_outcome (changed_view heard found) }
+{
+    match found {
+        Ok(reply) => Ok(reply),
+        Err(refused) => Err(Failure {
+            refused,
+            given_back: None,
+        }),
+    }
 }

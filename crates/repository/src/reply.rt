@@ -1,6 +1,7 @@
 //! What a command gives.
-
-use mm_types::{ClassNo, ObjectNo, Refused, Value};
+use adapters::Adapter;
+use mm_types::{AdapterNo, ClassNo, ObjectNo, Refused, Seq, Value};
+use notice_chain::Notice;
 
 /// What a command that is done answers.
 #[derive(Debug, Drop)]
@@ -15,16 +16,24 @@ pub enum Answer {
     Flag(bool),
     /// The class of an object.
     Class(ClassNo),
+    /// How many notices an adapter was told, or keeps.
+    Count(u64),
 }
 
 /// What a command that is done gives.
-#[derive(Debug, Drop)]
-pub struct Reply {
+#[derive(Drop)]
+pub struct Reply<A = Box<dyn Adapter>> {
     pub answer: Answer,
+    /// Which adapter was notified of what, in order.
+    pub told: Seq<(AdapterNo, Notice)>,
+    /// The adapters that are attached no more, each with its number.
+    pub released: Seq<(AdapterNo, A)>,
 }
 
 /// What a command that is refused gives.
-#[derive(Clone, Copy, Debug, PartialEq, Eq)]
-pub struct Failure {
+#[derive(Drop)]
+pub struct Failure<A = Box<dyn Adapter>> {
     pub refused: Refused,
+    /// The adapter that the command brought, which has heard what it had heard.
+    pub given_back: Option<A>,
 }

@@ -1,9 +1,9 @@
 -- What a line asks for: its first word says what is done, the others to what.
-use Rattle.std.specs.Prelude.{ℕ, List, [], ◌∷◌, Option, Some, None, option_map, codes, if◌then◌else◌}
+use Rattle.std.specs.Prelude.{ℕ, Bool, true, false, List, [], ◌∷◌, Option, Some, None, option_map, codes, if◌then◌else◌}
 use Rattle.std.specs.Option.{option_zip}
 use Rattle.std.specs.Str.{bytes_eq, is_utf8}
 use Rattle.script_lines.specs.Words.{words}
-use Rattle.script_lines.specs.Values.{feature_in, name_in, object_in, value_in}
+use Rattle.script_lines.specs.Values.{adapter_in, feature_in, name_in, node_in, object_in, value_in}
 use Rattle.script_lines.specs.declared.form.Form.{Form}
 use Rattle.script_lines.specs.declared.form.Form.TheVariants as asks
 use Rattle.script_lines.specs.declared.line.Line.{Line}
@@ -16,6 +16,14 @@ new_form c = option_map asks.New (name_in c)
 -- `class OBJ`
 abbrev pub class_form : List ℕ → Option Form
 class_form o = option_map asks.Class (object_in o)
+
+-- `detach AD`
+abbrev pub detach_form : List ℕ → Option Form
+detach_form a = option_map asks.Detach (adapter_in a)
+
+-- `seen AD`
+abbrev pub seen_form : List ℕ → Option Form
+seen_form a = option_map asks.Seen (adapter_in a)
 
 -- `get NODE NAME`
 abbrev pub get_form : List ℕ → List ℕ → Option Form
@@ -33,11 +41,21 @@ unset_form n f = option_map (λ p. asks.Unset p.0 p.1) (feature_in n f)
 abbrev pub set_form : List ℕ → List ℕ → List ℕ → Option Form
 set_form n f v = option_map (λ p. asks.Set p.0.0 p.0.1 p.1) (option_zip (feature_in n f) (value_in v))
 
+-- whether an adapter is deep: `flat` or `deep`
+abbrev pub depth_in : List ℕ → Option Bool
+depth_in w = if bytes_eq w (codes "flat") then Some false else if bytes_eq w (codes "deep") then Some true else None
+
+-- `attach AD NODE flat` or `attach AD NODE deep`
+abbrev pub attach_form : List ℕ → List ℕ → List ℕ → Option Form
+attach_form a n d = option_map (λ p. asks.Attach p.0.0 p.0.1 p.1) (option_zip (option_zip (adapter_in a) (node_in n)) (depth_in d))
+
 -- the forms of a verb and one argument
 abbrev pub with_one : List ℕ → List ℕ → Option Form
 with_one verb a =
     if bytes_eq verb (codes "new") then new_form a
     else if bytes_eq verb (codes "class") then class_form a
+    else if bytes_eq verb (codes "detach") then detach_form a
+    else if bytes_eq verb (codes "seen") then seen_form a
     else None
 
 -- the forms of a verb and two arguments
@@ -50,7 +68,10 @@ with_two verb a b =
 
 -- the forms of a verb and three arguments
 abbrev pub with_three : List ℕ → List ℕ → List ℕ → List ℕ → Option Form
-with_three verb a b c = if bytes_eq verb (codes "set") then set_form a b c else None
+with_three verb a b c =
+    if bytes_eq verb (codes "set") then set_form a b c
+    else if bytes_eq verb (codes "attach") then attach_form a b c
+    else None
 
 -- the form of a verb and its arguments
 abbrev pub form_of : List (List ℕ) → Option Form

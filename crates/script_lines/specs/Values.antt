@@ -1,4 +1,4 @@
--- What single words write: names, nodes and values.
+-- What single words write: names, nodes, adapters and values.
 use Rattle.std.specs.Prelude.{ℕ, ◌==◌, ◌&&◌, ◌-◌, Bool, true, false, nat_le, not, List, [], ◌∷◌, length, slice_index, Option, Some, None, option_map, option_and_then, codes, if◌then◌else◌}
 use Rattle.std.specs.Option.{option_zip}
 use Rattle.std.specs.Str.{bytes_eq, is_utf8}
@@ -6,11 +6,12 @@ use Rattle.serde_json.specs.Read.{read}
 use Rattle.serde_json.specs.Find.{as_str}
 use Rattle.mm_types.specs.Integers.{integer, natural}
 use Rattle.mm_types.specs.Names.{is_name}
+use Rattle.mm_types.specs.declared.numbers.AdapterNo.{AdapterNo}
 use Rattle.mm_types.specs.declared.numbers.ObjectNo.{ObjectNo}
 use Rattle.mm_types.specs.declared.numbers.ResourceNo.{ResourceNo}
 use Rattle.mm_types.specs.declared.numbers.Node.{Node}
 use Rattle.mm_types.specs.declared.numbers.Node.TheVariants as node
-use Rattle.script_lines.specs.declared.grammar.TheConstants.{BACKSLASH, LITERAL_MARK, OBJECT_MARK, QUOTE, RESOURCE_MARK, SPACE}
+use Rattle.script_lines.specs.declared.grammar.TheConstants.{ADAPTER_MARK, BACKSLASH, LITERAL_MARK, OBJECT_MARK, QUOTE, RESOURCE_MARK, SPACE}
 use Rattle.script_lines.specs.declared.written_value.WrittenValue.{WrittenValue}
 use Rattle.script_lines.specs.declared.written_value.WrittenValue.TheVariants as written
 
@@ -19,6 +20,9 @@ object n = record { 0 = n }
 
 abbrev pub resource : ℕ → ResourceNo
 resource n = record { 0 = n }
+
+abbrev pub adapter : ℕ → AdapterNo
+adapter n = record { 0 = n }
 
 abbrev pub name_in : List ℕ → Option (List ℕ)
 name_in w = if is_name w then Some w else None
@@ -31,10 +35,18 @@ text_in w = if slice_index w (length w - 1) == QUOTE && is_utf8 w then option_an
 abbrev pub is_plain : ℕ → Bool
 is_plain c = nat_le SPACE c && (not (c == QUOTE) && not (c == BACKSLASH))
 
+-- a mark, and a number behind it
+abbrev pub number_in : ℕ → List ℕ → Option ℕ
+number_in mark [] = None
+number_in mark (c ∷ cs) = if c == mark then natural cs else None
+
 -- `#3`
 abbrev pub object_in : List ℕ → Option ObjectNo
-object_in [] = None
-object_in (c ∷ cs) = if c == OBJECT_MARK then option_map object (natural cs) else None
+object_in w = option_map object (number_in OBJECT_MARK w)
+
+-- `A7`
+abbrev pub adapter_in : List ℕ → Option AdapterNo
+adapter_in w = option_map adapter (number_in ADAPTER_MARK w)
 
 -- `#3`, an object, or `r0`, a resource
 abbrev pub node_in : List ℕ → Option Node

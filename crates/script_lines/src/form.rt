@@ -1,7 +1,7 @@
 //! What a line asks for.
 use crate::name::Name;
 use crate::written_value::WrittenValue;
-use mm_types::{Node, ObjectNo};
+use mm_types::{AdapterNo, Node, ObjectNo};
 
 /// What a line asks for. Classes and features are given by the names that stand in the line.
 #[derive(Drop)]
@@ -21,6 +21,14 @@ pub enum Form<'a> {
         node: Node,
         feature: Name<'a>,
     },
+    /// An adapter attached to a node. A deep one is also notified of what happens below the node (EMF: Notifier.eAdapters().add).
+    Attach {
+        no: AdapterNo,
+        target: Node,
+        deep: bool,
+    },
+    /// An adapter detached (EMF: Notifier.eAdapters().remove).
+    Detach(AdapterNo),
     /// Whether a feature is set (EMF: EObject.eIsSet).
     IsSet {
         node: Node,
@@ -33,4 +41,6 @@ pub enum Form<'a> {
         node: Node,
         feature: Name<'a>,
     },
+    /// How many notices an adapter was told, and how many of them it keeps.
+    Seen(AdapterNo),
 }

@@ -6,6 +6,9 @@ pub const OBJECT_MARK: u8 = b'#';
 /// Stands before the number of a resource: `r0`.
 pub const RESOURCE_MARK: u8 = b'r';
 
+/// Stands before the number of an adapter: `A7`.
+pub const ADAPTER_MARK: u8 = b'A';
+
 /// Stands before the name of a literal: `:NOVEL`.
 pub const LITERAL_MARK: u8 = b':';
 

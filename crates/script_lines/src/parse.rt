@@ -1,11 +1,11 @@
 //! What a line asks for: its words, and the form that they fit.
 ghost use Rattle.std.specs.Prelude.{◌≡◌, IfOk, map};
-ghost use Rattle.script_lines.specs.Forms.{class_form, form, form_of as the_form_of, get_form, isset_form, line_of as the_line_of, new_form, set_form, unset_form, with_one, with_three, with_two};
+ghost use Rattle.script_lines.specs.Forms.{attach_form, class_form, depth_in, detach_form, form, form_of as the_form_of, get_form, isset_form, line_of as the_line_of, new_form, seen_form, set_form, unset_form, with_one, with_three, with_two};
 
 use crate::form::Form;
 use crate::line::Line;
 use crate::name::Name;
-use crate::values::{feature_of, object_of, value_of};
+use crate::values::{adapter_of, feature_of, node_of, object_of, value_of};
 use crate::words::words_of;
 use std::alloc::{AllocError, Global};
 use std::str;
@@ -22,6 +22,20 @@ fn class_of(object: &str) -> Option<Form<'static>>
     ensures { result ≡ class_form object.now }
 {
     Some(Form::Class(object_of(object)?))
+}
+
+/// `detach AD`
+fn detach_of(adapter: &str) -> Option<Form<'static>>
+    ensures { result ≡ detach_form adapter.now }
+{
+    Some(Form::Detach(adapter_of(adapter)?))
+}
+
+/// `seen AD`
+fn seen_of(adapter: &str) -> Option<Form<'static>>
+    ensures { result ≡ seen_form adapter.now }
+{
+    Some(Form::Seen(adapter_of(adapter)?))
 }
 
 /// `get NODE NAME`
@@ -67,6 +81,29 @@ fn set_of<'a>(
     }))
 }
 
+/// Whether an adapter is deep, as a word says it: `flat` or `deep`.
+fn depth_of(word: &str) -> Option<bool>
+    ensures { result ≡ depth_in word.now }
+{
+    if word == "flat" {
+        Some(false)
+    } else if word == "deep" {
+        Some(true)
+    } else {
+        None
+    }
+}
+
+/// `attach AD NODE flat` or `attach AD NODE deep`
+fn attach_of(adapter: &str, target: &str, depth: &str) -> Option<Form<'static>>
+    ensures { result ≡ attach_form adapter.now target.now depth.now }
+{
+    let no = adapter_of(adapter)?;
+    let target = node_of(target)?;
+    let deep = depth_of(depth)?;
+    Some(Form::Attach { no, target, deep })
+}
+
 /// The form of a verb and one argument.
 fn with_one_of<'a>(verb: &str, a: &'a str) -> Option<Form<'a>>
     ensures { result ≡ with_one verb.now a.now }
@@ -75,6 +112,10 @@ fn with_one_of<'a>(verb: &str, a: &'a str) -> Option<Form<'a>>
         new_of(a)
     } else if verb == "class" {
         class_of(a)
+    } else if verb == "detach" {
+        detach_of(a)
+    } else if verb == "seen" {
+        seen_of(a)
     } else {
         None
     }
@@ -107,6 +148,8 @@ fn with_three_of<'a>(
 {
     if verb == "set" {
         set_of(alloc, a, b, c)
+    } else if verb == "attach" {
+        Ok(attach_of(a, b, c))
     } else {
         Ok(None)
     }

@@ -1,29 +1,45 @@
-//! Nodes, features and values, read from words.
+//! Nodes, adapters, features and values, read from words.
 ghost use Rattle.std.specs.Prelude.{◌≡◌, ◌≢◌, ◌<◌, IfOk, length, option_map, slice_index};
-ghost use Rattle.script_lines.specs.Values.{feature_in, node_in, object_in, other_value_in, text_in, value_in};
+ghost use Rattle.script_lines.specs.Values.{adapter_in, feature_in, node_in, number_in, object_in, other_value_in, text_in, value_in};
 ghost use Rattle.script_lines.specs.declared.written_value.WrittenValue.TheVariants as written;
 
-use crate::grammar::{LITERAL_MARK, OBJECT_MARK, QUOTE, RESOURCE_MARK};
+use crate::grammar::{ADAPTER_MARK, LITERAL_MARK, OBJECT_MARK, QUOTE, RESOURCE_MARK};
 use crate::name::Name;
 use crate::texts::text_of;
 use crate::words::after_byte;
 use crate::written_value::WrittenValue;
 use mm_types::integers::{integer_of, natural_of};
-use mm_types::{Node, ObjectNo, ResourceNo};
+use mm_types::{AdapterNo, Node, ObjectNo, ResourceNo};
 use std::alloc::{AllocError, Global};
+
+/// The number that a word has behind a mark.
+fn number_of(mark: u8, word: &str) -> Option<u32>
+    requires { mark < 128 }
+    ensures { result ≡ number_in mark word.now }
+{
+    if *word.as_bytes().first()? == mark {
+        natural_of(after_byte(word))
+    } else {
+        None
+    }
+}
 
 /// The object that a word names: `#3`.
 pub fn object_of(word: &str) -> Option<ObjectNo>
     ensures { result ≡ object_in word.now }
 {
-    match *word.as_bytes().first()? {
-        OBJECT_MARK => natural_of(after_byte(word)).map(ObjectNo),
-        _ => None,
-    }
+    number_of(OBJECT_MARK, word).map(ObjectNo)
+}
+
+/// The adapter that a word names: `A7`.
+pub fn adapter_of(word: &str) -> Option<AdapterNo>
+    ensures { result ≡ adapter_in word.now }
+{
+    number_of(ADAPTER_MARK, word).map(AdapterNo)
 }
 
 /// The node that a word names: `#3` or `r0`.
-fn node_of(word: &str) -> Option<Node>
+pub fn node_of(word: &str) -> Option<Node>
     ensures { result ≡ node_in word.now }
 {
     match *word.as_bytes().first()? {

@@ -1,3 +1,4 @@
-mod OutputLemmas
+mod PoolLemmas
+mod SessionLemmas
 mod ScriptLemmas
 mod LostLemmas

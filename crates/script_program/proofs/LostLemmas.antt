@@ -7,10 +7,11 @@ use Rattle.std.specs.Option.{option_map_or}
 use Rattle.std.proofs.lemmas.Bool.Decides.{nat_tests}
 use Rattle.std.proofs.lemmas.List.{length-append}
 use Rattle.std.proofs.lemmas.List.Elements.{All-cons, All-nil}
-use Rattle.mm_types.specs.declared.refused.Refused.{Refused}
-use Rattle.mm_types.specs.declared.refused.Refused.TheVariants as refused
+use Rattle.notice_chain.specs.View.{View}
 use Rattle.repository.specs.State.{State}
-use Rattle.repository.specs.Step.{Outcome, Stepped}
+use Rattle.repository.specs.Step.{Stepped}
+use Rattle.repository.specs.Views.{Outcome}
+use Rattle.repository.specs.declared.reply.Failure.{Failure}
 use Rattle.handshake.specs.Plans.{is_memory_refusal}
 use Rattle.repository.specs.Run.{Executed, IsWanting}
 use Rattle.repository.specs.declared.command.Command.{Command}
@@ -19,8 +20,12 @@ use Rattle.script_lines.specs.Lines.{lines}
 use Rattle.script_lines.specs.declared.line.Line.{Line}
 use Rattle.script_lines.specs.declared.line.Line.TheVariants as line
 use Rattle.script_program.specs.Bind.{bind}
-use Rattle.script_program.specs.Lost.{AreCommands, LineRun, is_command_at, is_form, is_in, lost_from, lost_lines, printed_from, run_command, run_line, script}
-use Rattle.script_program.specs.Script.{RunsLine, RunsLines, command_printed}
+use Rattle.script_program.specs.Lost.{AreCommands, LineRun, is_command_at, is_form, is_in, lost_from, lost_lines, printed_from, run_command, run_line, run_request, script}
+use Rattle.script_program.specs.Script.{RunsLine, RunsLines, RunsRequest, command_printed}
+use Rattle.script_program.specs.Pool.{Pool}
+use Rattle.script_program.specs.Session.{Session, pool_after}
+use Rattle.script_program.specs.declared.request.Request.{Request}
+use Rattle.script_program.specs.declared.request.Request.TheVariants as request
 use Rattle.script_program.specs.Turns.{Printed, is_lost, no_lines, outcome_turn, summary_of, with_turn}
 use Rattle.script_program.specs.declared.summary.Summary.{Summary}
 use Rattle.script_program.specs.declared.turn.Turn.{Turn}
@@ -28,32 +33,44 @@ use Rattle.script_program.specs.declared.turn.Turn.TheVariants as turned
 
 -- ---- one line
 
-is_memory_is : (r : Refused) → is_memory_refusal r ≡ true → r ≡ refused.Memory
-is_memory_is refused.Memory h = refl
-is_memory_is _ h = cc
+abbrev run_of : Printed → Session → LineRun
+run_of p t = record { printed = p; after = t }
 
-lost_or_refused : (s t : State) (c : Command) (r : Refused) (b : Bool) → is_memory_refusal r ≡ b → Executed s c (Err (record { refused = r })) t
-    → run_command (is_lost (cond b turned.Lost turned.Refused)) s c ≡ record { printed = command_printed s.model.metamodel c (Err (record { refused = r })); after = t }
-lost_or_refused s t c r true e h =
-    let kept : IsWanting s c t = rw e at h in
-    ap₂ (λ (q : Refused) (u : State). record { printed = command_printed s.model.metamodel c (Err (record { refused = q })); after = u }) (sym (is_memory_is r e)) (sym kept.state)
-lost_or_refused s t c r false e h =
+same_session : (t s : Session) → t.state ≡ s.state → t.pool ≡ s.pool → t ≡ s
+same_session t s e p = ap₂ (λ (x : State) (y : Pool). record { state = x; pool = y }) e p
+
+lost_or_refused : (s t : Session) (c : Command View) (f : Failure View) (b : Bool) → is_memory_refusal f.refused ≡ b → Executed s.state c (Err f) t.state → t.pool ≡ s.pool
+    → run_command (is_lost (cond b turned.Lost turned.Refused)) s c ≡ record { printed = command_printed s.state.model.metamodel c (Err f); after = t }
+lost_or_refused s t c f true e h pool =
+    let kept : IsWanting s.state c (Err f) t.state = rw e at h in
+    ap₂ (λ (o : Outcome) (u : Session). record { printed = command_printed s.state.model.metamodel c o; after = u }) (sym kept.outcome) (sym (same_session t s kept.state pool))
+lost_or_refused s t c f false e h pool =
     let one = rw e at h in
-    ap (λ (q : Stepped). record { printed = command_printed s.model.metamodel c q.outcome; after = q.after }) one
+    ap (λ (q : Stepped). record { printed = command_printed s.state.model.metamodel c q.outcome; after = record { state = q.after; pool = pool_after s.pool c q.outcome } }) one
+    ∙ ap (λ (p : Pool). record { printed = command_printed s.state.model.metamodel c (Err f); after = record { state = t.state; pool = p } }) (sym pool)
 
 -- a command that was executed did its step, or was lost
-executed_is : (s t : State) (c : Command) (o : Outcome) → Executed s c o t
-    → run_command (is_lost (outcome_turn o)) s c ≡ record { printed = command_printed s.model.metamodel c o; after = t }
-executed_is s t c (Ok r) h = ap (λ (q : Stepped). record { printed = command_printed s.model.metamodel c q.outcome; after = q.after }) h
-executed_is s t c (Err f) h = lost_or_refused s t c f.refused (is_memory_refusal f.refused) refl h
+executed_is : (s t : Session) (c : Command View) (o : Outcome) → Executed s.state c o t.state → t.pool ≡ pool_after s.pool c o
+    → run_command (is_lost (outcome_turn o)) s c ≡ record { printed = command_printed s.state.model.metamodel c o; after = t }
+executed_is s t c (Ok r) h pool =
+    ap (λ (q : Stepped). record { printed = command_printed s.state.model.metamodel c q.outcome; after = record { state = q.after; pool = pool_after s.pool c q.outcome } }) h
+    ∙ ap (λ (p : Pool). record { printed = command_printed s.state.model.metamodel c (Ok r); after = record { state = t.state; pool = p } }) (sym pool)
+executed_is s t c (Err f) h pool = lost_or_refused s t c f (is_memory_refusal f.refused) refl h pool
 
-line_is : (s t : State) (l : Line) (p : Printed) → RunsLine s l p t → run_line (is_lost p.turn) s l ≡ record { printed = p; after = t }
-line_is s t line.Blank p h = ap₂ (λ (q : Printed) (u : State). record { printed = q; after = u }) (sym h.0) (sym h.1)
-line_is s t line.Bad p h = ap₂ (λ (q : Printed) (u : State). record { printed = q; after = u }) (sym h.0) (sym h.1)
-line_is s t (line.Form f) p h =
-    subst (λ (q : Printed). run_command (is_lost q.turn) s (bind s f) ≡ record { printed = q; after = t }) (sym h.2) (executed_is s t (bind s f) h.0 h.1)
+same_run : (s t : Session) (p q : Printed) → p ≡ q → t ≡ s → run_of q s ≡ run_of p t
+same_run s t p q e u = ap₂ (λ (x : Printed) (y : Session). record { printed = x; after = y }) (sym e) (sym u)
 
-asks_command : (s t : State) (l : Line) (p : Printed) → RunsLine s l p t → is_lost p.turn ≡ true → is_form l ≡ true
+request_is : (s t : Session) (r : Request View) (p : Printed) → RunsRequest s r p t → run_request (is_lost p.turn) s r ≡ run_of p t
+request_is s t (request.Execute c) p h = subst (λ (q : Printed). run_command (is_lost q.turn) s c ≡ record { printed = q; after = t }) (sym h.printed) (executed_is s t c h.outcome h.executed h.pool)
+request_is s t (request.Seen number) p h = same_run s t p _ h.0 h.1
+request_is s t (request.Refuse r) p h = same_run s t p _ h.0 h.1
+
+line_is : (s t : Session) (l : Line) (p : Printed) → RunsLine s l p t → run_line (is_lost p.turn) s l ≡ run_of p t
+line_is s t line.Blank p h = same_run s t p _ h.0 h.1
+line_is s t line.Bad p h = same_run s t p _ h.0 h.1
+line_is s t (line.Form f) p h = request_is s t (bind s f) p h
+
+asks_command : (s t : Session) (l : Line) (p : Printed) → RunsLine s l p t → is_lost p.turn ≡ true → is_form l ≡ true
 asks_command s t line.Blank p h lost = let none : is_lost p.turn ≡ false = ap (λ (q : Printed). is_lost q.turn) h.0 in cc
 asks_command s t line.Bad p h lost = let none : is_lost p.turn ≡ false = ap (λ (q : Printed). is_lost q.turn) h.0 in cc
 asks_command s t (line.Form f) p h lost = refl
@@ -83,10 +100,10 @@ abbrev AgreeFrom : ℕ → List ℕ → List ℕ → Type 0
 AgreeFrom k m n = (j : ℕ) → k ≤ j → is_in m j ≡ is_in n j
 
 -- what the first lines print goes on with what the others print
-goes_on : (m : List ℕ) (k : ℕ) (s t : State) (first rest : List (List ℕ)) (ps : List Printed) → RunsLines s first ps t → AgreeFrom k m (lost_from k ps)
+goes_on : (m : List ℕ) (k : ℕ) (s t : Session) (first rest : List (List ℕ)) (ps : List Printed) → RunsLines s first ps t → AgreeFrom k m (lost_from k ps)
     → (n : ℕ) × (printed_from m k s (first ++ rest) ≡ ps ++ printed_from m n t rest)
 unfolding printed_from
-goes_on m k s t [] rest [] h agree = (k, ap (λ (q : State). printed_from m k q rest) (sym h))
+goes_on m k s t [] rest [] h agree = (k, ap (λ (q : Session). printed_from m k q rest) (sym h))
 goes_on m k s t [] rest (p ∷ ps) h agree = absurd h
 goes_on m k s t (l ∷ ls) rest [] h agree = absurd h
 goes_on m k s t (l ∷ ls) rest (p ∷ ps) h agree =
@@ -96,13 +113,13 @@ goes_on m k s t (l ∷ ls) rest (p ∷ ps) h agree =
     let more = goes_on m (suc k) h.0 t ls rest ps h.2 (λ j low. agree j (omega arith) ∙ in_above (is_lost p.turn) k j later (omega arith)) in
     (more.0, ap (λ (q : LineRun). q.printed ∷ printed_from m (suc k) q.after (ls ++ rest)) one ∙ ap (λ x. p ∷ x) more.1)
 
-pub whole : (s t : State) (bytes : List ℕ) (ps : List Printed) → RunsLines s (lines bytes) ps t → script s bytes (lost_lines ps) ≡ ps
+pub whole : (s t : Session) (bytes : List ℕ) (ps : List Printed) → RunsLines s (lines bytes) ps t → script s bytes (lost_lines ps) ≡ ps
 unfolding printed_from
 whole s t bytes ps h =
     let all = goes_on (lost_lines ps) 0 s t (lines bytes) [] ps h (λ j low. refl) in
     ap (printed_from (lost_lines ps) 0 s) (sym (append-nil (lines bytes))) ∙ (all.1 ∙ append-nil ps)
 
-pub front : (s t : State) (bytes : List ℕ) (first rest : List (List ℕ)) (ps : List Printed) → lines bytes ≡ first ++ rest → RunsLines s first ps t
+pub front : (s t : Session) (bytes : List ℕ) (first rest : List (List ℕ)) (ps : List Printed) → lines bytes ≡ first ++ rest → RunsLines s first ps t
     → (more : List Printed) × (script s bytes (lost_lines ps) ≡ ps ++ more)
 front s t bytes first rest ps cut h =
     let all = goes_on (lost_lines ps) 0 s t first rest ps h (λ j low. refl) in
@@ -142,7 +159,7 @@ all_if : (ls : List (List ℕ)) (b : Bool) (k : ℕ) (m : List ℕ) → (b ≡ t
 all_if ls true k m here all = All-cons (λ j. IsTrue (is_command_at ls j)) k m (here refl) all
 all_if ls false k m here all = all
 
-commands_from : (s t : State) (done ls : List (List ℕ)) (k : ℕ) (ps : List Printed) → k ≡ length done → RunsLines s ls ps t
+commands_from : (s t : Session) (done ls : List (List ℕ)) (k : ℕ) (ps : List Printed) → k ≡ length done → RunsLines s ls ps t
     → All (λ j. IsTrue (is_command_at (done ++ ls) j)) (lost_from k ps)
 commands_from s t done [] k [] e h = All-nil (λ j. IsTrue (is_command_at (done ++ []) j))
 commands_from s t done [] k (p ∷ ps) e h = absurd h
@@ -155,7 +172,7 @@ commands_from s t done (l ∷ ls) k (p ∷ ps) e h =
     (λ hit. subst (λ (o : Option (List ℕ)). IsTrue (option_map_or (λ x. is_form (form x)) o false)) (sym at) (asks_command s h.0 (form l) p h.1 hit))
     (subst (λ (x : List (List ℕ)). All (λ j. IsTrue (is_command_at x j)) (lost_from (suc k) ps)) (append_assoc done (l ∷ []) ls) more)
 
-pub are_commands : (s t : State) (ls : List (List ℕ)) (ps : List Printed) → RunsLines s ls ps t → AreCommands ls (lost_lines ps)
+pub are_commands : (s t : Session) (ls : List (List ℕ)) (ps : List Printed) → RunsLines s ls ps t → AreCommands ls (lost_lines ps)
 are_commands s t ls ps h = record { each_once = each_once 0 ps; commands = commands_from s t [] ls 0 ps refl h }
 
 -- ---- how many there are
@@ -178,5 +195,5 @@ nil_is : (m : List ℕ) → length m ≡ 0 → m ≡ []
 nil_is [] e = refl
 nil_is (j ∷ m) e = absurd (omega arith)
 
-pub none_lost : (s t : State) (bytes : List ℕ) (ps : List Printed) → RunsLines s (lines bytes) ps t → (summary_of ps).no_memory ≡ 0 → ps ≡ script s bytes []
+pub none_lost : (s t : Session) (bytes : List ℕ) (ps : List Printed) → RunsLines s (lines bytes) ps t → (summary_of ps).no_memory ≡ 0 → ps ≡ script s bytes []
 none_lost s t bytes ps h none = sym (whole s t bytes ps h) ∙ ap (script s bytes) (nil_is (lost_lines ps) (as_many ps ∙ none))

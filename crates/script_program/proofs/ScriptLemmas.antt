@@ -6,10 +6,10 @@ use Rattle.std.proofs.lemmas.List.Sums.{fold-append}
 use Rattle.std.specs.List.{fold}
 use Rattle.std.specs.Io.KnownBytes.{Appends}
 use Rattle.std.proofs.KnownBytes.{Appends-nil, Appends-trans}
-use Rattle.repository.specs.State.{State}
 use Rattle.script_lines.specs.Forms.{form}
 use Rattle.script_lines.specs.Lines.{lines}
 use Rattle.script_program.specs.Script.{Prints, PrintsFront, RunsLine, RunsLines}
+use Rattle.script_program.specs.Session.{Session}
 use Rattle.script_program.specs.Streams.{AppendsFront}
 use Rattle.script_program.specs.Summary.{IsWithin}
 use Rattle.script_program.specs.Turns.{Printed, no_lines, summary_of, texts, with_turn}
@@ -19,9 +19,9 @@ use Rattle.script_program.specs.declared.turn.Turn.TheVariants.{Blank, Bad, Done
 
 -- ---- one more line
 
-runs_more : (s : State) (ls : List (List ℕ)) (ps : List Printed) (u : State) (l : List ℕ) (p : Printed) (t : State)
+runs_more : (s : Session) (ls : List (List ℕ)) (ps : List Printed) (u : Session) (l : List ℕ) (p : Printed) (t : Session)
     → RunsLines s ls ps u → RunsLine u (form l) p t → RunsLines s (ls ++ l ∷ []) (ps ++ p ∷ []) t
-runs_more s [] [] u l p t h one = (t, subst (λ (q : State). RunsLine q (form l) p t) h one, refl)
+runs_more s [] [] u l p t h one = (t, subst (λ (q : Session). RunsLine q (form l) p t) h one, refl)
 runs_more s [] (q ∷ ps) u l p t h one = absurd h
 runs_more s (k ∷ ls) [] u l p t h one = absurd h
 runs_more s (k ∷ ls) (q ∷ ps) u l p t h one = (h.0, h.1, runs_more h.0 ls ps u l p t h.2 one)
@@ -40,7 +40,7 @@ texts_push : (ps : List Printed) (p : Printed) → texts (ps ++ p ∷ []) ≡ te
 texts_push ps p = flat_map-append (λ (q : Printed). q.text) ps (p ∷ []) ∙ ap (λ x. texts ps ++ x) (append-nil p.text)
 
 -- Some first lines were run, and the rest of the bytes is what follows them.
-pub record GoesOn (z : State) (bytes rest : List ℕ) (s : State) (printed : List Printed) (summary : Summary) : Type 0 where
+pub record GoesOn (z : Session) (bytes rest : List ℕ) (s : Session) (printed : List Printed) (summary : Summary) : Type 0 where
   pub done : List (List ℕ)
   pub all : done ++ lines rest ≡ lines bytes
   pub ran : RunsLines z done printed s
@@ -48,7 +48,7 @@ pub record GoesOn (z : State) (bytes rest : List ℕ) (s : State) (printed : Lis
   pub room : length done + length rest ≤ length bytes
   pub within : IsWithin summary (length done)
 
-pub start : (z : State) (bytes : List ℕ) → GoesOn z bytes bytes z [] no_lines
+pub start : (z : Session) (bytes : List ℕ) → GoesOn z bytes bytes z [] no_lines
 start z bytes = record {
   done = [];
   all = refl;
@@ -58,7 +58,7 @@ start z bytes = record {
   within = record { lines = omega arith; refused = omega arith; bad = omega arith; no_memory = omega arith };
 }
 
-pub next : (z : State) (bytes rest more line out : List ℕ) (s u : State) (printed : List Printed) (summary : Summary) (t : Turn)
+pub next : (z : Session) (bytes rest more line out : List ℕ) (s u : Session) (printed : List Printed) (summary : Summary) (t : Turn)
     → GoesOn z bytes rest s printed summary → lines rest ≡ line ∷ lines more → length more < length rest
     → RunsLine s (form line) (record { text = out; turn = t }) u
     → GoesOn z bytes more u (printed ++ record { text = out; turn = t } ∷ []) (with_turn summary t)
@@ -79,7 +79,7 @@ more_written old mid new printed out t one two = subst (Appends old new) (sym (t
 
 -- ---- the ends
 
-pub finish : (z : State) (bytes rest : List ℕ) (s : State) (printed : List Printed) (summary : Summary) (old new : Option (List ℕ))
+pub finish : (z : Session) (bytes rest : List ℕ) (s : Session) (printed : List Printed) (summary : Summary) (old new : Option (List ℕ))
     → GoesOn z bytes rest s printed summary → length rest ≡ 0 → Appends old new (texts printed) → Prints z old new bytes summary
 finish z bytes [] s printed summary old new g none wrote = record {
   printed = printed;
@@ -91,7 +91,7 @@ finish z bytes [] s printed summary old new g none wrote = record {
 finish z bytes (c ∷ cs) s printed summary old new g none wrote = absurd (omega arith)
 
 -- no line was run
-pub silent : (z : State) (old : Option (List ℕ)) (bytes : List ℕ) → PrintsFront z old old bytes
+pub silent : (z : Session) (old : Option (List ℕ)) (bytes : List ℕ) → PrintsFront z old old bytes
 silent z old bytes = record {
   first = [];
   rest = lines bytes;
@@ -103,7 +103,7 @@ silent z old bytes = record {
 }
 
 -- the lines that were run are all written
-pub paused : (z : State) (bytes rest : List ℕ) (s : State) (printed : List Printed) (summary : Summary) (old new : Option (List ℕ))
+pub paused : (z : Session) (bytes rest : List ℕ) (s : Session) (printed : List Printed) (summary : Summary) (old new : Option (List ℕ))
     → GoesOn z bytes rest s printed summary → Appends old new (texts printed) → PrintsFront z old new bytes
 paused z bytes rest s printed summary old new g wrote = record {
   first = g.done;
@@ -116,7 +116,7 @@ paused z bytes rest s printed summary old new g wrote = record {
 }
 
 -- the last line that was run is written in part
-pub stopped : (z : State) (bytes more out : List ℕ) (u : State) (printed : List Printed) (summary : Summary) (t : Turn) (old mid new : Option (List ℕ))
+pub stopped : (z : Session) (bytes more out : List ℕ) (u : Session) (printed : List Printed) (summary : Summary) (t : Turn) (old mid new : Option (List ℕ))
     → GoesOn z bytes more u (printed ++ record { text = out; turn = t } ∷ []) summary → Appends old mid (texts printed) → AppendsFront mid new out
     → PrintsFront z old new bytes
 stopped z bytes more out u printed summary t old mid new g wrote part =

@@ -1,55 +1,72 @@
 -- What is printed for a command.
-use Rattle.std.specs.Prelude.{ℕ, List, [], ◌∷◌, ◌++◌, option_and_then, unwrap_or, codes, Ok, Err, if◌then◌else◌}
-use Rattle.std.specs.Option.{option_map_or}
-use Rattle.mm_types.specs.Lookups as lookups
+use Rattle.std.specs.Prelude.{ℕ, true, false, List, [], ◌∷◌, ◌++◌, length, codes, Ok, Err}
+use Rattle.std.specs.Fmt.{decimal}
+use Rattle.std.specs.List.{flat_map}
 use Rattle.mm_types.specs.Resolved.{Metamodel}
-use Rattle.mm_types.specs.declared.numbers.ClassNo.{ClassNo}
+use Rattle.mm_types.specs.declared.numbers.AdapterNo.{AdapterNo}
 use Rattle.mm_types.specs.declared.numbers.FeatureNo.{FeatureNo}
 use Rattle.mm_types.specs.declared.numbers.Node.TheVariants as node
+use Rattle.mm_types.specs.declared.refused.Refused.{Refused}
 use Rattle.mm_types.specs.declared.value.Value.{Value}
-use Rattle.mm_types.specs.declared.value.Value.TheVariants as value
+use Rattle.notice_chain.specs.View.{View}
+use Rattle.notice_chain.specs.declared.notice.Notice.{Notice}
+use Rattle.repository.specs.Views.{Outcome}
 use Rattle.repository.specs.declared.command.Command.{Command}
 use Rattle.repository.specs.declared.command.Command.TheVariants as command
 use Rattle.repository.specs.declared.reply.Answer.{Answer}
 use Rattle.repository.specs.declared.reply.Answer.TheVariants as answer
-use Rattle.repository.specs.Step.{Outcome}
 use Rattle.script_lines.specs.declared.grammar.TheConstants.{NEWLINE}
-use Rattle.script_program.specs.Bind.{enum_of}
-use Rattle.script_program.specs.Printed.{node_text, refused_text, value_text}
+use Rattle.script_output.specs.Names.{literal_name}
+use Rattle.script_output.specs.Notified.{notice_text, released_text}
+use Rattle.script_output.specs.Printed.{class_text, node_text, refused_text, value_text}
 use Rattle.script_program.specs.declared.bind.TheConstants.{NOTHING}
 
--- the feature that a command names, if it names one
-abbrev pub feature_of : Command → FeatureNo
+-- the feature that a command names; one of no metamodel where it names none
+abbrev pub feature_of : Command View → FeatureNo
 feature_of (command.Set n f v) = f
 feature_of (command.Unset n f) = f
 feature_of (command.Get n f) = f
 feature_of (command.IsSet n f) = f
 feature_of (command.Create c) = record { 0 = NOTHING }
+feature_of (command.Attach number target deep view) = record { 0 = NOTHING }
+feature_of (command.Detach number) = record { 0 = NOTHING }
 feature_of (command.Class o) = record { 0 = NOTHING }
-
--- the name of a literal that is a feature's value; no name where the value is no literal
-abbrev pub literal_name : Metamodel → FeatureNo → Value → List ℕ
-literal_name m f value.Null = []
-literal_name m f (value.Bool b) = []
-literal_name m f (value.Int n) = []
-literal_name m f (value.Text t) = []
-literal_name m f (value.Literal i) = unwrap_or (option_and_then (λ e. lookups.literal m e i) (enum_of m f)) []
-literal_name m f (value.Object o) = []
-literal_name m f (value.Proxy t) = []
-literal_name m f (value.Adapter a) = []
-
-abbrev pub class_name : Metamodel → ClassNo → List ℕ
-class_name m c = option_map_or (λ k. k.name) (lookups.class m c) []
+feature_of (command.AdapterTold number) = record { 0 = NOTHING }
+feature_of (command.AdapterKept number) = record { 0 = NOTHING }
 
 -- an answer to a command that names the feature f
 abbrev pub answer_text : Metamodel → FeatureNo → Answer → List ℕ
 answer_text m f answer.Done = codes "ok"
 answer_text m f (answer.Object o) = node_text (node.Object o)
 answer_text m f (answer.Value v) = value_text (literal_name m f v) v
-answer_text m f (answer.Flag b) = if b then codes "true" else codes "false"
-answer_text m f (answer.Class c) = codes "class " ++ class_name m c
+answer_text m f (answer.Flag true) = codes "true"
+answer_text m f (answer.Flag false) = codes "false"
+answer_text m f (answer.Class c) = class_text m c
+answer_text m f (answer.Count n) = decimal n
 
--- the line that a command prints
+abbrev pub answer_line : Metamodel → FeatureNo → Answer → List ℕ
+answer_line m f a = answer_text m f a ++ NEWLINE ∷ []
+
+-- a line for each notice that an adapter was told
+abbrev pub told_text : Metamodel → List (AdapterNo × Notice) → List ℕ
+told_text m told = flat_map (λ t. notice_text m t.0 t.1 ++ NEWLINE ∷ []) told
+
+-- a line for each adapter that was released
+abbrev pub all_released_text : List (AdapterNo × View) → List ℕ
+all_released_text released = flat_map (λ b. released_text b.0 b.1.told (length b.1.kept) ++ NEWLINE ∷ []) released
+
+abbrev pub notified_text : Metamodel → List (AdapterNo × Notice) → List (AdapterNo × View) → List ℕ
+notified_text m told released = told_text m told ++ all_released_text released
+
+-- a line that a refusal prints
+abbrev pub refusal_line : Refused → List ℕ
+refusal_line r = refused_text r ++ NEWLINE ∷ []
+
+-- the lines that a command prints
 abbrev pub outcome_text : Metamodel → FeatureNo → Outcome → List ℕ
-outcome_text m f (Ok r) = answer_text m f r.answer ++ NEWLINE ∷ []
-outcome_text m f (Err e) = refused_text e.refused ++ NEWLINE ∷ []
+outcome_text m f (Ok r) = answer_line m f r.answer ++ notified_text m r.told r.released
+outcome_text m f (Err e) = refusal_line e.refused
+
+-- the line that a read of a feature prints
+abbrev pub read_text : Metamodel → FeatureNo → Value → List ℕ
+read_text m f v = outcome_text m f (Ok (record { answer = answer.Value v; told = []; released = [] }))

@@ -1,26 +1,31 @@
--- The command that a form asks for: the names in it are looked up in the metamodel.
-use Rattle.std.specs.Prelude.{ℕ, List, Option, Some, None, option_and_then, unwrap_or, codes, if◌then◌else◌}
+-- What a form asks for: the names in it are looked up in the metamodel, and the box in the pool.
+use Rattle.std.specs.Prelude.{ℕ, Bool, List, option_and_then, unwrap_or, codes, Result, Ok, Err, if◌then◌else◌}
 use Rattle.std.specs.Str.{bytes_eq}
 use Rattle.mm_types.specs.Lookups as lookups
 use Rattle.mm_types.specs.Resolved.{Metamodel}
-use Rattle.mm_types.specs.declared.feature.DataType.{DataType}
-use Rattle.mm_types.specs.declared.feature.DataType.TheVariants.{EString, EInt, ELong, EBoolean, Enum}
-use Rattle.mm_types.specs.declared.feature.Kind.{Kind}
-use Rattle.mm_types.specs.declared.feature.Kind.TheVariants.{Attribute, Reference}
+use Rattle.mm_types.specs.declared.numbers.AdapterNo.{AdapterNo}
 use Rattle.mm_types.specs.declared.numbers.ClassNo.{ClassNo}
 use Rattle.mm_types.specs.declared.numbers.FeatureNo.{FeatureNo}
 use Rattle.mm_types.specs.declared.numbers.Node.{Node}
 use Rattle.mm_types.specs.declared.numbers.Node.TheVariants as node
+use Rattle.mm_types.specs.declared.refused.Refused.{Refused}
 use Rattle.mm_types.specs.declared.value.Value.{Value}
 use Rattle.mm_types.specs.declared.value.Value.TheVariants as value
+use Rattle.notice_chain.specs.View.{View}
 use Rattle.repository.specs.State.{State, reads}
+use Rattle.repository.specs.Views.{command_view}
 use Rattle.repository.specs.declared.command.Command.{Command}
 use Rattle.repository.specs.declared.command.Command.TheVariants as command
 use Rattle.script_lines.specs.declared.form.Form.{Form}
 use Rattle.script_lines.specs.declared.form.Form.TheVariants as asks
 use Rattle.script_lines.specs.declared.written_value.WrittenValue.{WrittenValue}
 use Rattle.script_lines.specs.declared.written_value.WrittenValue.TheVariants as written
+use Rattle.script_output.specs.Names.{enum_of}
+use Rattle.script_program.specs.Pool.{Pool, box_of}
+use Rattle.script_program.specs.Session.{IsBrought, Session, taken}
 use Rattle.script_program.specs.declared.bind.TheConstants.{NOTHING}
+use Rattle.script_program.specs.declared.request.Request.{Request}
+use Rattle.script_program.specs.declared.request.Request.TheVariants as request
 
 abbrev pub class_number : Metamodel → List ℕ → ClassNo
 class_number m name = unwrap_or (lookups.class_by_name m name) (record { 0 = NOTHING })
@@ -30,21 +35,6 @@ abbrev pub feature_number : State → Node → List ℕ → FeatureNo
 feature_number s (node.Object o) name =
     unwrap_or (option_and_then (λ c. lookups.feature_by_name s.model.metamodel c name) ((reads s).class o)) (record { 0 = NOTHING })
 feature_number s (node.Resource r) name = if bytes_eq name (codes "contents") then lookups.contents s.model.metamodel else record { 0 = NOTHING }
-
-abbrev pub enum_of_type : DataType → Option ℕ
-enum_of_type EString = None
-enum_of_type EInt = None
-enum_of_type ELong = None
-enum_of_type EBoolean = None
-enum_of_type (Enum e) = Some e
-
-abbrev pub enum_of_kind : Kind → Option ℕ
-enum_of_kind (Attribute t unique unsettable default) = enum_of_type t
-enum_of_kind (Reference target containment opposite) = None
-
--- the enumeration that is a feature's type
-abbrev pub enum_of : Metamodel → FeatureNo → Option ℕ
-enum_of m f = option_and_then (λ g. enum_of_kind g.kind) (lookups.feature m f)
 
 abbrev pub literal_number : Metamodel → FeatureNo → List ℕ → ℕ
 literal_number m f name = unwrap_or (option_and_then (λ e. lookups.literal_by_name m e name) (enum_of m f)) NOTHING
@@ -58,13 +48,39 @@ value_in m f (written.Text t) = value.Text t
 value_in m f (written.Literal name) = value.Literal (literal_number m f name)
 value_in m f (written.Object o) = value.Object o
 
-abbrev pub set_command : Metamodel → Node → FeatureNo → WrittenValue → Command
+abbrev pub set_command : {A : Type 0} → Metamodel → Node → FeatureNo → WrittenValue → Command A
 set_command m n f v = command.Set n f (value_in m f v)
 
-abbrev pub bind : State → Form → Command
-bind s (asks.New class) = command.Create (class_number s.model.metamodel class)
-bind s (asks.Set n feature v) = set_command s.model.metamodel n (feature_number s n feature) v
-bind s (asks.Unset n feature) = command.Unset n (feature_number s n feature)
-bind s (asks.Get n feature) = command.Get n (feature_number s n feature)
-bind s (asks.IsSet n feature) = command.IsSet n (feature_number s n feature)
-bind s (asks.Class o) = command.Class o
+-- an adapter of the pool is attached; where it can't be, the repository isn't asked
+abbrev pub attach_request : Result View Refused → AdapterNo → Node → Bool → Request View
+attach_request (Ok v) number target deep = request.Execute (command.Attach number target deep v)
+attach_request (Err r) number target deep = request.Refuse r
+
+abbrev pub bind : Session → Form → Request View
+bind s (asks.New class) = request.Execute (command.Create (class_number s.state.model.metamodel class))
+bind s (asks.Set n feature v) = request.Execute (set_command s.state.model.metamodel n (feature_number s.state n feature) v)
+bind s (asks.Unset n feature) = request.Execute (command.Unset n (feature_number s.state n feature))
+bind s (asks.Attach number target deep) = attach_request (box_of s.pool number) number target deep
+bind s (asks.Detach number) = request.Execute (command.Detach number)
+bind s (asks.Get n feature) = request.Execute (command.Get n (feature_number s.state n feature))
+bind s (asks.IsSet n feature) = request.Execute (command.IsSet n (feature_number s.state n feature))
+bind s (asks.Class o) = request.Execute (command.Class o)
+bind s (asks.Seen number) = request.Seen number
+
+-- the pool when what a request brings is out
+abbrev pub pool_of : Pool → Request View → Pool
+pool_of pool (request.Execute c) = taken pool c
+pool_of pool (request.Seen number) = pool
+pool_of pool (request.Refuse r) = pool
+
+-- the adapter of a request is in the pool
+abbrev pub IsGiven : Pool → Request View → Type 0
+IsGiven pool (request.Execute c) = IsBrought pool c
+IsGiven pool (request.Seen number) = Unit {0}
+IsGiven pool (request.Refuse r) = Unit {0}
+
+-- a request with the views of adapters in their place
+abbrev pub request_view : {A : Type 0} → (A → View) → Request A → Request View
+request_view heard (request.Execute c) = request.Execute (command_view heard c)
+request_view heard (request.Seen number) = request.Seen number
+request_view heard (request.Refuse r) = request.Refuse r

@@ -1,7 +1,8 @@
 pub mod CommandLine
 pub mod Faults
 pub mod Streams
-pub mod Printed
+pub mod Pool
+pub mod Session
 pub mod Bind
 pub mod Answers
 pub mod Turns

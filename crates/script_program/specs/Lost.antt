@@ -5,42 +5,55 @@ use Rattle.std.specs.List.{All, list_any}
 use Rattle.std.specs.List.Sorted.{IsStrictlyIncreasing}
 use Rattle.std.specs.Option.{option_map_or}
 use Rattle.mm_types.specs.declared.refused.Refused.TheVariants.{Memory}
-use Rattle.repository.specs.State.{State}
-use Rattle.repository.specs.Step.{step}
+use Rattle.notice_chain.specs.View.{View}
+use Rattle.repository.specs.Step.{failure, step}
 use Rattle.repository.specs.declared.command.Command.{Command}
 use Rattle.script_lines.specs.Forms.{form}
 use Rattle.script_lines.specs.Lines.{lines}
 use Rattle.script_lines.specs.declared.line.Line.{Line}
 use Rattle.script_lines.specs.declared.line.Line.TheVariants as line
 use Rattle.script_program.specs.Bind.{bind}
-use Rattle.script_program.specs.Script.{bad_printed, blank_printed, command_printed}
+use Rattle.script_program.specs.Script.{bad_printed, blank_printed, command_printed, refused_printed, seen_printed}
+use Rattle.script_program.specs.Session.{Session, pool_after}
+use Rattle.script_program.specs.declared.request.Request.{Request}
+use Rattle.script_program.specs.declared.request.Request.TheVariants as request
 use Rattle.script_program.specs.Turns.{Printed, is_lost}
 
--- what a line prints, and the state after it
+-- what a line prints, and the session after it
 pub record LineRun : Type 0 where
   pub printed : Printed
-  pub after : State
+  pub after : Session
 
 -- a command does its step, or it is lost: answered out of memory, and nothing changes
-abbrev pub run_command : Bool → State → Command → LineRun
-run_command true s c = record { printed = command_printed s.model.metamodel c (Err (record { refused = Memory })); after = s }
-run_command false s c = let one = step s c in record { printed = command_printed s.model.metamodel c one.outcome; after = one.after }
+abbrev pub run_command : Bool → Session → Command View → LineRun
+run_command true s c = record { printed = command_printed s.state.model.metamodel c (Err (failure c Memory)); after = s }
+run_command false s c =
+    let one = step s.state c in
+    record {
+      printed = command_printed s.state.model.metamodel c one.outcome;
+      after = record { state = one.after; pool = pool_after s.pool c one.outcome };
+    }
 
-abbrev pub run_line : Bool → State → Line → LineRun
+abbrev pub run_request : Bool → Session → Request View → LineRun
+run_request lost s (request.Execute c) = run_command lost s c
+run_request lost s (request.Seen number) = record { printed = seen_printed s.state number; after = s }
+run_request lost s (request.Refuse r) = record { printed = refused_printed r; after = s }
+
+abbrev pub run_line : Bool → Session → Line → LineRun
 run_line lost s line.Blank = record { printed = blank_printed; after = s }
 run_line lost s line.Bad = record { printed = bad_printed; after = s }
-run_line lost s (line.Form f) = run_command lost s (bind s f)
+run_line lost s (line.Form f) = run_request lost s (bind s f)
 
 abbrev pub is_in : List ℕ → ℕ → Bool
 is_in m k = list_any (λ j. j == k) m
 
 -- what the lines from number k on print, where the lines whose numbers are in m are lost
-unfoldable pub printed_from : List ℕ → ℕ → State → List (List ℕ) → List Printed
+unfoldable pub printed_from : List ℕ → ℕ → Session → List (List ℕ) → List Printed
 printed_from m k s [] = []
 printed_from m k s (l ∷ ls) = let one = run_line (is_in m k) s (form l) in one.printed ∷ printed_from m (suc k) one.after ls
 
--- what a script prints, line by line, from a state on; its lines are numbered from 0
-abbrev pub script : State → List ℕ → List ℕ → List Printed
+-- what a script prints, line by line, from a session on; its lines are numbered from 0
+abbrev pub script : Session → List ℕ → List ℕ → List Printed
 script s bytes lost = printed_from lost 0 s (lines bytes)
 
 -- the numbers of the lines that were lost, where the first of these lines has the number k

@@ -1,9 +1,16 @@
--- What it is to run a script: each line in turn, in the state that the one before it left.
-use Rattle.std.specs.Prelude.{◌≡◌, ℕ, List, [], ◌∷◌, ◌++◌, Option, codes}
+-- What it is to run a script: each line in turn, in the session that the one before it left.
+use Rattle.std.specs.Prelude.{◌≡◌, ◌≤◌, ℕ, List, [], ◌∷◌, ◌++◌, length, Option, IfSome, codes}
+use Rattle.std.specs.Option.{option_map_or}
 use Rattle.std.specs.Io.KnownBytes.{Appends}
 use Rattle.mm_types.specs.Resolved.{Metamodel}
+use Rattle.mm_types.specs.declared.limits.TheConstants.{INPUT_BYTES}
+use Rattle.mm_types.specs.declared.numbers.AdapterNo.{AdapterNo}
+use Rattle.mm_types.specs.declared.refused.Refused.{Refused}
+use Rattle.mm_types.specs.declared.refused.Refused.TheVariants.{NoAdapter}
+use Rattle.notice_chain.specs.Listed.{adapter}
+use Rattle.notice_chain.specs.View.{View}
 use Rattle.repository.specs.State.{State}
-use Rattle.repository.specs.Step.{Outcome}
+use Rattle.repository.specs.Views.{Outcome}
 use Rattle.repository.specs.Run.{Executed}
 use Rattle.repository.specs.declared.command.Command.{Command}
 use Rattle.script_lines.specs.Forms.{form}
@@ -11,54 +18,83 @@ use Rattle.script_lines.specs.Lines.{lines}
 use Rattle.script_lines.specs.declared.grammar.TheConstants.{NEWLINE}
 use Rattle.script_lines.specs.declared.line.Line.{Line}
 use Rattle.script_lines.specs.declared.line.Line.TheVariants as line
-use Rattle.script_program.specs.Answers.{feature_of, outcome_text}
+use Rattle.script_output.specs.Notified.{seen_text}
+use Rattle.script_program.specs.Answers.{feature_of, outcome_text, refusal_line}
 use Rattle.script_program.specs.Bind.{bind}
+use Rattle.script_program.specs.Session.{Session, pool_after}
+use Rattle.script_program.specs.declared.request.Request.{Request}
+use Rattle.script_program.specs.declared.request.Request.TheVariants as request
 use Rattle.script_program.specs.Streams.{AppendsFront}
 use Rattle.script_program.specs.Turns.{Printed, outcome_turn, summary_of, texts}
 use Rattle.script_program.specs.declared.summary.Summary.{Summary}
-use Rattle.script_program.specs.declared.turn.Turn.TheVariants.{Blank, Bad}
+use Rattle.script_program.specs.declared.turn.Turn.TheVariants as turned
 
 -- what a command with this outcome prints
-abbrev pub command_printed : Metamodel → Command → Outcome → Printed
+abbrev pub command_printed : Metamodel → Command View → Outcome → Printed
 command_printed m c o = record { text = outcome_text m (feature_of c) o; turn = outcome_turn o }
 
 abbrev pub blank_printed : Printed
-blank_printed = record { text = []; turn = Blank }
+blank_printed = record { text = []; turn = turned.Blank }
 
 abbrev pub bad_printed : Printed
-bad_printed = record { text = codes "bad line" ++ NEWLINE ∷ []; turn = Bad }
+bad_printed = record { text = codes "bad line" ++ NEWLINE ∷ []; turn = turned.Bad }
 
--- a command was executed, and its outcome was printed
-abbrev pub RunsCommand : State → Command → Printed → State → Type 0
-RunsCommand s c p t = (o : Outcome) × Executed s c o t × (p ≡ command_printed s.model.metamodel c o)
+abbrev pub refused_printed : Refused → Printed
+refused_printed r = record { text = refusal_line r; turn = turned.Refused }
 
--- a line was run: what it printed, and the state after it
-abbrev pub RunsLine : State → Line → Printed → State → Type 0
+-- what an adapter has heard, where it is attached
+abbrev pub seen_printed : State → AdapterNo → Printed
+seen_printed s number =
+    option_map_or (λ a. record { text = seen_text a.view.told (length a.view.kept) ++ NEWLINE ∷ []; turn = turned.Done }) (adapter number s.adapters) (refused_printed NoAdapter)
+
+-- a command was executed, what it brought and released left and joined the pool, and its outcome was printed
+pub record RunsCommand (s : Session) (c : Command View) (p : Printed) (t : Session) : Type 0 where
+  pub outcome : Outcome
+  pub executed : Executed s.state c outcome t.state
+  pub pool : t.pool ≡ pool_after s.pool c outcome
+  pub printed : p ≡ command_printed s.state.model.metamodel c outcome
+
+-- what a form asks for was done
+abbrev pub RunsRequest : Session → Request View → Printed → Session → Type 0
+RunsRequest s (request.Execute c) p t = RunsCommand s c p t
+RunsRequest s (request.Seen number) p t = (p ≡ seen_printed s.state number) × (t ≡ s)
+RunsRequest s (request.Refuse r) p t = (p ≡ refused_printed r) × (t ≡ s)
+
+-- a line was run: what it printed, and the session after it
+abbrev pub RunsLine : Session → Line → Printed → Session → Type 0
 RunsLine s line.Blank p t = (p ≡ blank_printed) × (t ≡ s)
 RunsLine s line.Bad p t = (p ≡ bad_printed) × (t ≡ s)
-RunsLine s (line.Form f) p t = RunsCommand s (bind s f) p t
+RunsLine s (line.Form f) p t = RunsRequest s (bind s f) p t
 
--- lines were run one after another: what each printed, and the state after the last
-abbrev pub RunsLines : State → List (List ℕ) → List Printed → State → Type 0
+-- lines were run one after another: what each printed, and the session after the last
+abbrev pub RunsLines : Session → List (List ℕ) → List Printed → Session → Type 0
 RunsLines s [] [] t = t ≡ s
 RunsLines s [] (p ∷ ps) t = ⊥
 RunsLines s (l ∷ ls) [] t = ⊥
-RunsLines s (l ∷ ls) (p ∷ ps) t = (u : State) × RunsLine s (form l) p u × RunsLines u ls ps t
+RunsLines s (l ∷ ls) (p ∷ ps) t = (u : Session) × RunsLine s (form l) p u × RunsLines u ls ps t
 
 -- All lines of a script were run, what they printed was written, and the counts are theirs.
-pub record Prints (s : State) (old new : Option (List ℕ)) (bytes : List ℕ) (summary : Summary) : Type 0 where
+pub record Prints (s : Session) (old new : Option (List ℕ)) (bytes : List ℕ) (summary : Summary) : Type 0 where
   pub printed : List Printed
-  pub after : State
+  pub after : Session
   pub ran : RunsLines s (lines bytes) printed after
   pub counted : summary_of printed ≡ summary
   pub written : Appends old new (texts printed)
 
 -- The first lines of a script were run, and a front of what they printed was written.
-pub record PrintsFront (s : State) (old new : Option (List ℕ)) (bytes : List ℕ) : Type 0 where
+pub record PrintsFront (s : Session) (old new : Option (List ℕ)) (bytes : List ℕ) : Type 0 where
   pub first : List (List ℕ)
   pub rest : List (List ℕ)
   pub lines_are : lines bytes ≡ first ++ rest
   pub printed : List Printed
-  pub after : State
+  pub after : Session
   pub ran : RunsLines s first printed after
   pub written : AppendsFront old new (texts printed)
+
+-- Known input is no longer than it may be, and it was run to its end.
+abbrev pub PrintsInput : Option (List ℕ) → Session → Option (List ℕ) → Option (List ℕ) → Summary → Type 0
+PrintsInput input s old new summary = IfSome input (λ bytes. (length bytes ≤ INPUT_BYTES) × Prints s old new bytes summary)
+
+-- The first lines of known input were run.
+abbrev pub PrintsInputFront : Option (List ℕ) → Session → Option (List ℕ) → Option (List ℕ) → Type 0
+PrintsInputFront input s old new = IfSome input (λ bytes. PrintsFront s old new bytes)

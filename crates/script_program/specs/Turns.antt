@@ -2,7 +2,7 @@
 use Rattle.std.specs.Prelude.{◌+◌, ℕ, Bool, true, false, List, map, fold, Ok, Err, if◌then◌else◌}
 use Rattle.std.specs.List.{flat_map}
 use Rattle.repository.specs.Run.{is_memory}
-use Rattle.repository.specs.Step.{Outcome}
+use Rattle.repository.specs.Views.{Outcome}
 use Rattle.script_program.specs.declared.summary.Summary.{Summary}
 use Rattle.script_program.specs.declared.turn.Turn.{Turn}
 use Rattle.script_program.specs.declared.turn.Turn.TheVariants as turned
@@ -11,6 +11,9 @@ use Rattle.script_program.specs.declared.turn.Turn.TheVariants as turned
 pub record Printed : Type 0 where
   pub text : List ℕ
   pub turn : Turn
+
+abbrev pub printed : List ℕ → Turn → Printed
+printed text turn = record { text = text; turn = turn }
 
 -- all that lines printed
 abbrev pub texts : List Printed → List ℕ

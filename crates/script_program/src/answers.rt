@@ -1,53 +1,28 @@
 //! What is printed for a command.
-ghost use Rattle.std.specs.Prelude.{◌≡◌, ◌++◌, Ok, OnOk, OnErr};
-ghost use Rattle.std.specs.Io.{StartsWith};
-ghost use Rattle.std.specs.Option.{option_copied, option_and_then};
-ghost use Rattle.mm_types.specs.Lookups.{literal};
-ghost use Rattle.script_program.specs.Bind.{enum_of};
+ghost use Rattle.std.specs.Prelude.{◌≡◌, ◌++◌, OnOk, map};
+ghost use Rattle.notice_chain.specs.View.{View};
+ghost use Rattle.repository.specs.Views.{command_view, outcome_view};
 ghost use Rattle.script_program.specs.Answers as a;
-ghost use Rattle.repository.specs.declared.reply.Answer.TheVariants as answer;
 
-use crate::bind::{NOTHING, enum_of};
-use crate::output::Output;
+use crate::bind::NOTHING;
+use adapters::Adapter;
 use mm_meta::Meta;
-use mm_types::{ClassNo, FeatureNo, Node, Value};
+use mm_types::{AdapterNo, FeatureNo, Node, Refused, Value};
+use notice_chain::Notice;
 use repository::{Answer, Command, Failure, Reply};
+use script_output::{Output, literal_name};
 use std::alloc::AllocError;
 
 /// The feature that a command names; one of no metamodel where it names none.
-pub(crate) fn feature_of(command: &Command) -> FeatureNo
-    ensures { result ≡ a.feature_of command.now }
+pub(crate) fn feature_of<A>(command: &Command<A>) -> FeatureNo
+    ensures { (heard : A → View) → result ≡ a.feature_of (command_view heard command.now) }
 {
     match command {
         Command::Set { feature, .. } => *feature,
         Command::Unset { feature, .. } => *feature,
         Command::Get { feature, .. } => *feature,
         Command::IsSet { feature, .. } => *feature,
-        Command::Create(_) | Command::Class(_) => FeatureNo(NOTHING),
-    }
-}
-
-fn literal_name<'a>(meta: &'a Meta, feature: FeatureNo, value: &Value) -> &'a str
-    ensures { result.now ≡ a.literal_name meta.now feature value.now }
-{
-    match value {
-        Value::Literal(index) => literal_at(meta, feature, *index).unwrap_or(""),
-        _ => "",
-    }
-}
-
-fn literal_at<'a>(meta: &'a Meta, feature: FeatureNo, index: u32) -> Option<&'a str>
-    ensures { option_copied result ≡ option_and_then (λ e. literal meta.now e index) (enum_of meta.now feature) }
-{
-    meta.literal(enum_of(meta, feature)?, index)
-}
-
-fn class_name(meta: &Meta, class: ClassNo) -> &str
-    ensures { result.now ≡ a.class_name meta.now class }
-{
-    match meta.class(class) {
-        Some(class) => class.name.as_str(),
-        None => "",
+        _ => FeatureNo(NOTHING),
     }
 }
 
@@ -65,10 +40,8 @@ fn print_answer(
         Answer::Value(value) => output.value(value, literal_name(meta, feature, value)),
         Answer::Flag(true) => output.text("true"),
         Answer::Flag(false) => output.text("false"),
-        Answer::Class(class) => {
-            output.text("class ")?;
-            output.text(class_name(meta, *class))
-        }
+        Answer::Class(class) => output.class(meta, *class),
+        Answer::Count(count) => output.natural(*count),
     }
 }
 
@@ -79,24 +52,92 @@ pub(crate) fn print_value(
     feature: FeatureNo,
     value: &Value,
 ) -> Result<(), AllocError>
-    ensures ok { OnOk result (output.new ≡ output.old ++ a.outcome_text meta.now feature (Ok (record { answer = answer.Value value.now }))) }
+    ensures ok { OnOk result (output.new ≡ output.old ++ a.read_text meta.now feature value.now) }
 {
     output.value(value, literal_name(meta, feature, value))?;
     output.text("\n")
 }
 
-/// Adds the line that a command prints; the feature is the one that it names.
-pub(crate) fn print_outcome(
+/// Adds the line of an answer to a command that names the feature.
+fn print_answer_line(
     output: &mut Output,
     meta: &Meta,
     feature: FeatureNo,
-    outcome: &Result<Reply, Failure>,
+    answer: &Answer,
 ) -> Result<(), AllocError>
-    ensures ok { OnOk result (output.new ≡ output.old ++ a.outcome_text meta.now feature outcome.now) }
+    ensures ok { OnOk result (output.new ≡ output.old ++ a.answer_line meta.now feature answer.now) }
+{
+    print_answer(output, meta, feature, answer)?;
+    output.text("\n")
+}
+
+/// Adds the line that a refusal prints.
+pub(crate) fn print_refusal(output: &mut Output, refused: Refused) -> Result<(), AllocError>
+    ensures ok { OnOk result (output.new ≡ output.old ++ a.refusal_line refused) }
+{
+    output.refused(refused)?;
+    output.text("\n")
+}
+
+/// Adds a line for each notice that an adapter was told.
+fn print_told(
+    output: &mut Output,
+    meta: &Meta,
+    told: &[(AdapterNo, Notice)],
+) -> Result<(), AllocError>
+    ensures ok { OnOk result (output.new ≡ output.old ++ a.told_text meta.now told.now) }
+{
+    for (no, notice) in told {
+        output.notified(meta, *no, notice)?;
+    }
+    Ok(())
+}
+
+/// Adds a line for each adapter that was released.
+fn print_released<A: Adapter>(
+    output: &mut Output,
+    released: &[(AdapterNo, A)],
+) -> Result<(), AllocError>
+    ensures ok { OnOk result (output.new ≡ output.old ++ a.all_released_text (map (λ b. (b.0, A.heard b.1)) released.now)) }
+{
+    for (no, adapter) in released {
+        output.released(*no, adapter.told(), adapter.kept_len())?;
+    }
+    Ok(())
+}
+
+/// Adds the lines of who was notified of what, and of who was released.
+fn print_notified<A: Adapter>(
+    output: &mut Output,
+    meta: &Meta,
+    told: &[(AdapterNo, Notice)],
+    released: &[(AdapterNo, A)],
+) -> Result<(), AllocError>
+    ensures ok { OnOk result (output.new ≡ output.old ++ a.notified_text meta.now told.now (map (λ b. (b.0, A.heard b.1)) released.now)) }
+{
+    print_told(output, meta, told)?;
+    print_released(output, released)
+}
+
+/// Adds the lines that a command prints; the feature is the one that it names.
+pub(crate) fn print_outcome<A: Adapter>(
+    output: &mut Output,
+    meta: &Meta,
+    feature: FeatureNo,
+    outcome: &Result<Reply<A>, Failure<A>>,
+) -> Result<(), AllocError>
+    ensures ok { OnOk result (output.new ≡ output.old ++ a.outcome_text meta.now feature (outcome_view A.heard outcome.now)) }
 {
     match outcome {
-        Ok(reply) => print_answer(output, meta, feature, &reply.answer)?,
-        Err(failure) => output.refused(failure.refused)?,
+        Ok(reply) => {
+            print_answer_line(output, meta, feature, &reply.answer)?;
+            print_notified(
+                output,
+                meta,
+                reply.told.as_slice(),
+                reply.released.as_slice(),
+            )
+        }
+        Err(failure) => print_refusal(output, failure.refused),
     }
-    output.text("\n")
 }

@@ -21,8 +21,11 @@ from standard input, and what each of its lines answers is printed on standard o
   unset #0 name          takes a feature back to its default: ok
   isset #0 name          whether a feature is set: false
   class #0               the class of an object: class Book
+  attach A1 #0 flat      attaches an adapter, one of A1 to A8, which is notified of changes
+  detach A1              detaches it: a line for its last notice, and one for what it heard
+  seen A1                how many notices it was told and keeps: seen 3 kept 3
 
-A value is null, true, false, a number, a JSON string, :LITERAL or #N. A line that can't be done
+Behind the answer of a line stands a line for each notice that an adapter was told. A value is null, true, false, a number, a JSON string, :LITERAL or #N. A line that can't be done
 prints why, as `refused 8 TYPE`, and changes nothing; a line that does not parse prints `bad line`.
 
 Example:

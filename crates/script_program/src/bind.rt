@@ -1,47 +1,90 @@
-//! The command that a form asks for.
+//! What a form asks for.
 ghost use Rattle.std.specs.Prelude.{◌≡◌};
 ghost use Rattle.script_program.specs.Bind as b;
+ghost use Rattle.script_program.specs.Pool.{box_of};
+ghost use Rattle.script_program.specs.Session.{session};
 
+use crate::pool::Pool;
+use crate::request::Request;
+use adapters::Adapter;
 use mm_meta::Meta;
-use mm_types::{ClassNo, DataType, FeatureNo, Kind, Node, Value};
+use mm_types::{AdapterNo, ClassNo, FeatureNo, Node, Value};
 use repository::{Command, Repository};
 use script_lines::{Form, WrittenValue};
+use script_output::enum_of;
 
 /// A number that no class, no feature and no literal has.
 pub(crate) const NOTHING: u32 = u32::MAX;
 
-/// The command that a form asks for: the names of classes, features and literals are looked up in the metamodel. A name
-/// that is not there gets the number `NOTHING`, so that the repository refuses the command. Takes no memory.
-pub(crate) fn bind(repository: &Repository, form: Form<'_>) -> Command
-    ensures { result ≡ b.bind repository.now form.entry }
+/// What a form asks for: the names of classes, features and literals are looked up in the metamodel, and the adapter to be
+/// attached is taken out of the pool. A name that is not there gets the number `NOTHING`, so that the repository refuses the
+/// command. Takes no memory.
+pub(crate) fn bind<A: Adapter>(
+    repository: &Repository<A>,
+    pool: &mut Pool<A>,
+    form: Form<'_>,
+) -> Request<A>
+    ensures request { b.request_view A.heard result ≡ b.bind (session repository.now pool.old) form.entry }
+    ensures pool { pool.new ≡ b.pool_of pool.old (b.request_view A.heard result) }
 {
     match form {
-        Form::New { class } => Command::Create(class_number(repository.meta(), class.as_str())),
+        Form::New { class } => {
+            let class = class_number(repository.meta(), class.as_str());
+            Request::Execute(Command::Create(class))
+        }
         Form::Set {
             node,
             feature,
             value,
         } => {
             let feature = feature_number(repository, node, feature.as_str());
-            set_command(repository.meta(), node, feature, value)
+            Request::Execute(set_command(repository.meta(), node, feature, value))
         }
-        Form::Unset { node, feature } => Command::Unset {
-            node,
-            feature: feature_number(repository, node, feature.as_str()),
-        },
-        Form::Get { node, feature } => Command::Get {
-            node,
-            feature: feature_number(repository, node, feature.as_str()),
-        },
-        Form::IsSet { node, feature } => Command::IsSet {
-            node,
-            feature: feature_number(repository, node, feature.as_str()),
-        },
-        Form::Class(object) => Command::Class(object),
+        Form::Unset { node, feature } => {
+            let feature = feature_number(repository, node, feature.as_str());
+            Request::Execute(Command::Unset { node, feature })
+        }
+        Form::Attach { no, target, deep } => attach_request(pool, no, target, deep),
+        Form::Detach(no) => Request::Execute(Command::Detach(no)),
+        Form::Get { node, feature } => {
+            let feature = feature_number(repository, node, feature.as_str());
+            Request::Execute(Command::Get { node, feature })
+        }
+        Form::IsSet { node, feature } => {
+            let feature = feature_number(repository, node, feature.as_str());
+            Request::Execute(Command::IsSet { node, feature })
+        }
+        Form::Class(object) => Request::Execute(Command::Class(object)),
+        Form::Seen(no) => Request::Seen(no),
     }
 }
 
-fn set_command(meta: &Meta, node: Node, feature: FeatureNo, written: WrittenValue<'_>) -> Command
+fn attach_request<A: Adapter>(
+    pool: &mut Pool<A>,
+    no: AdapterNo,
+    target: Node,
+    deep: bool,
+) -> Request<A>
+    ensures request { b.request_view A.heard result ≡ b.attach_request (box_of pool.old no) no target deep }
+    ensures pool { pool.new ≡ b.pool_of pool.old (b.request_view A.heard result) }
+{
+    match pool.take(no) {
+        Ok(adapter) => Request::Execute(Command::Attach {
+            no,
+            target,
+            deep,
+            adapter,
+        }),
+        Err(refused) => Request::Refuse(refused),
+    }
+}
+
+fn set_command<A>(
+    meta: &Meta,
+    node: Node,
+    feature: FeatureNo,
+    written: WrittenValue<'_>,
+) -> Command<A>
     ensures { result ≡ b.set_command meta.now node feature written.entry }
 {
     Command::Set {
@@ -57,7 +100,7 @@ fn class_number(meta: &Meta, name: &str) -> ClassNo
     meta.class_by_name(name).unwrap_or(ClassNo(NOTHING))
 }
 
-fn feature_number(repository: &Repository, node: Node, name: &str) -> FeatureNo
+fn feature_number<A: Adapter>(repository: &Repository<A>, node: Node, name: &str) -> FeatureNo
     ensures { result ≡ b.feature_number repository.now node name.now }
 {
     match node {
@@ -75,31 +118,6 @@ fn feature_number(repository: &Repository, node: Node, name: &str) -> FeatureNo
                 FeatureNo(NOTHING)
             }
         }
-    }
-}
-
-/// The enumeration that is a feature's type.
-pub(crate) fn enum_of(meta: &Meta, feature: FeatureNo) -> Option<u32>
-    ensures { result ≡ b.enum_of meta.now feature }
-{
-    enum_of_kind(&meta.feature(feature)?.kind)
-}
-
-fn enum_of_kind(kind: &Kind) -> Option<u32>
-    ensures { result ≡ b.enum_of_kind kind.now }
-{
-    match kind {
-        Kind::Attribute { value_type, .. } => enum_of_type(*value_type),
-        Kind::Reference { .. } => None,
-    }
-}
-
-fn enum_of_type(value_type: DataType) -> Option<u32>
-    ensures { result ≡ b.enum_of_type value_type }
-{
-    match value_type {
-        DataType::Enum(e) => Some(e),
-        DataType::EString | DataType::EInt | DataType::ELong | DataType::EBoolean => None,
     }
 }
 

@@ -1,8 +1,8 @@
 //! Laws of the definitions, each the contract of a function that does nothing.
 ghost use Rattle.std.specs.Prelude.{◌≡◌, ◌++◌, [], List, ℕ, length};
-ghost use Rattle.repository.specs.State.{State};
 ghost use Rattle.script_lines.specs.Lines.{lines};
 ghost use Rattle.script_program.specs.Lost.{AreCommands, lost_lines, script};
+ghost use Rattle.script_program.specs.Session.{Session};
 ghost use Rattle.script_program.specs.Script.{RunsLines};
 ghost use Rattle.script_program.specs.Turns.{Printed, summary_of};
 
@@ -10,18 +10,18 @@ ghost use Rattle.script_program.specs.Turns.{Printed, summary_of};
 /// stands once and is that of a line that asks for a command, and there are as many as `no_memory` counts. What the first
 /// lines print is a front of such a text.
 pub fn what_lines_print_is_the_script()
-    ensures whole { (s t : State) (bytes : List ℕ) (printed : List Printed) → RunsLines s (lines bytes) printed t
+    ensures whole { (s t : Session) (bytes : List ℕ) (printed : List Printed) → RunsLines s (lines bytes) printed t
         → script s bytes (lost_lines printed) ≡ printed }
-    ensures front { (s t : State) (bytes : List ℕ) (first rest : List (List ℕ)) (printed : List Printed)
+    ensures front { (s t : Session) (bytes : List ℕ) (first rest : List (List ℕ)) (printed : List Printed)
         → lines bytes ≡ first ++ rest → RunsLines s first printed t
         → (more : List Printed) × (script s bytes (lost_lines printed) ≡ printed ++ more) }
-    ensures lost { (s t : State) (ls : List (List ℕ)) (printed : List Printed) → RunsLines s ls printed t
+    ensures lost { (s t : Session) (ls : List (List ℕ)) (printed : List Printed) → RunsLines s ls printed t
         → AreCommands ls (lost_lines printed) }
     ensures as_many { (printed : List Printed) → length (lost_lines printed) ≡ (summary_of printed).no_memory }
 {}
 
 /// Where no line is lost, what a script prints is one function of its bytes.
 pub fn with_no_line_lost_the_script_is_a_function()
-    ensures { (s t : State) (bytes : List ℕ) (printed : List Printed) → RunsLines s (lines bytes) printed t
+    ensures { (s t : Session) (bytes : List ℕ) (printed : List Printed) → RunsLines s (lines bytes) printed t
         → (summary_of printed).no_memory ≡ 0 → printed ≡ script s bytes [] }
 {}

@@ -6,8 +6,9 @@ mod arguments;
 mod bind;
 pub mod laws;
 mod line;
-mod output;
+mod pool;
 mod reading;
+mod request;
 mod run_fault;
 mod script;
 mod summary;
@@ -15,7 +16,6 @@ mod turn;
 mod writing;
 
 pub use arguments::meta_file;
-pub use output::Output;
 pub use reading::read_all;
 pub use run_fault::RunFault;
 pub use script::run;

@@ -1,22 +1,30 @@
 //! A line of a script is run.
 ghost use Rattle.std.specs.Prelude.{◌≡◌, [], IfOk};
+ghost use Rattle.notice_chain.specs.View.{View};
+ghost use Rattle.repository.specs.Views.{command_view, outcome_view};
 ghost use Rattle.repository.specs.declared.command.Command.TheVariants.{Get};
 ghost use Rattle.script_lines.specs.Forms as forms;
-ghost use Rattle.script_program.specs.Script.{RunsCommand, RunsLine};
-ghost use Rattle.script_program.specs.Turns.{outcome_turn};
+ghost use Rattle.script_program.specs.Bind.{IsGiven, pool_of, request_view};
+ghost use Rattle.script_program.specs.Pool.{Pool as PoolView};
+ghost use Rattle.script_program.specs.Script.{RunsCommand, RunsLine, RunsRequest, seen_printed};
+ghost use Rattle.script_program.specs.Session.{IsBrought, brought_no, session, taken};
+ghost use Rattle.script_program.specs.Turns.{outcome_turn, printed};
 
-use crate::answers::{feature_of, print_outcome, print_value};
+use crate::answers::{feature_of, print_outcome, print_refusal, print_value};
 use crate::bind::bind;
-use crate::output::Output;
+use crate::pool::Pool;
+use crate::request::Request;
 use crate::turn::Turn;
-use mm_types::{FeatureNo, Node, Refused, Value};
+use adapters::Adapter;
+use mm_types::{AdapterNo, FeatureNo, Node, Refused, Value};
 use repository::{Command, Failure, Reply, Repository};
 use script_lines::{Line, parse_line};
+use script_output::Output;
 use std::alloc::{AllocError, Global};
 
 /// How the outcome of a command is counted.
-fn turn_of(outcome: &Result<Reply, Failure>) -> Turn
-    ensures { result ≡ outcome_turn outcome.now }
+fn turn_of<A>(outcome: &Result<Reply<A>, Failure<A>>) -> Turn
+    ensures { (heard : A → View) → result ≡ outcome_turn (outcome_view heard outcome.now) }
 {
     match outcome {
         Ok(_) => Turn::Done,
@@ -30,15 +38,26 @@ fn turn_of(outcome: &Result<Reply, Failure>) -> Turn
     }
 }
 
+/// The number of the adapter that a command brings.
+fn number_of<A>(command: &Command<A>) -> Option<AdapterNo>
+    ensures { (heard : A → View) → result ≡ brought_no (command_view heard command.now) }
+{
+    match command {
+        Command::Attach { no, .. } => Some(*no),
+        _ => None,
+    }
+}
+
 /// Reads a feature and prints its value from where it is kept. Errs where memory is refused for what is printed.
-fn run_get(
-    repository: &Repository,
+fn run_get<A: Adapter>(
+    repository: &Repository<A>,
     output: &mut Output,
     node: Node,
     feature: FeatureNo,
 ) -> Result<Turn, AllocError>
     requires { output.old ≡ [] }
-    ensures { IfOk result (λ t. RunsCommand repository.now (Get node feature) (record { text = output.new; turn = t }) repository.now) }
+    ensures { (pool : PoolView)
+        → IfOk result (λ t. RunsCommand (session repository.now pool) (Get node feature) (printed output.new t) (session repository.now pool)) }
 {
     match repository.value(node, feature) {
         Ok(value) => {
@@ -47,40 +66,94 @@ fn run_get(
             Ok(Turn::Done)
         }
         Err(refused) => {
-            let outcome = Err(Failure { refused });
-            print_outcome(output, repository.meta(), feature, &outcome)?;
-            Ok(turn_of(&outcome))
+            print_refusal(output, refused)?;
+            Ok(Turn::Refused)
         }
     }
 }
 
-/// Executes a command and prints what it answers. Errs where memory is refused for what is printed.
-fn run_command(
-    repository: &mut Repository,
+/// Prints what an adapter has heard. Errs where memory is refused for what is printed.
+fn run_seen<A: Adapter>(
+    repository: &Repository<A>,
     output: &mut Output,
-    command: Command,
+    no: AdapterNo,
 ) -> Result<Turn, AllocError>
     requires { output.old ≡ [] }
-    ensures { IfOk result (λ t. RunsCommand repository.old command (record { text = output.new; turn = t }) repository.new) }
+    ensures { IfOk result (λ t. printed output.new t ≡ seen_printed repository.now no) }
 {
-    let feature = feature_of(&command);
-    let outcome = repository.execute(command);
-    print_outcome(output, repository.meta(), feature, &outcome)?;
-    Ok(turn_of(&outcome))
+    match (repository.adapter_told(no), repository.adapter_kept(no)) {
+        (Ok(told), Ok(kept)) => {
+            output.seen(told, kept)?;
+            output.text("\n")?;
+            Ok(Turn::Done)
+        }
+        (Err(refused), _) | (_, Err(refused)) => {
+            print_refusal(output, refused)?;
+            Ok(Turn::Refused)
+        }
+    }
 }
 
-/// Runs a line: parses it, executes the command that it asks for and prints what that answers.
+/// Executes a command, whose adapter is out of the pool, and prints what it answers. What is released, or not attached, goes back
+/// to the pool. Errs where memory is refused for what is printed.
+fn run_command<A: Adapter>(
+    repository: &mut Repository<A>,
+    pool: &mut Pool<A>,
+    output: &mut Output,
+    command: Command<A>,
+) -> Result<Turn, AllocError>
+    requires { output.old ≡ [] }
+    ensures { (before : PoolView) → pool.old ≡ taken before (command_view A.heard command) → IsBrought before (command_view A.heard command)
+        → IfOk result (λ t. RunsCommand (session repository.old before) (command_view A.heard command)
+        (printed output.new t) (session repository.new pool.new)) }
+{
+    let feature = feature_of(&command);
+    let no = number_of(&command);
+    let outcome = repository.execute(command);
+    print_outcome(output, repository.meta(), feature, &outcome)?;
+    let turn = turn_of(&outcome);
+    pool.give_back(no, outcome);
+    Ok(turn)
+}
+
+/// Does what a form asks for, and prints what it answers. Errs where memory is refused for what is printed.
+fn run_request<A: Adapter>(
+    repository: &mut Repository<A>,
+    pool: &mut Pool<A>,
+    output: &mut Output,
+    request: Request<A>,
+) -> Result<Turn, AllocError>
+    requires { output.old ≡ [] }
+    ensures { (before : PoolView) → pool.old ≡ pool_of before (request_view A.heard request) → IsGiven before (request_view A.heard request)
+        → IfOk result (λ t. RunsRequest (session repository.old before) (request_view A.heard request)
+        (printed output.new t) (session repository.new pool.new)) }
+{
+    match request {
+        Request::Execute(Command::Get { node, feature }) => {
+            run_get(repository, output, node, feature)
+        }
+        Request::Execute(command) => run_command(repository, pool, output, command),
+        Request::Seen(no) => run_seen(repository, output, no),
+        Request::Refuse(refused) => {
+            print_refusal(output, refused)?;
+            Ok(Turn::Refused)
+        }
+    }
+}
+
+/// Runs a line: parses it, does what it asks for and prints what that answers.
 ///
 /// Errs where memory is refused to the program itself. A command that the repository answers out of memory prints that
 /// refusal.
-pub(crate) fn run_line(
+pub(crate) fn run_line<A: Adapter>(
     alloc: Global,
-    repository: &mut Repository,
+    repository: &mut Repository<A>,
+    pool: &mut Pool<A>,
     output: &mut Output,
     line: &[u8],
 ) -> Result<Turn, AllocError>
     requires { output.old ≡ [] }
-    ensures { IfOk result (λ t. RunsLine repository.old (forms.form line.now) (record { text = output.new; turn = t }) repository.new) }
+    ensures { IfOk result (λ t. RunsLine (session repository.old pool.old) (forms.form line.now) (printed output.new t) (session repository.new pool.new)) }
 {
     match parse_line(alloc, line)? {
         Line::Blank => Ok(Turn::Blank),
@@ -89,11 +162,8 @@ pub(crate) fn run_line(
             Ok(Turn::Bad)
         }
         Line::Form(form) => {
-            let command = bind(repository, form);
-            match command {
-                Command::Get { node, feature } => run_get(repository, output, node, feature),
-                other => run_command(repository, output, other),
-            }
+            let request = bind(repository, pool, form);
+            run_request(repository, pool, output, request)
         }
     }
 }

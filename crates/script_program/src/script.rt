@@ -1,33 +1,36 @@
 //! A script is run.
 ghost use Rattle.std.specs.Prelude.{◌≡◌, ◌≤◌, ◌<◌, IfErr, IfOk, IfSome, IsErrOf, OnErr, OnOk, length};
 ghost use Rattle.std.specs.Io.KnownBytes.{IsAtEnd, Keeps};
-ghost use Rattle.repository.specs.State.{empty_state};
 ghost use Rattle.script_program.specs.Faults.{IsReadOrTooLong, IsWriteOrMemory};
-ghost use Rattle.script_program.specs.Script.{Prints, PrintsFront};
+ghost use Rattle.script_program.specs.Script.{Prints, PrintsFront, PrintsInput, PrintsInputFront};
+ghost use Rattle.script_program.specs.Session.{first_session, session};
 
 use crate::line::run_line;
-use crate::output::Output;
+use crate::pool::Pool;
 use crate::reading::read_all;
 use crate::run_fault::RunFault;
 use crate::summary::Summary;
 use crate::writing::write_all;
+use adapters::Adapter;
 use mm_meta::Meta;
 use mm_types::limits::INPUT_BYTES;
 use repository::Repository;
 use script_lines::next_line;
+use script_output::Output;
 use std::alloc::Global;
 use std::io::{Read, Write};
 
 /// Runs the lines of a script in turn, and writes what each prints.
-fn run_lines<W: Write>(
+fn run_lines<W: Write, A: Adapter>(
     alloc: Global,
     writer: &mut W,
-    repository: &mut Repository,
+    repository: &mut Repository<A>,
+    pool: &mut Pool<A>,
     input: &[u8],
 ) -> Result<Summary, RunFault>
     requires { length input.now ≤ INPUT_BYTES }
-    ensures ok { IfOk result (λ s. Prints repository.old (W.contents writer.old) (W.contents writer.new) input.now s) }
-    ensures err { OnErr result (PrintsFront repository.old (W.contents writer.old) (W.contents writer.new) input.now) }
+    ensures ok { IfOk result (λ s. Prints (session repository.old pool.old) (W.contents writer.old) (W.contents writer.new) input.now s) }
+    ensures err { OnErr result (PrintsFront (session repository.old pool.old) (W.contents writer.old) (W.contents writer.new) input.now) }
     ensures kind { IfErr result (λ e. IsWriteOrMemory e) }
 {
     let mut output = Output::new(alloc);
@@ -35,7 +38,7 @@ fn run_lines<W: Write>(
     let mut rest = input;
     'lines: while let Some((line, more)) = next_line(rest) {
         output.clear();
-        let Ok(turn) = run_line(alloc, repository, &mut output, line) else {
+        let Ok(turn) = run_line(alloc, repository, pool, &mut output, line) else {
             return Err(RunFault::Memory);
         };
         write_all(writer, output.as_bytes())?;
@@ -46,45 +49,54 @@ fn run_lines<W: Write>(
 }
 
 /// Runs a script over an empty repository of a metamodel, and writes what each line prints.
-fn run_input<W: Write>(
+fn run_input<W: Write, A: Adapter>(
     alloc: Global,
     writer: &mut W,
     meta: Meta,
+    boxes: Vec<A>,
     input: &[u8],
 ) -> Result<Summary, RunFault>
     requires { length input.now ≤ INPUT_BYTES }
-    ensures ok { IfOk result (λ s. Prints (empty_state meta) (W.contents writer.old) (W.contents writer.new) input.now s) }
-    ensures err { OnErr result (PrintsFront (empty_state meta) (W.contents writer.old) (W.contents writer.new) input.now) }
+    ensures ok { IfOk result (Prints (first_session A.heard meta boxes.items) (W.contents writer.old) (W.contents writer.new) input.now) }
+    ensures err { OnErr result (PrintsFront (first_session A.heard meta boxes.items) (W.contents writer.old) (W.contents writer.new) input.now) }
     ensures kind { IfErr result (λ e. IsWriteOrMemory e) }
 {
+    let Ok(mut pool) = Pool::new(alloc, boxes) else {
+        return Err(RunFault::Memory);
+    };
     let mut repository = Repository::new(alloc, meta);
-    run_lines(alloc, writer, &mut repository, input)
+    let outcome = run_lines(alloc, writer, &mut repository, &mut pool, input);
+    let _ = repository.close();
+    outcome
 }
 
-/// Reads a whole script, runs it over an empty repository of a metamodel, and writes what its lines print.
+/// Reads a whole script, runs it over an empty repository of a metamodel, and writes what its lines print. The n-th of the
+/// boxes, from 1 on, is An. At the end the repository is closed, and nothing is printed for that.
 ///
 /// Errs with `Read` where a read errs and with `TooLong` where the script has more than `INPUT_BYTES` bytes: then no line
 /// was run. Errs with `Write` where a write errs or takes no byte, and with `Memory` where memory is refused to the run
 /// itself: then what was written is a front of what the first lines print. Where memory is refused to the repository, the
 /// line prints `refused 28 MEMORY`, and the run goes on.
-pub fn run<R: Read, W: Write>(
+pub fn run<R: Read, W: Write, A: Adapter>(
     alloc: Global,
     reader: &mut R,
     writer: &mut W,
     meta: Meta,
+    boxes: Vec<A>,
 ) -> Result<Summary, RunFault>
     // All the input was read, and what was written is what its lines print.
-    ensures ok { IfOk result (λ s. IfSome (R.remaining reader.old) (λ input. (length input ≤ INPUT_BYTES) × Prints (empty_state meta) (W.contents writer.old) (W.contents writer.new) input s)) }
+    ensures ok { IfOk result (PrintsInput (R.remaining reader.old) (first_session A.heard meta boxes.items) (W.contents writer.old) (W.contents writer.new)) }
     ensures end { OnOk result (IsAtEnd (R.remaining reader.new)) }
     // Where a write fails or the run is out of memory, what was written is a front of what the first lines print.
-    ensures stopped { IfErr result (λ e. IsWriteOrMemory e → IfSome (R.remaining reader.old) (λ input. PrintsFront (empty_state meta) (W.contents writer.old) (W.contents writer.new) input)) }
+    ensures stopped { IfErr result (λ e. IsWriteOrMemory e
+        → PrintsInputFront (R.remaining reader.old) (first_session A.heard meta boxes.items) (W.contents writer.old) (W.contents writer.new)) }
     // After a fault in reading nothing was written.
     ensures unread { IfErr result (λ e. IsReadOrTooLong e → Keeps (W.contents writer.old) (W.contents writer.new)) }
     // `TooLong` is answered only where the input is too long.
     ensures long { IsErrOf result RunFault.TooLong → IfSome (R.remaining reader.old) (λ input. INPUT_BYTES < length input) }
 {
     match read_all(alloc, reader) {
-        Ok(input) => run_input(alloc, writer, meta, input.as_slice()),
+        Ok(input) => run_input(alloc, writer, meta, boxes, input.as_slice()),
         Err(fault) => Err(fault),
     }
 }

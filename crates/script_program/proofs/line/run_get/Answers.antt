@@ -1,10 +1,10 @@
-use Rattle.std.proofs.Common.{◌≡◌, ◌∙◌, ◌++◌, List, ℕ, Ok, ap, rules, subst}
+use Rattle.std.proofs.Common.{◌≡◌, ◌∙◌, ◌++◌, List, [], ℕ, Ok, ap, refl, rules, subst}
 use Rattle.std.specs.Prelude.{option_copied, unwrap_or}
 use Rattle.mm_types.specs.Resolved.{Metamodel}
 use Rattle.mm_types.specs.declared.value.Value.{Value}
 use Rattle.mm_types.specs.declared.value.Value.TheVariants.{Null}
 use Rattle.repository.specs.Run.{Executed}
-use Rattle.repository.specs.Step.{Outcome}
+use Rattle.repository.specs.Views.{Outcome}
 use Rattle.repository.specs.declared.command.Command.TheVariants.{Get}
 use Rattle.repository.specs.declared.reply.Answer.TheVariants as answer
 use Rattle.script_program.specs.Answers.{outcome_text}
@@ -17,11 +17,12 @@ printed_as : Turn → List ℕ → Printed
 printed_as turn text = record { text = text; turn = turn }
 
 read : Value → Outcome
-read v = Ok (record { answer = answer.Value v })
+read v = Ok (record { answer = answer.Value v; told = []; released = [] })
 
 pub returns-in_ok-print_value-in-Ok : goal.returns-in_ok-print_value-in-Ok
 unfolding printed_as read
-returns-in_ok-print_value-in-Ok c =
+returns-in_ok-print_value-in-Ok g c =
+    λ pool.
     let s = c.args.repository.now in
     let f = c.args.feature in
     let v : Value = c.unwrap_or-value.result.now in
@@ -31,4 +32,4 @@ returns-in_ok-print_value-in-Ok c =
     c.in_ok-print_value-in-Ok.ensures.ok ∙
     (ap (λ (old : List ℕ). old ++ outcome_text c.meta.result.now f (read v)) c.requires ∙
     ap (λ (m : Metamodel). outcome_text m f (read v)) c.meta.ensures) in
-    (read v, ran, ap (printed_as Done) text)
+    record { outcome = read v; executed = ran; pool = refl; printed = ap (printed_as Done) text }

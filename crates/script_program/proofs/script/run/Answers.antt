@@ -1,6 +1,6 @@
 use Rattle.std.proofs.Common.{Option, Some, None}
 use Rattle.std.specs.Prelude.{IfSome}
-use Rattle.repository.specs.State.{empty_state}
+use Rattle.script_program.specs.Session.{first_session}
 use Rattle.script_program.proofs.ScriptLemmas.{silent}
 use Rattle.script_program.proofs.script.run.Goals as goal
 
@@ -9,4 +9,4 @@ all_some P None h = tt
 all_some P (Some x) h = h x
 
 pub returns-in-Err-clause-stopped : goal.returns-in-Err-clause-stopped
-returns-in-Err-clause-stopped g c = λ e. all_some _ _ (λ input. silent (empty_state c.args.meta) _ input)
+returns-in-Err-clause-stopped g c = λ e. all_some _ _ (λ input. silent (first_session g.A.Adapter.heard c.args.meta c.args.boxes.items) _ input)

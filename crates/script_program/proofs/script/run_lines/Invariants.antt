@@ -1,13 +1,17 @@
 use Rattle.std.proofs.Common.{length, List}
 use Rattle.std.specs.Io.KnownBytes.{Appends}
+use Rattle.script_program.specs.Session.{Session}
 use Rattle.script_program.specs.Turns.{Printed, texts}
 use Rattle.script_program.proofs.ScriptLemmas.{GoesOn}
 use Rattle.script_program.proofs.script.run_lines.Given as goal
 
 abbrev pub invariant-lines : goal.invariant-lines
-invariant-lines g l = (printed : List Printed)
+invariant-lines g l =
+    let first : Session = record { state = l.fn.repository; pool = l.fn.pool } in
+    let now : Session = record { state = l.repository; pool = l.pool } in
+    (printed : List Printed)
     × Appends (g.W.Write.contents l.fn.writer) (g.W.Write.contents l.writer) (texts printed)
-    × GoesOn l.fn.repository l.input l.rest l.repository printed l.summary
+    × GoesOn first l.input l.rest now printed l.summary
 
 abbrev pub decreases-lines : goal.decreases-lines
 decreases-lines g l = length l.rest

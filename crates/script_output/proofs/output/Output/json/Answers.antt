@@ -1,7 +1,7 @@
 use Rattle.std.proofs.Common.{◌∙◌, ap}
 use Rattle.std.proofs.lemmas.Result.{on_err_weaker, on_ok_weaker}
-use Rattle.script_program.proofs.OutputLemmas.{no_string, one_string}
-use Rattle.script_program.proofs.output.Output.json.Goals as goal
+use Rattle.script_output.proofs.OutputLemmas.{no_string, one_string}
+use Rattle.script_output.proofs.output.Output.json.Goals as goal
 
 pub returns-clause-ok : goal.returns-clause-ok
 returns-clause-ok c =

@@ -1,19 +1,20 @@
-//! What a run prints.
+//! A text that grows at its end, by values, answers and refusals.
 ghost use Rattle.std.specs.Prelude.{◌≡◌, ◌++◌, ◌∷◌, [], OnErr, OnOk, take, length};
 ghost use Rattle.std.specs.Io.{StartsWith};
 ghost use Rattle.std.specs.Fmt.{decimal, signed_decimal};
 ghost use Rattle.mm_types.specs.Refusals.{refusal_detail};
-ghost use Rattle.script_program.specs.Printed.{cause_detail, json_text, node_text, refused_text, value_text};
+ghost use Rattle.script_output.specs.Printed.{adapter_text, cause_detail, class_text, json_text, node_text, refused_text, value_text};
 
+mod told;
+
+use crate::names::class_name;
 use json::Writer;
-use mm_types::{DocFault, Node, Refused, Value};
-use script_lines::grammar::{LITERAL_MARK, OBJECT_MARK, RESOURCE_MARK, SPACE};
+use mm_meta::Meta;
+use mm_types::{AdapterNo, ClassNo, DocFault, Node, Refused, Value};
+use script_lines::grammar::{ADAPTER_MARK, LITERAL_MARK, OBJECT_MARK, RESOURCE_MARK, SPACE};
 use std::alloc::{AllocError, Global};
 use std::marker::Model;
 use std::mem;
-
-/// Stands before the number of an adapter: `A7`.
-const ADAPTER_MARK: u8 = b'A';
 
 /// A text that grows at its end, seen as its bytes. Where memory is refused it stays as it was.
 #[derive(Drop)]
@@ -71,7 +72,8 @@ impl Output {
         Ok(())
     }
 
-    fn natural(&mut self, n: u32) -> Result<(), AllocError>
+    /// Adds a number in decimal.
+    pub fn natural(&mut self, n: u64) -> Result<(), AllocError>
         ensures ok { OnOk result (self.new ≡ self.old ++ decimal n) }
         ensures err { OnErr result (self.new ≡ self.old) }
     {
@@ -118,11 +120,11 @@ impl Output {
         match node {
             Node::Object(object) => {
                 self.byte(OBJECT_MARK)?;
-                self.natural(object.0)
+                self.natural(u64::from(object.0))
             }
             Node::Resource(resource) => {
                 self.byte(RESOURCE_MARK)?;
-                self.natural(resource.0)
+                self.natural(u64::from(resource.0))
             }
         }
     }
@@ -135,6 +137,14 @@ impl Output {
         let start = self.bytes.len();
         let added = self.node_parts(node);
         self.whole(start, added)
+    }
+
+    fn adapter_parts(&mut self, no: AdapterNo) -> Result<(), AllocError>
+        ensures ok { OnOk result (self.new ≡ self.old ++ adapter_text no) }
+        ensures err { OnErr result (StartsWith self.new self.old) }
+    {
+        self.byte(ADAPTER_MARK)?;
+        self.natural(u64::from(no.0))
     }
 
     fn value_parts(&mut self, value: &Value, literal: &str) -> Result<(), AllocError>
@@ -156,10 +166,7 @@ impl Output {
                 self.text("proxy ")?;
                 self.json(text.as_str())
             }
-            Value::Adapter(adapter) => {
-                self.byte(ADAPTER_MARK)?;
-                self.natural(adapter.0)
-            }
+            Value::Adapter(adapter) => self.adapter_parts(*adapter),
         }
     }
 
@@ -174,12 +181,30 @@ impl Output {
         self.whole(start, added)
     }
 
+    fn class_parts(&mut self, meta: &Meta, class: ClassNo) -> Result<(), AllocError>
+        ensures ok { OnOk result (self.new ≡ self.old ++ class_text meta.now class) }
+        ensures err { OnErr result (StartsWith self.new self.old) }
+    {
+        self.text("class ")?;
+        self.text(class_name(meta, class))
+    }
+
+    /// Adds a class by its name: `class Book`.
+    pub fn class(&mut self, meta: &Meta, class: ClassNo) -> Result<(), AllocError>
+        ensures ok { OnOk result (self.new ≡ self.old ++ class_text meta.now class) }
+        ensures err { OnErr result (self.new ≡ self.old) }
+    {
+        let start = self.bytes.len();
+        let added = self.class_parts(meta, class);
+        self.whole(start, added)
+    }
+
     fn cause_parts(&mut self, cause: DocFault) -> Result<(), AllocError>
         ensures ok { OnOk result (self.new ≡ self.old ++ cause_detail cause) }
         ensures err { OnErr result (StartsWith self.new self.old) }
     {
         self.byte(SPACE)?;
-        self.natural(cause.number())?;
+        self.natural(u64::from(cause.number()))?;
         self.byte(SPACE)?;
         self.text(cause.name())
     }
@@ -203,7 +228,7 @@ impl Output {
         ensures err { OnErr result (StartsWith self.new self.old) }
     {
         self.text("refused ")?;
-        self.natural(refused.number())?;
+        self.natural(u64::from(refused.number()))?;
         self.byte(SPACE)?;
         self.text(refused.name())?;
         self.detail(refused)

@@ -1,18 +1,21 @@
--- What is printed for values, nodes and refusals.
+-- What is printed for values, nodes, classes and refusals.
 use Rattle.std.specs.Prelude.{ℕ, true, false, List, ◌∷◌, ◌++◌, codes}
 use Rattle.std.specs.Fmt.{decimal, signed_decimal}
 use Rattle.serde_json.specs.Data.{string}
 use Rattle.serde_json.specs.Written.{compact_text}
 use Rattle.mm_types.specs.Causes.{cause_text}
 use Rattle.mm_types.specs.Refusals.{refusal_text}
+use Rattle.mm_types.specs.Resolved.{Metamodel}
 use Rattle.mm_types.specs.declared.document_fault.DocFault.{DocFault}
+use Rattle.mm_types.specs.declared.numbers.AdapterNo.{AdapterNo}
+use Rattle.mm_types.specs.declared.numbers.ClassNo.{ClassNo}
 use Rattle.mm_types.specs.declared.numbers.Node.{Node}
 use Rattle.mm_types.specs.declared.numbers.Node.TheVariants as node
 use Rattle.mm_types.specs.declared.refused.Refused.{Refused}
 use Rattle.mm_types.specs.declared.value.Value.{Value}
 use Rattle.mm_types.specs.declared.value.Value.TheVariants as value
-use Rattle.script_lines.specs.declared.grammar.TheConstants.{LITERAL_MARK, OBJECT_MARK, RESOURCE_MARK, SPACE}
-use Rattle.script_program.specs.declared.output.TheConstants.{ADAPTER_MARK}
+use Rattle.script_lines.specs.declared.grammar.TheConstants.{ADAPTER_MARK, LITERAL_MARK, OBJECT_MARK, RESOURCE_MARK, SPACE}
+use Rattle.script_output.specs.Names.{class_name}
 
 -- a text as a JSON string
 abbrev pub json_text : List ℕ → List ℕ
@@ -22,6 +25,10 @@ json_text t = compact_text (string t)
 abbrev pub node_text : Node → List ℕ
 node_text (node.Object o) = OBJECT_MARK ∷ decimal o.0
 node_text (node.Resource r) = RESOURCE_MARK ∷ decimal r.0
+
+-- `A7`
+abbrev pub adapter_text : AdapterNo → List ℕ
+adapter_text a = ADAPTER_MARK ∷ decimal a.0
 
 -- a value; where it is a literal, `literal` is its name
 abbrev pub value_text : List ℕ → Value → List ℕ
@@ -33,7 +40,11 @@ value_text literal (value.Text t) = json_text t
 value_text literal (value.Literal index) = LITERAL_MARK ∷ literal
 value_text literal (value.Object o) = OBJECT_MARK ∷ decimal o.0
 value_text literal (value.Proxy t) = codes "proxy " ++ json_text t
-value_text literal (value.Adapter a) = ADAPTER_MARK ∷ decimal a.0
+value_text literal (value.Adapter a) = adapter_text a
+
+-- as `class Book`
+abbrev pub class_text : Metamodel → ClassNo → List ℕ
+class_text m c = codes "class " ++ class_name m c
 
 -- as ` 10 ONE_SIDED`
 abbrev pub cause_detail : DocFault → List ℕ

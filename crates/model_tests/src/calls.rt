@@ -1,0 +1,159 @@
+//! The calls that concern a repository's adapters, each done and refused.
+use crate::books::{NAME, attach, object, one_book, text};
+use crate::replies::{failure_text, outcome_text, reply_text};
+use crate::telling::{Kind, adapter};
+use adapters::{Adapter, Counter};
+use mm_types::{AdapterNo, Node, Refused, ResourceNo};
+use repository::{Command, Repository};
+use std::alloc::{AllocError, Global};
+use std::test::Fail;
+
+/// What the calls give when an adapter is attached to a book, the book is named and unnamed, and the adapter is counted and
+/// detached.
+fn calls<A: Adapter>(alloc: Global, adapter: A) -> Result<[String; 3], Fail> {
+    let mut repository = one_book(alloc)?;
+    let attached = repository.attach(AdapterNo(5), object(0), true, adapter);
+    let attached = outcome_text(alloc, &attached)?;
+    repository.e_set(object(0), NAME, text(alloc, "Emma")?)?;
+    repository.e_unset(object(0), NAME)?;
+    let told = repository.adapter_told(AdapterNo(5))?;
+    let kept = repository.adapter_kept(AdapterNo(5))?;
+    let counted = format!(in alloc; "{told} told, {kept} kept")?;
+    let detached = reply_text(alloc, &repository.detach(AdapterNo(5))?)?;
+    Ok([attached, counted, detached])
+}
+
+const DETACHED: &str =
+    "Done; A5 REMOVING_ADAPTER Adapter(AdapterNo(5)) Null 0 false; A5 back, 3 told, REMOVING_ADAPTER 0";
+
+#[test]
+fn an_adapter_is_attached_counted_and_detached(rt: HostRuntime) -> Result<(), Fail> {
+    let window = adapter(rt.alloc(), Kind::WindowOfOne)?;
+    let found = calls(rt.alloc(), window)?;
+    assert_eq!(rt; found[0].as_str(), "Done");
+    assert_eq!(rt; found[1].as_str(), "2 told, 1 kept");
+    assert_eq!(rt; found[2].as_str(), DETACHED);
+    Ok(())
+}
+
+fn attach_command<A>(no: u32, target: Node, adapter: A) -> Command<A> {
+    Command::Attach {
+        no: AdapterNo(no),
+        target,
+        deep: false,
+        adapter,
+    }
+}
+
+/// The same calls as commands.
+fn commands<A: Adapter>(alloc: Global, adapter: A) -> Result<Vec<Command<A>>, AllocError> {
+    let mut commands = Vec::new(alloc);
+    commands.push(attach_command(5, object(0), adapter))?;
+    commands.push(Command::Set {
+        node: object(0),
+        feature: NAME,
+        value: text(alloc, "Emma")?,
+    })?;
+    commands.push(Command::AdapterTold(AdapterNo(5)))?;
+    commands.push(Command::AdapterKept(AdapterNo(5)))?;
+    commands.push(Command::Detach(AdapterNo(5)))?;
+    Ok(commands)
+}
+
+/// What commands give over a repository, each on a line.
+fn executed<A: Adapter>(
+    alloc: Global,
+    repository: &mut Repository<A>,
+    commands: Vec<Command<A>>,
+) -> Result<String, AllocError> {
+    let mut text = String::new(alloc);
+    for command in commands {
+        let outcome = repository.execute(command);
+        text.push_str(outcome_text(alloc, &outcome)?.as_str())?;
+        text.push('\n')?;
+    }
+    Ok(text)
+}
+
+/// What the same calls give as commands.
+fn called_by_commands<A: Adapter>(alloc: Global, adapter: A) -> Result<String, Fail> {
+    let mut repository = one_book(alloc)?;
+    let commands = commands(alloc, adapter)?;
+    Ok(executed(alloc, &mut repository, commands)?)
+}
+
+const EXECUTED: &str =
+    "Done\nDone; A5 SET Null Text(\"Emma\") -1 false\nCount(1)\nCount(1)\nDone; A5 REMOVING_ADAPTER Adapter(AdapterNo(5)) Null 0 false; A5 back, 2 told, SET -1, REMOVING_ADAPTER 0\n";
+
+#[test]
+fn commands_attach_count_and_detach(rt: HostRuntime) -> Result<(), Fail> {
+    let recorder = adapter(rt.alloc(), Kind::Recorder)?;
+    let found = called_by_commands(rt.alloc(), recorder)?;
+    assert_eq!(rt; found.as_str(), EXECUTED);
+    Ok(())
+}
+
+/// Commands that are refused where the number 5 is attached, and 9 is not.
+fn refused_commands(alloc: Global) -> Result<Vec<Command<Counter>>, AllocError> {
+    let heard = || Counter::starting_at(41);
+    let full = Counter::starting_at(18446744073709551615);
+    let commands = vec![in alloc;
+        attach_command(5, object(7), heard()),
+        attach_command(5, Node::Resource(ResourceNo(0)), heard()),
+        attach_command(5, object(0), heard()),
+        attach_command(9, object(0), full),
+        Command::Detach(AdapterNo(9)),
+        Command::AdapterTold(AdapterNo(9)),
+        Command::AdapterKept(AdapterNo(9)),
+    ]?;
+    Ok(commands)
+}
+
+/// No object, no resource, a taken number, a full adapter, and three times no adapter.
+const REFUSED: &str =
+    "refused 1, back, 41 told\nrefused 2, back, 41 told\nrefused 26, back, 41 told\nrefused 27, back, 18446744073709551615 told\nrefused 25\nrefused 25\nrefused 25\n";
+
+#[test]
+fn refused_commands_give_their_adapter_back(rt: HostRuntime) -> Result<(), Fail> {
+    let mut repository: Box<Repository<Counter>> = one_book(rt.alloc())?;
+    attach(&mut repository, 5, Counter::new())?;
+    let commands = refused_commands(rt.alloc())?;
+    let found = executed(rt.alloc(), &mut repository, commands)?;
+    assert_eq!(rt; found.as_str(), REFUSED);
+    assert_eq!(rt; repository.adapter_told(AdapterNo(5)), Ok(0));
+    Ok(())
+}
+
+#[test]
+fn refused_calls_say_why(rt: HostRuntime) -> Result<(), Fail> {
+    let mut repository: Box<Repository<Counter>> = one_book(rt.alloc())?;
+    let no = AdapterNo(9);
+    assert_eq!(rt; repository.adapter_told(no), Err(Refused::NoAdapter));
+    assert_eq!(rt; repository.adapter_kept(no), Err(Refused::NoAdapter));
+    assert_eq!(rt; repository.detach(no).err(), Some(Refused::NoAdapter));
+    Ok(())
+}
+
+/// Detaches an adapter that has heard something, and attaches it where nothing is: it comes back once more.
+fn attached_nowhere<A: Adapter>(alloc: Global, adapter: A) -> Result<String, Fail> {
+    let mut repository = one_book(alloc)?;
+    attach(&mut repository, 5, adapter)?;
+    repository.e_set(object(0), NAME, text(alloc, "Emma")?)?;
+    let mut released = repository.detach(AdapterNo(5))?.released.into_vec();
+    let Some((no, adapter)) = released.pop() else {
+        return Err(Fail::new("the adapter is not given back"));
+    };
+    match repository.attach(no, object(1), false, adapter) {
+        Ok(_) => Err(Fail::new("an adapter is attached to no object")),
+        Err(failure) => Ok(failure_text(alloc, &failure)?),
+    }
+}
+
+#[test]
+fn a_refused_adapter_has_heard_what_it_had(rt: HostRuntime) -> Result<(), Fail> {
+    let recorder = adapter(rt.alloc(), Kind::Recorder)?;
+    let found = attached_nowhere(rt.alloc(), recorder)?;
+    let wanted = "refused 1, back, 2 told, SET -1, REMOVING_ADAPTER 0";
+    assert_eq!(rt; found.as_str(), wanted);
+    Ok(())
+}

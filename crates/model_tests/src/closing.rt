@@ -1,0 +1,28 @@
+//! A repository that is closed.
+use crate::books::{attach, one_book};
+use crate::replies::back;
+use crate::telling::{Kind, adapter};
+use adapters::Adapter;
+use repository::Repository;
+use std::alloc::Global;
+use std::test::Fail;
+
+/// The adapters that come back when a repository is closed that has two at one book.
+fn closed<A: Adapter>(alloc: Global, first: A, second: A) -> Result<String, Fail> {
+    let mut repository: Box<Repository<A>> = one_book(alloc)?;
+    attach(&mut repository, 6, first)?;
+    attach(&mut repository, 5, second)?;
+    let adapters = Box::into_inner(repository).close();
+    Ok(back(alloc, adapters.as_slice())?)
+}
+
+/// In attach order, and each at the head of those that are left.
+const CLOSED: &str = "; A6 back, 1 told, REMOVING_ADAPTER 0; A5 back, 1 told, REMOVING_ADAPTER 0";
+
+#[test]
+fn a_closed_repository_gives_its_adapters_back(rt: HostRuntime) -> Result<(), Fail> {
+    let first = adapter(rt.alloc(), Kind::Recorder)?;
+    let found = closed(rt.alloc(), first, adapter(rt.alloc(), Kind::Recorder)?)?;
+    assert_eq!(rt; found.as_str(), CLOSED);
+    Ok(())
+}

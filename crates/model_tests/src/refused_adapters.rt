@@ -1,0 +1,97 @@
+//! Changes that an adapter can't hear.
+use crate::books::{NAME, attach, object, one_book, text, watched};
+use crate::replies::reply_text;
+use crate::telling::{Kind, adapter};
+use adapters::Adapter;
+use mm_types::{AdapterNo, Refused};
+use repository::{Reply, Repository};
+use std::alloc::{AllocError, Global};
+use std::test::Fail;
+
+/// How many notices an adapter was told, and how many it keeps.
+fn counts<A: Adapter>(repository: &Repository<A>, no: u32) -> Result<(u64, u64), Refused> {
+    let told = repository.adapter_told(AdapterNo(no))?;
+    Ok((told, repository.adapter_kept(AdapterNo(no))?))
+}
+
+/// What three adapters have heard, and the name of the book.
+fn state<A: Adapter>(alloc: Global, repository: &Repository<A>) -> Result<String, AllocError> {
+    let counts = (
+        counts(repository, 5),
+        counts(repository, 6),
+        counts(repository, 7),
+    );
+    let name = repository.e_get(object(0), NAME);
+    format!(in alloc; "{counts:?} {name:?}")
+}
+
+/// The three adapters after no notice, and after one: the poor one keeps none.
+const BEFORE: &str = "(Ok((0, 0)), Ok((0, 0)), Ok((0, 0))) Ok(Null)";
+
+const AFTER: &str = "(Ok((1, 1)), Ok((1, 0)), Ok((1, 1))) Ok(Text(\"Emma\"))";
+
+/// What the second call gives.
+const TOLD: &str =
+    "Done; A5 SET Null Text(\"Emma\") -1 false; A6 SET Null Text(\"Emma\") -1 false; A7 SET Null Text(\"Emma\") -1 false";
+
+fn name_book<A: Adapter>(
+    alloc: Global,
+    repository: &mut Repository<A>,
+) -> Result<Result<Reply<A>, Refused>, AllocError> {
+    let emma = text(alloc, "Emma")?;
+    Ok(repository.e_set(object(0), NAME, emma))
+}
+
+/// Names a book with three adapters, twice. Shows why it is refused first, what it gives then, and what the adapters
+/// have heard and the book has before, between and after.
+fn named_twice<A: Adapter>(
+    alloc: Global,
+    first: A,
+    second: A,
+    third: A,
+) -> Result<[String; 3], Fail> {
+    let mut repository = watched(alloc, first, second, third)?;
+    let before = state(alloc, &repository)?;
+    let refused = name_book(alloc, &mut repository)?.err();
+    let between = state(alloc, &repository)?;
+    let reply = name_book(alloc, &mut repository)??;
+    let told = reply_text(alloc, &reply)?;
+    let after = state(alloc, &repository)?;
+    let first = format!(in alloc; "{before}; {refused:?}; {between}")?;
+    Ok([first, told, after])
+}
+
+#[test]
+fn a_set_that_one_adapter_cannot_hear_notifies_none(rt: HostRuntime) -> Result<(), Fail> {
+    let alloc = rt.alloc();
+    let (first, second) = (adapter(alloc, Kind::Recorder)?, adapter(alloc, Kind::Poor)?);
+    let found = named_twice(alloc, first, second, adapter(alloc, Kind::Recorder)?)?;
+    let wanted = format!(in alloc; "{BEFORE}; Some(Memory); {BEFORE}")?;
+    assert_eq!(rt; found[0].as_str(), wanted.as_str());
+    assert_eq!(rt; found[1].as_str(), TOLD);
+    assert_eq!(rt; found[2].as_str(), AFTER);
+    Ok(())
+}
+
+/// Why a book with two adapters is not named.
+fn refused_to_two<A: Adapter>(alloc: Global, first: A, second: A) -> Result<Option<Refused>, Fail> {
+    let mut repository = one_book(alloc)?;
+    attach(&mut repository, 5, first)?;
+    attach(&mut repository, 6, second)?;
+    Ok(name_book(alloc, &mut repository)?.err())
+}
+
+#[test]
+fn the_first_adapter_that_refuses_decides(rt: HostRuntime) -> Result<(), Fail> {
+    let alloc = rt.alloc();
+    let cases = [
+        (Kind::LastAlone, Kind::Poor, Refused::AdapterFull),
+        (Kind::Poor, Kind::LastAlone, Refused::Memory),
+    ];
+    for (first, second, reason) in &cases {
+        let first = adapter(alloc, *first)?;
+        let found = refused_to_two(alloc, first, adapter(alloc, *second)?)?;
+        assert_eq!(rt; found, Some(*reason));
+    }
+    Ok(())
+}

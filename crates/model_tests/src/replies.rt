@@ -1,0 +1,125 @@
+//! What a repository gives, as texts. Each is asked for once more where memory is refused.
+use adapters::Adapter;
+use mm_types::AdapterNo;
+use notice_chain::Notice;
+use repository::{Failure, Reply};
+use std::alloc::{AllocError, Global};
+use std::test::Fail;
+
+/// Who was notified of what, as `; A5 SET Null Int(3) -1 false`: the adapter, the kind, the value before and the value
+/// after, the position, and whether the feature was set.
+fn told(alloc: Global, told: &[(AdapterNo, Notice)]) -> Result<String, AllocError> {
+    let mut text = String::new(alloc);
+    for (no, notice) in told {
+        let (kind, at, was_set) = (notice.kind.name(), notice.position, notice.was_set);
+        let (before, after) = (&notice.old_value, &notice.new_value);
+        let one = format!(in alloc; "; A{} {kind} {before:?} {after:?} {at} {was_set}", no.0)?;
+        text.push_str(one.as_str())?;
+    }
+    Ok(text)
+}
+
+/// What an adapter has heard, as `2 told, SET -1, REMOVING_ADAPTER 0`: how many notices, and of those that it keeps the
+/// kinds and positions.
+fn heard<A: Adapter>(alloc: Global, adapter: &A) -> Result<String, AllocError> {
+    let mut text = format!(in alloc; "{} told", adapter.told())?;
+    for i in 0..adapter.kept_len() {
+        if let Some(notice) = adapter.kept(i) {
+            let one = format!(in alloc; ", {} {}", notice.kind.name(), notice.position)?;
+            text.push_str(one.as_str())?;
+        }
+    }
+    Ok(text)
+}
+
+/// Adapters that come back, as `; A5 back, 1 told`.
+pub(crate) fn back<A: Adapter>(
+    alloc: Global,
+    adapters: &[(AdapterNo, A)],
+) -> Result<String, AllocError> {
+    let mut text = String::new(alloc);
+    for (no, adapter) in adapters {
+        let heard = heard(alloc, adapter)?;
+        let one = format!(in alloc; "; A{} back, {heard}", no.0)?;
+        text.push_str(one.as_str())?;
+    }
+    Ok(text)
+}
+
+fn reply_once<A: Adapter>(alloc: Global, reply: &Reply<A>) -> Result<String, AllocError> {
+    let told = told(alloc, reply.told.as_slice())?;
+    let back = back(alloc, reply.released.as_slice())?;
+    format!(in alloc; "{:?}{told}{back}", reply.answer)
+}
+
+/// The answer, who was notified of what, and the adapters that come back.
+pub(crate) fn reply_text<A: Adapter>(
+    alloc: Global,
+    reply: &Reply<A>,
+) -> Result<String, AllocError> {
+    match reply_once(alloc, reply) {
+        Ok(text) => Ok(text),
+        Err(_) => reply_once(alloc, reply),
+    }
+}
+
+fn failure_once<A: Adapter>(alloc: Global, failure: &Failure<A>) -> Result<String, AllocError> {
+    let number = failure.refused.number();
+    match &failure.given_back {
+        Some(adapter) => {
+            let heard = heard(alloc, adapter)?;
+            format!(in alloc; "refused {number}, back, {heard}")
+        }
+        None => format!(in alloc; "refused {number}"),
+    }
+}
+
+/// The refusal by its number, and the adapter that comes back.
+pub(crate) fn failure_text<A: Adapter>(
+    alloc: Global,
+    failure: &Failure<A>,
+) -> Result<String, AllocError> {
+    match failure_once(alloc, failure) {
+        Ok(text) => Ok(text),
+        Err(_) => failure_once(alloc, failure),
+    }
+}
+
+pub(crate) fn outcome_text<A: Adapter>(
+    alloc: Global,
+    outcome: &Result<Reply<A>, Failure<A>>,
+) -> Result<String, AllocError> {
+    match outcome {
+        Ok(reply) => reply_text(alloc, reply),
+        Err(failure) => failure_text(alloc, failure),
+    }
+}
+
+fn outcomes_once<A: Adapter>(
+    alloc: Global,
+    outcomes: &[Result<Reply<A>, Failure<A>>],
+) -> Result<String, AllocError> {
+    let mut text = String::new(alloc);
+    for outcome in outcomes {
+        let one = outcome_text(alloc, outcome)?;
+        text.push_str(one.as_str())?;
+        text.push('\n')?;
+    }
+    Ok(text)
+}
+
+/// Each outcome on a line.
+pub(crate) fn outcomes_text<A: Adapter>(
+    alloc: Global,
+    outcomes: &[Result<Reply<A>, Failure<A>>],
+) -> Result<String, AllocError> {
+    match outcomes_once(alloc, outcomes) {
+        Ok(text) => Ok(text),
+        Err(_) => outcomes_once(alloc, outcomes),
+    }
+}
+
+/// A test fails for this refusal.
+pub(crate) fn fail<A: Adapter>(failure: Failure<A>) -> Fail {
+    Fail::new(failure.refused)
+}

@@ -1,0 +1,75 @@
+-- Commands that notify nobody.
+use Rattle.std.proofs.Common.{◌≡◌, ◌∙◌, false, List, [], ◌++◌, Option, Some, None, Ok, refl, ap}
+use Rattle.std.proofs.lemmas.List.{append-nil}
+use Rattle.mm_types.specs.Conditions.{◌else_by◌, ◌where_so◌}
+use Rattle.mm_types.specs.declared.refused.Refused.{Refused}
+use Rattle.mm_types.specs.declared.refused.Refused.TheVariants.{AdapterFull}
+use Rattle.notice_chain.specs.View.{View}
+use Rattle.notice_chain.specs.Listed.{Listed, is_chain_full, tell_chain}
+use Rattle.notice_chain.specs.Released.{Released, released}
+use Rattle.mm_types.specs.declared.numbers.AdapterNo.{AdapterNo}
+use Rattle.mm_types.specs.declared.numbers.FeatureNo.{FeatureNo}
+use Rattle.mm_types.specs.declared.numbers.Node.{Node}
+use Rattle.mm_types.specs.declared.numbers.ObjectNo.{ObjectNo}
+use Rattle.handshake.specs.Named.{feature_refusal, object_refusal}
+use Rattle.models.specs.Model.{Model}
+use Rattle.repository.specs.Answers.{answer_of}
+use Rattle.repository.specs.Refusals.{adapter_refusal}
+use Rattle.repository.specs.State.{State, reads}
+use Rattle.repository.specs.Step.{Stepped, step, step_unless}
+use Rattle.repository.specs.declared.command.Command.{Command}
+use Rattle.repository.specs.declared.command.Command.TheVariants.{AdapterKept, AdapterTold, Class, Get, IsSet}
+use Rattle.repository.specs.declared.reply.Answer.{Answer}
+use Rattle.repository.proofs.AdapterLemmas.{is_chain_full-nil, released-nobody, tell_chain-nil}
+
+pub releases-quiet : (rs : List Listed) → released (λ a. false) (tell_chain [] rs) ≡ record { told = []; views = []; others = rs }
+releases-quiet rs = ap (released (λ a. false)) (tell_chain-nil rs) ∙ released-nobody rs
+
+-- what is done by a command that tells nothing, releases nobody, and attaches these
+pub done_quiet : (m : Model) (rs js : List Listed) (a : Answer) → (let x : Released = released (λ a. false) (tell_chain [] rs) in let y : Stepped = record {
+  outcome = Ok (record { answer = a; told = x.told; released = x.views });
+  after = record { model = m; adapters = x.others ++ js };
+} in y) ≡ record {
+  outcome = Ok (record { answer = a; told = []; released = [] });
+  after = record { model = m; adapters = rs ++ js };
+}
+done_quiet m rs js a = ap (λ (x : Released). let y : Stepped = record {
+  outcome = Ok (record { answer = a; told = x.told; released = x.views });
+  after = record { model = m; adapters = x.others ++ js };
+} in y) (releases-quiet rs)
+
+-- and by a read
+pub done_read : (s : State) (a : Answer) → (let x : Released = released (λ a. false) (tell_chain [] s.adapters) in let y : Stepped = record {
+  outcome = Ok (record { answer = a; told = x.told; released = x.views });
+  after = record { model = s.model; adapters = x.others ++ [] };
+} in y) ≡ record { outcome = Ok (record { answer = a; told = []; released = [] }); after = s }
+done_read s a = done_quiet s.model s.adapters [] a ∙ ap (λ (rs : List Listed). let y : Stepped = record {
+  outcome = Ok (record { answer = a; told = []; released = [] });
+  after = record { model = s.model; adapters = rs };
+} in y) (append-nil s.adapters)
+
+-- no adapter is too full for a chain of no notices
+pub refusal_quiet : (o : Option Refused) (rs : List Listed) → (o else_by (AdapterFull where_so is_chain_full [] rs)) ≡ o
+refusal_quiet (Some r) rs = refl
+refusal_quiet None rs = rw (is_chain_full-nil rs) refl
+
+---------------------------------------------------------------- reads that nothing refuses
+
+-- a read's answer, and the state as it was
+abbrev pub answered : State → Command View → Stepped
+answered s c = record { outcome = Ok (record { answer = answer_of (reads s) s.adapters c; told = []; released = [] }); after = s }
+
+pub get_done : (s : State) (n : Node) (f : FeatureNo) → feature_refusal (reads s) n f ≡ None → step s (Get n f) ≡ answered s (Get n f)
+get_done s n f none = ap (step_unless s (Get n f)) (refusal_quiet (feature_refusal (reads s) n f) s.adapters ∙ none) ∙ done_read s (answer_of (reads s) s.adapters (Get n f))
+
+pub is_set_done : (s : State) (n : Node) (f : FeatureNo) → feature_refusal (reads s) n f ≡ None → step s (IsSet n f) ≡ answered s (IsSet n f)
+is_set_done s n f none = ap (step_unless s (IsSet n f)) (refusal_quiet (feature_refusal (reads s) n f) s.adapters ∙ none) ∙ done_read s (answer_of (reads s) s.adapters (IsSet n f))
+
+pub class_done : (s : State) (o : ObjectNo) → object_refusal (reads s) o ≡ None → step s (Class o) ≡ answered s (Class o)
+class_done s o none = ap (step_unless s (Class o)) (refusal_quiet (object_refusal (reads s) o) s.adapters ∙ none) ∙ done_read s (answer_of (reads s) s.adapters (Class o))
+
+pub told_done : (s : State) (no : AdapterNo) → adapter_refusal s.adapters no ≡ None → step s (AdapterTold no) ≡ answered s (AdapterTold no)
+told_done s number none = ap (step_unless s (AdapterTold number)) (refusal_quiet (adapter_refusal s.adapters number) s.adapters ∙ none) ∙ done_read s (answer_of (reads s) s.adapters (AdapterTold number))
+
+pub kept_done : (s : State) (no : AdapterNo) → adapter_refusal s.adapters no ≡ None → step s (AdapterKept no) ≡ answered s (AdapterKept no)
+kept_done s number none = ap (step_unless s (AdapterKept number)) (refusal_quiet (adapter_refusal s.adapters number) s.adapters ∙ none) ∙ done_read s (answer_of (reads s) s.adapters (AdapterKept number))

@@ -1,0 +1,117 @@
+//! The adapters of a repository.
+ghost use Rattle.std.specs.Prelude.{◌≡◌, length, map, Some, option_map, ok_or};
+ghost use Rattle.mm_types.specs.declared.refused.Refused.TheVariants.{NoAdapter};
+ghost use Rattle.notice_chain.specs.Listed.{adapter};
+ghost use Rattle.repository.specs.Run.{Executed, change_outcome, read_outcome};
+ghost use Rattle.repository.specs.Step.{closed};
+ghost use Rattle.repository.specs.Views.{changed_view, outcome_view};
+ghost use Rattle.repository.specs.declared.command.Command.TheVariants.{AdapterKept, AdapterTold, Attach, Detach};
+ghost use Rattle.repository.specs.declared.reply.Answer.TheVariants as answer;
+
+use super::Repository;
+use crate::reads::reply;
+use crate::reply::{Answer, Failure, Reply};
+use adapter_list::AttachRefused;
+use adapters::Adapter;
+use handshake::node_refusal;
+use mm_types::{AdapterNo, Node, Refused, Seq};
+
+impl<A: Adapter> Repository<A> {
+    /// Attaches an adapter to a node, last in attach order (EMF: Notifier.eAdapters().add). A deep one is also notified of what
+    /// happens below the node.
+    ///
+    /// Refused, the first that applies: `NoObject`, `NoResource`, `Limit` where 100,000 are attached, `AdapterTaken` where the
+    /// number is attached, `AdapterFull` where it can't count its last notice, `Memory`. A refused adapter comes back with what
+    /// it has heard.
+    pub fn attach(
+        &mut self,
+        no: AdapterNo,
+        target: Node,
+        deep: bool,
+        adapter: A,
+    ) -> Result<Reply<A>, Failure<A>>
+        ensures { Executed self.old (Attach no target deep (A.heard adapter)) (outcome_view A.heard result) self.new }
+    {
+        if let Some(refused) = node_refusal(&self.values, target) {
+            return Err(Failure {
+                refused,
+                given_back: Some(adapter),
+            });
+        }
+        if let Err(refused) = self.adapters.attach(no, target, deep, adapter) {
+            return Err(failure(refused));
+        }
+        Ok(reply(self.alloc, Answer::Done))
+    }
+
+    /// Detaches an adapter: it is notified of REMOVING_ADAPTER, its last notice, and comes back (EMF:
+    /// Notifier.eAdapters().remove).
+    ///
+    /// Refused with `NoAdapter` where the number is not attached, or `Memory`.
+    pub fn detach(&mut self, no: AdapterNo) -> Result<Reply<A>, Refused>
+        ensures { Executed self.old (Detach no) (change_outcome (changed_view A.heard result)) self.new }
+    {
+        if self.adapters.told(no).is_none() {
+            return Err(Refused::NoAdapter);
+        }
+        let (Ok(mut told), Ok(mut released)) = (
+            Vec::with_capacity(self.alloc, 1),
+            Vec::with_capacity(self.alloc, 1),
+        ) else {
+            return Err(Refused::Memory);
+        };
+        let Some((notice, adapter)) = self.adapters.detach(no) else {
+            return Err(Refused::NoAdapter);
+        };
+        told.push_reserved((no, notice));
+        released.push_reserved((no, adapter));
+        Ok(Reply {
+            answer: Answer::Done,
+            told: Seq::from_vec(told),
+            released: Seq::from_vec(released),
+        })
+    }
+
+    /// How many notices an adapter was told. Takes no memory. Refused with `NoAdapter` where the number is not attached.
+    #[tactic(auto, using(crate::proofs::QuietLemmas::told_done))]
+    pub fn adapter_told(&self, no: AdapterNo) -> Result<u64, Refused>
+        ensures read { Executed self.now (AdapterTold no) (read_outcome answer.Count result) self.now }
+        ensures count { result ≡ ok_or (option_map (λ a. a.view.told) (adapter no self.now.adapters)) NoAdapter }
+    {
+        match self.adapters.told(no) {
+            Some(count) => Ok(count),
+            None => Err(Refused::NoAdapter),
+        }
+    }
+
+    /// How many notices an adapter keeps. Takes no memory. Refused with `NoAdapter` where the number is not attached.
+    #[tactic(auto, using(crate::proofs::QuietLemmas::kept_done))]
+    pub fn adapter_kept(&self, no: AdapterNo) -> Result<u64, Refused>
+        ensures read { Executed self.now (AdapterKept no) (read_outcome answer.Count result) self.now }
+        ensures count { result ≡ ok_or (option_map (λ a. length a.view.kept) (adapter no self.now.adapters)) NoAdapter }
+    {
+        match self.adapters.kept_len(no) {
+            Some(count) => Ok(count),
+            None => Err(Refused::NoAdapter),
+        }
+    }
+
+    /// Gives every adapter back, in attach order: each is notified of REMOVING_ADAPTER, and is gone before the next one is
+    /// notified. Takes no memory.
+    pub fn close(self) -> Vec<(AdapterNo, A)>
+        ensures { map (λ b. (b.0, A.heard b.1)) result.items ≡ closed self }
+    {
+        let Repository { adapters, .. } = self;
+        adapters.close()
+    }
+}
+
+/// A refused adapter, as the failure of the command that brought it.
+fn failure<A>(refused: AttachRefused<A>) -> Failure<A>
+    ensures { result ≡ record { refused = refused.reason; given_back = Some refused.adapter } }
+{
+    Failure {
+        refused: refused.reason,
+        given_back: Some(refused.adapter),
+    }
+}

@@ -1,0 +1,63 @@
+//! Commands as values.
+ghost use Rattle.std.specs.Prelude.{◌≡◌, length, map, IfOk, IfErr, OnErr};
+ghost use Rattle.repository.specs.Run.{AllExecuted, Executed, IsRun};
+ghost use Rattle.repository.specs.Views.{command_view, outcome_view};
+
+use super::Repository;
+use crate::command::Command;
+use crate::reads::{outcome, replied, replied_class, replied_count, replied_flag};
+use crate::reply::{Failure, Reply};
+use adapters::Adapter;
+
+impl<A: Adapter> Repository<A> {
+    /// Does a command.
+    pub fn execute(&mut self, command: Command<A>) -> Result<Reply<A>, Failure<A>>
+        ensures { Executed self.old (command_view A.heard command) (outcome_view A.heard result) self.new }
+    {
+        let alloc = self.alloc;
+        match command {
+            Command::Create(class) => outcome(self.create(class)),
+            Command::Set {
+                node,
+                feature,
+                value,
+            } => outcome(self.e_set(node, feature, value)),
+            Command::Unset { node, feature } => outcome(self.e_unset(node, feature)),
+            Command::Attach {
+                no,
+                target,
+                deep,
+                adapter,
+            } => self.attach(no, target, deep, adapter),
+            Command::Detach(no) => outcome(self.detach(no)),
+            Command::Get { node, feature } => outcome(replied(alloc, self.e_get(node, feature))),
+            Command::IsSet { node, feature } => {
+                outcome(replied_flag(alloc, self.e_is_set(node, feature)))
+            }
+            Command::Class(object) => outcome(replied_class(alloc, self.e_class(object))),
+            Command::AdapterTold(no) => outcome(replied_count(alloc, self.adapter_told(no))),
+            Command::AdapterKept(no) => outcome(replied_count(alloc, self.adapter_kept(no))),
+        }
+    }
+
+    /// Does commands one after another, refused ones among them. Where there is no memory for their outcomes the
+    /// commands come back, and none was done.
+    pub fn run_all(
+        &mut self,
+        commands: Vec<Command<A>>,
+    ) -> Result<Vec<Result<Reply<A>, Failure<A>>>, Vec<Command<A>>>
+        ensures steps { IfOk result (λ os. AllExecuted self.old (map (command_view A.heard) commands.items) (map (outcome_view A.heard) os.items) self.new) }
+        ensures run { IfOk result (λ os. IsRun self.old (map (command_view A.heard) commands.items) (map (outcome_view A.heard) os.items) self.new) }
+        ensures each { IfOk result (λ os. length os.items ≡ length commands.items) }
+        ensures given_back { IfErr result (λ cs. cs.items ≡ commands.items) }
+        ensures unchanged { OnErr result (self.new ≡ self.old) }
+    {
+        let Ok(mut outcomes) = Vec::with_capacity(self.alloc, commands.len()) else {
+            return Err(commands);
+        };
+        'commands: for command in commands {
+            outcomes.push_reserved(self.execute(command));
+        }
+        Ok(outcomes)
+    }
+}

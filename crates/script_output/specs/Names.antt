@@ -1,0 +1,46 @@
+-- The names that a metamodel has for what is printed.
+use Rattle.std.specs.Prelude.{ℕ, List, [], Option, Some, None, option_and_then, unwrap_or, codes}
+use Rattle.std.specs.Option.{option_map_or}
+use Rattle.mm_types.specs.Lookups as lookups
+use Rattle.mm_types.specs.Resolved.{Metamodel}
+use Rattle.mm_types.specs.declared.feature.DataType.{DataType}
+use Rattle.mm_types.specs.declared.feature.DataType.TheVariants.{EString, EInt, ELong, EBoolean, Enum}
+use Rattle.mm_types.specs.declared.feature.Kind.{Kind}
+use Rattle.mm_types.specs.declared.feature.Kind.TheVariants.{Attribute, Reference}
+use Rattle.mm_types.specs.declared.numbers.ClassNo.{ClassNo}
+use Rattle.mm_types.specs.declared.numbers.FeatureNo.{FeatureNo}
+use Rattle.mm_types.specs.declared.value.Value.{Value}
+use Rattle.mm_types.specs.declared.value.Value.TheVariants as value
+
+abbrev pub class_name : Metamodel → ClassNo → List ℕ
+class_name m c = option_map_or (λ k. k.name) (lookups.class m c) []
+
+-- the name of a feature of the metamodel; any other number is that of the one feature of resources
+abbrev pub feature_name : Metamodel → FeatureNo → List ℕ
+feature_name m f = option_map_or (λ g. g.name) (lookups.feature m f) (codes "contents")
+
+abbrev pub enum_of_type : DataType → Option ℕ
+enum_of_type EString = None
+enum_of_type EInt = None
+enum_of_type ELong = None
+enum_of_type EBoolean = None
+enum_of_type (Enum e) = Some e
+
+abbrev pub enum_of_kind : Kind → Option ℕ
+enum_of_kind (Attribute t unique unsettable default) = enum_of_type t
+enum_of_kind (Reference target containment opposite) = None
+
+-- the enumeration that is a feature's type
+abbrev pub enum_of : Metamodel → FeatureNo → Option ℕ
+enum_of m f = option_and_then (λ g. enum_of_kind g.kind) (lookups.feature m f)
+
+-- the name of a literal that is a feature's value; no name where the value is no literal
+abbrev pub literal_name : Metamodel → FeatureNo → Value → List ℕ
+literal_name m f value.Null = []
+literal_name m f (value.Bool b) = []
+literal_name m f (value.Int n) = []
+literal_name m f (value.Text t) = []
+literal_name m f (value.Literal i) = unwrap_or (option_and_then (λ e. lookups.literal m e i) (enum_of m f)) []
+literal_name m f (value.Object o) = []
+literal_name m f (value.Proxy t) = []
+literal_name m f (value.Adapter a) = []

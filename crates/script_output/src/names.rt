@@ -1,0 +1,70 @@
+//! The names that a metamodel has for what is printed.
+ghost use Rattle.std.specs.Prelude.{◌≡◌};
+ghost use Rattle.std.specs.Option.{option_copied, option_and_then};
+ghost use Rattle.mm_types.specs.Lookups.{literal};
+ghost use Rattle.script_output.specs.Names as n;
+
+use mm_meta::Meta;
+use mm_types::{ClassNo, DataType, FeatureNo, Kind, Value};
+
+/// The name of a class; no name where the metamodel has no class of the number.
+pub fn class_name(meta: &Meta, class: ClassNo) -> &str
+    ensures { result.now ≡ n.class_name meta.now class }
+{
+    match meta.class(class) {
+        Some(class) => class.name.as_str(),
+        None => "",
+    }
+}
+
+/// The name of a feature of the metamodel; `contents` for any other number, as that of the one feature of resources.
+pub fn feature_name(meta: &Meta, feature: FeatureNo) -> &str
+    ensures { result.now ≡ n.feature_name meta.now feature }
+{
+    match meta.feature(feature) {
+        Some(feature) => feature.name.as_str(),
+        None => "contents",
+    }
+}
+
+/// The enumeration that is a feature's type; None where the feature has another type, or there is none of the number.
+pub fn enum_of(meta: &Meta, feature: FeatureNo) -> Option<u32>
+    ensures { result ≡ n.enum_of meta.now feature }
+{
+    enum_of_kind(&meta.feature(feature)?.kind)
+}
+
+fn enum_of_kind(kind: &Kind) -> Option<u32>
+    ensures { result ≡ n.enum_of_kind kind.now }
+{
+    match kind {
+        Kind::Attribute { value_type, .. } => enum_of_type(*value_type),
+        Kind::Reference { .. } => None,
+    }
+}
+
+fn enum_of_type(value_type: DataType) -> Option<u32>
+    ensures { result ≡ n.enum_of_type value_type }
+{
+    match value_type {
+        DataType::Enum(e) => Some(e),
+        DataType::EString | DataType::EInt | DataType::ELong | DataType::EBoolean => None,
+    }
+}
+
+/// The name of a literal that is a feature's value; no name where the value is no literal, or no literal of the feature's
+/// type.
+pub fn literal_name<'a>(meta: &'a Meta, feature: FeatureNo, value: &Value) -> &'a str
+    ensures { result.now ≡ n.literal_name meta.now feature value.now }
+{
+    match value {
+        Value::Literal(index) => literal_at(meta, feature, *index).unwrap_or(""),
+        _ => "",
+    }
+}
+
+fn literal_at<'a>(meta: &'a Meta, feature: FeatureNo, index: u32) -> Option<&'a str>
+    ensures { option_copied result ≡ option_and_then (λ e. literal meta.now e index) (n.enum_of meta.now feature) }
+{
+    meta.literal(enum_of(meta, feature)?, index)
+}

@@ -1,0 +1,52 @@
+-- What comes back of a command that was executed.
+use Rattle.std.proofs.Common.{◌≡◌, ◌∙◌, [], Option, Ok, Err, refl, ap}
+use Rattle.std.specs.Option.{option_map_or, option_zip}
+use Rattle.std.proofs.lemmas.List.Elements.{All-cons, All-head, All-nil}
+use Rattle.notice_chain.specs.View.{View}
+use Rattle.notice_chain.specs.Listed.{Listed}
+use Rattle.repository.specs.Run.{Executed}
+use Rattle.repository.specs.State.{State}
+use Rattle.repository.specs.Views.{Outcome, brought}
+use Rattle.repository.specs.declared.command.Command.{Command}
+use Rattle.repository.specs.declared.command.Command.TheVariants.{Create, Set, Unset, Attach, Detach, Get, IsSet, Class, AdapterTold, AdapterKept}
+use Rattle.repository.proofs.RunLemmas.{refused-nothing}
+use Rattle.script_lines.specs.declared.form.Form.{Form}
+use Rattle.script_lines.specs.declared.form.Form.TheVariants as asks
+use Rattle.script_program.specs.Bind.{IsGiven, attach_request, bind}
+use Rattle.script_program.specs.Pool.{Pool, box_of, with_box}
+use Rattle.script_program.specs.Session.{IsBrought, Session, brought_no, pool_after, returned, taken}
+use Rattle.script_program.proofs.PoolLemmas.{put-back}
+
+-- what was brought and is put back leaves the pool as it was
+undone : (before : Pool) (c : Command View) → IsBrought before c → option_map_or (with_box (taken before c)) (option_zip (brought_no c) (brought c)) (taken before c) ≡ before
+undone before (Create c) h = refl
+undone before (Set n f v) h = refl
+undone before (Unset n f) h = refl
+undone before (Attach number target deep view) h = put-back before number view (All-head (λ (a : Listed). box_of before a.no ≡ Ok a.view) (record { no = number; target = target; deep = deep; view = view }) [] h)
+undone before (Detach number) h = refl
+undone before (Get n f) h = refl
+undone before (IsSet n f) h = refl
+undone before (Class o) h = refl
+undone before (AdapterTold number) h = refl
+undone before (AdapterKept number) h = refl
+
+pub returned-after : (before : Pool) (s t : State) (c : Command View) (o : Outcome) → IsBrought before c → Executed s c o t → returned (taken before c) (brought_no c) o ≡ pool_after before c o
+returned-after before s t c (Ok r) h x = refl
+returned-after before s t c (Err f) h x =
+    ap (λ (back : Option View). option_map_or (with_box (taken before c)) (option_zip (brought_no c) back) (taken before c)) (refused-nothing s t c f x).1 ∙ undone before c h
+
+-- what a form brings is in the pool
+pub bind-given : (s : Session) (f : Form) → IsGiven s.pool (bind s f)
+bind-given s (asks.New class) = All-nil (λ (a : Listed). box_of s.pool a.no ≡ Ok a.view)
+bind-given s (asks.Set n feature v) = All-nil (λ (a : Listed). box_of s.pool a.no ≡ Ok a.view)
+bind-given s (asks.Unset n feature) = All-nil (λ (a : Listed). box_of s.pool a.no ≡ Ok a.view)
+bind-given s (asks.Attach number target deep) =
+    elim (box_of s.pool number) as (λ r. box_of s.pool number ≡ r → IsGiven s.pool (attach_request r number target deep)) [
+      | Ok v ↦ λ e. All-cons (λ (a : Listed). box_of s.pool a.no ≡ Ok a.view) _ [] e (All-nil (λ (a : Listed). box_of s.pool a.no ≡ Ok a.view))
+      | Err r ↦ λ e. tt
+    ] refl
+bind-given s (asks.Detach number) = All-nil (λ (a : Listed). box_of s.pool a.no ≡ Ok a.view)
+bind-given s (asks.Get n feature) = All-nil (λ (a : Listed). box_of s.pool a.no ≡ Ok a.view)
+bind-given s (asks.IsSet n feature) = All-nil (λ (a : Listed). box_of s.pool a.no ≡ Ok a.view)
+bind-given s (asks.Class o) = All-nil (λ (a : Listed). box_of s.pool a.no ≡ Ok a.view)
+bind-given s (asks.Seen number) = tt

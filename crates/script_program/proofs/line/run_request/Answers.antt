@@ -1,0 +1,7 @@
+use Rattle.script_program.proofs.line.run_request.Goals as goal
+
+pub returns-in-Execute-Get : goal.returns-in-Execute-Get
+returns-in-Execute-Get g c =
+    λ before out given.
+    let get = c.in-Execute-Get in
+    rw (get.is, get.field-0-is, (rw (get.is, get.field-0-is) at out)) (c.run_get.ensures before)

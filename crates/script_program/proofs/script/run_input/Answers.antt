@@ -1,0 +1,6 @@
+use Rattle.script_program.specs.Session.{first_session}
+use Rattle.script_program.proofs.ScriptLemmas.{silent}
+use Rattle.script_program.proofs.script.run_input.Goals as goal
+
+pub returns-in_default-clause-err : goal.returns-in_default-clause-err
+returns-in_default-clause-err g c = silent (first_session g.A.Adapter.heard c.args.meta c.args.boxes.items) _ c.args.input.now

@@ -1,0 +1,45 @@
+-- A session: a repository, and the pool of boxes that its script can attach.
+use Rattle.std.specs.Prelude.{◌≡◌, List, slice_get, Option, Ok, Err, option_map, fold, map, Some}
+use Rattle.std.specs.Option.{option_map_or, option_zip}
+use Rattle.std.specs.List.{All}
+use Rattle.mm_types.specs.Resolved.{Metamodel}
+use Rattle.mm_types.specs.declared.numbers.AdapterNo.{AdapterNo}
+use Rattle.notice_chain.specs.View.{View}
+use Rattle.repository.specs.State.{State, empty_state}
+use Rattle.repository.specs.Step.{joins}
+use Rattle.repository.specs.Views.{Outcome}
+use Rattle.repository.specs.declared.command.Command.{Command}
+use Rattle.script_program.specs.Pool.{Pool, box_of, with_box, without}
+
+pub record Session : Type 0 where
+  pub state : State
+  pub pool : Pool
+
+abbrev pub session : State → Pool → Session
+session s pool = record { state = s; pool = pool }
+
+-- an empty repository, and all boxes in the pool
+abbrev pub first_session : {A : Type 0} → (A → View) → Metamodel → List A → Session
+first_session heard m boxes = session (empty_state m) (map (λ a. Some (heard a)) boxes)
+
+-- what a command brings is in the pool
+abbrev pub IsBrought : Pool → Command View → Type 0
+IsBrought pool c = All (λ a. box_of pool a.no ≡ Ok a.view) (joins c)
+
+-- the pool when it is out
+abbrev pub taken : Pool → Command View → Pool
+taken pool c = fold without pool (map (λ a. a.no) (joins c))
+
+-- the pool after a command: what was attached is out, and what was released is back
+abbrev pub pool_after : Pool → Command View → Outcome → Pool
+pool_after pool c (Ok r) = fold with_box (taken pool c) r.released
+pool_after pool c (Err f) = pool
+
+-- the number of what a command brings
+abbrev pub brought_no : Command View → Option AdapterNo
+brought_no c = option_map (λ a. a.no) (slice_get (joins c) 0)
+
+-- the pool when what comes back of an outcome is put in
+abbrev pub returned : Pool → Option AdapterNo → Outcome → Pool
+returned pool number (Ok r) = fold with_box pool r.released
+returned pool number (Err f) = option_map_or (with_box pool) (option_zip number f.given_back) pool

@@ -1,0 +1,106 @@
+//! The boxes that a script can attach.
+ghost use Rattle.std.specs.Prelude.{◌≡◌, fold, map, slice_get, Some, Ok, Err, option_and_then, option_map, IfOk, IfErr, OnOk, OnErr};
+ghost use Rattle.repository.specs.Views.{outcome_view};
+ghost use Rattle.script_program.specs.Pool as p;
+ghost use Rattle.script_program.specs.Session.{returned};
+
+use adapters::Adapter;
+use mm_types::{AdapterNo, Refused};
+use repository::{Failure, Reply};
+use std::alloc::{AllocError, Global};
+use std::marker::Model;
+use std::mem;
+
+/// The boxes that a script can attach: the n-th, from 1 on, is An. A box that is attached is out of the pool.
+#[derive(Drop)]
+pub(crate) struct Pool<A: Adapter> {
+    boxes: Vec<Option<A>>,
+}
+
+impl<A: Adapter> Model for Pool<A> {
+    ghost use Rattle.std.specs.Prelude.{map, option_map};
+    ghost use Rattle.script_program.specs.Pool.{Pool};
+
+    ghost Value = { Pool };
+
+    ghost view = { λ p. map (λ o. option_map A.heard o) p.boxes.items };
+}
+
+/// The place of the box of a number. A0 has none.
+fn place(no: AdapterNo) -> Option<usize>
+    ensures { result ≡ p.place no }
+{
+    if no.0 == 0 {
+        None
+    } else {
+        Some(no.0 as usize - 1)
+    }
+}
+
+impl<A: Adapter> Pool<A> {
+    /// A pool that has all boxes. Errs where memory is refused.
+    pub(crate) fn new(alloc: Global, boxes: Vec<A>) -> Result<Self, AllocError>
+        ensures { IfOk result (λ p. p ≡ map (λ a. Some (A.heard a)) boxes.items) }
+    {
+        let mut slots = Vec::with_capacity(alloc, boxes.len())?;
+        'boxes: for adapter in boxes {
+            slots.push_reserved(Some(adapter));
+        }
+        Ok(Pool { boxes: slots })
+    }
+
+    /// Puts a box, or none, in the place of a number, and gives what stood there; None where there is no such place.
+    fn replaced(&mut self, no: AdapterNo, slot: Option<A>) -> Option<Option<A>>
+        ensures before { option_map (λ o. option_map A.heard o) result ≡ option_and_then (slice_get self.old) (p.place no) }
+        ensures after { self.new ≡ p.with_slot (option_map A.heard slot) self.old no }
+    {
+        let place = place(no)?;
+        if place >= self.boxes.len() {
+            return None;
+        }
+        Some(mem::replace(&mut self.boxes[place], slot))
+    }
+
+    /// Takes the box of a number out. Refused with `NoAdapter` where there is none, and with `AdapterTaken` where it is out.
+    pub(crate) fn take(&mut self, no: AdapterNo) -> Result<A, Refused>
+        ensures ok { IfOk result (λ a. p.box_of self.old no ≡ Ok (A.heard a)) }
+        ensures err { IfErr result (λ r. p.box_of self.old no ≡ Err r) }
+        ensures taken { OnOk result (self.new ≡ p.without self.old no) }
+        ensures unchanged { OnErr result (self.new ≡ self.old) }
+    {
+        match self.replaced(no, None) {
+            Some(Some(adapter)) => Ok(adapter),
+            Some(None) => Err(Refused::AdapterTaken),
+            None => Err(Refused::NoAdapter),
+        }
+    }
+
+    /// Puts a box back in its place.
+    fn put(&mut self, no: AdapterNo, adapter: A)
+        ensures { self.new ≡ p.with_box self.old (no, A.heard adapter) }
+    {
+        let _ = self.replaced(no, Some(adapter));
+    }
+
+    /// Puts back what comes back of an outcome: what was released, or the box of the number that was not attached.
+    pub(crate) fn give_back(&mut self, no: Option<AdapterNo>, outcome: Result<Reply<A>, Failure<A>>)
+        ensures { self.new ≡ returned self.old no (outcome_view A.heard outcome) }
+    {
+        match outcome {
+            Ok(reply) => self.put_all(reply.released.into_vec()),
+            Err(failure) => {
+                if let (Some(no), Some(adapter)) = (no, failure.given_back) {
+                    self.put(no, adapter);
+                }
+            }
+        }
+    }
+
+    fn put_all(&mut self, released: Vec<(AdapterNo, A)>)
+        ensures { self.new ≡ fold p.with_box self.old (map (λ b. (b.0, A.heard b.1)) released.items) }
+    {
+        'released: for (no, adapter) in released {
+            self.put(no, adapter);
+        }
+    }
+}

@@ -1,0 +1,14 @@
+//! What a form asks for.
+use mm_types::{AdapterNo, Refused};
+use repository::Command;
+
+/// What a form asks for, when its names are looked up.
+#[derive(Drop)]
+pub(crate) enum Request<A> {
+    /// A command of the repository.
+    Execute(Command<A>),
+    /// What an adapter has heard.
+    Seen(AdapterNo),
+    /// Nothing: the box that is to be attached is not in the pool.
+    Refuse(Refused),
+}
