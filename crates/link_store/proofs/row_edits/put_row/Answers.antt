@@ -1,0 +1,14 @@
+use Rattle.std.proofs.Common.{◌∙◌, ap, List}
+use Rattle.link_store.specs.Links.{new_link}
+use Rattle.link_store.specs.declared.link.Link.{Link}
+use Rattle.link_store.specs.declared.renumbering.Renumbering.TheVariants.{Raise}
+use Rattle.link_store.proofs.RowLemmas.{of_rows, rows_can_move, rows_put}
+use Rattle.link_store.proofs.row_edits.put_row.Goals as goal
+
+pub renumber-requires : goal.renumber-requires
+renumber-requires c = rows_can_move c.args.rows.now.items (Raise c.args.index) c.args.end c.requires.placed
+
+pub returns-clause-put : goal.returns-clause-put
+returns-clause-put c =
+    let new = c.new_row-row.ensures ∙ ap (λ (rows : List Link). new_link (of_rows rows) c.args.end c.args.index c.args.object c.args.opposite c.args.container) c.deref.ensures.value in
+    rows_put c.args.rows.now.items _ _ c.new_row-row.result c.args.end c.args.index c.args.object c.args.opposite c.args.container c.renumber.ensures.rows new c.push_reserved.ensures.items

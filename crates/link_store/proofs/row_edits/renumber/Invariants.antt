@@ -1,0 +1,8 @@
+use Rattle.std.proofs.Common.{◌≡◌, ◌++◌, map, take, drop}
+use Rattle.link_store.specs.Places.{moved}
+use Rattle.link_store.specs.Rows.{changed_index}
+use Rattle.link_store.proofs.row_edits.renumber.Given as goal
+
+-- the rows before the index are changed, and the others are as they were
+abbrev pub invariant-loop-row : goal.invariant-loop-row
+invariant-loop-row l = l.row-items ≡ map (λ x. moved x l.end (changed_index l.by)) (take l.row-index l.fn.rows.items) ++ drop l.row-index l.fn.rows.items

@@ -1,0 +1,17 @@
+use Rattle.std.proofs.Common.{◌≡◌, ◌+◌, ◌≤◌, length, vec_len, vec_capacity}
+use Rattle.std.specs.Vec.Iter.{into_iter_items}
+use Rattle.link_store.specs.LegalSets.{IsLegalSet}
+use Rattle.link_store.specs.Plans.{PlanFits, applied}
+use Rattle.link_store.proofs.RowLemmas.{of_rows}
+use Rattle.link_store.proofs.row_store.RowStoreLinkStore.apply.Given as goal
+
+-- the edits that are left fit, have room, and make what all make
+abbrev pub invariant-loop-edit : goal.invariant-loop-edit
+invariant-loop-edit l = record {
+  can : (goal.iterator-loop-edit).can_next l.edit-iterator;
+  ends : (goal.iterator-loop-edit).is_finite l.edit-iterator;
+  legal : IsLegalSet (of_rows l.self.rows.items);
+  fits : PlanFits (of_rows l.self.rows.items) (into_iter_items l.edit-iterator);
+  room : vec_len l.self.rows + length (into_iter_items l.edit-iterator) ≤ vec_capacity l.self.rows;
+  rest : applied (of_rows l.self.rows.items) (into_iter_items l.edit-iterator) ≡ applied (of_rows l.fn.self.rows.items) l.fn.plan;
+}

@@ -1,0 +1,114 @@
+-- Rows of links, as a plain store keeps them: what a scan finds, and how a row is renumbered.
+use Rattle.std.specs.Prelude.{ℕ, ◌+◌, ◌<◌, ◌^◌, ⊤, ◌++◌, ◌==◌, Bool, true, false, List, [], ◌∷◌, fold, insert, Option, Some, None, MatchOption, option_and_then, if◌then◌else◌}
+use Rattle.std.specs.Option.{option_map, option_map_or}
+use Rattle.std.specs.List.{prefix_len}
+use Rattle.mm_types.specs.Same.{same_node}
+use Rattle.mm_types.specs.declared.numbers.Node.{Node}
+use Rattle.mm_types.specs.declared.numbers.ObjectNo.{ObjectNo}
+use Rattle.mm_types.specs.declared.end.End.{End}
+use Rattle.mm_types.specs.declared.value.Value.{Value}
+use Rattle.link_store.specs.declared.incoming.Incoming.{Incoming}
+use Rattle.link_store.specs.declared.link.Far.{Far}
+use Rattle.link_store.specs.declared.link.Far.TheVariants.{At, Alone, Proxy}
+use Rattle.link_store.specs.declared.link.Link.{Link}
+use Rattle.link_store.specs.declared.renumbering.Renumbering.{Renumbering}
+use Rattle.link_store.specs.declared.renumbering.Renumbering.TheVariants.{Raise, Lower, Shift}
+use Rattle.link_store.specs.declared.rows.Spot.{Spot}
+use Rattle.link_store.specs.Holders.{is_far_node}
+use Rattle.link_store.specs.Links.{lower, object_of, raise, shifted_index, text_of}
+use Rattle.link_store.specs.Places.{has_value, place}
+use Rattle.link_store.specs.Plans.{has_end, is_before}
+
+abbrev pub changed_index : Renumbering → ℕ → ℕ
+changed_index (Raise i) k = raise i k
+changed_index (Lower i) k = lower i k
+changed_index (Shift to from) k = shifted_index to from k
+
+-- the position k becomes one of 32 bits
+abbrev pub CanChange : Renumbering → ℕ → Type 0
+CanChange (Raise i) k = k + 1 < 2 ^ 32
+CanChange (Lower i) k = ⊤
+CanChange (Shift to from) k = k + 1 < 2 ^ 32
+
+-- the link's position in e can change so
+abbrev pub CanMove : Renumbering → End → Link → Type 0
+CanMove r e l = MatchOption (place l e) ⊤ (λ p. CanChange r p.0)
+
+abbrev pub index_of : Option (ℕ × Value) → Option ℕ
+index_of p = option_map (λ q. q.0) p
+
+-- the position of the first of the links that has v in e
+abbrev pub position_in : List Link → End → Value → Option ℕ
+position_in [] e v = None
+position_in (l ∷ ls) e v = if has_value e v l then index_of (place l e) else position_in ls e v
+
+-- k is the position of a place
+abbrev pub is_index : ℕ → Option (ℕ × Value) → Bool
+is_index k p = option_map_or (λ q. q.0 == k) p false
+
+-- the object at a place
+abbrev pub object_on : Option (ℕ × Value) → Option ObjectNo
+object_on p = option_and_then (λ (q : ℕ × Value). object_of q.1) p
+
+-- the object of the first of the links that stands at position k of e
+abbrev pub first_object : List Link → End → ℕ → Option ObjectNo
+first_object [] e k = None
+first_object (l ∷ ls) e k = if is_index k (place l e) then object_on (place l e) else first_object ls e k
+
+-- the text of the proxy at a place
+abbrev pub text_on : Option (ℕ × Value) → Option (List ℕ)
+text_on p = option_and_then (λ (q : ℕ × Value). text_of q.1) p
+
+-- the text of the first of the links that stands at position k of e
+abbrev pub first_text : List Link → End → ℕ → Option (List ℕ)
+first_text [] e k = None
+first_text (l ∷ ls) e k = if is_index k (place l e) then text_on (place l e) else first_text ls e k
+
+abbrev pub far_spot : Far → Option (End × ℕ)
+far_spot (At d j) = Some (d, j)
+far_spot (Alone o) = None
+far_spot (Proxy t) = None
+
+-- the places of a link
+abbrev pub spot : Link → Spot
+spot l = record { end = l.end; index = l.index; far = far_spot l.far }
+
+---------------------------------------------------------------- what has a node
+
+abbrev pub if_end : Bool → End → List End
+if_end true e = e ∷ []
+if_end false e = []
+
+abbrev pub far_ends_to : Node → Far → Node → List End
+far_ends_to near (At d j) n = if_end (same_node near n) d
+far_ends_to near (Alone o) n = []
+far_ends_to near (Proxy t) n = []
+
+-- the ends in which a link has n
+abbrev pub ends_to : Link → Node → List End
+ends_to l n = if_end (is_far_node l.far n) l.end ++ far_ends_to l.end.node l.far n
+
+abbrev pub ends_with : List Link → Node → List End
+ends_with [] n = []
+ends_with (l ∷ ls) n = ends_to l n ++ ends_with ls n
+
+-- where e goes in a list in order
+abbrev pub gap_for : List End → End → ℕ
+gap_for es e = prefix_len (λ d. is_before d e) es
+
+-- the list in order, and e in it
+abbrev pub with_end : List End → End → List End
+with_end es e = if has_end es e then es else insert es (gap_for es e) e
+
+abbrev pub in_order : List End → List End
+in_order es = fold with_end [] es
+
+-- the entry for a position in e, if there is one
+abbrev pub place_if : End → Option ℕ → List Incoming
+place_if e None = []
+place_if e (Some k) = record { feature = e.feature; node = e.node; position = k } ∷ []
+
+-- where each of the ends has v first
+abbrev pub places_in : List Link → List End → Value → List Incoming
+places_in ls [] v = []
+places_in ls (e ∷ es) v = place_if e (position_in ls e v) ++ places_in ls es v

@@ -1,0 +1,46 @@
+//! Where an object stands.
+ghost use Rattle.std.specs.Prelude.{◌≡◌, ◌++◌, IfOk, OnOk};
+ghost use Rattle.link_store.specs.Rows.{place_if, places_in};
+
+use crate::link::Link;
+use crate::rows::position_of;
+use mm_types::{End, FeatureNo, Node, Value};
+use std::alloc::{AllocError, Global};
+
+/// A position at which an object stands: in the end of a node's feature.
+#[derive(Clone, Copy)]
+pub struct Incoming {
+    pub feature: FeatureNo,
+    pub node: Node,
+    /// The position, from 0.
+    pub position: u32,
+}
+
+fn push_place(position: Option<u32>, end: End, out: &mut Vec<Incoming>) -> Result<(), AllocError>
+    ensures { OnOk result (out.new.items ≡ out.old.items ++ place_if end position) }
+{
+    if let Some(position) = position {
+        out.push(Incoming {
+            feature: end.feature,
+            node: end.node,
+            position,
+        })?;
+    }
+    Ok(())
+}
+
+// The first position of a value in each of some ends that has it.
+pub(crate) fn places_of(
+    alloc: Global,
+    rows: &[Link],
+    ends: &[End],
+    value: &Value,
+) -> Result<Vec<Incoming>, AllocError>
+    ensures { IfOk result (λ r. r.items ≡ places_in rows.now ends.now value.now) }
+{
+    let mut out = Vec::new(alloc);
+    for end in ends {
+        push_place(position_of(rows, *end, value), *end, &mut out)?;
+    }
+    Ok(out)
+}

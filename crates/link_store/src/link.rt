@@ -1,0 +1,23 @@
+//! Links, and proxies, which are links to what is not loaded.
+use mm_types::{End, FeatureNo, ObjectNo, Text};
+
+/// The other side of a link.
+#[derive(Debug, Drop)]
+pub enum Far {
+    /// A position in the end of an opposite.
+    At(End, u32),
+    /// An object, where the feature has no opposite.
+    Alone(ObjectNo),
+    /// The text of a proxy.
+    Proxy(Text),
+}
+
+/// A link or a proxy: where it stands in one end, and its other side (MOF 2.5.1: Link).
+#[derive(Debug, Drop)]
+pub struct Link {
+    pub end: End,
+    pub index: u32,
+    pub far: Far,
+    /// The feature of the pair that contains, if one does.
+    pub container: Option<FeatureNo>,
+}

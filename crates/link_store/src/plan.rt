@@ -1,0 +1,40 @@
+//! Edits of links.
+use mm_types::{End, FeatureNo, ObjectNo, Seq, Text};
+
+/// One edit. A cut names its link by an end and the value there, which no other edit renumbers.
+#[derive(Debug, Drop)]
+pub enum Edit {
+    /// Takes the link of an object out of an end, and lowers the later positions where it stood.
+    Cut {
+        end: End,
+        object: ObjectNo,
+    },
+    /// Puts an object at a position of an end. The opposite end, where there is one, gains last.
+    Put {
+        end: End,
+        index: u32,
+        object: ObjectNo,
+        opposite: Option<FeatureNo>,
+        container: Option<FeatureNo>,
+    },
+    /// Moves what stands at `from`, so that it then stands at `to`.
+    Shift {
+        end: End,
+        to: u32,
+        from: u32,
+    },
+    /// Puts a proxy at a position of an end.
+    PutProxy {
+        end: End,
+        index: u32,
+        text: Text,
+    },
+    /// Takes the proxy of a text out of an end, and lowers the later positions.
+    CutProxy {
+        end: End,
+        text: Text,
+    },
+}
+
+/// Edits, which are made in their order.
+pub type Plan = Seq<Edit>;

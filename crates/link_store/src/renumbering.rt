@@ -1,0 +1,47 @@
+//! How the positions of one end change.
+ghost use Rattle.std.specs.Prelude.{◌≡◌, ◌+◌, ◌<◌, ◌^◌};
+ghost use Rattle.link_store.specs.Links.{lower, raise};
+
+/// One renumbering of an end's positions.
+#[derive(Clone, Copy)]
+pub(crate) enum Renumbering {
+    /// A value comes in at a position.
+    Raise(u32),
+    /// The value at a position goes.
+    Lower(u32),
+    /// What stands at the second position moves, so that it then stands at the first.
+    Shift(u32, u32),
+}
+
+impl Renumbering {
+    ghost use Rattle.link_store.specs.Rows.{changed_index, CanChange};
+
+    /// The position that `k` becomes.
+    pub fn changed(self, k: u32) -> u32
+        requires { CanChange self k }
+        ensures { result ≡ changed_index self k }
+    {
+        match self {
+            Renumbering::Raise(i) => raised(i, k),
+            Renumbering::Lower(i) => lowered(i, k),
+            Renumbering::Shift(to, from) => if k == from {
+                to
+            } else {
+                raised(to, lowered(from, k))
+            },
+        }
+    }
+}
+
+fn raised(i: u32, k: u32) -> u32
+    requires { k + 1 < 2 ^ 32 }
+    ensures { result ≡ raise i k }
+{
+    if k < i { k } else { k + 1 }
+}
+
+fn lowered(i: u32, k: u32) -> u32
+    ensures { result ≡ lower i k }
+{
+    if i < k { k - 1 } else { k }
+}

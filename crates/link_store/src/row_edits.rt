@@ -1,0 +1,194 @@
+//! Edits of rows of links.
+ghost use Rattle.std.specs.FinSet as set;
+ghost use Rattle.std.specs.List.{All};
+ghost use Rattle.std.specs.Prelude.{◌≡◌, ◌+◌, ◌<◌, ◌≤◌, not, map, filter, vec_len, vec_capacity};
+ghost use Rattle.link_store.specs.LegalSets.{IsPlaced};
+ghost use Rattle.link_store.specs.Links.{cut_value, joined, new_link, put, put_proxy, shift};
+ghost use Rattle.link_store.specs.Places.{has_value, moved};
+ghost use Rattle.link_store.specs.Plans.{edited};
+ghost use Rattle.link_store.specs.Rows.{CanMove, changed_index};
+
+use crate::link::{Far, Link};
+use crate::plan::Edit;
+use crate::renumbering::Renumbering;
+use crate::rows::{has, len_of, spot_of};
+use mm_types::{End, FeatureNo, Node, ObjectNo, Text, Value};
+
+// Changes the row's position in an end.
+fn move_row(row: &mut Link, end: End, by: Renumbering)
+    requires { CanMove by end row.old }
+    ensures { row.new ≡ moved row.old end (changed_index by) }
+{
+    if row.end == end {
+        row.index = by.changed(row.index);
+    } else if let Far::At(d, j) = row.far {
+        if d == end {
+            row.far = Far::At(d, by.changed(j));
+        }
+    }
+}
+
+// Changes the positions of one end.
+fn renumber(rows: &mut Vec<Link>, end: End, by: Renumbering)
+    requires { All (CanMove by end) rows.old.items }
+    ensures rows { rows.new.items ≡ map (λ l. moved l end (changed_index by)) rows.old.items }
+    ensures len { vec_len rows.new ≡ vec_len rows.old }
+    ensures capacity { vec_capacity rows.new ≡ vec_capacity rows.old }
+{
+    for row in rows.iter_mut() {
+        move_row(row, end, by);
+    }
+}
+
+// Takes out the rows that have a value in an end.
+fn take_out(rows: &mut Vec<Link>, end: End, value: &Value)
+    ensures rows { rows.new.items ≡ filter (λ l. not (has_value end value.now l)) rows.old.items }
+    ensures len { vec_len rows.new ≤ vec_len rows.old }
+    ensures capacity { vec_capacity rows.new ≡ vec_capacity rows.old }
+{
+    let mut i = 0;
+    while i < rows.len() {
+        if has(&rows[i], end, value) {
+            let _row = rows.remove(i);
+        } else {
+            i += 1;
+        }
+    }
+}
+
+// Cuts the link that has a value in an end.
+fn cut_row(rows: &mut Vec<Link>, end: End, value: &Value)
+    requires placed { IsPlaced (set.from_list rows.old.items) }
+    ensures cut { set.from_list rows.new.items ≡ cut_value (set.from_list rows.old.items) end value.now }
+    ensures len { vec_len rows.new ≤ vec_len rows.old }
+    ensures capacity { vec_capacity rows.new ≡ vec_capacity rows.old }
+{
+    if let Some(spot) = spot_of(rows, end, value) {
+        take_out(rows, end, value);
+        renumber(rows, spot.end, Renumbering::Lower(spot.index));
+        if let Some((d, j)) = spot.far {
+            renumber(rows, d, Renumbering::Lower(j));
+        }
+    }
+}
+
+// A link between places of two ends, written from the lower feature.
+fn join(x: End, i: u32, y: End, j: u32, container: Option<FeatureNo>) -> Link
+    ensures { result ≡ joined x i y j container }
+{
+    if x.feature.0 < y.feature.0 {
+        Link {
+            end: x,
+            index: i,
+            far: Far::At(y, j),
+            container,
+        }
+    } else {
+        Link {
+            end: y,
+            index: j,
+            far: Far::At(x, i),
+            container,
+        }
+    }
+}
+
+// The link that puts an object at a position of an end.
+fn new_row(
+    rows: &[Link],
+    end: End,
+    index: u32,
+    object: ObjectNo,
+    opposite: Option<FeatureNo>,
+    container: Option<FeatureNo>,
+) -> Link
+    requires placed { IsPlaced (set.from_list rows.now) }
+    ensures { result ≡ new_link (set.from_list rows.now) end index object opposite container }
+{
+    match opposite {
+        None => Link {
+            end,
+            index,
+            far: Far::Alone(object),
+            container,
+        },
+        Some(feature) => {
+            let far = End {
+                node: Node::Object(object),
+                feature,
+            };
+            join(end, index, far, len_of(rows, far) as u32, container)
+        }
+    }
+}
+
+// Puts an object at a position of an end.
+fn put_row(
+    rows: &mut Vec<Link>,
+    end: End,
+    index: u32,
+    object: ObjectNo,
+    opposite: Option<FeatureNo>,
+    container: Option<FeatureNo>,
+)
+    requires placed { IsPlaced (set.from_list rows.old.items) }
+    requires room { vec_len rows.old < vec_capacity rows.old }
+    ensures put { set.from_list rows.new.items ≡ put (set.from_list rows.old.items) end index object opposite container }
+    ensures len { vec_len rows.new ≡ vec_len rows.old + 1 }
+    ensures capacity { vec_capacity rows.new ≡ vec_capacity rows.old }
+{
+    let row = new_row(rows, end, index, object, opposite, container);
+    renumber(rows, end, Renumbering::Raise(index));
+    rows.push_reserved(row);
+}
+
+// Puts a proxy at a position of an end.
+fn put_proxy_row(rows: &mut Vec<Link>, end: End, index: u32, text: Text)
+    requires placed { IsPlaced (set.from_list rows.old.items) }
+    requires room { vec_len rows.old < vec_capacity rows.old }
+    ensures put { set.from_list rows.new.items ≡ put_proxy (set.from_list rows.old.items) end index text }
+    ensures len { vec_len rows.new ≡ vec_len rows.old + 1 }
+    ensures capacity { vec_capacity rows.new ≡ vec_capacity rows.old }
+{
+    let row = Link {
+        end,
+        index,
+        far: Far::Proxy(text),
+        container: None,
+    };
+    renumber(rows, end, Renumbering::Raise(index));
+    rows.push_reserved(row);
+}
+
+// Moves what stands at a position of an end.
+fn shift_rows(rows: &mut Vec<Link>, end: End, to: u32, from: u32)
+    requires placed { IsPlaced (set.from_list rows.old.items) }
+    ensures shifted { set.from_list rows.new.items ≡ shift (set.from_list rows.old.items) end to from }
+    ensures len { vec_len rows.new ≡ vec_len rows.old }
+    ensures capacity { vec_capacity rows.new ≡ vec_capacity rows.old }
+{
+    renumber(rows, end, Renumbering::Shift(to, from));
+}
+
+// Makes one edit.
+pub(crate) fn edit_rows(rows: &mut Vec<Link>, edit: Edit)
+    requires placed { IsPlaced (set.from_list rows.old.items) }
+    requires room { vec_len rows.old < vec_capacity rows.old }
+    ensures edited { set.from_list rows.new.items ≡ edited (set.from_list rows.old.items) edit }
+    ensures len { vec_len rows.new ≤ vec_len rows.old + 1 }
+    ensures capacity { vec_capacity rows.new ≡ vec_capacity rows.old }
+{
+    match edit {
+        Edit::Cut { end, object } => cut_row(rows, end, &Value::Object(object)),
+        Edit::Put {
+            end,
+            index,
+            object,
+            opposite,
+            container,
+        } => put_row(rows, end, index, object, opposite, container),
+        Edit::Shift { end, to, from } => shift_rows(rows, end, to, from),
+        Edit::PutProxy { end, index, text } => put_proxy_row(rows, end, index, text),
+        Edit::CutProxy { end, text } => cut_row(rows, end, &Value::Proxy(text)),
+    }
+}

@@ -1,0 +1,68 @@
+//! The plain store: rows of links, scanned.
+ghost use Rattle.std.specs.Prelude.{◌≡◌, ◌+◌, ◌≤◌, length, vec_len, vec_capacity};
+ghost use Rattle.std.specs.FinSet as set;
+
+use crate::incoming::{Incoming, places_of};
+use crate::link::Link;
+use crate::plan::Plan;
+use crate::row_edits::edit_rows;
+use crate::rows::{ends_of, holder_in, len_of, object_in, ordered, position_of, text_in};
+use crate::store::LinkStore;
+use mm_types::{End, Node, ObjectNo, Value};
+use std::alloc::{AllocError, Global};
+
+/// Links in a row, each found by a scan of all.
+#[derive(Debug, Drop)]
+pub struct RowStore {
+    rows: Vec<Link>,
+}
+
+impl LinkStore for RowStore {
+    ghost links = { λ s. set.from_list s.rows.items };
+
+    ghost kinds = { λ s m. Unit {0} };
+
+    ghost has_room = { λ s plan. vec_len s.rows + length plan ≤ vec_capacity s.rows };
+
+    fn empty(alloc: Global) -> Self {
+        RowStore {
+            rows: Vec::new(alloc),
+        }
+    }
+
+    fn len(&self, end: End) -> usize {
+        len_of(&self.rows, end)
+    }
+
+    fn at(&self, end: End, index: u32) -> Option<ObjectNo> {
+        object_in(&self.rows, end, index)
+    }
+
+    fn proxy_at(&self, end: End, index: u32) -> Option<&str> {
+        text_in(&self.rows, end, index)
+    }
+
+    fn position(&self, end: End, object: ObjectNo) -> Option<u32> {
+        position_of(&self.rows, end, &Value::Object(object))
+    }
+
+    fn holder(&self, object: ObjectNo) -> Option<End> {
+        holder_in(&self.rows, Node::Object(object))
+    }
+
+    fn incoming(&self, alloc: Global, object: ObjectNo) -> Result<Vec<Incoming>, AllocError> {
+        let ends = ends_of(alloc, &self.rows, Node::Object(object))?;
+        let ends = ordered(alloc, &ends)?;
+        places_of(alloc, &self.rows, &ends, &Value::Object(object))
+    }
+
+    fn reserve_for(&mut self, plan: &Plan) -> Result<(), AllocError> {
+        self.rows.reserve(plan.len())
+    }
+
+    fn apply(&mut self, plan: Plan) {
+        for edit in plan.into_vec() {
+            edit_rows(&mut self.rows, edit);
+        }
+    }
+}
