@@ -1,4 +1,5 @@
 pub mod ListedLemmas
 pub mod NumberLemmas
 pub mod ReserveLemmas
+pub mod DeliveryLemmas
 pub mod RoundLemmas

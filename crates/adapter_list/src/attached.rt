@@ -1,8 +1,13 @@
 //! One attached adapter.
-ghost use Rattle.std.specs.Prelude.{◌≡◌, ◌≤◌, filter, length, count_by};
-ghost use Rattle.mm_types.specs.Same.{same_node};
+ghost use Rattle.std.specs.Prelude.{◌≡◌, ◌≤◌, length};
+ghost use Rattle.link_store.specs.Holders.{HasNoCycle, above};
+ghost use Rattle.link_store.specs.LegalSets.{IsLegalSet};
+ghost use Rattle.notice_chain.specs.Listed.{heard_of, hears as is_heard};
+ghost use Rattle.adapter_list.specs.Attached.{listed_one};
 
 use adapters::Adapter;
+use containment::is_under;
+use link_store::LinkStore;
 use mm_types::{AdapterNo, Node};
 use notice_chain::Notice;
 
@@ -19,17 +24,28 @@ pub struct Attached<A = Box<dyn Adapter>> {
     pub adapter: A,
 }
 
-/// Whether an attached adapter hears a notice.
-pub(crate) fn hears<A>(one: &Attached<A>, notice: &Notice) -> bool
-    ensures { result ≡ same_node one.now.target notice.now.notifier }
+/// Whether an attached adapter hears a notice: one of its target, and if it is deep, one of a node below its target.
+pub(crate) fn hears<L: LinkStore, A: Adapter>(store: &L, one: &Attached<A>, notice: &Notice) -> bool
+    requires legal { IsLegalSet (L.links store.now) }
+    requires no_cycle { HasNoCycle (L.links store.now) }
+    ensures { result ≡ is_heard (above (L.links store.now)) (listed_one A.heard one.now) notice.now }
 {
-    one.target == notice.notifier
+    one.target == notice.notifier || (one.deep && is_under(store, notice.notifier, one.target))
 }
 
 /// How many notices of a chain an attached adapter hears.
-pub(crate) fn heard_count<A>(one: &Attached<A>, chain: &[Notice]) -> usize
-    ensures count { result ≡ count_by (λ n. same_node one.now.target n.notifier) chain.now }
+pub(crate) fn heard_count<L: LinkStore, A: Adapter>(
+    store: &L,
+    one: &Attached<A>,
+    chain: &[Notice],
+) -> usize
+    requires legal { IsLegalSet (L.links store.now) }
+    requires no_cycle { HasNoCycle (L.links store.now) }
+    ensures count { result ≡ length (heard_of (above (L.links store.now)) chain.now (listed_one A.heard one.now)) }
     ensures few { result ≤ length chain.now }
 {
-    chain.iter().filter(|notice| hears(one, notice)).count()
+    chain
+        .iter()
+        .filter(|notice| hears(store, one, notice))
+        .count()
 }

@@ -1,5 +1,6 @@
 //! What a case gives.
 use adapters::{Adapter, Counter, Recorder, Window};
+use link_store::RowStore;
 use mm_check::check;
 use mm_load::load_meta;
 use mm_meta::Meta;
@@ -34,7 +35,7 @@ fn printed(alloc: Global, meta: Box<Meta>, script: &[u8]) -> Result<Vec<u8>, All
     boxes.push(Box::new(alloc, Counter::new())?)?;
     boxes.push(Box::new(alloc, Counter::starting_at(u64::MAX - LEFT))?)?;
     let meta = Box::into_inner(meta);
-    if let Err(fault) = run(alloc, &mut reader, &mut found, meta, boxes) {
+    if let Err(fault) = run::<RowStore, _, _, _>(alloc, &mut reader, &mut found, meta, boxes) {
         let line = format!(in alloc; "stopped: {fault}\n")?;
         found.extend_from_slice(line.as_bytes())?;
     }

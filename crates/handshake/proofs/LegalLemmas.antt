@@ -1,46 +1,55 @@
 -- A change that nothing refuses keeps a legal model legal.
-use Rattle.std.proofs.Common.{◌≡◌, ℕ, zero, suc, eqb, Bool, true, false, ◌&&◌, IsTrue, List, [], ◌∷◌, slice_index_or, Option, Some, None, unwrap_or, option_map, if◌then◌else◌, refl, sym, ap, subst, arith}
-use Rattle.std.specs.Prelude.{int_le, pos, nat_le}
+use Rattle.std.proofs.Common.{◌≡◌, ℕ, zero, suc, ◌≤◌, eqb, Bool, true, false, ◌&&◌, List, [], ◌∷◌, ◌++◌, length, slice_index_or, slice_set, Option, Some, None, unwrap_or, option_map, if◌then◌else◌, refl, sym, ap, ◌∙◌, subst, arith}
 use Rattle.std.specs.List.{All, IsDistinct}
 use Rattle.std.specs.Ordering.{nat_cmp}
 use Rattle.std.specs.FinMap as map
+use Rattle.std.specs.Option.{option_map_or}
+use Rattle.std.proofs.lemmas.Bool.{and_from}
 use Rattle.std.proofs.lemmas.Bool.Decides.{nat_tests}
+use Rattle.std.proofs.lemmas.Option.{none-some}
 use Rattle.std.proofs.lemmas.List.{length-set, length-append}
 use Rattle.std.proofs.lemmas.List.Elements.{All-append, All-cons, All-nil, All-head, All-tail, All-set}
-use Rattle.std.specs.Option.{option_map_or}
-use Rattle.mm_types.specs.Conditions.{◌unless◌, ◌else_by◌}
-use Rattle.mm_types.specs.Lookups.{takes}
+use Rattle.mm_types.specs.Lookups as lookups
 use Rattle.mm_types.specs.Resolved.{Metamodel}
-use Rattle.mm_types.specs.Shapes.{Shape, shape}
-use Rattle.mm_types.specs.declared.limits.TheConstants.{LIST_VALUES}
+use Rattle.mm_types.specs.Shapes.{contents_shape, shape, shape_of}
+use Rattle.mm_types.specs.declared.feature.Feature.{Feature}
+use Rattle.mm_types.specs.declared.feature.Kind.{Kind}
+use Rattle.mm_types.specs.declared.feature.Kind.TheVariants.{Attribute, Reference}
+use Rattle.mm_types.specs.declared.limits.TheConstants.{OBJECTS}
+use Rattle.mm_types.specs.declared.end.End.{End}
 use Rattle.mm_types.specs.declared.numbers.ClassNo.{ClassNo}
 use Rattle.mm_types.specs.declared.numbers.FeatureNo.{FeatureNo}
 use Rattle.mm_types.specs.declared.numbers.Node.TheVariants as node
-use Rattle.mm_types.specs.declared.refused.Refused.{Refused}
-use Rattle.mm_types.specs.declared.refused.Refused.TheVariants.{Abstract, NoFeature, WrongType, TextLength, Limit}
+use Rattle.mm_types.specs.declared.numbers.ObjectNo.{ObjectNo}
+use Rattle.mm_types.specs.declared.refused.Refused.TheVariants.{Abstract, Limit}
 use Rattle.mm_types.specs.declared.value.Value.{Value}
+use Rattle.mm_types.specs.declared.value.Value.TheVariants as value
 use Rattle.mm_values.specs.Stored.{Stored, is_nothing, nothing_stored}
-use Rattle.mm_values.specs.Values.{ObjectState, object_at, put_stored}
+use Rattle.mm_values.specs.Values.{ObjectState, Objects, ValuesState, applied, class_of, object_at, put_stored}
 use Rattle.mm_values.proofs.StoredIn.{get-with_stored, kept}
-use Rattle.models.specs.Legal.{IsLegalStored, IsLegalObject, IsUniqueList, is_bounded, is_concrete, is_short}
+use Rattle.link_store.specs.Holders.{HasNoCycle}
+use Rattle.link_store.specs.Laws.{without_all}
+use Rattle.link_store.specs.LegalSets.{AreOfKind, IsLegalSet}
+use Rattle.link_store.specs.Links.{Links, end, put}
+use Rattle.link_store.proofs.CycleLemmas.{plan_makes_no_cycle}
+use Rattle.link_store.proofs.KindLemmas.{plan_keeps_kinds}
+use Rattle.link_store.proofs.LegalLemmas.{plan_keeps_legal}
+use Rattle.models.specs.Legal.{AreLegalLinks, IsLegal, IsLegalObject, IsLegalStored, IsUniqueList, is_concrete, is_legal_end, is_short, kinds_of}
 use Rattle.models.specs.Model.{Model, reading}
-use Rattle.models.specs.Reading.{class_has, has_feature}
+use Rattle.models.specs.Reading.{at_end, class_has, has_feature, takes}
 use Rattle.handshake.specs.declared.change.Change.{Change}
 use Rattle.handshake.specs.declared.change.Change.TheVariants.{Create, Set, Unset}
+use Rattle.handshake.specs.Displaced.{cut_by_set, cut_ties, is_plain_set}
+use Rattle.handshake.specs.Edits.{link_edits}
+use Rattle.handshake.specs.Effects.{after, links_after, put_by, put_under, value_edits, with_value}
 use Rattle.handshake.specs.Laws.{KeepsLegal}
+use Rattle.handshake.specs.Refusals.{early_refusal, late_refusal}
+use Rattle.handshake.proofs.CutTieLemmas.{pairs, without_ties-pairs}
+use Rattle.handshake.proofs.KnownLemmas.{kinds-are, none-else_by, none-unless, object-reference, set-taken, set-there}
+use Rattle.handshake.proofs.LegalEndLemmas.{HaveClasses, cut-end, legal-end-kept, one-bounded, put-end}
+use Rattle.handshake.proofs.PlanLemmas.{near-empty, plan-for, without_displaced}
 
-abbrev IsThere : Option Refused → Type 0
-IsThere None = ⊥
-IsThere (Some r) = Unit {0}
-
--- where nothing refuses, each thing that was asked for holds
-pub unless-none : (r : Refused) (b : Bool) → (r unless b) ≡ None → IsTrue b
-unless-none r true e = refl
-unless-none r false e = absurd (subst IsThere e tt)
-
-pub else-none : (a b : Option Refused) → (a else_by b) ≡ None → (a ≡ None) × (b ≡ None)
-else-none None b e = (refl, e)
-else-none (Some r) b e = absurd (subst IsThere e tt)
+---------------------------------------------------------------- what an object keeps
 
 legal-at : {X : Type 0} (P : Option X → Type 0) (os : List (Option X)) (i : ℕ) → P None → All P os → P (slice_index_or os i None)
 legal-at P [] i none all = none
@@ -65,9 +74,6 @@ unfolding IsDistinct
 unique-one true v = (tt, tt)
 unique-one false v = tt
 
-one-bounded : (a : Shape) → IsTrue (is_bounded a 1)
-one-bounded a = elim (int_le (pos 1) a.upper) as (λ b. IsTrue (nat_le 1 LIST_VALUES && (if b then b else true))) [ true ↦ refl | false ↦ refl ]
-
 same_number : (f g : FeatureNo) → f.0 ≡ g.0 → f ≡ g
 same_number f g e = ap (λ (n : ℕ). record { 0 = n }) e
 
@@ -75,11 +81,27 @@ same_number f g e = ap (λ (n : ℕ). record { 0 = n }) e
 nothing-legal : (m : Metamodel) (c : ClassNo) (f : FeatureNo) → IsLegalStored m c f nothing_stored
 nothing-legal m c f = record { values = refl; unique = unique-none (shape m f).is_unique; flag = flag-off (shape m f).is_unsettable }
 
--- and so is one value of the feature's type
-one-legal : (m : Metamodel) (c : ClassNo) (f : FeatureNo) (v : Value) → IsTrue (class_has m c f) → IsTrue (takes m f v) → IsTrue (is_short v) → IsLegalStored m c f (record { list = v ∷ []; flag = (shape m f).is_unsettable })
-one-legal m c f v has taken short =
+kept-of_kind : (m : Metamodel) (class : ObjectNo → Option ClassNo) (f : FeatureNo) (x : Feature) (k : Kind) (v : Value)
+    → (shape_of m f x k).is_reference ≡ false → lookups.is_of_kind m class (lookups.is_single x) k v ≡ true → lookups.is_of_attribute m (lookups.is_single x) k v ≡ true
+kept-of_kind m class f x (Attribute t unique unsettable default) v attribute h = h
+kept-of_kind m class f x (Reference target containment opposite) v attribute h = cc
+
+-- what an attribute takes, it keeps
+keeps-taken : (m : Metamodel) (class : ObjectNo → Option ClassNo) (f : FeatureNo) (v : Value) → (shape m f).is_reference ≡ false → lookups.takes m class f v ≡ true → lookups.keeps m f v ≡ true
+keeps-taken m class f v attribute h = by (lookups.feature m f) attribute h
+  where
+    by : (q : Option Feature) → (option_map_or (λ g. shape_of m f g g.kind) q (contents_shape m)).is_reference ≡ false
+        → option_map_or (λ g. lookups.is_of_kind m class (lookups.is_single g) g.kind v) q (lookups.is_object v) ≡ true
+        → option_map_or (λ g. lookups.is_of_attribute m (lookups.is_single g) g.kind v) q false ≡ true
+    by None attribute h = cc
+    by (Some g) attribute h = kept-of_kind m class f g g.kind v attribute h
+
+-- one value of an attribute's type is legal
+one-legal : (m : Metamodel) (c : ClassNo) (f : FeatureNo) (v : Value) → class_has m c f ≡ true → lookups.keeps m f v ≡ true → is_short v ≡ true
+    → IsLegalStored m c f (record { list = v ∷ []; flag = (shape m f).is_unsettable })
+one-legal m c f v has held short =
     record {
-      values = rw (has, taken, short, one-bounded (shape m f)) refl;
+      values = and_from _ _ has (and_from _ _ (and_from _ _ (and_from _ _ held short) refl) (one-bounded (shape m f)));
       unique = unique-one (shape m f).is_unique v;
       flag = flag-on (shape m f).is_unsettable;
     }
@@ -90,7 +112,7 @@ kept-legal m c f h legal =
     elim (is_nothing h) as (λ b. IsLegalStored m c f (unwrap_or (if b then None else Some h) nothing_stored)) [ true ↦ nothing-legal m c f | false ↦ legal ]
 
 -- a new object holds nothing
-created : (m : Metamodel) (c : ClassNo) → IsTrue (is_concrete m c) → IsLegalObject m (Some (record { class = c; stored = map.empty }))
+created : (m : Metamodel) (c : ClassNo) → is_concrete m c ≡ true → IsLegalObject m (Some (record { class = c; stored = map.empty }))
 created m c concrete = (concrete, λ f. subst (λ (h : Option Stored). IsLegalStored m c f (unwrap_or h nothing_stored)) (sym (map.get-empty nat_cmp f.0)) (nothing-legal m c f))
 
 -- an object after something was put under a feature
@@ -109,41 +131,122 @@ put-at m None f h legal held = tt
 put-at m (Some o) f h legal held = put-legal m o f h legal (held o refl)
 
 -- the class of the object there has the feature, where the object does
-has-of : (m : Metamodel) (o : Option ObjectState) (f : FeatureNo) (x : ObjectState) → o ≡ Some x → IsTrue (option_map_or (λ c. class_has m c f) (option_map (λ (s : ObjectState). s.class) o) false) → IsTrue (class_has m x.class f)
-has-of m o f x e has = subst (λ (o : Option ObjectState). IsTrue (option_map_or (λ c. class_has m c f) (option_map (λ (s : ObjectState). s.class) o) false)) e has
+has-of : (m : Metamodel) (o : Option ObjectState) (f : FeatureNo) (x : ObjectState) → o ≡ Some x → option_map_or (λ c. class_has m c f) (option_map (λ (s : ObjectState). s.class) o) false ≡ true → class_has m x.class f ≡ true
+has-of m o f x e has = subst (λ (o : Option ObjectState). option_map_or (λ c. class_has m c f) (option_map (λ (s : ObjectState). s.class) o) false ≡ true) e has
+
+---------------------------------------------------------------- the objects after a change
+
+-- an object that comes leaves the others their classes
+class-append : (os ys : Objects) (i : ℕ) (c : ClassNo) → option_map (λ (x : ObjectState). x.class) (slice_index_or os i None) ≡ Some c
+    → option_map (λ (x : ObjectState). x.class) (slice_index_or (os ++ ys) i None) ≡ Some c
+class-append [] ys i c h = absurd (none-some c h)
+class-append (o ∷ os) ys zero c h = h
+class-append (o ∷ os) ys (suc i) c h = class-append os ys i c h
+
+put-class : (f : FeatureNo) (h : Stored) (o : Option ObjectState) → option_map (λ (x : ObjectState). x.class) (option_map (put_stored f h) o) ≡ option_map (λ (x : ObjectState). x.class) o
+put-class f h None = refl
+put-class f h (Some x) = refl
+
+-- and so does what is put for one
+class-put : (f : FeatureNo) (h : Stored) (os : Objects) (k i : ℕ)
+    → option_map (λ (x : ObjectState). x.class) (slice_index_or (slice_set os k (option_map (put_stored f h) (slice_index_or os k None))) i None) ≡ option_map (λ (x : ObjectState). x.class) (slice_index_or os i None)
+class-put f h [] k i = refl
+class-put f h (o ∷ os) zero zero = put-class f h o
+class-put f h (o ∷ os) zero (suc i) = refl
+class-put f h (o ∷ os) (suc k) zero = refl
+class-put f h (o ∷ os) (suc k) (suc i) = class-put f h os k i
+
+-- legal objects, where each of before keeps its class
+record AreLegalValues (s : Model) (v : ValuesState) : Type 0 where
+  pub count : length v.objects ≤ OBJECTS
+  pub objects : All (IsLegalObject s.metamodel) v.objects
+  pub classes : HaveClasses (class_of s.values) (class_of v)
+
+same-values : (s : Model) → IsLegal s → AreLegalValues s s.values
+same-values s legal = record { count = legal.count; objects = legal.objects; classes = λ o c h. h }
+
+-- a list that is put under a feature of an object
+put-values : (s : Model) (o : ObjectNo) (f : FeatureNo) (h : Stored) → IsLegal s → ((x : ObjectState) → object_at s.values.objects o ≡ Some x → IsLegalStored s.metamodel x.class f h)
+    → AreLegalValues s (applied s.values (put_under f h.list h.flag (node.Object o)))
+put-values s o f h legal held =
+    let P = IsLegalObject s.metamodel in
+    record {
+      count = rw (length-set s.values.objects o.0 _) legal.count;
+      objects = All-set P s.values.objects o.0 _ (put-at s.metamodel (object_at s.values.objects o) f h (legal-at P s.values.objects o.0 tt legal.objects) held) legal.objects;
+      classes = λ p c is. class-put f h s.values.objects o.0 p.0 ∙ is;
+    }
+
+values-after : (s : Model) (c : Change) → IsLegal s → early_refusal (reading s) c ≡ None → late_refusal (reading s) c ≡ None → AreLegalValues s (applied s.values (value_edits (reading s) c))
+values-after s (Create c) legal early late =
+    let P = IsLegalObject s.metamodel in
+    record {
+      count = rw (length-append s.values.objects _) (grind (arith, nat_tests, none-unless Limit _ late));
+      objects = All-append P s.values.objects _ legal.objects (All-cons P _ [] (created s.metamodel c (none-unless Abstract _ (none-else_by _ _ early).1)) (All-nil P));
+      classes = λ o k h. class-append s.values.objects _ o.0 k h;
+    }
+values-after s (Set (node.Object o) f v) legal early late =
+    let m = s.metamodel in
+    let ask = set-taken (reading s) (node.Object o) f v late in
+    let h : Stored = record { list = v ∷ []; flag = (shape m f).is_unsettable } in
+    elim (shape m f).is_reference as (λ b. (shape m f).is_reference ≡ b → AreLegalValues s (applied s.values (if b then [] else put_under f h.list h.flag (node.Object o)))) [
+      | true ↦ λ _. same-values s legal
+      | false ↦ λ attribute. put-values s o f h legal (λ x e. one-legal m x.class f v (has-of m _ f x e (set-there (reading s) (node.Object o) f v early)) (keeps-taken m (class_of s.values) f v attribute ask.takes) ask.short)
+    ] refl
+values-after s (Set (node.Resource k) f v) legal early late =
+    elim (shape s.metamodel f).is_reference as (λ b. AreLegalValues s (applied s.values (if b then [] else []))) [ true ↦ same-values s legal | false ↦ same-values s legal ]
+values-after s (Unset (node.Object o) f) legal early late =
+    elim (shape s.metamodel f).is_reference as (λ b. AreLegalValues s (applied s.values (if b then [] else put_under f [] false (node.Object o)))) [
+      | true ↦ same-values s legal
+      | false ↦ put-values s o f nothing_stored legal (λ x e. nothing-legal s.metamodel x.class f)
+    ]
+values-after s (Unset (node.Resource k) f) legal early late =
+    elim (shape s.metamodel f).is_reference as (λ b. AreLegalValues s (applied s.values (if b then [] else []))) [ true ↦ same-values s legal | false ↦ same-values s legal ]
+
+---------------------------------------------------------------- the links after a change
+
+-- of a set of an end that is not plain
+set-ends : (s : Model) (e : End) (v : Value) → IsLegal s → has_feature (reading s) e.node e.feature ≡ true → takes (reading s) e.feature v ≡ true → (d : End)
+    → is_legal_end (reading s) d (end (with_value (without_all s.links (pairs (cut_by_set (reading s) e v))) (reading s) e v) d) ≡ true
+set-ends s e (value.Object o) legal has taken d =
+    let a = shape s.metamodel e.feature in
+    let t = without_displaced s e o in
+    let reference = object-reference s.metamodel (class_of s.values) e.feature o taken in
+    subst (λ (vs : List Value). is_legal_end (reading s) d (end (put t e (length vs) o a.opposite a.containing) d) ≡ true) (sym (near-empty s legal e o reference has)) (put-end s legal e o reference has taken d)
+set-ends s e v legal has taken d = cut-end s (pairs (cut_by_set (reading s) e v)) legal d
+
+ends-by-pairs : (s : Model) (c : Change) → IsLegal s → early_refusal (reading s) c ≡ None → late_refusal (reading s) c ≡ None → (d : End)
+    → is_legal_end (reading s) d (end (put_by (without_all s.links (pairs (cut_ties (reading s) c))) (reading s) c) d) ≡ true
+ends-by-pairs s (Create k) legal early late d = legal.links.ends d
+ends-by-pairs s (Unset n f) legal early late d = cut-end s (pairs (cut_ties (reading s) (Unset n f))) legal d
+ends-by-pairs s (Set n f v) legal early late d =
+    let r = reading s in
+    let e = at_end n f in
+    let t : Bool → Links = λ b. without_all s.links (pairs (if b then [] else cut_by_set r e v)) in
+    elim (is_plain_set r e v) as (λ b. is_legal_end r d (end (if b then t b else with_value (t b) r e v) d) ≡ true) [
+      | true ↦ legal.links.ends d
+      | false ↦ set-ends s e v legal (set-there r n f v early) (set-taken r n f v late).takes d
+    ]
+
+ends-after : (s : Model) (c : Change) → IsLegal s → early_refusal (reading s) c ≡ None → late_refusal (reading s) c ≡ None → (d : End)
+    → is_legal_end (reading s) d (end (links_after s.links (reading s) c) d) ≡ true
+ends-after s c legal early late d =
+    subst (λ (t : Links). is_legal_end (reading s) d (end (put_by t (reading s) c) d) ≡ true) (sym (without_ties-pairs s.links (cut_ties (reading s) c))) (ends-by-pairs s c legal early late d)
+
+links-after : (s : Model) (c : Change) → IsLegal s → early_refusal (reading s) c ≡ None → late_refusal (reading s) c ≡ None → AreLegalLinks (reading (after s c)) (links_after s.links (reading s) c)
+links-after s c legal early late =
+    let m = kinds_of s.metamodel in
+    let plan = link_edits (reading s) c in
+    let p = plan-for s c legal early late in
+    record {
+      set = subst IsLegalSet p.makes (plan_keeps_legal s.links plan legal.links.set p.fits);
+      kinds = subst (AreOfKind m) p.makes (plan_keeps_kinds m (kinds-are s.metamodel legal.metamodel) s.links plan legal.links.kinds p.of_kind);
+      forest = subst HasNoCycle p.makes (plan_makes_no_cycle s.links plan legal.links.set p.fits p.no_cycle legal.links.forest);
+      ends = λ d. legal-end-kept s (after s c).values (after s c).links (values-after s c legal early late).classes d _ (ends-after s c legal early late d);
+    }
+
+---------------------------------------------------------------- both
 
 pub change-keeps-legal : (s : Model) (c : Change) → KeepsLegal s c
-change-keeps-legal s (Create c) legal early late =
-    let m = s.metamodel in
-    record {
-      metamodel = legal.metamodel;
-      count = rw (length-append s.values.objects _) (grind (arith, nat_tests, unless-none Limit _ late));
-      objects = All-append (IsLegalObject m) s.values.objects _ legal.objects (All-cons (IsLegalObject m) _ [] (created m c (unless-none Abstract _ (else-none _ _ early).1)) (All-nil (IsLegalObject m)));
-    }
-change-keeps-legal s (Set (node.Object o) f v) legal early late =
-    let m = s.metamodel in
-    let x = object_at s.values.objects o in
-    let named = else-none _ _ (else-none _ _ early).1 in
-    let found : IsTrue (has_feature (reading s) (node.Object o) f) = unless-none NoFeature _ named.1 in
-    let fits = else-none _ _ late in
-    let taken : IsTrue (takes m f v) = unless-none WrongType _ fits.0 in
-    let short : IsTrue (is_short v) = unless-none TextLength _ fits.1 in
-    record {
-      metamodel = legal.metamodel;
-      count = rw (length-set s.values.objects o.0 _) legal.count;
-      objects =
-          All-set (IsLegalObject m) s.values.objects o.0 _
-          (put-at m x f _ (legal-at (IsLegalObject m) s.values.objects o.0 tt legal.objects) (λ y e. one-legal m y.class f v (has-of m x f y e found) taken short)) legal.objects;
-    }
-change-keeps-legal s (Set (node.Resource r) f v) legal early late = legal
-change-keeps-legal s (Unset (node.Object o) f) legal early late =
-    let m = s.metamodel in
-    let x = object_at s.values.objects o in
-    record {
-      metamodel = legal.metamodel;
-      count = rw (length-set s.values.objects o.0 _) legal.count;
-      objects =
-          All-set (IsLegalObject m) s.values.objects o.0 _
-          (put-at m x f nothing_stored (legal-at (IsLegalObject m) s.values.objects o.0 tt legal.objects) (λ y e. nothing-legal m y.class f)) legal.objects;
-    }
-change-keeps-legal s (Unset (node.Resource r) f) legal early late = legal
+change-keeps-legal s c legal early late =
+    let v = values-after s c legal early late in
+    record { metamodel = legal.metamodel; count = v.count; objects = v.objects; links = links-after s c legal early late }

@@ -1,3 +1,15 @@
+pub mod ApartLemmas
+pub mod AttributeLemmas
+pub mod ChainLemmas
+pub mod CutEndLemmas
+pub mod CutTieLemmas
+pub mod HappenedLemmas
+pub mod KnownLemmas
+pub mod LegalEndLemmas
 pub mod LegalLemmas
-pub mod ReadLemmas
+pub mod LossLemmas
+pub mod PlanLemmas
+pub mod RelinkLemmas
 pub mod ReplayLemmas
+pub mod TellingLemmas
+pub mod TieNameLemmas

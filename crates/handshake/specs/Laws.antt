@@ -1,20 +1,45 @@
--- What holds of every change that nothing refuses.
-use Rattle.std.specs.Prelude.{◌≡◌, None}
+-- What holds of every change of a legal model that nothing refuses.
+use Rattle.std.specs.Prelude.{◌≡◌, List, [], ◌∷◌, false, None}
+use Rattle.std.specs.List.{AllByRecursion}
 use Rattle.mm_types.specs.declared.end.End.{End}
 use Rattle.models.specs.Legal.{IsLegal}
 use Rattle.models.specs.Model.{Model, reading}
-use Rattle.models.specs.Reading.{held_at}
+use Rattle.models.specs.Reading.{Reading, held_at}
 use Rattle.notice_chain.specs.Replay.{replayed_all}
 use Rattle.handshake.specs.declared.change.Change.{Change}
+use Rattle.handshake.specs.declared.happening.Telling.{Telling}
+use Rattle.handshake.specs.declared.tie.Tie.{Tie}
+use Rattle.handshake.specs.Displaced.{cut_ties, same_link}
 use Rattle.handshake.specs.Effects.{after}
 use Rattle.handshake.specs.Refusals.{early_refusal, late_refusal}
 use Rattle.handshake.specs.Telling.{has_flag}
-use Rattle.handshake.specs.Tellings.{chain}
+use Rattle.handshake.specs.Tellings.{chain, tellings}
 
--- a change of a legal model leaves a legal one
+-- something holds of a change of a model, where the model is legal and nothing refuses the change
+abbrev pub OfAllowed : (Model → Change → Type 0) → Model → Change → Type 0
+OfAllowed Holds s c = IsLegal s → early_refusal (reading s) c ≡ None → late_refusal (reading s) c ≡ None → Holds s c
+
+-- it leaves a legal model
 abbrev pub KeepsLegal : Model → Change → Type 0
-KeepsLegal s c = IsLegal s → early_refusal (reading s) c ≡ None → late_refusal (reading s) c ≡ None → IsLegal (after s c)
+KeepsLegal = OfAllowed (λ s c. IsLegal (after s c))
 
--- where nothing refuses a change before it is planned, its chain, replayed at each end, gives what the end holds after the change
+-- its chain, replayed at each end, gives what the end holds after it
 abbrev pub ChainReplays : Model → Change → Type 0
-ChainReplays s c = early_refusal (reading s) c ≡ None → (d : End) → replayed_all (has_flag s.metamodel) (held_at (reading s)) (chain (reading s) c) d ≡ held_at (reading (after s c)) d
+ChainReplays = OfAllowed (λ s c. (d : End) → replayed_all (has_flag s.metamodel) (held_at (reading s)) (chain (reading s) c) d ≡ held_at (reading (after s c)) d)
+
+-- no end is told twice
+abbrev pub AreApart : List Telling → Type 0
+AreApart [] = Unit {0}
+AreApart (t ∷ ts) = AllByRecursion (λ (u : Telling). t.at ≡ u.at → ⊥) ts × AreApart ts
+
+abbrev pub TellsNoEndTwice : Model → Change → Type 0
+TellsNoEndTwice = OfAllowed (λ s c. AreApart (tellings (reading s) c))
+
+-- no two of the names are of one link
+abbrev pub AreDifferent : Reading → List Tie → Type 0
+AreDifferent r [] = Unit {0}
+AreDifferent r (t ∷ ts) = AllByRecursion (λ (u : Tie). same_link r u t ≡ false) ts × AreDifferent r ts
+
+-- it cuts no link twice
+abbrev pub CutsNoLinkTwice : Model → Change → Type 0
+CutsNoLinkTwice = OfAllowed (λ s c. AreDifferent (reading s) (cut_ties (reading s) c))

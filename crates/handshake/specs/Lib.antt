@@ -1,7 +1,9 @@
-pub mod Effects
 pub mod Named
-pub mod Refusals
+pub mod Displaced
 pub mod Telling
 pub mod Tellings
+pub mod Effects
+pub mod Edits
+pub mod Refusals
 pub mod Plans
 pub mod Laws

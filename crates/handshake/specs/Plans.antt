@@ -3,6 +3,8 @@ use Rattle.std.specs.Prelude.{◌≡◌, Bool, true, false, MatchBool, [], Some,
 use Rattle.mm_types.specs.declared.refused.Refused.{Refused}
 use Rattle.mm_types.specs.declared.refused.Refused.TheVariants.{Memory}
 use Rattle.mm_values.specs.Values as values
+use Rattle.link_store.specs.Plans as links
+use Rattle.models.specs.Legal.{kinds_of}
 use Rattle.models.specs.Model.{Model, reading}
 use Rattle.handshake.specs.declared.change.Change.{Change}
 use Rattle.handshake.specs.declared.planned.Planned.{Planned}
@@ -17,6 +19,9 @@ is_memory_refusal _ = false
 -- edits that make a change, which nothing refuses, and its chain, where somebody may hear it
 pub record IsPlanOf (is_heard : Bool) (s : Model) (c : Change) (p : Planned) : Type 0 where
   pub allowed : late_refusal (reading s) c ≡ None
+  pub fits : links.PlanFits s.links p.edits
+  pub of_kind : links.IsPlanOfKind (kinds_of s.metamodel) p.edits
+  pub links_made : links.applied s.links p.edits ≡ (after s c).links
   pub values_made : values.applied s.values p.values ≡ (after s c).values
   pub tells : p.chain ≡ (if is_heard then chain (reading s) c else [])
 

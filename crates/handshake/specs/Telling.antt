@@ -1,6 +1,7 @@
 -- What happens to ends, without positions; and the notices that report it, each read in the ends that the notices before it left.
-use Rattle.std.specs.Prelude.{ℤ, pos, Bool, false, List, [], ◌∷◌, ◌++◌, length, Some, if◌then◌else◌}
+use Rattle.std.specs.Prelude.{◌≡◌, true, ℕ, suc, ℤ, pos, Bool, false, List, [], ◌∷◌, ◌++◌, length, Some, if◌then◌else◌}
 use Rattle.mm_types.specs.Resolved.{Metamodel}
+use Rattle.mm_types.specs.Same.{same_value}
 use Rattle.mm_types.specs.Shapes.{Shape, shape}
 use Rattle.mm_types.specs.Ends.{Ends, Held, is_set, value_in, with_held}
 use Rattle.mm_types.specs.declared.numbers.FeatureNo.{FeatureNo}
@@ -10,17 +11,12 @@ use Rattle.mm_types.specs.declared.value.Value.TheVariants as value
 use Rattle.notice_chain.specs.declared.kind.NoticeKind.{NoticeKind}
 use Rattle.notice_chain.specs.declared.kind.NoticeKind.TheVariants as kind
 use Rattle.notice_chain.specs.declared.notice.Notice.{Notice}
+use Rattle.models.specs.Reading.{Reading, held_at, shape_at}
 use Rattle.notice_chain.specs.Kinds.{no_index}
 use Rattle.notice_chain.specs.Replay.{replayed_in}
-
--- what happens to one end; whether it is single or a list is no part of it
-pub data Happening : Type 0 where
-  Gains : Value → Happening  -- a list: at its end; a single end: in place of what it has
-  Unsets : Happening
-
-pub record Telling : Type 0 where
-  pub at : End
-  pub does : Happening
+use Rattle.handshake.specs.declared.happening.Happening.{Happening}
+use Rattle.handshake.specs.declared.happening.Happening.TheVariants.{Gains, Loses, Unsets}
+use Rattle.handshake.specs.declared.happening.Telling.{Telling}
 
 abbrev pub telling : End → Happening → Telling
 telling e h = record { at = e; does = h }
@@ -32,11 +28,26 @@ abbrev pub notice : Shape → End → Held → NoticeKind → Value → Value �
 notice a e h k old new p =
     record { notifier = e.node; feature = Some e.feature; kind = k; old_value = old; new_value = new; position = p; was_set = is_set a h }
 
+-- where a value stands in a list; past its end, where it does not
+abbrev pub index_in : List Value → Value → ℕ
+index_in [] v = 0
+index_in (w ∷ ws) v = if same_value v w then 0 else suc (index_in ws v)
+
 abbrev pub notice_of : Shape → End → Happening → Held → Notice
 notice_of a e (Gains v) h =
     if a.is_single then notice a e h kind.Set (value_in h.values 0) v no_index
     else notice a e h kind.Add value.Null v (pos (length h.values))
+notice_of a e (Loses v) h =
+    if a.is_single then notice a e h kind.Set v value.Null no_index
+    else notice a e h kind.Remove v value.Null (pos (index_in h.values v))
 notice_of a e Unsets h = notice a e h kind.Unset (value_in h.values 0) a.default no_index
+
+-- the notice of a telling, read in a model
+abbrev pub notice_at : Reading → Telling → Notice
+notice_at r t = notice_of (shape_at r t.at) t.at t.does (held_at r t.at)
+
+abbrev pub IsOfSingle : Metamodel → Telling → Type 0
+IsOfSingle m t = (shape m t.at.feature).is_single ≡ true
 
 -- the features that have a set flag
 abbrev pub has_flag : Metamodel → FeatureNo → Bool
@@ -51,14 +62,21 @@ told m e (t ∷ ts) =
 
 ---------------------------------------------------------------- what it does, said plainly
 
+-- the list without the first of a value
+abbrev pub without : List Value → Value → List Value
+without [] v = []
+without (w ∷ ws) v = if same_value v w then ws else w ∷ without ws v
+
 -- the values after it
 abbrev pub changed : Shape → Happening → List Value → List Value
 changed a (Gains v) vs = if a.is_single then v ∷ [] else vs ++ v ∷ []
+changed a (Loses v) vs = if a.is_single then value.Null ∷ [] else without vs v
 changed a Unsets vs = a.default ∷ []
 
 -- the flag after it: a gain or loss of a single end turns it on, where there is one, and unsetting turns it off
 abbrev pub flagged : Shape → Happening → Bool → Bool
 flagged a (Gains v) b = if a.is_single then a.is_unsettable else b
+flagged a (Loses v) b = if a.is_single then a.is_unsettable else b
 flagged a Unsets b = false
 
 abbrev pub happened : Metamodel → Ends → Telling → Ends

@@ -4,11 +4,13 @@ ghost use Rattle.mm_types.specs.Ends.{Ends};
 ghost use Rattle.mm_types.specs.Resolved.{Metamodel};
 ghost use Rattle.models.specs.Model.{Model};
 ghost use Rattle.notice_chain.specs.Replay.{replayed_all};
-ghost use Rattle.handshake.specs.Laws.{ChainReplays, KeepsLegal};
-ghost use Rattle.handshake.specs.Telling.{Telling, happened_all, has_flag, told};
+ghost use Rattle.handshake.specs.Laws.{ChainReplays, CutsNoLinkTwice, KeepsLegal, TellsNoEndTwice};
+ghost use Rattle.handshake.specs.Telling.{happened_all, has_flag, told};
 ghost use Rattle.handshake.specs.declared.change.Change.{Change};
+ghost use Rattle.handshake.specs.declared.happening.Telling.{Telling};
 
-/// A change of a legal model, where nothing refuses it, leaves a legal one.
+/// A change of a legal model, where nothing refuses it, leaves a legal one: both ends of each link agree, no object has two
+/// containers or contains itself, and each end has values of its feature's type, no more of them than it may.
 pub fn keeps_legal()
     ensures { (s : Model) (c : Change) → KeepsLegal s c }
 {}
@@ -19,9 +21,18 @@ pub fn the_notices_of_tellings_replay_them()
     ensures { (m : Metamodel) (e : Ends) (ts : List Telling) → replayed_all (has_flag m) e (told m e ts) ≡ happened_all m e ts }
 {}
 
-/// The chain of a change, where nothing refuses the change before it is planned, replays it: from what the ends of the model
-/// hold it makes what they hold after the change. The model need not be legal, nor the value one of the feature's type.
-#[tactic(auto, using(crate::proofs::ReplayLemmas::replaying))]
+/// The chain of a change, where nothing refuses it, replays it: from what the ends of a legal model hold it makes what they hold
+/// after the change.
 pub fn the_chain_of_a_change_replays_it()
     ensures { (s : Model) (c : Change) → ChainReplays s c }
+{}
+
+/// A chain tells no end twice.
+pub fn a_chain_tells_no_end_twice()
+    ensures { (s : Model) (c : Change) → TellsNoEndTwice s c }
+{}
+
+/// A change cuts no link twice, by whichever of its ends it is named.
+pub fn a_change_cuts_no_link_twice()
+    ensures { (s : Model) (c : Change) → CutsNoLinkTwice s c }
 {}

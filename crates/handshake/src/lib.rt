@@ -1,20 +1,25 @@
-//! Changes of a model: why a change is refused, and the edits that make it.
+//! Changes of a model: why a change is refused, the edits that make it, and the notices that it tells.
 //!
-//! `specs/Refusals.antt` says when a change is refused, `specs/Effects.antt` what it makes of a model.
+//! `specs/Refusals.antt` says when a change is refused, `specs/Effects.antt` what it makes of a model, `specs/Tellings.antt` what it
+//! tells, and `specs/Displaced.antt` which links a new link displaces.
 #![tactic(auto)]
 
+mod chain;
 mod change;
-mod features;
+mod displaced;
+mod edits;
+mod happening;
 pub mod laws;
 mod named;
 mod planned;
 mod planning;
-mod reads;
+mod recursion;
 mod telling;
+mod tie;
 
 pub use change::Change;
-pub use features::{is_single, is_unsettable};
+pub use happening::{Happening, Telling};
 pub use named::{early_refusal, feature_refusal, node_refusal};
 pub use planned::Planned;
 pub use planning::plan;
-pub use reads::{copied, is_set_at, value_at};
+pub use tie::Tie;

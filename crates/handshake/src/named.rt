@@ -1,32 +1,30 @@
 //! Whether what a change names is there. None of this takes memory.
 ghost use Rattle.std.specs.Prelude.{◌≡◌};
-ghost use Rattle.mm_types.specs.Resolved.{Metamodel};
-ghost use Rattle.mm_values.specs.Room.{values_of};
-ghost use Rattle.models.specs.Model.{model_of, reading};
+ghost use Rattle.models.specs.Model.{reading};
 ghost use Rattle.models.specs.Reading as r;
 ghost use Rattle.handshake.specs.Named as named;
 ghost use Rattle.handshake.specs.Refusals as refusals;
 
 use crate::change::Change;
-use crate::features::{class_has, is_concrete};
+use link_store::LinkStore;
 use mm_meta::Meta;
 use mm_types::{ClassNo, FeatureNo, Node, Refused, Value};
-use mm_values::Values;
+use models::{ModelRef, is_concrete};
 
 /// The first refusal of a change that needs no memory to be found: what it names is not there.
 ///
 /// `NoObject` where the node, or the value, is an object that does not live; `NoResource`, `NoClass`, `Abstract`, `NoFeature`.
-pub fn early_refusal(meta: &Meta, values: &Values, change: &Change) -> Option<Refused>
-    ensures { result ≡ refusals.early_refusal (reading (model_of meta.now (values_of values.now))) change.now }
+pub fn early_refusal<L: LinkStore>(model: &ModelRef<L>, change: &Change) -> Option<Refused>
+    ensures { result ≡ refusals.early_refusal (reading model.now) change.now }
 {
     match change {
-        Change::Create(class) => class_refusal(meta, *class),
+        Change::Create(class) => class_refusal(model.meta(), *class),
         Change::Set {
             node,
             feature,
             value,
-        } => value_refusal(meta, values, *node, *feature, value),
-        Change::Unset { node, feature } => feature_refusal(meta, values, *node, *feature),
+        } => value_refusal(model, *node, *feature, value),
+        Change::Unset { node, feature } => feature_refusal(model, *node, *feature),
     }
 }
 
@@ -42,38 +40,37 @@ fn class_refusal(meta: &Meta, class: ClassNo) -> Option<Refused>
     None
 }
 
-fn value_refusal(
-    meta: &Meta,
-    values: &Values,
+fn value_refusal<L: LinkStore>(
+    model: &ModelRef<L>,
     node: Node,
     feature: FeatureNo,
     value: &Value,
 ) -> Option<Refused>
-    ensures { result ≡ named.value_refusal (reading (model_of meta.now (values_of values.now))) node feature value.now }
+    ensures { result ≡ named.value_refusal (reading model.now) node feature value.now }
 {
-    if !is_value_live(values, value) {
+    if !is_value_live(model, value) {
         return Some(Refused::NoObject);
     }
-    feature_refusal(meta, values, node, feature)
+    feature_refusal(model, node, feature)
 }
 
 /// Whether a value is no object, or a live one.
-fn is_value_live(values: &Values, value: &Value) -> bool
-    ensures { (m : Metamodel) → result ≡ r.is_value_live (reading (model_of m (values_of values.now))) value.now }
+fn is_value_live<L: LinkStore>(model: &ModelRef<L>, value: &Value) -> bool
+    ensures { result ≡ r.is_value_live (reading model.now) value.now }
 {
     match value {
-        Value::Object(object) => values.class(*object).is_some(),
+        Value::Object(object) => model.class(*object).is_some(),
         _ => true,
     }
 }
 
 /// Why a node can't be named: `NoObject` or `NoResource`. Takes no memory.
-pub fn node_refusal(values: &Values, node: Node) -> Option<Refused>
-    ensures { (m : Metamodel) → result ≡ named.node_refusal (reading (model_of m (values_of values.now))) node }
+pub fn node_refusal<L: LinkStore>(model: &ModelRef<L>, node: Node) -> Option<Refused>
+    ensures { result ≡ named.node_refusal (reading model.now) node }
 {
     match node {
-        Node::Object(object) if values.class(object).is_none() => Some(Refused::NoObject),
-        Node::Resource(resource) if resource.0 as usize >= values.resources() => {
+        Node::Object(object) if model.class(object).is_none() => Some(Refused::NoObject),
+        Node::Resource(resource) if resource.0 as usize >= model.resources() => {
             Some(Refused::NoResource)
         }
         _ => None,
@@ -81,23 +78,18 @@ pub fn node_refusal(values: &Values, node: Node) -> Option<Refused>
 }
 
 /// Why a feature of a node can't be named: `NoObject`, `NoResource` or `NoFeature`.
-pub fn feature_refusal(
-    meta: &Meta,
-    values: &Values,
+pub fn feature_refusal<L: LinkStore>(
+    model: &ModelRef<L>,
     node: Node,
     feature: FeatureNo,
 ) -> Option<Refused>
-    ensures { result ≡ named.feature_refusal (reading (model_of meta.now (values_of values.now))) node feature }
+    ensures { result ≡ named.feature_refusal (reading model.now) node feature }
 {
-    match node {
-        Node::Object(object) => match values.class(object) {
-            Some(class) if class_has(meta, class, feature) => None,
-            Some(_) => Some(Refused::NoFeature),
-            None => Some(Refused::NoObject),
-        },
-        Node::Resource(resource) if resource.0 as usize >= values.resources() => {
-            Some(Refused::NoResource)
-        }
-        Node::Resource(_) => Some(Refused::NoFeature),
+    if let Some(refused) = node_refusal(model, node) {
+        return Some(refused);
     }
+    if !model.has_feature(node, feature) {
+        return Some(Refused::NoFeature);
+    }
+    None
 }

@@ -1,94 +1,212 @@
-//! The notices that changes tell.
-ghost use Rattle.std.specs.Prelude.{◌≡◌, ◌∷◌, [], true, IfOk, IfErr};
-ghost use Rattle.mm_types.specs.Shapes.{shape};
+//! What a change makes happen, end by end.
+ghost use Rattle.std.specs.Prelude.{◌≡◌, ◌∷◌, ◌++◌, [], not, flat_map, filter, IfOk, IfErr, OnOk, OnErr};
+ghost use Rattle.mm_types.specs.Shapes.{is_containment};
 ghost use Rattle.mm_types.specs.declared.refused.Refused.TheVariants.{Memory};
-ghost use Rattle.mm_values.specs.Room.{values_of};
-ghost use Rattle.models.specs.Model.{model_of, reading};
-ghost use Rattle.handshake.specs.Tellings.{chain};
-ghost use Rattle.handshake.specs.declared.change.Change.TheVariants.{Set, Unset};
+ghost use Rattle.mm_types.specs.declared.value.Value.TheVariants as value;
+ghost use Rattle.models.specs.Model.{reading};
+ghost use Rattle.models.specs.Reading.{at_end};
+ghost use Rattle.handshake.specs.Tellings as t;
 
-use crate::reads::{copied, is_set_at, value_at};
-use mm_meta::Meta;
-use mm_types::{FeatureNo, Node, Refused, Value};
-use mm_values::Values;
-use notice_chain::{Chain, NO_INDEX, Notice, NoticeKind};
+use crate::change::Change;
+use crate::displaced::is_plain_set;
+use crate::happening::{Happening, Telling};
+use crate::tie::{Tie, node_value, opposite_end, turned};
+use link_store::LinkStore;
+use mm_types::{End, ObjectNo, Refused, Value};
+use models::{ModelRef, copy_of, is_single};
 use std::alloc::Global;
 
-/// What a set of a feature of one value tells: SET, also where the value is the one that it had.
-pub(crate) fn set_chain(
+/// What a change that cuts these links makes happen, in the order in which it is told.
+pub(crate) fn tellings<L: LinkStore>(
     alloc: Global,
-    meta: &Meta,
-    values: &Values,
-    node: Node,
-    feature: FeatureNo,
+    model: &ModelRef<L>,
+    change: &Change,
+    ties: &[Tie],
+) -> Result<Vec<Telling>, Refused>
+    ensures ok { IfOk result (λ ts. ts.items ≡ t.tellings_with (reading model.now) change.now ties.now) }
+    ensures err { IfErr result (λ r. r ≡ Memory) }
+{
+    let mut out = Vec::new(alloc);
+    match change {
+        Change::Create(_) => Ok(out),
+        Change::Set {
+            node,
+            feature,
+            value,
+        } => {
+            let end = End {
+                node: *node,
+                feature: *feature,
+            };
+            if !is_plain_set(model, end, value) {
+                push_cuts(model, end, value, ties, &mut out)?;
+            }
+            push(&mut out, end, Happening::Gains(copy_of(value)?))?;
+            Ok(out)
+        }
+        Change::Unset { node, feature } => {
+            push_far_losses(model, ties, &mut out)?;
+            let end = End {
+                node: *node,
+                feature: *feature,
+            };
+            push(&mut out, end, Happening::Unsets)?;
+            Ok(out)
+        }
+    }
+}
+
+/// Adds what a set that cuts these links tells before the end itself gains.
+fn push_cuts<L: LinkStore>(
+    model: &ModelRef<L>,
+    end: End,
     value: &Value,
-) -> Result<Chain, Refused>
-    requires single { (shape meta.now feature).is_single ≡ true }
-    ensures ok { IfOk result (λ c. c ≡ chain (reading (model_of meta.now (values_of values.now))) (Set node feature value.now)) }
+    ties: &[Tie],
+    out: &mut Vec<Telling>,
+) -> Result<(), Refused>
+    ensures ok { OnOk result (out.new.items ≡ out.old.items ++ t.before_gain (reading model.now) end value.now ties.now) }
     ensures err { IfErr result (λ r. r ≡ Memory) }
 {
-    let old_value = match copied(value_at(meta, values, node, feature)) {
-        Ok(old_value) => old_value,
-        Err(refused) => return Err(refused),
-    };
-    let new_value = match copied(Some(value)) {
-        Ok(new_value) => new_value,
-        Err(refused) => return Err(refused),
-    };
-    one_notice(
-        alloc,
-        Notice {
-            notifier: node,
-            feature: Some(feature),
-            kind: NoticeKind::Set,
-            old_value,
-            new_value,
-            position: NO_INDEX,
-            was_set: is_set_at(meta, values, node, feature),
-        },
-    )
+    match value {
+        Value::Object(object) => {
+            push_other_losses(model, end, *object, ties, out)?;
+            match opposite_end(model, end, *object) {
+                Some(far) => push(out, far, Happening::Gains(node_value(end.node))),
+                None => Ok(()),
+            }
+        }
+        _ => push_far_losses(model, ties, out),
+    }
 }
 
-/// What an unset of a feature of one value tells: UNSET, from the value that it had to its default.
-pub(crate) fn unset_chain(
-    alloc: Global,
-    meta: &Meta,
-    values: &Values,
-    node: Node,
-    feature: FeatureNo,
-) -> Result<Chain, Refused>
-    ensures ok { IfOk result (λ c. c ≡ chain (reading (model_of meta.now (values_of values.now))) (Unset node feature)) }
+/// Adds the losses at the other ends of links.
+fn push_far_losses<L: LinkStore>(
+    model: &ModelRef<L>,
+    ties: &[Tie],
+    out: &mut Vec<Telling>,
+) -> Result<(), Refused>
+    ensures ok { OnOk result (out.new.items ≡ out.old.items ++ t.far_losses (reading model.now) ties.now) }
     ensures err { IfErr result (λ r. r ≡ Memory) }
 {
-    let old_value = match copied(value_at(meta, values, node, feature)) {
-        Ok(old_value) => old_value,
-        Err(refused) => return Err(refused),
-    };
-    let new_value = match copied(meta.default(feature)) {
-        Ok(new_value) => new_value,
-        Err(refused) => return Err(refused),
-    };
-    one_notice(
-        alloc,
-        Notice {
-            notifier: node,
-            feature: Some(feature),
-            kind: NoticeKind::Unset,
-            old_value,
-            new_value,
-            position: NO_INDEX,
-            was_set: is_set_at(meta, values, node, feature),
-        },
-    )
+    for tie in ties {
+        push_far_loss(model, tie, out)?;
+    }
+    Ok(())
 }
 
-fn one_notice(alloc: Global, notice: Notice) -> Result<Chain, Refused>
-    ensures ok { IfOk result (λ c. c ≡ notice ∷ []) }
+fn push_far_loss<L: LinkStore>(
+    model: &ModelRef<L>,
+    tie: &Tie,
+    out: &mut Vec<Telling>,
+) -> Result<(), Refused>
+    ensures ok { OnOk result (out.new.items ≡ out.old.items ++ t.far_loss (reading model.now) tie.now) }
     ensures err { IfErr result (λ r. r ≡ Memory) }
 {
-    let mut chain = Chain::new(alloc);
-    match chain.push(notice) {
-        Ok(()) => Ok(chain),
+    match turned(model, tie) {
+        Some(far) => push_loss(&far, out),
+        None => Ok(()),
+    }
+}
+
+/// Adds the losses of displaced links at each end that a new link between an end and an object doesn't replace.
+fn push_other_losses<L: LinkStore>(
+    model: &ModelRef<L>,
+    end: End,
+    object: ObjectNo,
+    ties: &[Tie],
+    out: &mut Vec<Telling>,
+) -> Result<(), Refused>
+    ensures ok { OnOk result (out.new.items ≡ out.old.items ++ flat_map (t.other_losses (reading model.now) end object) ties.now) }
+    ensures err { IfErr result (λ r. r ≡ Memory) }
+{
+    for tie in ties {
+        push_losses(model, end, object, tie, out)?;
+    }
+    Ok(())
+}
+
+/// The containing end's loss comes first.
+fn push_losses<L: LinkStore>(
+    model: &ModelRef<L>,
+    end: End,
+    object: ObjectNo,
+    tie: &Tie,
+    out: &mut Vec<Telling>,
+) -> Result<(), Refused>
+    ensures ok { OnOk result (out.new.items ≡ out.old.items ++ t.other_losses (reading model.now) end object tie.now) }
+    ensures err { IfErr result (λ r. r ≡ Memory) }
+{
+    let Some(far) = turned(model, tie) else {
+        return push_other_loss(model, end, object, tie, out);
+    };
+    if model.meta().is_containment(far.end.feature) {
+        push_both(model, end, object, &far, tie, out)
+    } else {
+        push_both(model, end, object, tie, &far, out)
+    }
+}
+
+/// Adds the losses at both ends of a link, each unless a new link between an end and an object replaces what is lost.
+fn push_both<L: LinkStore>(
+    model: &ModelRef<L>,
+    end: End,
+    object: ObjectNo,
+    first: &Tie,
+    second: &Tie,
+    out: &mut Vec<Telling>,
+) -> Result<(), Refused>
+    ensures ok { OnOk result (out.new.items ≡ out.old.items ++ filter (λ x. not (t.is_replaced (reading model.now) end object x.at)) (t.loss first.now ∷ t.loss second.now ∷ [])) }
+    ensures err { IfErr result (λ r. r ≡ Memory) }
+{
+    push_other_loss(model, end, object, first, out)?;
+    push_other_loss(model, end, object, second, out)?;
+    Ok(())
+}
+
+/// Adds a loss, unless a new link between an end and an object replaces what is lost.
+fn push_other_loss<L: LinkStore>(
+    model: &ModelRef<L>,
+    end: End,
+    object: ObjectNo,
+    tie: &Tie,
+    out: &mut Vec<Telling>,
+) -> Result<(), Refused>
+    ensures ok { OnOk result (out.new.items ≡ out.old.items ++ filter (λ x. not (t.is_replaced (reading model.now) end object x.at)) (t.loss tie.now ∷ [])) }
+    ensures err { IfErr result (λ r. r ≡ Memory) }
+{
+    if is_replaced(model, end, object, tie.end) {
+        return Ok(());
+    }
+    push_loss(tie, out)
+}
+
+/// Whether a new link between an end and an object replaces what another end holds.
+fn is_replaced<L: LinkStore>(model: &ModelRef<L>, end: End, object: ObjectNo, other: End) -> bool
+    ensures { result ≡ t.is_replaced (reading model.now) end object other }
+{
+    if !is_single(model.meta(), other.feature) {
+        return false;
+    }
+    match opposite_end(model, end, object) {
+        Some(far) => end == other || other == far,
+        None => end == other,
+    }
+}
+
+fn push_loss(tie: &Tie, out: &mut Vec<Telling>) -> Result<(), Refused>
+    ensures ok { OnOk result (out.new.items ≡ out.old.items ++ t.loss tie.now ∷ []) }
+    ensures err { IfErr result (λ r. r ≡ Memory) }
+{
+    let value = copy_of(&tie.value)?;
+    push(out, tie.end, Happening::Loses(value))
+}
+
+fn push(out: &mut Vec<Telling>, at: End, does: Happening) -> Result<(), Refused>
+    ensures ok { OnOk result (out.new.items ≡ out.old.items ++ record { at = at; does = does } ∷ []) }
+    ensures err { IfErr result (λ r. r ≡ Memory) }
+{
+    match out.push(Telling { at, does }) {
+        Ok(()) => Ok(()),
         Err(_) => Err(Refused::Memory),
     }
 }

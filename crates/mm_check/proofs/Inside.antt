@@ -17,7 +17,7 @@ use Rattle.mm_types.specs.declared.meta_fault.Place.TheVariants as place
 use Rattle.mm_types.specs.declared.raw.RawClass.{RawClass}
 use Rattle.mm_types.specs.declared.raw.RawFeature.{RawFeature}
 use Rattle.mm_check.specs.Search.{feature_count}
-use Rattle.mm_check.proofs.Unique.{names_at}
+use Rattle.mm_types.proofs.Unique.{names_at}
 
 test_inside : {X : Type 0} (t : X → Bool) (xs : List X) (i : ℕ) → IsTrue (test_at t xs i) → i < length xs
 test_inside t [] i h = cc

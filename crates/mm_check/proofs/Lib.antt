@@ -1,6 +1,5 @@
 mod NamesBefore
 mod Unique
-mod Opposing
 mod Inside
 mod Deciding
 mod Faulting

@@ -3,7 +3,7 @@ ghost use Rattle.std.specs.Prelude.{◌≡◌, ◌↔◌, IsTrue, is_some, not, 
 ghost use Rattle.std.specs.Option.{option_copied};
 ghost use Rattle.std.specs.Ordering.{int_eq};
 ghost use Rattle.mm_types.specs.WellFormed.{BothContain, HasBadContainerBound, LacksOpposite, is_containment as contains, is_reference as refers, opposite_name as name_of_opposite, test_feature_at};
-ghost use Rattle.mm_check.specs.Opposites.{NamesAreUnique, is_at as is_at_index, is_container_at, lacks_opposite as lacks_opposite_at, leads_astray as goes_astray, opposite_at, opposite_of as opposite_of_feature, reference_named};
+ghost use Rattle.mm_types.specs.Opposites.{NamesAreUnique, is_at as is_at_index, is_container_at, lacks_opposite as lacks_opposite_at, leads_astray as goes_astray, opposite_at, opposite_of as opposite_of_feature, reference_named};
 
 use crate::checker::Checker;
 use mm_types::{Place, RawFeature, RawKind, Text};

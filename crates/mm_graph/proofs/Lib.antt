@@ -7,3 +7,4 @@ pub mod Twice
 pub mod Places
 pub mod Clashing
 pub mod Belonging
+pub mod Found

@@ -4,3 +4,7 @@ mod NameLemmas
 mod OwnerLemmas
 mod ResolverLemmas
 mod TableLemmas
+mod PlaceLemmas
+pub mod PairLemmas
+pub mod ConformLemmas
+pub mod ShapeLemmas

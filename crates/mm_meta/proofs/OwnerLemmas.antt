@@ -35,12 +35,12 @@ from_range n k f h =
     let low : h.0 < k = let long = length-range_with_len n k in let less = h.1 in omega arith in
     (h.0, low, sym h.2 ∙ get_or-range_with_len n k h.0 f low)
 
-get_left : {X : Type 0} (xs ys : List X) (i : ℕ) → i < length xs → slice_get (xs ++ ys) i ≡ slice_get xs i
+pub get_left : {X : Type 0} (xs ys : List X) (i : ℕ) → i < length xs → slice_get (xs ++ ys) i ≡ slice_get xs i
 get_left [] ys i low = absurd (omega arith)
 get_left (x ∷ xs) ys zero low = refl
 get_left (x ∷ xs) ys (suc i) low = get_left xs ys i (omega arith)
 
-get_right : {X : Type 0} (xs ys : List X) (i j : ℕ) → j ≡ length xs + i → slice_get (xs ++ ys) j ≡ slice_get ys i
+pub get_right : {X : Type 0} (xs ys : List X) (i j : ℕ) → j ≡ length xs + i → slice_get (xs ++ ys) j ≡ slice_get ys i
 get_right [] ys i j is = let same : j ≡ i = omega arith in ap (slice_get ys) same
 get_right (x ∷ xs) ys i zero is = absurd (omega arith)
 get_right (x ∷ xs) ys i (suc j) is = get_right xs ys i j (omega arith)

@@ -3,6 +3,7 @@
 
 mod classes;
 mod features;
+pub mod laws;
 mod literals;
 mod meta;
 mod name_table;

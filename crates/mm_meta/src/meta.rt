@@ -1,8 +1,9 @@
 //! A well-formed metamodel, and its look-ups.
-ghost use Rattle.std.specs.Prelude.{◌≡◌, ◌↔◌, IfOk, IsTrue};
+ghost use Rattle.std.specs.Prelude.{◌≡◌, IfOk};
 ghost use Rattle.std.specs.Option.{option_copied};
 ghost use Rattle.mm_types.specs.Lookups as m;
 ghost use Rattle.mm_types.specs.Resolved.{resolved};
+ghost use Rattle.mm_types.specs.Shapes as shapes;
 ghost use Rattle.mm_types.specs.WellFormed.{WellFormed};
 
 use crate::name_table::{NameTable, position_at};
@@ -120,7 +121,7 @@ impl Meta {
 
     /// Whether a class is another or inherits from it (EClass.isSuperTypeOf, turned round).
     pub fn conforms(&self, sub: ClassNo, sup: ClassNo) -> bool
-        ensures { IsTrue result ↔ m.ConformsTo self.now sub sup }
+        ensures { result ≡ m.conforms self.now sub sup }
     {
         match self.conformance.as_slice().get(sub.0 as usize) {
             Some(row) => row.as_slice().get(sup.0 as usize).copied() == Some(true),
@@ -169,6 +170,41 @@ impl Meta {
         };
         match self.feature(opposite) {
             Some(far) => is_containment(&far.kind),
+            None => false,
+        }
+    }
+
+    /// The feature that contains what a feature links: the feature itself, where it is a containment reference;
+    /// its opposite, where it is a container reference (EReference.isContainment, isContainer). `contents()`
+    /// contains too, and stands here for each number that no feature has. Takes no memory.
+    pub fn containing(&self, feature: FeatureNo) -> Option<FeatureNo>
+        ensures { result ≡ (shapes.shape self.now feature).containing }
+    {
+        let Some(found) = self.feature(feature) else {
+            return Some(self.contents());
+        };
+        match &found.kind {
+            Kind::Attribute { .. } => None,
+            Kind::Reference {
+                containment: true,
+                ..
+            } => Some(feature),
+            Kind::Reference { opposite, .. } => {
+                if self.is_container(feature) {
+                    *opposite
+                } else {
+                    None
+                }
+            }
+        }
+    }
+
+    /// Whether a feature holds its values as parts (EReference.isContainment). `contents()` does. Takes no memory.
+    pub fn is_containment(&self, feature: FeatureNo) -> bool
+        ensures { result ≡ shapes.is_containment self.now feature }
+    {
+        match self.containing(feature) {
+            Some(containing) => feature.0 == containing.0,
             None => false,
         }
     }

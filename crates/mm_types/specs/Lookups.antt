@@ -1,10 +1,10 @@
 -- What a resolved metamodel says of its classes, features and enumerations by number and by name.
-use Rattle.std.specs.Prelude.{ℕ, ◌<◌, ◌&&◌, pos, neg_ℤ, ◌^◌, ◌-◌, Bool, true, false, List, [], length, map, position, slice_get, nat_lt, Option, None, option_map, option_and_then, nat_eq, int_le}
+use Rattle.std.specs.Prelude.{ℕ, zero, suc, ◌<◌, ◌&&◌, ◌||◌, pos, neg_ℤ, ◌^◌, ◌-◌, Bool, true, false, List, [], length, map, position, slice_get, nat_lt, Option, None, option_map, option_and_then, nat_eq, int_le}
 use Rattle.std.specs.List.{find, list_any}
 use Rattle.std.specs.Option.{option_map_or}
 use Rattle.std.specs.Ordering.{int_eq}
 use Rattle.std.specs.Str.{bytes_eq}
-use Rattle.mm_types.specs.Graph.{Conforms}
+use Rattle.mm_types.specs.Graph.{Conforms, row}
 use Rattle.mm_types.specs.Resolved.{Metamodel, class_no, feature_no, literal_named}
 use Rattle.mm_types.specs.declared.class.Class.{Class}
 use Rattle.mm_types.specs.declared.feature.Feature.{Feature}
@@ -16,6 +16,7 @@ use Rattle.mm_types.specs.declared.value.Value.{Value}
 use Rattle.mm_types.specs.declared.value.Value.TheVariants as value
 use Rattle.mm_types.specs.declared.numbers.ClassNo.{ClassNo}
 use Rattle.mm_types.specs.declared.numbers.FeatureNo.{FeatureNo}
+use Rattle.mm_types.specs.declared.numbers.ObjectNo.{ObjectNo}
 
 abbrev pub class : Metamodel → ClassNo → Option Class
 class m c = slice_get m.classes c.0
@@ -52,6 +53,15 @@ supertypes m = map (λ c. map (λ s. s.0) c.supers) m.classes
 -- a class is another, or inherits from it
 abbrev pub ConformsTo : Metamodel → ClassNo → ClassNo → Type 0
 ConformsTo m sub sup = (sub.0 < length m.classes) × Conforms (supertypes m) sub.0 sup.0
+
+-- d is c, or is reached from it by so many steps at most
+abbrev pub conforms_within : List (List ℕ) → ℕ → ℕ → ℕ → Bool
+conforms_within g zero c d = nat_eq c d
+conforms_within g (suc n) c d = nat_eq c d || list_any (λ e. conforms_within g n e d) (row g c)
+
+-- the same, computed: no way up is longer than there are classes
+abbrev pub conforms : Metamodel → ClassNo → ClassNo → Bool
+conforms m sub sup = nat_lt sub.0 (length m.classes) && conforms_within (supertypes m) (length m.classes) sub.0 sup.0
 
 abbrev pub kind_default : Kind → Value
 kind_default (Attribute t unique unsettable default) = default
@@ -108,11 +118,30 @@ abbrev pub is_attribute_value : Metamodel → Bool → DataType → Value → Bo
 is_attribute_value m single t value.Null = single && is_text_type t
 is_attribute_value m single t v = is_of_type m t v
 
--- a value is one of an attribute's type; no reference has values yet
-abbrev pub is_of_kind : Metamodel → Bool → Kind → Value → Bool
-is_of_kind m single (Attribute t unique unsettable default) v = is_attribute_value m single t v
-is_of_kind m single (Reference target containment opposite) v = false
+-- a value is one that an attribute keeps; a reference keeps none
+abbrev pub is_of_attribute : Metamodel → Bool → Kind → Value → Bool
+is_of_attribute m single (Attribute t unique unsettable default) v = is_attribute_value m single t v
+is_of_attribute m single (Reference target containment opposite) v = false
 
--- a value is one of a feature's type
-abbrev pub takes : Metamodel → FeatureNo → Value → Bool
-takes m f v = option_map_or (λ g. is_of_kind m (is_single g) g.kind v) (feature m f) false
+abbrev pub keeps : Metamodel → FeatureNo → Value → Bool
+keeps m f v = option_map_or (λ g. is_of_attribute m (is_single g) g.kind v) (feature m f) false
+
+-- a value is one of a reference to a class, single or not: null is one of a single reference, and an object of one whose target its
+-- class conforms to
+abbrev pub is_reference_value : Metamodel → (ObjectNo → Option ClassNo) → Bool → ClassNo → Value → Bool
+is_reference_value m class_of single target value.Null = single
+is_reference_value m class_of single target (value.Object o) = option_map_or (λ c. conforms m c target) (class_of o) false
+is_reference_value m class_of single target _ = false
+
+-- a value is one of a kind of feature, single or not
+abbrev pub is_of_kind : Metamodel → (ObjectNo → Option ClassNo) → Bool → Kind → Value → Bool
+is_of_kind m class_of single (Attribute t unique unsettable default) v = is_attribute_value m single t v
+is_of_kind m class_of single (Reference target containment opposite) v = is_reference_value m class_of single target v
+
+abbrev pub is_object : Value → Bool
+is_object (value.Object o) = true
+is_object _ = false
+
+-- a value is one of a feature's type; `contents` takes any object
+abbrev pub takes : Metamodel → (ObjectNo → Option ClassNo) → FeatureNo → Value → Bool
+takes m class_of f v = option_map_or (λ g. is_of_kind m class_of (is_single g) g.kind v) (feature m f) (is_object v)

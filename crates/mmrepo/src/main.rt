@@ -3,6 +3,7 @@
 
 use adapters::{Adapter, Counter, Recorder, Window};
 use clap::error::ErrorKind;
+use link_store::RowStore;
 use mm_check::check;
 use mm_load::load_meta;
 use mm_meta::Meta;
@@ -119,7 +120,7 @@ fn run_script(rt: &HostRuntime, meta: Box<Meta>) -> Result<(), Stop> {
         return Err(Stop::Run(RunFault::Memory));
     };
     let meta = Box::into_inner(meta);
-    let outcome = run(rt.alloc(), &mut rt.reader(), &mut writer, meta, boxes);
+    let outcome = run::<RowStore, _, _, _>(rt.alloc(), &mut rt.reader(), &mut writer, meta, boxes);
     let flushed = writer.flush();
     outcome?;
     if flushed.is_err() {

@@ -1,4 +1,5 @@
 //! Adapters that are attached, notified, refused and detached.
+use crate::links::without_links;
 use crate::notices::added;
 use crate::telling::{Kind, NEARLY_FULL, adapter, attach, tell, three, three_notices};
 use adapter_list::AdapterList;
@@ -26,7 +27,8 @@ fn refused_to_three<A: Adapter>(
 ) -> Result<(Option<Refused>, [Option<u64>; 3]), Fail> {
     let mut list = three(alloc, [1, 1, 1], first, second, third)?;
     let chain = three_notices(alloc)?;
-    let refused = tell(&mut *list, &chain).err();
+    let store = without_links(alloc);
+    let refused = tell(&store, &mut *list, &chain).err();
     Ok((refused, told_of_three(&*list)))
 }
 
@@ -91,7 +93,7 @@ fn audience<A: Adapter>(
     list: &AdapterList<A>,
     notice: &Notice,
 ) -> Result<String, AllocError> {
-    let audience = list.audience(notice)?;
+    let audience = list.audience(&without_links(alloc), notice)?;
     format!(in alloc; "{audience:?}")
 }
 
@@ -124,7 +126,8 @@ fn told(alloc: Global, told: &[(AdapterNo, Notice)]) -> Result<String, AllocErro
 fn delivered<A: Adapter>(alloc: Global, first: A, second: A, third: A) -> Result<String, Fail> {
     let mut list = three(alloc, [1, 2, 1], first, second, third)?;
     let chain = three_notices(alloc)?;
-    let told = told(alloc, &tell(&mut *list, &chain)?)?;
+    let store = without_links(alloc);
+    let told = told(alloc, &tell(&store, &mut *list, &chain)?)?;
     let (counts, kept) = (told_of_three(&*list), list.kept_len(AdapterNo(5)));
     Ok(format!(in alloc; "{told}told {counts:?} kept {kept:?}")?)
 }
@@ -146,7 +149,8 @@ fn a_window_of_two_in_a_list_keeps_two_of_three(rt: HostRuntime) -> Result<(), F
     let mut list = Box::new(rt.alloc(), AdapterList::new(rt.alloc()))?;
     attach(&mut list, 5, 1, Window::new(rt.alloc(), 2)?)?;
     let notices = vec![in rt.alloc(); added(1, 0), added(1, 1), added(1, 2)]?;
-    assert!(rt; tell(&mut *list, &Chain::from_vec(notices)).is_ok());
+    let store = without_links(rt.alloc());
+    assert!(rt; tell(&store, &mut *list, &Chain::from_vec(notices)).is_ok());
     assert_eq!(rt; list.told(AdapterNo(5)), Some(3));
     assert_eq!(rt; list.kept_len(AdapterNo(5)), Some(2));
     Ok(())

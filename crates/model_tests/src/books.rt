@@ -1,5 +1,6 @@
 //! A metamodel of books, and repositories of them.
 use adapters::Adapter;
+use link_store::RowStore;
 use mm_check::check;
 use mm_load::load_meta;
 use mm_meta::Meta;
@@ -19,6 +20,9 @@ pub(crate) const NAME: FeatureNo = FeatureNo(0);
 
 pub(crate) const PAGES: FeatureNo = FeatureNo(1);
 
+/// A repository that keeps its links in rows.
+pub(crate) type RowRepository<A> = Repository<RowStore, A>;
+
 pub(crate) fn object(number: u32) -> Node {
     Node::Object(ObjectNo(number))
 }
@@ -27,20 +31,33 @@ pub(crate) fn text(alloc: Global, text: &str) -> Result<Value, AllocError> {
     Ok(Value::Text(Text::from_str(alloc, text)?))
 }
 
-pub(crate) fn books(alloc: Global) -> Result<Box<Meta>, MetaFault> {
-    let raw = load_meta(alloc, BOOKS.as_bytes())?;
+/// The metamodel of a document.
+pub(crate) fn metamodel(alloc: Global, document: &str) -> Result<Box<Meta>, MetaFault> {
+    let raw = load_meta(alloc, document.as_bytes())?;
     let meta = check(alloc, raw)?;
     Box::new(alloc, meta).map_err(|_| MetaFault::Memory)
 }
 
-/// An empty repository of books.
-pub(crate) fn repository<A: Adapter>(alloc: Global) -> Result<Box<Repository<A>>, MetaFault> {
-    let meta = Box::into_inner(books(alloc)?);
+pub(crate) fn books(alloc: Global) -> Result<Box<Meta>, MetaFault> {
+    metamodel(alloc, BOOKS)
+}
+
+/// An empty repository of a metamodel.
+pub(crate) fn empty<A: Adapter>(
+    alloc: Global,
+    meta: Box<Meta>,
+) -> Result<Box<RowRepository<A>>, MetaFault> {
+    let meta = Box::into_inner(meta);
     Box::new(alloc, Repository::new(alloc, meta)).map_err(|_| MetaFault::Memory)
 }
 
+/// An empty repository of books.
+pub(crate) fn repository<A: Adapter>(alloc: Global) -> Result<Box<RowRepository<A>>, MetaFault> {
+    empty(alloc, books(alloc)?)
+}
+
 /// A repository of one book, which is object 0.
-pub(crate) fn one_book<A: Adapter>(alloc: Global) -> Result<Box<Repository<A>>, Fail> {
+pub(crate) fn one_book<A: Adapter>(alloc: Global) -> Result<Box<RowRepository<A>>, Fail> {
     let mut repository = repository(alloc)?;
     repository.create(BOOK)?;
     Ok(repository)
@@ -48,7 +65,7 @@ pub(crate) fn one_book<A: Adapter>(alloc: Global) -> Result<Box<Repository<A>>, 
 
 /// Attaches an adapter to the first book, or says why it is refused; a refused adapter is dropped.
 pub(crate) fn attach<A: Adapter>(
-    repository: &mut Repository<A>,
+    repository: &mut RowRepository<A>,
     no: u32,
     adapter: A,
 ) -> Result<(), Refused> {
@@ -64,7 +81,7 @@ pub(crate) fn watched<A: Adapter>(
     first: A,
     second: A,
     third: A,
-) -> Result<Box<Repository<A>>, Fail> {
+) -> Result<Box<RowRepository<A>>, Fail> {
     let mut repository = one_book(alloc)?;
     attach(&mut repository, 5, first)?;
     attach(&mut repository, 6, second)?;

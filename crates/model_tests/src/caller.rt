@@ -2,6 +2,7 @@
 use crate::books::books;
 use crate::latest::Latest;
 use adapters::Adapter;
+use link_store::{LinkStore, RowStore};
 use mm_meta::Meta;
 use mm_types::{AdapterNo, ClassNo, FeatureNo, Node, Text, Value};
 use repository::{Answer, Repository};
@@ -15,9 +16,9 @@ const NAME: FeatureNo = FeatureNo(0);
 const VIEW: AdapterNo = AdapterNo(1);
 
 /// Attaches a view to a book, names the book, and detaches the view: it comes back with what it heard.
-fn name_book<A: Adapter>(
+fn name_book<L: LinkStore, A: Adapter>(
     alloc: Global,
-    repository: &mut Repository<A>,
+    repository: &mut Repository<L, A>,
     book: Node,
     view: A,
 ) -> Result<Option<A>, Fail> {
@@ -35,7 +36,7 @@ fn name_book<A: Adapter>(
 
 /// Makes a repository with one book, and names the book while a view is attached to it.
 fn session<A: Adapter>(alloc: Global, meta: Meta, view: A) -> Result<Option<A>, Fail> {
-    let mut repository = Box::new(alloc, Repository::new(alloc, meta))?;
+    let mut repository = Box::new(alloc, Repository::<RowStore, A>::new(alloc, meta))?;
     let Answer::Object(book) = repository.create(BOOK)?.answer else {
         return Err(Fail::new("no book is made"));
     };

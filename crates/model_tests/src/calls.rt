@@ -1,10 +1,10 @@
 //! The calls that concern a repository's adapters, each done and refused.
-use crate::books::{NAME, attach, object, one_book, text};
+use crate::books::{NAME, RowRepository, attach, object, one_book, text};
 use crate::replies::{failure_text, outcome_text, reply_text};
 use crate::telling::{Kind, adapter};
 use adapters::{Adapter, Counter};
 use mm_types::{AdapterNo, Node, Refused, ResourceNo};
-use repository::{Command, Repository};
+use repository::Command;
 use std::alloc::{AllocError, Global};
 use std::test::Fail;
 
@@ -63,7 +63,7 @@ fn commands<A: Adapter>(alloc: Global, adapter: A) -> Result<Vec<Command<A>>, Al
 /// What commands give over a repository, each on a line.
 fn executed<A: Adapter>(
     alloc: Global,
-    repository: &mut Repository<A>,
+    repository: &mut RowRepository<A>,
     commands: Vec<Command<A>>,
 ) -> Result<String, AllocError> {
     let mut text = String::new(alloc);
@@ -115,7 +115,7 @@ const REFUSED: &str =
 
 #[test]
 fn refused_commands_give_their_adapter_back(rt: HostRuntime) -> Result<(), Fail> {
-    let mut repository: Box<Repository<Counter>> = one_book(rt.alloc())?;
+    let mut repository: Box<RowRepository<Counter>> = one_book(rt.alloc())?;
     attach(&mut repository, 5, Counter::new())?;
     let commands = refused_commands(rt.alloc())?;
     let found = executed(rt.alloc(), &mut repository, commands)?;
@@ -126,7 +126,7 @@ fn refused_commands_give_their_adapter_back(rt: HostRuntime) -> Result<(), Fail>
 
 #[test]
 fn refused_calls_say_why(rt: HostRuntime) -> Result<(), Fail> {
-    let mut repository: Box<Repository<Counter>> = one_book(rt.alloc())?;
+    let mut repository: Box<RowRepository<Counter>> = one_book(rt.alloc())?;
     let no = AdapterNo(9);
     assert_eq!(rt; repository.adapter_told(no), Err(Refused::NoAdapter));
     assert_eq!(rt; repository.adapter_kept(no), Err(Refused::NoAdapter));

@@ -1,15 +1,14 @@
 //! A repository that is closed.
-use crate::books::{attach, one_book};
+use crate::books::{RowRepository, attach, one_book};
 use crate::replies::back;
 use crate::telling::{Kind, adapter};
 use adapters::Adapter;
-use repository::Repository;
 use std::alloc::Global;
 use std::test::Fail;
 
 /// The adapters that come back when a repository is closed that has two at one book.
 fn closed<A: Adapter>(alloc: Global, first: A, second: A) -> Result<String, Fail> {
-    let mut repository: Box<Repository<A>> = one_book(alloc)?;
+    let mut repository: Box<RowRepository<A>> = one_book(alloc)?;
     attach(&mut repository, 6, first)?;
     attach(&mut repository, 5, second)?;
     let adapters = Box::into_inner(repository).close();

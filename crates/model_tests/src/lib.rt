@@ -19,13 +19,21 @@ mod calls;
 #[cfg(test)]
 mod closing;
 #[cfg(test)]
+mod cups;
+#[cfg(test)]
 mod drops;
 #[cfg(test)]
 mod latest;
 #[cfg(test)]
+mod links;
+#[cfg(test)]
 mod memory;
 #[cfg(test)]
 mod memory_adapters;
+#[cfg(test)]
+mod memory_links;
+#[cfg(test)]
+mod nested;
 #[cfg(test)]
 mod notices;
 #[cfg(test)]

@@ -2,16 +2,16 @@
 //!
 //! These tests are for runs in which the n-th allocation is refused, for every n, and pass in each of them: one is
 //! refused, so what finds no memory is asked for once more.
-use crate::books::{BOOK, NAME, PAGES, object, repository, text};
+use crate::books::{BOOK, NAME, PAGES, RowRepository, object, repository, text};
 use crate::replies::{fail, outcomes_text, reply_text};
 use adapters::{Adapter, Counter};
 use mm_types::{FeatureNo, ObjectNo, Refused, Value};
-use repository::{Command, Failure, Reply, Repository};
+use repository::{Command, Failure, Reply};
 use std::alloc::{AllocError, Global};
 use std::fmt::Debug;
 use std::test::Fail;
 
-pub(crate) fn books<A: Adapter>(alloc: Global) -> Result<Box<Repository<A>>, Fail> {
+pub(crate) fn books<A: Adapter>(alloc: Global) -> Result<Box<RowRepository<A>>, Fail> {
     match repository(alloc) {
         Ok(repository) => Ok(repository),
         Err(_) => Ok(repository(alloc)?),
@@ -26,14 +26,14 @@ pub(crate) fn emma(alloc: Global) -> Result<Value, AllocError> {
 }
 
 /// A value as it is shown.
-fn shown<T: Debug>(alloc: Global, value: &T) -> Result<String, AllocError> {
+pub(crate) fn shown<T: Debug>(alloc: Global, value: &T) -> Result<String, AllocError> {
     match format!(in alloc; "{value:?}") {
         Ok(shown) => Ok(shown),
         Err(_) => format!(in alloc; "{value:?}"),
     }
 }
 
-fn read<A: Adapter>(repository: &Repository<A>, feature: FeatureNo) -> Result<Value, Refused> {
+fn read<A: Adapter>(repository: &RowRepository<A>, feature: FeatureNo) -> Result<Value, Refused> {
     match repository.e_get(object(0), feature) {
         Err(Refused::Memory) => repository.e_get(object(0), feature),
         found => found,
@@ -43,7 +43,7 @@ fn read<A: Adapter>(repository: &Repository<A>, feature: FeatureNo) -> Result<Va
 /// What reads say of the first object, its name, its pages and whether it is named, and of the place of a second.
 pub(crate) fn state<A: Adapter>(
     alloc: Global,
-    repository: &Repository<A>,
+    repository: &RowRepository<A>,
 ) -> Result<String, AllocError> {
     let name = read(repository, NAME);
     let pages = read(repository, PAGES);
@@ -55,7 +55,7 @@ pub(crate) fn state<A: Adapter>(
 /// Fails unless the call was refused memory and has changed nothing.
 pub(crate) fn unchanged<A: Adapter>(
     alloc: Global,
-    repository: &Repository<A>,
+    repository: &RowRepository<A>,
     before: &str,
     refused: Refused,
 ) -> Result<(), Fail> {
@@ -68,7 +68,7 @@ pub(crate) fn unchanged<A: Adapter>(
 
 pub(crate) fn create<A: Adapter>(
     alloc: Global,
-    repository: &mut Repository<A>,
+    repository: &mut RowRepository<A>,
 ) -> Result<(), Fail> {
     let before = state(alloc, repository)?;
     if let Err(refused) = repository.create(BOOK) {
@@ -78,7 +78,7 @@ pub(crate) fn create<A: Adapter>(
     Ok(())
 }
 
-fn e_set<A: Adapter>(alloc: Global, repository: &mut Repository<A>) -> Result<(), Fail> {
+fn e_set<A: Adapter>(alloc: Global, repository: &mut RowRepository<A>) -> Result<(), Fail> {
     let before = state(alloc, repository)?;
     if let Err(refused) = repository.e_set(object(0), NAME, emma(alloc)?) {
         unchanged(alloc, repository, before.as_str(), refused)?;
@@ -87,7 +87,7 @@ fn e_set<A: Adapter>(alloc: Global, repository: &mut Repository<A>) -> Result<()
     Ok(())
 }
 
-fn e_get<A: Adapter>(alloc: Global, repository: &Repository<A>) -> Result<(), Fail> {
+fn e_get<A: Adapter>(alloc: Global, repository: &RowRepository<A>) -> Result<(), Fail> {
     let before = state(alloc, repository)?;
     if let Err(refused) = repository.e_get(object(0), NAME) {
         unchanged(alloc, repository, before.as_str(), refused)?;
@@ -99,7 +99,7 @@ fn e_get<A: Adapter>(alloc: Global, repository: &Repository<A>) -> Result<(), Fa
     Ok(())
 }
 
-fn e_unset<A: Adapter>(alloc: Global, repository: &mut Repository<A>) -> Result<(), Fail> {
+fn e_unset<A: Adapter>(alloc: Global, repository: &mut RowRepository<A>) -> Result<(), Fail> {
     let before = state(alloc, repository)?;
     if let Err(refused) = repository.e_unset(object(0), NAME) {
         unchanged(alloc, repository, before.as_str(), refused)?;
@@ -110,7 +110,7 @@ fn e_unset<A: Adapter>(alloc: Global, repository: &mut Repository<A>) -> Result<
 
 #[test]
 fn a_refused_call_changes_nothing(rt: HostRuntime) -> Result<(), Fail> {
-    let mut repository: Box<Repository<Counter>> = books(rt.alloc())?;
+    let mut repository: Box<RowRepository<Counter>> = books(rt.alloc())?;
     create(rt.alloc(), &mut repository)?;
     e_set(rt.alloc(), &mut repository)?;
     e_get(rt.alloc(), &repository)?;
@@ -144,7 +144,7 @@ fn command<A: Adapter>(alloc: Global, at: u32) -> Result<Command<A>, AllocError>
 
 fn execute<A: Adapter>(
     alloc: Global,
-    repository: &mut Repository<A>,
+    repository: &mut RowRepository<A>,
     at: u32,
 ) -> Result<Reply<A>, Fail> {
     let before = state(alloc, repository)?;
@@ -169,7 +169,7 @@ const ANSWERS: [&str; 6] = [
 
 #[test]
 fn a_refused_command_changes_nothing(rt: HostRuntime) -> Result<(), Fail> {
-    let mut repository: Box<Repository<Counter>> = books(rt.alloc())?;
+    let mut repository: Box<RowRepository<Counter>> = books(rt.alloc())?;
     for (at, wanted) in (0..6).zip(ANSWERS) {
         let reply = execute(rt.alloc(), &mut repository, at)?;
         let found = reply_text(rt.alloc(), &reply)?;
@@ -236,7 +236,7 @@ const EMPTY: &str = "(Err(NoObject), Err(NoObject), Err(NoObject), Err(NoObject)
 /// Runs a list that was given back, over a repository that is to be as it was.
 fn run_again<A: Adapter>(
     alloc: Global,
-    repository: &mut Repository<A>,
+    repository: &mut RowRepository<A>,
     given_back: Vec<Command<A>>,
 ) -> Result<Vec<Result<Reply<A>, Failure<A>>>, Fail> {
     let now = state(alloc, repository)?;
@@ -252,7 +252,7 @@ fn run_again<A: Adapter>(
 
 #[test]
 fn a_refused_list_is_given_back(rt: HostRuntime) -> Result<(), Fail> {
-    let mut repository: Box<Repository<Counter>> = books(rt.alloc())?;
+    let mut repository: Box<RowRepository<Counter>> = books(rt.alloc())?;
     let outcomes = match repository.run_all(commands(rt.alloc())?) {
         Ok(outcomes) => outcomes,
         Err(given_back) => run_again(rt.alloc(), &mut repository, given_back)?,

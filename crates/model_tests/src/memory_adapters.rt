@@ -2,19 +2,19 @@
 //! notified, and the same call again is done.
 //!
 //! These tests are for the same runs as those of `memory`.
-use crate::books::{NAME, object};
+use crate::books::{NAME, RowRepository, object};
 use crate::memory::{books, create, emma, state, unchanged};
 use crate::replies::{fail, reply_text};
 use adapters::{Adapter, Recorder};
 use mm_types::{AdapterNo, Refused};
-use repository::{Failure, Reply, Repository};
+use repository::{Failure, Reply};
 use std::alloc::Global;
 use std::test::Fail;
 
 const WATCHER: AdapterNo = AdapterNo(5);
 
 /// How many notices the adapter was told and how many it keeps, where it is attached.
-fn counts<A: Adapter>(repository: &Repository<A>) -> [Option<u64>; 2] {
+fn counts<A: Adapter>(repository: &RowRepository<A>) -> [Option<u64>; 2] {
     [
         repository.adapter_told(WATCHER).ok(),
         repository.adapter_kept(WATCHER).ok(),
@@ -24,7 +24,7 @@ fn counts<A: Adapter>(repository: &Repository<A>) -> [Option<u64>; 2] {
 /// Fails unless the call was refused memory, has changed nothing and notified nobody.
 fn unheard<A: Adapter>(
     alloc: Global,
-    repository: &Repository<A>,
+    repository: &RowRepository<A>,
     before: (&str, [Option<u64>; 2]),
     refused: Refused,
 ) -> Result<(), Fail> {
@@ -38,7 +38,7 @@ fn unheard<A: Adapter>(
 
 fn attach<A: Adapter>(
     alloc: Global,
-    repository: &mut Repository<A>,
+    repository: &mut RowRepository<A>,
     adapter: A,
 ) -> Result<Reply<A>, Fail> {
     let (read, heard) = (state(alloc, repository)?, counts(repository));
@@ -58,7 +58,7 @@ fn attach<A: Adapter>(
     }
 }
 
-fn e_set<A: Adapter>(alloc: Global, repository: &mut Repository<A>) -> Result<Reply<A>, Fail> {
+fn e_set<A: Adapter>(alloc: Global, repository: &mut RowRepository<A>) -> Result<Reply<A>, Fail> {
     let (read, heard) = (state(alloc, repository)?, counts(repository));
     match repository.e_set(object(0), NAME, emma(alloc)?) {
         Ok(reply) => Ok(reply),
@@ -69,7 +69,7 @@ fn e_set<A: Adapter>(alloc: Global, repository: &mut Repository<A>) -> Result<Re
     }
 }
 
-fn detach<A: Adapter>(alloc: Global, repository: &mut Repository<A>) -> Result<Reply<A>, Fail> {
+fn detach<A: Adapter>(alloc: Global, repository: &mut RowRepository<A>) -> Result<Reply<A>, Fail> {
     let (read, heard) = (state(alloc, repository)?, counts(repository));
     match repository.detach(WATCHER) {
         Ok(reply) => Ok(reply),
@@ -88,7 +88,7 @@ const DETACHED: &str =
 #[test]
 fn a_refused_call_notifies_nobody(rt: HostRuntime) -> Result<(), Fail> {
     let alloc = rt.alloc();
-    let mut repository: Box<Repository<Recorder>> = books(alloc)?;
+    let mut repository: Box<RowRepository<Recorder>> = books(alloc)?;
     create(alloc, &mut repository)?;
     let attached = attach(alloc, &mut repository, Recorder::new(alloc))?;
     assert_eq!(rt; reply_text(alloc, &attached)?.as_str(), "Done");

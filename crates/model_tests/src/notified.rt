@@ -1,10 +1,9 @@
 //! What adapters are notified of when a book changes.
-use crate::books::{NAME, PAGES, attach, object, one_book, text};
+use crate::books::{NAME, PAGES, RowRepository, attach, object, one_book, text};
 use crate::replies::reply_text;
 use crate::telling::{Kind, adapter};
 use adapters::Adapter;
 use mm_types::{FeatureNo, Value};
-use repository::Repository;
 use std::alloc::Global;
 use std::test::Fail;
 
@@ -19,7 +18,7 @@ enum Edit {
 /// What a change gives.
 fn edited<A: Adapter>(
     alloc: Global,
-    repository: &mut Repository<A>,
+    repository: &mut RowRepository<A>,
     edit: Edit,
 ) -> Result<String, Fail> {
     let book = object(0);

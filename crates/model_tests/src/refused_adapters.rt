@@ -1,21 +1,21 @@
 //! Changes that an adapter can't hear.
-use crate::books::{NAME, attach, object, one_book, text, watched};
+use crate::books::{NAME, RowRepository, attach, object, one_book, text, watched};
 use crate::replies::reply_text;
 use crate::telling::{Kind, adapter};
 use adapters::Adapter;
 use mm_types::{AdapterNo, Refused};
-use repository::{Reply, Repository};
+use repository::Reply;
 use std::alloc::{AllocError, Global};
 use std::test::Fail;
 
 /// How many notices an adapter was told, and how many it keeps.
-fn counts<A: Adapter>(repository: &Repository<A>, no: u32) -> Result<(u64, u64), Refused> {
+fn counts<A: Adapter>(repository: &RowRepository<A>, no: u32) -> Result<(u64, u64), Refused> {
     let told = repository.adapter_told(AdapterNo(no))?;
     Ok((told, repository.adapter_kept(AdapterNo(no))?))
 }
 
 /// What three adapters have heard, and the name of the book.
-fn state<A: Adapter>(alloc: Global, repository: &Repository<A>) -> Result<String, AllocError> {
+fn state<A: Adapter>(alloc: Global, repository: &RowRepository<A>) -> Result<String, AllocError> {
     let counts = (
         counts(repository, 5),
         counts(repository, 6),
@@ -36,7 +36,7 @@ const TOLD: &str =
 
 fn name_book<A: Adapter>(
     alloc: Global,
-    repository: &mut Repository<A>,
+    repository: &mut RowRepository<A>,
 ) -> Result<Result<Reply<A>, Refused>, AllocError> {
     let emma = text(alloc, "Emma")?;
     Ok(repository.e_set(object(0), NAME, emma))

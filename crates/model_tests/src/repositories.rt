@@ -1,9 +1,9 @@
 //! A repository by its calls.
-use crate::books::{BOOK, NAME, object, repository, text};
+use crate::books::{BOOK, NAME, RowRepository, object, repository, text};
 use crate::replies::outcomes_text;
 use adapters::{Adapter, Counter};
 use mm_types::Refused;
-use repository::{Command, Repository};
+use repository::Command;
 use std::alloc::{AllocError, Global};
 use std::test::Fail;
 
@@ -26,7 +26,7 @@ const OUTCOMES: &str = "Object(ObjectNo(0))\nDone\nValue(Text(\"Emma\"))\n";
 
 /// What these commands give in an empty repository.
 fn outcomes<A: Adapter>(alloc: Global) -> Result<String, Fail> {
-    let mut repository: Box<Repository<A>> = repository(alloc)?;
+    let mut repository: Box<RowRepository<A>> = repository(alloc)?;
     let commands = commands(alloc)?;
     let Ok(outcomes) = repository.run_all(commands) else {
         return Err(Fail::new("out of memory for the outcomes"));
@@ -43,7 +43,7 @@ fn a_list_of_commands_makes_names_and_reads_a_book(rt: HostRuntime) -> Result<()
 
 #[test]
 fn a_million_objects_are_the_limit(rt: HostRuntime) -> Result<(), Fail> {
-    let mut repository: Box<Repository<Counter>> = repository(rt.alloc())?;
+    let mut repository: Box<RowRepository<Counter>> = repository(rt.alloc())?;
     for _ in 0..1_000_000u32 {
         repository.create(BOOK)?;
     }

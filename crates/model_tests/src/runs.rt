@@ -2,6 +2,7 @@
 use crate::books::books;
 use crate::streams::{Narrow, OneByte};
 use adapters::Recorder;
+use link_store::RowStore;
 use script_program::{RunFault, Summary, run};
 use std::alloc::Global;
 use std::io::{Read, Write};
@@ -16,7 +17,7 @@ fn run_books<R: Read, W: Write>(
 ) -> Result<Result<Summary, RunFault>, Fail> {
     let meta = books(alloc)?;
     let boxes: Vec<Recorder> = Vec::new(alloc);
-    Ok(run(alloc, reader, writer, Box::into_inner(meta), boxes))
+    Ok(run::<RowStore, _, _, _>(alloc, reader, writer, Box::into_inner(meta), boxes))
 }
 
 const SCRIPT: &str = "new Book\nget #0 pages";

@@ -1,5 +1,7 @@
 //! Lists of attached adapters, and a chain that is delivered to one.
 ghost use Rattle.std.specs.Prelude.{◌≡◌, OnOk, IfOk, OnErr};
+ghost use Rattle.link_store.specs.Holders.{HasNoCycle, above};
+ghost use Rattle.link_store.specs.LegalSets.{IsLegalSet};
 ghost use Rattle.notice_chain.specs.Listed.{tell_chain, told_list};
 
 use crate::books::object;
@@ -8,6 +10,7 @@ use crate::poor::Poor;
 use adapter_list::AdapterList;
 use adapter_list::laws::the_round_of_a_chain_tells_it;
 use adapters::{Adapter, Counter, Recorder, Window};
+use link_store::LinkStore;
 use mm_types::{AdapterNo, Refused};
 use notice_chain::{Chain, Notice};
 use std::alloc::{AllocError, Global};
@@ -78,17 +81,20 @@ pub(crate) fn three_notices(alloc: Global) -> Result<Chain, AllocError> {
     Ok(Chain::from_vec(vec![in alloc; added(1, 0), added(2, 0), added(1, 1)]?))
 }
 
-/// Delivers a chain; gives who was told what, in order. Its contract is what a caller can say of the two calls together.
-pub(crate) fn tell<A: Adapter>(
+/// Delivers a chain by the containers of a store; gives who was told what, in order. Its contract is what a caller can say of the two calls together.
+pub(crate) fn tell<L: LinkStore, A: Adapter>(
+    store: &L,
     list: &mut AdapterList<A>,
     chain: &Chain,
 ) -> Result<Vec<(AdapterNo, Notice)>, Refused>
-    ensures heard { OnOk result (list.new.0 ≡ tell_chain chain.now list.old.0) }
-    ensures told { IfOk result (λ ts. ts.items ≡ told_list chain.now list.old.0) }
+    requires legal { IsLegalSet (L.links store.now) }
+    requires no_cycle { HasNoCycle (L.links store.now) }
+    ensures heard { OnOk result (list.new.0 ≡ tell_chain (above (L.links store.now)) chain.now list.old.0) }
+    ensures told { IfOk result (λ ts. ts.items ≡ told_list (above (L.links store.now)) chain.now list.old.0) }
     ensures refused { OnErr result (list.new.0 ≡ list.old.0) }
 {
     the_round_of_a_chain_tells_it();
-    match list.reserve_all(chain) {
+    match list.reserve_all(store, chain) {
         Ok(round) => Ok(list.deliver(round)),
         Err(reason) => Err(reason),
     }

@@ -10,12 +10,16 @@ use Rattle.mm_types.specs.Shapes.{Shape, shape}
 use Rattle.mm_types.specs.declared.limits.TheConstants.{LIST_VALUES, OBJECTS, TEXT_BYTES}
 use Rattle.mm_types.specs.declared.numbers.ClassNo.{ClassNo}
 use Rattle.mm_types.specs.declared.numbers.FeatureNo.{FeatureNo}
+use Rattle.mm_types.specs.declared.end.End.{End}
 use Rattle.mm_types.specs.declared.value.Value.{Value}
 use Rattle.mm_types.specs.declared.value.Value.TheVariants as value
 use Rattle.mm_values.specs.Stored.{Stored}
 use Rattle.mm_values.specs.Values.{ObjectState, stored_under}
-use Rattle.models.specs.Reading.{class_has}
-use Rattle.models.specs.Model.{Model}
+use Rattle.link_store.specs.Holders.{HasNoCycle}
+use Rattle.link_store.specs.LegalSets.{AreOfKind, IsLegalSet, Kinds}
+use Rattle.link_store.specs.Links.{Links, end}
+use Rattle.models.specs.Reading.{Reading, class_has, has_feature, shape_at, takes}
+use Rattle.models.specs.Model.{Model, reading}
 
 -- a text is as short as texts must be
 abbrev pub is_short : Value → Bool
@@ -31,9 +35,9 @@ abbrev pub is_bounded : Shape → ℕ → Bool
 is_bounded a n = nat_le n LIST_VALUES && (if int_le (pos 1) a.upper then int_le (pos n) a.upper else true)
 
 abbrev pub is_legal_value : Metamodel → FeatureNo → Value → Bool
-is_legal_value m f v = lookups.takes m f v && is_short v
+is_legal_value m f v = lookups.keeps m f v && is_short v
 
--- an object of a class keeps values under its features alone, of the feature's type, and no more of them than it may
+-- an object of a class keeps values under its attributes alone, of the attribute's type, and no more of them than it may
 abbrev pub is_legal_list : Metamodel → ClassNo → FeatureNo → List Value → Bool
 is_legal_list m c f [] = true
 is_legal_list m c f (v ∷ vs) = class_has m c f && (list_all (is_legal_value m f) (v ∷ vs) && is_bounded (shape m f) (length (v ∷ vs)))
@@ -52,8 +56,34 @@ abbrev pub IsLegalObject : Metamodel → Option ObjectState → Type 0
 IsLegalObject m None = Unit {0}
 IsLegalObject m (Some o) = IsTrue (is_concrete m o.class) × ((f : FeatureNo) → IsLegalStored m o.class f (stored_under o f))
 
--- the metamodel is an accepted one, there are no more objects than there may be, and each is legal
+---------------------------------------------------------------- links
+
+-- of each feature its opposite, and the feature of the pair that contains
+abbrev pub kinds_of : Metamodel → Kinds
+kinds_of m = record { opposite = λ f. (shape m f).opposite; container = λ f. (shape m f).containing }
+
+-- an object of a feature's type
+abbrev pub is_legal_object : Reading → FeatureNo → Value → Bool
+is_legal_object r f v = lookups.is_object v && takes r f v
+
+-- an end of a reference that holds something is one of its node's, holds objects of its feature's type, and no more of them than it may
+abbrev pub is_legal_end : Reading → End → List Value → Bool
+is_legal_end r e [] = true
+is_legal_end r e (v ∷ vs) =
+    has_feature r e.node e.feature && (list_all (is_legal_object r e.feature) (v ∷ vs) && is_bounded (shape_at r e) (length (v ∷ vs)))
+
+-- links of the metamodel's pairs, at ends that may hold them, where no object contains itself
+pub record AreLegalLinks (r : Reading) (s : Links) : Type 0 where
+  pub set : IsLegalSet s
+  pub kinds : AreOfKind (kinds_of r.metamodel) s
+  pub forest : HasNoCycle s
+  pub ends : (e : End) → IsTrue (is_legal_end r e (end s e))
+
+---------------------------------------------------------------- models
+
+-- the metamodel is an accepted one, there are no more objects than there may be, and each is legal, as are the links
 pub record IsLegal (s : Model) : Type 0 where
   pub metamodel : IsOfDocument s.metamodel
   pub count : length s.values.objects ≤ OBJECTS
   pub objects : All (IsLegalObject s.metamodel) s.values.objects
+  pub links : AreLegalLinks (reading s) s.links

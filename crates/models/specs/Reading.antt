@@ -1,9 +1,11 @@
--- What can be read of a model: its objects, and what each end holds. Commands are refused and answered by this alone, so two
--- models that read the same are one to every caller.
-use Rattle.std.specs.Prelude.{ℕ, ◌&&◌, not, Bool, true, false, List, length, nat_lt, Option, is_some}
+-- What can be read of a model: its objects, what each end holds, and what contains each object. Commands are refused and answered
+-- by this alone, so two models that read the same are one to every caller.
+use Rattle.std.specs.Prelude.{ℕ, ◌&&◌, ◌||◌, Bool, true, false, List, [], filter, length, nat_lt, Option, Some, None, is_some, option_and_then, unwrap_or}
+use Rattle.std.specs.List.{filter_map, list_any}
 use Rattle.std.specs.Option.{option_map_or}
 use Rattle.mm_types.specs.Lookups as lookups
 use Rattle.mm_types.specs.Resolved.{Metamodel}
+use Rattle.mm_types.specs.Same.{same_node}
 use Rattle.mm_types.specs.Shapes.{Shape, shape}
 use Rattle.mm_types.specs.Ends.{Ends, Held, shown}
 use Rattle.mm_types.specs.Ends as ends
@@ -16,7 +18,8 @@ use Rattle.mm_types.specs.declared.end.End.{End}
 use Rattle.mm_types.specs.declared.value.Value.{Value}
 use Rattle.mm_types.specs.declared.value.Value.TheVariants as value
 
--- `next` is the number that the next object gets, `values` what stands at each end, `flag` whether an unsettable attribute is set
+-- `next` is the number that the next object gets, `values` what stands at each end, `flag` whether an unsettable attribute is set,
+-- `holder` the end that contains a node, `above` all nodes above it, the nearest first
 pub record Reading : Type 0 where
   pub metamodel : Metamodel
   pub next : ℕ
@@ -24,6 +27,8 @@ pub record Reading : Type 0 where
   pub uris : List (List ℕ)
   pub values : End → List Value
   pub flag : End → Bool
+  pub holder : Node → Option End
+  pub above : Node → List Node
 
 abbrev pub at_end : Node → FeatureNo → End
 at_end n f = record { node = n; feature = f }
@@ -63,19 +68,39 @@ abbrev pub is_resource_there : Reading → Node → Bool
 is_resource_there r (node.Object o) = true
 is_resource_there r (node.Resource k) = nat_lt k.0 (length r.uris)
 
--- the features that commands know today: attributes of one value
-abbrev pub is_known : Shape → Bool
-is_known a = not a.is_reference && a.is_single
+-- the features that commands know today: those of one value, whose opposites have one value too
+abbrev pub is_known : Metamodel → FeatureNo → Bool
+is_known m f = (shape m f).is_single && option_map_or (λ g. (shape m g).is_single) (shape m f).opposite true
 
 -- a class has a feature that commands know
 abbrev pub class_has : Metamodel → ClassNo → FeatureNo → Bool
-class_has m c f = lookups.has_feature m c f && is_known (shape m f)
+class_has m c f = lookups.has_feature m c f && is_known m f
 
 -- a node has a feature that commands know
 abbrev pub has_feature : Reading → Node → FeatureNo → Bool
 has_feature r (node.Object o) f = option_map_or (λ c. class_has r.metamodel c f) (r.class o) false
 has_feature r (node.Resource k) f = false
 
+-- all features of a node, and those that commands know
+abbrev pub all_features_of : Reading → Node → List FeatureNo
+all_features_of r (node.Object o) = unwrap_or (option_and_then (lookups.features r.metamodel) (r.class o)) []
+all_features_of r (node.Resource k) = []
+
+abbrev pub features_of : Reading → Node → List FeatureNo
+features_of r n = filter (is_known r.metamodel) (all_features_of r n)
+
+-- the objects among values
+abbrev pub object_of : Value → Option ObjectNo
+object_of (value.Object o) = Some o
+object_of _ = None
+
+abbrev pub objects_of : List Value → List ObjectNo
+objects_of vs = filter_map object_of vs
+
+-- n is x, or is below it
+abbrev pub is_within : Reading → Node → Node → Bool
+is_within r x n = same_node x n || list_any (same_node x) (r.above n)
+
 -- a value is one of a feature's type
 abbrev pub takes : Reading → FeatureNo → Value → Bool
-takes r f v = lookups.takes r.metamodel f v
+takes r f v = lookups.takes r.metamodel r.class f v

@@ -1,4 +1,4 @@
-//! What the metamodel says of a feature that a change names.
+//! What a metamodel says of a feature.
 ghost use Rattle.std.specs.Prelude.{◌≡◌};
 ghost use Rattle.mm_types.specs.Lookups as m;
 ghost use Rattle.mm_types.specs.Shapes.{shape};
@@ -9,7 +9,7 @@ use mm_meta::Meta;
 use mm_types::{ClassNo, DataType, FeatureNo, Kind, Value, limits};
 
 /// Whether a class is there and is concrete.
-pub(crate) fn is_concrete(meta: &Meta, class: ClassNo) -> bool
+pub fn is_concrete(meta: &Meta, class: ClassNo) -> bool
     ensures { result ≡ l.is_concrete meta.now class }
 {
     match meta.class(class) {
@@ -18,23 +18,23 @@ pub(crate) fn is_concrete(meta: &Meta, class: ClassNo) -> bool
     }
 }
 
-/// Whether a class has a feature that changes know: an attribute of one value.
+/// Whether a class has a feature that commands know: one of one value, whose opposite has one value too.
 pub(crate) fn class_has(meta: &Meta, class: ClassNo, feature: FeatureNo) -> bool
     ensures { result ≡ r.class_has meta.now class feature }
 {
     meta.has_feature(class, feature) && is_known(meta, feature)
 }
 
-/// Whether changes know a feature: whether it is an attribute of one value.
-fn is_known(meta: &Meta, feature: FeatureNo) -> bool
-    ensures { result ≡ r.is_known (shape meta.now feature) }
+/// Whether commands know a feature.
+pub fn is_known(meta: &Meta, feature: FeatureNo) -> bool
+    ensures { result ≡ r.is_known meta.now feature }
 {
-    match meta.feature(feature) {
-        Some(found) => match &found.kind {
-            Kind::Attribute { .. } => found.upper == 1,
-            Kind::Reference { .. } => false,
-        },
-        None => false,
+    if !is_single(meta, feature) {
+        return false;
+    }
+    match opposite(meta, feature) {
+        Some(far) => is_single(meta, far),
+        None => true,
     }
 }
 
@@ -45,6 +45,29 @@ pub fn is_single(meta: &Meta, feature: FeatureNo) -> bool
     match meta.feature(feature) {
         Some(feature) => feature.upper == 1,
         None => false,
+    }
+}
+
+/// Whether a feature holds objects (EMF: EReference); so does the one of resources. Takes no memory.
+pub fn is_reference(meta: &Meta, feature: FeatureNo) -> bool
+    ensures { result ≡ (shape meta.now feature).is_reference }
+{
+    match meta.feature(feature) {
+        Some(found) => match &found.kind {
+            Kind::Attribute { .. } => false,
+            Kind::Reference { .. } => true,
+        },
+        None => true,
+    }
+}
+
+/// The opposite of a reference (EMF: EReference.getEOpposite). Takes no memory.
+pub fn opposite(meta: &Meta, feature: FeatureNo) -> Option<FeatureNo>
+    ensures { result ≡ (shape meta.now feature).opposite }
+{
+    match &meta.feature(feature)?.kind {
+        Kind::Attribute { .. } => None,
+        Kind::Reference { opposite, .. } => *opposite,
     }
 }
 
@@ -61,26 +84,12 @@ pub fn is_unsettable(meta: &Meta, feature: FeatureNo) -> bool
     }
 }
 
-/// Whether a value is one of a feature's type.
-pub(crate) fn takes(meta: &Meta, feature: FeatureNo, value: &Value) -> bool
-    ensures { result ≡ m.takes meta.now feature value.now }
-{
-    match meta.feature(feature) {
-        Some(feature) => is_of_kind(meta, feature.upper == 1, &feature.kind, value),
-        None => false,
-    }
-}
-
-fn is_of_kind(meta: &Meta, single: bool, kind: &Kind, value: &Value) -> bool
-    ensures { result ≡ m.is_of_kind meta.now single kind.now value.now }
-{
-    match kind {
-        Kind::Attribute { value_type, .. } => is_attribute_value(meta, single, *value_type, value),
-        Kind::Reference { .. } => false,
-    }
-}
-
-fn is_attribute_value(meta: &Meta, single: bool, value_type: DataType, value: &Value) -> bool
+pub(crate) fn is_attribute_value(
+    meta: &Meta,
+    single: bool,
+    value_type: DataType,
+    value: &Value,
+) -> bool
     ensures { result ≡ m.is_attribute_value meta.now single value_type value.now }
 {
     match value {
@@ -103,7 +112,7 @@ fn is_of_type(meta: &Meta, value_type: DataType, value: &Value) -> bool
 }
 
 /// Whether a text is as short as texts must be.
-pub(crate) fn is_short(value: &Value) -> bool
+pub fn is_short(value: &Value) -> bool
     ensures { result ≡ l.is_short value.now }
 {
     match value {

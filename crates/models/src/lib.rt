@@ -1,4 +1,15 @@
-//! A model as data: its metamodel and its values together, what its ends hold, and which models are legal.
+//! A model as data: its metamodel, its values and its links together, what its ends hold, and which models are legal.
 //!
-//! `specs/Reading.antt` is what can be read of a model, `specs/Legal.antt` which models are legal.
+//! `specs/Reading.antt` is what can be read of a model, `specs/Legal.antt` which models are legal. `ModelRef` reads a model in
+//! its parts.
 #![tactic(auto)]
+
+mod features;
+mod model_ref;
+mod reads;
+
+pub use features::{
+    is_concrete, is_known, is_reference, is_short, is_single, is_unsettable, opposite,
+};
+pub use model_ref::ModelRef;
+pub use reads::{Found, copied, copy_of, is_same};

@@ -1,72 +1,159 @@
-//! What features have. Only the copy of a value takes memory.
-ghost use Rattle.std.specs.Prelude.{◌≡◌, IfOk, IfErr, unwrap_or, option_copied};
+//! What ends hold.
+ghost use Rattle.std.specs.Prelude.{◌≡◌, [], true, false, Bool, Option, unwrap_or, option_map, option_copied, IfOk, IfErr};
+ghost use Rattle.mm_types.specs.Ends as ends;
+ghost use Rattle.mm_types.specs.Ends.{value_in};
+ghost use Rattle.mm_types.specs.Lookups as m;
 ghost use Rattle.mm_types.specs.Same.{same_value};
+ghost use Rattle.mm_types.specs.Shapes.{shape};
 ghost use Rattle.mm_types.specs.declared.refused.Refused.TheVariants.{Memory};
+ghost use Rattle.mm_types.specs.declared.value.Value.TheVariants as value;
 ghost use Rattle.mm_types.specs.declared.value.Value.TheVariants.{Null};
 ghost use Rattle.mm_values.specs.Room.{values_of};
-ghost use Rattle.models.specs.Model.{kept_flag, kept_values, model_of, reading};
+ghost use Rattle.models.specs.Found.{found_value};
+ghost use Rattle.models.specs.Model.{attribute_held, kept_flag, kept_values, reading};
 ghost use Rattle.models.specs.Reading as r;
-ghost use Rattle.models.specs.Reading.{at_end};
 
-use crate::features::{is_single, is_unsettable};
+use crate::features::{is_attribute_value, is_reference, is_single, is_unsettable};
+use crate::model_ref::ModelRef;
+use link_store::LinkStore;
 use mm_meta::Meta;
-use mm_types::{FeatureNo, Node, Refused, Value};
+use mm_types::{ClassNo, End, FeatureNo, Kind, Node, ObjectNo, Refused, Value};
 use mm_values::Values;
 
-/// The values that a node keeps under an attribute.
-fn kept_list(values: &Values, node: Node, feature: FeatureNo) -> &[Value]
-    ensures { result.now ≡ kept_values (values_of values.now) node feature }
-{
-    match node {
-        Node::Object(object) => values.list(object, feature).unwrap_or(&[]),
-        Node::Resource(_) => &[],
+/// What stands at a single end, where it is kept.
+#[derive(Clone, Copy, Debug)]
+pub enum Found<'a> {
+    /// The value of an attribute.
+    Kept(&'a Value),
+    /// The object that a reference has.
+    Object(ObjectNo),
+}
+
+impl<'a, L: LinkStore> ModelRef<'a, L> {
+    /// What a single end has: the value that was set, else its default, or the object of a reference (EMF: EObject.eGet). `None`
+    /// stands for null.
+    pub fn value_at(&self, end: End) -> Option<Found<'a>>
+        ensures { unwrap_or (option_map found_value result) Null ≡ r.value_at (reading self.now) end }
+    {
+        if is_reference(self.meta(), end.feature) {
+            return found_object(self.object_at(end));
+        }
+        found_kept(attribute_at(self.meta(), self.values(), end))
+    }
+
+    /// Whether an end is set (EMF: EObject.eIsSet).
+    pub fn is_set(&self, end: End) -> bool
+        ensures { result ≡ r.is_set (reading self.now) end }
+    {
+        if is_reference(self.meta(), end.feature) {
+            return self.store().len(end) > 0;
+        }
+        is_attribute_set(self.meta(), self.values(), end)
+    }
+
+    /// Whether a value is one of a feature's type.
+    pub fn takes(&self, feature: FeatureNo, value: &Value) -> bool
+        ensures { result ≡ r.takes (reading self.now) feature value.now }
+    {
+        match self.meta().feature(feature) {
+            Some(found) => match &found.kind {
+                Kind::Attribute { value_type, .. } => {
+                    is_attribute_value(self.meta(), found.upper == 1, *value_type, value)
+                }
+                Kind::Reference { target, .. } => {
+                    self.is_reference_value(found.upper == 1, *target, value)
+                }
+            },
+            None => match value {
+                Value::Object(_) => true,
+                _ => false,
+            },
+        }
+    }
+
+    // Whether a value is one of a reference, single or not, to a class.
+    fn is_reference_value(&self, single: bool, target: ClassNo, value: &Value) -> bool
+        ensures { result ≡ m.is_reference_value self.now.metamodel (reading self.now).class single target value.now }
+    {
+        match value {
+            Value::Null => single,
+            Value::Object(object) => match self.class(*object) {
+                Some(class) => self.meta().conforms(class, target),
+                None => false,
+            },
+            _ => false,
+        }
     }
 }
 
-fn flag_at(values: &Values, node: Node, feature: FeatureNo) -> bool
-    ensures { result ≡ kept_flag (values_of values.now) node feature }
+fn found_object<'a>(object: Option<ObjectNo>) -> Option<Found<'a>>
+    ensures { option_map found_value result ≡ option_map value.Object object }
 {
-    match node {
-        Node::Object(object) => values.flag(object, feature).unwrap_or(false),
-        Node::Resource(_) => false,
-    }
-}
-
-/// The value that a feature of one value has: what was set, else its default (EMF: EObject.eGet). `None` stands for null.
-/// Takes no memory.
-#[tactic(auto, using(crate::proofs::ReadLemmas::value_in_shown))]
-pub fn value_at<'a>(
-    meta: &'a Meta,
-    values: &'a Values,
-    node: Node,
-    feature: FeatureNo,
-) -> Option<&'a Value>
-    ensures { unwrap_or (option_copied result) Null ≡ r.value_at (reading (model_of meta.now (values_of values.now))) (at_end node feature) }
-{
-    match kept_list(values, node, feature).first() {
-        Some(value) => Some(value),
-        None if is_single(meta, feature) => meta.default(feature),
+    match object {
+        Some(object) => Some(Found::Object(object)),
         None => None,
     }
 }
 
-/// Whether a feature of a node is set (EMF: EObject.eIsSet). Takes no memory.
-#[tactic(auto, using(crate::proofs::ReadLemmas::is_nil_shown))]
-pub fn is_set_at(meta: &Meta, values: &Values, node: Node, feature: FeatureNo) -> bool
-    ensures { result ≡ r.is_set (reading (model_of meta.now (values_of values.now))) (at_end node feature) }
+fn found_kept(value: Option<&Value>) -> Option<Found<'_>>
+    ensures { option_map found_value result ≡ option_copied value.entry }
 {
-    if !is_single(meta, feature) {
-        return !kept_list(values, node, feature).is_empty();
+    match value {
+        Some(value) => Some(Found::Kept(value)),
+        None => None,
     }
-    if is_unsettable(meta, feature) {
-        return flag_at(values, node, feature);
+}
+
+// The values that a node keeps under an attribute.
+fn kept_list(values: &Values, end: End) -> &[Value]
+    ensures { result.now ≡ kept_values (values_of values.now) end.node end.feature }
+{
+    match end.node {
+        Node::Object(object) => values.list(object, end.feature).unwrap_or(&[]),
+        Node::Resource(_) => &[],
     }
-    let value = value_at(meta, values, node, feature).unwrap_or(&Value::Null);
-    let default = meta.default(feature).unwrap_or(&Value::Null);
+}
+
+fn flag_at(values: &Values, end: End) -> bool
+    ensures { result ≡ kept_flag (values_of values.now) end.node end.feature }
+{
+    match end.node {
+        Node::Object(object) => values.flag(object, end.feature).unwrap_or(false),
+        Node::Resource(_) => false,
+    }
+}
+
+// What an attribute has: what was set, else its default where it is single.
+#[tactic(auto, using(crate::proofs::ReadLemmas::value_in_shown))]
+fn attribute_at<'a>(meta: &'a Meta, values: &'a Values, end: End) -> Option<&'a Value>
+    ensures { unwrap_or (option_copied result) Null ≡ value_in (attribute_held meta.now (values_of values.now) end).values 0 }
+{
+    match kept_list(values, end).first() {
+        Some(value) => Some(value),
+        None if is_single(meta, end.feature) => meta.default(end.feature),
+        None => None,
+    }
+}
+
+// Whether an attribute is set.
+#[tactic(auto, using(crate::proofs::ReadLemmas::is_nil_shown))]
+fn is_attribute_set(meta: &Meta, values: &Values, end: End) -> bool
+    requires attribute { (shape meta.now end.feature).is_reference ≡ false }
+    ensures { result ≡ ends.is_set (shape meta.now end.feature) (attribute_held meta.now (values_of values.now) end) }
+{
+    if !is_single(meta, end.feature) {
+        return !kept_list(values, end).is_empty();
+    }
+    if is_unsettable(meta, end.feature) {
+        return flag_at(values, end);
+    }
+    let value = attribute_at(meta, values, end).unwrap_or(&Value::Null);
+    let default = meta.default(end.feature).unwrap_or(&Value::Null);
     !is_same(value, default)
 }
 
-pub(crate) fn is_same(a: &Value, b: &Value) -> bool
+/// Whether two values are the same.
+pub fn is_same(a: &Value, b: &Value) -> bool
     ensures { result ≡ same_value a.now b.now }
 {
     match (a, b) {
@@ -82,14 +169,23 @@ pub(crate) fn is_same(a: &Value, b: &Value) -> bool
     }
 }
 
-/// A copy of a value; `None` stands for null. Errs only with `Memory`.
-pub fn copied(value: Option<&Value>) -> Result<Value, Refused>
-    ensures ok { IfOk result (λ w. w ≡ unwrap_or (option_copied value.entry) Null) }
+/// A copy of what was found; `None` stands for null. Errs only with `Memory`.
+pub fn copied(found: Option<Found>) -> Result<Value, Refused>
+    ensures ok { IfOk result (λ w. w ≡ unwrap_or (option_map found_value found.entry) Null) }
     ensures memory { IfErr result (λ r. r ≡ Memory) }
 {
-    let Some(value) = value else {
-        return Ok(Value::Null);
-    };
+    match found {
+        Some(Found::Kept(value)) => copy_of(value),
+        Some(Found::Object(object)) => Ok(Value::Object(object)),
+        None => Ok(Value::Null),
+    }
+}
+
+/// A copy of a value. Errs only with `Memory`.
+pub fn copy_of(value: &Value) -> Result<Value, Refused>
+    ensures ok { IfOk result (λ w. w ≡ value.now) }
+    ensures memory { IfErr result (λ r. r ≡ Memory) }
+{
     match value.clone() {
         Ok(value) => Ok(value),
         Err(_) => Err(Refused::Memory),

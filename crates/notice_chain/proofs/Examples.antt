@@ -1,8 +1,10 @@
 -- What the definitions make of a few notices.
-use Rattle.std.proofs.Common.{◌≡◌, ℕ, pos, negsuc, ℤ, false, true, List, [], ◌∷◌, map, Some, None, refl}
+use Rattle.std.proofs.Common.{◌≡◌, ℕ, suc, pos, negsuc, ℤ, false, true, List, [], ◌∷◌, map, drop, Some, None, refl}
+use Rattle.std.specs.List.{position_or_len}
 use Rattle.mm_types.specs.declared.value.Value.{Value}
 use Rattle.mm_types.specs.declared.value.Value.TheVariants as value
-use Rattle.mm_types.specs.declared.numbers.Node.TheVariants.{Object}
+use Rattle.mm_types.specs.declared.numbers.Node.{Node}
+use Rattle.mm_types.specs.declared.numbers.Node.TheVariants.{Object, Resource}
 use Rattle.mm_types.specs.declared.end.End.{End}
 use Rattle.mm_types.specs.Ends.{Ends, Held}
 use Rattle.mm_types.specs.Same.{same_node}
@@ -10,7 +12,7 @@ use Rattle.notice_chain.specs.declared.kind.NoticeKind.{NoticeKind}
 use Rattle.notice_chain.specs.declared.kind.NoticeKind.TheVariants as kind
 use Rattle.notice_chain.specs.declared.notice.Notice.{Notice}
 use Rattle.notice_chain.specs.View.{hear_all}
-use Rattle.notice_chain.specs.Listed.{Listed, audience_numbers, has_no, last_notice}
+use Rattle.notice_chain.specs.Listed.{Above, Listed, audience_numbers, has_no, last_notice}
 use Rattle.notice_chain.specs.Released.{released}
 use Rattle.notice_chain.specs.Replay.{is_passed_over, replayed, replayed_all}
 
@@ -89,9 +91,31 @@ resolve-before = refl
 abbrev attached : ℕ → ℕ → Listed
 attached n target = record { no = record { 0 = n }; target = Object (record { 0 = target }); deep = false; view = record { told = 0; room = None; kept = [] } }
 
+abbrev deep_attached : ℕ → ℕ → Listed
+deep_attached n target = record { no = record { 0 = n }; target = Object (record { 0 = target }); deep = true; view = record { told = 0; room = None; kept = [] } }
+
+-- nothing is above any node
+abbrev flat : Above
+flat = λ n. []
+
+-- object 3 is in object 0, object 0 in object 1, and that in a resource
+abbrev line : List Node
+line = Object (record { 0 = 3 }) ∷ Object (record { 0 = 0 }) ∷ Object (record { 0 = 1 }) ∷ Resource (record { 0 = 0 }) ∷ []
+
+abbrev nested : Above
+nested n = drop (suc (position_or_len (same_node n) line)) line
+
 -- those at the notifier hear, in attach order; the third at object 0 is at index 1 among them
-hearers : audience_numbers (added 0) (attached 5 0 ∷ attached 3 1 ∷ attached 1 0 ∷ []) ≡ record { 0 = 5 } ∷ record { 0 = 1 } ∷ []
+hearers : audience_numbers flat (added 0) (attached 5 0 ∷ attached 3 1 ∷ attached 1 0 ∷ []) ≡ record { 0 = 5 } ∷ record { 0 = 1 } ∷ []
 hearers = refl
+
+-- so do the deep ones above the notifier, but no flat one above it, and no deep one below it or beside it
+deep-hearers : audience_numbers nested (added 0) (deep_attached 5 1 ∷ attached 3 1 ∷ deep_attached 4 3 ∷ deep_attached 6 2 ∷ attached 1 0 ∷ deep_attached 7 0 ∷ []) ≡ record { 0 = 5 } ∷ record { 0 = 1 } ∷ record { 0 = 7 } ∷ []
+deep-hearers = refl
+
+-- where nothing is above the notifier, a deep one hears its target alone
+deep-alone : audience_numbers flat (added 0) (deep_attached 5 1 ∷ deep_attached 7 0 ∷ []) ≡ record { 0 = 7 } ∷ []
+deep-alone = refl
 
 index-among-them : (last_notice (attached 5 0 ∷ attached 3 1 ∷ []) (attached 1 0)).position ≡ pos 1
 index-among-them = refl

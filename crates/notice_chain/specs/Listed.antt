@@ -1,5 +1,5 @@
 -- The attached adapters in attach order: which of them hear a notice, and what notifying and releasing them does.
-use Rattle.std.specs.Prelude.{ℕ, ◌+◌, Bool, false, ◌&&◌, nat_eq, nat_lt, nat_le, pos, List, [], ◌∷◌, ◌++◌, map, filter, take, length, count_by, position, remove, slice_get, ◌^◌, Option, None, option_and_then, option_map}
+use Rattle.std.specs.Prelude.{ℕ, ◌+◌, Bool, false, ◌&&◌, ◌||◌, nat_eq, nat_lt, nat_le, pos, List, [], ◌∷◌, ◌++◌, map, filter, take, length, count_by, position, remove, slice_get, ◌^◌, Option, None, option_and_then, option_map}
 use Rattle.std.specs.List.{IsDistinct, list_any, find}
 use Rattle.mm_types.specs.declared.numbers.AdapterNo.{AdapterNo}
 use Rattle.mm_types.specs.declared.numbers.Node.{Node}
@@ -36,38 +36,42 @@ adapter number rs = find (has_no number) rs
 
 ----------------------------------------------------------------- notifying
 
--- an adapter hears the notices of its target
-abbrev pub hears : Listed → Notice → Bool
-hears r n = same_node r.target n.notifier
+-- the nodes above each node, the nearest first
+abbrev pub Above : Type 0
+Above = Node → List Node
+
+-- an adapter hears the notices of its target, and a deep one those of all nodes below its target too
+abbrev pub hears : Above → Listed → Notice → Bool
+hears up r n = same_node r.target n.notifier || (r.deep && list_any (same_node r.target) (up n.notifier))
 
 -- the notices of a chain that it hears, in order
-abbrev pub heard_of : List Notice → Listed → List Notice
-heard_of ns r = filter (λ n. hears r n) ns
+abbrev pub heard_of : Above → List Notice → Listed → List Notice
+heard_of up ns r = filter (λ n. hears up r n) ns
 
 -- those that hear a notice
-abbrev pub audience : Notice → List Listed → List Listed
-audience n rs = filter (λ r. hears r n) rs
+abbrev pub audience : Above → Notice → List Listed → List Listed
+audience up n rs = filter (λ r. hears up r n) rs
 
 -- the numbers of those that hear a notice
-abbrev pub audience_numbers : Notice → List Listed → List AdapterNo
-audience_numbers n rs = map (λ r. r.no) (audience n rs)
+abbrev pub audience_numbers : Above → Notice → List Listed → List AdapterNo
+audience_numbers up n rs = map (λ r. r.no) (audience up n rs)
 
 -- the adapter after some notices
 abbrev pub told_all : Listed → List Notice → Listed
 told_all r ns = record { no = r.no; target = r.target; deep = r.deep; view = hear_all r.view ns }
 
 -- the adapters after a chain: each has heard its own notices of it in turn, whatever the others hear
-abbrev pub tell_chain : List Notice → List Listed → List Listed
-tell_chain ns rs = map (λ r. told_all r (heard_of ns r)) rs
+abbrev pub tell_chain : Above → List Notice → List Listed → List Listed
+tell_chain up ns rs = map (λ r. told_all r (heard_of up ns r)) rs
 
 -- the numbers of those that hear a notice, each with the notice
-abbrev pub told_of : Notice → List Listed → List (AdapterNo × Notice)
-told_of n rs = map (λ r. (r.no, n)) (audience n rs)
+abbrev pub told_of : Above → Notice → List Listed → List (AdapterNo × Notice)
+told_of up n rs = map (λ r. (r.no, n)) (audience up n rs)
 
 -- who is notified of what: the chain in order, each notice with its audience in attach order
-abbrev pub told_list : List Notice → List Listed → List (AdapterNo × Notice)
-told_list [] rs = []
-told_list (n ∷ ns) rs = told_of n rs ++ told_list ns rs
+abbrev pub told_list : Above → List Notice → List Listed → List (AdapterNo × Notice)
+told_list up [] rs = []
+told_list up (n ∷ ns) rs = told_of up n rs ++ told_list up ns rs
 
 ----------------------------------------------------------------- counting on
 
@@ -76,8 +80,8 @@ abbrev pub is_full : ℕ → View → Bool
 is_full k v = nat_lt 0 k && nat_le (2 ^ 64) (v.told + (k + 1))
 
 -- one of the adapters can't count the notices of a chain that it hears
-abbrev pub is_chain_full : List Notice → List Listed → Bool
-is_chain_full ns rs = list_any (λ r. is_full (length (heard_of ns r)) r.view) rs
+abbrev pub is_chain_full : Above → List Notice → List Listed → Bool
+is_chain_full up ns rs = list_any (λ r. is_full (length (heard_of up ns r)) r.view) rs
 
 ----------------------------------------------------------------- releasing
 

@@ -30,7 +30,7 @@ module _ (s : State) (number : AdapterNo) (target : Node) (deep : Bool) (view : 
 
   -- why it is not attached
   attach-refusal : node_refusal (reads s) target ≡ None → refusal_of s (Attach number target deep view) ≡ attach_refusal s.adapters number view
-  attach-refusal there = ap (λ (o : Option Refused). o else_by (attach_refusal s.adapters number view else_by (AdapterFull where_so is_chain_full [] s.adapters))) there ∙ refusal_quiet (attach_refusal s.adapters number view) s.adapters
+  attach-refusal there = ap (λ (o : Option Refused). o else_by (attach_refusal s.adapters number view else_by (AdapterFull where_so is_chain_full (reads s).above [] s.adapters))) there ∙ refusal_quiet (reads s).above (attach_refusal s.adapters number view) s.adapters
 
   refused-node : (r : Refused) → node_refusal (reads s) target ≡ Some r → is_memory_refusal r ≡ false
   refused-node r e = subst (λ (o : Option Refused). option_map_or is_memory_refusal o false ≡ false) e (elim (is_node_live (reads s) target) as (λ a. option_map_or is_memory_refusal ((if a then None else Some NoObject) else_by (if is_resource_there (reads s) target then None else Some NoResource)) false ≡ false) [
@@ -39,10 +39,10 @@ module _ (s : State) (number : AdapterNo) (target : Node) (deep : Bool) (view : 
   ])
 
   pub nowhere_to_attach : (r : Refused) → node_refusal (reads s) target ≡ Some r → Executed s (Attach number target deep view) (Err (record { refused = r; given_back = Some view })) s
-  nowhere_to_attach r e = rw (refused-node r e) (ap (step_unless s (Attach number target deep view)) (ap (λ (o : Option Refused). o else_by (attach_refusal s.adapters number view else_by (AdapterFull where_so is_chain_full [] s.adapters))) e))
+  nowhere_to_attach r e = rw (refused-node r e) (ap (step_unless s (Attach number target deep view)) (ap (λ (o : Option Refused). o else_by (attach_refusal s.adapters number view else_by (AdapterFull where_so is_chain_full (reads s).above [] s.adapters))) e))
 
   pub attached : node_refusal (reads s) target ≡ None → attach_refusal s.adapters number view ≡ None → Executed s (Attach number target deep view) (Ok (record { answer = answer.Done; told = []; released = [] })) (record { model = s.model; adapters = s.adapters ++ one ∷ [] })
-  attached there free = ap (step_unless s (Attach number target deep view)) (attach-refusal there ∙ free) ∙ done_quiet s.model s.adapters (one ∷ []) answer.Done
+  attached there free = ap (step_unless s (Attach number target deep view)) (attach-refusal there ∙ free) ∙ done_quiet (reads s).above s.model s.adapters (one ∷ []) answer.Done
 
   pub not_attached : (r : Refused) → node_refusal (reads s) target ≡ None → but_memory r ≡ attach_refusal s.adapters number view → Executed s (Attach number target deep view) (Err (record { refused = r; given_back = Some view })) s
   not_attached Memory there e = record {
@@ -74,7 +74,7 @@ module _ (s : State) (number : AdapterNo) where
   there o counted some = sym (counted-found number s.adapters) ∙ ap is_some (sym counted) ∙ some
 
   not-refused : is_some (adapter number s.adapters) ≡ true → refusal_of s (Detach number) ≡ None
-  not-refused h = refusal_quiet (NoAdapter unless is_some (adapter number s.adapters)) s.adapters ∙ ap (λ b. NoAdapter unless b) h
+  not-refused h = refusal_quiet (reads s).above (NoAdapter unless is_some (adapter number s.adapters)) s.adapters ∙ ap (λ b. NoAdapter unless b) h
 
   pub always_released : is_some (adapter number s.adapters) ≡ true → release number s.adapters ≡ None → ⊥
   always_released h none = true≢false (sym h ∙ sym (released-found number s.adapters) ∙ ap is_some none)
@@ -89,7 +89,7 @@ module _ (s : State) (number : AdapterNo) where
   unfolding done_with
   detached x apart e =
       let known : is_some (adapter number s.adapters) ≡ true = sym (released-found number s.adapters) ∙ ap is_some e in
-      let one = ap (released (has_no number)) (tell_chain-nil s.adapters) ∙ released-one number s.adapters apart ∙ ap (released_one number s.adapters) e in
+      let one = ap (released (has_no number)) (tell_chain-nil (reads s).above s.adapters) ∙ released-one number s.adapters apart ∙ ap (released_one number s.adapters) e in
       ap (step_unless s (Detach number)) (not-refused known)
       ∙ ap done_with one
       ∙ ap (λ (rs : List Listed). let y : Stepped = record { outcome = Ok (record { answer = answer.Done; told = (number, x.notice) ∷ []; released = (number, x.view) ∷ [] }); after = record { model = s.model; adapters = rs } } in y) (append-nil x.others)

@@ -14,23 +14,28 @@ use Rattle.mm_types.specs.declared.numbers.Node.TheVariants as node
 use Rattle.mm_types.specs.declared.refused.Refused.{Refused}
 use Rattle.mm_types.specs.declared.refused.Refused.TheVariants.{NoObject, NoResource, AdapterFull, AdapterTaken, Limit}
 use Rattle.mm_types.specs.Shapes.{shape}
-use Rattle.mm_values.specs.Stored.{Stored, nothing_stored}
-use Rattle.mm_values.specs.Values.{Objects, ObjectState, put_stored}
+use Rattle.mm_types.specs.declared.end.End.{End}
+use Rattle.mm_types.specs.declared.value.Value.{Value}
+use Rattle.mm_values.specs.Stored.{Stored}
+use Rattle.mm_values.specs.Values.{Objects, ObjectState, applied, put_stored}
+use Rattle.mm_values.specs.declared.edit.ValueEdit.{ValueEdit}
 use Rattle.notice_chain.specs.View.{View}
-use Rattle.notice_chain.specs.Listed.{HasDistinctNumbers, Listed, has_no, heard_of, is_chain_full, is_full, tell_chain}
+use Rattle.notice_chain.specs.Listed.{Above, HasDistinctNumbers, Listed, has_no, heard_of, is_chain_full, is_full, tell_chain}
 use Rattle.notice_chain.specs.declared.notice.Notice.{Notice}
 use Rattle.notice_chain.proofs.ViewLemmas.{told-hear_all}
 use Rattle.adapter_list.specs.Refusals.{attach_refusal, list_refusal, view_refusal}
 use Rattle.models.specs.Legal as models
 use Rattle.models.specs.Model.{Model, reading}
-use Rattle.models.specs.Reading.{Reading}
+use Rattle.models.specs.Reading.{Reading, at_end}
 use Rattle.handshake.specs.Effects as effects
+use Rattle.handshake.specs.Effects.{put_under, put_values}
 use Rattle.handshake.specs.Named.{node_refusal}
 use Rattle.handshake.specs.declared.change.Change.{Change}
 use Rattle.handshake.specs.declared.change.Change.TheVariants as change
-use Rattle.handshake.proofs.LegalLemmas.{change-keeps-legal, else-none, unless-none}
+use Rattle.handshake.proofs.KnownLemmas.{none-else_by, none-unless}
+use Rattle.handshake.proofs.LegalLemmas.{change-keeps-legal}
 use Rattle.repository.specs.declared.command.Command.{Command}
-use Rattle.repository.specs.declared.command.Command.TheVariants.{Create, Set, Unset, Attach, Detach, Get, IsSet, Class, AdapterTold, AdapterKept}
+use Rattle.repository.specs.declared.command.Command.TheVariants.{Create, Set, Unset, Attach, Detach, Get, IsSet, Container, Contents, Class, AdapterTold, AdapterKept}
 use Rattle.repository.specs.State.{State, IsLegal, IsLegalAdapter, is_there, reads}
 use Rattle.repository.specs.Refusals.{chain, early_refusal, late_refusal}
 use Rattle.repository.specs.Run.{Executed, IsWanting, is_memory}
@@ -79,18 +84,28 @@ first-true : (a b : Bool) → (a && b) ≡ true → a ≡ true
 first-true true b h = refl
 first-true false b h = h
 
+-- of a reference nothing is put
+put-or-not : (s : Model) (b : Bool) (edits : List ValueEdit) (n : Node) → IsTrue (is_there (reading s) n) → IsTrue (is_there (reading (record s { values = applied s.values edits })) n)
+    → IsTrue (is_there (reading (record s { values = applied s.values (if b then [] else edits) })) n)
+put-or-not s b edits n h put = elim b as (λ b. IsTrue (is_there (reading (record s { values = applied s.values (if b then [] else edits) })) n)) [ true ↦ h | false ↦ put ]
+
+put-keeps-node : (s : Model) (e : End) (vs : List Value) (flag : Bool) (n : Node) → IsTrue (is_there (reading s) n) → IsTrue (is_there (reading (record s { values = applied s.values (put_values e vs flag) })) n)
+put-keeps-node s e vs flag n h = at e.node n h where
+  at : (m n : Node) → IsTrue (is_there (reading s) n) → IsTrue (is_there (reading (record s { values = applied s.values (put_under e.feature vs flag m) })) n)
+  at (node.Object k) (node.Object o) h = ap (λ b. b && true) (put-live s.values.objects e.feature (record { list = vs; flag = flag }) k.0 o.0) ∙ h
+  at (node.Object k) (node.Resource r) h = h
+  at (node.Resource k) (node.Object o) h = h
+  at (node.Resource k) (node.Resource r) h = h
+
 -- a node that is there is there after every change
 change-keeps-node : (s : Model) (c : Change) (n : Node) → IsTrue (is_there (reading s) n) → IsTrue (is_there (reading (effects.after s c)) n)
 change-keeps-node s (change.Create c) (node.Object o) h = both-true _ true (push-live s.values.objects _ o.0 (first-true _ true h)) refl
-change-keeps-node s (change.Set (node.Object k) f v) (node.Object o) h = ap (λ b. b && true) (put-live s.values.objects f (record { list = v ∷ []; flag = (shape s.metamodel f).is_unsettable }) k.0 o.0) ∙ h
-change-keeps-node s (change.Set (node.Resource k) f v) (node.Object o) h = h
-change-keeps-node s (change.Unset (node.Object k) f) (node.Object o) h = ap (λ b. b && true) (put-live s.values.objects f nothing_stored k.0 o.0) ∙ h
-change-keeps-node s (change.Unset (node.Resource k) f) (node.Object o) h = h
 change-keeps-node s (change.Create c) (node.Resource r) h = h
-change-keeps-node s (change.Set (node.Object k) f v) (node.Resource r) h = h
-change-keeps-node s (change.Set (node.Resource k) f v) (node.Resource r) h = h
-change-keeps-node s (change.Unset (node.Object k) f) (node.Resource r) h = h
-change-keeps-node s (change.Unset (node.Resource k) f) (node.Resource r) h = h
+change-keeps-node s (change.Set m f v) n h =
+    let a = shape s.metamodel f in
+    put-or-not s a.is_reference (put_values (at_end m f) (v ∷ []) a.is_unsettable) n h (put-keeps-node s (at_end m f) (v ∷ []) a.is_unsettable n h)
+change-keeps-node s (change.Unset m f) n h =
+    put-or-not s (shape s.metamodel f).is_reference (put_values (at_end m f) [] false) n h (put-keeps-node s (at_end m f) [] false n h)
 
 keeps-node : (s : State) (c : Command View) (n : Node) → IsTrue (is_there (reads s) n) → IsTrue (is_there (reading (model_after s.model c)) n)
 keeps-node s (Create c) n h = change-keeps-node s.model (change.Create c) n h
@@ -100,6 +115,8 @@ keeps-node s (Attach number target deep view) n h = h
 keeps-node s (Detach number) n h = h
 keeps-node s (Get m f) n h = h
 keeps-node s (IsSet m f) n h = h
+keeps-node s (Container o) n h = h
+keeps-node s (Contents m) n h = h
 keeps-node s (Class o) n h = h
 keeps-node s (AdapterTold number) n h = h
 keeps-node s (AdapterKept number) n h = h
@@ -114,15 +131,17 @@ model-legal s (Attach number target deep view) legal early late = legal
 model-legal s (Detach number) legal early late = legal
 model-legal s (Get n f) legal early late = legal
 model-legal s (IsSet n f) legal early late = legal
+model-legal s (Container o) legal early late = legal
+model-legal s (Contents n) legal early late = legal
 model-legal s (Class o) legal early late = legal
 model-legal s (AdapterTold number) legal early late = legal
 model-legal s (AdapterKept number) legal early late = legal
 
 ---------------------------------------------------------------- the adapters after a chain
 
-pub numbers-tell_chain : (ns : List Notice) (rs : List Listed) → map (λ r. r.no) (tell_chain ns rs) ≡ map (λ r. r.no) rs
-numbers-tell_chain ns [] = refl
-numbers-tell_chain ns (r ∷ rs) = ap (λ xs. r.no ∷ xs) (numbers-tell_chain ns rs)
+pub numbers-tell_chain : (up : Above) (ns : List Notice) (rs : List Listed) → map (λ r. r.no) (tell_chain up ns rs) ≡ map (λ r. r.no) rs
+numbers-tell_chain up ns [] = refl
+numbers-tell_chain up ns (r ∷ rs) = ap (λ xs. r.no ∷ xs) (numbers-tell_chain up ns rs)
 
 count-on : (t k : ℕ) → (nat_lt 0 k && nat_le (2 ^ 64) (t + (k + 1))) ≡ false → t + 1 < 2 ^ 64 → t + k + 1 < 2 ^ 64
 count-on t k free last =
@@ -131,17 +150,17 @@ count-on t k free last =
       | false ↦ λ e f. omega (arith, ltb-false _ _ e, last)
     ] refl free
 
-told-legal : (r t : Reading) (ns : List Notice) (rs : List Listed) → ((n : Node) → IsTrue (is_there r n) → IsTrue (is_there t n)) → is_chain_full ns rs ≡ false → All (IsLegalAdapter r) rs → All (IsLegalAdapter t) (tell_chain ns rs)
-told-legal r t ns [] stays free legal = All-nil (IsLegalAdapter t)
-told-legal r t ns (a ∷ rs) stays free legal =
-    let both = or_parts (is_full (length (heard_of ns a)) a.view) (is_chain_full ns rs) free in
+told-legal : (up : Above) (r t : Reading) (ns : List Notice) (rs : List Listed) → ((n : Node) → IsTrue (is_there r n) → IsTrue (is_there t n)) → is_chain_full up ns rs ≡ false → All (IsLegalAdapter r) rs → All (IsLegalAdapter t) (tell_chain up ns rs)
+told-legal up r t ns [] stays free legal = All-nil (IsLegalAdapter t)
+told-legal up r t ns (a ∷ rs) stays free legal =
+    let both = or_parts (is_full (length (heard_of up ns a)) a.view) (is_chain_full up ns rs) free in
     let one = All-head (IsLegalAdapter r) a rs legal in
     All-cons (IsLegalAdapter t) _ _
     (record {
       target = stays a.target one.target;
-      countable = rw (told-hear_all a.view (heard_of ns a)) (count-on a.view.told (length (heard_of ns a)) both.0 one.countable);
+      countable = rw (told-hear_all a.view (heard_of up ns a)) (count-on a.view.told (length (heard_of up ns a)) both.0 one.countable);
     })
-    (told-legal r t ns rs stays both.1 (All-tail (IsLegalAdapter r) a rs legal))
+    (told-legal up r t ns rs stays both.1 (All-tail (IsLegalAdapter r) a rs legal))
 
 ---------------------------------------------------------------- one more adapter
 
@@ -157,10 +176,12 @@ attaches : (r : Reading) (rs : List Listed) (c : Command View) → (joins c ≡ 
 attaches r rs (Create c) = inl refl
 attaches r rs (Set n f v) = inl refl
 attaches r rs (Unset n f) = inl refl
-attaches r rs (Attach number target deep view) = inr (record { one = record { no = number; target = target; deep = deep; view = view }; joins_one = refl; early = refl; late = refl; quiet = ap (λ (x : Released). x.others) (releases-quiet rs) })
+attaches r rs (Attach number target deep view) = inr (record { one = record { no = number; target = target; deep = deep; view = view }; joins_one = refl; early = refl; late = refl; quiet = ap (λ (x : Released). x.others) (releases-quiet r.above rs) })
 attaches r rs (Detach number) = inl refl
 attaches r rs (Get n f) = inl refl
 attaches r rs (IsSet n f) = inl refl
+attaches r rs (Container o) = inl refl
+attaches r rs (Contents n) = inl refl
 attaches r rs (Class o) = inl refl
 attaches r rs (AdapterTold number) = inl refl
 attaches r rs (AdapterKept number) = inl refl
@@ -177,7 +198,7 @@ view-countable : (v : View) → view_refusal v ≡ None → v.told + 1 < 2 ^ 64
 view-countable v none = leb-false _ _ (where-none AdapterFull _ none)
 
 node-there : (r : Reading) (n : Node) → node_refusal r n ≡ None → IsTrue (is_there r n)
-node-there r n none = let both = else-none _ _ none in both-true _ _ (unless-none NoObject _ both.0) (unless-none NoResource _ both.1)
+node-there r n none = let both = none-else_by _ _ none in both-true _ _ (none-unless NoObject _ both.0) (none-unless NoResource _ both.1)
 
 ---------------------------------------------------------------- a command that nothing refuses
 
@@ -195,7 +216,7 @@ joined-legal r t rs c stays early late legal = by (attaches r rs c)
     by (inr j) =
         let one = j.one in
         let target = node-there r one.target (sym j.early ∙ early) in
-        let free = else-none _ _ (sym j.late ∙ late) in
+        let free = none-else_by _ _ (sym j.late ∙ late) in
         let room = list-free rs one.no free.0 in
         let before : AreLegal t rs = subst (AreLegal t) j.quiet legal in
         rw (j.joins_one, j.quiet) (record {
@@ -210,14 +231,15 @@ done-legal s c legal free =
     let t = reading (model_after s.model c) in
     let rs = s.adapters in
     let ns = chain r c in
-    let first = else-none _ _ free in
-    let later = else-none _ _ first.1 in
-    let told = tell_chain ns rs in
+    let first = none-else_by _ _ free in
+    let later = none-else_by _ _ first.1 in
+    let up = r.above in
+    let told = tell_chain up ns rs in
     let as_many : length told ≡ length rs = length-map rs _ in
     let adapters = joined-legal r t rs c (keeps-node s c) first.0 later.0 (record {
       few = omega (arith, others-few [] told (leaves c), as_many, legal.few);
-      distinct = others-distinct [] told (leaves c) (rw (numbers-tell_chain ns rs) legal.distinct);
-      adapters = others-all (IsLegalAdapter t) [] told (leaves c) (All-nil (IsLegalAdapter t)) (told-legal r t ns rs (keeps-node s c) (where-none AdapterFull _ later.1) legal.adapters);
+      distinct = others-distinct [] told (leaves c) (rw (numbers-tell_chain up ns rs) legal.distinct);
+      adapters = others-all (IsLegalAdapter t) [] told (leaves c) (All-nil (IsLegalAdapter t)) (told-legal up r t ns rs (keeps-node s c) (where-none AdapterFull _ later.1) legal.adapters);
     }) in
     record { model = model-legal s c legal.model first.0 later.0; few = adapters.few; distinct = adapters.distinct; adapters = adapters.adapters }
 

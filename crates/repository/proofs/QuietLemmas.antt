@@ -5,53 +5,53 @@ use Rattle.mm_types.specs.Conditions.{◌else_by◌, ◌where_so◌}
 use Rattle.mm_types.specs.declared.refused.Refused.{Refused}
 use Rattle.mm_types.specs.declared.refused.Refused.TheVariants.{AdapterFull}
 use Rattle.notice_chain.specs.View.{View}
-use Rattle.notice_chain.specs.Listed.{Listed, is_chain_full, tell_chain}
+use Rattle.notice_chain.specs.Listed.{Above, Listed, is_chain_full, tell_chain}
 use Rattle.notice_chain.specs.Released.{Released, released}
 use Rattle.mm_types.specs.declared.numbers.AdapterNo.{AdapterNo}
 use Rattle.mm_types.specs.declared.numbers.FeatureNo.{FeatureNo}
 use Rattle.mm_types.specs.declared.numbers.Node.{Node}
 use Rattle.mm_types.specs.declared.numbers.ObjectNo.{ObjectNo}
-use Rattle.handshake.specs.Named.{feature_refusal, object_refusal}
+use Rattle.handshake.specs.Named.{feature_refusal, node_refusal, object_refusal}
 use Rattle.models.specs.Model.{Model}
 use Rattle.repository.specs.Answers.{answer_of}
 use Rattle.repository.specs.Refusals.{adapter_refusal}
 use Rattle.repository.specs.State.{State, reads}
 use Rattle.repository.specs.Step.{Stepped, step, step_unless}
 use Rattle.repository.specs.declared.command.Command.{Command}
-use Rattle.repository.specs.declared.command.Command.TheVariants.{AdapterKept, AdapterTold, Class, Get, IsSet}
+use Rattle.repository.specs.declared.command.Command.TheVariants.{AdapterKept, AdapterTold, Class, Container, Contents, Get, IsSet}
 use Rattle.repository.specs.declared.reply.Answer.{Answer}
 use Rattle.repository.proofs.AdapterLemmas.{is_chain_full-nil, released-nobody, tell_chain-nil}
 
-pub releases-quiet : (rs : List Listed) → released (λ a. false) (tell_chain [] rs) ≡ record { told = []; views = []; others = rs }
-releases-quiet rs = ap (released (λ a. false)) (tell_chain-nil rs) ∙ released-nobody rs
+pub releases-quiet : (up : Above) (rs : List Listed) → released (λ a. false) (tell_chain up [] rs) ≡ record { told = []; views = []; others = rs }
+releases-quiet up rs = ap (released (λ a. false)) (tell_chain-nil up rs) ∙ released-nobody rs
 
 -- what is done by a command that tells nothing, releases nobody, and attaches these
-pub done_quiet : (m : Model) (rs js : List Listed) (a : Answer) → (let x : Released = released (λ a. false) (tell_chain [] rs) in let y : Stepped = record {
+pub done_quiet : (up : Above) (m : Model) (rs js : List Listed) (a : Answer) → (let x : Released = released (λ a. false) (tell_chain up [] rs) in let y : Stepped = record {
   outcome = Ok (record { answer = a; told = x.told; released = x.views });
   after = record { model = m; adapters = x.others ++ js };
 } in y) ≡ record {
   outcome = Ok (record { answer = a; told = []; released = [] });
   after = record { model = m; adapters = rs ++ js };
 }
-done_quiet m rs js a = ap (λ (x : Released). let y : Stepped = record {
+done_quiet up m rs js a = ap (λ (x : Released). let y : Stepped = record {
   outcome = Ok (record { answer = a; told = x.told; released = x.views });
   after = record { model = m; adapters = x.others ++ js };
-} in y) (releases-quiet rs)
+} in y) (releases-quiet up rs)
 
 -- and by a read
-pub done_read : (s : State) (a : Answer) → (let x : Released = released (λ a. false) (tell_chain [] s.adapters) in let y : Stepped = record {
+pub done_read : (s : State) (a : Answer) → (let x : Released = released (λ a. false) (tell_chain (reads s).above [] s.adapters) in let y : Stepped = record {
   outcome = Ok (record { answer = a; told = x.told; released = x.views });
   after = record { model = s.model; adapters = x.others ++ [] };
 } in y) ≡ record { outcome = Ok (record { answer = a; told = []; released = [] }); after = s }
-done_read s a = done_quiet s.model s.adapters [] a ∙ ap (λ (rs : List Listed). let y : Stepped = record {
+done_read s a = done_quiet (reads s).above s.model s.adapters [] a ∙ ap (λ (rs : List Listed). let y : Stepped = record {
   outcome = Ok (record { answer = a; told = []; released = [] });
   after = record { model = s.model; adapters = rs };
 } in y) (append-nil s.adapters)
 
 -- no adapter is too full for a chain of no notices
-pub refusal_quiet : (o : Option Refused) (rs : List Listed) → (o else_by (AdapterFull where_so is_chain_full [] rs)) ≡ o
-refusal_quiet (Some r) rs = refl
-refusal_quiet None rs = rw (is_chain_full-nil rs) refl
+pub refusal_quiet : (up : Above) (o : Option Refused) (rs : List Listed) → (o else_by (AdapterFull where_so is_chain_full up [] rs)) ≡ o
+refusal_quiet up (Some r) rs = refl
+refusal_quiet up None rs = rw (is_chain_full-nil up rs) refl
 
 ---------------------------------------------------------------- reads that nothing refuses
 
@@ -60,16 +60,22 @@ abbrev pub answered : State → Command View → Stepped
 answered s c = record { outcome = Ok (record { answer = answer_of (reads s) s.adapters c; told = []; released = [] }); after = s }
 
 pub get_done : (s : State) (n : Node) (f : FeatureNo) → feature_refusal (reads s) n f ≡ None → step s (Get n f) ≡ answered s (Get n f)
-get_done s n f none = ap (step_unless s (Get n f)) (refusal_quiet (feature_refusal (reads s) n f) s.adapters ∙ none) ∙ done_read s (answer_of (reads s) s.adapters (Get n f))
+get_done s n f none = ap (step_unless s (Get n f)) (refusal_quiet (reads s).above (feature_refusal (reads s) n f) s.adapters ∙ none) ∙ done_read s (answer_of (reads s) s.adapters (Get n f))
 
 pub is_set_done : (s : State) (n : Node) (f : FeatureNo) → feature_refusal (reads s) n f ≡ None → step s (IsSet n f) ≡ answered s (IsSet n f)
-is_set_done s n f none = ap (step_unless s (IsSet n f)) (refusal_quiet (feature_refusal (reads s) n f) s.adapters ∙ none) ∙ done_read s (answer_of (reads s) s.adapters (IsSet n f))
+is_set_done s n f none = ap (step_unless s (IsSet n f)) (refusal_quiet (reads s).above (feature_refusal (reads s) n f) s.adapters ∙ none) ∙ done_read s (answer_of (reads s) s.adapters (IsSet n f))
+
+pub container_done : (s : State) (o : ObjectNo) → object_refusal (reads s) o ≡ None → step s (Container o) ≡ answered s (Container o)
+container_done s o none = ap (step_unless s (Container o)) (refusal_quiet (reads s).above (object_refusal (reads s) o) s.adapters ∙ none) ∙ done_read s (answer_of (reads s) s.adapters (Container o))
+
+pub contents_done : (s : State) (n : Node) → node_refusal (reads s) n ≡ None → step s (Contents n) ≡ answered s (Contents n)
+contents_done s n none = ap (step_unless s (Contents n)) (refusal_quiet (reads s).above (node_refusal (reads s) n) s.adapters ∙ none) ∙ done_read s (answer_of (reads s) s.adapters (Contents n))
 
 pub class_done : (s : State) (o : ObjectNo) → object_refusal (reads s) o ≡ None → step s (Class o) ≡ answered s (Class o)
-class_done s o none = ap (step_unless s (Class o)) (refusal_quiet (object_refusal (reads s) o) s.adapters ∙ none) ∙ done_read s (answer_of (reads s) s.adapters (Class o))
+class_done s o none = ap (step_unless s (Class o)) (refusal_quiet (reads s).above (object_refusal (reads s) o) s.adapters ∙ none) ∙ done_read s (answer_of (reads s) s.adapters (Class o))
 
 pub told_done : (s : State) (no : AdapterNo) → adapter_refusal s.adapters no ≡ None → step s (AdapterTold no) ≡ answered s (AdapterTold no)
-told_done s number none = ap (step_unless s (AdapterTold number)) (refusal_quiet (adapter_refusal s.adapters number) s.adapters ∙ none) ∙ done_read s (answer_of (reads s) s.adapters (AdapterTold number))
+told_done s number none = ap (step_unless s (AdapterTold number)) (refusal_quiet (reads s).above (adapter_refusal s.adapters number) s.adapters ∙ none) ∙ done_read s (answer_of (reads s) s.adapters (AdapterTold number))
 
 pub kept_done : (s : State) (no : AdapterNo) → adapter_refusal s.adapters no ≡ None → step s (AdapterKept no) ≡ answered s (AdapterKept no)
-kept_done s number none = ap (step_unless s (AdapterKept number)) (refusal_quiet (adapter_refusal s.adapters number) s.adapters ∙ none) ∙ done_read s (answer_of (reads s) s.adapters (AdapterKept number))
+kept_done s number none = ap (step_unless s (AdapterKept number)) (refusal_quiet (reads s).above (adapter_refusal s.adapters number) s.adapters ∙ none) ∙ done_read s (answer_of (reads s) s.adapters (AdapterKept number))

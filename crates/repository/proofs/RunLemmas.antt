@@ -2,7 +2,7 @@
 use Rattle.std.proofs.Common.{◌≡◌, Bool, true, false, List, [], ◌∷◌, ◌++◌, Option, Some, None, Ok, Err, refl, sym, ap, subst, ◌∙◌, if◌then◌else◌}
 use Rattle.std.specs.Prelude.{MatchBool}
 use Rattle.repository.specs.declared.command.Command.{Command}
-use Rattle.repository.specs.declared.command.Command.TheVariants.{Create, Set, Unset, Attach, Detach, Get, IsSet, Class, AdapterTold, AdapterKept}
+use Rattle.repository.specs.declared.command.Command.TheVariants.{Create, Set, Unset, Attach, Detach, Get, IsSet, Container, Contents, Class, AdapterTold, AdapterKept}
 use Rattle.repository.specs.State.{State}
 use Rattle.notice_chain.specs.View.{View}
 use Rattle.repository.specs.Views.{Outcome, brought}
@@ -51,6 +51,8 @@ done-metamodel s (Attach number target deep view) = refl
 done-metamodel s (Detach number) = refl
 done-metamodel s (Get n f) = refl
 done-metamodel s (IsSet n f) = refl
+done-metamodel s (Container o) = refl
+done-metamodel s (Contents n) = refl
 done-metamodel s (Class o) = refl
 done-metamodel s (AdapterTold number) = refl
 done-metamodel s (AdapterKept number) = refl

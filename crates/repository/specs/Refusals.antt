@@ -27,6 +27,8 @@ change_of (command.Attach number target deep view) = None
 change_of (command.Detach number) = None
 change_of (command.Get n f) = None
 change_of (command.IsSet n f) = None
+change_of (command.Container o) = None
+change_of (command.Contents n) = None
 change_of (command.Class o) = None
 change_of (command.AdapterTold number) = None
 change_of (command.AdapterKept number) = None
@@ -48,6 +50,8 @@ early_refusal r rs (command.Attach number target deep view) = node_refusal r tar
 early_refusal r rs (command.Detach number) = adapter_refusal rs number
 early_refusal r rs (command.Get n f) = feature_refusal r n f
 early_refusal r rs (command.IsSet n f) = feature_refusal r n f
+early_refusal r rs (command.Container o) = object_refusal r o
+early_refusal r rs (command.Contents n) = node_refusal r n
 early_refusal r rs (command.Class o) = object_refusal r o
 early_refusal r rs (command.AdapterTold number) = adapter_refusal rs number
 early_refusal r rs (command.AdapterKept number) = adapter_refusal rs number
@@ -63,13 +67,15 @@ late_refusal r rs (command.Attach number target deep view) = attach_refusal rs n
 late_refusal r rs (command.Detach number) = None
 late_refusal r rs (command.Get n f) = None
 late_refusal r rs (command.IsSet n f) = None
+late_refusal r rs (command.Container o) = None
+late_refusal r rs (command.Contents n) = None
 late_refusal r rs (command.Class o) = None
 late_refusal r rs (command.AdapterTold number) = None
 late_refusal r rs (command.AdapterKept number) = None
 
 -- an adapter that hears of it can't count on
 abbrev pub full_refusal : Reading → List Listed → Command View → Option Refused
-full_refusal r rs c = AdapterFull where_so is_chain_full (chain r c) rs
+full_refusal r rs c = AdapterFull where_so is_chain_full r.above (chain r c) rs
 
 abbrev pub refusal : Reading → List Listed → Command View → Option Refused
 refusal r rs c = early_refusal r rs c else_by late_refusal r rs c else_by full_refusal r rs c

@@ -39,6 +39,8 @@ leaves (command.Attach number target deep view) a = false
 leaves (command.Detach number) a = has_no number a
 leaves (command.Get n f) a = false
 leaves (command.IsSet n f) a = false
+leaves (command.Container o) a = false
+leaves (command.Contents n) a = false
 leaves (command.Class o) a = false
 leaves (command.AdapterTold number) a = false
 leaves (command.AdapterKept number) a = false
@@ -52,19 +54,21 @@ joins (command.Attach number target deep view) = record { no = number; target = 
 joins (command.Detach number) = []
 joins (command.Get n f) = []
 joins (command.IsSet n f) = []
+joins (command.Container o) = []
+joins (command.Contents n) = []
 joins (command.Class o) = []
 joins (command.AdapterTold number) = []
 joins (command.AdapterKept number) = []
 
--- the chain is told to those that hear it, and then those that leave are told their last notice
+-- the chain is told to those that hear it by what is above the notifiers before the command, and then those that leave are told their last notice
 abbrev pub releases : Reading → List Listed → Command View → Released
-releases r rs c = released (leaves c) (tell_chain (chain r c) rs)
+releases r rs c = released (leaves c) (tell_chain r.above (chain r c) rs)
 
 abbrev pub reply : Reading → List Listed → Command View → Reply View
 reply r rs c =
     record {
       answer = answer_of r rs c;
-      told = told_list (chain r c) rs ++ (releases r rs c).told;
+      told = told_list r.above (chain r c) rs ++ (releases r rs c).told;
       released = (releases r rs c).views;
     }
 

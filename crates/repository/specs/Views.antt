@@ -28,6 +28,8 @@ brought (command.Attach number target deep adapter) = Some adapter
 brought (command.Detach number) = None
 brought (command.Get n f) = None
 brought (command.IsSet n f) = None
+brought (command.Container o) = None
+brought (command.Contents n) = None
 brought (command.Class o) = None
 brought (command.AdapterTold number) = None
 brought (command.AdapterKept number) = None
@@ -41,6 +43,8 @@ module _ {A : Type 0} (heard : A → View) where
   command_view (command.Detach number) = command.Detach number
   command_view (command.Get n f) = command.Get n f
   command_view (command.IsSet n f) = command.IsSet n f
+  command_view (command.Container o) = command.Container o
+  command_view (command.Contents n) = command.Contents n
   command_view (command.Class o) = command.Class o
   command_view (command.AdapterTold number) = command.AdapterTold number
   command_view (command.AdapterKept number) = command.AdapterKept number

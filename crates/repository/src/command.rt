@@ -38,6 +38,10 @@ pub enum Command<A = Box<dyn Adapter>> {
         node: Node,
         feature: FeatureNo,
     },
+    /// Asks for the object that contains an object (EMF: EObject.eContainer; MOF 2.5.1: Reflection, Object.container).
+    Container(ObjectNo),
+    /// Asks for the objects that a node directly contains (EMF: EObject.eContents).
+    Contents(Node),
     /// Asks for the class of an object (EMF: EObject.eClass; MOF 2.5.1: Reflection, Element.getMetaClass).
     Class(ObjectNo),
     /// Asks how many notices an adapter was told.

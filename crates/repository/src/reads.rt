@@ -6,7 +6,7 @@ ghost use Rattle.repository.specs.Views.{changed_view, outcome_view};
 ghost use Rattle.repository.specs.declared.reply.Answer.TheVariants as answer;
 
 use crate::reply::{Answer, Failure, Reply};
-use mm_types::{ClassNo, Refused, Seq, Value};
+use mm_types::{ClassNo, ObjectNo, Refused, Seq, Value};
 use std::alloc::Global;
 
 /// An answer, as the reply of a command that notifies nobody. Takes no memory.
@@ -48,6 +48,28 @@ pub(crate) fn replied_class<A>(
 {
     let class = read?;
     Ok(reply(alloc, Answer::Class(class)))
+}
+
+/// The object that contains another, if one does, as a reply.
+pub(crate) fn replied_container<A>(
+    alloc: Global,
+    read: Result<Option<ObjectNo>, Refused>,
+) -> Result<Reply<A>, Refused>
+    ensures { (heard : A → View) → change_outcome (changed_view heard result) ≡ read_outcome answer.Container read }
+{
+    let container = read?;
+    Ok(reply(alloc, Answer::Container(container)))
+}
+
+/// The objects that a node contains, as a reply.
+pub(crate) fn replied_objects<A>(
+    alloc: Global,
+    read: Result<Seq<ObjectNo>, Refused>,
+) -> Result<Reply<A>, Refused>
+    ensures { (heard : A → View) → change_outcome (changed_view heard result) ≡ read_outcome answer.Objects read }
+{
+    let objects = read?;
+    Ok(reply(alloc, Answer::Objects(objects)))
 }
 
 /// What is counted of an adapter, as a reply.

@@ -18,6 +18,10 @@ pub enum Answer {
     Class(ClassNo),
     /// How many notices an adapter was told, or keeps.
     Count(u64),
+    /// The object that contains another, if one does.
+    Container(Option<ObjectNo>),
+    /// The objects that a node contains.
+    Objects(Seq<ObjectNo>),
 }
 
 /// What a command that is done gives.

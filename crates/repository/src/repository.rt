@@ -9,48 +9,55 @@ mod reads;
 
 use adapter_list::AdapterList;
 use adapters::Adapter;
+use link_store::LinkStore;
 use mm_meta::Meta;
 use mm_values::Values;
+use models::ModelRef;
 use std::alloc::Global;
 use std::marker::Model;
 
-/// Objects of a metamodel's classes with what they hold, and the adapters that are notified of their changes (EMF: Resource
+/// Objects of a metamodel's classes with what they hold, their links in a store, and the adapters that are notified of their changes (EMF: Resource
 /// with EObjects; MOF 2.5.1: Extent).
 ///
 /// A command that is refused changes nothing and notifies nobody. Contracts see a repository as its `State`, which is always
-/// legal. Code that holds a repository is generic over the kind of its adapters; only the outermost caller picks one, mostly
-/// `Box<dyn Adapter>`. A repository that is dropped drops its adapters without a notice; `close` gives them back.
+/// legal. Code that holds a repository is generic over its store and the kind of its adapters; only the outermost caller picks
+/// them, mostly `Box<dyn Adapter>`. A repository that is dropped drops its adapters without a notice; `close` gives them back.
 #[derive(Drop)]
-pub struct Repository<A: Adapter = Box<dyn Adapter>> {
+pub struct Repository<L: LinkStore, A: Adapter = Box<dyn Adapter>> {
     alloc: Global,
     meta: Meta,
     values: Values,
+    store: L,
     adapters: AdapterList<A>,
 }
 
-impl<A: Adapter> Model for Repository<A> {
-    ghost use Rattle.repository.specs.State.{State};
+impl<L: LinkStore, A: Adapter> Model for Repository<L, A> {
     ghost use Rattle.std.specs.Coded.{codes};
-    ghost use Rattle.repository.specs.Repository.{state, IsLegalInside, coded_map};
+    ghost use Rattle.link_store.specs.Links.{coded_links};
+    ghost use Rattle.models.specs.Model.{coded_map};
+    ghost use Rattle.repository.specs.State.{State};
+    ghost use Rattle.repository.specs.Repository.{state, IsLegalInside};
 
     ghost Value = { State };
 
-    ghost coded = { Prim.hlevel (codes, coded_map) };
+    ghost coded = { Prim.hlevel (codes, coded_map, coded_links) };
 
-    ghost view = { state };
+    ghost view = { state L.links };
 
-    ghost invariant = { IsLegalInside };
+    ghost invariant = { IsLegalInside L.links L.kinds };
 }
 
-impl<A: Adapter> Repository<A> {
+impl<L: LinkStore, A: Adapter> Repository<L, A> {
     /// An empty repository of a metamodel, with no adapters. Takes no memory.
     pub fn new(alloc: Global, meta: Meta) -> Self
         ensures { result ≡ s.empty_state meta }
     {
+        meta.is_of_document();
         Repository {
             alloc,
             meta,
             values: Values::new(alloc),
+            store: L::empty(alloc),
             adapters: AdapterList::new(alloc),
         }
     }
@@ -60,6 +67,13 @@ impl<A: Adapter> Repository<A> {
         ensures { result.now ≡ self.now.model.metamodel }
     {
         &self.meta
+    }
+
+    /// Its model: the metamodel, the values and the links. Takes no memory.
+    pub(crate) fn model(&self) -> ModelRef<'_, L>
+        ensures { result ≡ self.now.model }
+    {
+        ModelRef::new(&self.meta, &self.values, &self.store)
     }
 
     /// What holds of every repository, for proofs that know it by its view: its state is legal.

@@ -17,6 +17,14 @@ new_form c = option_map asks.New (name_in c)
 abbrev pub class_form : List ℕ → Option Form
 class_form o = option_map asks.Class (object_in o)
 
+-- `container OBJ`
+abbrev pub container_form : List ℕ → Option Form
+container_form o = option_map asks.Container (object_in o)
+
+-- `contents NODE`
+abbrev pub contents_form : List ℕ → Option Form
+contents_form n = option_map asks.Contents (node_in n)
+
 -- `detach AD`
 abbrev pub detach_form : List ℕ → Option Form
 detach_form a = option_map asks.Detach (adapter_in a)
@@ -54,6 +62,8 @@ abbrev pub with_one : List ℕ → List ℕ → Option Form
 with_one verb a =
     if bytes_eq verb (codes "new") then new_form a
     else if bytes_eq verb (codes "class") then class_form a
+    else if bytes_eq verb (codes "container") then container_form a
+    else if bytes_eq verb (codes "contents") then contents_form a
     else if bytes_eq verb (codes "detach") then detach_form a
     else if bytes_eq verb (codes "seen") then seen_form a
     else None

@@ -34,6 +34,10 @@ pub enum Form<'a> {
         node: Node,
         feature: Name<'a>,
     },
+    /// The object that contains an object (EMF: EObject.eContainer).
+    Container(ObjectNo),
+    /// The objects that a node directly contains (EMF: EObject.eContents).
+    Contents(Node),
     /// The class of an object (EMF: EObject.eClass).
     Class(ObjectNo),
     /// What a feature holds (EMF: EObject.eGet).

@@ -1,6 +1,6 @@
 //! What a line asks for: its words, and the form that they fit.
 ghost use Rattle.std.specs.Prelude.{◌≡◌, IfOk, map};
-ghost use Rattle.script_lines.specs.Forms.{attach_form, class_form, depth_in, detach_form, form, form_of as the_form_of, get_form, isset_form, line_of as the_line_of, new_form, seen_form, set_form, unset_form, with_one, with_three, with_two};
+ghost use Rattle.script_lines.specs.Forms.{attach_form, class_form, container_form, contents_form, depth_in, detach_form, form, form_of as the_form_of, get_form, isset_form, line_of as the_line_of, new_form, seen_form, set_form, unset_form, with_one, with_three, with_two};
 
 use crate::form::Form;
 use crate::line::Line;
@@ -22,6 +22,20 @@ fn class_of(object: &str) -> Option<Form<'static>>
     ensures { result ≡ class_form object.now }
 {
     Some(Form::Class(object_of(object)?))
+}
+
+/// `container OBJ`
+fn container_of(object: &str) -> Option<Form<'static>>
+    ensures { result ≡ container_form object.now }
+{
+    Some(Form::Container(object_of(object)?))
+}
+
+/// `contents NODE`
+fn contents_of(node: &str) -> Option<Form<'static>>
+    ensures { result ≡ contents_form node.now }
+{
+    Some(Form::Contents(node_of(node)?))
 }
 
 /// `detach AD`
@@ -112,6 +126,10 @@ fn with_one_of<'a>(verb: &str, a: &'a str) -> Option<Form<'a>>
         new_of(a)
     } else if verb == "class" {
         class_of(a)
+    } else if verb == "container" {
+        container_of(a)
+    } else if verb == "contents" {
+        contents_of(a)
     } else if verb == "detach" {
         detach_of(a)
     } else if verb == "seen" {

@@ -1,5 +1,5 @@
 -- What is printed for values, nodes, classes and refusals.
-use Rattle.std.specs.Prelude.{ℕ, true, false, List, ◌∷◌, ◌++◌, codes}
+use Rattle.std.specs.Prelude.{ℕ, true, false, List, [], ◌∷◌, ◌++◌, flat_map, Option, Some, None, codes}
 use Rattle.std.specs.Fmt.{decimal, signed_decimal}
 use Rattle.serde_json.specs.Data.{string}
 use Rattle.serde_json.specs.Written.{compact_text}
@@ -9,6 +9,7 @@ use Rattle.mm_types.specs.Resolved.{Metamodel}
 use Rattle.mm_types.specs.declared.document_fault.DocFault.{DocFault}
 use Rattle.mm_types.specs.declared.numbers.AdapterNo.{AdapterNo}
 use Rattle.mm_types.specs.declared.numbers.ClassNo.{ClassNo}
+use Rattle.mm_types.specs.declared.numbers.ObjectNo.{ObjectNo}
 use Rattle.mm_types.specs.declared.numbers.Node.{Node}
 use Rattle.mm_types.specs.declared.numbers.Node.TheVariants as node
 use Rattle.mm_types.specs.declared.refused.Refused.{Refused}
@@ -41,6 +42,20 @@ value_text literal (value.Literal index) = LITERAL_MARK ∷ literal
 value_text literal (value.Object o) = OBJECT_MARK ∷ decimal o.0
 value_text literal (value.Proxy t) = codes "proxy " ++ json_text t
 value_text literal (value.Adapter a) = adapter_text a
+
+-- objects, each behind a space
+abbrev pub spaced_objects : List ObjectNo → List ℕ
+spaced_objects os = flat_map (λ o. SPACE ∷ node_text (node.Object o)) os
+
+-- as `[#1 #4]`
+abbrev pub objects_text : List ObjectNo → List ℕ
+objects_text [] = codes "[]"
+objects_text (o ∷ os) = codes "[" ++ node_text (node.Object o) ++ spaced_objects os ++ codes "]"
+
+-- as `#1`, or `null` where there is none
+abbrev pub container_text : Option ObjectNo → List ℕ
+container_text None = codes "null"
+container_text (Some o) = node_text (node.Object o)
 
 -- as `class Book`
 abbrev pub class_text : Metamodel → ClassNo → List ℕ

@@ -8,7 +8,7 @@ use Rattle.repository.specs.Run.{Executed}
 use Rattle.repository.specs.State.{State}
 use Rattle.repository.specs.Views.{Outcome, brought}
 use Rattle.repository.specs.declared.command.Command.{Command}
-use Rattle.repository.specs.declared.command.Command.TheVariants.{Create, Set, Unset, Attach, Detach, Get, IsSet, Class, AdapterTold, AdapterKept}
+use Rattle.repository.specs.declared.command.Command.TheVariants.{Create, Set, Unset, Attach, Detach, Get, IsSet, Container, Contents, Class, AdapterTold, AdapterKept}
 use Rattle.repository.proofs.RunLemmas.{refused-nothing}
 use Rattle.script_lines.specs.declared.form.Form.{Form}
 use Rattle.script_lines.specs.declared.form.Form.TheVariants as asks
@@ -26,6 +26,8 @@ undone before (Attach number target deep view) h = put-back before number view (
 undone before (Detach number) h = refl
 undone before (Get n f) h = refl
 undone before (IsSet n f) h = refl
+undone before (Container o) h = refl
+undone before (Contents n) h = refl
 undone before (Class o) h = refl
 undone before (AdapterTold number) h = refl
 undone before (AdapterKept number) h = refl
@@ -48,5 +50,7 @@ bind-given s (asks.Attach number target deep) =
 bind-given s (asks.Detach number) = All-nil (λ (a : Listed). box_of s.pool a.no ≡ Ok a.view)
 bind-given s (asks.Get n feature) = All-nil (λ (a : Listed). box_of s.pool a.no ≡ Ok a.view)
 bind-given s (asks.IsSet n feature) = All-nil (λ (a : Listed). box_of s.pool a.no ≡ Ok a.view)
+bind-given s (asks.Container o) = All-nil (λ (a : Listed). box_of s.pool a.no ≡ Ok a.view)
+bind-given s (asks.Contents n) = All-nil (λ (a : Listed). box_of s.pool a.no ≡ Ok a.view)
 bind-given s (asks.Class o) = All-nil (λ (a : Listed). box_of s.pool a.no ≡ Ok a.view)
 bind-given s (asks.Seen number) = tt

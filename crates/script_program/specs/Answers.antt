@@ -18,7 +18,7 @@ use Rattle.repository.specs.declared.reply.Answer.TheVariants as answer
 use Rattle.script_lines.specs.declared.grammar.TheConstants.{NEWLINE}
 use Rattle.script_output.specs.Names.{literal_name}
 use Rattle.script_output.specs.Notified.{notice_text, released_text}
-use Rattle.script_output.specs.Printed.{class_text, node_text, refused_text, value_text}
+use Rattle.script_output.specs.Printed.{class_text, container_text, node_text, objects_text, refused_text, value_text}
 use Rattle.script_program.specs.declared.bind.TheConstants.{NOTHING}
 
 -- the feature that a command names; one of no metamodel where it names none
@@ -30,6 +30,8 @@ feature_of (command.IsSet n f) = f
 feature_of (command.Create c) = record { 0 = NOTHING }
 feature_of (command.Attach number target deep view) = record { 0 = NOTHING }
 feature_of (command.Detach number) = record { 0 = NOTHING }
+feature_of (command.Container o) = record { 0 = NOTHING }
+feature_of (command.Contents n) = record { 0 = NOTHING }
 feature_of (command.Class o) = record { 0 = NOTHING }
 feature_of (command.AdapterTold number) = record { 0 = NOTHING }
 feature_of (command.AdapterKept number) = record { 0 = NOTHING }
@@ -43,6 +45,8 @@ answer_text m f (answer.Flag true) = codes "true"
 answer_text m f (answer.Flag false) = codes "false"
 answer_text m f (answer.Class c) = class_text m c
 answer_text m f (answer.Count n) = decimal n
+answer_text m f (answer.Container o) = container_text o
+answer_text m f (answer.Objects os) = objects_text os
 
 abbrev pub answer_line : Metamodel → FeatureNo → Answer → List ℕ
 answer_line m f a = answer_text m f a ++ NEWLINE ∷ []

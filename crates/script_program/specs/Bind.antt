@@ -64,6 +64,8 @@ bind s (asks.Attach number target deep) = attach_request (box_of s.pool number) 
 bind s (asks.Detach number) = request.Execute (command.Detach number)
 bind s (asks.Get n feature) = request.Execute (command.Get n (feature_number s.state n feature))
 bind s (asks.IsSet n feature) = request.Execute (command.IsSet n (feature_number s.state n feature))
+bind s (asks.Container o) = request.Execute (command.Container o)
+bind s (asks.Contents n) = request.Execute (command.Contents n)
 bind s (asks.Class o) = request.Execute (command.Class o)
 bind s (asks.Seen number) = request.Seen number
 

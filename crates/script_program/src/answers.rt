@@ -1,5 +1,7 @@
 //! What is printed for a command.
-ghost use Rattle.std.specs.Prelude.{◌≡◌, ◌++◌, OnOk, map};
+ghost use Rattle.std.specs.Prelude.{◌≡◌, ◌++◌, OnOk, map, option_map, unwrap_or};
+ghost use Rattle.mm_types.specs.declared.value.Value.TheVariants.{Null};
+ghost use Rattle.models.specs.Found.{found_value};
 ghost use Rattle.notice_chain.specs.View.{View};
 ghost use Rattle.repository.specs.Views.{command_view, outcome_view};
 ghost use Rattle.script_program.specs.Answers as a;
@@ -8,6 +10,7 @@ use crate::bind::NOTHING;
 use adapters::Adapter;
 use mm_meta::Meta;
 use mm_types::{AdapterNo, FeatureNo, Node, Refused, Value};
+use models::Found;
 use notice_chain::Notice;
 use repository::{Answer, Command, Failure, Reply};
 use script_output::{Output, literal_name};
@@ -42,11 +45,28 @@ fn print_answer(
         Answer::Flag(false) => output.text("false"),
         Answer::Class(class) => output.class(meta, *class),
         Answer::Count(count) => output.natural(*count),
+        Answer::Container(container) => output.container(*container),
+        Answer::Objects(objects) => output.objects(objects.as_slice()),
     }
 }
 
-/// Adds the line that a read of a feature prints.
-pub(crate) fn print_value(
+/// Adds the line that a read of a feature prints; `None` stands for null.
+pub(crate) fn print_found(
+    output: &mut Output,
+    meta: &Meta,
+    feature: FeatureNo,
+    found: Option<Found<'_>>,
+) -> Result<(), AllocError>
+    ensures ok { OnOk result (output.new ≡ output.old ++ a.read_text meta.now feature (unwrap_or (option_map found_value found.entry) Null)) }
+{
+    match found {
+        Some(Found::Kept(value)) => print_value(output, meta, feature, value),
+        Some(Found::Object(object)) => print_value(output, meta, feature, &Value::Object(object)),
+        None => print_value(output, meta, feature, &Value::Null),
+    }
+}
+
+fn print_value(
     output: &mut Output,
     meta: &Meta,
     feature: FeatureNo,

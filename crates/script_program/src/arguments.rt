@@ -21,6 +21,8 @@ from standard input, and what each of its lines answers is printed on standard o
   unset #0 name          takes a feature back to its default: ok
   isset #0 name          whether a feature is set: false
   class #0               the class of an object: class Book
+  container #0           the object that contains an object: #3, or null
+  contents #0            the objects that an object contains: [#1 #2]
   attach A1 #0 flat      attaches an adapter, one of A1 to A8, which is notified of changes
   detach A1              detaches it: a line for its last notice, and one for what it heard
   seen A1                how many notices it was told and keeps: seen 3 kept 3

@@ -7,6 +7,7 @@ ghost use Rattle.script_program.specs.Session.{session};
 use crate::pool::Pool;
 use crate::request::Request;
 use adapters::Adapter;
+use link_store::LinkStore;
 use mm_meta::Meta;
 use mm_types::{AdapterNo, ClassNo, FeatureNo, Node, Value};
 use repository::{Command, Repository};
@@ -19,8 +20,8 @@ pub(crate) const NOTHING: u32 = u32::MAX;
 /// What a form asks for: the names of classes, features and literals are looked up in the metamodel, and the adapter to be
 /// attached is taken out of the pool. A name that is not there gets the number `NOTHING`, so that the repository refuses the
 /// command. Takes no memory.
-pub(crate) fn bind<A: Adapter>(
-    repository: &Repository<A>,
+pub(crate) fn bind<L: LinkStore, A: Adapter>(
+    repository: &Repository<L, A>,
     pool: &mut Pool<A>,
     form: Form<'_>,
 ) -> Request<A>
@@ -54,6 +55,8 @@ pub(crate) fn bind<A: Adapter>(
             let feature = feature_number(repository, node, feature.as_str());
             Request::Execute(Command::IsSet { node, feature })
         }
+        Form::Container(object) => Request::Execute(Command::Container(object)),
+        Form::Contents(node) => Request::Execute(Command::Contents(node)),
         Form::Class(object) => Request::Execute(Command::Class(object)),
         Form::Seen(no) => Request::Seen(no),
     }
@@ -100,7 +103,11 @@ fn class_number(meta: &Meta, name: &str) -> ClassNo
     meta.class_by_name(name).unwrap_or(ClassNo(NOTHING))
 }
 
-fn feature_number<A: Adapter>(repository: &Repository<A>, node: Node, name: &str) -> FeatureNo
+fn feature_number<L: LinkStore, A: Adapter>(
+    repository: &Repository<L, A>,
+    node: Node,
+    name: &str,
+) -> FeatureNo
     ensures { result ≡ b.feature_number repository.now node name.now }
 {
     match node {

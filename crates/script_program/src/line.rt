@@ -10,13 +10,14 @@ ghost use Rattle.script_program.specs.Script.{RunsCommand, RunsLine, RunsRequest
 ghost use Rattle.script_program.specs.Session.{IsBrought, brought_no, session, taken};
 ghost use Rattle.script_program.specs.Turns.{outcome_turn, printed};
 
-use crate::answers::{feature_of, print_outcome, print_refusal, print_value};
+use crate::answers::{feature_of, print_found, print_outcome, print_refusal};
 use crate::bind::bind;
 use crate::pool::Pool;
 use crate::request::Request;
 use crate::turn::Turn;
 use adapters::Adapter;
-use mm_types::{AdapterNo, FeatureNo, Node, Refused, Value};
+use link_store::LinkStore;
+use mm_types::{AdapterNo, FeatureNo, Node, Refused};
 use repository::{Command, Failure, Reply, Repository};
 use script_lines::{Line, parse_line};
 use script_output::Output;
@@ -49,8 +50,8 @@ fn number_of<A>(command: &Command<A>) -> Option<AdapterNo>
 }
 
 /// Reads a feature and prints its value from where it is kept. Errs where memory is refused for what is printed.
-fn run_get<A: Adapter>(
-    repository: &Repository<A>,
+fn run_get<L: LinkStore, A: Adapter>(
+    repository: &Repository<L, A>,
     output: &mut Output,
     node: Node,
     feature: FeatureNo,
@@ -61,8 +62,7 @@ fn run_get<A: Adapter>(
 {
     match repository.value(node, feature) {
         Ok(value) => {
-            let value = value.unwrap_or(&Value::Null);
-            print_value(output, repository.meta(), feature, value)?;
+            print_found(output, repository.meta(), feature, value)?;
             Ok(Turn::Done)
         }
         Err(refused) => {
@@ -73,8 +73,8 @@ fn run_get<A: Adapter>(
 }
 
 /// Prints what an adapter has heard. Errs where memory is refused for what is printed.
-fn run_seen<A: Adapter>(
-    repository: &Repository<A>,
+fn run_seen<L: LinkStore, A: Adapter>(
+    repository: &Repository<L, A>,
     output: &mut Output,
     no: AdapterNo,
 ) -> Result<Turn, AllocError>
@@ -96,8 +96,8 @@ fn run_seen<A: Adapter>(
 
 /// Executes a command, whose adapter is out of the pool, and prints what it answers. What is released, or not attached, goes back
 /// to the pool. Errs where memory is refused for what is printed.
-fn run_command<A: Adapter>(
-    repository: &mut Repository<A>,
+fn run_command<L: LinkStore, A: Adapter>(
+    repository: &mut Repository<L, A>,
     pool: &mut Pool<A>,
     output: &mut Output,
     command: Command<A>,
@@ -117,8 +117,8 @@ fn run_command<A: Adapter>(
 }
 
 /// Does what a form asks for, and prints what it answers. Errs where memory is refused for what is printed.
-fn run_request<A: Adapter>(
-    repository: &mut Repository<A>,
+fn run_request<L: LinkStore, A: Adapter>(
+    repository: &mut Repository<L, A>,
     pool: &mut Pool<A>,
     output: &mut Output,
     request: Request<A>,
@@ -145,9 +145,9 @@ fn run_request<A: Adapter>(
 ///
 /// Errs where memory is refused to the program itself. A command that the repository answers out of memory prints that
 /// refusal.
-pub(crate) fn run_line<A: Adapter>(
+pub(crate) fn run_line<L: LinkStore, A: Adapter>(
     alloc: Global,
-    repository: &mut Repository<A>,
+    repository: &mut Repository<L, A>,
     pool: &mut Pool<A>,
     output: &mut Output,
     line: &[u8],

@@ -12,6 +12,7 @@ use crate::run_fault::RunFault;
 use crate::summary::Summary;
 use crate::writing::write_all;
 use adapters::Adapter;
+use link_store::LinkStore;
 use mm_meta::Meta;
 use mm_types::limits::INPUT_BYTES;
 use repository::Repository;
@@ -21,10 +22,10 @@ use std::alloc::Global;
 use std::io::{Read, Write};
 
 /// Runs the lines of a script in turn, and writes what each prints.
-fn run_lines<W: Write, A: Adapter>(
+fn run_lines<W: Write, L: LinkStore, A: Adapter>(
     alloc: Global,
     writer: &mut W,
-    repository: &mut Repository<A>,
+    repository: &mut Repository<L, A>,
     pool: &mut Pool<A>,
     input: &[u8],
 ) -> Result<Summary, RunFault>
@@ -49,7 +50,7 @@ fn run_lines<W: Write, A: Adapter>(
 }
 
 /// Runs a script over an empty repository of a metamodel, and writes what each line prints.
-fn run_input<W: Write, A: Adapter>(
+fn run_input<L: LinkStore, W: Write, A: Adapter>(
     alloc: Global,
     writer: &mut W,
     meta: Meta,
@@ -64,20 +65,20 @@ fn run_input<W: Write, A: Adapter>(
     let Ok(mut pool) = Pool::new(alloc, boxes) else {
         return Err(RunFault::Memory);
     };
-    let mut repository = Repository::new(alloc, meta);
+    let mut repository: Repository<L, A> = Repository::new(alloc, meta);
     let outcome = run_lines(alloc, writer, &mut repository, &mut pool, input);
     let _ = repository.close();
     outcome
 }
 
 /// Reads a whole script, runs it over an empty repository of a metamodel, and writes what its lines print. The n-th of the
-/// boxes, from 1 on, is An. At the end the repository is closed, and nothing is printed for that.
+/// boxes, from 1 on, is An. The repository keeps its links in a store of the kind `L`. At the end the repository is closed, and nothing is printed for that.
 ///
 /// Errs with `Read` where a read errs and with `TooLong` where the script has more than `INPUT_BYTES` bytes: then no line
 /// was run. Errs with `Write` where a write errs or takes no byte, and with `Memory` where memory is refused to the run
 /// itself: then what was written is a front of what the first lines print. Where memory is refused to the repository, the
 /// line prints `refused 28 MEMORY`, and the run goes on.
-pub fn run<R: Read, W: Write, A: Adapter>(
+pub fn run<L: LinkStore, R: Read, W: Write, A: Adapter>(
     alloc: Global,
     reader: &mut R,
     writer: &mut W,
@@ -96,7 +97,7 @@ pub fn run<R: Read, W: Write, A: Adapter>(
     ensures long { IsErrOf result RunFault.TooLong → IfSome (R.remaining reader.old) (λ input. INPUT_BYTES < length input) }
 {
     match read_all(alloc, reader) {
-        Ok(input) => run_input(alloc, writer, meta, boxes, input.as_slice()),
+        Ok(input) => run_input::<L, W, A>(alloc, writer, meta, boxes, input.as_slice()),
         Err(fault) => Err(fault),
     }
 }

@@ -14,9 +14,10 @@ use crate::reply::{Answer, Failure, Reply};
 use adapter_list::AttachRefused;
 use adapters::Adapter;
 use handshake::node_refusal;
+use link_store::LinkStore;
 use mm_types::{AdapterNo, Node, Refused, Seq};
 
-impl<A: Adapter> Repository<A> {
+impl<L: LinkStore, A: Adapter> Repository<L, A> {
     /// Attaches an adapter to a node, last in attach order (EMF: Notifier.eAdapters().add). A deep one is also notified of what
     /// happens below the node.
     ///
@@ -32,7 +33,7 @@ impl<A: Adapter> Repository<A> {
     ) -> Result<Reply<A>, Failure<A>>
         ensures { Executed self.old (Attach no target deep (A.heard adapter)) (outcome_view A.heard result) self.new }
     {
-        if let Some(refused) = node_refusal(&self.values, target) {
+        if let Some(refused) = node_refusal(&self.model(), target) {
             return Err(Failure {
                 refused,
                 given_back: Some(adapter),

@@ -5,11 +5,15 @@ ghost use Rattle.repository.specs.Views.{command_view, outcome_view};
 
 use super::Repository;
 use crate::command::Command;
-use crate::reads::{outcome, replied, replied_class, replied_count, replied_flag};
+use crate::reads::{
+    outcome, replied, replied_class, replied_container, replied_count, replied_flag,
+    replied_objects,
+};
 use crate::reply::{Failure, Reply};
 use adapters::Adapter;
+use link_store::LinkStore;
 
-impl<A: Adapter> Repository<A> {
+impl<L: LinkStore, A: Adapter> Repository<L, A> {
     /// Does a command.
     pub fn execute(&mut self, command: Command<A>) -> Result<Reply<A>, Failure<A>>
         ensures { Executed self.old (command_view A.heard command) (outcome_view A.heard result) self.new }
@@ -34,6 +38,10 @@ impl<A: Adapter> Repository<A> {
             Command::IsSet { node, feature } => {
                 outcome(replied_flag(alloc, self.e_is_set(node, feature)))
             }
+            Command::Container(object) => {
+                outcome(replied_container(alloc, self.e_container(object)))
+            }
+            Command::Contents(node) => outcome(replied_objects(alloc, self.e_contents(node))),
             Command::Class(object) => outcome(replied_class(alloc, self.e_class(object))),
             Command::AdapterTold(no) => outcome(replied_count(alloc, self.adapter_told(no))),
             Command::AdapterKept(no) => outcome(replied_count(alloc, self.adapter_kept(no))),

@@ -1,48 +1,54 @@
 //! Reads of objects and their values.
-ghost use Rattle.std.specs.Prelude.{◌≡◌, false, unwrap_or, ok_or, option_copied, Ok, Err, IfOk, IfErr};
+ghost use Rattle.std.specs.Prelude.{◌≡◌, false, unwrap_or, ok_or, option_map, Ok, Err, IfOk, IfErr};
 ghost use Rattle.handshake.specs.Plans.{is_memory_refusal};
 ghost use Rattle.mm_types.specs.declared.refused.Refused.TheVariants.{NoObject};
 ghost use Rattle.mm_types.specs.declared.value.Value.TheVariants.{Null};
+ghost use Rattle.models.specs.Found.{found_value};
 ghost use Rattle.repository.specs.Run.{Executed, read_outcome};
 ghost use Rattle.repository.specs.State.{reads};
-ghost use Rattle.repository.specs.declared.command.Command.TheVariants.{Class, Get, IsSet};
+ghost use Rattle.repository.specs.declared.command.Command.TheVariants.{Class, Container, Contents, Get, IsSet};
 ghost use Rattle.repository.specs.declared.reply.Answer.TheVariants as answer;
 
 use super::Repository;
 use adapters::Adapter;
-use handshake::{copied, feature_refusal, is_set_at, value_at};
-use mm_types::{ClassNo, FeatureNo, Node, ObjectNo, Refused, Value};
+use containment::{container, contents};
+use handshake::{feature_refusal, node_refusal};
+use link_store::LinkStore;
+use mm_types::{ClassNo, End, FeatureNo, Node, ObjectNo, Refused, Seq, Value};
+use models::{Found, copied};
 
-impl<A: Adapter> Repository<A> {
-    /// The value of a single attribute of an object: what was set, or the default (EMF: EObject.eGet).
+impl<L: LinkStore, A: Adapter> Repository<L, A> {
+    /// The value of a single feature of an object: what was set, or the default, or the object of a reference (EMF: EObject.eGet).
     ///
     /// Refused, the first that applies: `NoObject`, `NoResource`, `NoFeature`, `Memory`.
     #[tactic(auto, using(crate::proofs::QuietLemmas::get_done))]
     pub fn e_get(&self, node: Node, feature: FeatureNo) -> Result<Value, Refused>
         ensures { Executed self.now (Get node feature) (read_outcome answer.Value result) self.now }
     {
-        if let Some(refused) = feature_refusal(&self.meta, &self.values, node, feature) {
+        let model = self.model();
+        if let Some(refused) = feature_refusal(&model, node, feature) {
             return Err(refused);
         }
-        copied(value_at(&self.meta, &self.values, node, feature))
+        copied(model.value_at(End { node, feature }))
     }
 
     /// The value that `e_get` answers, where it is kept; `None` stands for null. Takes no memory.
     ///
     /// Refused, the first that applies: `NoObject`, `NoResource`, `NoFeature`.
     #[tactic(auto, using(crate::proofs::QuietLemmas::get_done))]
-    pub fn value(&self, node: Node, feature: FeatureNo) -> Result<Option<&Value>, Refused>
-        ensures ok { IfOk result (λ v. Executed self.now (Get node feature) (read_outcome answer.Value (Ok (unwrap_or (option_copied v) Null))) self.now) }
+    pub fn value(&self, node: Node, feature: FeatureNo) -> Result<Option<Found<'_>>, Refused>
+        ensures ok { IfOk result (λ v. Executed self.now (Get node feature) (read_outcome answer.Value (Ok (unwrap_or (option_map found_value v) Null))) self.now) }
         ensures err { IfErr result (λ r. Executed self.now (Get node feature) (read_outcome answer.Value (Err r)) self.now) }
         ensures kind { IfErr result (λ r. is_memory_refusal r ≡ false) }
     {
-        if let Some(refused) = feature_refusal(&self.meta, &self.values, node, feature) {
+        let model = self.model();
+        if let Some(refused) = feature_refusal(&model, node, feature) {
             return Err(refused);
         }
-        Ok(value_at(&self.meta, &self.values, node, feature))
+        Ok(model.value_at(End { node, feature }))
     }
 
-    /// Whether a single attribute of an object is set (EMF: EObject.eIsSet): an unsettable one where `e_set` was the
+    /// Whether a single feature of an object is set (EMF: EObject.eIsSet): an unsettable one where `e_set` was the
     /// last to change it, another where its value differs from its default. Takes no memory.
     ///
     /// Refused, the first that applies: `NoObject`, `NoResource`, `NoFeature`.
@@ -51,10 +57,43 @@ impl<A: Adapter> Repository<A> {
         ensures read { Executed self.now (IsSet node feature) (read_outcome answer.Flag result) self.now }
         ensures kind { IfErr result (λ r. is_memory_refusal r ≡ false) }
     {
-        if let Some(refused) = feature_refusal(&self.meta, &self.values, node, feature) {
+        let model = self.model();
+        if let Some(refused) = feature_refusal(&model, node, feature) {
             return Err(refused);
         }
-        Ok(is_set_at(&self.meta, &self.values, node, feature))
+        Ok(model.is_set(End { node, feature }))
+    }
+
+    /// The object that contains an object (EMF: EObject.eContainer); `None` where none does. Takes no memory. Refused with `NoObject`
+    /// where none lives.
+    #[tactic(auto, using(crate::proofs::QuietLemmas::container_done))]
+    pub fn e_container(&self, object: ObjectNo) -> Result<Option<ObjectNo>, Refused>
+        ensures read { Executed self.now (Container object) (read_outcome answer.Container result) self.now }
+        ensures kind { IfErr result (λ r. is_memory_refusal r ≡ false) }
+    {
+        let model = self.model();
+        if model.class(object).is_none() {
+            return Err(Refused::NoObject);
+        }
+        Ok(container(&model, object))
+    }
+
+    /// The objects that a node directly contains, by feature in the order of all features of its class, and then by position (EMF:
+    /// EObject.eContents).
+    ///
+    /// Refused, the first that applies: `NoObject`, `NoResource`, `Memory`.
+    #[tactic(auto, using(crate::proofs::QuietLemmas::contents_done))]
+    pub fn e_contents(&self, node: Node) -> Result<Seq<ObjectNo>, Refused>
+        ensures { Executed self.now (Contents node) (read_outcome answer.Objects result) self.now }
+    {
+        let model = self.model();
+        if let Some(refused) = node_refusal(&model, node) {
+            return Err(refused);
+        }
+        match contents(self.alloc, &model, node) {
+            Ok(objects) => Ok(Seq::from_vec(objects)),
+            Err(_) => Err(Refused::Memory),
+        }
     }
 
     /// The class of an object (EMF: EObject.eClass). Takes no memory. Refused with `NoObject` where none lives.

@@ -1,12 +1,12 @@
-use Rattle.std.proofs.Common.{sym, ap}
-use Rattle.mm_values.specs.Room.{values_of}
-use Rattle.mm_values.specs.Values.{applied}
+use Rattle.std.proofs.Common.{◌++◌, map, sym, ◌∙◌}
+use Rattle.models.specs.Model.{reading}
+use Rattle.handshake.specs.Edits as e
+use Rattle.handshake.proofs.PlanLemmas.{planned}
 use Rattle.handshake.proofs.planning.plan.Goals as goal
 
-pub returns-in-Ok-edits : goal.returns-in-Ok-edits
-returns-in-Ok-edits c =
-    record {
-      allowed = sym c.in_default.ensures;
-      values_made = ap (applied (values_of c.args.values.now)) (c.in-Ok-edits.ensures.ok (values_of c.args.values.now));
-      tells = c.in-Ok.ensures.ok;
-    }
+pub returns-in-Ok-value_edits : goal.returns-in-Ok-value_edits
+returns-in-Ok-value_edits g c =
+    planned c.args.is_heard c.args.model.now c.args.change _ c.is_legal.ensures c.requires.asked (sym c.in_default.ensures)
+    (c.in-Ok-link_edits.ensures ∙ (λ i. map e.cut_of (c.in-Ok.ensures i) ++ e.puts (reading c.args.model.now) (c.made_link.ensures i)))
+    c.in-Ok-value_edits.ensures.ok
+    c.in-Ok-heard_chain.ensures.ok

@@ -3,7 +3,7 @@ use Rattle.std.proofs.lemmas.Grind.{common_steps}
 use Rattle.std.specs.Vec.Iter.{into_iter_items}
 use Rattle.notice_chain.specs.declared.notice.Notice.{Notice}
 use Rattle.adapter_list.specs.Rounds.{CopiesFit, delivered}
-use Rattle.adapter_list.proofs.RoundLemmas.{delivered-tell_at, delivered_from-nil, CopiesFit-rest, CopiesFit-first}
+use Rattle.adapter_list.proofs.DeliveryLemmas.{delivered-tell_at, delivered_from-nil, CopiesFit-rest, CopiesFit-first}
 use Rattle.adapter_list.proofs.list.AdapterList.deliver.Goals as goal
 
 pub tell_at-requires : goal.tell_at-requires

@@ -1,4 +1,4 @@
-use Rattle.mm_check.proofs.Opposing.{with_container}
+use Rattle.mm_types.proofs.Opposing.{with_container}
 use Rattle.mm_check.proofs.checker.Checker.both_contain.Goals as goal
 
 pub returns-then-is_containment_at : goal.returns-then-is_containment_at

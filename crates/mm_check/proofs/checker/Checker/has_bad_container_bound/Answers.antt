@@ -1,4 +1,4 @@
-use Rattle.mm_check.proofs.Opposing.{with_container}
+use Rattle.mm_types.proofs.Opposing.{with_container}
 use Rattle.mm_check.proofs.checker.Checker.has_bad_container_bound.Goals as goal
 
 pub returns-then-is_not_bounded_by_one : goal.returns-then-is_not_bounded_by_one

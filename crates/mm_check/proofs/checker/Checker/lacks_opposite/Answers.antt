@@ -1,4 +1,4 @@
-use Rattle.mm_check.proofs.Opposing.{lacks_decides}
+use Rattle.mm_types.proofs.Opposing.{lacks_decides}
 use Rattle.mm_check.proofs.checker.Checker.lacks_opposite.Goals as goal
 
 pub returns-in-Feature : goal.returns-in-Feature

@@ -1,7 +1,15 @@
 use Rattle.std.proofs.Common.{arith, rules}
 use Rattle.std.specs.List.{IsDistinct}
+use Rattle.models.specs.Legal.{kinds_of}
+use Rattle.models.proofs.EmptyLemmas.{empty-legal}
+use Rattle.handshake.proofs.KnownLemmas.{kinds-are}
 use Rattle.repository.proofs.repository.Repository.new.Goals as goal
 
 pub invariant_of-result : goal.invariant_of-result
 unfolding IsDistinct
-invariant_of-result g c = rw (c.new-2.ensures) (record { model = search rules; few = omega arith; distinct = tt; adapters = search rules })
+invariant_of-result g c =
+    let accepted = c.is_of_document.ensures in
+    record {
+      legal = rw (c.new.ensures, c.new-2.ensures, c.empty.ensures.links) (record { model = empty-legal c.args.meta accepted; few = omega arith; distinct = tt; adapters = search rules });
+      kinds_are = c.empty.ensures.kinds (kinds_of c.args.meta) (kinds-are c.args.meta accepted);
+    }

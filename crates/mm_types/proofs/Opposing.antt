@@ -16,7 +16,7 @@ use Rattle.mm_types.specs.WellFormed.{IsContainer, LacksOpposite, NamesOpposite,
 use Rattle.mm_types.specs.declared.meta_fault.Place.TheVariants.{Feature}
 use Rattle.mm_types.specs.declared.raw.RawClass.{RawClass}
 use Rattle.mm_types.specs.declared.raw.RawFeature.{RawFeature}
-use Rattle.mm_check.specs.Opposites.{NamesAreUnique, is_at, is_container_at, lacks_opposite, leads_astray, opposite_at, opposite_of, reference_named}
+use Rattle.mm_types.specs.Opposites.{NamesAreUnique, is_at, is_container_at, lacks_opposite, leads_astray, opposite_at, opposite_of, reference_named}
 
 none_from : {X : Type 0} (p : X → Bool) (s : ℕ) (xs : List X) (j : ℕ) (x : X) → slice_get xs j ≡ Some x → p x ≡ true → position_from p s xs ≡ None → ⊥
 none_from p s [] j x at is none = cc
@@ -32,7 +32,7 @@ none_from p s (y ∷ ys) (suc j) x at is none =
     ] none
 
 -- the first feature of a name, where no other has it, is the feature
-own_at_first : (raw : RawMetamodel) → NamesAreUnique raw → (d j : ℕ) (f : RawFeature) → feature_at raw d j ≡ Some f → own_position raw.classes d f.name ≡ Some j
+pub own_at_first : (raw : RawMetamodel) → NamesAreUnique raw → (d j : ℕ) (f : RawFeature) → feature_at raw d j ≡ Some f → own_position raw.classes d f.name ≡ Some j
 own_at_first raw u d j f at = in_class (slice_get raw.classes d) refl at
   where
     in_class : (o : Option RawClass) → slice_get raw.classes d ≡ o → option_and_then (λ k. slice_get k.features j) o ≡ Some f
@@ -72,7 +72,7 @@ own_found raw d j name is = in_class (slice_get raw.classes d) refl is
               named = (bytes_eq-Decides g.name name).0 found.1;
             }
 
-test_here : (t : RawFeature → Bool) (raw : RawMetamodel) (c i : ℕ) (f : RawFeature) → feature_at raw c i ≡ Some f → test_feature_at t raw c i ≡ t f
+pub test_here : (t : RawFeature → Bool) (raw : RawMetamodel) (c i : ℕ) (f : RawFeature) → feature_at raw c i ≡ Some f → test_feature_at t raw c i ≡ t f
 test_here t raw c i f at = ap (λ (o : Option RawFeature). option_map_or t o false) at
 
 -- what a reference names is found
@@ -87,7 +87,7 @@ opposite_found raw u c i d j h =
     ∙ ap (λ b. cond b (Some (d, j)) None) refers)))
 
 -- what is found, a reference names
-opposite_is : (raw : RawMetamodel) (c i : ℕ) (p : ℕ × ℕ) → opposite_at raw c i ≡ Some p → NamesOpposite raw c i p.0 p.1
+pub opposite_is : (raw : RawMetamodel) (c i : ℕ) (p : ℕ × ℕ) → opposite_at raw c i ≡ Some p → NamesOpposite raw c i p.0 p.1
 opposite_is raw c i p is =
     option_and_then_some (opposite_of raw) (feature_at raw c i) p is (λ near near_here h1.
     option_and_then_some (λ name. option_and_then (λ d. reference_named raw d name) (class_named raw.classes near.type_name)) (opposite_name near.kind) p h1 (λ name names h2.
@@ -116,7 +116,7 @@ container_decides raw u c i = (
     found None is h = cc
     found (Some p) is h = (p.0, p.1, opposite_is raw c i p is, h)
 
-at_decides : (c i : ℕ) (p : ℕ × ℕ) → Decides (is_at c i p) ((p.0 ≡ c) × (p.1 ≡ i))
+pub at_decides : (c i : ℕ) (p : ℕ × ℕ) → Decides (is_at c i p) ((p.0 ≡ c) × (p.1 ≡ i))
 at_decides c i p = Decides-and (p.0 == c) (p.1 == i) (Decides-eqb p.0 c) (Decides-eqb p.1 i)
 
 -- each reference that a reference names, and that names it back, is the reference itself

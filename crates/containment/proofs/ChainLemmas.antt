@@ -1,0 +1,108 @@
+-- A part and the nodes above it are no more than objects were made, since they are made and none is met twice.
+use Rattle.std.proofs.Common.{◌≡◌, ℕ, zero, suc, ◌<◌, ◌≤◌, Bool, true, false, ◌||◌, eqb, length, map, List, [], ◌∷◌, Option, Some, None, refl, sym, ap, ◌∙◌, subst, inl, inr, arith}
+use Rattle.std.specs.List.{AllByRecursion, IsDistinct, list_any}
+use Rattle.std.specs.Option.{option_map_or}
+use Rattle.std.proofs.lemmas.Bool.{eqb-true, false≢true, or_cases}
+use Rattle.std.proofs.lemmas.List.{length-map}
+use Rattle.std.proofs.lemmas.Map.Steps.{length-le_from_distinct_below}
+use Rattle.mm_types.specs.Same.{node_value, same_node}
+use Rattle.mm_types.specs.declared.end.End.{End}
+use Rattle.mm_types.specs.declared.numbers.ObjectNo.{ObjectNo}
+use Rattle.mm_types.specs.declared.numbers.Node.{Node}
+use Rattle.mm_types.specs.declared.numbers.Node.TheVariants as node
+use Rattle.link_store.proofs.AboveLemmas.{above_held, above_is, not_above_itself}
+use Rattle.link_store.proofs.HolderLemmas.{holder-some, place_held}
+use Rattle.link_store.specs.Holders.{above, holder}
+use Rattle.models.specs.Legal.{IsLegal}
+use Rattle.models.specs.Model.{Model}
+use Rattle.containment.proofs.PartLemmas.{IsMade, IsPart, end-made}
+
+number : Node → ℕ
+number (node.Object o) = o.0
+number (node.Resource k) = 0
+
+same-number : (s : Model) (x y : Node) → IsMade s x → IsMade s y → eqb (number x) (number y) ≡ same_node x y
+unfolding number
+same-number s x y (o, p, _) (q, r, _) = (λ i. eqb (number (p i)) (number (r i))) ∙ sym (λ i. same_node (p i) (r i))
+
+number-made : (s : Model) (x : Node) → IsMade s x → number x < length s.values.objects
+unfolding number
+number-made s x (o, p, lt) = subst (λ (n : Node). number n < length s.values.objects) (sym p) lt
+
+-- a node that is not among others has another number
+other-numbers : (s : Model) (x : Node) (ys : List Node) → IsMade s x → AllByRecursion (IsMade s) ys → list_any (same_node x) ys ≡ false → AllByRecursion (λ q. eqb (number x) q ≡ false) (map number ys)
+other-numbers s x [] made all h = tt
+other-numbers s x (y ∷ ys) made all h = (
+  same-number s x y made all.0 ∙ not_here (same_node x y) (list_any (same_node x) ys) h,
+  other-numbers s x ys made all.1 (not_later (same_node x y) (list_any (same_node x) ys) h),
+)
+  where
+    not_here : (a b : Bool) → (a || b) ≡ false → a ≡ false
+    not_here true b q = absurd (false≢true (sym q))
+    not_here false b q = refl
+
+    not_later : (a b : Bool) → (a || b) ≡ false → b ≡ false
+    not_later true b q = absurd (false≢true (sym q))
+    not_later false b q = q
+
+numbers-below : (s : Model) (ys : List Node) → AllByRecursion (IsMade s) ys → (q : ℕ) → list_any (eqb q) (map number ys) ≡ true → q < length s.values.objects
+numbers-below s [] all q h = absurd (false≢true h)
+numbers-below s (y ∷ ys) all q h = elim (or_cases (eqb q (number y)) (list_any (eqb q) (map number ys)) h) [
+  | inl here ↦ subst (λ (k : ℕ). k < length s.values.objects) (sym (eqb-true q (number y) here)) (number-made s y all.0)
+  | inr later ↦ numbers-below s ys all.1 q later
+]
+
+-- nodes that were made, none twice
+record IsChain (s : Model) (ns : List Node) : Type 0 where
+  made : AllByRecursion (IsMade s) ns
+  apart : IsDistinct eqb (map number ns)
+
+chain-bounded : (s : Model) (ns : List Node) → IsChain s ns → length ns ≤ length s.values.objects
+chain-bounded s ns chain =
+    let few = length-le_from_distinct_below (map number ns) (length s.values.objects) chain.apart (numbers-below s ns chain.made) in
+    let same = length-map ns number in
+    omega (arith, few, same)
+
+module _ (s : Model) (legal : IsLegal s) where
+  holder-made : (n : Node) (e : End) → holder s.links n ≡ Some e → IsMade s e.node
+  holder-made n e h =
+      let l = holder-some s.links n e h in
+      let at = place_held l.0 n e (legal.links.set.placed.sides l.0 l.1) l.2 in
+      end-made s e at.0 (node_value n) legal ((legal.links.set.placed.ends e).has at.0 (node_value n) (l.0, l.1, at.1))
+
+  longer : (x : Node) → IsMade s x → IsChain s (above s.links x) → IsChain s (x ∷ above s.links x)
+  unfolding IsDistinct
+  longer x made chain = record {
+    made = (made, chain.made);
+    apart = (other-numbers s x (above s.links x) made chain.made (not_above_itself s.links legal.links.set legal.links.forest x), chain.apart);
+  }
+
+  none-above : (x : Node) → holder s.links x ≡ None → IsChain s (above s.links x)
+  unfolding IsDistinct
+  none-above x h =
+      let none = above_is s.links legal.links.set legal.links.forest x ∙ ap (λ (o : Option End). option_map_or (λ (e : End). e.node ∷ above s.links e.node) o []) h in
+      subst (λ ns. IsChain s ns) (sym none) (record { made = tt; apart = tt })
+
+  one-above : (x : Node) (e : End) → holder s.links x ≡ Some e → length (above s.links x) ≡ suc (length (above s.links e.node))
+  one-above x e h = ap length (above_held s.links legal.links.set legal.links.forest x e h)
+
+  above-chain : (k : ℕ) (x : Node) → length (above s.links x) ≤ k → IsChain s (above s.links x)
+  above-chain zero x le =
+      elim (holder s.links x) as (λ o. holder s.links x ≡ o → IsChain s (above s.links x)) [
+        | None ↦ λ h. none-above x h
+        | Some e ↦ λ h. absurd (omega (arith, one-above x e h, le))
+      ] refl
+  above-chain (suc k) x le =
+      elim (holder s.links x) as (λ o. holder s.links x ≡ o → IsChain s (above s.links x)) [
+        | None ↦ λ h. none-above x h
+        | Some e ↦ λ h.
+            let rest = above-chain k e.node (omega (arith, one-above x e h, le)) in
+            subst (λ ns. IsChain s ns) (sym (above_held s.links legal.links.set legal.links.forest x e h)) (longer e.node (holder-made x e h) rest)
+      ] refl
+
+  -- a part has fewer nodes above it than objects were made
+  pub part-depth : (n : Node) (c : ObjectNo) → IsPart s n c → length (above s.links (node.Object c)) < length s.values.objects
+  part-depth n c part =
+      let x = node.Object c in
+      let few = chain-bounded s (x ∷ above s.links x) (longer x (c, refl, part.made) (above-chain (length (above s.links x)) x (omega arith))) in
+      omega (arith, few)

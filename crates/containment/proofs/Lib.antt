@@ -1,0 +1,9 @@
+pub mod AboveLemmas
+pub mod ForestLemmas
+pub mod HolderLemmas
+pub mod PartLemmas
+pub mod ChainLemmas
+pub mod TreeLemmas
+pub mod MemberLemmas
+pub mod DistinctLemmas
+mod Examples

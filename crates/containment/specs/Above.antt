@@ -1,0 +1,20 @@
+-- What the nodes above a node tell of it: the topmost, and the resource that it is in.
+use Rattle.std.specs.Prelude.{List, Option, Some, None, unwrap_or}
+use Rattle.std.specs.List.{last_or}
+use Rattle.mm_types.specs.declared.numbers.ObjectNo.{ObjectNo}
+use Rattle.mm_types.specs.declared.numbers.ResourceNo.{ResourceNo}
+use Rattle.mm_types.specs.declared.numbers.Node.{Node}
+use Rattle.mm_types.specs.declared.numbers.Node.TheVariants as node
+
+-- the topmost of a node and the nodes above it
+abbrev pub root_of : (Node → List Node) → Node → Node
+root_of up n = unwrap_or (last_or (Some n) (up n)) n
+
+-- the resource that a node is, if it is one
+abbrev pub resource_node : Node → Option ResourceNo
+resource_node (node.Object o) = None
+resource_node (node.Resource r) = Some r
+
+-- the resource that an object is in
+abbrev pub resource_of : (Node → List Node) → ObjectNo → Option ResourceNo
+resource_of up o = resource_node (root_of up (node.Object o))

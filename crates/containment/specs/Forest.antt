@@ -1,0 +1,42 @@
+-- The containment forest, read off a model: what contains an object, and what a node contains (EMF: EObject.eContainer, eContents,
+-- eAllContents).
+use Rattle.std.specs.Prelude.{ℕ, zero, suc, Bool, false, List, [], ◌∷◌, filter, flat_map, Option, Some, None, option_and_then}
+use Rattle.std.specs.List.{list_any}
+use Rattle.mm_types.specs.Same.{same_object}
+use Rattle.mm_types.specs.Shapes.{is_containment}
+use Rattle.mm_types.specs.declared.numbers.FeatureNo.{FeatureNo}
+use Rattle.mm_types.specs.declared.numbers.ObjectNo.{ObjectNo}
+use Rattle.mm_types.specs.declared.numbers.Node.{Node}
+use Rattle.mm_types.specs.declared.numbers.Node.TheVariants as node
+use Rattle.mm_types.specs.declared.end.End.{End}
+use Rattle.models.specs.Reading.{Reading, all_features_of, at_end, is_known, objects_of}
+
+-- the objects that a node contains by those of some features that contain, feature by feature, then by position
+abbrev pub parts : Reading → Node → List FeatureNo → List ObjectNo
+parts r n fs = flat_map (λ f. objects_of (r.values (at_end n f))) (filter (is_containment r.metamodel) (filter (is_known r.metamodel) fs))
+
+-- the objects that a node directly contains, by feature in the order of all features, then by position
+abbrev pub contents : Reading → Node → List ObjectNo
+contents r n = parts r n (all_features_of r n)
+
+abbrev pub object_node : Node → Option ObjectNo
+object_node (node.Object o) = Some o
+object_node (node.Resource k) = None
+
+-- the object that contains another, if an object does
+abbrev pub container : Reading → ObjectNo → Option ObjectNo
+container r o = option_and_then (λ (e : End). object_node e.node) (r.holder (node.Object o))
+
+-- an object and all that is below it, each before what it contains, for so many levels
+abbrev pub tree : Reading → ℕ → ObjectNo → List ObjectNo
+tree r zero o = []
+tree r (suc k) o = o ∷ flat_map (tree r k) (contents r (node.Object o))
+
+-- no object has more levels below it than objects were made
+abbrev pub subtree : Reading → ObjectNo → List ObjectNo
+subtree r o = tree r r.next o
+
+-- a node is an object of a list
+abbrev pub is_node_among : List ObjectNo → Node → Bool
+is_node_among os (node.Object o) = list_any (same_object o) os
+is_node_among os (node.Resource k) = false

@@ -1,0 +1,341 @@
+-- The links that a change cuts: each is there, none is cut twice, and what is cut leaves room for the new link.
+use Rattle.std.proofs.Common.{◌≡◌, ℕ, suc, Bool, true, false, not, List, [], ◌∷◌, ◌++◌, filter, fold, map, slice_get, Option, Some, None, option_map, option_to_list, if◌then◌else◌, refl, sym, ap, ◌∙◌, subst}
+use Rattle.std.specs.Prelude.{◌&&◌, ◌||◌}
+use Rattle.std.specs.List.{AllByRecursion, list_any}
+use Rattle.std.specs.Option.{option_map_or}
+use Rattle.std.proofs.lemmas.Bool.{and_from, false≢true, or_left, or_parts, or_right}
+use Rattle.std.proofs.lemmas.Option.{none-some, same_Some}
+use Rattle.mm_types.proofs.SameLemmas.{same_end-self, same_end-true}
+use Rattle.mm_types.specs.Same.{node_value, same_end, same_value}
+use Rattle.mm_types.specs.Shapes.{shape}
+use Rattle.mm_types.specs.declared.numbers.FeatureNo.{FeatureNo}
+use Rattle.mm_types.specs.declared.numbers.ObjectNo.{ObjectNo}
+use Rattle.mm_types.specs.declared.numbers.Node.{Node}
+use Rattle.mm_types.specs.declared.end.End.{End}
+use Rattle.mm_types.specs.declared.value.Value.{Value}
+use Rattle.mm_types.specs.declared.value.Value.TheVariants as value
+use Rattle.link_store.proofs.CutNamedLemmas.{end-without_all, holder-without_all}
+use Rattle.link_store.proofs.HolderLemmas.{holder-some, place_held}
+use Rattle.link_store.proofs.PlaceLemmas.{same_value-self, same_value-true}
+use Rattle.link_store.proofs.ScanLemmas.{same_bool}
+use Rattle.link_store.specs.Holders.{contained, holder}
+use Rattle.link_store.specs.Laws.{AreOnce, AreThere, is_named, kept_holder, names, names_far, without_all}
+use Rattle.link_store.specs.LegalSets.{IsLegalSet}
+use Rattle.link_store.specs.Links.{Links, cut_value, end, far_end, object_at}
+use Rattle.link_store.specs.Plans.{Has}
+use Rattle.models.proofs.EndLemmas.{values-single}
+use Rattle.models.specs.Legal.{IsLegal, kinds_of}
+use Rattle.models.specs.Model.{Model, reading}
+use Rattle.models.specs.Reading.{Reading, at_end}
+use Rattle.handshake.proofs.KnownLemmas.{far-reference, feature-single, kinds-are, set-there, unset-there}
+use Rattle.handshake.specs.declared.change.Change.{Change}
+use Rattle.handshake.specs.declared.change.Change.TheVariants.{Create, Set, Unset}
+use Rattle.handshake.specs.declared.tie.Tie.{Tie}
+use Rattle.handshake.specs.Displaced.{cut_by_set, cut_ties, has_already, in_the_way, is_plain_set, once, opposite_end, holding_tie, other_side, same_link, same_tie, tie, ties_at, ties_if_single, with_tie, yields}
+use Rattle.handshake.specs.Effects.{without_ties}
+use Rattle.handshake.specs.Laws.{AreDifferent}
+use Rattle.handshake.specs.Refusals.{early_refusal, late_refusal}
+
+abbrev pub pairs : List Tie → List (End × Value)
+pairs ts = map (λ t. (t.end, t.value)) ts
+
+pub without_ties-pairs : (s : Links) (ts : List Tie) → without_ties s ts ≡ without_all s (pairs ts)
+without_ties-pairs s [] = refl
+without_ties-pairs s (t ∷ ts) = without_ties-pairs (cut_value s t.end t.value) ts
+
+---------------------------------------------------------------- lists
+
+pub all_push : {X : Type 0} (P : X → Type 0) (xs : List X) (x : X) → AllByRecursion P xs → P x → AllByRecursion P (xs ++ x ∷ [])
+all_push P [] x all here = (here, tt)
+all_push P (y ∷ ys) x all here = (all.0, all_push P ys x all.1 here)
+
+pub all_append : {X : Type 0} (P : X → Type 0) (xs ys : List X) → AllByRecursion P xs → AllByRecursion P ys → AllByRecursion P (xs ++ ys)
+all_append P [] ys a b = b
+all_append P (x ∷ xs) ys a b = (a.0, all_append P xs ys a.1 b)
+
+pub all_front : {X : Type 0} (P : X → Type 0) (xs ys : List X) → AllByRecursion P (xs ++ ys) → AllByRecursion P xs
+all_front P [] ys all = tt
+all_front P (x ∷ xs) ys all = (all.0, all_front P xs ys all.1)
+
+pub all_back : {X : Type 0} (P : X → Type 0) (xs ys : List X) → AllByRecursion P (xs ++ ys) → AllByRecursion P ys
+all_back P [] ys all = all
+all_back P (x ∷ xs) ys all = all_back P xs ys all.1
+
+pub all_map : {X Y : Type 0} (P : Y → Type 0) (f : X → Y) (xs : List X) → AllByRecursion (λ (x : X). P (f x)) xs → AllByRecursion P (map f xs)
+all_map P f [] all = tt
+all_map P f (x ∷ xs) all = (all.0, all_map P f xs all.1)
+
+pub all_from_map : {X Y : Type 0} (P : Y → Type 0) (f : X → Y) (xs : List X) → AllByRecursion P (map f xs) → AllByRecursion (λ (x : X). P (f x)) xs
+all_from_map P f [] all = tt
+all_from_map P f (x ∷ xs) all = (all.0, all_from_map P f xs all.1)
+
+pub all_weaker : {X : Type 0} (P Q : X → Type 0) (xs : List X) → ((x : X) → P x → Q x) → AllByRecursion P xs → AllByRecursion Q xs
+all_weaker P Q [] weaker all = tt
+all_weaker P Q (x ∷ xs) weaker all = (weaker x all.0, all_weaker P Q xs weaker all.1)
+
+-- what is true of what stands at each position
+pub all_at : {X : Type 0} (P : X → Type 0) (xs : List X) → ((k : ℕ) (x : X) → slice_get xs k ≡ Some x → P x) → AllByRecursion P xs
+all_at P [] at = tt
+all_at P (x ∷ xs) at = (at 0 x refl, all_at P xs (λ k y h. at (suc k) y h))
+
+filter_none : (p : Value → Bool) (vs : List Value) → AllByRecursion (λ (v : Value). p v ≡ true) vs → filter (λ w. not (p w)) vs ≡ []
+filter_none p [] all = refl
+filter_none p (v ∷ vs) all = ap (λ (b : Bool). if not b then v ∷ filter (λ w. not (p w)) vs else filter (λ w. not (p w)) vs) all.0 ∙ filter_none p vs all.1
+
+any_append_left : {X : Type 0} (p : X → Bool) (xs ys : List X) → list_any p xs ≡ true → list_any p (xs ++ ys) ≡ true
+any_append_left p [] ys h = absurd (false≢true h)
+any_append_left p (x ∷ xs) ys h =
+    elim (p x) as (λ b. (b || list_any p xs) ≡ true → (b || list_any p (xs ++ ys)) ≡ true) [ true ↦ λ _. refl | false ↦ λ q. any_append_left p xs ys q ] h
+
+any_push : {X : Type 0} (p : X → Bool) (xs : List X) (x : X) → p x ≡ true → list_any p (xs ++ x ∷ []) ≡ true
+any_push p [] x h = or_left (p x) false h
+any_push p (y ∷ ys) x h = or_right (p y) (list_any p (ys ++ x ∷ [])) (any_push p ys x h)
+
+---------------------------------------------------------------- names of one link
+
+pub same_end-symmetric : (d e : End) → same_end d e ≡ same_end e d
+same_end-symmetric d e = same_bool _ _ (one d e) (one e d)
+  where
+    one : (x y : End) → same_end x y ≡ true → same_end y x ≡ true
+    one x y h = subst (λ (z : End). same_end z x ≡ true) (same_end-true x y h) (same_end-self x)
+
+pub same_value-symmetric : (v w : Value) → same_value v w ≡ same_value w v
+same_value-symmetric v w = same_bool _ _ (one v w) (one w v)
+  where
+    one : (x y : Value) → same_value x y ≡ true → same_value y x ≡ true
+    one x y h = subst (λ (z : Value). same_value z x ≡ true) (same_value-true x y h) (same_value-self x)
+
+pub same_tie-symmetric : (t u : Tie) → same_tie t u ≡ same_tie u t
+same_tie-symmetric t u = λ i. same_end-symmetric t.end u.end i && same_value-symmetric t.value u.value i
+
+pub same_tie-self : (t : Tie) → same_tie t t ≡ true
+same_tie-self t = and_from (same_end t.end t.end) (same_value t.value t.value) (same_end-self t.end) (same_value-self t.value)
+
+names_far-other : (e : End) (v : Value) (q : Option FeatureNo) (t : Tie) → names_far e v q t.end t.value ≡ option_map_or (same_tie t) (other_side e.node v q) false
+names_far-other e (value.Object o) (Some g) t = same_tie-symmetric (tie (far_end o g) (node_value e.node)) t
+names_far-other e _ _ t = refl
+
+-- a name names the link of another where the two are of one link
+pub names-same_link : (r : Reading) (t u : Tie) → names (kinds_of r.metamodel) u.end u.value t.end t.value ≡ same_link r t u
+names-same_link r t u = λ i. same_tie-symmetric u t i || names_far-other u.end u.value (shape r.metamodel u.end.feature).opposite t i
+
+pub is_named-same_link : (r : Reading) (ts : List Tie) (t : Tie) → is_named (kinds_of r.metamodel) (pairs ts) t.end t.value ≡ list_any (same_link r t) ts
+is_named-same_link r [] t = refl
+is_named-same_link r (u ∷ us) t = λ i. names-same_link r t u i || is_named-same_link r us t i
+
+pub once-of_different : (r : Reading) (ts : List Tie) → AreDifferent r ts → AreOnce (kinds_of r.metamodel) (pairs ts)
+once-of_different r [] different = tt
+once-of_different r (t ∷ ts) different =
+    let other : (u : Tie) → same_link r u t ≡ false → names (kinds_of r.metamodel) t.end t.value u.end u.value ≡ false = λ u h. names-same_link r u t ∙ h in (
+      all_map (λ (x : End × Value). names (kinds_of r.metamodel) t.end t.value x.0 x.1 ≡ false) (λ (u : Tie). (u.end, u.value)) ts (all_weaker _ _ ts other different.0),
+      once-of_different r ts different.1,
+    )
+
+---------------------------------------------------------------- each link once
+
+module _ (r : Reading) where
+  with_tie-cases : (P : List Tie → Type 0) (ts : List Tie) (t : Tie) → (list_any (same_link r t) ts ≡ true → P ts) → (list_any (same_link r t) ts ≡ false → P (ts ++ t ∷ [])) → P (with_tie r ts t)
+  with_tie-cases P ts t there new =
+      elim (list_any (same_link r t) ts) as (λ b. list_any (same_link r t) ts ≡ b → P (if b then ts else ts ++ t ∷ [])) [ true ↦ there | false ↦ new ] refl
+
+  different_push : (ts : List Tie) (t : Tie) → AreDifferent r ts → list_any (same_link r t) ts ≡ false → AreDifferent r (ts ++ t ∷ [])
+  different_push [] t different h = (tt, tt)
+  different_push (u ∷ us) t different h =
+      let both = or_parts (same_link r t u) (list_any (same_link r t) us) h in
+      (all_push (λ (x : Tie). same_link r x u ≡ false) us t different.0 both.0, different_push us t different.1 both.1)
+
+  different_fold : (done ts : List Tie) → AreDifferent r done → AreDifferent r (fold (with_tie r) done ts)
+  different_fold done [] different = different
+  different_fold done (t ∷ ts) different = different_fold (with_tie r done t) ts (with_tie-cases (AreDifferent r) done t (λ _. different) (different_push done t different))
+
+  pub once-different : (ts : List Tie) → AreDifferent r (once r ts)
+  once-different ts = different_fold [] ts tt
+
+  pub yields-different : (e : End) (o : ObjectNo) → AreDifferent r (yields r e o)
+  yields-different e o = once-different (in_the_way r e o)
+
+  all_fold : (P : Tie → Type 0) (done ts : List Tie) → AllByRecursion P done → AllByRecursion P ts → AllByRecursion P (fold (with_tie r) done ts)
+  all_fold P done [] all more = all
+  all_fold P done (t ∷ ts) all more = all_fold P (with_tie r done t) ts (with_tie-cases (AllByRecursion P) done t (λ _. all) (λ _. all_push P done t all more.0)) more.1
+
+  pub all_once : (P : Tie → Type 0) (ts : List Tie) → AllByRecursion P ts → AllByRecursion P (once r ts)
+  all_once P ts all = all_fold P [] ts tt all
+
+  same_link-self : (t : Tie) → same_link r t t ≡ true
+  same_link-self t = or_left (same_tie t t) _ (same_tie-self t)
+
+  named_fold : (x : Tie) (done ts : List Tie) → list_any (same_link r x) done ≡ true → list_any (same_link r x) (fold (with_tie r) done ts) ≡ true
+  named_fold x done [] h = h
+  named_fold x done (t ∷ ts) h =
+      named_fold x (with_tie r done t) ts (with_tie-cases (λ (us : List Tie). list_any (same_link r x) us ≡ true) done t (λ _. h) (λ _. any_append_left (same_link r x) done (t ∷ []) h))
+
+  named_here : (done : List Tie) (t : Tie) → list_any (same_link r t) (with_tie r done t) ≡ true
+  named_here done t = with_tie-cases (λ (us : List Tie). list_any (same_link r t) us ≡ true) done t (λ h. h) (λ _. any_push (same_link r t) done t (same_link-self t))
+
+  named_all : (done ts : List Tie) → AllByRecursion (λ (x : Tie). list_any (same_link r x) (fold (with_tie r) done ts) ≡ true) ts
+  named_all done [] = tt
+  named_all done (t ∷ ts) = (named_fold t (with_tie r done t) ts (named_here done t), named_all (with_tie r done t) ts)
+
+  -- each of the links is among those taken once
+  pub once-names : (ts : List Tie) → AllByRecursion (λ (x : Tie). list_any (same_link r x) (once r ts) ≡ true) ts
+  once-names ts = named_all [] ts
+
+---------------------------------------------------------------- what is there
+
+-- a far end is one of a reference
+pub opposite_end-reference : (s : Model) (e : End) (o : ObjectNo) (d : End) → IsLegal s → opposite_end (reading s) e o ≡ Some d → (shape s.metamodel d.feature).is_reference ≡ true
+opposite_end-reference s e o d legal is = by (shape s.metamodel e.feature).opposite refl is
+  where
+    by : (q : Option FeatureNo) → (shape s.metamodel e.feature).opposite ≡ q → option_map (far_end o) q ≡ Some d → (shape s.metamodel d.feature).is_reference ≡ true
+    by None _ h = absurd (none-some d h)
+    by (Some g) opposite h = subst (λ (x : End). (shape s.metamodel x.feature).is_reference ≡ true) (same_Some (far_end o g) d h) (far-reference s.metamodel legal.metamodel e.feature g opposite)
+
+-- the value of the name stands in its end
+abbrev pub Stands : Links → Tie → Type 0
+Stands s t = Has s t.end t.value
+
+-- what is held stands where it is held
+held_stands : (s : Links) → IsLegalSet s → (n : Node) (d : End) → holder s n ≡ Some d → Has s d (node_value n)
+held_stands s legal n d h =
+    let l = holder-some s n d h in
+    let at = place_held l.0 n d (legal.placed.sides l.0 l.1) l.2 in
+    (at.0, (legal.placed.ends d).has at.0 (node_value n) (l.0, l.1, at.1))
+
+pub values-linked : (s : Model) (e : End) → (shape s.metamodel e.feature).is_reference ≡ true → (reading s).values e ≡ end s.links e
+values-linked s e reference = rw reference refl
+
+pub ties_at-stand : (s : Model) (e : End) → (shape s.metamodel e.feature).is_reference ≡ true → AllByRecursion (Stands s.links) (ties_at (reading s) e)
+ties_at-stand s e reference =
+    subst (λ (vs : List Value). AllByRecursion (Stands s.links) (map (tie e) vs)) (sym (values-linked s e reference))
+    (all_map (Stands s.links) (tie e) (end s.links e) (all_at (Has s.links e) (end s.links e) (λ k v at. (k, at))))
+
+ties_if_single-stand : (s : Model) (e : End) → (shape s.metamodel e.feature).is_reference ≡ true → AllByRecursion (Stands s.links) (ties_if_single (reading s) e)
+ties_if_single-stand s e reference =
+    elim (shape s.metamodel e.feature).is_single as (λ b. AllByRecursion (Stands s.links) (if b then ties_at (reading s) e else [])) [ true ↦ ties_at-stand s e reference | false ↦ tt ]
+
+far-stand : (s : Model) (e : End) (o : ObjectNo) → IsLegal s → AllByRecursion (Stands s.links) (option_map_or (ties_if_single (reading s)) (opposite_end (reading s) e o) [])
+far-stand s e o legal =
+    elim (shape s.metamodel e.feature).opposite as (λ q. (shape s.metamodel e.feature).opposite ≡ q → AllByRecursion (Stands s.links) (option_map_or (ties_if_single (reading s)) (option_map (far_end o) q) [])) [
+      | None ↦ λ _. tt
+      | Some g ↦ λ h. ties_if_single-stand s (far_end o g) (far-reference s.metamodel legal.metamodel e.feature g h)
+    ] refl
+
+holding-stand : (s : Model) (n : Node) → IsLegal s → AllByRecursion (Stands s.links) (option_to_list (holding_tie (reading s) n))
+holding-stand s n legal =
+    elim (holder s.links n) as (λ q. holder s.links n ≡ q → AllByRecursion (Stands s.links) (option_to_list (option_map (λ (d : End). tie d (node_value n)) q))) [
+      | None ↦ λ _. tt
+      | Some d ↦ λ h. (held_stands s.links legal.links.set n d h, tt)
+    ] refl
+
+part-stand : (s : Model) (q : Option Node) → IsLegal s → AllByRecursion (Stands s.links) (option_map_or (λ n. option_to_list (holding_tie (reading s) n)) q [])
+part-stand s None legal = tt
+part-stand s (Some n) legal = holding-stand s n legal
+
+pub yields-stand : (s : Model) (e : End) (o : ObjectNo) → IsLegal s → (shape s.metamodel e.feature).is_reference ≡ true → AllByRecursion (Stands s.links) (yields (reading s) e o)
+yields-stand s e o legal reference =
+    let P : Tie → Type 0 = Stands s.links in
+    all_once (reading s) P (in_the_way (reading s) e o)
+    (all_append P _ _ (ties_if_single-stand s e reference) (all_append P _ _ (far-stand s e o legal) (part-stand s (contained e o (shape s.metamodel e.feature).containing) legal)))
+
+---------------------------------------------------------------- the cuts of a change
+
+-- a set that is not plain is of a reference, to another value
+pub plain-not : (a b : Bool) → (not a || b) ≡ false → (a ≡ true) × (b ≡ false)
+plain-not true b h = (refl, h)
+plain-not false b h = absurd (false≢true (sym h))
+
+-- what a set that is not plain has to cut, and what an unset of a reference has
+module _ (P : List Tie → Type 0) (s : Model) (n : Node) (f : FeatureNo) (none : P []) where
+  pub set-cuts : (v : Value) → ((shape s.metamodel f).is_reference ≡ true → has_already (reading s) (at_end n f) v ≡ false → P (cut_by_set (reading s) (at_end n f) v)) → P (cut_ties (reading s) (Set n f v))
+  set-cuts v some =
+      elim (is_plain_set (reading s) (at_end n f) v) as (λ b. is_plain_set (reading s) (at_end n f) v ≡ b → P (if b then [] else cut_by_set (reading s) (at_end n f) v)) [
+        | true ↦ λ _. none
+        | false ↦ λ h. let both = plain-not (shape s.metamodel f).is_reference (has_already (reading s) (at_end n f) v) h in some both.0 both.1
+      ] refl
+
+  pub unset-cuts : ((shape s.metamodel f).is_reference ≡ true → P (ties_at (reading s) (at_end n f))) → P (cut_ties (reading s) (Unset n f))
+  unset-cuts some =
+      elim (shape s.metamodel f).is_reference as (λ b. (shape s.metamodel f).is_reference ≡ b → P (if b then ties_at (reading s) (at_end n f) else [])) [ true ↦ some | false ↦ λ _. none ] refl
+
+cut_by_set-stand : (s : Model) (e : End) (v : Value) → IsLegal s → (shape s.metamodel e.feature).is_reference ≡ true → AllByRecursion (Stands s.links) (cut_by_set (reading s) e v)
+cut_by_set-stand s e (value.Object o) legal reference = yields-stand s e o legal reference
+cut_by_set-stand s e _ legal reference = ties_at-stand s e reference
+
+-- each link that a change cuts stands where its name says
+pub cuts-stand : (s : Model) (c : Change) → IsLegal s → AllByRecursion (Stands s.links) (cut_ties (reading s) c)
+cuts-stand s (Create c) legal = tt
+cuts-stand s (Set n f v) legal = set-cuts (AllByRecursion (Stands s.links)) s n f tt v (λ reference _. cut_by_set-stand s (at_end n f) v legal reference)
+cuts-stand s (Unset n f) legal = unset-cuts (AllByRecursion (Stands s.links)) s n f tt (λ reference. ties_at-stand s (at_end n f) reference)
+
+pub cuts-there : (s : Model) (c : Change) → IsLegal s → early_refusal (reading s) c ≡ None → late_refusal (reading s) c ≡ None → AreThere s.links (pairs (cut_ties (reading s) c))
+cuts-there s c legal early late = all_map (λ (t : End × Value). Has s.links t.0 t.1) (λ (t : Tie). (t.end, t.value)) (cut_ties (reading s) c) (cuts-stand s c legal)
+
+-- a single end has one link at most
+pub ties_at-different : (s : Model) (e : End) → IsLegal s → (shape s.metamodel e.feature).is_reference ≡ true → (shape s.metamodel e.feature).is_single ≡ true → AreDifferent (reading s) (ties_at (reading s) e)
+ties_at-different s e legal reference single =
+    subst (λ (vs : List Value). AreDifferent (reading s) (map (tie e) vs)) (sym (values-single s e legal reference single))
+    (elim (object_at s.links e 0) as (λ q. AreDifferent (reading s) (map (tie e) (option_to_list (option_map value.Object q)))) [ None ↦ tt | Some o ↦ (tt, tt) ])
+
+cut_by_set-different : (s : Model) (e : End) (v : Value) → IsLegal s → (shape s.metamodel e.feature).is_reference ≡ true → (shape s.metamodel e.feature).is_single ≡ true → AreDifferent (reading s) (cut_by_set (reading s) e v)
+cut_by_set-different s e (value.Object o) legal reference single = yields-different (reading s) e o
+cut_by_set-different s e _ legal reference single = ties_at-different s e legal reference single
+
+pub cuts-different : (s : Model) (c : Change) → IsLegal s → early_refusal (reading s) c ≡ None → AreDifferent (reading s) (cut_ties (reading s) c)
+cuts-different s (Create c) legal early = tt
+cuts-different s (Set n f v) legal early =
+    set-cuts (AreDifferent (reading s)) s n f tt v (λ reference _. cut_by_set-different s (at_end n f) v legal reference (feature-single (reading s) n f (set-there (reading s) n f v early)))
+cuts-different s (Unset n f) legal early =
+    unset-cuts (AreDifferent (reading s)) s n f tt (λ reference. ties_at-different s (at_end n f) legal reference (feature-single (reading s) n f (unset-there (reading s) n f early)))
+
+pub cuts-once : (s : Model) (c : Change) → IsLegal s → early_refusal (reading s) c ≡ None → late_refusal (reading s) c ≡ None → AreOnce (kinds_of s.metamodel) (pairs (cut_ties (reading s) c))
+cuts-once s c legal early late = once-of_different (reading s) (cut_ties (reading s) c) (cuts-different s c legal early)
+
+---------------------------------------------------------------- room for a new link
+
+-- a link of which each name is among those that a new link displaces
+abbrev IsDisplaced : Model → End → ObjectNo → Tie → Type 0
+IsDisplaced s e o t = list_any (same_link (reading s) t) (yields (reading s) e o) ≡ true
+
+-- an end whose links are all displaced is empty once they are cut
+emptied : (s : Model) (e : End) (o : ObjectNo) (d : End) → IsLegal s → (shape s.metamodel d.feature).is_reference ≡ true → (shape s.metamodel d.feature).is_single ≡ true
+    → AllByRecursion (IsDisplaced s e o) (ties_if_single (reading s) d) → end (without_all s.links (pairs (yields (reading s) e o))) d ≡ []
+emptied s e o d legal reference single all =
+    let ts : List Tie = yields (reading s) e o in
+    let m = kinds_of s.metamodel in
+    let at_d = subst (λ (b : Bool). AllByRecursion (IsDisplaced s e o) (if b then ties_at (reading s) d else [])) single all in
+    let linked = subst (λ (vs : List Value). AllByRecursion (IsDisplaced s e o) (map (tie d) vs)) (values-linked s d reference) at_d in
+    let named : (v : Value) → IsDisplaced s e o (tie d v) → is_named m (pairs ts) d v ≡ true = λ v h. is_named-same_link (reading s) ts (tie d v) ∙ h in
+    end-without_all m (kinds-are s.metamodel legal.metamodel) s.links (pairs ts) legal.links.set legal.links.kinds d
+    ∙ filter_none (is_named m (pairs ts) d) (end s.links d) (all_weaker _ _ (end s.links d) named (all_from_map (IsDisplaced s e o) (tie d) (end s.links d) linked))
+
+-- a single near end is empty once what a new link displaces is cut
+pub near-emptied : (s : Model) (e : End) (o : ObjectNo) → IsLegal s → (shape s.metamodel e.feature).is_reference ≡ true → (shape s.metamodel e.feature).is_single ≡ true
+    → end (without_all s.links (pairs (yields (reading s) e o))) e ≡ []
+near-emptied s e o legal reference single =
+    emptied s e o e legal reference single (all_front (IsDisplaced s e o) (ties_if_single (reading s) e) _ (once-names (reading s) (in_the_way (reading s) e o)))
+
+-- so is a single far end
+pub far-emptied : (s : Model) (e : End) (o : ObjectNo) (g : FeatureNo) → IsLegal s → (shape s.metamodel e.feature).opposite ≡ Some g → (shape s.metamodel g).is_single ≡ true
+    → end (without_all s.links (pairs (yields (reading s) e o))) (far_end o g) ≡ []
+far-emptied s e o g legal opposite single =
+    let P : Tie → Type 0 = IsDisplaced s e o in
+    let rest = all_back P (ties_if_single (reading s) e) _ (once-names (reading s) (in_the_way (reading s) e o)) in
+    let far = all_front P (option_map_or (ties_if_single (reading s)) (opposite_end (reading s) e o) []) _ rest in
+    emptied s e o (far_end o g) legal (far-reference s.metamodel legal.metamodel e.feature g opposite) single
+    (subst (λ (q : Option FeatureNo). AllByRecursion P (option_map_or (ties_if_single (reading s)) (option_map (far_end o) q) [])) opposite far)
+
+-- and what becomes contained is contained by nothing
+pub freed : (s : Model) (e : End) (o : ObjectNo) (x : Node) → IsLegal s → contained e o (shape s.metamodel e.feature).containing ≡ Some x
+    → holder (without_all s.links (pairs (yields (reading s) e o))) x ≡ None
+freed s e o x legal part =
+    let P : Tie → Type 0 = IsDisplaced s e o in
+    let ts : List Tie = yields (reading s) e o in
+    let m = kinds_of s.metamodel in
+    let rest = all_back P (ties_if_single (reading s) e) _ (once-names (reading s) (in_the_way (reading s) e o)) in
+    let parts = all_back P (option_map_or (ties_if_single (reading s)) (opposite_end (reading s) e o) []) _ rest in
+    let held = subst (λ (q : Option Node). AllByRecursion P (option_map_or (λ n. option_to_list (holding_tie (reading s) n)) q [])) part parts in
+    holder-without_all m (kinds-are s.metamodel legal.metamodel) s.links (pairs ts) legal.links.set legal.links.kinds x
+    ∙ elim (holder s.links x) as (λ q. AllByRecursion P (option_to_list (option_map (λ (d : End). tie d (node_value x)) q)) → kept_holder m (pairs ts) x q ≡ None) [
+      | None ↦ λ _. refl
+      | Some d ↦ λ h. ap (λ (b : Bool). if b then None else Some d) (is_named-same_link (reading s) ts (tie d (node_value x)) ∙ h.0)
+    ] held

@@ -1,0 +1,64 @@
+-- What tellings make of one end: those at the other ends change nothing there.
+use Rattle.std.proofs.Common.{◌≡◌, Bool, true, false, cond, List, [], ◌∷◌, ◌++◌, filter, if◌then◌else◌, refl, sym, ap, ◌∙◌}
+use Rattle.std.proofs.lemmas.Bool.{true≢false}
+use Rattle.mm_types.proofs.SameLemmas.{same_end-true}
+use Rattle.mm_types.specs.Ends.{Ends, Held}
+use Rattle.mm_types.specs.Resolved.{Metamodel}
+use Rattle.mm_types.specs.Same.{same_end}
+use Rattle.mm_types.specs.Shapes.{Shape, shape}
+use Rattle.mm_types.specs.declared.end.End.{End}
+use Rattle.handshake.specs.Telling.{changed, flagged, happened, happened_all}
+use Rattle.handshake.specs.declared.happening.Happening.{Happening}
+use Rattle.handshake.specs.declared.happening.Telling.{Telling}
+
+-- what happens to what an end holds
+abbrev pub done : Shape → Happening → Held → Held
+done a x h = record { values = changed a x h.values; flag = flagged a x h.flag }
+
+-- the same, where it happens to d
+abbrev pub done_at : Metamodel → End → Telling → Held → Held
+done_at m d t h = if same_end t.at d then done (shape m d.feature) t.does h else h
+
+-- what tellings make of what d holds
+abbrev pub happened_at : Metamodel → List Telling → End → Held → Held
+happened_at m [] d h = h
+happened_at m (t ∷ ts) d h = happened_at m ts d (done_at m d t h)
+
+happened-done : (m : Metamodel) (e : Ends) (t : Telling) (d : End) → happened m e t d ≡ done_at m d t (e d)
+happened-done m e t d =
+    elim (same_end t.at d) as (λ b. same_end t.at d ≡ b → (if b then done (shape m t.at.feature) t.does (e t.at) else e d) ≡ (if b then done (shape m d.feature) t.does (e d) else e d)) [
+      | true ↦ λ same. ap (λ (x : End). done (shape m x.feature) t.does (e x)) (same_end-true t.at d same)
+      | false ↦ λ _. refl
+    ] refl
+
+-- at an end, tellings do what those at the end do
+pub happened_all-at : (m : Metamodel) (e : Ends) (ts : List Telling) (d : End) → happened_all m e ts d ≡ happened_at m ts d (e d)
+happened_all-at m e [] d = refl
+happened_all-at m e (t ∷ ts) d = happened_all-at m (happened m e t) ts d ∙ ap (happened_at m ts d) (happened-done m e t d)
+
+pub happened_at-append : (m : Metamodel) (xs ys : List Telling) (d : End) (h : Held) → happened_at m (xs ++ ys) d h ≡ happened_at m ys d (happened_at m xs d h)
+happened_at-append m [] ys d h = refl
+happened_at-append m (t ∷ xs) ys d h = happened_at-append m xs ys d (done_at m d t h)
+
+-- an end that a test tells from another one is not that one
+pub apart-of : (q : End → Bool) (x d : End) → q x ≡ false → q d ≡ true → same_end x d ≡ false
+apart-of q x d out within = elim (same_end x d) as (λ b. same_end x d ≡ b → b ≡ false) [
+  | true ↦ λ same. absurd (true≢false (sym within ∙ ap q (sym (same_end-true x d same)) ∙ out))
+  | false ↦ λ _. refl
+] refl
+
+pub done-other : (m : Metamodel) (d : End) (t : Telling) (h : Held) → same_end t.at d ≡ false → done_at m d t h ≡ h
+done-other m d t h other = ap (λ b. if b then done (shape m d.feature) t.does h else h) other
+
+pub done-here : (m : Metamodel) (d : End) (t : Telling) (h : Held) → same_end t.at d ≡ true → done_at m d t h ≡ done (shape m d.feature) t.does h
+done-here m d t h here = ap (λ b. if b then done (shape m d.feature) t.does h else h) here
+
+-- tellings that are left out change nothing where none is left out
+pub happened_at-filter : (m : Metamodel) (q : End → Bool) (ts : List Telling) (d : End) (h : Held) → q d ≡ true → happened_at m (filter (λ x. q x.at) ts) d h ≡ happened_at m ts d h
+happened_at-filter m q [] d h kept = refl
+happened_at-filter m q (t ∷ ts) d h kept =
+    let rest = filter (λ (x : Telling). q x.at) ts in
+    elim (q t.at) as (λ b. q t.at ≡ b → happened_at m (cond b (t ∷ rest) rest) d h ≡ happened_at m ts d (done_at m d t h)) [
+      | true ↦ λ _. happened_at-filter m q ts d (done_at m d t h) kept
+      | false ↦ λ out. happened_at-filter m q ts d h kept ∙ ap (happened_at m ts d) (sym (done-other m d t h (apart-of q t.at d out kept)))
+    ] refl

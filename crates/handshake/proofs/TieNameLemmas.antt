@@ -1,0 +1,126 @@
+-- A link has a name at each of its ends. Two links share no single end, so a name that both have tells that they are one.
+use Rattle.std.proofs.Common.{◌≡◌, ℕ, zero, suc, true, false, IsTrue, List, [], ◌∷◌, slice_get, Option, Some, None, option_map, option_to_list, refl, sym, ap, ◌∙◌, subst, inl, inr}
+use Rattle.std.specs.Prelude.{◌⊎◌}
+use Rattle.std.specs.List.{list_all}
+use Rattle.std.specs.Option.{option_map_or}
+use Rattle.std.proofs.lemmas.Bool.{and_parts, false≢true, or_left, or_right, true≢false}
+use Rattle.std.proofs.lemmas.Option.{none-some, same_Some}
+use Rattle.mm_meta.proofs.ShapeLemmas.{opposites_are_pairs}
+use Rattle.mm_types.specs.Same.{node_value}
+use Rattle.mm_types.specs.Shapes.{shape}
+use Rattle.mm_types.specs.declared.end.End.{End}
+use Rattle.mm_types.specs.declared.numbers.FeatureNo.{FeatureNo}
+use Rattle.mm_types.specs.declared.numbers.Node.TheVariants as node
+use Rattle.mm_types.specs.declared.numbers.Node.{Node}
+use Rattle.mm_types.specs.declared.value.Value.TheVariants as value
+use Rattle.mm_types.specs.declared.value.Value.{Value}
+use Rattle.link_store.proofs.SideLemmas.{both_ends_agree}
+use Rattle.link_store.specs.Links.{end, far_end, object_at}
+use Rattle.link_store.specs.Plans.{Has}
+use Rattle.models.proofs.EndLemmas.{values-single}
+use Rattle.models.specs.Legal.{IsLegal, is_legal_end, is_legal_object, kinds_of}
+use Rattle.models.specs.Model.{Model, reading}
+use Rattle.models.specs.Reading.{Reading, at_end, has_feature}
+use Rattle.handshake.proofs.CutTieLemmas.{Stands, same_tie-self, values-linked}
+use Rattle.handshake.proofs.KnownLemmas.{feature-single, object-reference}
+use Rattle.handshake.specs.Displaced.{other_side, same_link, same_tie, tie, turned}
+use Rattle.handshake.specs.declared.tie.Tie.{Tie}
+
+---------------------------------------------------------------- what stands in legal ends
+
+-- an end in which something stands is one of a reference of its node
+pub record IsOpen (s : Model) (e : End) : Type 0 where
+  pub has : has_feature (reading s) e.node e.feature ≡ true
+  pub reference : (shape s.metamodel e.feature).is_reference ≡ true
+
+object_takes : (s : Model) (f : FeatureNo) (v : Value) → is_legal_object (reading s) f v ≡ true → (shape s.metamodel f).is_reference ≡ true
+object_takes s f (value.Object o) h = object-reference s.metamodel (reading s).class f o h
+object_takes s f _ h = absurd (false≢true h)
+
+open_by : (s : Model) (e : End) (vs : List Value) (k : ℕ) (v : Value) → IsTrue (is_legal_end (reading s) e vs) → slice_get vs k ≡ Some v → IsOpen s e
+open_by s e [] k v legal at = absurd (none-some v at)
+open_by s e (w ∷ ws) k v legal at =
+    let all = and_parts (has_feature (reading s) e.node e.feature) _ legal in
+    let typed = and_parts (list_all (is_legal_object (reading s) e.feature) (w ∷ ws)) _ all.1 in
+    record { has = all.0; reference = object_takes s e.feature w (and_parts (is_legal_object (reading s) e.feature w) _ typed.0).0 }
+
+pub open-of : (s : Model) → IsLegal s → (t : Tie) → Stands s.links t → IsOpen s t.end
+open-of s legal t at = open_by s t.end (end s.links t.end) at.0 t.value (legal.links.ends t.end) at.1
+
+one_of : (o : Option Value) (j k : ℕ) (v w : Value) → slice_get (option_to_list o) j ≡ Some v → slice_get (option_to_list o) k ≡ Some w → v ≡ w
+one_of None j k v w a b = absurd (none-some v a)
+one_of (Some x) zero zero v w a b = same_Some v w (sym a ∙ b)
+one_of (Some x) zero (suc k) v w a b = absurd (none-some w b)
+one_of (Some x) (suc j) k v w a b = absurd (none-some v a)
+
+-- a single end has one value
+one_value : (s : Model) → IsLegal s → (t u : Tie) → t.end ≡ u.end → Stands s.links t → Stands s.links u → t.value ≡ u.value
+one_value s legal t u same at_t at_u =
+    let o = open-of s legal t at_t in
+    let single = feature-single (reading s) t.end.node t.end.feature o.has in
+    let is : end s.links t.end ≡ option_to_list (option_map value.Object (object_at s.links t.end 0)) = sym (values-linked s t.end o.reference) ∙ values-single s t.end legal o.reference single in
+    let here = subst (λ (e : End). slice_get (end s.links e) at_u.0 ≡ Some u.value) (sym same) at_u.1 in
+    one_of (option_map value.Object (object_at s.links t.end 0)) at_t.0 at_u.0 t.value u.value
+    (subst (λ (vs : List Value). slice_get vs at_t.0 ≡ Some t.value) is at_t.1)
+    (subst (λ (vs : List Value). slice_get vs at_u.0 ≡ Some u.value) is here)
+
+---------------------------------------------------------------- the two names of a link
+
+abbrev pub IsNameOf : Reading → Tie → Tie → Type 0
+IsNameOf r t y = (y ≡ t) ⊎ (turned r t ≡ Some y)
+
+module _ (s : Model) (legal : IsLegal s) where
+  turned_by-stands : (e : End) (v : Value) (q : Option FeatureNo) (y : Tie) → (shape s.metamodel e.feature).opposite ≡ q → Has s.links e v → other_side e.node v q ≡ Some y → Has s.links y.end y.value
+  turned_by-stands e (value.Object o) (Some g) y opposite at is =
+      let there : Has s.links (far_end o g) (node_value e.node) = both_ends_agree (kinds_of s.metamodel) s.links legal.links.set legal.links.kinds e (far_end o g) opposite at in
+      subst (λ (x : Tie). Has s.links x.end x.value) (same_Some (tie (far_end o g) (node_value e.node)) y is) there
+  turned_by-stands e v q y opposite at is = absurd (none-some y is)
+
+  pub name-stands : (t y : Tie) → Stands s.links t → IsNameOf (reading s) t y → Stands s.links y
+  name-stands t y at (inl same) = subst (λ (x : Tie). Stands s.links x) (sym same) at
+  name-stands t y at (inr is) = turned_by-stands t.end t.value (shape s.metamodel t.end.feature).opposite y refl at is
+
+  turned_by-apart : (e : End) (v : Value) (q : Option FeatureNo) (y : Tie) → (shape s.metamodel e.feature).opposite ≡ q → other_side e.node v q ≡ Some y → e ≡ y.end → ⊥
+  turned_by-apart e (value.Object o) (Some g) y opposite is same =
+      let far : far_end o g ≡ e = ap (λ (x : Tie). x.end) (same_Some (tie (far_end o g) (node_value e.node)) y is) ∙ sym same in
+      (opposites_are_pairs s.metamodel legal.metamodel e.feature g opposite).apart (ap (λ (x : End). x.feature.0) far)
+  turned_by-apart e v q y opposite is same = absurd (none-some y is)
+
+  -- the two ends of a link are two
+  pub turned-apart : (t y : Tie) → turned (reading s) t ≡ Some y → t.end ≡ y.end → ⊥
+  turned-apart t y is = turned_by-apart t.end t.value (shape s.metamodel t.end.feature).opposite y refl is
+
+  turned_by-back : (n : Node) (f : FeatureNo) (v : Value) (q : Option FeatureNo) (y : Tie) → (shape s.metamodel f).opposite ≡ q → has_feature (reading s) n f ≡ true → other_side n v q ≡ Some y
+      → turned (reading s) y ≡ Some (tie (at_end n f) v)
+  turned_by-back (node.Object p) f (value.Object o) (Some g) y opposite has is =
+      let back : turned (reading s) (tie (far_end o g) (value.Object p)) ≡ Some (tie (far_end p f) (value.Object o)) =
+      ap (other_side (node.Object o) (value.Object p)) (opposites_are_pairs s.metamodel legal.metamodel f g opposite).back in
+      subst (λ (x : Tie). turned (reading s) x ≡ Some (tie (far_end p f) (value.Object o))) (same_Some (tie (far_end o g) (value.Object p)) y is) back
+  turned_by-back (node.Resource k) f v q y opposite has is = absurd (false≢true has)
+  turned_by-back n f v q y opposite has is = absurd (none-some y is)
+
+  -- what is turned twice is as it was
+  turned-back : (t y : Tie) → Stands s.links t → turned (reading s) t ≡ Some y → turned (reading s) y ≡ Some t
+  turned-back t y at is = turned_by-back t.end.node t.end.feature t.value (shape s.metamodel t.end.feature).opposite y refl (open-of s legal t at).has is
+
+  ---------------------------------------------------------------- links that are different
+
+  linked_by : (t u y : Tie) → turned (reading s) t ≡ Some y → same_tie u y ≡ true → same_link (reading s) u t ≡ true
+  linked_by t u y is same = or_right (same_tie u t) _ (ap (λ (o : Option Tie). option_map_or (same_tie u) o false) is ∙ same)
+
+  -- a name of each of two links that is the same tells that they are one
+  one_link : (t u y : Tie) → Stands s.links t → Stands s.links u → IsNameOf (reading s) t y → IsNameOf (reading s) u y → same_link (reading s) u t ≡ true
+  one_link t u y at_t at_u (inl is_t) (inl is_u) = or_left (same_tie u t) _ (subst (λ (x : Tie). same_tie u x ≡ true) (sym is_u ∙ is_t) (same_tie-self u))
+  one_link t u y at_t at_u (inr is_t) (inl is_u) = linked_by t u y is_t (subst (λ (x : Tie). same_tie u x ≡ true) (sym is_u) (same_tie-self u))
+  one_link t u y at_t at_u (inl is_t) (inr is_u) =
+      linked_by t u u (ap (turned (reading s)) (sym is_t) ∙ turned-back u y at_u is_u) (same_tie-self u)
+  one_link t u y at_t at_u (inr is_t) (inr is_u) =
+      let same : t ≡ u = same_Some t u (sym (turned-back t y at_t is_t) ∙ turned-back u y at_u is_u) in
+      or_left (same_tie u t) _ (subst (λ (x : Tie). same_tie u x ≡ true) (sym same) (same_tie-self u))
+
+  -- two links share no single end
+  pub names-apart : (t u y z : Tie) → Stands s.links t → Stands s.links u → same_link (reading s) u t ≡ false → IsNameOf (reading s) t y → IsNameOf (reading s) u z → y.end ≡ z.end → ⊥
+  names-apart t u y z at_t at_u other name_y name_z same =
+      let values = one_value s legal y z same (name-stands t y at_t name_y) (name-stands u z at_u name_z) in
+      let is : y ≡ z = λ i. tie (same i) (values i) in
+      true≢false (sym (one_link t u y at_t at_u name_y (subst (IsNameOf (reading s) u) (sym is) name_z)) ∙ other)

@@ -1,0 +1,89 @@
+-- Which links a change cuts: those that a new link displaces (EMF: EObjectWithInverse.eInverseRemove, eBasicRemoveFromContainer), or
+-- those of an end that is emptied.
+use Rattle.std.specs.Prelude.{◌&&◌, ◌||◌, Bool, false, not, List, [], ◌∷◌, ◌++◌, map, Option, fold, Some, None, option_map, option_to_list, if◌then◌else◌}
+use Rattle.std.specs.List.{list_any}
+use Rattle.std.specs.Option.{option_map_or}
+use Rattle.mm_types.specs.Same.{node_value, same_end, same_value}
+use Rattle.mm_types.specs.declared.numbers.FeatureNo.{FeatureNo}
+use Rattle.mm_types.specs.declared.numbers.ObjectNo.{ObjectNo}
+use Rattle.mm_types.specs.declared.numbers.Node.{Node}
+use Rattle.mm_types.specs.declared.end.End.{End}
+use Rattle.mm_types.specs.declared.value.Value.{Value}
+use Rattle.mm_types.specs.declared.value.Value.TheVariants as value
+use Rattle.handshake.specs.declared.tie.Tie.{Tie}
+use Rattle.link_store.specs.Links.{far_end}
+use Rattle.link_store.specs.Holders.{contained}
+use Rattle.models.specs.Reading.{Reading, at_end, shape_at, value_at}
+use Rattle.handshake.specs.declared.change.Change.{Change}
+use Rattle.handshake.specs.declared.change.Change.TheVariants.{Create, Set, Unset}
+
+abbrev pub tie : End → Value → Tie
+tie e v = record { end = e; value = v }
+
+-- the same link by its other end, if it has one
+abbrev pub other_side : Node → Value → Option FeatureNo → Option Tie
+other_side n (value.Object o) (Some g) = Some (tie (far_end o g) (node_value n))
+other_side n _ _ = None
+
+abbrev pub turned : Reading → Tie → Option Tie
+turned r t = other_side t.end.node t.value (shape_at r t.end).opposite
+
+abbrev pub same_tie : Tie → Tie → Bool
+same_tie t u = same_end t.end u.end && same_value t.value u.value
+
+abbrev pub same_link : Reading → Tie → Tie → Bool
+same_link r t u = same_tie t u || option_map_or (same_tie t) (turned r u) false
+
+-- those that stand in an end
+abbrev pub ties_at : Reading → End → List Tie
+ties_at r e = map (tie e) (r.values e)
+
+abbrev pub ties_if_single : Reading → End → List Tie
+ties_if_single r e = if (shape_at r e).is_single then ties_at r e else []
+
+-- the opposite end of a link between e and an object
+abbrev pub opposite_end : Reading → End → ObjectNo → Option End
+opposite_end r e o = option_map (far_end o) (shape_at r e).opposite
+
+-- the link that contains a node
+abbrev pub holding_tie : Reading → Node → Option Tie
+holding_tie r n = option_map (λ d. tie d (node_value n)) (r.holder n)
+
+-- a link and those before it, unless one of these is the same
+abbrev pub with_tie : Reading → List Tie → Tie → List Tie
+with_tie r ts t = if list_any (same_link r t) ts then ts else ts ++ t ∷ []
+
+-- each link once, by the first of its names
+abbrev pub once : Reading → List Tie → List Tie
+once r ts = fold (with_tie r) [] ts
+
+-- the link of what a single end has, the link of what the opposite end has, and the one that contains what becomes contained
+abbrev pub in_the_way : Reading → End → ObjectNo → List Tie
+in_the_way r e o =
+    ties_if_single r e
+    ++ (option_map_or (ties_if_single r) (opposite_end r e o) []
+    ++ option_map_or (λ n. option_to_list (holding_tie r n)) (contained e o (shape_at r e).containing) [])
+
+-- what a new link of an object at e displaces
+abbrev pub yields : Reading → End → ObjectNo → List Tie
+yields r e o = once r (in_the_way r e o)
+
+---------------------------------------------------------------- changes
+
+-- a single end has the value already
+abbrev pub has_already : Reading → End → Value → Bool
+has_already r e v = same_value v (value_at r e)
+
+-- a set that makes and cuts no link: of an attribute, or to the value that is there
+abbrev pub is_plain_set : Reading → End → Value → Bool
+is_plain_set r e v = not (shape_at r e).is_reference || has_already r e v
+
+abbrev pub cut_by_set : Reading → End → Value → List Tie
+cut_by_set r e (value.Object o) = yields r e o
+cut_by_set r e v = ties_at r e
+
+-- the links that a change cuts, in order
+abbrev pub cut_ties : Reading → Change → List Tie
+cut_ties r (Create c) = []
+cut_ties r (Set n f v) = let e = at_end n f in if is_plain_set r e v then [] else cut_by_set r e v
+cut_ties r (Unset n f) = let e = at_end n f in if (shape_at r e).is_reference then ties_at r e else []

@@ -1,0 +1,188 @@
+//! Which links a change cuts.
+ghost use Rattle.std.specs.Prelude.{◌≡◌, true, fold, None, OnOk, IfOk, option_to_list};
+ghost use Rattle.mm_types.specs.Shapes.{shape};
+ghost use Rattle.link_store.specs.Holders as h;
+ghost use Rattle.models.specs.Model.{reading};
+ghost use Rattle.handshake.specs.Displaced as d;
+ghost use Rattle.handshake.specs.Refusals as refusals;
+
+use crate::change::Change;
+use crate::tie::{Tie, is_among, node_value, opposite_end};
+use link_store::LinkStore;
+use mm_meta::Meta;
+use mm_types::{End, Node, ObjectNo, Value};
+use models::{ModelRef, is_reference, is_single};
+use std::alloc::{AllocError, Global};
+
+/// What a new link of an object at an end displaces, each link once.
+pub(crate) fn yields<L: LinkStore>(
+    alloc: Global,
+    model: &ModelRef<L>,
+    end: End,
+    object: ObjectNo,
+) -> Result<Vec<Tie>, AllocError>
+    requires reference { (shape model.now.metamodel end.feature).is_reference ≡ true }
+    ensures { IfOk result (λ ts. ts.items ≡ d.yields (reading model.now) end object) }
+{
+    model.is_legal();
+    let mut ties = Vec::new(alloc);
+    add_held(model, end, &mut ties)?;
+    if let Some(far) = opposite_end(model, end, object) {
+        add_held(model, far, &mut ties)?;
+    }
+    if let Some(part) = contained(model.meta(), end, object) {
+        add_holding(model, part, &mut ties)?;
+    }
+    Ok(ties)
+}
+
+/// Adds the link of what a single end has.
+fn add_held<L: LinkStore>(
+    model: &ModelRef<L>,
+    end: End,
+    ties: &mut Vec<Tie>,
+) -> Result<(), AllocError>
+    requires reference { (shape model.now.metamodel end.feature).is_reference ≡ true }
+    ensures { OnOk result (ties.new.items ≡ fold (d.with_tie (reading model.now)) ties.old.items (d.ties_if_single (reading model.now) end)) }
+{
+    if !is_single(model.meta(), end.feature) {
+        return Ok(());
+    }
+    match model.object_at(end) {
+        Some(held) => add(
+            model,
+            Tie {
+                end,
+                value: Value::Object(held),
+            },
+            ties,
+        ),
+        None => Ok(()),
+    }
+}
+
+/// Adds the link that contains a node.
+fn add_holding<L: LinkStore>(
+    model: &ModelRef<L>,
+    node: Node,
+    ties: &mut Vec<Tie>,
+) -> Result<(), AllocError>
+    ensures { OnOk result (ties.new.items ≡ fold (d.with_tie (reading model.now)) ties.old.items (option_to_list (d.holding_tie (reading model.now) node))) }
+{
+    match model.holder(node) {
+        Some(end) => add(
+            model,
+            Tie {
+                end,
+                value: node_value(node),
+            },
+            ties,
+        ),
+        None => Ok(()),
+    }
+}
+
+/// Adds a link, unless it is there.
+fn add<L: LinkStore>(model: &ModelRef<L>, tie: Tie, ties: &mut Vec<Tie>) -> Result<(), AllocError>
+    ensures { OnOk result (ties.new.items ≡ d.with_tie (reading model.now) ties.old.items tie) }
+{
+    if is_among(model, ties, &tie) {
+        return Ok(());
+    }
+    ties.push(tie)?;
+    Ok(())
+}
+
+/// The node that becomes contained when an object is put into an end.
+fn contained(meta: &Meta, end: End, object: ObjectNo) -> Option<Node>
+    ensures { result ≡ h.contained end object (shape meta.now end.feature).containing }
+{
+    match meta.containing(end.feature) {
+        Some(containing) if containing == end.feature => Some(Node::Object(object)),
+        Some(_) => Some(end.node),
+        None => None,
+    }
+}
+
+/// The links that a change cuts, in order.
+pub(crate) fn cut_ties<L: LinkStore>(
+    alloc: Global,
+    model: &ModelRef<L>,
+    change: &Change,
+) -> Result<Vec<Tie>, AllocError>
+    requires asked { refusals.early_refusal (reading model.now) change.now ≡ None }
+    ensures { IfOk result (λ ts. ts.items ≡ d.cut_ties (reading model.now) change.now) }
+{
+    match change {
+        Change::Create(_) => Ok(Vec::new(alloc)),
+        Change::Set {
+            node,
+            feature,
+            value,
+        } => {
+            let end = End {
+                node: *node,
+                feature: *feature,
+            };
+            if is_plain_set(model, end, value) {
+                return Ok(Vec::new(alloc));
+            }
+            match value {
+                Value::Object(object) => yields(alloc, model, end, *object),
+                _ => ties_at(alloc, model, end),
+            }
+        }
+        Change::Unset { node, feature } => {
+            if !is_reference(model.meta(), *feature) {
+                return Ok(Vec::new(alloc));
+            }
+            let end = End {
+                node: *node,
+                feature: *feature,
+            };
+            ties_at(alloc, model, end)
+        }
+    }
+}
+
+/// The links of a single reference.
+fn ties_at<L: LinkStore>(
+    alloc: Global,
+    model: &ModelRef<L>,
+    end: End,
+) -> Result<Vec<Tie>, AllocError>
+    requires reference { (shape model.now.metamodel end.feature).is_reference ≡ true }
+    requires single { (shape model.now.metamodel end.feature).is_single ≡ true }
+    ensures { IfOk result (λ ts. ts.items ≡ d.ties_at (reading model.now) end) }
+{
+    let mut ties = Vec::new(alloc);
+    if let Some(object) = model.object_at(end) {
+        ties.push(Tie {
+            end,
+            value: Value::Object(object),
+        })?;
+    }
+    Ok(ties)
+}
+
+/// Whether a set makes and cuts no link: of an attribute, or to the value that is there.
+pub(crate) fn is_plain_set<L: LinkStore>(model: &ModelRef<L>, end: End, value: &Value) -> bool
+    ensures { result ≡ d.is_plain_set (reading model.now) end value.now }
+{
+    if !is_reference(model.meta(), end.feature) {
+        return true;
+    }
+    has_already(model, end, value)
+}
+
+/// Whether a single reference has a value already.
+pub(crate) fn has_already<L: LinkStore>(model: &ModelRef<L>, end: End, value: &Value) -> bool
+    requires reference { (shape model.now.metamodel end.feature).is_reference ≡ true }
+    ensures { result ≡ d.has_already (reading model.now) end value.now }
+{
+    match (value, model.object_at(end)) {
+        (Value::Null, None) => true,
+        (Value::Object(a), Some(b)) => a.0 == b.0,
+        _ => false,
+    }
+}

@@ -1,0 +1,99 @@
+//! Links, each named by one of its ends.
+ghost use Rattle.std.specs.Prelude.{◌≡◌};
+ghost use Rattle.std.specs.List.{list_any};
+ghost use Rattle.mm_types.specs.Same as same;
+ghost use Rattle.models.specs.Model.{reading};
+ghost use Rattle.link_store.specs.Links.{far_end as far_end_of};
+ghost use Rattle.handshake.specs.Displaced as d;
+
+use link_store::LinkStore;
+use mm_types::{End, FeatureNo, Node, ObjectNo, Value};
+use models::{ModelRef, is_same, opposite};
+
+/// A link or a proxy, named by an end in which it stands and its value there: no edit of another link changes that name.
+#[derive(Debug, Drop)]
+pub struct Tie {
+    pub end: End,
+    pub value: Value,
+}
+
+/// An object as a value; a resource is the value of no end.
+pub(crate) fn node_value(node: Node) -> Value
+    ensures { result ≡ same.node_value node }
+{
+    match node {
+        Node::Object(object) => Value::Object(object),
+        Node::Resource(_) => Value::Null,
+    }
+}
+
+/// The end of an object under a feature.
+pub(crate) fn far_end(object: ObjectNo, feature: FeatureNo) -> End
+    ensures { result ≡ far_end_of object feature }
+{
+    End {
+        node: Node::Object(object),
+        feature,
+    }
+}
+
+/// The opposite end of a link between an end and an object.
+pub(crate) fn opposite_end<L: LinkStore>(
+    model: &ModelRef<L>,
+    end: End,
+    object: ObjectNo,
+) -> Option<End>
+    ensures { result ≡ d.opposite_end (reading model.now) end object }
+{
+    match opposite(model.meta(), end.feature) {
+        Some(feature) => Some(far_end(object, feature)),
+        None => None,
+    }
+}
+
+/// The same link by its other end, where it has one.
+pub(crate) fn turned<L: LinkStore>(model: &ModelRef<L>, tie: &Tie) -> Option<Tie>
+    ensures { result ≡ d.turned (reading model.now) tie.now }
+{
+    match &tie.value {
+        Value::Object(object) => match opposite_end(model, tie.end, *object) {
+            Some(end) => Some(Tie {
+                end,
+                value: node_value(tie.end.node),
+            }),
+            None => None,
+        },
+        _ => None,
+    }
+}
+
+fn is_same_tie(a: &Tie, b: &Tie) -> bool
+    ensures { result ≡ d.same_tie a.now b.now }
+{
+    a.end == b.end && is_same(&a.value, &b.value)
+}
+
+/// Whether two names are of one link.
+fn is_same_link<L: LinkStore>(model: &ModelRef<L>, a: &Tie, b: &Tie) -> bool
+    ensures { result ≡ d.same_link (reading model.now) a.now b.now }
+{
+    if is_same_tie(a, b) {
+        return true;
+    }
+    match turned(model, b) {
+        Some(b) => is_same_tie(a, &b),
+        None => false,
+    }
+}
+
+/// Whether a link is among some.
+pub(crate) fn is_among<L: LinkStore>(model: &ModelRef<L>, ties: &[Tie], tie: &Tie) -> bool
+    ensures { result ≡ list_any (d.same_link (reading model.now) tie.now) ties.now }
+{
+    for other in ties {
+        if is_same_link(model, tie, other) {
+            return true;
+        }
+    }
+    false
+}

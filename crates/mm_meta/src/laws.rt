@@ -1,0 +1,34 @@
+//! Laws of the metamodels that documents give, each the contract of a function that does nothing.
+ghost use Rattle.std.specs.Prelude.{◌≡◌};
+ghost use Rattle.mm_types.specs.Lookups.{opposite};
+ghost use Rattle.mm_types.specs.OfDocument.{IsOfDocument};
+ghost use Rattle.mm_types.specs.Resolved.{Metamodel};
+ghost use Rattle.mm_types.specs.Shapes.{shape};
+ghost use Rattle.mm_types.specs.declared.numbers.FeatureNo.{FeatureNo};
+ghost use Rattle.mm_meta.specs.Laws.{ConformanceIsComputed, ContainingIsKnown, FarTypesFit, OppositesArePairs, TakesWhatHasTheOpposite};
+
+/// A class conforms to another exactly where a search up its supertypes, of no more steps than there are classes,
+/// finds the other: no class inherits from itself.
+pub fn conformance()
+    ensures { (m : Metamodel) → IsOfDocument m → ConformanceIsComputed m }
+{}
+
+/// The opposite of a reference is another reference, whose opposite is the first one. The same feature contains
+/// for both of them, if one does (MOF 2.5.1: Property, opposite; EMF: EReference.eOpposite).
+pub fn opposites()
+    ensures pairs { (m : Metamodel) → IsOfDocument m → OppositesArePairs m }
+    ensures shape { (m : Metamodel) (f : FeatureNo) → (shape m f).opposite ≡ opposite m f }
+{}
+
+/// The feature that contains what a feature links is the feature itself, or the opposite of the feature, which is
+/// then single: an object has one container (EMF: EReference.isContainment, isContainer). Of `contents` it is `contents`.
+pub fn containers()
+    ensures { (m : Metamodel) → IsOfDocument m → ContainingIsKnown m }
+{}
+
+/// The type of a reference is the class that declares its opposite. So a reference takes exactly the objects whose
+/// classes have its opposite, and an object may stand at one end of a link where the other may stand at the opposite end.
+pub fn far_types()
+    ensures takes { (m : Metamodel) → IsOfDocument m → TakesWhatHasTheOpposite m }
+    ensures fit { (m : Metamodel) → IsOfDocument m → FarTypesFit m }
+{}

@@ -1,0 +1,54 @@
+//! A metamodel of cups, each the lid of another, and repositories of them.
+use crate::books::{RowRepository, empty, metamodel, object};
+use adapters::Adapter;
+use mm_types::{ClassNo, FeatureNo, MetaFault, ObjectNo, Refused, Value};
+use repository::Reply;
+use std::alloc::Global;
+use std::test::Fail;
+
+/// Cups with a label, each with a cup as its lid, which it contains; the lid is on the cup.
+pub(crate) const CUPS: &str = r#"{"classes":[{"name":"Cup","features":[
+{"name":"label","kind":"attribute","type":"EString"},
+{"name":"lid","kind":"reference","type":"Cup","containment":true,"opposite":"on"},
+{"name":"on","kind":"reference","type":"Cup","opposite":"lid"}]}]}"#;
+
+pub(crate) const CUP: ClassNo = ClassNo(0);
+
+pub(crate) const LABEL: FeatureNo = FeatureNo(0);
+
+pub(crate) const LID: FeatureNo = FeatureNo(1);
+
+pub(crate) const ON: FeatureNo = FeatureNo(2);
+
+fn no_cups<A: Adapter>(alloc: Global) -> Result<Box<RowRepository<A>>, MetaFault> {
+    empty(alloc, metamodel(alloc, CUPS)?)
+}
+
+/// Makes a cup; where memory is refused, it is asked for once more.
+fn make_cup<A: Adapter>(repository: &mut RowRepository<A>) -> Result<(), Refused> {
+    if repository.create(CUP).is_err() {
+        repository.create(CUP)?;
+    }
+    Ok(())
+}
+
+/// A repository of some cups, numbered from 0, of which none is a lid. Where memory is refused, it is asked for once more.
+pub(crate) fn cups<A: Adapter>(alloc: Global, count: u32) -> Result<Box<RowRepository<A>>, Fail> {
+    let mut repository = match no_cups(alloc) {
+        Ok(repository) => repository,
+        Err(_) => no_cups(alloc)?,
+    };
+    for _ in 0..count {
+        make_cup(&mut repository)?;
+    }
+    Ok(repository)
+}
+
+/// Makes a cup the lid of another.
+pub(crate) fn put_lid<A: Adapter>(
+    repository: &mut RowRepository<A>,
+    cup: u32,
+    lid: u32,
+) -> Result<Reply<A>, Refused> {
+    repository.e_set(object(cup), LID, Value::Object(ObjectNo(lid)))
+}

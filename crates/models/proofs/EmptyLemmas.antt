@@ -1,0 +1,38 @@
+-- An empty model is legal.
+use Rattle.std.proofs.Common.{◌≡◌, IsTrue, List, [], ◌∷◌, slice_get, Some, refl, sym, ap, ◌∙◌, arith}
+use Rattle.std.specs.FinSet as set
+use Rattle.std.proofs.lemmas.Bool.{false≢true}
+use Rattle.std.proofs.lemmas.List.Elements.{All-nil}
+use Rattle.mm_types.specs.OfDocument.{IsOfDocument}
+use Rattle.mm_types.specs.Resolved.{Metamodel}
+use Rattle.mm_types.specs.declared.end.End.{End}
+use Rattle.mm_types.specs.declared.value.Value.{Value}
+use Rattle.link_store.specs.Links.{end, no_links}
+use Rattle.link_store.specs.Order.{link_cmp}
+use Rattle.link_store.proofs.CycleLemmas.{none_no_cycle}
+use Rattle.link_store.proofs.LegalLemmas.{none_kinds, none_legal}
+use Rattle.models.specs.Legal.{IsLegal, IsLegalObject, is_legal_end, kinds_of}
+use Rattle.models.specs.Model.{empty_model, reading}
+
+-- no links leave no end anything
+empty-end : (e : End) → end no_links e ≡ []
+empty-end e = elim (end no_links e) as (λ vs. end no_links e ≡ vs → vs ≡ []) [
+  | [] ↦ λ h. refl
+  | v ∷ vs ↦ λ h.
+      let st = (none_legal.placed.ends e).only 0 v (ap (λ (xs : List Value). slice_get xs 0) h) in
+      absurd (false≢true (sym (set.contains-empty link_cmp st.0) ∙ st.1))
+] refl
+
+pub empty-legal : (m : Metamodel) → IsOfDocument m → IsLegal (empty_model m)
+empty-legal m accepted =
+    record {
+      metamodel = accepted;
+      count = omega arith;
+      objects = All-nil (IsLegalObject m);
+      links = record {
+        set = none_legal;
+        kinds = none_kinds (kinds_of m);
+        forest = none_no_cycle;
+        ends = λ e. rw (empty-end e) refl;
+      };
+    }

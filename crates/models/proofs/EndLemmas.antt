@@ -1,0 +1,90 @@
+-- What stands at the ends of references.
+use Rattle.std.proofs.Common.{◌≡◌, ◌≤◌, nat_le, arith, pos, option_to_list, ℕ, zero, suc, Bool, true, false, ◌&&◌, IsTrue, List, [], ◌∷◌, length, slice_get, Option, Some, None, unwrap_or, option_map, option_and_then, if◌then◌else◌, refl, sym, ap, ◌∙◌, subst}
+use Rattle.std.specs.Prelude.{int_le}
+use Rattle.std.specs.List.{list_all}
+use Rattle.std.proofs.lemmas.Bool.{and_parts}
+use Rattle.mm_types.specs.Ends.{shown, value_in}
+use Rattle.mm_types.specs.Lookups.{is_object}
+use Rattle.std.proofs.lemmas.Bool.Decides.{Decides-int_eq, nat_tests}
+use Rattle.std.specs.Option.{option_map_or}
+use Rattle.mm_types.specs.Lookups as lookups
+use Rattle.mm_types.specs.Resolved.{Metamodel}
+use Rattle.mm_types.specs.Shapes.{Shape, contents_shape, shape, shape_of}
+use Rattle.mm_types.specs.declared.feature.Feature.{Feature}
+use Rattle.mm_types.specs.declared.feature.Kind.{Kind}
+use Rattle.mm_types.specs.declared.feature.Kind.TheVariants.{Attribute, Reference}
+use Rattle.mm_types.specs.declared.limits.TheConstants.{LIST_VALUES}
+use Rattle.mm_types.specs.declared.numbers.FeatureNo.{FeatureNo}
+use Rattle.mm_types.specs.declared.end.End.{End}
+use Rattle.mm_types.specs.declared.value.Value.{Value}
+use Rattle.mm_types.specs.declared.value.Value.TheVariants as value
+use Rattle.link_store.specs.Links.{end, object_at, object_of}
+use Rattle.models.specs.Legal.{IsLegal, is_bounded, is_legal_end, is_legal_object}
+use Rattle.models.specs.Model.{Model, reading}
+use Rattle.models.specs.Reading.{Reading, has_feature, shape_at, value_at}
+
+shown-none : (b : Bool) → value_in (shown b []) 0 ≡ value.Null
+shown-none true = refl
+shown-none false = refl
+
+shown-some : (b : Bool) (v : Value) (vs : List Value) → value_in (shown b (v ∷ vs)) 0 ≡ v
+shown-some true v vs = refl
+shown-some false v vs = refl
+
+object-is : (v : Value) → IsTrue (is_object v) → unwrap_or (option_map value.Object (object_of v)) value.Null ≡ v
+object-is (value.Object o) h = refl
+object-is value.Null h = cc
+object-is (value.Bool b) h = cc
+object-is (value.Int n) h = cc
+object-is (value.Text t) h = cc
+object-is (value.Literal i) h = cc
+object-is (value.Proxy t) h = cc
+object-is (value.Adapter a) h = cc
+
+single-object : (v : Value) → IsTrue (is_object v) → v ∷ [] ≡ option_to_list (option_map value.Object (object_of v))
+single-object (value.Object o) h = refl
+single-object value.Null h = cc
+single-object (value.Bool b) h = cc
+single-object (value.Int n) h = cc
+single-object (value.Text t) h = cc
+single-object (value.Literal i) h = cc
+single-object (value.Proxy t) h = cc
+single-object (value.Adapter a) h = cc
+
+-- the first object of a legal end is its first value
+first-object : (r : Reading) (e : End) (b : Bool) (vs : List Value) → IsTrue (is_legal_end r e vs) → unwrap_or (option_map value.Object (option_and_then object_of (slice_get vs 0))) value.Null ≡ value_in (shown b vs) 0
+first-object r e b [] h = sym (shown-none b)
+first-object r e b (v ∷ vs) h = object-is v (and_parts _ _ (and_parts _ _ (and_parts _ _ (and_parts _ _ h).1).0).0).0 ∙ sym (shown-some b v vs)
+
+pub value_at-object : (s : Model) (e : End) → IsLegal s → (shape s.metamodel e.feature).is_reference ≡ true → unwrap_or (option_map value.Object (object_at s.links e 0)) value.Null ≡ value_at (reading s) e
+value_at-object s e legal reference = rw reference (first-object (reading s) e (shape s.metamodel e.feature).is_single (end s.links e) (legal.links.ends e))
+
+---------------------------------------------------------------- single ends
+
+upper-of : (m : Metamodel) (f : FeatureNo) (g : Feature) (k : Kind) → (shape_of m f g k).is_single ≡ true → (shape_of m f g k).upper ≡ pos 1
+upper-of m f g (Attribute t unique unsettable default) h = (Decides-int_eq g.upper (pos 1)).0 h
+upper-of m f g (Reference target containment opposite) h = (Decides-int_eq g.upper (pos 1)).0 h
+
+upper-from : (m : Metamodel) (f : FeatureNo) (o : Option Feature) → (option_map_or (λ g. shape_of m f g g.kind) o (contents_shape m)).is_single ≡ true → (option_map_or (λ g. shape_of m f g g.kind) o (contents_shape m)).upper ≡ pos 1
+upper-from m f None h = cc
+upper-from m f (Some g) h = upper-of m f g g.kind h
+
+-- a single feature has one value at most
+pub upper-single : (m : Metamodel) (f : FeatureNo) → (shape m f).is_single ≡ true → (shape m f).upper ≡ pos 1
+upper-single m f h = upper-from m f (lookups.feature m f) h
+
+bounded-one : (a : Shape) (n : ℕ) → a.upper ≡ pos 1 → IsTrue (is_bounded a n) → n ≤ 1
+bounded-one a n one h =
+    let below : IsTrue (if int_le (pos 1) (pos 1) then int_le (pos n) (pos 1) else true) = subst (λ u. IsTrue (if int_le (pos 1) u then int_le (pos n) u else true)) one (and_parts (nat_le n LIST_VALUES) _ h).1 in
+    grind (arith, nat_tests, below)
+
+-- so has each legal end of one
+one-at-most : (r : Reading) (e : End) (vs : List Value) → (shape_at r e).is_single ≡ true → IsTrue (is_legal_end r e vs) → vs ≡ option_to_list (option_map value.Object (option_and_then object_of (slice_get vs 0)))
+one-at-most r e [] single h = refl
+one-at-most r e (v ∷ []) single h = single-object v (and_parts _ _ (and_parts _ _ (and_parts _ _ (and_parts _ _ h).1).0).0).0
+one-at-most r e (v ∷ w ∷ vs) single h =
+    absurd (omega (arith, bounded-one (shape_at r e) (length (v ∷ w ∷ vs)) (upper-single r.metamodel e.feature single) (and_parts _ _ (and_parts _ _ h).1).1))
+
+pub values-single : (s : Model) (e : End) → IsLegal s → (shape s.metamodel e.feature).is_reference ≡ true → (shape s.metamodel e.feature).is_single ≡ true
+    → (reading s).values e ≡ option_to_list (option_map value.Object (object_at s.links e 0))
+values-single s e legal reference single = rw reference (one-at-most (reading s) e (end s.links e) single (legal.links.ends e))

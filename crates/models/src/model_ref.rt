@@ -1,0 +1,155 @@
+//! A model in its parts.
+ghost use Rattle.std.specs.Prelude.{◌≡◌, true, length, option_map, option_to_list, unwrap_or};
+ghost use Rattle.mm_types.specs.Shapes.{shape};
+ghost use Rattle.mm_types.specs.declared.value.Value.TheVariants as value;
+ghost use Rattle.mm_types.specs.declared.value.Value.TheVariants.{Null};
+ghost use Rattle.mm_values.specs.Room.{values_of};
+ghost use Rattle.link_store.specs.Holders.{HasNoCycle};
+ghost use Rattle.link_store.specs.LegalSets.{IsLegalSet};
+ghost use Rattle.models.specs.Legal.{IsLegal};
+ghost use Rattle.models.specs.Model.{model_of, reading};
+ghost use Rattle.models.specs.Reading as r;
+
+use crate::features::class_has;
+use link_store::LinkStore;
+use mm_meta::Meta;
+use mm_types::{ClassNo, End, FeatureNo, Node, ObjectNo};
+use mm_values::Values;
+use std::marker::Model;
+
+/// A legal model as its parts are kept: a metamodel, values, and a store of links. It is seen as the model that they make.
+///
+/// Nothing that is read of it takes memory.
+#[derive(Drop)]
+pub struct ModelRef<'a, L: LinkStore> {
+    meta: &'a Meta,
+    values: &'a Values,
+    store: &'a L,
+}
+
+impl<'a, L: LinkStore> Model for ModelRef<'a, L> {
+    ghost use Rattle.std.specs.Coded.{codes};
+    ghost use Rattle.mm_values.specs.Room.{values_of};
+    ghost use Rattle.link_store.specs.Links.{coded_links};
+    ghost use Rattle.models.specs.Legal.{IsLegal};
+    ghost use Rattle.models.specs.Model.{Model, coded_map, model_of};
+
+    ghost Value = { Model };
+
+    ghost coded = { Prim.hlevel (codes, coded_map, coded_links) };
+
+    ghost view = { λ x. model_of x.meta.now (values_of x.values.now) (L.links x.store.now) };
+
+    ghost invariant = { λ x. IsLegal (model_of x.meta.now (values_of x.values.now) (L.links x.store.now)) };
+}
+
+impl<'a, L: LinkStore> ModelRef<'a, L> {
+    /// The model of a metamodel, values and links, which has to be legal.
+    pub fn new(meta: &'a Meta, values: &'a Values, store: &'a L) -> Self
+        requires legal { IsLegal (model_of meta.now (values_of values.now) (L.links store.now)) }
+        ensures { result ≡ model_of meta.now (values_of values.now) (L.links store.now) }
+    {
+        ModelRef {
+            meta,
+            values,
+            store,
+        }
+    }
+
+    /// What holds of every model, for proofs that know it by its view: it is legal.
+    pub fn is_legal(&self)
+        ensures { IsLegal self.now }
+    {
+        let _ = &self.meta;
+    }
+
+    /// The metamodel.
+    pub fn meta(&self) -> &'a Meta
+        ensures { result.now ≡ self.now.metamodel }
+    {
+        self.meta
+    }
+
+    /// The links.
+    pub fn store(&self) -> &'a L
+        ensures links { L.links result.now ≡ self.now.links }
+        ensures legal { IsLegalSet (L.links result.now) }
+        ensures no_cycle { HasNoCycle (L.links result.now) }
+    {
+        self.store
+    }
+
+    /// How many objects were made, destroyed ones among them.
+    pub fn next(&self) -> usize
+        ensures { result ≡ (reading self.now).next }
+    {
+        self.values.next()
+    }
+
+    /// How many resources there are.
+    pub fn resources(&self) -> usize
+        ensures { result ≡ length (reading self.now).uris }
+    {
+        self.values.resources()
+    }
+
+    /// The class of an object (EMF: EObject.eClass); `None` where none lives.
+    pub fn class(&self, object: ObjectNo) -> Option<ClassNo>
+        ensures { result ≡ (reading self.now).class object }
+    {
+        self.values.class(object)
+    }
+
+    /// Whether a node has a feature that commands know; false where it does not live.
+    pub fn has_feature(&self, node: Node, feature: FeatureNo) -> bool
+        ensures { result ≡ r.has_feature (reading self.now) node feature }
+    {
+        match node {
+            Node::Object(object) => match self.values.class(object) {
+                Some(class) => class_has(self.meta, class, feature),
+                None => false,
+            },
+            Node::Resource(_) => false,
+        }
+    }
+
+    /// All features of a node, own and inherited (EMF: EClass.getEAllStructuralFeatures); none where it does not live.
+    pub fn all_features(&self, node: Node) -> &'a [FeatureNo]
+        ensures { result.now ≡ r.all_features_of (reading self.now) node }
+    {
+        match node {
+            Node::Object(object) => match self.values.class(object) {
+                Some(class) => self.meta.features(class).unwrap_or(&[]),
+                None => &[],
+            },
+            Node::Resource(_) => &[],
+        }
+    }
+
+    /// The end that contains a node (EMF: EObject.eContainer, eContainmentFeature); `None` where none does, as of a resource.
+    pub fn holder(&self, node: Node) -> Option<End>
+        ensures { result ≡ (reading self.now).holder node }
+    {
+        let store = self.store;
+        match node {
+            Node::Object(object) => store.holder(object),
+            Node::Resource(_) => None,
+        }
+    }
+
+    /// The object that a single reference has; `None` where it is null.
+    pub fn object_at(&self, end: End) -> Option<ObjectNo>
+        requires reference { (shape self.now.metamodel end.feature).is_reference ≡ true }
+        ensures value { unwrap_or (option_map value.Object result) Null ≡ r.value_at (reading self.now) end }
+        ensures single { (shape self.now.metamodel end.feature).is_single ≡ true → (reading self.now).values end ≡ option_to_list (option_map value.Object result) }
+    {
+        self.store.at(end, 0)
+    }
+
+    /// The values of objects, for the files of this crate.
+    pub(crate) fn values(&self) -> &'a Values
+        ensures { values_of result.now ≡ self.now.values }
+    {
+        self.values
+    }
+}

@@ -1,0 +1,58 @@
+//! What is printed of the objects that a command answers.
+ghost use Rattle.std.specs.Prelude.{◌≡◌, ◌++◌, OnErr, OnOk};
+ghost use Rattle.std.specs.Io.{StartsWith};
+ghost use Rattle.script_output.specs.Printed.{container_text, objects_text, spaced_objects};
+
+use super::Output;
+use mm_types::{Node, ObjectNo};
+use script_lines::grammar::SPACE;
+use std::alloc::AllocError;
+
+impl Output {
+    /// Adds an object, or `null` where there is none.
+    pub fn container(&mut self, container: Option<ObjectNo>) -> Result<(), AllocError>
+        ensures ok { OnOk result (self.new ≡ self.old ++ container_text container) }
+        ensures err { OnErr result (self.new ≡ self.old) }
+    {
+        match container {
+            Some(object) => self.node(Node::Object(object)),
+            None => self.text("null"),
+        }
+    }
+
+    /// Adds a list of objects: `[#1 #4]`.
+    pub fn objects(&mut self, objects: &[ObjectNo]) -> Result<(), AllocError>
+        ensures ok { OnOk result (self.new ≡ self.old ++ objects_text objects.now) }
+        ensures err { OnErr result (self.new ≡ self.old) }
+    {
+        let start = self.bytes.len();
+        let added = self.objects_parts(objects);
+        self.whole(start, added)
+    }
+
+    fn objects_parts(&mut self, objects: &[ObjectNo]) -> Result<(), AllocError>
+        ensures ok { OnOk result (self.new ≡ self.old ++ objects_text objects.now) }
+        ensures err { OnErr result (StartsWith self.new self.old) }
+    {
+        match objects {
+            [] => self.text("[]"),
+            [first, others @ ..] => {
+                self.text("[")?;
+                self.node(Node::Object(*first))?;
+                self.spaced_objects(others)?;
+                self.text("]")
+            }
+        }
+    }
+
+    fn spaced_objects(&mut self, objects: &[ObjectNo]) -> Result<(), AllocError>
+        ensures ok { OnOk result (self.new ≡ self.old ++ spaced_objects objects.now) }
+        ensures err { OnErr result (StartsWith self.new self.old) }
+    {
+        for object in objects {
+            self.byte(SPACE)?;
+            self.node(Node::Object(*object))?;
+        }
+        Ok(())
+    }
+}
