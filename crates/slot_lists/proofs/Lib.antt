@@ -1,0 +1,4 @@
+pub mod PieceLemmas
+pub mod HoleLemmas
+pub mod LayoutLemmas
+pub mod PositionLemmas

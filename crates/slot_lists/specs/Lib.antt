@@ -1,0 +1,5 @@
+pub mod Pieces
+pub mod Places
+pub mod Layout
+pub mod SlotList
+pub mod Moved

@@ -1,0 +1,11 @@
+//! Lists that stay fast at their front when they are long, and small when they are short.
+//!
+//! A list has places for more values. `SlotList::reserve` makes them, and so many inserts then take no memory.
+#![tactic(auto)]
+
+mod hole;
+mod piece;
+mod pieces;
+mod slot_list;
+
+pub use slot_list::SlotList;

@@ -1,0 +1,256 @@
+//! Lists of any length.
+ghost use Rattle.std.specs.Prelude.{◌≡◌, ◌+◌, ◌<◌, ◌≤◌, ◌==◌, [], ◌++◌, length, Some, slice_get, position, option_copied, is_ok, IsOk, IfOk, IfErr, OnOk, OnErr, if◌then◌else◌, vec_len, vec_capacity};
+ghost use Rattle.std.specs.List.{insert, remove};
+ghost use Rattle.slot_lists.specs.Moved.{moved};
+
+use crate::piece::PLACES;
+use crate::pieces::Pieces;
+use std::alloc::{AllocError, AllocFailed, Global};
+use std::marker::Model;
+use std::mem;
+
+/// A short list lies in one block, of the size that it needs, and a long one in pieces.
+#[derive(Drop)]
+enum Layout<T> {
+    Short(Vec<T>),
+    Long(Box<Pieces<T>>),
+}
+
+/// A list, and places for more values. An insert or a removal anywhere takes at most about as many steps
+/// as a piece has places, and one for each piece that the list has.
+#[derive(Drop)]
+pub struct SlotList<T> {
+    layout: Layout<T>,
+}
+
+impl<T> Model for SlotList<T> {
+    ghost use Rattle.slot_lists.specs.Places.{Places, places_code};
+
+    ghost Value = { Places T };
+
+    ghost coded = { places_code T.code };
+
+    ghost use Rattle.slot_lists.specs.SlotList.{places_of};
+
+    ghost view = { λ a. places_of a.layout };
+}
+
+impl<T: Drop> SlotList<T> {
+    /// No values. Takes no memory.
+    pub fn new(alloc: Global) -> Self
+        ensures { result.items ≡ [] }
+    {
+        SlotList {
+            layout: Layout::Short(Vec::new(alloc)),
+        }
+    }
+
+    /// The values of a `Vec`, of any length. Takes no memory.
+    pub fn from_vec(values: Vec<T>) -> Self
+        ensures { result.items ≡ values.items }
+    {
+        SlotList {
+            layout: Layout::Short(values),
+        }
+    }
+
+    /// How many values there are.
+    pub fn len(&self) -> usize
+        ensures { result ≡ length self.now.items }
+    {
+        match &self.layout {
+            Layout::Short(values) => values.len(),
+            Layout::Long(pieces) => pieces.len(),
+        }
+    }
+
+    /// Whether there are none.
+    pub fn is_empty(&self) -> bool
+        ensures { result ≡ (length self.now.items == 0) }
+    {
+        self.len() == 0
+    }
+
+    // How many values may be inserted with no memory taken.
+    fn spare(&self) -> usize
+        ensures { result ≡ self.now.spare }
+    {
+        match &self.layout {
+            Layout::Short(values) => values.capacity().min(PLACES).saturating_sub(values.len()),
+            Layout::Long(pieces) => pieces.spare(),
+        }
+    }
+
+    /// The value at an index; `None` past the end.
+    pub fn get(&self, index: usize) -> Option<&T>
+        ensures { option_copied result ≡ slice_get self.now.items index }
+    {
+        match &self.layout {
+            Layout::Short(values) => values.get(index),
+            Layout::Long(pieces) if index < pieces.len() => Some(pieces.get(index)),
+            Layout::Long(_) => None,
+        }
+    }
+
+    /// The index of the first value that equals this one.
+    pub fn position(&self, value: &T) -> Option<usize>
+    where
+        T: PartialEq,
+        ensures { result ≡ position (T.eq value.now) self.now.items }
+    {
+        match &self.layout {
+            Layout::Short(values) => values.iter().position(|x| value == x),
+            Layout::Long(pieces) => pieces.position(value),
+        }
+    }
+
+    /// Makes places for more values, and puts a list into pieces that is longer than a piece. Errs where memory is
+    /// refused, and then the values stay and no place is lost.
+    pub fn reserve(&mut self, additional: usize) -> Result<(), AllocError>
+        ensures items { self.new.items ≡ self.old.items }
+        ensures ok { OnOk result (additional ≤ self.new.spare) }
+        ensures spare { self.old.spare ≤ self.new.spare }
+        ensures reserved { 0 < self.old.spare → additional ≤ self.old.spare → IsOk result }
+    {
+        match &mut self.layout {
+            Layout::Short(values) => {
+                if values.len() <= PLACES && additional <= PLACES - values.len() {
+                    return reserve_in_block(values, additional);
+                }
+                let pieces = in_pieces(values, additional)?;
+                self.layout = Layout::Long(pieces);
+                Ok(())
+            }
+            Layout::Long(pieces) => pieces.reserve(additional),
+        }
+    }
+
+    /// Inserts a value before the one at an index, or at the end. Where memory is refused the value
+    /// comes back and nothing has changed.
+    pub fn insert(&mut self, index: usize, value: T) -> Result<(), AllocFailed<T>>
+        requires { index ≤ length self.old.items }
+        ensures items { self.new.items ≡ (if is_ok result then insert self.old.items index value else self.old.items) }
+        ensures value_returned { IfErr result (λ e. e.value ≡ value) }
+        ensures reserved { 0 < self.old.spare → IsOk result }
+        ensures spare { self.old.spare ≤ self.new.spare + 1 }
+    {
+        if let Err(_) = self.reserve(1) {
+            return Err(AllocFailed { value });
+        }
+        match &mut self.layout {
+            Layout::Short(values) => values.insert(index, value),
+            Layout::Long(pieces) => {
+                pieces.insert(index, value);
+                Ok(())
+            }
+        }
+    }
+
+    /// Takes out the value at an index. Takes no memory.
+    pub fn remove(&mut self, index: usize) -> T
+        requires { index < length self.old.items }
+        ensures items { self.new.items ≡ remove self.old.items index }
+        ensures value { Some result ≡ slice_get self.old.items index }
+        ensures spare { self.old.spare ≤ self.new.spare }
+    {
+        match &mut self.layout {
+            Layout::Short(values) => values.remove(index),
+            Layout::Long(pieces) => pieces.remove(index),
+        }
+    }
+
+    /// Moves the value at `from`, so that it then stands at `to` (EMF: EList.move). Takes no memory.
+    pub fn move_to(&mut self, to: usize, from: usize)
+        requires to { to < length self.old.items }
+        requires from { from < length self.old.items }
+        ensures items { self.new.items ≡ moved self.old.items to from }
+        ensures spare { self.new.spare ≡ self.old.spare }
+    {
+        match &mut self.layout {
+            Layout::Short(values) => move_in_block(values, to, from),
+            Layout::Long(pieces) => pieces.move_to(to, from),
+        }
+    }
+
+    /// Replaces the values by those of a `Vec`, of any length. The places stay where they are more than the new values.
+    /// Takes no memory.
+    pub fn replace(&mut self, values: Vec<T>)
+        ensures items { self.new.items ≡ values.items }
+        ensures spare { self.old.spare ≤ self.new.spare + vec_len values }
+    {
+        if self.spare() <= values.len() {
+            *self = SlotList::from_vec(values);
+            return;
+        }
+        self.clear();
+        self.append(values);
+    }
+
+    // Takes out all values. Takes no memory.
+    fn clear(&mut self)
+        ensures items { self.new.items ≡ [] }
+        ensures spare { self.old.spare ≤ self.new.spare }
+    {
+        while let Some(last) = self.len().checked_sub(1) {
+            self.remove(last);
+        }
+    }
+
+    // Puts values behind the others, in their places. Takes no memory.
+    fn append(&mut self, values: Vec<T>)
+        requires { vec_len values ≤ self.old.spare }
+        ensures items { self.new.items ≡ self.old.items ++ values.items }
+        ensures spare { self.old.spare ≤ self.new.spare + vec_len values }
+    {
+        for value in values {
+            match self.insert(self.len(), value) {
+                Ok(()) => {}
+                Err(_) => unreachable!(),
+            }
+        }
+    }
+}
+
+// Makes places in the block of a short list, by a half more at least.
+fn reserve_in_block<T: Drop>(values: &mut Vec<T>, additional: usize) -> Result<(), AllocError>
+    requires { vec_len values.old + additional ≤ 1024 }
+    ensures items { values.new.items ≡ values.old.items }
+    ensures capacity { vec_capacity values.old ≤ vec_capacity values.new }
+    ensures ok { OnOk result (vec_len values.old + additional ≤ vec_capacity values.new) }
+    ensures reserved { vec_len values.old + additional ≤ vec_capacity values.old → IsOk result }
+{
+    if additional <= values.capacity() - values.len() {
+        return Ok(());
+    }
+    let free = PLACES - values.len();
+    values.reserve_exact(additional.max(values.len() / 2 + 1).min(free))
+}
+
+// Moves the values of a block into pieces, with places for more. Where memory is refused they stay.
+fn in_pieces<T: Drop>(values: &mut Vec<T>, additional: usize) -> Result<Box<Pieces<T>>, AllocError>
+    ensures items { IfOk result (λ p. p.value.items ≡ values.old.items) }
+    ensures spare { IfOk result (λ p. additional ≤ p.value.spare) }
+    ensures err { OnErr result (values.new ≡ values.old) }
+{
+    let alloc = *values.allocator();
+    let mut pieces = Box::new(alloc, Pieces::new(alloc))?;
+    let places = values.len().checked_add(additional).ok_or(AllocError)?;
+    pieces.reserve(places)?;
+    pieces.append(mem::replace(values, Vec::new(alloc)));
+    Ok(pieces)
+}
+
+// Moves a value of a block.
+fn move_in_block<T: Drop>(values: &mut Vec<T>, to: usize, from: usize)
+    requires to { to < vec_len values.old }
+    requires from { from < vec_len values.old }
+    ensures items { values.new.items ≡ moved values.old.items to from }
+    ensures len { vec_len values.new ≡ vec_len values.old }
+    ensures capacity { vec_capacity values.new ≡ vec_capacity values.old }
+{
+    let value = values.remove(from);
+    match values.insert(to, value) {
+        Ok(()) => {}
+        Err(_) => unreachable!(),
+    }
+}
