@@ -1,0 +1,54 @@
+-- A reference joined with the URI that it stands in (RFC 3986, section 5, as the URL Standard has it).
+use Rattle.std.specs.Prelude.{◌≡◌, ℕ, ◌||◌, ◌==◌, Bool, List, bytes_eq, codes, Option, Some, None, Result, Ok, Err, option_and_then, String, string_bytes, if◌then◌else◌}
+use Rattle.std.specs.declared.alloc.Global.{Global}
+use Rattle.std.specs.List.{list_any}
+use Rattle.std.specs.Option.{option_or}
+use Rattle.url.specs.Parser.{Parsed, parse_url}
+use Rattle.url.specs.Parts.{Parts, serialize}
+use Rattle.web_uris.specs.declared.joining.UriFault.{UriFault}
+use Rattle.web_uris.specs.declared.joining.UriFault.TheVariants.{Bad, Memory}
+
+abbrev pub if_parsed : Parsed Parts → Option Parts
+if_parsed (Ok u) = Some u
+if_parsed (Err e) = None
+
+-- the reference, where a URI stands
+abbrev pub based : List ℕ → List ℕ → Option Parts
+based base reference = option_and_then (λ b. if_parsed (parse_url (Some b) reference)) (if_parsed (parse_url None base))
+
+-- the reference by itself, else joined with the base
+abbrev pub parts_of : List ℕ → List ℕ → Option Parts
+parts_of base reference = option_or (if_parsed (parse_url None reference)) (based base reference)
+
+abbrev pub is_web : Parts → Bool
+is_web u = bytes_eq u.scheme (codes "http") || bytes_eq u.scheme (codes "https")
+
+-- `#`
+abbrev pub is_mark : ℕ → Bool
+is_mark c = c == 35
+
+-- its text, where the scheme is http or https and there is no fragment
+abbrev pub web_text : Parts → Option (List ℕ)
+web_text u = if is_web u then (if list_any is_mark (serialize u) then None else Some (serialize u)) else None
+
+-- what a text is by itself
+abbrev pub own_text : List ℕ → Option (List ℕ)
+own_text u = option_and_then web_text (if_parsed (parse_url None u))
+
+-- a URI as joining gives it: written as `url` writes it, so that joining it with any base gives it again
+abbrev pub IsWebUri : List ℕ → Type 0
+IsWebUri u = own_text u ≡ Some u
+
+-- none, where there is no such URI
+unfoldable pub joined : List ℕ → List ℕ → Option (List ℕ)
+joined base reference = option_and_then web_text (parts_of base reference)
+
+-- what was answered is the text that there is, or that there is none, unless memory was refused
+abbrev pub GivesText : Result (String Global) UriFault → Option (List ℕ) → Type 0
+GivesText (Ok t) text = text ≡ Some (string_bytes t)
+GivesText (Err Bad) text = text ≡ None
+GivesText (Err Memory) text = Unit {0}
+
+-- what joining gives: the URI, that there is none, or that memory was refused
+abbrev pub Joins : Result (String Global) UriFault → List ℕ → List ℕ → Type 0
+Joins result base reference = GivesText result (joined base reference)

@@ -1,0 +1,113 @@
+-- Fragments as texts: `/`, the root's segment, and a step `/@NAME` or `/@NAME.INDEX` for each part on the way (EMF: the
+-- default fragment paths of Resource.getURIFragment).
+use Rattle.std.specs.Prelude.{◌≡◌, ◌<◌, ◌⊎◌, IfSome, ℕ, ◌&&◌, ◌==◌, ◌++◌, Bool, true, false, List, [], ◌∷◌, flat_map, length, nat_eq, nat_le, Option, Some, None, option_and_then, option_map, decimal, if◌then◌else◌}
+use Rattle.std.specs.List.{slice_split}
+use Rattle.std.specs.Str.{bytes_eq}
+use Rattle.std.specs.Str.Parse.{digits_value}
+use Rattle.mm_types.specs.Integers.{is_decimal}
+use Rattle.mm_types.specs.Names.{is_name}
+use Rattle.web_uris.specs.declared.path.Path.{Path}
+use Rattle.web_uris.specs.declared.path.Step.{Step}
+
+abbrev pub new_step : List ℕ → Option ℕ → Step
+new_step name index = record { name = name; index = index }
+
+abbrev pub new_path : ℕ → List Step → Path
+new_path root steps = record { root = root; steps = steps }
+
+-- the path, one step further
+abbrev pub with_step : Path → Step → Path
+with_step p s = record p { steps = p.steps ++ s ∷ [] }
+
+---------------------------------------------------------------- from paths to texts
+
+abbrev pub index_text : Option ℕ → List ℕ
+index_text None = []
+index_text (Some i) = 46 ∷ decimal i
+
+-- as `/@books.0`, or `/@cover`
+abbrev pub step_text : Step → List ℕ
+step_text s = 47 ∷ 64 ∷ (s.name ++ index_text s.index)
+
+-- the root's segment is empty, or its index
+abbrev pub path_text : Bool → Path → List ℕ
+path_text empty p = 47 ∷ ((if empty then [] else decimal p.root) ++ flat_map step_text p.steps)
+
+---------------------------------------------------------------- from texts to paths
+
+abbrev pub is_slash : ℕ → Bool
+is_slash c = c == 47
+
+abbrev pub is_dot : ℕ → Bool
+is_dot c = c == 46
+
+-- `0`, or a digit 1 to 9 and at most six further digits
+abbrev pub index_of : List ℕ → Option ℕ
+index_of w = if is_decimal w && nat_le (length w) 7 then Some (digits_value 10 w) else None
+
+-- an empty segment names root 0
+abbrev pub root_of : List ℕ → Option ℕ
+root_of [] = Some 0
+root_of (c ∷ cs) = index_of (c ∷ cs)
+
+-- what stands before the dot and behind it
+abbrev pub step_of_parts : List (List ℕ) → Option Step
+step_of_parts (name ∷ []) = if is_name name then Some (new_step name None) else None
+step_of_parts (name ∷ digits ∷ []) = if is_name name then option_map (λ i. new_step name (Some i)) (index_of digits) else None
+step_of_parts _ = None
+
+-- `@`, and then a name, or a name, a dot and an index
+abbrev pub step_of : List ℕ → Option Step
+step_of [] = None
+step_of (c ∷ cs) = if c == 64 then step_of_parts (slice_split is_dot cs) else None
+
+abbrev pub steps_of : List (List ℕ) → Option (List Step)
+steps_of [] = Some []
+steps_of (w ∷ ws) = option_and_then (λ s. option_map (λ ss. s ∷ ss) (steps_of ws)) (step_of w)
+
+-- nothing before the first `/`, the root's segment, and steps
+abbrev pub path_of_segments : List (List ℕ) → Option Path
+path_of_segments ([] ∷ root ∷ steps) = option_and_then (λ i. option_map (new_path i) (steps_of steps)) (root_of root)
+path_of_segments _ = None
+
+-- the segments of a text behind a slash, or none where there is no such slash
+abbrev pub segments : Option (List ℕ) → List (List ℕ)
+segments None = []
+segments (Some text) = slice_split is_slash text
+
+-- any other text is no fragment
+abbrev pub parse : List ℕ → Option Path
+parse text = path_of_segments (slice_split is_slash text)
+
+---------------------------------------------------------------- when two are the same
+
+abbrev pub same_index : Option ℕ → Option ℕ → Bool
+same_index None None = true
+same_index (Some i) (Some j) = nat_eq i j
+same_index _ _ = false
+
+abbrev pub same_steps : List Step → List Step → Bool
+same_steps [] [] = true
+same_steps (s ∷ ss) (t ∷ ts) = bytes_eq s.name t.name && (same_index s.index t.index && same_steps ss ts)
+same_steps _ _ = false
+
+abbrev pub same_path : Path → Path → Bool
+same_path p q = nat_eq p.root q.root && same_steps p.steps q.steps
+
+---------------------------------------------------------------- what can be written
+
+-- a step's name is a name, and its index has seven digits at most
+abbrev pub IsWritten : Step → Type 0
+IsWritten s = (is_name s.name ≡ true) × IfSome s.index (λ i. i < 10000000)
+
+abbrev pub AreWritten : List Step → Type 0
+AreWritten [] = Unit {0}
+AreWritten (s ∷ ss) = IsWritten s × AreWritten ss
+
+pub record IsWritable (p : Path) : Type 0 where
+  pub root : p.root < 10000000
+  pub steps : AreWritten p.steps
+
+-- a text writes a path: by its root's index, or by an empty segment for root 0
+abbrev pub Writes : List ℕ → Path → Type 0
+Writes t p = IsWritable p × ((t ≡ path_text false p) ⊎ ((t ≡ path_text true p) × (p.root ≡ 0)))

@@ -1,0 +1,89 @@
+//! A reference is joined with a URI.
+ghost use Rattle.std.specs.Prelude.{◌≡◌, IfOk, MatchResult, option_and_then, string_bytes};
+ghost use Rattle.url.specs.Parser.{parse_url};
+ghost use Rattle.web_uris.specs.Joined.{GivesText, IsWebUri, Joins, based, if_parsed, is_web as is_of_web, parts_of, web_text};
+ghost use Rattle.web_uris.specs.declared.joining.UriFault.TheVariants.{Memory};
+
+use crate::address::has_mark;
+use std::alloc::Global;
+use url::{ParseError, ParseResult, Url};
+
+/// Why a reference and a URI give no URI.
+#[derive(Clone, Copy, Debug, PartialEq, Eq)]
+pub enum UriFault {
+    /// There is no such URI, it is no http or https URI, or it has a fragment.
+    Bad,
+    /// Memory was refused, or the URI would be longer than URIs can be.
+    Memory,
+}
+
+/// The URL that a text is by itself, if it is one.
+fn own_url(alloc: Global, text: &str) -> Result<Option<Url>, UriFault>
+    ensures { MatchResult result (λ u. u ≡ if_parsed (parse_url None text.now)) (λ e. e ≡ Memory) }
+{
+    match Url::parse(alloc, text) {
+        Ok(url) => Ok(Some(url)),
+        Err(ParseError::OutOfMemory | ParseError::Overflow) => Err(UriFault::Memory),
+        Err(_) => Ok(None),
+    }
+}
+
+/// The URL that a reference is where a URL stands, if there is one.
+fn based_url(base: &Url, reference: &str) -> Result<Option<Url>, UriFault>
+    ensures { MatchResult result (λ u. u ≡ if_parsed (parse_url (Some base.now) reference.now)) (λ e. e ≡ Memory) }
+{
+    match base.join(reference) {
+        Ok(url) => Ok(Some(url)),
+        Err(ParseError::OutOfMemory | ParseError::Overflow) => Err(UriFault::Memory),
+        Err(_) => Ok(None),
+    }
+}
+
+fn joined_url(alloc: Global, base: &str, reference: &str) -> Result<Option<Url>, UriFault>
+    ensures { MatchResult result (λ u. u ≡ based base.now reference.now) (λ e. e ≡ Memory) }
+{
+    match own_url(alloc, base)? {
+        Some(base) => based_url(&base, reference),
+        None => Ok(None),
+    }
+}
+
+fn meant_url(alloc: Global, base: &str, reference: &str) -> Result<Option<Url>, UriFault>
+    ensures { MatchResult result (λ u. u ≡ parts_of base.now reference.now) (λ e. e ≡ Memory) }
+{
+    match own_url(alloc, reference)? {
+        Some(url) => Ok(Some(url)),
+        None => joined_url(alloc, base, reference),
+    }
+}
+
+fn is_web(url: &Url) -> bool
+    ensures { result ≡ is_of_web url.now }
+{
+    url.scheme() == "http" || url.scheme() == "https"
+}
+
+/// A copy of a URL's text, where it is one of the web without a fragment.
+fn text_of(alloc: Global, url: &Url) -> Result<String, UriFault>
+    ensures text { GivesText result (web_text url.now) }
+    ensures web { IfOk result (λ t. IsWebUri (string_bytes t)) }
+{
+    if !is_web(url) || has_mark(url.as_str()) {
+        return Err(UriFault::Bad);
+    }
+    String::from_str(alloc, url.as_str()).map_err(|_| UriFault::Memory)
+}
+
+/// The URI that a reference is by itself, as `url` writes it, or else joined with a base.
+///
+/// `Bad` where it is no URI either way, where the URI's scheme is neither http nor https, or where it has a `#`.
+/// `Memory` where memory was refused, or the URI would be longer than URIs can be.
+pub fn joined(alloc: Global, base: &str, reference: &str) -> Result<String, UriFault>
+    ensures joins { Joins result base.now reference.now }
+    ensures web { IfOk result (λ t. IsWebUri (string_bytes t)) }
+{
+    match meant_url(alloc, base, reference)? {
+        Some(url) => text_of(alloc, &url),
+        None => Err(UriFault::Bad),
+    }
+}

@@ -1,0 +1,30 @@
+//! Laws of the definitions, each the contract of a function that does nothing.
+ghost use Rattle.std.specs.Prelude.{◌≡◌, ℕ, List, Some, false};
+ghost use Rattle.url.specs.Parts.{Parts, IsValid, kind_of, serialize};
+ghost use Rattle.url.specs.declared.scheme.SchemeType.TheVariants.{SpecialNotFile};
+ghost use Rattle.web_uris.specs.Addresses.{address_text, fragment_part, has_mark, uri_part};
+ghost use Rattle.web_uris.specs.Joined.{IsWebUri, joined, web_text};
+ghost use Rattle.web_uris.specs.Paths.{Writes, parse};
+ghost use Rattle.web_uris.specs.declared.path.Path.{Path};
+
+/// A URI as joining gives it is what joining it with any base gives again.
+pub fn web_uris_join_to_themselves()
+    ensures { (base uri : List ℕ) → IsWebUri uri → joined base uri ≡ Some uri }
+{}
+
+/// What a valid URL of the web without a fragment is written as is a URI as joining gives it.
+pub fn urls_of_the_web_are_web_uris()
+    ensures { (url : Parts) → IsValid url → kind_of url ≡ SpecialNotFile → web_text url ≡ Some (serialize url) → IsWebUri (serialize url) }
+{}
+
+/// Reading a fragment is the grammar: it finds the path that a text writes, and only that one.
+pub fn fragments_are_read_as_written()
+    ensures finds { (text : List ℕ) (path : Path) → Writes text path → parse text ≡ Some path }
+    ensures only { (text : List ℕ) (path : Path) → parse text ≡ Some path → Writes text path }
+{}
+
+/// The URI and the fragment of an address are found in it again, where the URI has no `#`.
+pub fn addresses_are_their_parts()
+    ensures uri { (uri fragment : List ℕ) → has_mark uri ≡ false → uri_part (address_text uri fragment) ≡ uri }
+    ensures fragment { (uri fragment : List ℕ) → has_mark uri ≡ false → fragment_part (address_text uri fragment) ≡ fragment }
+{}

@@ -1,0 +1,70 @@
+//! Paths of fragments, and their texts.
+ghost use Rattle.std.specs.Prelude.{◌≡◌, ◌++◌, ◌∷◌, [], IfOk, OnOk, decimal, flat_map, string_bytes, if◌then◌else◌};
+ghost use Rattle.web_uris.specs.Paths.{index_text, path_text, step_text};
+
+use itoa::Buffer;
+use mm_types::{Seq, Text};
+use std::alloc::{AllocError, Global};
+
+/// One step from an object to a part of it.
+#[derive(Debug, Drop)]
+pub struct Step {
+    /// The name of the feature that holds the part.
+    pub name: Text,
+    /// The part's position, where the feature is many-valued.
+    pub index: Option<u32>,
+}
+
+/// The way from a resource to an object in it: a root, by its position, and then steps.
+#[derive(Debug, Drop)]
+pub struct Path {
+    pub root: u32,
+    pub steps: Seq<Step>,
+}
+
+fn push_number(text: &mut String, number: u32) -> Result<(), AllocError>
+    ensures { OnOk result (string_bytes text.new ≡ string_bytes text.old ++ decimal number) }
+{
+    text.push_str(Buffer::new().format(number))
+}
+
+fn push_index(text: &mut String, index: Option<u32>) -> Result<(), AllocError>
+    ensures { OnOk result (string_bytes text.new ≡ string_bytes text.old ++ index_text index) }
+{
+    let Some(index) = index else {
+        return Ok(());
+    };
+    text.push_str(".")?;
+    push_number(text, index)
+}
+
+fn push_step(text: &mut String, step: &Step) -> Result<(), AllocError>
+    ensures { OnOk result (string_bytes text.new ≡ string_bytes text.old ++ step_text step.now) }
+{
+    text.push_str("/@")?;
+    text.push_str(step.name.as_str())?;
+    push_index(text, step.index)
+}
+
+fn push_steps(text: &mut String, steps: &[Step]) -> Result<(), AllocError>
+    ensures { OnOk result (string_bytes text.new ≡ string_bytes text.old ++ flat_map step_text steps.now) }
+{
+    'steps: for step in steps {
+        push_step(text, step)?;
+    }
+    Ok(())
+}
+
+impl Path {
+    /// The text of the path, with an empty root segment or the root's position. Errs only where memory is refused.
+    pub fn text(&self, alloc: Global, is_root_left_out: bool) -> Result<String, AllocError>
+        ensures { IfOk result (λ t. string_bytes t ≡ path_text is_root_left_out self.now) }
+    {
+        let mut text = String::from_str(alloc, "/")?;
+        if !is_root_left_out {
+            push_number(&mut text, self.root)?;
+        }
+        push_steps(&mut text, self.steps.as_slice())?;
+        Ok(text)
+    }
+}
