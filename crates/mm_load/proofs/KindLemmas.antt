@@ -6,9 +6,9 @@ use Rattle.std.specs.Option.{option_or}
 use Rattle.serde_json.specs.Data.{Data, null, boolean, number, string, array, object}
 use Rattle.serde_json.specs.Find.{get}
 use Rattle.mm_load.specs.Layout.{attribute, attribute_rows, feature_rows, new_feature, reference, reference_rows, unsets_one}
-use Rattle.mm_load.specs.Rows.{Gives, Rows, ◌also◌, ◌such_that◌, has_only, makes, object_of, required_at, word}
-use Rattle.mm_load.specs.declared.read_fault.ReadFault.{ReadFault}
-use Rattle.mm_load.specs.declared.read_fault.ReadFault.TheVariants.{Layout, Memory}
+use Rattle.json_rows.specs.Rows.{Gives, Rows, ◌also◌, ◌such_that◌, has_only, makes, object_of, required_at, word}
+use Rattle.json_rows.specs.declared.read_fault.ReadFault.{ReadFault}
+use Rattle.json_rows.specs.declared.read_fault.ReadFault.TheVariants.{Layout, Memory}
 
 abbrev none : (B : Type 0) → Option B
 none B = None

@@ -10,7 +10,7 @@ use Rattle.mm_types.specs.declared.raw.RawFeature.{RawFeature}
 use Rattle.mm_types.specs.declared.raw.RawKind.{RawKind}
 use Rattle.mm_types.specs.declared.raw.RawKind.TheVariants.{Attribute, Reference}
 use Rattle.mm_load.specs.declared.head.Head.{Head}
-use Rattle.mm_load.specs.Rows.{Rows, ◌also◌, ◌such_that◌, array_of, array_of_some, flag, given, makes, object_of, optional, required, text, whole_number, word}
+use Rattle.json_rows.specs.Rows.{Rows, ◌also◌, ◌such_that◌, array_of, array_of_some, flag, given, makes, object_of, optional, required, text, whole_number, word}
 
 -- ---- features
 

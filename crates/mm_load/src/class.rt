@@ -2,12 +2,12 @@
 ghost use Rattle.std.specs.Prelude.{◌≡◌};
 ghost use Rattle.serde_json.specs.Data.{object};
 ghost use Rattle.serde_json.specs.View.{members_view};
-ghost use Rattle.mm_load.specs.Rows.{Gives, Rows};
+ghost use Rattle.json_rows.specs.Rows.{Gives, Rows};
 ghost use Rattle.mm_load.specs.Layout.{class_rows};
 
 use crate::from_json::FromJson;
-use crate::members::{only_members_of, optional, required};
-use crate::read_fault::ReadFault;
+use crate::keys::{optional, required};
+use json_rows::{ReadFault, only_members_of};
 use mm_types::{RawClass, Seq};
 use serde_json::{Map, Value};
 use std::alloc::Global;

@@ -2,13 +2,13 @@
 ghost use Rattle.std.specs.Prelude.{◌≡◌};
 ghost use Rattle.serde_json.specs.Data.{object};
 ghost use Rattle.serde_json.specs.View.{members_view};
-ghost use Rattle.mm_load.specs.Rows.{Gives, Rows};
+ghost use Rattle.json_rows.specs.Rows.{Gives, Rows};
 ghost use Rattle.mm_load.specs.Layout.{document_rows};
 ghost use Rattle.mm_load.specs.Loaded.{limited};
 
 use crate::from_json::FromJson;
-use crate::members::{only_members_of, optional, required};
-use crate::read_fault::ReadFault;
+use crate::keys::{optional, required};
+use json_rows::{ReadFault, only_members_of};
 use mm_types::{Enumeration, MetaFault, RawClass, RawMeta, Seq};
 use serde_json::{Map, Value};
 use std::alloc::Global;

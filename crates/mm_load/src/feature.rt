@@ -2,13 +2,13 @@
 ghost use Rattle.std.specs.Prelude.{◌≡◌};
 ghost use Rattle.serde_json.specs.Data.{object};
 ghost use Rattle.serde_json.specs.View.{members_view};
-ghost use Rattle.mm_load.specs.Rows.{Gives, KeepsOthers, Rows};
+ghost use Rattle.json_rows.specs.Rows.{Gives, KeepsOthers, Rows};
 ghost use Rattle.mm_load.specs.Layout.{attribute, attribute_rows, feature, feature_rows, reference, reference_rows, unsets_one};
 
 use crate::from_json::FromJson;
 use crate::head::Head;
-use crate::members::{has_only_keys, is_word, members_of, optional, required};
-use crate::read_fault::ReadFault;
+use crate::keys::{optional, required};
+use json_rows::{ReadFault, has_only_keys, is_word, members_of};
 use mm_types::{RawFeature, RawKind};
 use serde_json::{Map, Value};
 use std::alloc::Global;

@@ -10,9 +10,8 @@ mod enumeration;
 mod feature;
 mod from_json;
 mod head;
+mod keys;
 pub mod laws;
 mod load;
-mod members;
-mod read_fault;
 
 pub use load::load_meta;

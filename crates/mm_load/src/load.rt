@@ -3,7 +3,7 @@ ghost use Rattle.mm_load.specs.Loaded.{Loads, loaded};
 
 use crate::document::Document;
 use crate::from_json::FromJson;
-use crate::read_fault::ReadFault;
+use json_rows::ReadFault;
 use mm_types::{MetaFault, RawMeta};
 use serde_json::Value;
 use std::alloc::Global;

@@ -1,6 +1,6 @@
 use Rattle.serde_json.specs.View.{view}
 use Rattle.mm_load.specs.Layout.{class, class_rows}
-use Rattle.mm_load.proofs.RowLemmas.{opened}
+use Rattle.json_rows.proofs.RowLemmas.{opened}
 use Rattle.mm_load.proofs.class.RawClassFromJson.from_json.Goals as goal
 
 pub returns-in-Some : goal.returns-in-Some

@@ -2,8 +2,8 @@ use Rattle.std.proofs.Common.{◌∙◌, ap, option_map}
 use Rattle.serde_json.specs.Find.{get_member}
 use Rattle.serde_json.specs.View.{members_view, view}
 use Rattle.serde_json.proofs.Views.{view-lookup}
-use Rattle.mm_load.proofs.TakeLemmas.{kept, not_either}
-use Rattle.mm_load.proofs.members.take.Goals as goal
+use Rattle.json_rows.proofs.TakeLemmas.{kept, not_either}
+use Rattle.json_rows.proofs.members.take.Goals as goal
 
 pub returns-clause-value : goal.returns-clause-value
 returns-clause-value c = ap (option_map view) c.remove.ensures.value ∙ view-lookup c.args.key.now c.args.members.now.entries

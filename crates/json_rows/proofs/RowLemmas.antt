@@ -7,8 +7,8 @@ use Rattle.std.specs.Str.{bytes_eq}
 use Rattle.serde_json.specs.Data.{Data}
 use Rattle.serde_json.specs.View.{members_view}
 use Rattle.serde_json.specs.declared.value.Value.{Value}
-use Rattle.mm_load.specs.declared.read_fault.ReadFault.{ReadFault}
-use Rattle.mm_load.specs.Rows.{Gives, Rows, has_only, object_of, only_keys}
+use Rattle.json_rows.specs.declared.read_fault.ReadFault.{ReadFault}
+use Rattle.json_rows.specs.Rows.{Gives, Rows, has_only, object_of, only_keys}
 
 -- the list, and behind it what is read yet
 abbrev pub with_front : {X : Type 0} → List X → Option (List X) → Option (List X)

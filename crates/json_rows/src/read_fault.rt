@@ -1,6 +1,6 @@
 //! Why a JSON value is not read.
 ghost use Rattle.std.specs.Prelude.{◌≡◌};
-ghost use Rattle.mm_load.specs.declared.read_fault.ReadFault.TheVariants.{Memory};
+ghost use Rattle.json_rows.specs.declared.read_fault.ReadFault.TheVariants.{Memory};
 
 use std::alloc::{AllocError, AllocFailed};
 

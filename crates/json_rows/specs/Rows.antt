@@ -4,8 +4,8 @@ use Rattle.std.specs.List.{list_any}
 use Rattle.std.specs.Str.{bytes_eq}
 use Rattle.serde_json.specs.Data.{Data, Items, no_items, item, Members, no_members, member}
 use Rattle.serde_json.specs.Find.{as_array, as_bool, as_i64, as_number, as_object, as_str, get, get_member}
-use Rattle.mm_load.specs.declared.read_fault.ReadFault.{ReadFault}
-use Rattle.mm_load.specs.declared.read_fault.ReadFault.TheVariants.{Layout, Memory}
+use Rattle.json_rows.specs.declared.read_fault.ReadFault.{ReadFault}
+use Rattle.json_rows.specs.declared.read_fault.ReadFault.TheVariants.{Layout, Memory}
 
 infixl 10 ◌>>=◌
 abbrev pub ◌>>=◌ : {A B : Type 0} → Option A → (A → Option B) → Option B
@@ -46,6 +46,10 @@ if_in_32_bits z = if in_32_bits z then Some z else None
 -- a whole number of 32 bits, signed
 abbrev pub whole_number : Data → Option ℤ
 whole_number d = as_number d >>= as_i64 >>= if_in_32_bits
+
+-- a whole number of 64 bits, signed
+abbrev pub whole_number_of_64 : Data → Option ℤ
+whole_number_of_64 d = as_number d >>= as_i64
 
 -- this text and no other
 abbrev pub word : List ℕ → Data → Option (Unit {0})
@@ -114,6 +118,10 @@ rows also row = record {
 }
 
 -- ---- objects
+
+abbrev pub keys_of : Members → List (List ℕ)
+keys_of no_members = []
+keys_of (member k d ms) = k ∷ keys_of ms
 
 -- each key is among the names
 abbrev pub only_keys : List (List ℕ) → Members → Bool

@@ -6,12 +6,9 @@ ghost use Rattle.std.specs.BTreeMap.{keys};
 ghost use Rattle.serde_json.specs.Data.{object};
 ghost use Rattle.serde_json.specs.Find.{as_object, get_member};
 ghost use Rattle.serde_json.specs.View.{members_view, view};
-ghost use Rattle.mm_load.specs.Rows.{Gives, KeepsOthers, has_only, only_keys, optional_at, required_at, word};
+ghost use Rattle.json_rows.specs.Rows.{KeepsOthers, has_only, only_keys, required_at, word};
 
-use crate::from_json::FromJson;
-use crate::read_fault::ReadFault;
 use serde_json::{Map, Value};
-use std::alloc::Global;
 
 fn is_one_of(key: &str, names: &[&str]) -> bool
     ensures { result ≡ list_any (λ n. bytes_eq n.now key.now) names.now }
@@ -54,43 +51,12 @@ pub fn only_members_of(value: Value, names: &[&str]) -> Option<Map<String, Value
     Some(members)
 }
 
-fn take(members: &mut Map<String, Value>, key: &str) -> Option<Value>
+/// The value of a key, which is taken out; nothing where the key is absent. Takes no memory.
+pub fn take(members: &mut Map<String, Value>, key: &str) -> Option<Value>
     ensures value { option_map view result ≡ get_member key.now (members_view members.old.entries) }
     ensures others { KeepsOthers (key.now ∷ []) (members_view members.old.entries) (members_view members.new.entries) }
 {
     members.remove(key)
-}
-
-/// What a key says, which is taken out. `Layout` where the key is absent or its value has another layout.
-pub fn required<T: FromJson>(
-    alloc: Global,
-    members: &mut Map<String, Value>,
-    key: &str,
-) -> Result<T, ReadFault>
-    ensures read { Gives result (required_at key.now T.reads (object (members_view members.old.entries))) }
-    ensures others { KeepsOthers (key.now ∷ []) (members_view members.old.entries) (members_view members.new.entries) }
-{
-    match take(members, key) {
-        Some(value) => T::from_json(alloc, value),
-        None => Err(ReadFault::Layout),
-    }
-}
-
-/// What a key says, which is taken out, or another value where the key is absent. `Layout` where its value has
-/// another layout.
-pub fn optional<T: FromJson + Drop>(
-    alloc: Global,
-    members: &mut Map<String, Value>,
-    key: &str,
-    absent: T,
-) -> Result<T, ReadFault>
-    ensures read { Gives result (optional_at key.now T.reads absent (object (members_view members.old.entries))) }
-    ensures others { KeepsOthers (key.now ∷ []) (members_view members.old.entries) (members_view members.new.entries) }
-{
-    match take(members, key) {
-        Some(value) => T::from_json(alloc, value),
-        None => Ok(absent),
-    }
 }
 
 fn find<'v>(members: &'v Map<String, Value>, key: &str) -> Option<&'v Value>

@@ -1,0 +1,10 @@
+//! JSON objects are read by their rows: each key, whether it is required, and how its value is read.
+//!
+//! `specs/Rows.antt` has the rows and the values; here are the functions on members that readers of objects share.
+#![tactic(auto)]
+
+mod members;
+mod read_fault;
+
+pub use members::{has_only_keys, is_word, members_of, only_members_of, take};
+pub use read_fault::ReadFault;

@@ -1,0 +1,42 @@
+//! What the keys of an object say.
+ghost use Rattle.std.specs.Prelude.{[], ◌∷◌};
+ghost use Rattle.serde_json.specs.Data.{object};
+ghost use Rattle.serde_json.specs.View.{members_view};
+ghost use Rattle.json_rows.specs.Rows.{Gives, KeepsOthers, optional_at, required_at};
+
+use crate::from_json::FromJson;
+use json_rows::{ReadFault, take};
+use serde_json::{Map, Value};
+use std::alloc::Global;
+
+/// What a key says, which is taken out. `Layout` where the key is absent or its value has another layout.
+pub fn required<T: FromJson>(
+    alloc: Global,
+    members: &mut Map<String, Value>,
+    key: &str,
+) -> Result<T, ReadFault>
+    ensures read { Gives result (required_at key.now T.reads (object (members_view members.old.entries))) }
+    ensures others { KeepsOthers (key.now ∷ []) (members_view members.old.entries) (members_view members.new.entries) }
+{
+    match take(members, key) {
+        Some(value) => T::from_json(alloc, value),
+        None => Err(ReadFault::Layout),
+    }
+}
+
+/// What a key says, which is taken out, or another value where the key is absent. `Layout` where its value has
+/// another layout.
+pub fn optional<T: FromJson + Drop>(
+    alloc: Global,
+    members: &mut Map<String, Value>,
+    key: &str,
+    absent: T,
+) -> Result<T, ReadFault>
+    ensures read { Gives result (optional_at key.now T.reads absent (object (members_view members.old.entries))) }
+    ensures others { KeepsOthers (key.now ∷ []) (members_view members.old.entries) (members_view members.new.entries) }
+{
+    match take(members, key) {
+        Some(value) => T::from_json(alloc, value),
+        None => Ok(absent),
+    }
+}
