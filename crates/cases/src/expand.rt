@@ -1,17 +1,19 @@
 //! Marks in a case's text: what is long or can't be seen is written short.
 //!
 //! `<<xFF>>` is a byte by its two hexadecimal digits. `<<3* ab%,>>` is a text so many times, each `%` in it being how often
-//! it came before: `ab0,ab1,ab2,`.
+//! it came before: `ab0,ab1,ab2,`. A `^` in it is one more than that, and a `|` ends a line.
 use crate::fault::CaseFault;
 use std::io::Write;
 
-/// Adds a text once, with `number` in place of each `%`.
+/// Adds a text once: `number` in place of each `%`, the number after it in place of each `^`, a newline in place of each `|`.
 fn push_numbered(out: &mut Vec<u8>, text: &str, number: u32) -> Result<(), CaseFault> {
-    for (i, piece) in text.split('%').enumerate() {
-        if i > 0 {
-            write!(out, "{number}")?;
+    for byte in text.bytes() {
+        match byte {
+            b'%' => write!(out, "{number}")?,
+            b'^' => write!(out, "{}", u64::from(number) + 1)?,
+            b'|' => out.push(b'\n')?,
+            _ => out.push(byte)?,
         }
-        out.extend_from_slice(piece.as_bytes())?;
     }
     Ok(())
 }

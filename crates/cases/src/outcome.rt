@@ -9,11 +9,10 @@ use script_program::run;
 use std::alloc::{AllocError, Global};
 use std::io::Write;
 
-fn loaded(alloc: Global, metamodel: &[u8]) -> Result<Meta, MetaFault> {
-    match load_meta(alloc, metamodel) {
-        Ok(raw) => check(alloc, raw),
-        Err(fault) => Err(fault),
-    }
+fn loaded(alloc: Global, metamodel: &[u8]) -> Result<Box<Meta>, MetaFault> {
+    let raw = load_meta(alloc, metamodel)?;
+    let meta = check(alloc, raw)?;
+    Box::new(alloc, meta).map_err(|_| MetaFault::Memory)
 }
 
 /// How many of the boxes keep every notice.
@@ -22,24 +21,43 @@ const RECORDERS: u64 = 4;
 /// How many notices the last box can still count, its last one included.
 const LEFT: u64 = 2;
 
-/// What a script prints, and the fault that stopped it. Its boxes are those of the program.
-fn printed(alloc: Global, meta: Box<Meta>, script: &[u8]) -> Result<Vec<u8>, AllocError> {
+/// What a script prints, and the fault that stopped it.
+fn printed_with<A: Adapter>(
+    alloc: Global,
+    meta: Box<Meta>,
+    boxes: Vec<A>,
+    script: &[u8],
+) -> Result<Vec<u8>, AllocError> {
     let mut reader = script;
     let mut found = Vec::new(alloc);
+    let meta = Box::into_inner(meta);
+    let outcome = run::<RowStore, _, _, _>(alloc, &mut reader, &mut found, meta, boxes);
+    match outcome {
+        Err(fault) if writeln!(found, "stopped: {fault}").is_err() => Err(AllocError),
+        _ => Ok(found),
+    }
+}
+
+fn recorder(alloc: Global) -> Result<Box<Recorder>, AllocError> {
+    Ok(Box::new(alloc, Recorder::new(alloc))?)
+}
+
+/// What a script prints with the boxes of the program, and the fault that stopped it.
+fn printed(alloc: Global, meta: Box<Meta>, script: &[u8]) -> Result<Vec<u8>, AllocError> {
     let mut boxes: Vec<Box<dyn Adapter>> = Vec::new(alloc);
     for _ in 0..RECORDERS {
-        boxes.push(Box::new(alloc, Recorder::new(alloc))?)?;
+        boxes.push(recorder(alloc)?)?;
     }
     boxes.push(Box::new(alloc, Window::new(alloc, 2)?)?)?;
     boxes.push(Box::new(alloc, Window::new(alloc, 100)?)?)?;
     boxes.push(Box::new(alloc, Counter::new())?)?;
     boxes.push(Box::new(alloc, Counter::starting_at(u64::MAX - LEFT))?)?;
-    let meta = Box::into_inner(meta);
-    if let Err(fault) = run::<RowStore, _, _, _>(alloc, &mut reader, &mut found, meta, boxes) {
-        let line = format!(in alloc; "stopped: {fault}\n")?;
-        found.extend_from_slice(line.as_bytes())?;
-    }
-    Ok(found)
+    printed_with(alloc, meta, boxes, script)
+}
+
+fn line(alloc: Global, fault: MetaFault) -> Result<Vec<u8>, AllocError> {
+    let line = format!(in alloc; "{fault}\n")?;
+    Vec::from_slice(alloc, line.as_bytes())
 }
 
 /// What a case gives: its metamodel's fault; or `accepted`, where it has no script; or what the script prints.
@@ -48,12 +66,11 @@ pub(crate) fn outcome_of(
     metamodel: &[u8],
     script: Option<&[u8]>,
 ) -> Result<Vec<u8>, AllocError> {
-    match (loaded(alloc, metamodel), script) {
-        (Err(fault), _) => {
-            let line = format!(in alloc; "{fault}\n")?;
-            Vec::from_slice(alloc, line.as_bytes())
-        }
-        (Ok(_), None) => Vec::from_slice(alloc, b"accepted\n".as_slice()),
-        (Ok(meta), Some(script)) => printed(alloc, Box::new(alloc, meta)?, script),
+    match loaded(alloc, metamodel) {
+        Err(fault) => line(alloc, fault),
+        Ok(meta) => match script {
+            Some(script) => printed(alloc, meta, script),
+            None => Vec::from_slice(alloc, b"accepted\n".as_slice()),
+        },
     }
 }

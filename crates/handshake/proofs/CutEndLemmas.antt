@@ -24,7 +24,7 @@ use Rattle.mm_values.specs.Values.{ObjectState, object_at, stored_under}
 use Rattle.link_store.proofs.CutNamedLemmas.{end-without_all}
 use Rattle.link_store.proofs.FilterLemmas.{filter_all}
 use Rattle.link_store.proofs.NamedLemmas.{names-itself}
-use Rattle.link_store.proofs.PlaceLemmas.{same_value-self}
+use Rattle.mm_types.specs.SameValues.{same_value-self}
 use Rattle.link_store.proofs.SideLemmas.{both_ends_agree}
 use Rattle.link_store.specs.Laws.{AreThere, is_named, names, names_far, without_all}
 use Rattle.link_store.specs.Links.{Links, end, far_end}

@@ -16,7 +16,7 @@ use Rattle.mm_types.specs.declared.value.Value.{Value}
 use Rattle.mm_types.specs.declared.value.Value.TheVariants as value
 use Rattle.link_store.proofs.CutNamedLemmas.{end-without_all, holder-without_all}
 use Rattle.link_store.proofs.HolderLemmas.{holder-some, place_held}
-use Rattle.link_store.proofs.PlaceLemmas.{same_value-self, same_value-true}
+use Rattle.mm_types.specs.SameValues.{same_value-self, same_value-true}
 use Rattle.link_store.proofs.ScanLemmas.{same_bool}
 use Rattle.link_store.specs.Holders.{contained, holder}
 use Rattle.link_store.specs.Laws.{AreOnce, AreThere, is_named, kept_holder, names, names_far, without_all}

@@ -13,7 +13,7 @@ use Rattle.mm_types.specs.declared.numbers.ObjectNo.{ObjectNo}
 use Rattle.mm_types.specs.declared.value.Value.{Value}
 use Rattle.mm_types.specs.declared.value.Value.TheVariants as value
 use Rattle.link_store.proofs.CutNamedLemmas.{without_all_legal}
-use Rattle.link_store.proofs.PlaceLemmas.{same_value-true}
+use Rattle.mm_types.specs.SameValues.{same_value-true}
 use Rattle.link_store.proofs.PutEndLemmas.{end-put}
 use Rattle.link_store.specs.Laws.{AreThere, is_far, put_end, without_all}
 use Rattle.link_store.specs.Links.{Links, end, far_end, object_at, put}

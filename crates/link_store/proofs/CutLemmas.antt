@@ -10,7 +10,8 @@ use Rattle.link_store.proofs.ListLemmas as lists
 use Rattle.link_store.proofs.PlaceLemmas.{ne-same_end}
 use Rattle.link_store.proofs.PutLemmas.{cases_end, placed_from}
 use Rattle.link_store.specs.LegalSets.{HasTwoSides, IsDistinct, IsEnd, IsPlaced, most}
-use Rattle.link_store.specs.Links.{In, Links, cut, end, lower, lowered_far, renumbered, shift, shifted, shifted_index, without}
+use Rattle.link_store.specs.Links.{In, Links, cut, end, lower, lowered_far, renumbered, shift, shifted_index, without}
+use Rattle.mm_types.specs.Lists.{shifted}
 use Rattle.link_store.specs.Order.{link_cmp}
 use Rattle.link_store.specs.Places.{far_value, place}
 use Rattle.link_store.specs.declared.link.Far.TheVariants.{At, Alone, Proxy}

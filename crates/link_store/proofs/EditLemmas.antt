@@ -13,7 +13,8 @@ use Rattle.link_store.proofs.EndLemmas.{Among, Among_cases, Among_head, Among_ta
 use Rattle.link_store.proofs.ListLemmas as lists
 use Rattle.link_store.proofs.PlaceLemmas.{Decides-same_end, place-moved, place-moved_other, renumbered_place}
 use Rattle.link_store.specs.LegalSets.{HasTwoSides, IsEnd, IsPlaced, Stands}
-use Rattle.link_store.specs.Links.{In, Links, lower, put_back, raise, renumbered, shifted, shifted_index}
+use Rattle.link_store.specs.Links.{In, Links, lower, raise, renumbered, shifted_index}
+use Rattle.mm_types.specs.Lists.{put_back, shifted}
 use Rattle.link_store.specs.Order.{link_cmp, link_cmp_total}
 use Rattle.link_store.specs.Places.{far_moved, moved, place}
 use Rattle.link_store.specs.declared.link.Far.TheVariants.{At, Alone, Proxy}

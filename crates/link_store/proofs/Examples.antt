@@ -13,7 +13,8 @@ use Rattle.link_store.specs.declared.plan.Edit.TheVariants as edit
 use Rattle.link_store.specs.Holders.{contained, containing, first_holding}
 use Rattle.link_store.specs.Laws.{cut_edits, goes, is_named, kept_holder, names}
 use Rattle.link_store.specs.LegalSets.{Kinds}
-use Rattle.link_store.specs.Links.{joined, new_proxy, shifted, values}
+use Rattle.link_store.specs.Links.{joined, new_proxy, values}
+use Rattle.mm_types.specs.Lists.{shifted}
 use Rattle.link_store.specs.Rows.{places_in}
 
 abbrev object : ℕ → Node

@@ -3,7 +3,7 @@ use Rattle.std.proofs.Common.{◌≡◌, ℕ, zero, suc, ◌≤◌, length, Bool
 use Rattle.std.specs.List.{slice_get, filter, remove}
 use Rattle.std.proofs.lemmas.Bool.{true≢false}
 use Rattle.std.proofs.lemmas.Option.{none-some, same_Some}
-use Rattle.link_store.proofs.PlaceLemmas.{same_value-self, same_value-true}
+use Rattle.mm_types.specs.SameValues.{same_value-self, same_value-true}
 use Rattle.link_store.specs.LegalSets.{IsDistinct}
 use Rattle.mm_types.specs.Same.{same_value}
 use Rattle.mm_types.specs.declared.value.Value.{Value}

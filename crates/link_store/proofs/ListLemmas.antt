@@ -9,7 +9,8 @@ use Rattle.std.proofs.lemmas.Bool.{cases_lt, cases_order}
 use Rattle.std.proofs.lemmas.Option.{same_Some}
 use Rattle.std.specs.Prelude.{◌⊎◌}
 use Rattle.link_store.specs.LegalSets.{IsDistinct}
-use Rattle.link_store.specs.Links.{lower, put_back, raise, shifted, shifted_index}
+use Rattle.link_store.specs.Links.{lower, raise, shifted_index}
+use Rattle.mm_types.specs.Lists.{put_back, shifted}
 use Rattle.mm_types.specs.declared.value.Value.{Value}
 
 module _ {X : Type 0} where

@@ -5,7 +5,7 @@ use Rattle.std.specs.List.{slice_get}
 use Rattle.std.proofs.lemmas.Bool.{and_from, and_parts, false≢true, or_cases, or_left, or_right}
 use Rattle.std.proofs.lemmas.Option.{none-some, some_pair_parts}
 use Rattle.link_store.proofs.CutLemmas.{place_alone, place_at, place_near, place_out, place_proxy}
-use Rattle.link_store.proofs.PlaceLemmas.{same_value-self, same_value-true}
+use Rattle.mm_types.specs.SameValues.{same_value-self, same_value-true}
 use Rattle.link_store.proofs.PutLemmas.{cases_end}
 use Rattle.link_store.proofs.ScanLemmas.{is_value_at-place, is_value_at-true, same_bool}
 use Rattle.link_store.proofs.SideLemmas.{both_ends_agree, far_cases, paired_far}

@@ -1,16 +1,14 @@
 -- What is found the same is equal, for values too; and a link whose position in one end is changed stands elsewhere as it did.
-use Rattle.std.proofs.Common.{◌≡◌, ◌≢◌, ℕ, Bool, true, false, not, List, Some, None, if◌then◌else◌, refl, sym, ap, ◌∙◌, subst, eqb-true, eq-eqb}
+use Rattle.std.proofs.Common.{◌≡◌, ◌≢◌, ℕ, true, false, List, Some, None, if◌then◌else◌, refl, sym, ◌∙◌, subst, eqb-true}
 use Rattle.std.specs.Option.{option_map}
 use Rattle.std.specs.Bool.{Decides}
-use Rattle.std.proofs.lemmas.Bool.Decides.{Decides-int_eq}
-use Rattle.std.proofs.lemmas.Slice.Eq.{bytes_eq-Decides}
 use Rattle.link_store.specs.LegalSets.{IsObject}
 use Rattle.link_store.specs.Places.{bare, bare_far, far_moved, far_place, far_value, moved, place}
 use Rattle.link_store.specs.declared.link.Far.TheVariants.{At, Alone, Proxy}
 use Rattle.link_store.specs.declared.link.Far.{Far}
 use Rattle.link_store.specs.declared.link.Link.{Link}
 use Rattle.mm_types.proofs.SameLemmas.{same_end-self, same_end-true, same_node-self}
-use Rattle.mm_types.specs.Same.{node_value, same_end, same_feature, same_node, same_value}
+use Rattle.mm_types.specs.Same.{node_value, same_end, same_feature, same_node}
 use Rattle.mm_types.specs.declared.end.End.{End}
 use Rattle.mm_types.specs.declared.numbers.FeatureNo.{FeatureNo}
 use Rattle.mm_types.specs.declared.numbers.Node.TheVariants as node
@@ -23,39 +21,6 @@ same_node_if x y h = subst (λ (z : Node). same_node x z ≡ true) h (same_node-
 
 pub same_feature-true : (f g : FeatureNo) → same_feature f g ≡ true → f ≡ g
 same_feature-true f g h = let n = eqb-true f.0 g.0 h in λ i. record { 0 = n i }
-
----------------------------------------------------------------- values
-
-same_bit : (a b : Bool) → (if a then b else not b) ≡ true → a ≡ b
-same_bit true true h = refl
-same_bit true false h = cc
-same_bit false true h = cc
-same_bit false false h = refl
-
-same_bit-self : (a : Bool) → (if a then a else not a) ≡ true
-same_bit-self true = refl
-same_bit-self false = refl
-
-pub same_value-true : (x y : Value) → same_value x y ≡ true → x ≡ y
-same_value-true value.Null value.Null h = refl
-same_value-true (value.Bool a) (value.Bool b) h = ap value.Bool (same_bit a b h)
-same_value-true (value.Int a) (value.Int b) h = ap value.Int ((Decides-int_eq a b).0 h)
-same_value-true (value.Text a) (value.Text b) h = ap value.Text ((bytes_eq-Decides a b).0 h)
-same_value-true (value.Literal a) (value.Literal b) h = ap value.Literal (eqb-true a b h)
-same_value-true (value.Object a) (value.Object b) h = ap (λ (k : ℕ). value.Object (record { 0 = k })) (eqb-true a.0 b.0 h)
-same_value-true (value.Proxy a) (value.Proxy b) h = ap value.Proxy ((bytes_eq-Decides a b).0 h)
-same_value-true (value.Adapter a) (value.Adapter b) h = ap (λ (k : ℕ). value.Adapter (record { 0 = k })) (eqb-true a.0 b.0 h)
-same_value-true _ _ h = cc
-
-pub same_value-self : (x : Value) → same_value x x ≡ true
-same_value-self value.Null = refl
-same_value-self (value.Bool a) = same_bit-self a
-same_value-self (value.Int a) = (Decides-int_eq a a).1 refl
-same_value-self (value.Text a) = (bytes_eq-Decides a a).1 refl
-same_value-self (value.Literal a) = eq-eqb a a refl
-same_value-self (value.Object a) = eq-eqb a.0 a.0 refl
-same_value-self (value.Proxy a) = (bytes_eq-Decides a a).1 refl
-same_value-self (value.Adapter a) = eq-eqb a.0 a.0 refl
 
 -- a node that is an object is known by its value
 pub same_node_value : (m n : Node) → IsObject m → node_value m ≡ node_value n → m ≡ n

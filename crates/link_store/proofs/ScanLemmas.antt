@@ -6,7 +6,7 @@ use Rattle.std.specs.Option.{option_or}
 use Rattle.std.proofs.lemmas.Bool.{true≢false, false≢true}
 use Rattle.std.proofs.lemmas.Option.{none-some, same_Some}
 use Rattle.link_store.proofs.EndLemmas.{Among, Among_cases, Among_head, Among_tail, HasLinks, items_HasLinks}
-use Rattle.link_store.proofs.PlaceLemmas.{same_value-self, same_value-true}
+use Rattle.mm_types.specs.SameValues.{same_value-self, same_value-true}
 use Rattle.link_store.specs.Holders.{first_holding, holding}
 use Rattle.link_store.specs.LegalSets.{IsPlaced}
 use Rattle.link_store.specs.Links.{In, Links, cut, cut_some, cut_value}

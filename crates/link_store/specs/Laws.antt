@@ -15,7 +15,8 @@ use Rattle.link_store.specs.declared.plan.Edit.{Edit}
 use Rattle.link_store.specs.declared.plan.Edit.TheVariants as edit
 use Rattle.link_store.specs.Holders.{above, contained, containing, holder, holding}
 use Rattle.link_store.specs.LegalSets.{Kinds}
-use Rattle.link_store.specs.Links.{In, Links, cut, cut_value, end, far_end, new_link, put, put_proxy, shift, shifted, touches, without, without_nodes}
+use Rattle.link_store.specs.Links.{In, Links, cut, cut_value, end, far_end, new_link, put, put_proxy, shift, touches, without, without_nodes}
+use Rattle.mm_types.specs.Lists.{shifted}
 use Rattle.link_store.specs.Places.{place}
 use Rattle.link_store.specs.Plans.{Has, Lacks}
 

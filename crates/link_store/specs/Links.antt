@@ -1,5 +1,5 @@
 -- Sets of links and proxies: the ends that they give, and their edits.
-use Rattle.std.specs.Prelude.{◌≡◌, ℕ, zero, suc, ◌-◌, ◌==◌, Bool, true, false, nat_lt, max, List, [], ◌∷◌, map, filter, find, fold, insert, remove, length, slice_get, Option, Some, None, option_and_then, if◌then◌else◌}
+use Rattle.std.specs.Prelude.{◌≡◌, ℕ, zero, suc, ◌-◌, ◌==◌, Bool, true, false, nat_lt, max, List, [], ◌∷◌, map, filter, find, fold, remove, length, slice_get, Option, Some, None, option_and_then, if◌then◌else◌}
 use Rattle.std.specs.List.{cons_option}
 use Rattle.std.specs.Option.{option_map_or}
 use Rattle.std.specs.FinSet as set
@@ -140,14 +140,6 @@ put_proxy s e i t = set.insert (renumbered s e (raise i)) (new_proxy e i t)
 -- moves what is at `from` in e, so that it then stands at `to`
 unfoldable pub shift : Links → End → ℕ → ℕ → Links
 shift s e to from = renumbered s e (shifted_index to from)
-
-abbrev pub put_back : Option Value → List Value → ℕ → ℕ → List Value
-put_back None vs to from = vs
-put_back (Some v) vs to from = insert (remove vs from) to v
-
--- a list after what is at `from` is taken out and put in to stand at `to`: what a shift makes of an end
-abbrev pub shifted : List Value → ℕ → ℕ → List Value
-shifted vs to from = put_back (slice_get vs from) vs to from
 
 -- a list without what stood at a place: what a cut makes of an end
 abbrev pub without : List Value → Option (ℕ × Value) → List Value

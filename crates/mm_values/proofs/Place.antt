@@ -1,5 +1,5 @@
 -- What a search finds among entries whose attributes rise, and what an edit at that place does.
-use Rattle.std.proofs.Common.{◌≡◌, ℕ, ◌+◌, ◌-◌, ◌<◌, ◌≤◌, eqb, cond, List, length, get_or, set, None, Result, Ok, Err, IfOk, IfErr, unwrap_or, refl, inl, inr, sym, ap, subst, ◌∙◌, arith}
+use Rattle.std.proofs.Common.{◌≡◌, ℕ, ◌+◌, ◌-◌, ◌<◌, ◌≤◌, eqb, cond, Bool, List, length, get_or, set, None, Result, Ok, Err, IfOk, IfErr, unwrap_or, refl, inl, inr, sym, ap, subst, ◌∙◌, arith, [], false, eq-eqb, true}
 use Rattle.std.specs.List.{insert}
 use Rattle.std.specs.List.Sorted.{IsSearchInRange, IsBinarySearchResult, IsNonDecreasingBy}
 use Rattle.std.specs.Ordering.{nat_cmp, ordering_index}
@@ -9,11 +9,13 @@ use Rattle.std.proofs.lemmas.List.Sorted.{IsNonDecreasingBy-from_default}
 use Rattle.std.proofs.lemmas.List.Edits.{length-insert, get_or-insert_below, get_or-insert_at, get_or-insert_above}
 use Rattle.std.proofs.lemmas.Bool.Decides.{nat_tests}
 use Rattle.std.proofs.lemmas.Grind.{common_steps}
-use Rattle.std.proofs.lemmas.Bool.{cases_lt}
-use Rattle.mm_values.specs.Stored.{nothing_stored, with_stored}
-use Rattle.mm_values.specs.Attributes.{stored_in, stored_of, place_for, feature_at, IsRising, IsAt, IsGapFor, HasPlace}
+use Rattle.std.proofs.lemmas.Bool.{cases_eq, cases_lt, cases_order}
+use Rattle.std.proofs.lemmas.List.{get_or_default, get_or-set_same, get_or-set_other}
+use Rattle.mm_types.specs.declared.value.Value.{Value}
+use Rattle.mm_values.specs.Stored.{list_changed, nothing_stored, with_stored}
+use Rattle.mm_values.specs.Attributes.{change_stored, stored_in, stored_of, place_for, feature_at, spare_at, taken_of, IsRising, IsAt, IsGapFor, HasPlace}
 use Rattle.mm_values.specs.declared.attribute_lists.Entry.{Entry}
-use Rattle.mm_values.proofs.StoredIn.{NoneBefore, kept, found, get-stored_in, get-with_stored, same_stored, found_absent, found_present, found-set, found-insert, unwrap_or-kept}
+use Rattle.mm_values.proofs.StoredIn.{NoneBefore, kept, found, get-stored_in, get-with_stored, same_stored, found_absent, found_present, found-set, found-insert, unwrap_or-kept, with_stored_same}
 
 module _ (l : List Entry) (rising : IsRising l) (f : ℕ) where
   -- the comparisons with f rise along the row, as a binary search asks
@@ -44,7 +46,7 @@ module _ (l : List Entry) (rising : IsRising l) (f at : ℕ) (is_at : IsAt l f a
   stored_at = ap (λ o. unwrap_or o nothing_stored) (get-stored_in l f ∙ found_present l f at is_at none_before_at) ∙ unwrap_or-kept (stored_of (get_or l at (place_for 0)))
 
   -- an entry of the attribute that is written there is what is stored then
-  pub stored_in-set : (e : Entry) → e.feature.0 ≡ f → stored_in (set l at e) ≡ with_stored (stored_in l) f (stored_of e)
+  stored_in-set : (e : Entry) → e.feature.0 ≡ f → stored_in (set l at e) ≡ with_stored (stored_in l) f (stored_of e)
   stored_in-set e is = same_stored _ _ (λ q. get-stored_in (set l at e) q ∙ found-set l f at e is is_at none_before_at q
       ∙ ap (λ r. cond (eqb q f) (kept (stored_of e)) r) (sym (get-stored_in l q)) ∙ sym (get-with_stored (stored_in l) f (stored_of e) q))
 
@@ -55,9 +57,78 @@ module _ (l : List Entry) (rising : IsRising l) (f at : ℕ) (is_at : IsAt l f a
   pub rising_set : (e : Entry) → e.feature.0 ≡ f → IsRising (set l at e)
   rising_set e is i j lt in_range = grind (arith, common_steps, rising i j, feature_at-set e is i, feature_at-set e is j)
 
-  -- and so do the places
-  pub place-set : (e : Entry) → e.feature.0 ≡ f → (q : ℕ) → HasPlace l q → HasPlace (set l at e) q
-  place-set e is q (i, place) = (i, record { in_range = grind (arith, common_steps, place.in_range); has_feature = feature_at-set e is i ∙ place.has_feature })
+  -- the entry that was read there
+  pub read_is : (x : Entry) → x ≡ get_or l at x → get_or l at (place_for 0) ≡ x
+  read_is x read = sym (read ∙ get_or_default l at x (place_for 0) is_at.in_range)
+
+  pub read_feature : (x : Entry) → x ≡ get_or l at x → x.feature.0 ≡ f
+  read_feature x read = ap (λ (y : Entry). y.feature.0) (sym (read_is x read)) ∙ is_at.has_feature
+
+  -- what is stored is what that entry holds
+  pub stored_read : (x : Entry) → x ≡ get_or l at x → unwrap_or (map.get (stored_in l) f) nothing_stored ≡ stored_of x
+  stored_read x read = stored_at ∙ ap stored_of (read_is x read)
+
+  -- a list and a flag that are written there are stored
+  pub stored_in-put : (e : Entry) (vs : List Value) (b : Bool) → e.feature.0 ≡ f → e.list.items ≡ vs → e.flag ≡ b → stored_in (set l at e) ≡ with_stored (stored_in l) f (record { list = vs; flag = b })
+  stored_in-put e vs b is items flag = stored_in-set e is ∙ ap (with_stored (stored_in l) f) (λ i. record { list = items i; flag = flag i })
+
+  -- the same ones change nothing
+  pub stored_in_kept : (x e : Entry) → x ≡ get_or l at x → e.feature.0 ≡ f → e.list.items ≡ x.list.items → e.flag ≡ x.flag → stored_in (set l at e) ≡ stored_in l
+  stored_in_kept x e read is items flag = stored_in-put e x.list.items x.flag is items flag ∙ ap (with_stored (stored_in l) f) (sym (stored_read x read)) ∙ with_stored_same l f
+
+  -- a changed list changes what is stored
+  pub stored_in-changed : (x e : Entry) (g : List Value → List Value) → x ≡ get_or l at x → e.feature.0 ≡ f → e.list.items ≡ g x.list.items → e.flag ≡ x.flag → stored_in (set l at e) ≡ change_stored (stored_in l) f g
+  stored_in-changed x e g read is items flag = stored_in-put e (g x.list.items) x.flag is items flag ∙ ap (λ h. with_stored (stored_in l) f (list_changed g h)) (sym (stored_read x read))
+
+  -- its places stay but for those that are taken, and those of the others all
+  pub place-set : (x e : Entry) (k : ℕ) → x ≡ get_or l at x → e.feature.0 ≡ f → x.list.spare ≤ e.list.spare + k → (q n : ℕ) → HasPlace l q n → HasPlace (set l at e) q (n - taken_of f k q)
+  place-set x e k read is spare q n has = record {
+    place = has.place;
+    is_at = record { in_range = grind (arith, common_steps, has.is_at.in_range); has_feature = feature_at-set e is has.place ∙ has.is_at.has_feature };
+    spare = elim (cases_eq has.place at) [
+      | inl here ↦
+          let same : q ≡ f = sym has.is_at.has_feature ∙ ap (feature_at l) here ∙ is_at.has_feature in
+          let was : spare_at l has.place ≡ x.list.spare = ap (spare_at l) here ∙ ap (λ (y : Entry). y.list.spare) (read_is x read) in
+          let now : spare_at (set l at e) has.place ≡ e.list.spare = ap (spare_at (set l at e)) here ∙ ap (λ (y : Entry). y.list.spare) (get_or-set_same l at e (place_for 0) is_at.in_range) in
+          let took : taken_of f k q ≡ k = ap (λ b. cond b k 0) (eq-eqb q f same) in
+          omega (arith, has.spare, was, now, took)
+      | inr apart ↦
+          let same : spare_at (set l at e) has.place ≡ spare_at l has.place = ap (λ (y : Entry). y.list.spare) (get_or-set_other l at has.place e (place_for 0) apart) in
+          omega (arith, has.spare, same)
+    ];
+  }
+
+  -- it has as many places as its list
+  pub place_here : (e : Entry) (n : ℕ) → e.feature.0 ≡ f → n ≤ e.list.spare → HasPlace (set l at e) f n
+  place_here e n is many = record {
+    place = at;
+    is_at = record { in_range = grind (arith, common_steps, is_at.in_range); has_feature = feature_at-set e is at ∙ is_at.has_feature };
+    spare = subst (λ s. n ≤ s) (sym (ap (λ (y : Entry). y.list.spare) (get_or-set_same l at e (place_for 0) is_at.in_range))) many;
+  }
+
+  -- of one attribute there is one entry
+  pub spare_here : (x : Entry) (n : ℕ) → x ≡ get_or l at x → HasPlace l f n → n ≤ x.list.spare
+  spare_here x n read has = elim (cases_order has.place at) [
+    | inl same ↦
+        let was : spare_at l has.place ≡ x.list.spare = ap (spare_at l) same ∙ ap (λ (y : Entry). y.list.spare) (read_is x read) in
+        omega (arith, has.spare, was)
+    | inr (inl less) ↦ absurd (omega (arith, rising has.place at less is_at.in_range, has.is_at.has_feature, is_at.has_feature))
+    | inr (inr more) ↦ absurd (omega (arith, rising at has.place more has.is_at.in_range, has.is_at.has_feature, is_at.has_feature))
+  ]
+
+pub holds_nothing : (e : Entry) → e.list.items ≡ [] → e.flag ≡ false → stored_of e ≡ nothing_stored
+holds_nothing e items flag = λ i. record { list = items i; flag = flag i }
+
+-- where none are taken, none of any attribute are
+pub none_of : (f q : ℕ) → taken_of f 0 q ≡ 0
+none_of f q = elim (eqb q f) as (λ b. ◌≡◌ {A = ℕ} (cond b 0 0) 0) [
+  | true ↦ refl
+  | false ↦ refl
+]
+
+-- a place for many is one for fewer
+pub fewer : (l : List Entry) (f n m : ℕ) → m ≤ n → HasPlace l f n → HasPlace l f m
+fewer l f n m le has = record { place = has.place; is_at = has.is_at; spare = omega (arith, has.spare) }
 
 module _ (l : List Entry) (f at : ℕ) (gap : IsGapFor l f at) where
   none : NoneBefore l f (length l)
@@ -68,41 +139,54 @@ module _ (l : List Entry) (f at : ℕ) (gap : IsGapFor l f at) where
   stored_in_gap = ap (λ o. unwrap_or o nothing_stored) (get-stored_in l f ∙ found_absent l f none)
 
   -- it has no place
-  pub no_place : HasPlace l f → ⊥
-  no_place (i, place) = none i place.in_range place.has_feature
+  pub no_place : (n : ℕ) → HasPlace l f n → ⊥
+  no_place n has = none has.place has.is_at.in_range has.is_at.has_feature
+
+  -- a change that makes nothing of an empty list changes nothing
+  pub unchanged_gap : (g : List Value → List Value) → g [] ≡ [] → stored_in l ≡ change_stored (stored_in l) f g
+  unchanged_gap g nothing = sym (ap (λ h. with_stored (stored_in l) f (list_changed g h)) stored_in_gap ∙ ap (λ vs. with_stored (stored_in l) f (record { list = vs; flag = false })) nothing ∙ ap (with_stored (stored_in l) f) (sym stored_in_gap) ∙ with_stored_same l f)
 
   none_found : (q : ℕ) → cond (eqb q f) None (found l q) ≡ found l q
   none_found q = grind (arith, nat_tests, found_absent l f none)
 
+module _ (l : List Entry) (f at : ℕ) (gap : IsGapFor l f at) (e : Entry) (is : e.feature.0 ≡ f) (holds : stored_of e ≡ nothing_stored) where
   -- a place that is made in the gap changes nothing that is stored
-  pub stored_in-insert : stored_in (insert l at (place_for f)) ≡ stored_in l
-  stored_in-insert = same_stored _ _ (λ q. get-stored_in _ q ∙ found-insert l f at (λ j lt same. omega (arith, gap.smaller_before j lt)) q ∙ none_found q ∙ sym (get-stored_in l q))
+  pub stored_in-insert : stored_in (insert l at e) ≡ stored_in l
+  stored_in-insert = same_stored _ _ (λ q. get-stored_in _ q ∙ found-insert l f at e is holds (λ j lt same. omega (arith, gap.smaller_before j lt)) q ∙ none_found l f at gap q ∙ sym (get-stored_in l q))
 
-  feature_below : (i : ℕ) → i < at → feature_at (insert l at (place_for f)) i ≡ feature_at l i
-  feature_below i below = ap (λ (e : Entry). e.feature.0) (get_or-insert_below l at (place_for f) (place_for 0) i below gap.in_range)
+  feature_below : (i : ℕ) → i < at → feature_at (insert l at e) i ≡ feature_at l i
+  feature_below i below = ap (λ (e : Entry). e.feature.0) (get_or-insert_below l at e (place_for 0) i below gap.in_range)
 
-  feature_here : (i : ℕ) → i ≡ at → feature_at (insert l at (place_for f)) i ≡ f
-  feature_here i here = rw here (ap (λ (e : Entry). e.feature.0) (get_or-insert_at l at (place_for f) (place_for 0) gap.in_range))
+  feature_here : (i : ℕ) → i ≡ at → feature_at (insert l at e) i ≡ f
+  feature_here i here = rw here (ap (λ (e : Entry). e.feature.0) (get_or-insert_at l at e (place_for 0) gap.in_range) ∙ is)
 
-  feature_above : (i : ℕ) → at < i → feature_at (insert l at (place_for f)) i ≡ feature_at l (i - 1)
-  feature_above i above = subst (λ q. feature_at (insert l at (place_for f)) q ≡ feature_at l (i - 1)) {x = i - 1 + 1} (omega arith) (ap (λ (e : Entry). e.feature.0) (get_or-insert_above l at (place_for f) (place_for 0) (i - 1) (omega arith) gap.in_range))
+  entry_above : (i : ℕ) → at ≤ i → get_or (insert l at e) (i + 1) (place_for 0) ≡ get_or l i (place_for 0)
+  entry_above i above = get_or-insert_above l at e (place_for 0) i above gap.in_range
+
+  feature_above : (i : ℕ) → at < i → feature_at (insert l at e) i ≡ feature_at l (i - 1)
+  feature_above i above = subst (λ q. feature_at (insert l at e) q ≡ feature_at l (i - 1)) {x = i - 1 + 1} (omega arith) (ap (λ (e : Entry). e.feature.0) (entry_above (i - 1) (omega arith)))
 
   -- it keeps the order: each number is an old one below the gap, f at it, or an old one moved up by one
-  pub rising_insert : IsRising l → IsRising (insert l at (place_for f))
+  pub rising_insert : IsRising l → IsRising (insert l at e)
   rising_insert rising i j lt in_range =
-      let length_new = length-insert l at (place_for f) gap.in_range in
+      let length_new = length-insert l at e gap.in_range in
       grind (arith, feature_below i, feature_here i, feature_above i, feature_below j, feature_here j, feature_above j, rising i j, rising i (j - 1), rising (i - 1) (j - 1), gap.smaller_before i, gap.greater_after (j - 1))
 
-  -- it is a place for the attribute
-  pub place_made : HasPlace (insert l at (place_for f)) f
-  place_made = (at, record { in_range = omega (arith, length-insert l at (place_for f) gap.in_range, gap.in_range); has_feature = feature_here at refl })
+  -- it stands there
+  pub is_at_made : IsAt (insert l at e) f at
+  is_at_made = record { in_range = omega (arith, length-insert l at e gap.in_range, gap.in_range); has_feature = feature_here at refl }
 
   -- and each earlier place stays, or has moved up by one
-  pub place-insert : (q : ℕ) → HasPlace l q → HasPlace (insert l at (place_for f)) q
-  place-insert q (i, place) = elim (cases_lt i at) [
-    | inl below ↦ (i, record { in_range = omega (arith, length-insert l at (place_for f) gap.in_range, place.in_range); has_feature = feature_below i below ∙ place.has_feature })
-    | inr above ↦ (i + 1, record { in_range = omega (arith, length-insert l at (place_for f) gap.in_range, place.in_range); has_feature = feature_above (i + 1) (omega arith) ∙ ap (feature_at l) (sub_one_more i) ∙ place.has_feature })
+  pub place-insert : (q n : ℕ) → HasPlace l q n → HasPlace (insert l at e) q n
+  place-insert q n has = elim (cases_lt has.place at) [
+    | inl below ↦ record {
+      place = has.place;
+      is_at = record { in_range = omega (arith, length-insert l at e gap.in_range, has.is_at.in_range); has_feature = feature_below has.place below ∙ has.is_at.has_feature };
+      spare = subst (λ s. n ≤ s) (sym (ap (λ (y : Entry). y.list.spare) (get_or-insert_below l at e (place_for 0) has.place below gap.in_range))) has.spare;
+    }
+    | inr above ↦ record {
+      place = has.place + 1;
+      is_at = record { in_range = omega (arith, length-insert l at e gap.in_range, has.is_at.in_range); has_feature = ap (λ (y : Entry). y.feature.0) (entry_above has.place above) ∙ has.is_at.has_feature };
+      spare = subst (λ s. n ≤ s) (sym (ap (λ (y : Entry). y.list.spare) (entry_above has.place above))) has.spare;
+    }
   ]
-    where
-      sub_one_more : (i : ℕ) → i + 1 - 1 ≡ i
-      sub_one_more i = omega arith

@@ -1,5 +1,5 @@
 -- What is found under an attribute in a row of entries, and what an edit of the row does to it.
-use Rattle.std.proofs.Common.{◌≡◌, ℕ, zero, suc, ◌<◌, eqb, ◌≢◌, Bool, true, false, cond, List, [], ◌∷◌, length, get_or, set, if◌then◌else◌, Option, Some, None, unwrap_or, refl, ap, ◌∙◌, arith}
+use Rattle.std.proofs.Common.{◌≡◌, ℕ, zero, suc, ◌<◌, eqb, ◌≢◌, Bool, true, false, cond, List, [], ◌∷◌, length, get_or, set, if◌then◌else◌, Option, Some, None, unwrap_or, refl, sym, ap, ◌∙◌, arith}
 use Rattle.std.specs.List.{insert}
 use Rattle.std.specs.Ordering.{nat_cmp, eq_by_cmp}
 use Rattle.std.specs.Cmp.{nat_cmp_total}
@@ -63,11 +63,14 @@ found-set [] f i e is at none q = absurd (omega (arith, at.in_range))
 found-set (x ∷ l) f zero e is at none q = grind (arith, nat_tests, at.has_feature, is)
 found-set (x ∷ l) f (suc i) e is at none q = grind (arith, nat_tests, none 0 (omega arith), found-set l f i e is (is_at_tail x l f i at) (none_before_tail x l f i none) q)
 
--- an entry that is only a place, before any of its attribute's, sets nothing there
-pub found-insert : (l : List Entry) (f i : ℕ) → NoneBefore l f i → (q : ℕ) → found (insert l i (place_for f)) q ≡ (if eqb q f then None else found l q)
-found-insert l f zero none q = refl
-found-insert [] f (suc i) none q = refl
-found-insert (x ∷ l) f (suc i) none q = grind (arith, nat_tests, none 0 (omega arith), found-insert l f i (none_before_tail x l f i none) q)
+first_found : (l : List Entry) (f : ℕ) (e : Entry) → e.feature.0 ≡ f → stored_of e ≡ nothing_stored → (q : ℕ) → found (e ∷ l) q ≡ cond (eqb q f) None (found l q)
+first_found l f e is holds q = ap (λ k. cond (eqb q k) (kept (stored_of e)) (found l q)) is ∙ ap (λ h. cond (eqb q f) (kept h) (found l q)) holds
+
+-- an entry that holds nothing, before any of its attribute's, sets nothing there
+pub found-insert : (l : List Entry) (f i : ℕ) (e : Entry) → e.feature.0 ≡ f → stored_of e ≡ nothing_stored → NoneBefore l f i → (q : ℕ) → found (insert l i e) q ≡ (if eqb q f then None else found l q)
+found-insert l f zero e is holds none q = first_found l f e is holds q
+found-insert [] f (suc i) e is holds none q = first_found [] f e is holds q
+found-insert (x ∷ l) f (suc i) e is holds none q = grind (arith, nat_tests, none 0 (omega arith), found-insert l f i e is holds (none_before_tail x l f i none) q)
 
 nothing_kept : (list : List _) (flag : Bool) → unwrap_or (kept (record { list = list; flag = flag })) nothing_stored ≡ record { list = list; flag = flag }
 nothing_kept [] false = refl
@@ -78,3 +81,18 @@ nothing_kept (v ∷ vs) true = refl
 -- what is kept is what was stored, and nothing else is nothing
 pub unwrap_or-kept : (h : Stored) → unwrap_or (kept h) nothing_stored ≡ h
 unwrap_or-kept h = nothing_kept h.list h.flag
+
+-- what is found is kept
+found-kept : (l : List Entry) (q : ℕ) → kept (unwrap_or (found l q) nothing_stored) ≡ found l q
+found-kept [] q = refl
+found-kept (e ∷ l) q = elim (eqb q e.feature.0) as (λ b. kept (unwrap_or (cond b (kept (stored_of e)) (found l q)) nothing_stored) ≡ cond b (kept (stored_of e)) (found l q)) [
+  | true ↦ ap kept (unwrap_or-kept (stored_of e))
+  | false ↦ found-kept l q
+]
+
+found_again : (l : List Entry) (f q : ℕ) → cond (eqb q f) (kept (unwrap_or (found l f) nothing_stored)) (found l q) ≡ found l q
+found_again l f q = grind (arith, nat_tests, found-kept l f)
+
+-- what is stored under an attribute, stored there again
+pub with_stored_same : (l : List Entry) (f : ℕ) → with_stored (stored_in l) f (unwrap_or (map.get (stored_in l) f) nothing_stored) ≡ stored_in l
+with_stored_same l f = same_stored _ _ (λ q. get-with_stored (stored_in l) f _ q ∙ ap (λ o. cond (eqb q f) (kept (unwrap_or o nothing_stored)) (map.get (stored_in l) q)) (get-stored_in l f) ∙ ap (λ o. cond (eqb q f) (kept (unwrap_or (found l f) nothing_stored)) o) (get-stored_in l q) ∙ found_again l f q ∙ sym (get-stored_in l q))

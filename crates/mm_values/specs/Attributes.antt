@@ -1,12 +1,13 @@
 -- What a row of entries holds, and at which attributes it has places.
-use Rattle.std.specs.Prelude.{◌≡◌, ℕ, ◌<◌, ◌≤◌, false, List, [], ◌∷◌, length, slice_index_or, unwrap_or}
+use Rattle.std.specs.Prelude.{◌≡◌, ℕ, ◌<◌, ◌≤◌, false, List, [], ◌∷◌, length, nat_eq, slice_index_or, unwrap_or, if◌then◌else◌}
 use Rattle.std.specs.FinMap as map
 use Rattle.mm_types.specs.declared.numbers.FeatureNo.{FeatureNo}
+use Rattle.mm_types.specs.declared.value.Value.{Value}
 use Rattle.mm_values.specs.declared.attribute_lists.Entry.{Entry}
-use Rattle.mm_values.specs.Stored.{Stored, StoredMap, nothing_stored, with_stored}
+use Rattle.mm_values.specs.Stored.{Stored, StoredMap, list_changed, nothing_stored, with_stored}
 
 abbrev pub stored_of : Entry → Stored
-stored_of e = record { list = e.list; flag = e.flag }
+stored_of e = record { list = e.list.items; flag = e.flag }
 
 -- under each attribute, what its first entry holds
 abbrev pub stored_in : List Entry → StoredMap
@@ -16,9 +17,13 @@ stored_in (e ∷ l) = with_stored (stored_in l) e.feature.0 (stored_of e)
 abbrev pub stored_under : List Entry → FeatureNo → Stored
 stored_under l f = unwrap_or (map.get (stored_in l) f.0) nothing_stored
 
+-- the list under an attribute changed by g; the flag stays
+abbrev pub change_stored : StoredMap → ℕ → (List Value → List Value) → StoredMap
+change_stored m f g = with_stored m f (list_changed g (unwrap_or (map.get m f) nothing_stored))
+
 -- an entry that is only a place
 abbrev pub place_for : ℕ → Entry
-place_for f = record { feature = record { 0 = f }; list = []; flag = false }
+place_for f = record { feature = record { 0 = f }; list = record { items = []; spare = 0 }; flag = false }
 
 abbrev pub feature_at : List Entry → ℕ → ℕ
 feature_at l i = let e = slice_index_or l i (place_for 0) in e.feature.0
@@ -38,6 +43,16 @@ pub record IsGapFor (l : List Entry) (f i : ℕ) : Type 0 where
   pub smaller_before : (j : ℕ) → j < i → feature_at l j < f
   pub greater_after : (j : ℕ) → i ≤ j → j < length l → f < feature_at l j
 
--- there is a place for what the attribute will hold
-abbrev pub HasPlace : List Entry → ℕ → Type 0
-HasPlace l f = (i : ℕ) × IsAt l f i
+-- how many values may come at place i with no memory taken
+abbrev pub spare_at : List Entry → ℕ → ℕ
+spare_at l i = let e = slice_index_or l i (place_for 0) in e.list.spare
+
+-- there is a place for what the attribute will hold, where n values may come with no memory taken
+pub record HasPlace (l : List Entry) (f n : ℕ) : Type 0 where
+  pub place : ℕ
+  pub is_at : IsAt l f place
+  pub spare : n ≤ spare_at l place
+
+-- of the places for the f-th attribute's values, k are taken
+abbrev pub taken_of : ℕ → ℕ → ℕ → ℕ
+taken_of f k q = if nat_eq q f then k else 0

@@ -1,5 +1,6 @@
 pub mod Stored
 pub mod Attributes
+pub mod ListEdits
 pub mod Values
 pub mod Plan
 pub mod Slots

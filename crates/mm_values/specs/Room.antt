@@ -1,35 +1,65 @@
 -- What a repository's values are, and when there is room for what a plan makes.
-use Rattle.std.specs.Prelude.{◌+◌, ◌≤◌, Bool, true, false, List, length, count_by, All}
+use Rattle.std.specs.Prelude.{ℕ, ◌+◌, ◌≤◌, ◌&&◌, Bool, true, false, List, Option, Some, None, is_some, IfSome, length, count_by, sum_by, nat_eq, All, if◌then◌else◌}
+use Rattle.std.specs.List.{list_any}
+use Rattle.mm_types.specs.declared.numbers.FeatureNo.{FeatureNo}
+use Rattle.mm_types.specs.declared.numbers.ObjectNo.{ObjectNo}
 use Rattle.mm_values.specs.declared.edit.ValueEdit.{ValueEdit}
-use Rattle.mm_values.specs.declared.edit.ValueEdit.TheVariants.{NewObject, DropObject, PutList, NewUri}
+use Rattle.mm_values.specs.declared.edit.ValueEdit.TheVariants.{NewObject, PutList, InsertValue, NewUri}
 use Rattle.mm_values.specs.declared.values.Values.{Values}
 use Rattle.mm_values.specs.Values.{ValuesState}
-use Rattle.mm_values.specs.Slots.{Slots, objects_of, HasPlaceAt}
+use Rattle.mm_values.specs.Slots.{Slots, objects_of, none_taken, taken_at, HasPlaceAt}
 
 abbrev pub values_of : Values → ValuesState
 values_of v = record { objects = objects_of v.objects; uris = v.uris.uris }
 
 abbrev pub is_new_object : ValueEdit → Bool
 is_new_object (NewObject c) = true
-is_new_object (DropObject o) = false
-is_new_object (PutList o f list flag) = false
-is_new_object (NewUri u) = false
+is_new_object _ = false
 
 abbrev pub is_new_uri : ValueEdit → Bool
-is_new_uri (NewObject c) = false
-is_new_uri (DropObject o) = false
-is_new_uri (PutList o f list flag) = false
 is_new_uri (NewUri u) = true
+is_new_uri _ = false
 
--- a list that is put has its place
-abbrev pub HasPlaceFor : Slots → ValueEdit → Type 0
-HasPlaceFor r (NewObject c) = Unit {0}
-HasPlaceFor r (DropObject o) = Unit {0}
-HasPlaceFor r (PutList o f list flag) = HasPlaceAt r o.0 f.0
-HasPlaceFor r (NewUri u) = Unit {0}
+-- a value is put into the list that object o has under attribute f
+abbrev pub is_insert_at : ℕ → ℕ → ValueEdit → Bool
+is_insert_at o f (InsertValue x g i w u) = nat_eq o x.0 && nat_eq f g.0
+is_insert_at o f _ = false
+
+-- the list that a value is put into
+abbrev pub inserted_in : ValueEdit → Option (ObjectNo × FeatureNo)
+inserted_in (InsertValue x g i w u) = Some (x, g)
+inserted_in _ = None
+
+abbrev pub is_insert : ValueEdit → Bool
+is_insert e = is_some (inserted_in e)
+
+-- a value is put into this list
+abbrev pub is_insert_in : Option (ObjectNo × FeatureNo) → ValueEdit → Bool
+is_insert_in None e = false
+is_insert_in (Some p) e = is_insert_at p.0.0 p.1.0 e
+
+-- how many places for values an edit takes, by object and attribute
+abbrev pub places_taken : ValueEdit → ℕ → ℕ → ℕ
+places_taken (PutList x g list flag) = taken_at x g (length list)
+places_taken (InsertValue x g i w u) = taken_at x g 1
+places_taken _ = none_taken
+
+-- how many places the list that o has under f needs for a plan: none where no value is put into it
+abbrev pub needed : List ValueEdit → ℕ → ℕ → ℕ
+needed plan o f = if list_any (is_insert_at o f) plan then sum_by (λ e. places_taken e o f) plan else 0
+
+-- a list that is put, or that a value is put into, has its place and the places that the plan needs
+abbrev pub HasPlaceFor : Slots → List ValueEdit → ValueEdit → Type 0
+HasPlaceFor r plan (PutList x g list flag) = HasPlaceAt r x.0 g.0 (needed plan x.0 g.0)
+HasPlaceFor r plan (InsertValue x g i w u) = HasPlaceAt r x.0 g.0 (needed plan x.0 g.0)
+HasPlaceFor r plan _ = Unit {0}
+
+-- a list that need not be there has the places that the plan needs
+abbrev pub HasPlacesIn : Slots → List ValueEdit → Option (ObjectNo × FeatureNo) → Type 0
+HasPlacesIn r plan list = IfSome list (λ p. HasPlaceAt r p.0.0 p.1.0 (needed plan p.0.0 p.1.0))
 
 -- the plan can be applied with no memory taken
 pub record HasRoom (v : Values) (plan : List ValueEdit) : Type 0 where
   pub slots : v.objects.next + count_by is_new_object plan ≤ length v.objects.slots
-  pub places : All (HasPlaceFor v.objects) plan
+  pub places : All (HasPlaceFor v.objects plan) plan
   pub uris : count_by is_new_uri plan ≤ v.uris.room

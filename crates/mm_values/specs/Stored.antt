@@ -1,7 +1,8 @@
 -- What an object stores under its attributes: values, and whether the attribute is set.
-use Rattle.std.specs.Prelude.{ℕ, Bool, false, List, [], ◌&&◌, not, if◌then◌else◌}
+use Rattle.std.specs.Prelude.{ℕ, Bool, false, List, [], Option, Some, None, ◌&&◌, not, if◌then◌else◌}
 use Rattle.std.specs.Ordering.{nat_cmp}
 use Rattle.std.specs.FinMap as map
+use Rattle.slot_lists.specs.Places.{Places}
 use Rattle.mm_types.specs.Same.{is_nil}
 use Rattle.mm_types.specs.declared.value.Value.{Value}
 
@@ -23,3 +24,12 @@ StoredMap = map.FinMap nat_cmp Stored
 -- what holds nothing is not kept
 abbrev pub with_stored : StoredMap → ℕ → Stored → StoredMap
 with_stored m f h = if is_nothing h then map.remove m f else map.insert m f h
+
+-- what is stored with its list changed; the flag stays
+abbrev pub list_changed : (List Value → List Value) → Stored → Stored
+list_changed g h = record { list = g h.list; flag = h.flag }
+
+-- the values of a list that need not be there
+abbrev pub items_of : Option (Places Value) → List Value
+items_of None = []
+items_of (Some p) = p.items

@@ -1,23 +1,26 @@
 //! What one object holds under its attributes.
-ghost use Rattle.std.specs.Prelude.{◌≡◌, ℕ, [], IfOk, IfErr, OnOk, OnErr};
-ghost use Rattle.mm_values.specs.Stored.{with_stored};
-ghost use Rattle.mm_values.specs.Attributes.{stored_in, stored_under, HasPlace, IsAt, IsGapFor};
+ghost use Rattle.std.specs.Prelude.{◌≡◌, ℕ, ◌-◌, [], length, option_copied, IfOk, IfErr, OnOk};
+ghost use Rattle.mm_values.specs.Stored.{items_of, with_stored};
+ghost use Rattle.mm_values.specs.Attributes.{change_stored, stored_in, stored_under, taken_of, HasPlace, IsAt, IsGapFor};
+ghost use Rattle.mm_values.specs.ListEdits.{changed, taken, IsReadyFor};
 
+use crate::list_edit::ListEdit;
 use mm_types::{FeatureNo, Seq, Value};
+use slot_lists::SlotList;
 use std::alloc::{AllocError, Global};
 use std::marker::Model;
 
 /// What is stored under one attribute. Where the list is empty and the flag off it is only a place,
 /// made ahead for a list to come.
-#[derive(Debug, Drop)]
+#[derive(Drop)]
 pub(crate) struct Entry {
     feature: FeatureNo,
-    list: Seq<Value>,
+    list: SlotList<Value>,
     flag: bool,
 }
 
 /// The attribute lists of one object, in the order of the attributes' numbers.
-#[derive(Debug, Drop)]
+#[derive(Drop)]
 pub(crate) struct AttributeLists {
     entries: Vec<Entry>,
 }
@@ -45,13 +48,13 @@ impl AttributeLists {
         }
     }
 
-    /// The values under an attribute; none where it holds none.
-    pub fn list(&self, feature: FeatureNo) -> &[Value]
-        ensures { result.now ≡ (stored_under self.now feature).list }
+    /// The list under an attribute; `None` where it has no place, and so no values.
+    pub fn list(&self, feature: FeatureNo) -> Option<&SlotList<Value>>
+        ensures { items_of (option_copied result) ≡ (stored_under self.now feature).list }
     {
         match self.find(feature) {
-            Ok(at) => self.entries[at].list.as_slice(),
-            Err(_) => &[],
+            Ok(at) => Some(&self.entries[at].list),
+            Err(_) => None,
         }
     }
 
@@ -65,28 +68,65 @@ impl AttributeLists {
         }
     }
 
-    /// Makes a place for what an attribute will hold. Errs where memory is refused, and then nothing
-    /// has changed.
-    pub fn make_place(&mut self, feature: FeatureNo) -> Result<(), AllocError>
+    /// Makes a place for what an attribute will hold, and places for more values. Errs where memory is refused.
+    pub fn make_place(&mut self, feature: FeatureNo, additional: usize) -> Result<(), AllocError>
         ensures stored { stored_in self.new ≡ stored_in self.old }
-        ensures kept { (f : ℕ) → HasPlace self.old f → HasPlace self.new f }
-        ensures ok { OnOk result (HasPlace self.new feature.0) }
-        ensures err { OnErr result (self.new ≡ self.old) }
+        ensures kept { (f n : ℕ) → HasPlace self.old f n → HasPlace self.new f n }
+        ensures ok { OnOk result (HasPlace self.new feature.0 additional) }
+    {
+        let at = self.make_entry(feature)?;
+        if additional == 0 {
+            return Ok(());
+        }
+        self.reserve(feature, at, additional)
+    }
+
+    /// Puts a long list into pieces, so that it is fast to edit. Errs where memory is refused.
+    pub fn make_pieces(&mut self, feature: FeatureNo) -> Result<(), AllocError>
+        ensures stored { stored_in self.new ≡ stored_in self.old }
+        ensures kept { (f n : ℕ) → HasPlace self.old f n → HasPlace self.new f n }
     {
         match self.find(feature) {
-            Ok(_) => Ok(()),
+            Ok(at) => self.reserve(feature, at, 0),
+            Err(_) => Ok(()),
+        }
+    }
+
+    // Makes an entry for an attribute, where it has none, and answers where it is.
+    fn make_entry(&mut self, feature: FeatureNo) -> Result<usize, AllocError>
+        ensures stored { stored_in self.new ≡ stored_in self.old }
+        ensures kept { (f n : ℕ) → HasPlace self.old f n → HasPlace self.new f n }
+        ensures ok { IfOk result (IsAt self.new feature.0) }
+    {
+        match self.find(feature) {
+            Ok(at) => Ok(at),
             Err(at) => {
                 let alloc = *self.entries.allocator();
                 let entry = Entry {
                     feature,
-                    list: Seq::new(alloc),
+                    list: SlotList::new(alloc),
                     flag: false,
                 };
                 self.grow()?;
                 self.entries.insert(at, entry)?;
-                Ok(())
+                Ok(at)
             }
         }
+    }
+
+    // Makes places for more values in the entry of an attribute.
+    fn reserve(
+        &mut self,
+        feature: FeatureNo,
+        at: usize,
+        additional: usize,
+    ) -> Result<(), AllocError>
+        requires { IsAt self.old feature.0 at }
+        ensures stored { stored_in self.new ≡ stored_in self.old }
+        ensures kept { (f n : ℕ) → HasPlace self.old f n → HasPlace self.new f n }
+        ensures ok { OnOk result (HasPlace self.new feature.0 additional) }
+    {
+        self.entries[at].list.reserve(additional)
     }
 
     // Makes room for an entry where there is none, by a quarter at a time: most objects hold little.
@@ -101,17 +141,29 @@ impl AttributeLists {
 
     /// Replaces what is stored under an attribute, in its place. Takes no memory.
     pub fn put(&mut self, feature: FeatureNo, list: Seq<Value>, flag: bool)
-        requires { HasPlace self.old feature.0 }
+        requires { HasPlace self.old feature.0 0 }
         ensures stored { stored_in self.new ≡ with_stored (stored_in self.old) feature.0 (record { list = list; flag = flag }) }
-        ensures kept { (f : ℕ) → HasPlace self.old f → HasPlace self.new f }
+        ensures kept { (f n : ℕ) → HasPlace self.old f n → HasPlace self.new f (n - taken_of feature.0 (length list) f) }
     {
         match self.find(feature) {
-            Ok(at) => self.entries[at] = Entry {
-                feature,
-                list,
-                flag,
-            },
+            Ok(at) => {
+                let entry = &mut self.entries[at];
+                entry.list.replace(list.into_vec());
+                entry.flag = flag;
+            }
             Err(_) => unreachable!(),
+        }
+    }
+
+    /// Changes the list that is stored under an attribute; the flag stays. Takes no memory.
+    pub fn change(&mut self, feature: FeatureNo, edit: ListEdit)
+        requires { IsReadyFor self.old feature.0 edit }
+        ensures stored { stored_in self.new ≡ change_stored (stored_in self.old) feature.0 (changed edit) }
+        ensures kept { (f n : ℕ) → HasPlace self.old f n → HasPlace self.new f (n - taken_of feature.0 (taken edit) f) }
+    {
+        match self.find(feature) {
+            Ok(at) => edit.make(&mut self.entries[at].list),
+            Err(_) => drop(edit),
         }
     }
 

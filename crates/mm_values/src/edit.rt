@@ -17,12 +17,35 @@ pub enum ValueEdit {
         list: Seq<Value>,
         flag: bool,
     },
+    /// Puts one value into an attribute's list, at an index; past the end it is put last. `is_unique` says that the list is one that
+    /// is asked for its values, again and again.
+    InsertValue {
+        object: ObjectNo,
+        feature: FeatureNo,
+        index: u32,
+        value: Value,
+        is_unique: bool,
+    },
+    /// Takes one value out of an attribute's list; past the end nothing changes.
+    RemoveValue {
+        object: ObjectNo,
+        feature: FeatureNo,
+        index: u32,
+    },
+    /// Takes the value at `from` out and puts it in so that it then stands at `to`.
+    MoveValue {
+        object: ObjectNo,
+        feature: FeatureNo,
+        to: u32,
+        from: u32,
+    },
     /// Makes a resource of a URI (EMF: ResourceSet.createResource), unless one has it already.
     NewUri(Text),
 }
 
 impl ValueEdit {
-    ghost use Rattle.mm_values.specs.Room.{is_new_object, is_new_uri};
+    ghost use Rattle.std.specs.Prelude.{length};
+    ghost use Rattle.mm_values.specs.Room.{inserted_in, is_insert, is_insert_at, is_insert_in, is_new_object, is_new_uri, places_taken};
 
     pub(crate) fn is_new_object(&self) -> bool
         ensures { result ≡ is_new_object self.now }
@@ -34,5 +57,70 @@ impl ValueEdit {
         ensures { result ≡ is_new_uri self.now }
     {
         matches!(self, ValueEdit::NewUri(_))
+    }
+
+    // The list that a value is put into.
+    pub(crate) fn inserted_in(&self) -> Option<(ObjectNo, FeatureNo)>
+        ensures { result ≡ inserted_in self.now }
+    {
+        match self {
+            ValueEdit::InsertValue {
+                object,
+                feature,
+                ..
+            } => Some((*object, *feature)),
+            _ => None,
+        }
+    }
+
+    // Whether a value is put into a list.
+    pub(crate) fn is_insert(&self) -> bool
+        ensures { result ≡ is_insert self.now }
+    {
+        self.inserted_in().is_some()
+    }
+
+    // Whether a value is put into this list.
+    pub(crate) fn is_insert_in(&self, list: Option<(ObjectNo, FeatureNo)>) -> bool
+        ensures { result ≡ is_insert_in list self.now }
+    {
+        match list {
+            Some((object, feature)) => self.is_insert_at(object, feature),
+            None => false,
+        }
+    }
+
+    // Whether a value is put into the list that an object has under an attribute.
+    pub(crate) fn is_insert_at(&self, at: ObjectNo, under: FeatureNo) -> bool
+        ensures { result ≡ is_insert_at at.0 under.0 self.now }
+    {
+        match self {
+            ValueEdit::InsertValue {
+                object,
+                feature,
+                ..
+            } => at == *object && under == *feature,
+            _ => false,
+        }
+    }
+
+    // How many places of the list that an object has under an attribute are taken.
+    pub(crate) fn places_taken(&self, at: ObjectNo, under: FeatureNo) -> usize
+        ensures { result ≡ places_taken self.now at.0 under.0 }
+    {
+        match self {
+            ValueEdit::PutList {
+                object,
+                feature,
+                list,
+                ..
+            } if at == *object && under == *feature => list.len(),
+            ValueEdit::InsertValue {
+                object,
+                feature,
+                ..
+            } if at == *object && under == *feature => 1,
+            _ => 0,
+        }
     }
 }

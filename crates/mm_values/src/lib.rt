@@ -7,6 +7,7 @@
 
 mod attribute_lists;
 mod edit;
+mod list_edit;
 mod objects;
 mod plan;
 mod uris;

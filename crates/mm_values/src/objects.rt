@@ -1,23 +1,27 @@
 //! The objects of a repository, by number.
 ghost use Rattle.std.specs.Prelude.{◌≡◌, ◌+◌, ◌<◌, ◌≤◌, [], length, option_copied, OnOk, OnErr};
 ghost use Rattle.std.specs.Option.{option_map, option_and_then};
-ghost use Rattle.mm_values.specs.Values.{object_at, stored_under, with_object, without_object, with_list};
-ghost use Rattle.mm_values.specs.Slots.{objects_of, state_of, HasPlaceAt, KeepsPlaces};
+ghost use Rattle.mm_values.specs.ListEdits.{changed, taken};
+ghost use Rattle.mm_values.specs.Slots.{objects_of, state_of, none_taken, taken_at, HasPlaceAt, IsReadyAt, KeepsPlaces};
+ghost use Rattle.mm_values.specs.Stored.{items_of};
+ghost use Rattle.mm_values.specs.Values.{object_at, stored_under, with_changed, with_object, without_object, with_list};
 
 use crate::attribute_lists::AttributeLists;
+use crate::list_edit::ListEdit;
 use mm_types::{ClassNo, FeatureNo, ObjectNo, Seq, Value};
+use slot_lists::SlotList;
 use std::alloc::{AllocError, Global};
 use std::marker::Model;
 
 /// An object's class, where it is live, and its attribute lists.
-#[derive(Debug, Drop)]
+#[derive(Drop)]
 pub(crate) struct Slot {
     class: Option<ClassNo>,
     lists: AttributeLists,
 }
 
 /// The objects by number: `next` of them were made. The slots behind them are ready for objects to come.
-#[derive(Debug, Drop)]
+#[derive(Drop)]
 pub(crate) struct Objects {
     slots: Vec<Slot>,
     next: usize,
@@ -72,9 +76,9 @@ impl Objects {
         self.slot(object)?.class
     }
 
-    /// What a live object holds under an attribute.
-    pub fn list(&self, object: ObjectNo, feature: FeatureNo) -> Option<&[Value]>
-        ensures { option_copied result ≡ option_map (λ s. (stored_under s feature).list) (object_at (objects_of self.now) object) }
+    /// The list that a live object has under an attribute, where that has a place.
+    pub fn list(&self, object: ObjectNo, feature: FeatureNo) -> Option<Option<&SlotList<Value>>>
+        ensures { option_map (λ l. items_of (option_copied l)) result ≡ option_map (λ s. (stored_under s feature).list) (object_at (objects_of self.now) object) }
     {
         let slot = self.slot(object)?;
         slot.class.map(|_| slot.lists.list(feature))
@@ -122,12 +126,17 @@ impl Objects {
     }
 
     /// Makes a place for what an attribute of an object will hold, also of one that is still to be
-    /// made. Errs where memory is refused.
-    pub fn make_place(&mut self, object: ObjectNo, feature: FeatureNo) -> Result<(), AllocError>
+    /// made, and places for more values. Errs where memory is refused.
+    pub fn make_place(
+        &mut self,
+        object: ObjectNo,
+        feature: FeatureNo,
+        additional: usize,
+    ) -> Result<(), AllocError>
         ensures objects { objects_of self.new ≡ objects_of self.old }
         ensures next { self.new.next ≡ self.old.next }
-        ensures kept { KeepsPlaces self.old self.new }
-        ensures ok { OnOk result (HasPlaceAt self.new object.0 feature.0) }
+        ensures kept { KeepsPlaces none_taken self.old self.new }
+        ensures ok { OnOk result (HasPlaceAt self.new object.0 feature.0 additional) }
     {
         let index = object.0 as usize;
         if index >= self.slots.len() {
@@ -137,7 +146,21 @@ impl Objects {
         if index < self.next && slot.class.is_none() {
             return Ok(());
         }
-        slot.lists.make_place(feature)
+        slot.lists.make_place(feature, additional)
+    }
+
+    /// Puts a long list of an object into pieces, so that it is fast to edit. Errs where memory is refused.
+    pub fn make_pieces(&mut self, object: ObjectNo, feature: FeatureNo) -> Result<(), AllocError>
+        ensures objects { objects_of self.new ≡ objects_of self.old }
+        ensures next { self.new.next ≡ self.old.next }
+        ensures kept { KeepsPlaces none_taken self.old self.new }
+    {
+        let index = object.0 as usize;
+        if index >= self.next {
+            return Ok(());
+        }
+        let slot = &mut self.slots[index];
+        slot.lists.make_pieces(feature)
     }
 
     /// Makes an object, in a slot that is ready. Takes no memory.
@@ -145,7 +168,7 @@ impl Objects {
         requires { self.old.next < length self.old.slots }
         ensures objects { objects_of self.new ≡ with_object (objects_of self.old) class }
         ensures next { self.new.next ≡ self.old.next + 1 }
-        ensures kept { KeepsPlaces self.old self.new }
+        ensures kept { KeepsPlaces none_taken self.old self.new }
     {
         let slot = &mut self.slots[self.next];
         slot.class = Some(class);
@@ -156,7 +179,7 @@ impl Objects {
     pub fn remove(&mut self, object: ObjectNo)
         ensures objects { objects_of self.new ≡ without_object (objects_of self.old) object }
         ensures next { self.new.next ≡ self.old.next }
-        ensures kept { KeepsPlaces self.old self.new }
+        ensures kept { KeepsPlaces none_taken self.old self.new }
     {
         let index = object.0 as usize;
         if index < self.next {
@@ -170,10 +193,10 @@ impl Objects {
 
     /// Replaces what a live object holds under an attribute, in its place. Takes no memory.
     pub fn put(&mut self, object: ObjectNo, feature: FeatureNo, list: Seq<Value>, flag: bool)
-        requires { HasPlaceAt self.old object.0 feature.0 }
+        requires { HasPlaceAt self.old object.0 feature.0 0 }
         ensures objects { objects_of self.new ≡ with_list (objects_of self.old) object feature (record { list = list; flag = flag }) }
         ensures next { self.new.next ≡ self.old.next }
-        ensures kept { KeepsPlaces self.old self.new }
+        ensures kept { KeepsPlaces (taken_at object feature (length list)) self.old self.new }
     {
         let index = object.0 as usize;
         if index < self.next {
@@ -182,5 +205,23 @@ impl Objects {
                 slot.lists.put(feature, list, flag);
             }
         }
+    }
+
+    /// Changes the list that a live object holds under an attribute; the flag stays. Takes no memory.
+    pub fn change(&mut self, object: ObjectNo, feature: FeatureNo, edit: ListEdit)
+        requires { IsReadyAt self.old object.0 feature.0 edit }
+        ensures objects { objects_of self.new ≡ with_changed (objects_of self.old) object feature (changed edit) }
+        ensures next { self.new.next ≡ self.old.next }
+        ensures kept { KeepsPlaces (taken_at object feature (taken edit)) self.old self.new }
+    {
+        let index = object.0 as usize;
+        if index >= self.next {
+            return drop(edit);
+        }
+        let slot = &mut self.slots[index];
+        if slot.class.is_none() {
+            return drop(edit);
+        }
+        slot.lists.change(feature, edit);
     }
 }

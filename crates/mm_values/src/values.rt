@@ -1,7 +1,11 @@
 //! What a repository holds besides links.
-ghost use Rattle.std.specs.Prelude.{◌≡◌, List, [], ◌∷◌, length, option_copied, All, OnOk};
+ghost use Rattle.std.specs.Prelude.{◌≡◌, ℕ, List, [], ◌∷◌, length, option_and_then, option_copied, option_map, position, slice_get, All, IfOk, OnOk};
+ghost use Rattle.mm_types.specs.Same.{same_value};
+ghost use Rattle.std.specs.List.{list_any};
+ghost use Rattle.mm_values.specs.Room.{is_insert, is_insert_at, needed};
 
 use crate::edit::ValueEdit;
+use crate::list_edit::ListEdit;
 use crate::objects::Objects;
 use crate::plan::{Edits, ValuePlan};
 use crate::uris::Uris;
@@ -18,7 +22,7 @@ pub struct Values {
 impl Values {
     ghost use Rattle.mm_values.specs.Values.{class_of, list_of, flag_of, uri_of, resource_of, edited, applied};
     ghost use Rattle.mm_values.specs.Room.{values_of, HasRoom, HasPlaceFor};
-    ghost use Rattle.mm_values.specs.Slots.{KeepsPlaces};
+    ghost use Rattle.mm_values.specs.Slots.{none_taken, HasPlaceAt, KeepsPlaces};
     ghost use Rattle.mm_values.specs.declared.edit.ValueEdit.{ValueEdit};
 
     /// No objects and no resources. Takes no memory.
@@ -52,12 +56,37 @@ impl Values {
         self.objects.class(object)
     }
 
-    /// The values that an object has under an attribute (EMF: eGet), none where it holds none;
+    /// How many values an object has under an attribute (EMF: eGet), none where it holds none;
     /// `None` where no live object has the number.
-    pub fn list(&self, object: ObjectNo, feature: FeatureNo) -> Option<&[Value]>
-        ensures { option_copied result ≡ list_of (values_of self.now) object feature }
+    pub fn len(&self, object: ObjectNo, feature: FeatureNo) -> Option<usize>
+        ensures { result ≡ option_map length (list_of (values_of self.now) object feature) }
     {
-        self.objects.list(object, feature)
+        match self.objects.list(object, feature)? {
+            Some(list) => Some(list.len()),
+            None => Some(0),
+        }
+    }
+
+    /// The value that an object has under an attribute at an index; `None` past the end, and where no live object has the
+    /// number.
+    pub fn at(&self, object: ObjectNo, feature: FeatureNo, index: usize) -> Option<&Value>
+        ensures { option_copied result ≡ option_and_then (λ vs. slice_get vs index) (list_of (values_of self.now) object feature) }
+    {
+        match self.objects.list(object, feature)? {
+            Some(list) => list.get(index),
+            None => None,
+        }
+    }
+
+    /// The index at which an object has a value under an attribute first; `None` where it has not, and where no live object
+    /// has the number.
+    pub fn position(&self, object: ObjectNo, feature: FeatureNo, value: &Value) -> Option<usize>
+        ensures { result ≡ option_and_then (position (same_value value.now)) (list_of (values_of self.now) object feature) }
+    {
+        match self.objects.list(object, feature)? {
+            Some(list) => list.position(value),
+            None => None,
+        }
     }
 
     /// The flag that was put with the values of an attribute (EMF: eIsSet); `None` where no live object
@@ -135,38 +164,142 @@ impl Values {
                 list,
                 flag,
             } => self.objects.put(object, feature, list, flag),
+            ValueEdit::InsertValue {
+                object,
+                feature,
+                index,
+                value,
+                ..
+            } => {
+                let edit = ListEdit::Insert { index, value };
+                self.objects.change(object, feature, edit);
+            }
+            ValueEdit::RemoveValue {
+                object,
+                feature,
+                index,
+            } => {
+                let edit = ListEdit::Remove { index };
+                self.objects.change(object, feature, edit);
+            }
+            ValueEdit::MoveValue {
+                object,
+                feature,
+                to,
+                from,
+            } => {
+                let edit = ListEdit::Move { to, from };
+                self.objects.change(object, feature, edit);
+            }
             ValueEdit::NewUri(uri) => self.uris.add(uri),
         }
     }
 
-    // Makes a place for each list that is put.
+    // Makes a place for each list that is put or changed.
     fn make_places(&mut self, edits: &[ValueEdit]) -> Result<(), AllocError>
         ensures unchanged { values_of self.new ≡ values_of self.old }
         ensures next { self.new.objects.next ≡ self.old.objects.next }
         ensures slots { length self.new.objects.slots ≡ length self.old.objects.slots }
-        ensures ok { OnOk result (All (HasPlaceFor self.new.objects) edits.now) }
+        ensures ok { OnOk result (All (HasPlaceFor self.new.objects edits.now) edits.now) }
     {
+        let plan = counted(edits);
+        let mut made = None;
         for edit in edits {
-            self.make_place_for(edit)?;
+            // Of inserts in a row into one list, the first makes the places for all.
+            if edit.is_insert_in(made) {
+                continue;
+            }
+            self.make_place_for(edit, plan)?;
+            made = edit.inserted_in();
         }
         Ok(())
     }
 
-    // Makes a place for a list that is put.
-    fn make_place_for(&mut self, edit: &ValueEdit) -> Result<(), AllocError>
+    // Makes a place for a list that an edit of a plan puts or changes.
+    fn make_place_for(&mut self, edit: &ValueEdit, plan: &[ValueEdit]) -> Result<(), AllocError>
         ensures unchanged { values_of self.new ≡ values_of self.old }
         ensures next { self.new.objects.next ≡ self.old.objects.next }
-        ensures kept { KeepsPlaces self.old.objects self.new.objects }
-        ensures ok { OnOk result (HasPlaceFor self.new.objects edit.now) }
+        ensures kept { KeepsPlaces none_taken self.old.objects self.new.objects }
+        ensures ok { OnOk result (HasPlaceFor self.new.objects plan.now edit.now) }
     {
         match edit {
             ValueEdit::PutList {
                 object,
                 feature,
-                list: _,
-                flag: _,
-            } => self.objects.make_place(*object, *feature),
+                ..
+            } => self.make_list(*object, *feature, plan),
+            ValueEdit::InsertValue {
+                object,
+                feature,
+                ..
+            } => self.make_list(*object, *feature, plan),
+            ValueEdit::RemoveValue {
+                object,
+                feature,
+                ..
+            } => self.objects.make_pieces(*object, *feature),
+            ValueEdit::MoveValue {
+                object,
+                feature,
+                ..
+            } => self.objects.make_pieces(*object, *feature),
             ValueEdit::NewObject(_) | ValueEdit::DropObject(_) | ValueEdit::NewUri(_) => Ok(()),
         }
     }
+
+    // Makes a place for a list, and the places for values that a plan needs in it.
+    fn make_list(
+        &mut self,
+        object: ObjectNo,
+        feature: FeatureNo,
+        plan: &[ValueEdit],
+    ) -> Result<(), AllocError>
+        ensures unchanged { values_of self.new ≡ values_of self.old }
+        ensures next { self.new.objects.next ≡ self.old.objects.next }
+        ensures kept { KeepsPlaces none_taken self.old.objects self.new.objects }
+        ensures ok { OnOk result (HasPlaceAt self.new.objects object.0 feature.0 (needed plan.now object.0 feature.0)) }
+    {
+        let places = places_needed(plan, object, feature)?;
+        self.objects.make_place(object, feature, places)
+    }
+}
+
+// Whether a plan puts a value into any list.
+fn has_insert(plan: &[ValueEdit]) -> bool
+    ensures { result ≡ list_any is_insert plan.now }
+{
+    plan.iter().any(|e| e.is_insert())
+}
+
+// The edits of which the needed places are counted: none, and so no time, where no value is put into a list.
+fn counted(plan: &[ValueEdit]) -> &[ValueEdit]
+    ensures { (o f : ℕ) → needed result.now o f ≡ needed plan.now o f }
+{
+    if has_insert(plan) { plan } else { &[] }
+}
+
+// Whether a plan puts a value into the list that an object has under an attribute.
+fn is_inserted_at(plan: &[ValueEdit], object: ObjectNo, feature: FeatureNo) -> bool
+    ensures { result ≡ list_any (is_insert_at object.0 feature.0) plan.now }
+{
+    plan.iter().any(|e| e.is_insert_at(object, feature))
+}
+
+// How many places a plan needs in the list that an object has under an attribute. Errs where no memory has so many.
+fn places_needed(
+    plan: &[ValueEdit],
+    object: ObjectNo,
+    feature: FeatureNo,
+) -> Result<usize, AllocError>
+    ensures { IfOk result (λ n. n ≡ needed plan.now object.0 feature.0) }
+{
+    if !is_inserted_at(plan, object, feature) {
+        return Ok(0);
+    }
+    let mut places: usize = 0;
+    for edit in plan {
+        let more = edit.places_taken(object, feature);
+        places = places.checked_add(more).ok_or(AllocError)?;
+    }
+    Ok(places)
 }

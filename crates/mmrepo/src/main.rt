@@ -105,17 +105,8 @@ fn load(rt: &HostRuntime, path: &str) -> Result<Box<Meta>, Stop> {
     Ok(Box::new(rt.alloc(), meta)?)
 }
 
-/// Runs the script and writes what is left in the buffer, whatever the outcome. Its boxes are A1 to A4, which keep every notice,
-/// A5 and A6, which keep the last 2 and the last 100, A7, which counts, and A8, which can count two more.
-fn run_script(rt: &HostRuntime, meta: Box<Meta>) -> Result<(), Stop> {
-    let mut boxes: Vec<Box<dyn Adapter>> = Vec::new(rt.alloc());
-    for _ in 0..RECORDERS {
-        boxes.push(Box::new(rt.alloc(), Recorder::new(rt.alloc()))?)?;
-    }
-    boxes.push(Box::new(rt.alloc(), Window::new(rt.alloc(), 2)?)?)?;
-    boxes.push(Box::new(rt.alloc(), Window::new(rt.alloc(), 100)?)?)?;
-    boxes.push(Box::new(rt.alloc(), Counter::new())?)?;
-    boxes.push(Box::new(rt.alloc(), Counter::starting_at(u64::MAX - LEFT))?)?;
+/// Runs the script over an empty repository, and writes what is left in the buffer, whatever the outcome.
+fn run_script<A: Adapter>(rt: &HostRuntime, meta: Box<Meta>, boxes: Vec<A>) -> Result<(), Stop> {
     let Ok(mut writer) = BufWriter::new(rt.alloc(), io::writer(rt)) else {
         return Err(Stop::Run(RunFault::Memory));
     };
@@ -129,11 +120,25 @@ fn run_script(rt: &HostRuntime, meta: Box<Meta>) -> Result<(), Stop> {
     Ok(())
 }
 
+/// Runs the script with its boxes: A1 to A4, which keep every notice, A5 and A6, which keep the last 2 and the last 100, A7,
+/// which counts, and A8, which can count two more.
+fn run_with_boxes(rt: &HostRuntime, meta: Box<Meta>) -> Result<(), Stop> {
+    let mut boxes: Vec<Box<dyn Adapter>> = Vec::new(rt.alloc());
+    for _ in 0..RECORDERS {
+        boxes.push(Box::new(rt.alloc(), Recorder::new(rt.alloc()))?)?;
+    }
+    boxes.push(Box::new(rt.alloc(), Window::new(rt.alloc(), 2)?)?)?;
+    boxes.push(Box::new(rt.alloc(), Window::new(rt.alloc(), 100)?)?)?;
+    boxes.push(Box::new(rt.alloc(), Counter::new())?)?;
+    boxes.push(Box::new(rt.alloc(), Counter::starting_at(u64::MAX - LEFT))?)?;
+    run_script(rt, meta, boxes)
+}
+
 fn start(rt: &HostRuntime) -> Result<(), Stop> {
     let words = words_of(rt)?;
     let path = path_of(rt, words.as_slice())?;
     let meta = load(rt, path.as_str())?;
-    run_script(rt, meta)
+    run_with_boxes(rt, meta)
 }
 
 fn report_arguments(rt: &HostRuntime, error: clap::Error) -> u8 {

@@ -8,31 +8,66 @@ use repository::Command;
 use std::alloc::{AllocError, Global};
 use std::test::Fail;
 
-/// What the calls give when an adapter is attached to a book, the book is named and unnamed, and the adapter is counted and
-/// detached.
-fn calls<A: Adapter>(alloc: Global, adapter: A) -> Result<[String; 3], Fail> {
-    let mut repository = one_book(alloc)?;
-    let attached = repository.attach(AdapterNo(5), object(0), true, adapter);
-    let attached = outcome_text(alloc, &attached)?;
-    repository.e_set(object(0), NAME, text(alloc, "Emma")?)?;
-    repository.e_unset(object(0), NAME)?;
-    let told = repository.adapter_told(AdapterNo(5))?;
-    let kept = repository.adapter_kept(AdapterNo(5))?;
-    let counted = format!(in alloc; "{told} told, {kept} kept")?;
-    let detached = reply_text(alloc, &repository.detach(AdapterNo(5))?)?;
-    Ok([attached, counted, detached])
+const NO: AdapterNo = AdapterNo(5);
+
+fn attached<A: Adapter>(
+    alloc: Global,
+    repository: &mut RowRepository<A>,
+    adapter: A,
+) -> Result<String, AllocError> {
+    let outcome = repository.attach(NO, object(0), true, adapter);
+    outcome_text(alloc, &outcome)
 }
 
-const DETACHED: &str =
-    "Done; A5 REMOVING_ADAPTER Adapter(AdapterNo(5)) Null 0 false; A5 back, 3 told, REMOVING_ADAPTER 0";
+/// Names the book, and takes the name back.
+fn name_and_unname<A: Adapter>(
+    alloc: Global,
+    repository: &mut RowRepository<A>,
+) -> Result<(), Fail> {
+    repository.e_set(object(0), NAME, text(alloc, "Emma")?)?;
+    repository.e_unset(object(0), NAME)?;
+    Ok(())
+}
+
+fn counted<A: Adapter>(alloc: Global, repository: &RowRepository<A>) -> Result<String, Fail> {
+    let told = repository.adapter_told(NO)?;
+    let kept = repository.adapter_kept(NO)?;
+    Ok(format!(in alloc; "{told} told, {kept} kept")?)
+}
+
+fn detached<A: Adapter>(alloc: Global, repository: &mut RowRepository<A>) -> Result<String, Fail> {
+    let reply = repository.detach(NO)?;
+    Ok(reply_text(alloc, &reply)?)
+}
+
+/// What the calls give when an adapter is attached to a book, the book is named and unnamed, and the adapter is counted and
+/// detached.
+fn calls<A: Adapter>(
+    alloc: Global,
+    repository: &mut RowRepository<A>,
+    adapter: A,
+) -> Result<String, Fail> {
+    let attached = attached(alloc, repository, adapter)?;
+    name_and_unname(alloc, repository)?;
+    let counted = counted(alloc, repository)?;
+    let detached = detached(alloc, repository)?;
+    Ok(format!(in alloc; "{attached}\n{counted}\n{detached}")?)
+}
+
+/// What these calls give over a book of their own.
+fn calls_at_a_book<A: Adapter>(alloc: Global, adapter: A) -> Result<String, Fail> {
+    let mut repository = one_book(alloc)?;
+    calls(alloc, &mut repository, adapter)
+}
+
+const CALLED: &str =
+    "Done\n2 told, 1 kept\nDone; A5 REMOVING_ADAPTER Adapter(AdapterNo(5)) Null 0 false; A5 back, 3 told, REMOVING_ADAPTER 0";
 
 #[test]
 fn an_adapter_is_attached_counted_and_detached(rt: HostRuntime) -> Result<(), Fail> {
     let window = adapter(rt.alloc(), Kind::WindowOfOne)?;
-    let found = calls(rt.alloc(), window)?;
-    assert_eq!(rt; found[0].as_str(), "Done");
-    assert_eq!(rt; found[1].as_str(), "2 told, 1 kept");
-    assert_eq!(rt; found[2].as_str(), DETACHED);
+    let found = calls_at_a_book(rt.alloc(), window)?;
+    assert_eq!(rt; found.as_str(), CALLED);
     Ok(())
 }
 
@@ -54,10 +89,19 @@ fn commands<A: Adapter>(alloc: Global, adapter: A) -> Result<Vec<Command<A>>, Al
         feature: NAME,
         value: text(alloc, "Emma")?,
     })?;
-    commands.push(Command::AdapterTold(AdapterNo(5)))?;
-    commands.push(Command::AdapterKept(AdapterNo(5)))?;
-    commands.push(Command::Detach(AdapterNo(5)))?;
+    commands.push(Command::AdapterTold(NO))?;
+    commands.push(Command::AdapterKept(NO))?;
+    commands.push(Command::Detach(NO))?;
     Ok(commands)
+}
+
+fn command_outcome<A: Adapter>(
+    alloc: Global,
+    repository: &mut RowRepository<A>,
+    command: Command<A>,
+) -> Result<String, AllocError> {
+    let outcome = repository.execute(command);
+    outcome_text(alloc, &outcome)
 }
 
 /// What commands give over a repository, each on a line.
@@ -68,9 +112,8 @@ fn executed<A: Adapter>(
 ) -> Result<String, AllocError> {
     let mut text = String::new(alloc);
     for command in commands {
-        let outcome = repository.execute(command);
-        text.push_str(outcome_text(alloc, &outcome)?.as_str())?;
-        text.push('\n')?;
+        let outcome = command_outcome(alloc, repository, command)?;
+        writeln!(text, "{outcome}")?;
     }
     Ok(text)
 }
@@ -120,7 +163,7 @@ fn refused_commands_give_their_adapter_back(rt: HostRuntime) -> Result<(), Fail>
     let commands = refused_commands(rt.alloc())?;
     let found = executed(rt.alloc(), &mut repository, commands)?;
     assert_eq!(rt; found.as_str(), REFUSED);
-    assert_eq!(rt; repository.adapter_told(AdapterNo(5)), Ok(0));
+    assert_eq!(rt; repository.adapter_told(NO), Ok(0));
     Ok(())
 }
 
@@ -134,25 +177,49 @@ fn refused_calls_say_why(rt: HostRuntime) -> Result<(), Fail> {
     Ok(())
 }
 
-/// Detaches an adapter that has heard something, and attaches it where nothing is: it comes back once more.
-fn attached_nowhere<A: Adapter>(alloc: Global, adapter: A) -> Result<String, Fail> {
-    let mut repository = one_book(alloc)?;
-    attach(&mut repository, 5, adapter)?;
-    repository.e_set(object(0), NAME, text(alloc, "Emma")?)?;
-    let mut released = repository.detach(AdapterNo(5))?.released.into_vec();
-    let Some((no, adapter)) = released.pop() else {
-        return Err(Fail::new("the adapter is not given back"));
-    };
-    match repository.attach(no, object(1), false, adapter) {
+/// Detaches the adapter.
+fn released<A: Adapter>(repository: &mut RowRepository<A>) -> Result<A, Fail> {
+    let mut released = repository.detach(NO)?.released.into_vec();
+    match released.pop() {
+        Some((_no, adapter)) => Ok(adapter),
+        None => Err(Fail::new("the adapter is not given back")),
+    }
+}
+
+/// Attaches an adapter where no object is: it comes back.
+fn attached_nowhere<A: Adapter>(
+    alloc: Global,
+    repository: &mut RowRepository<A>,
+    adapter: A,
+) -> Result<String, Fail> {
+    match repository.attach(NO, object(1), false, adapter) {
         Ok(_) => Err(Fail::new("an adapter is attached to no object")),
         Err(failure) => Ok(failure_text(alloc, &failure)?),
     }
 }
 
+/// Detaches an adapter that has heard something, and attaches it where nothing is: it comes back once more.
+fn attached_again<A: Adapter>(
+    alloc: Global,
+    repository: &mut RowRepository<A>,
+    adapter: A,
+) -> Result<String, Fail> {
+    attach(repository, 5, adapter)?;
+    repository.e_set(object(0), NAME, text(alloc, "Emma")?)?;
+    let adapter = released(repository)?;
+    attached_nowhere(alloc, repository, adapter)
+}
+
+/// What that gives over a book of its own.
+fn attached_again_at_a_book<A: Adapter>(alloc: Global, adapter: A) -> Result<String, Fail> {
+    let mut repository = one_book(alloc)?;
+    attached_again(alloc, &mut repository, adapter)
+}
+
 #[test]
 fn a_refused_adapter_has_heard_what_it_had(rt: HostRuntime) -> Result<(), Fail> {
     let recorder = adapter(rt.alloc(), Kind::Recorder)?;
-    let found = attached_nowhere(rt.alloc(), recorder)?;
+    let found = attached_again_at_a_book(rt.alloc(), recorder)?;
     let wanted = "refused 1, back, 2 told, SET -1, REMOVING_ADAPTER 0";
     assert_eq!(rt; found.as_str(), wanted);
     Ok(())

@@ -14,33 +14,41 @@ pub(crate) const CUPS: &str = r#"{"classes":[{"name":"Cup","features":[
 
 pub(crate) const CUP: ClassNo = ClassNo(0);
 
-pub(crate) const LABEL: FeatureNo = FeatureNo(0);
-
 pub(crate) const LID: FeatureNo = FeatureNo(1);
 
 pub(crate) const ON: FeatureNo = FeatureNo(2);
 
+/// An empty repository of cups; where memory is refused, it is asked for once more.
 fn no_cups<A: Adapter>(alloc: Global) -> Result<Box<RowRepository<A>>, MetaFault> {
+    match repository(alloc) {
+        Ok(repository) => Ok(repository),
+        Err(_) => repository(alloc),
+    }
+}
+
+fn repository<A: Adapter>(alloc: Global) -> Result<Box<RowRepository<A>>, MetaFault> {
     empty(alloc, metamodel(alloc, CUPS)?)
 }
 
 /// Makes a cup; where memory is refused, it is asked for once more.
-fn make_cup<A: Adapter>(repository: &mut RowRepository<A>) -> Result<(), Refused> {
-    if repository.create(CUP).is_err() {
-        repository.create(CUP)?;
+fn make_cup<A: Adapter>(repository: &mut RowRepository<A>) -> Result<Reply<A>, Refused> {
+    match repository.create(CUP) {
+        Ok(reply) => Ok(reply),
+        Err(_) => repository.create(CUP),
+    }
+}
+
+fn make_cups<A: Adapter>(repository: &mut RowRepository<A>, count: u32) -> Result<(), Refused> {
+    for _ in 0..count {
+        make_cup(repository)?;
     }
     Ok(())
 }
 
 /// A repository of some cups, numbered from 0, of which none is a lid. Where memory is refused, it is asked for once more.
 pub(crate) fn cups<A: Adapter>(alloc: Global, count: u32) -> Result<Box<RowRepository<A>>, Fail> {
-    let mut repository = match no_cups(alloc) {
-        Ok(repository) => repository,
-        Err(_) => no_cups(alloc)?,
-    };
-    for _ in 0..count {
-        make_cup(&mut repository)?;
-    }
+    let mut repository = no_cups(alloc)?;
+    make_cups(&mut repository, count)?;
     Ok(repository)
 }
 

@@ -1,13 +1,11 @@
-//! Tests of the crates of models and scripts, by calls that a script can't make: streams that fail, memory that is
-//! refused, adapters with their list and their repository, and what a command line gives.
+//! Tests of the crates of models, by calls that a script can't make: memory that is refused, and adapters with their list
+//! and their repository.
 //!
 //! What a script prints stands among the cases.
 #![tactic(auto)]
 
 #[cfg(test)]
 mod adapter_kinds;
-#[cfg(test)]
-mod arguments;
 #[cfg(test)]
 mod attached;
 #[cfg(test)]
@@ -33,7 +31,7 @@ mod memory_adapters;
 #[cfg(test)]
 mod memory_links;
 #[cfg(test)]
-mod nested;
+mod memory_lists;
 #[cfg(test)]
 mod notices;
 #[cfg(test)]
@@ -41,21 +39,13 @@ mod notified;
 #[cfg(test)]
 mod poor;
 #[cfg(test)]
-mod printed;
-#[cfg(test)]
 mod refused_adapters;
 #[cfg(test)]
 mod replies;
 #[cfg(test)]
 mod repositories;
 #[cfg(test)]
-mod runs;
-#[cfg(test)]
-mod script_text;
-#[cfg(test)]
 mod stored_values;
-#[cfg(test)]
-mod streams;
 #[cfg(test)]
 mod tally;
 #[cfg(test)]

@@ -1,24 +1,27 @@
-//! A call that is refused memory in its middle: nothing has changed, and the same call again is done.
+//! A call that is refused memory in its middle: nothing has changed, nobody was notified, and the same call again is done.
 //!
 //! These tests are for runs in which the n-th allocation is refused, for every n, and pass in each of them: one is
 //! refused, so what finds no memory is asked for once more.
 use crate::books::{BOOK, NAME, PAGES, RowRepository, object, repository, text};
-use crate::replies::{fail, outcomes_text, reply_text};
+use crate::replies::reply_text;
 use adapters::{Adapter, Counter};
-use mm_types::{FeatureNo, ObjectNo, Refused, Value};
-use repository::{Command, Failure, Reply};
+use mm_types::{AdapterNo, FeatureNo, MetaFault, ObjectNo, Refused, Seq, Value};
+use repository::{Answer, Command, Reply};
 use std::alloc::{AllocError, Global};
 use std::fmt::Debug;
+use std::process::Abort;
 use std::test::Fail;
 
-pub(crate) fn books<A: Adapter>(alloc: Global) -> Result<Box<RowRepository<A>>, Fail> {
+pub(crate) const WATCHER: AdapterNo = AdapterNo(5);
+
+pub(crate) fn books<A: Adapter>(alloc: Global) -> Result<Box<RowRepository<A>>, MetaFault> {
     match repository(alloc) {
         Ok(repository) => Ok(repository),
-        Err(_) => Ok(repository(alloc)?),
+        Err(_) => repository(alloc),
     }
 }
 
-pub(crate) fn emma(alloc: Global) -> Result<Value, AllocError> {
+fn emma(alloc: Global) -> Result<Value, AllocError> {
     match text(alloc, "Emma") {
         Ok(emma) => Ok(emma),
         Err(_) => text(alloc, "Emma"),
@@ -35,12 +38,21 @@ pub(crate) fn shown<T: Debug>(alloc: Global, value: &T) -> Result<String, AllocE
 
 fn read<A: Adapter>(repository: &RowRepository<A>, feature: FeatureNo) -> Result<Value, Refused> {
     match repository.e_get(object(0), feature) {
-        Err(Refused::Memory) => repository.e_get(object(0), feature),
-        found => found,
+        Ok(value) => Ok(value),
+        Err(_) => repository.e_get(object(0), feature),
     }
 }
 
-/// What reads say of the first object, its name, its pages and whether it is named, and of the place of a second.
+/// How many notices the adapter was told and how many it keeps, where it is attached.
+fn counts<A: Adapter>(repository: &RowRepository<A>) -> [Option<u64>; 2] {
+    [
+        repository.adapter_told(WATCHER).ok(),
+        repository.adapter_kept(WATCHER).ok(),
+    ]
+}
+
+/// What reads say of the first object, its name, its pages and whether it is named, of the place of a second, and of what
+/// the adapter has heard.
 pub(crate) fn state<A: Adapter>(
     alloc: Global,
     repository: &RowRepository<A>,
@@ -49,84 +61,32 @@ pub(crate) fn state<A: Adapter>(
     let pages = read(repository, PAGES);
     let is_named = repository.e_is_set(object(0), NAME);
     let next = repository.e_class(ObjectNo(1));
-    shown(alloc, &(name, pages, is_named, next))
+    let heard = counts(repository);
+    shown(alloc, &(name, pages, is_named, next, heard))
 }
 
-/// Fails unless the call was refused memory and has changed nothing.
-pub(crate) fn unchanged<A: Adapter>(
-    alloc: Global,
-    repository: &RowRepository<A>,
-    before: &str,
-    refused: Refused,
-) -> Result<(), Fail> {
-    let after = state(alloc, repository)?;
-    if matches!(refused, Refused::Memory) && after.as_str() == before {
+/// Fails unless a call was refused memory and what is read after it is what was read before.
+pub(crate) fn unchanged(refused: Refused, before: &str, after: &str) -> Result<(), Fail> {
+    if matches!(refused, Refused::Memory) && after == before {
         return Ok(());
     }
     Err(Fail::new(format_args!("{refused:?}: {before}, then {after}")))
 }
 
-pub(crate) fn create<A: Adapter>(
-    alloc: Global,
-    repository: &mut RowRepository<A>,
-) -> Result<(), Fail> {
-    let before = state(alloc, repository)?;
-    if let Err(refused) = repository.create(BOOK) {
-        unchanged(alloc, repository, before.as_str(), refused)?;
-        repository.create(BOOK)?;
-    }
-    Ok(())
-}
-
-fn e_set<A: Adapter>(alloc: Global, repository: &mut RowRepository<A>) -> Result<(), Fail> {
-    let before = state(alloc, repository)?;
-    if let Err(refused) = repository.e_set(object(0), NAME, emma(alloc)?) {
-        unchanged(alloc, repository, before.as_str(), refused)?;
-        repository.e_set(object(0), NAME, emma(alloc)?)?;
-    }
-    Ok(())
-}
-
-fn e_get<A: Adapter>(alloc: Global, repository: &RowRepository<A>) -> Result<(), Fail> {
-    let before = state(alloc, repository)?;
-    if let Err(refused) = repository.e_get(object(0), NAME) {
-        unchanged(alloc, repository, before.as_str(), refused)?;
-        let found = repository.e_get(object(0), NAME)?;
-        if !matches!(found, Value::Text(_)) {
-            return Err(Fail::new("the name is not read"));
-        }
-    }
-    Ok(())
-}
-
-fn e_unset<A: Adapter>(alloc: Global, repository: &mut RowRepository<A>) -> Result<(), Fail> {
-    let before = state(alloc, repository)?;
-    if let Err(refused) = repository.e_unset(object(0), NAME) {
-        unchanged(alloc, repository, before.as_str(), refused)?;
-        repository.e_unset(object(0), NAME)?;
-    }
-    Ok(())
-}
-
-#[test]
-fn a_refused_call_changes_nothing(rt: HostRuntime) -> Result<(), Fail> {
-    let mut repository: Box<RowRepository<Counter>> = books(rt.alloc())?;
-    create(rt.alloc(), &mut repository)?;
-    e_set(rt.alloc(), &mut repository)?;
-    e_get(rt.alloc(), &repository)?;
-    let named = state(rt.alloc(), &repository)?;
-    let wanted = "(Ok(Text(\"Emma\")), Ok(Int(100)), Ok(true), Err(NoObject))";
-    assert_eq!(rt; named.as_str(), wanted);
-    e_unset(rt.alloc(), &mut repository)?;
-    let unnamed = state(rt.alloc(), &repository)?;
-    let wanted = "(Ok(Null), Ok(Int(100)), Ok(false), Err(NoObject))";
-    assert_eq!(rt; unnamed.as_str(), wanted);
-    Ok(())
+/// A call that concerns the first book, or a command by its place in the list.
+#[derive(Clone, Copy)]
+pub(crate) enum Call {
+    Create,
+    Set,
+    Get,
+    Unset,
+    Detach,
+    Command(u32),
 }
 
 /// A command by its place in the list: an object is made, named, read, asked whether it is named, unset and asked for
 /// its class.
-fn command<A: Adapter>(alloc: Global, at: u32) -> Result<Command<A>, AllocError> {
+pub(crate) fn command<A: Adapter>(alloc: Global, at: u32) -> Result<Command<A>, AllocError> {
     let (node, feature) = (object(0), NAME);
     Ok(match at {
         0 => Command::Create(BOOK),
@@ -146,121 +106,125 @@ fn execute<A: Adapter>(
     alloc: Global,
     repository: &mut RowRepository<A>,
     at: u32,
-) -> Result<Reply<A>, Fail> {
-    let before = state(alloc, repository)?;
-    match repository.execute(command(alloc, at)?) {
-        Ok(reply) => Ok(reply),
-        Err(Failure { refused, .. }) => {
-            unchanged(alloc, repository, before.as_str(), refused)?;
-            repository.execute(command(alloc, at)?).map_err(fail)
-        }
+) -> Result<Reply<A>, Refused> {
+    match command(alloc, at) {
+        Ok(command) => repository
+            .execute(command)
+            .map_err(|failure| failure.refused),
+        Err(_) => Err(Refused::Memory),
     }
 }
 
-/// What each command answers.
-const ANSWERS: [&str; 6] = [
-    "Object(ObjectNo(0))",
-    "Done",
-    "Value(Text(\"Emma\"))",
-    "Flag(true)",
-    "Done",
-    "Class(ClassNo(0))",
+fn name_book<A: Adapter>(
+    alloc: Global,
+    repository: &mut RowRepository<A>,
+) -> Result<Reply<A>, Refused> {
+    match emma(alloc) {
+        Ok(emma) => repository.e_set(object(0), NAME, emma),
+        Err(_) => Err(Refused::Memory),
+    }
+}
+
+/// The name, as a reply that notifies nobody.
+fn read_name<A: Adapter>(
+    alloc: Global,
+    repository: &RowRepository<A>,
+) -> Result<Reply<A>, Refused> {
+    match repository.e_get(object(0), NAME) {
+        Ok(name) => Ok(Reply {
+            answer: Answer::Value(name),
+            told: Seq::new(alloc),
+            released: Seq::new(alloc),
+        }),
+        Err(refused) => Err(refused),
+    }
+}
+
+fn called<A: Adapter>(
+    alloc: Global,
+    repository: &mut RowRepository<A>,
+    call: Call,
+) -> Result<Reply<A>, Refused> {
+    match call {
+        Call::Create => repository.create(BOOK),
+        Call::Set => name_book(alloc, repository),
+        Call::Get => read_name(alloc, repository),
+        Call::Unset => repository.e_unset(object(0), NAME),
+        Call::Detach => repository.detach(WATCHER),
+        Call::Command(at) => execute(alloc, repository, at),
+    }
+}
+
+/// Makes a call again that was refused memory and has changed nothing.
+fn called_again<A: Adapter>(
+    alloc: Global,
+    repository: &mut RowRepository<A>,
+    call: Call,
+    before: &str,
+    refused: Refused,
+) -> Result<Reply<A>, Fail> {
+    unchanged(refused, before, state(alloc, repository)?.as_str())?;
+    Ok(called(alloc, repository, call)?)
+}
+
+/// What a call gives, which is made again where it is refused memory.
+fn done<A: Adapter>(
+    alloc: Global,
+    repository: &mut RowRepository<A>,
+    call: Call,
+) -> Result<String, Fail> {
+    let before = state(alloc, repository)?;
+    let reply = match called(alloc, repository, call) {
+        Ok(reply) => reply,
+        Err(refused) => called_again(alloc, repository, call, before.as_str(), refused)?,
+    };
+    Ok(reply_text(alloc, &reply)?)
+}
+
+/// Checks of each call what it gives, and what is read after it.
+pub(crate) fn check_calls<A: Adapter>(
+    rt: &impl Abort,
+    alloc: Global,
+    repository: &mut RowRepository<A>,
+    calls: &[(Call, &str, &str)],
+) -> Result<(), Fail> {
+    for (call, given, after) in calls {
+        let found = done(alloc, repository, *call)?;
+        assert_eq!(rt; found.as_str(), *given);
+        let found = state(alloc, repository)?;
+        assert_eq!(rt; found.as_str(), *after);
+    }
+    Ok(())
+}
+
+const NAMED: &str = "(Ok(Text(\"Emma\")), Ok(Int(100)), Ok(true), Err(NoObject), [None, None])";
+
+const UNNAMED: &str = "(Ok(Null), Ok(Int(100)), Ok(false), Err(NoObject), [None, None])";
+
+const CALLS: [(Call, &str, &str); 4] = [
+    (Call::Create, "Object(ObjectNo(0))", UNNAMED),
+    (Call::Set, "Done", NAMED),
+    (Call::Get, "Value(Text(\"Emma\"))", NAMED),
+    (Call::Unset, "Done", UNNAMED),
+];
+
+#[test]
+fn a_refused_call_changes_nothing(rt: HostRuntime) -> Result<(), Fail> {
+    let mut repository: Box<RowRepository<Counter>> = books(rt.alloc())?;
+    check_calls(&rt, rt.alloc(), &mut repository, CALLS.as_slice())
+}
+
+const COMMANDS: [(Call, &str, &str); 6] = [
+    (Call::Command(0), "Object(ObjectNo(0))", UNNAMED),
+    (Call::Command(1), "Done", NAMED),
+    (Call::Command(2), "Value(Text(\"Emma\"))", NAMED),
+    (Call::Command(3), "Flag(true)", NAMED),
+    (Call::Command(4), "Done", UNNAMED),
+    (Call::Command(5), "Class(ClassNo(0))", UNNAMED),
 ];
 
 #[test]
 fn a_refused_command_changes_nothing(rt: HostRuntime) -> Result<(), Fail> {
     let mut repository: Box<RowRepository<Counter>> = books(rt.alloc())?;
-    for (at, wanted) in (0..6).zip(ANSWERS) {
-        let reply = execute(rt.alloc(), &mut repository, at)?;
-        let found = reply_text(rt.alloc(), &reply)?;
-        assert_eq!(rt; found.as_str(), wanted);
-    }
-    Ok(())
-}
-
-/// The first three commands.
-fn commands<A: Adapter>(alloc: Global) -> Result<Vec<Command<A>>, AllocError> {
-    let mut commands = three_places(alloc)?;
-    for at in 0..3 {
-        commands.push(command(alloc, at)?)?;
-    }
-    Ok(commands)
-}
-
-/// An empty list with room for three commands.
-fn three_places<A: Adapter>(alloc: Global) -> Result<Vec<Command<A>>, AllocError> {
-    match Vec::with_capacity(alloc, 3) {
-        Ok(places) => Ok(places),
-        Err(_) => Vec::with_capacity(alloc, 3),
-    }
-}
-
-/// What three commands give: all are done, or one is refused and the rest goes on as if it weren't there.
-const OUTCOMES: [&str; 4] = [
-    "Object(ObjectNo(0))\nDone\nValue(Text(\"Emma\"))\n",
-    "refused 28\nrefused 1\nrefused 1\n",
-    "Object(ObjectNo(0))\nrefused 28\nValue(Null)\n",
-    "Object(ObjectNo(0))\nDone\nrefused 28\n",
-];
-
-/// The three commands, each on a line.
-const COMMANDS: &str =
-    "create ClassNo(0)\nset Object(ObjectNo(0)) FeatureNo(0) Text(\"Emma\")\nget Object(ObjectNo(0)) FeatureNo(0)\n";
-
-/// A command as it is shown.
-fn command_text<A: Adapter>(alloc: Global, command: &Command<A>) -> Result<String, AllocError> {
-    match command {
-        Command::Create(class) => format!(in alloc; "create {class:?}\n"),
-        Command::Set {
-            node,
-            feature,
-            value,
-        } => format!(in alloc; "set {node:?} {feature:?} {value:?}\n"),
-        Command::Get { node, feature } => format!(in alloc; "get {node:?} {feature:?}\n"),
-        _ => format!(in alloc; "another\n"),
-    }
-}
-
-/// Commands as they are shown.
-fn commands_text<A: Adapter>(alloc: Global, commands: &[Command<A>]) -> Result<String, AllocError> {
-    let mut text = String::new(alloc);
-    for command in commands {
-        text.push_str(command_text(alloc, command)?.as_str())?;
-    }
-    Ok(text)
-}
-
-/// What reads say of an empty repository.
-const EMPTY: &str = "(Err(NoObject), Err(NoObject), Err(NoObject), Err(NoObject))";
-
-/// Runs a list that was given back, over a repository that is to be as it was.
-fn run_again<A: Adapter>(
-    alloc: Global,
-    repository: &mut RowRepository<A>,
-    given_back: Vec<Command<A>>,
-) -> Result<Vec<Result<Reply<A>, Failure<A>>>, Fail> {
-    let now = state(alloc, repository)?;
-    let list = commands_text(alloc, given_back.as_slice())?;
-    if now.as_str() != EMPTY || list.as_str() != COMMANDS {
-        return Err(Fail::new(format_args!("{now}: {list}")));
-    }
-    match repository.run_all(given_back) {
-        Ok(outcomes) => Ok(outcomes),
-        Err(_) => Err(Fail::new("the list is refused twice")),
-    }
-}
-
-#[test]
-fn a_refused_list_is_given_back(rt: HostRuntime) -> Result<(), Fail> {
-    let mut repository: Box<RowRepository<Counter>> = books(rt.alloc())?;
-    let outcomes = match repository.run_all(commands(rt.alloc())?) {
-        Ok(outcomes) => outcomes,
-        Err(given_back) => run_again(rt.alloc(), &mut repository, given_back)?,
-    };
-    let found = outcomes_text(rt.alloc(), outcomes.as_slice())?;
-    assert!(rt;
-        OUTCOMES.iter().any(|wanted| found.as_str() == *wanted),
-        "{found}"
-    );
-    Ok(())
+    check_calls(&rt, rt.alloc(), &mut repository, COMMANDS.as_slice())
 }

@@ -1,103 +1,84 @@
-//! Calls of a repository with an adapter that are refused memory in their middle: nothing has changed, nobody was
-//! notified, and the same call again is done.
+//! Calls of a repository with an adapter that are refused memory in their middle.
 //!
 //! These tests are for the same runs as those of `memory`.
-use crate::books::{NAME, RowRepository, object};
-use crate::memory::{books, create, emma, state, unchanged};
+use crate::books::{RowRepository, object};
+use crate::memory::{Call, WATCHER, books, check_calls, state, unchanged};
 use crate::replies::{fail, reply_text};
 use adapters::{Adapter, Recorder};
-use mm_types::{AdapterNo, Refused};
 use repository::{Failure, Reply};
 use std::alloc::Global;
 use std::test::Fail;
 
-const WATCHER: AdapterNo = AdapterNo(5);
-
-/// How many notices the adapter was told and how many it keeps, where it is attached.
-fn counts<A: Adapter>(repository: &RowRepository<A>) -> [Option<u64>; 2] {
-    [
-        repository.adapter_told(WATCHER).ok(),
-        repository.adapter_kept(WATCHER).ok(),
-    ]
+/// Attaches an adapter to the first object.
+pub(crate) fn attach_once<A: Adapter>(
+    repository: &mut RowRepository<A>,
+    deep: bool,
+    adapter: A,
+) -> Result<Reply<A>, Failure<A>> {
+    repository.attach(WATCHER, object(0), deep, adapter)
 }
 
-/// Fails unless the call was refused memory, has changed nothing and notified nobody.
-fn unheard<A: Adapter>(
-    alloc: Global,
-    repository: &RowRepository<A>,
-    before: (&str, [Option<u64>; 2]),
-    refused: Refused,
-) -> Result<(), Fail> {
-    let (read, heard) = before;
-    unchanged(alloc, repository, read, refused)?;
-    if counts(repository) == heard {
-        return Ok(());
+/// Attaches an adapter again that was refused and has heard nothing.
+pub(crate) fn attach_again<A: Adapter>(
+    repository: &mut RowRepository<A>,
+    deep: bool,
+    failure: Failure<A>,
+) -> Result<Reply<A>, Fail> {
+    let Some(adapter) = failure.given_back else {
+        return Err(Fail::new("the adapter is not given back"));
+    };
+    if adapter.told() > 0 {
+        return Err(Fail::new("the adapter is not given back as it was"));
     }
-    Err(Fail::new("an adapter was notified"))
+    attach_once(repository, deep, adapter).map_err(fail)
 }
 
-fn attach<A: Adapter>(
+/// What it gives to attach an adapter, which is attached again where it is refused memory.
+fn attached<A: Adapter>(
     alloc: Global,
     repository: &mut RowRepository<A>,
     adapter: A,
-) -> Result<Reply<A>, Fail> {
-    let (read, heard) = (state(alloc, repository)?, counts(repository));
-    let Failure {
-        refused,
-        given_back,
-    } = match repository.attach(WATCHER, object(0), false, adapter) {
-        Ok(reply) => return Ok(reply),
-        Err(failure) => failure,
+) -> Result<String, Fail> {
+    let before = state(alloc, repository)?;
+    let reply = match attach_once(repository, false, adapter) {
+        Ok(reply) => reply,
+        Err(failure) => {
+            let after = state(alloc, repository)?;
+            unchanged(failure.refused, before.as_str(), after.as_str())?;
+            attach_again(repository, false, failure)?
+        }
     };
-    unheard(alloc, repository, (read.as_str(), heard), refused)?;
-    match given_back {
-        Some(adapter) if adapter.told() == 0 => repository
-            .attach(WATCHER, object(0), false, adapter)
-            .map_err(fail),
-        _ => Err(Fail::new("the adapter is not given back as it was")),
-    }
+    Ok(reply_text(alloc, &reply)?)
 }
 
-fn e_set<A: Adapter>(alloc: Global, repository: &mut RowRepository<A>) -> Result<Reply<A>, Fail> {
-    let (read, heard) = (state(alloc, repository)?, counts(repository));
-    match repository.e_set(object(0), NAME, emma(alloc)?) {
-        Ok(reply) => Ok(reply),
-        Err(refused) => {
-            unheard(alloc, repository, (read.as_str(), heard), refused)?;
-            Ok(repository.e_set(object(0), NAME, emma(alloc)?)?)
-        }
-    }
-}
+const MADE: (Call, &str, &str) = (
+    Call::Create,
+    "Object(ObjectNo(0))",
+    "(Ok(Null), Ok(Int(100)), Ok(false), Err(NoObject), [None, None])",
+);
 
-fn detach<A: Adapter>(alloc: Global, repository: &mut RowRepository<A>) -> Result<Reply<A>, Fail> {
-    let (read, heard) = (state(alloc, repository)?, counts(repository));
-    match repository.detach(WATCHER) {
-        Ok(reply) => Ok(reply),
-        Err(refused) => {
-            unheard(alloc, repository, (read.as_str(), heard), refused)?;
-            Ok(repository.detach(WATCHER)?)
-        }
-    }
-}
+const ATTACHED: &str = "(Ok(Null), Ok(Int(100)), Ok(false), Err(NoObject), [Some(0), Some(0)])";
 
-const SET: &str = "Done; A5 SET Null Text(\"Emma\") -1 false";
+const NAMED: (Call, &str, &str) = (
+    Call::Set,
+    "Done; A5 SET Null Text(\"Emma\") -1 false",
+    "(Ok(Text(\"Emma\")), Ok(Int(100)), Ok(true), Err(NoObject), [Some(1), Some(1)])",
+);
 
-const DETACHED: &str =
-    "Done; A5 REMOVING_ADAPTER Adapter(AdapterNo(5)) Null 0 false; A5 back, 2 told, SET -1, REMOVING_ADAPTER 0";
+const DETACHED: (Call, &str, &str) = (
+    Call::Detach,
+    "Done; A5 REMOVING_ADAPTER Adapter(AdapterNo(5)) Null 0 false; A5 back, 2 told, SET -1, REMOVING_ADAPTER 0",
+    "(Ok(Text(\"Emma\")), Ok(Int(100)), Ok(true), Err(NoObject), [None, None])",
+);
 
 #[test]
 fn a_refused_call_notifies_nobody(rt: HostRuntime) -> Result<(), Fail> {
     let alloc = rt.alloc();
     let mut repository: Box<RowRepository<Recorder>> = books(alloc)?;
-    create(alloc, &mut repository)?;
-    let attached = attach(alloc, &mut repository, Recorder::new(alloc))?;
-    assert_eq!(rt; reply_text(alloc, &attached)?.as_str(), "Done");
-    assert_eq!(rt; counts(&repository), [Some(0), Some(0)]);
-    let named = e_set(alloc, &mut repository)?;
-    assert_eq!(rt; reply_text(alloc, &named)?.as_str(), SET);
-    assert_eq!(rt; counts(&repository), [Some(1), Some(1)]);
-    let detached = detach(alloc, &mut repository)?;
-    assert_eq!(rt; reply_text(alloc, &detached)?.as_str(), DETACHED);
-    assert_eq!(rt; counts(&repository), [None, None]);
-    Ok(())
+    check_calls(&rt, alloc, &mut repository, &[MADE])?;
+    let found = attached(alloc, &mut repository, Recorder::new(alloc))?;
+    assert_eq!(rt; found.as_str(), "Done");
+    let found = state(alloc, &repository)?;
+    assert_eq!(rt; found.as_str(), ATTACHED);
+    check_calls(&rt, alloc, &mut repository, &[NAMED, DETACHED])
 }

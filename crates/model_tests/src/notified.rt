@@ -54,12 +54,15 @@ const EDITS: [(Edit, &str); 8] = [
     ),
 ];
 
-/// Makes the changes of a book with an adapter. Fails at the first one that gives something else.
-fn make_edits<A: Adapter>(alloc: Global, adapter: A) -> Result<(), Fail> {
-    let mut repository = one_book(alloc)?;
-    attach(&mut repository, 5, adapter)?;
+/// Attaches an adapter to a book, and makes the changes. Fails at the first one that gives something else.
+fn make_edits<A: Adapter>(
+    alloc: Global,
+    repository: &mut RowRepository<A>,
+    adapter: A,
+) -> Result<(), Fail> {
+    attach(repository, 5, adapter)?;
     for (change, wanted) in &EDITS {
-        let found = edited(alloc, &mut repository, *change)?;
+        let found = edited(alloc, repository, *change)?;
         if found.as_str() != *wanted {
             return Err(Fail::new(format_args!("{found} for {wanted}")));
         }
@@ -67,8 +70,14 @@ fn make_edits<A: Adapter>(alloc: Global, adapter: A) -> Result<(), Fail> {
     Ok(())
 }
 
+/// Makes the changes of a book of its own.
+fn make_edits_of_a_book<A: Adapter>(alloc: Global, adapter: A) -> Result<(), Fail> {
+    let mut repository = one_book(alloc)?;
+    make_edits(alloc, &mut repository, adapter)
+}
+
 #[test]
 fn every_set_and_unset_notifies(rt: HostRuntime) -> Result<(), Fail> {
     let recorder = adapter(rt.alloc(), Kind::Recorder)?;
-    make_edits(rt.alloc(), recorder)
+    make_edits_of_a_book(rt.alloc(), recorder)
 }

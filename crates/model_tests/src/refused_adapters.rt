@@ -42,30 +42,48 @@ fn name_book<A: Adapter>(
     Ok(repository.e_set(object(0), NAME, emma))
 }
 
+/// Why the book is not named, and what the adapters have heard and the book has before and after.
+fn refusal<A: Adapter>(alloc: Global, repository: &mut RowRepository<A>) -> Result<String, Fail> {
+    let before = state(alloc, repository)?;
+    let refused = name_book(alloc, repository)?.err();
+    let after = state(alloc, repository)?;
+    Ok(format!(in alloc; "{before}; {refused:?}; {after}")?)
+}
+
+/// What it gives to name the book.
+fn named<A: Adapter>(alloc: Global, repository: &mut RowRepository<A>) -> Result<String, Fail> {
+    let reply = name_book(alloc, repository)??;
+    Ok(reply_text(alloc, &reply)?)
+}
+
 /// Names a book with three adapters, twice. Shows why it is refused first, what it gives then, and what the adapters
 /// have heard and the book has before, between and after.
 fn named_twice<A: Adapter>(
+    alloc: Global,
+    repository: &mut RowRepository<A>,
+) -> Result<[String; 3], Fail> {
+    let refused = refusal(alloc, repository)?;
+    let told = named(alloc, repository)?;
+    let after = state(alloc, repository)?;
+    Ok([refused, told, after])
+}
+
+/// What that gives over a book of its own.
+fn twice_at_a_book<A: Adapter>(
     alloc: Global,
     first: A,
     second: A,
     third: A,
 ) -> Result<[String; 3], Fail> {
     let mut repository = watched(alloc, first, second, third)?;
-    let before = state(alloc, &repository)?;
-    let refused = name_book(alloc, &mut repository)?.err();
-    let between = state(alloc, &repository)?;
-    let reply = name_book(alloc, &mut repository)??;
-    let told = reply_text(alloc, &reply)?;
-    let after = state(alloc, &repository)?;
-    let first = format!(in alloc; "{before}; {refused:?}; {between}")?;
-    Ok([first, told, after])
+    named_twice(alloc, &mut repository)
 }
 
 #[test]
 fn a_set_that_one_adapter_cannot_hear_notifies_none(rt: HostRuntime) -> Result<(), Fail> {
     let alloc = rt.alloc();
     let (first, second) = (adapter(alloc, Kind::Recorder)?, adapter(alloc, Kind::Poor)?);
-    let found = named_twice(alloc, first, second, adapter(alloc, Kind::Recorder)?)?;
+    let found = twice_at_a_book(alloc, first, second, adapter(alloc, Kind::Recorder)?)?;
     let wanted = format!(in alloc; "{BEFORE}; Some(Memory); {BEFORE}")?;
     assert_eq!(rt; found[0].as_str(), wanted.as_str());
     assert_eq!(rt; found[1].as_str(), TOLD);

@@ -13,8 +13,11 @@ fn told(alloc: Global, told: &[(AdapterNo, Notice)]) -> Result<String, AllocErro
     for (no, notice) in told {
         let (kind, at, was_set) = (notice.kind.name(), notice.position, notice.was_set);
         let (before, after) = (&notice.old_value, &notice.new_value);
-        let one = format!(in alloc; "; A{} {kind} {before:?} {after:?} {at} {was_set}", no.0)?;
-        text.push_str(one.as_str())?;
+        write!(
+            text,
+            "; A{} {kind} {before:?} {after:?} {at} {was_set}",
+            no.0
+        )?;
     }
     Ok(text)
 }
@@ -25,8 +28,7 @@ fn heard<A: Adapter>(alloc: Global, adapter: &A) -> Result<String, AllocError> {
     let mut text = format!(in alloc; "{} told", adapter.told())?;
     for i in 0..adapter.kept_len() {
         if let Some(notice) = adapter.kept(i) {
-            let one = format!(in alloc; ", {} {}", notice.kind.name(), notice.position)?;
-            text.push_str(one.as_str())?;
+            write!(text, ", {} {}", notice.kind.name(), notice.position)?;
         }
     }
     Ok(text)
@@ -40,8 +42,7 @@ pub(crate) fn back<A: Adapter>(
     let mut text = String::new(alloc);
     for (no, adapter) in adapters {
         let heard = heard(alloc, adapter)?;
-        let one = format!(in alloc; "; A{} back, {heard}", no.0)?;
-        text.push_str(one.as_str())?;
+        write!(text, "; A{} back, {heard}", no.0)?;
     }
     Ok(text)
 }
@@ -101,9 +102,8 @@ fn outcomes_once<A: Adapter>(
 ) -> Result<String, AllocError> {
     let mut text = String::new(alloc);
     for outcome in outcomes {
-        let one = outcome_text(alloc, outcome)?;
-        text.push_str(one.as_str())?;
-        text.push('\n')?;
+        let outcome = outcome_text(alloc, outcome)?;
+        writeln!(text, "{outcome}")?;
     }
     Ok(text)
 }

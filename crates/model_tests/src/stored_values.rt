@@ -42,6 +42,26 @@ fn run(values: &mut Values, plan: ValuePlan) -> Result<(), AllocError> {
     Ok(())
 }
 
+/// The values that an object has under a feature.
+fn listed(
+    alloc: Global,
+    values: &Values,
+    object: ObjectNo,
+    feature: FeatureNo,
+) -> Result<Option<Vec<&Value>>, AllocError> {
+    let len = match values.len(object, feature) {
+        Some(len) => len,
+        None => return Ok(None),
+    };
+    let mut list = Vec::new(alloc);
+    for index in 0..len {
+        if let Some(value) = values.at(object, feature, index) {
+            list.push(value)?;
+        }
+    }
+    Ok(Some(list))
+}
+
 /// The class of an object, and what it holds under two features.
 fn held(
     alloc: Global,
@@ -52,7 +72,10 @@ fn held(
     let object = ObjectNo(object);
     let (first, second) = (FeatureNo(features[0]), FeatureNo(features[1]));
     let class = values.class(object);
-    let lists = (values.list(object, first), values.list(object, second));
+    let lists = (
+        listed(alloc, values, object, first)?,
+        listed(alloc, values, object, second)?,
+    );
     let flags = (values.flag(object, first), values.flag(object, second));
     format!(in alloc; "{class:?} {lists:?} {flags:?}\n")
 }
@@ -157,6 +180,113 @@ fn values_are_put_under_one_feature_alone(rt: HostRuntime) -> Result<(), Fail> {
     let alloc = rt.alloc();
     let found = seen_after(alloc, make(1), two_features(alloc)?, [9, 5])?;
     assert_eq!(rt; found.as_str(), AFTER_TWO_FEATURES);
+    Ok(())
+}
+
+fn insert(object: u32, feature: u32, index: u32, number: i64) -> ValueEdit {
+    ValueEdit::InsertValue {
+        object: ObjectNo(object),
+        feature: FeatureNo(feature),
+        index,
+        value: Value::Int(number),
+        is_unique: false,
+    }
+}
+
+fn remove(feature: u32, index: u32) -> ValueEdit {
+    ValueEdit::RemoveValue {
+        object: ObjectNo(0),
+        feature: FeatureNo(feature),
+        index,
+    }
+}
+
+fn shift(feature: u32, to: u32, from: u32) -> ValueEdit {
+    ValueEdit::MoveValue {
+        object: ObjectNo(0),
+        feature: FeatureNo(feature),
+        to,
+        from,
+    }
+}
+
+/// Edits of two lists of one object, some of them past the end, and of one of an object that was never made.
+fn list_edits(alloc: Global) -> Result<ValuePlan, AllocError> {
+    let mut plan = Seq::new(alloc);
+    plan.push(insert(0, 3, 0, 1))?;
+    plan.push(insert(0, 3, 9, 2))?;
+    plan.push(insert(0, 3, 1, 3))?;
+    plan.push(shift(3, 0, 2))?;
+    plan.push(remove(3, 1))?;
+    plan.push(remove(3, 7))?;
+    plan.push(shift(3, 9, 0))?;
+    plan.push(shift(3, 0, 5))?;
+    plan.push(put(alloc, 0, 4, 50)?)?;
+    plan.push(insert(0, 4, 0, 49))?;
+    plan.push(insert(1, 4, 0, 48))?;
+    Ok(ValuePlan::from_seq(plan))
+}
+
+const AFTER_LIST_EDITS: &str = "0 (None, None) (None, None)
+1
+Some(ClassNo(1)) (Some([Int(3), Int(2)]), Some([Int(49), Int(50)])) (Some(false), Some(false))
+None (None, None) (None, None)
+None (None, None) (None, None)
+";
+
+#[test]
+fn lists_are_edited(rt: HostRuntime) -> Result<(), Fail> {
+    let alloc = rt.alloc();
+    let found = seen_after(alloc, make(1), list_edits(alloc)?, [3, 4])?;
+    assert_eq!(rt; found.as_str(), AFTER_LIST_EDITS);
+    Ok(())
+}
+
+/// Puts the numbers from 0 on under feature 3 of object 0.
+fn put_many(alloc: Global, count: i64) -> Result<ValueEdit, AllocError> {
+    let mut list = Seq::new(alloc);
+    for number in 0..count {
+        list.push(Value::Int(number))?;
+    }
+    Ok(ValueEdit::PutList {
+        object: ObjectNo(0),
+        feature: FeatureNo(3),
+        list,
+        flag: false,
+    })
+}
+
+fn edit_long_list(alloc: Global) -> Result<ValuePlan, AllocError> {
+    let mut plan = Seq::new(alloc);
+    plan.push(remove(3, 0))?;
+    plan.push(insert(0, 3, 1000, -1))?;
+    plan.push(shift(3, 0, 2499))?;
+    Ok(ValuePlan::from_seq(plan))
+}
+
+const OF_A_LONG_LIST: &str =
+    "Some(2500) Some(Int(2499)) Some(Int(1000)) Some(Int(-1)) None Some(1001)";
+
+#[test]
+fn a_long_list_is_edited(rt: HostRuntime) -> Result<(), Fail> {
+    let alloc = rt.alloc();
+    let mut values = empty(alloc)?;
+    run(&mut values, make(1))?;
+    run(&mut values, ValuePlan::one(put_many(alloc, 2500)?))?;
+    run(&mut values, edit_long_list(alloc)?)?;
+    let (object, feature) = (ObjectNo(0), FeatureNo(3));
+    let len = values.len(object, feature);
+    let (first, before) = (
+        values.at(object, feature, 0),
+        values.at(object, feature, 1000),
+    );
+    let (inserted, past) = (
+        values.at(object, feature, 1001),
+        values.at(object, feature, 2500),
+    );
+    let found = values.position(object, feature, &Value::Int(-1));
+    let seen = format!(in alloc; "{len:?} {first:?} {before:?} {inserted:?} {past:?} {found:?}")?;
+    assert_eq!(rt; seen.as_str(), OF_A_LONG_LIST);
     Ok(())
 }
 

@@ -1,5 +1,5 @@
 //! What ends hold.
-ghost use Rattle.std.specs.Prelude.{◌≡◌, [], true, false, Bool, Option, unwrap_or, option_map, option_copied, IfOk, IfErr};
+ghost use Rattle.std.specs.Prelude.{◌≡◌, [], true, false, Bool, Option, unwrap_or, option_map, option_copied, length, slice_get, IfOk, IfErr};
 ghost use Rattle.mm_types.specs.Ends as ends;
 ghost use Rattle.mm_types.specs.Ends.{value_in};
 ghost use Rattle.mm_types.specs.Lookups as m;
@@ -104,13 +104,23 @@ fn found_kept(value: Option<&Value>) -> Option<Found<'_>>
     }
 }
 
-// The values that a node keeps under an attribute.
-fn kept_list(values: &Values, end: End) -> &[Value]
-    ensures { result.now ≡ kept_values (values_of values.now) end.node end.feature }
+// How many values a node keeps under an attribute.
+fn kept_len(values: &Values, end: End) -> usize
+    ensures { result ≡ length (kept_values (values_of values.now) end.node end.feature) }
 {
     match end.node {
-        Node::Object(object) => values.list(object, end.feature).unwrap_or(&[]),
-        Node::Resource(_) => &[],
+        Node::Object(object) => values.len(object, end.feature).unwrap_or(0),
+        Node::Resource(_) => 0,
+    }
+}
+
+// The value that a node keeps under an attribute at an index; `None` past the end.
+fn kept_at(values: &Values, end: End, index: usize) -> Option<&Value>
+    ensures { option_copied result ≡ slice_get (kept_values (values_of values.now) end.node end.feature) index }
+{
+    match end.node {
+        Node::Object(object) => values.at(object, end.feature, index),
+        Node::Resource(_) => None,
     }
 }
 
@@ -128,7 +138,7 @@ fn flag_at(values: &Values, end: End) -> bool
 fn attribute_at<'a>(meta: &'a Meta, values: &'a Values, end: End) -> Option<&'a Value>
     ensures { unwrap_or (option_copied result) Null ≡ value_in (attribute_held meta.now (values_of values.now) end).values 0 }
 {
-    match kept_list(values, end).first() {
+    match kept_at(values, end, 0) {
         Some(value) => Some(value),
         None if is_single(meta, end.feature) => meta.default(end.feature),
         None => None,
@@ -142,7 +152,7 @@ fn is_attribute_set(meta: &Meta, values: &Values, end: End) -> bool
     ensures { result ≡ ends.is_set (shape meta.now end.feature) (attribute_held meta.now (values_of values.now) end) }
 {
     if !is_single(meta, end.feature) {
-        return !kept_list(values, end).is_empty();
+        return kept_len(values, end) > 0;
     }
     if is_unsettable(meta, end.feature) {
         return flag_at(values, end);
@@ -156,17 +166,7 @@ fn is_attribute_set(meta: &Meta, values: &Values, end: End) -> bool
 pub fn is_same(a: &Value, b: &Value) -> bool
     ensures { result ≡ same_value a.now b.now }
 {
-    match (a, b) {
-        (Value::Null, Value::Null) => true,
-        (Value::Bool(a), Value::Bool(b)) => a == b,
-        (Value::Int(a), Value::Int(b)) => a == b,
-        (Value::Text(a), Value::Text(b)) => a.as_str() == b.as_str(),
-        (Value::Literal(a), Value::Literal(b)) => a == b,
-        (Value::Object(a), Value::Object(b)) => a.0 == b.0,
-        (Value::Proxy(a), Value::Proxy(b)) => a.as_str() == b.as_str(),
-        (Value::Adapter(a), Value::Adapter(b)) => a.0 == b.0,
-        _ => false,
-    }
+    a == b
 }
 
 /// A copy of what was found; `None` stands for null. Errs only with `Memory`.

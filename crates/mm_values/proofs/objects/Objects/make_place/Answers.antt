@@ -1,6 +1,6 @@
 use Rattle.std.proofs.Common.{ap, ◌∙◌, ◌<◌, length, arith}
 use Rattle.mm_values.specs.Slots.{state_of}
-use Rattle.mm_values.proofs.SlotLemmas.{objects_same, kept_read, state_same}
+use Rattle.mm_values.proofs.SlotLemmas.{objects_same, kept_all, state_same}
 use Rattle.mm_values.proofs.objects.Objects.make_place.Goals as goal
 
 pub returns-clause-objects : goal.returns-clause-objects
@@ -12,4 +12,4 @@ returns-clause-objects c =
 pub returns-clause-kept : goal.returns-clause-kept
 returns-clause-kept c =
     let within : c.args.object.0 < length c.self.inside.slots.items = omega arith in
-    rw (← c.self.view_is) (kept_read c.self.inside.slots.items c.self.inside.next c.args.object.0 c.index_mut-slot.result.now c.make_place.new.self within c.index_mut-slot.ensures.value c.make_place.ensures.kept)
+    rw (← c.self.view_is) (kept_all c.self.inside.slots.items c.self.inside.next c.args.object.0 c.index_mut-slot.result.now c.make_place.new.self within c.index_mut-slot.ensures.value c.make_place.ensures.kept)

@@ -1,6 +1,6 @@
 use Rattle.std.proofs.Common.{◌≡◌, length, take}
 use Rattle.std.specs.Prelude.{All}
-use Rattle.mm_values.specs.Room.{values_of, HasPlaceFor}
+use Rattle.mm_values.specs.Room.{values_of, HasPlaceFor, HasPlacesIn}
 use Rattle.mm_values.proofs.values.Values.make_places.Given as goal
 
 abbrev pub invariant-loop-edit : goal.invariant-loop-edit
@@ -8,4 +8,5 @@ invariant-loop-edit l =
     (values_of l.self ≡ values_of l.fn.self) ×
     (l.self.objects.next ≡ l.fn.self.objects.next) ×
     (length l.self.objects.slots ≡ length l.fn.self.objects.slots) ×
-    All (HasPlaceFor l.self.objects) (take l.edit-index l.edits)
+    All (HasPlaceFor l.self.objects l.plan) (take l.edit-index l.edits) ×
+    HasPlacesIn l.self.objects l.plan l.made

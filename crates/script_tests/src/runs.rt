@@ -1,13 +1,27 @@
 //! Runs over streams that give or take a byte at a time, and that fail.
-use crate::books::books;
 use crate::streams::{Narrow, OneByte};
 use adapters::Recorder;
 use link_store::RowStore;
+use mm_check::check;
+use mm_load::load_meta;
+use mm_meta::Meta;
+use mm_types::MetaFault;
 use script_program::{RunFault, Summary, run};
 use std::alloc::Global;
 use std::io::{Read, Write};
 use std::process::Abort;
 use std::test::Fail;
+
+/// Books with a name and a number of pages.
+const BOOKS: &str = r#"{"classes":[{"name":"Book","features":[
+{"name":"name","kind":"attribute","type":"EString"},
+{"name":"pages","kind":"attribute","type":"EInt","default":"100"}]}]}"#;
+
+fn books(alloc: Global) -> Result<Box<Meta>, MetaFault> {
+    let raw = load_meta(alloc, BOOKS.as_bytes())?;
+    let meta = check(alloc, raw)?;
+    Box::new(alloc, meta).map_err(|_| MetaFault::Memory)
+}
 
 /// Runs a script over an empty repository of books.
 fn run_books<R: Read, W: Write>(

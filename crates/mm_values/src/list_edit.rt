@@ -1,0 +1,63 @@
+//! Edits of one list.
+ghost use Rattle.std.specs.Prelude.{◌≡◌, ◌+◌, ◌≤◌, insert, remove};
+ghost use Rattle.mm_types.specs.Lists.{shifted};
+ghost use Rattle.mm_values.specs.ListEdits.{changed, taken};
+
+use mm_types::Value;
+use slot_lists::SlotList;
+
+/// One edit of a list of values.
+#[derive(Drop)]
+pub(crate) enum ListEdit {
+    /// Puts a value in at an index; past the end it is put last.
+    Insert { index: u32, value: Value },
+    /// Takes a value out; past the end nothing changes.
+    Remove { index: u32 },
+    /// Takes the value at `from` out and puts it in so that it then stands at `to`.
+    Move { to: u32, from: u32 },
+}
+
+impl ListEdit {
+    /// Makes the edit. Takes no memory.
+    pub fn make(self, list: &mut SlotList<Value>)
+        requires { taken self ≤ list.old.spare }
+        ensures items { list.new.items ≡ changed self list.old.items }
+        ensures spare { list.old.spare ≤ list.new.spare + taken self }
+    {
+        match self {
+            ListEdit::Insert { index, value } => insert_in(list, index as usize, value),
+            ListEdit::Remove { index } => remove_from(list, index as usize),
+            ListEdit::Move { to, from } => move_in(list, to as usize, from as usize),
+        }
+    }
+}
+
+fn insert_in(list: &mut SlotList<Value>, index: usize, value: Value)
+    requires { 1 ≤ list.old.spare }
+    ensures items { list.new.items ≡ insert list.old.items index value }
+    ensures spare { list.old.spare ≤ list.new.spare + 1 }
+{
+    match list.insert(index.min(list.len()), value) {
+        Ok(()) => {}
+        Err(_) => unreachable!(),
+    }
+}
+
+fn remove_from(list: &mut SlotList<Value>, index: usize)
+    ensures items { list.new.items ≡ remove list.old.items index }
+    ensures spare { list.old.spare ≤ list.new.spare }
+{
+    if index < list.len() {
+        list.remove(index);
+    }
+}
+
+fn move_in(list: &mut SlotList<Value>, to: usize, from: usize)
+    ensures items { list.new.items ≡ shifted list.old.items to from }
+    ensures spare { list.old.spare ≤ list.new.spare }
+{
+    let len = list.len();
+    if from < len {
+        list.move_to(to.min(len - 1), from);
+    }
+}
