@@ -1,7 +1,7 @@
 mod ClassLemmas
 mod MetaLemmas
 mod NameLemmas
-mod OwnerLemmas
+pub mod OwnerLemmas
 mod ResolverLemmas
 mod TableLemmas
 mod PlaceLemmas

@@ -6,17 +6,17 @@ ghost use Rattle.mm_values.specs.ListEdits.{changed, taken, IsReadyFor};
 
 use crate::list_edit::ListEdit;
 use mm_types::{FeatureNo, Seq, Value};
-use slot_lists::SlotList;
 use std::alloc::{AllocError, Global};
 use std::marker::Model;
+use value_lists::ValueList;
 
 /// What is stored under one attribute. Where the list is empty and the flag off it is only a place,
 /// made ahead for a list to come.
 #[derive(Drop)]
 pub(crate) struct Entry {
     feature: FeatureNo,
-    list: SlotList<Value>,
     flag: bool,
+    list: ValueList,
 }
 
 /// The attribute lists of one object, in the order of the attributes' numbers.
@@ -49,7 +49,7 @@ impl AttributeLists {
     }
 
     /// The list under an attribute; `None` where it has no place, and so no values.
-    pub fn list(&self, feature: FeatureNo) -> Option<&SlotList<Value>>
+    pub fn list(&self, feature: FeatureNo) -> Option<&ValueList>
         ensures { items_of (option_copied result) ≡ (stored_under self.now feature).list }
     {
         match self.find(feature) {
@@ -68,8 +68,14 @@ impl AttributeLists {
         }
     }
 
-    /// Makes a place for what an attribute will hold, and places for more values. Errs where memory is refused.
-    pub fn make_place(&mut self, feature: FeatureNo, additional: usize) -> Result<(), AllocError>
+    /// Makes a place for what an attribute will hold, and places for more values of a list that will be asked for its values or
+    /// will not. Errs where memory is refused.
+    pub fn make_place(
+        &mut self,
+        feature: FeatureNo,
+        additional: usize,
+        is_asked: bool,
+    ) -> Result<(), AllocError>
         ensures stored { stored_in self.new ≡ stored_in self.old }
         ensures kept { (f n : ℕ) → HasPlace self.old f n → HasPlace self.new f n }
         ensures ok { OnOk result (HasPlace self.new feature.0 additional) }
@@ -78,7 +84,7 @@ impl AttributeLists {
         if additional == 0 {
             return Ok(());
         }
-        self.reserve(feature, at, additional)
+        self.reserve(feature, at, additional, is_asked)
     }
 
     /// Puts a long list into pieces, so that it is fast to edit. Errs where memory is refused.
@@ -87,7 +93,7 @@ impl AttributeLists {
         ensures kept { (f n : ℕ) → HasPlace self.old f n → HasPlace self.new f n }
     {
         match self.find(feature) {
-            Ok(at) => self.reserve(feature, at, 0),
+            Ok(at) => self.reserve(feature, at, 0, false),
             Err(_) => Ok(()),
         }
     }
@@ -104,8 +110,8 @@ impl AttributeLists {
                 let alloc = *self.entries.allocator();
                 let entry = Entry {
                     feature,
-                    list: SlotList::new(alloc),
                     flag: false,
+                    list: ValueList::new(alloc),
                 };
                 self.grow()?;
                 self.entries.insert(at, entry)?;
@@ -120,13 +126,15 @@ impl AttributeLists {
         feature: FeatureNo,
         at: usize,
         additional: usize,
+        is_asked: bool,
     ) -> Result<(), AllocError>
         requires { IsAt self.old feature.0 at }
         ensures stored { stored_in self.new ≡ stored_in self.old }
         ensures kept { (f n : ℕ) → HasPlace self.old f n → HasPlace self.new f n }
         ensures ok { OnOk result (HasPlace self.new feature.0 additional) }
     {
-        self.entries[at].list.reserve(additional)
+        let alloc = *self.entries.allocator();
+        self.entries[at].list.reserve(alloc, additional, is_asked)
     }
 
     // Makes room for an entry where there is none, by a quarter at a time: most objects hold little.

@@ -17,8 +17,8 @@ pub enum ValueEdit {
         list: Seq<Value>,
         flag: bool,
     },
-    /// Puts one value into an attribute's list, at an index; past the end it is put last. `is_unique` says that the list is one that
-    /// is asked for its values, again and again.
+    /// Puts one value into an attribute's list, at an index; past the end it is put last. `is_unique` says that the list is one
+    /// that is asked for its values again and again: where it is long, `Values::has` then finds a missing value at once.
     InsertValue {
         object: ObjectNo,
         feature: FeatureNo,

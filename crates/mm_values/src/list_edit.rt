@@ -4,7 +4,7 @@ ghost use Rattle.mm_types.specs.Lists.{shifted};
 ghost use Rattle.mm_values.specs.ListEdits.{changed, taken};
 
 use mm_types::Value;
-use slot_lists::SlotList;
+use value_lists::ValueList;
 
 /// One edit of a list of values.
 #[derive(Drop)]
@@ -19,7 +19,7 @@ pub(crate) enum ListEdit {
 
 impl ListEdit {
     /// Makes the edit. Takes no memory.
-    pub fn make(self, list: &mut SlotList<Value>)
+    pub fn make(self, list: &mut ValueList)
         requires { taken self ≤ list.old.spare }
         ensures items { list.new.items ≡ changed self list.old.items }
         ensures spare { list.old.spare ≤ list.new.spare + taken self }
@@ -32,18 +32,15 @@ impl ListEdit {
     }
 }
 
-fn insert_in(list: &mut SlotList<Value>, index: usize, value: Value)
+fn insert_in(list: &mut ValueList, index: usize, value: Value)
     requires { 1 ≤ list.old.spare }
     ensures items { list.new.items ≡ insert list.old.items index value }
     ensures spare { list.old.spare ≤ list.new.spare + 1 }
 {
-    match list.insert(index.min(list.len()), value) {
-        Ok(()) => {}
-        Err(_) => unreachable!(),
-    }
+    list.insert(index.min(list.len()), value);
 }
 
-fn remove_from(list: &mut SlotList<Value>, index: usize)
+fn remove_from(list: &mut ValueList, index: usize)
     ensures items { list.new.items ≡ remove list.old.items index }
     ensures spare { list.old.spare ≤ list.new.spare }
 {
@@ -52,7 +49,7 @@ fn remove_from(list: &mut SlotList<Value>, index: usize)
     }
 }
 
-fn move_in(list: &mut SlotList<Value>, to: usize, from: usize)
+fn move_in(list: &mut ValueList, to: usize, from: usize)
     ensures items { list.new.items ≡ shifted list.old.items to from }
     ensures spare { list.old.spare ≤ list.new.spare }
 {

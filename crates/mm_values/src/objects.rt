@@ -9,9 +9,9 @@ ghost use Rattle.mm_values.specs.Values.{object_at, stored_under, with_changed, 
 use crate::attribute_lists::AttributeLists;
 use crate::list_edit::ListEdit;
 use mm_types::{ClassNo, FeatureNo, ObjectNo, Seq, Value};
-use slot_lists::SlotList;
 use std::alloc::{AllocError, Global};
 use std::marker::Model;
+use value_lists::ValueList;
 
 /// An object's class, where it is live, and its attribute lists.
 #[derive(Drop)]
@@ -77,7 +77,7 @@ impl Objects {
     }
 
     /// The list that a live object has under an attribute, where that has a place.
-    pub fn list(&self, object: ObjectNo, feature: FeatureNo) -> Option<Option<&SlotList<Value>>>
+    pub fn list(&self, object: ObjectNo, feature: FeatureNo) -> Option<Option<&ValueList>>
         ensures { option_map (λ l. items_of (option_copied l)) result ≡ option_map (λ s. (stored_under s feature).list) (object_at (objects_of self.now) object) }
     {
         let slot = self.slot(object)?;
@@ -126,12 +126,13 @@ impl Objects {
     }
 
     /// Makes a place for what an attribute of an object will hold, also of one that is still to be
-    /// made, and places for more values. Errs where memory is refused.
+    /// made, and places for more values of a list that will be asked for its values or will not. Errs where memory is refused.
     pub fn make_place(
         &mut self,
         object: ObjectNo,
         feature: FeatureNo,
         additional: usize,
+        is_asked: bool,
     ) -> Result<(), AllocError>
         ensures objects { objects_of self.new ≡ objects_of self.old }
         ensures next { self.new.next ≡ self.old.next }
@@ -146,7 +147,7 @@ impl Objects {
         if index < self.next && slot.class.is_none() {
             return Ok(());
         }
-        slot.lists.make_place(feature, additional)
+        slot.lists.make_place(feature, additional, is_asked)
     }
 
     /// Puts a long list of an object into pieces, so that it is fast to edit. Errs where memory is refused.

@@ -89,6 +89,17 @@ impl Values {
         }
     }
 
+    /// Whether an object has a value under an attribute; `None` where no live object has the number. Where more than 64 values were
+    /// put in with `is_unique`, a value that is not there is found missing in constant time, whatever the list's length.
+    pub fn has(&self, object: ObjectNo, feature: FeatureNo, value: &Value) -> Option<bool>
+        ensures { result ≡ option_map (list_any (same_value value.now)) (list_of (values_of self.now) object feature) }
+    {
+        match self.objects.list(object, feature)? {
+            Some(list) => Some(list.has(value)),
+            None => Some(false),
+        }
+    }
+
     /// The flag that was put with the values of an attribute (EMF: eIsSet); `None` where no live object
     /// has the number.
     pub fn flag(&self, object: ObjectNo, feature: FeatureNo) -> Option<bool>
@@ -170,27 +181,24 @@ impl Values {
                 index,
                 value,
                 ..
-            } => {
-                let edit = ListEdit::Insert { index, value };
-                self.objects.change(object, feature, edit);
-            }
+            } => self
+                .objects
+                .change(object, feature, ListEdit::Insert { index, value }),
             ValueEdit::RemoveValue {
                 object,
                 feature,
                 index,
-            } => {
-                let edit = ListEdit::Remove { index };
-                self.objects.change(object, feature, edit);
-            }
+            } => self
+                .objects
+                .change(object, feature, ListEdit::Remove { index }),
             ValueEdit::MoveValue {
                 object,
                 feature,
                 to,
                 from,
-            } => {
-                let edit = ListEdit::Move { to, from };
-                self.objects.change(object, feature, edit);
-            }
+            } => self
+                .objects
+                .change(object, feature, ListEdit::Move { to, from }),
             ValueEdit::NewUri(uri) => self.uris.add(uri),
         }
     }
@@ -227,12 +235,13 @@ impl Values {
                 object,
                 feature,
                 ..
-            } => self.make_list(*object, *feature, plan),
+            } => self.make_list(*object, *feature, plan, false),
             ValueEdit::InsertValue {
                 object,
                 feature,
+                is_unique,
                 ..
-            } => self.make_list(*object, *feature, plan),
+            } => self.make_list(*object, *feature, plan, *is_unique),
             ValueEdit::RemoveValue {
                 object,
                 feature,
@@ -253,6 +262,7 @@ impl Values {
         object: ObjectNo,
         feature: FeatureNo,
         plan: &[ValueEdit],
+        is_asked: bool,
     ) -> Result<(), AllocError>
         ensures unchanged { values_of self.new ≡ values_of self.old }
         ensures next { self.new.objects.next ≡ self.old.objects.next }
@@ -260,7 +270,7 @@ impl Values {
         ensures ok { OnOk result (HasPlaceAt self.new.objects object.0 feature.0 (needed plan.now object.0 feature.0)) }
     {
         let places = places_needed(plan, object, feature)?;
-        self.objects.make_place(object, feature, places)
+        self.objects.make_place(object, feature, places, is_asked)
     }
 }
 

@@ -71,8 +71,8 @@ impl<T: Drop> SlotList<T> {
         self.len() == 0
     }
 
-    // How many values may be inserted with no memory taken.
-    fn spare(&self) -> usize
+    /// How many values may be inserted with no memory taken.
+    pub fn spare(&self) -> usize
         ensures { result ≡ self.now.spare }
     {
         match &self.layout {

@@ -1,0 +1,54 @@
+-- How many values of a list have each hash.
+use Rattle.std.specs.Prelude.{◌≡◌, ℕ, ◌++◌, Bool, List, fold, count_by, nat_eq, min, Option, Some, None, Box}
+use Rattle.std.proofs.Common.{Global}
+use Rattle.slot_lists.specs.Places.{Places}
+use Rattle.std.specs.Hash as fed
+use Rattle.std.specs.Hash.DefaultHasher as sip
+use Rattle.indexmap.specs.IndexMap.{get, spare}
+use Rattle.mm_types.specs.declared.value.Value.{Value}
+use Rattle.mm_types.specs.declared.value.Value.TheVariants as value
+use Rattle.value_lists.specs.declared.hash_counts.Counted.{Counted}
+use Rattle.value_lists.specs.declared.hash_counts.HashCounts.{HashCounts}
+
+-- what is hashed of a value: its kind, and what it holds
+abbrev pub fed_by : Value → fed.HashWrites
+fed_by value.Null = fed.u8 0
+fed_by (value.Bool b) = fed.u8 1 ++ fed.bool b
+fed_by (value.Int n) = fed.u8 2 ++ fed.i64 n
+fed_by (value.Text t) = fed.u8 3 ++ fed.str t
+fed_by (value.Literal k) = fed.u8 4 ++ fed.u32 k
+fed_by (value.Object o) = fed.u8 5 ++ fed.u32 o.0
+fed_by (value.Proxy t) = fed.u8 6 ++ fed.str t
+fed_by (value.Adapter a) = fed.u8 7 ++ fed.u32 a.0
+
+unfoldable pub hash_of : Value → ℕ
+hash_of v = sip.finish (fold sip.write sip.initial (fed_by v))
+
+abbrev pub has_hash : ℕ → Value → Bool
+has_hash h v = nat_eq (hash_of v) h
+
+abbrev pub count_of : Option Counted → ℕ
+count_of None = 0
+count_of (Some c) = c.count
+
+-- how many a table has of a hash
+abbrev pub count_in : HashCounts → ℕ → ℕ
+count_in t h = count_of (get nat_eq t.counts h)
+
+-- the table counts the values of the list
+abbrev pub Counts : HashCounts → List Value → Type 0
+Counts t vs = (h : ℕ) → count_in t h ≡ count_by (has_hash h) vs
+
+-- where a list has a table, the table counts its values
+abbrev pub AreCounted : List Value → Option (Box HashCounts Global) → Type 0
+AreCounted vs None = Unit {0}
+AreCounted vs (Some t) = Counts t.value vs
+
+-- a list of values with its places
+abbrev pub ValuePlaces : Type 0
+ValuePlaces = Places Value
+
+-- what a contract sees of a list and its table: each insert needs a place in both
+abbrev pub places_of : ValuePlaces → Option (Box HashCounts Global) → ValuePlaces
+places_of p None = p
+places_of p (Some t) = record { items = p.items; spare = min p.spare (spare t.value.counts) }

@@ -1,0 +1,144 @@
+//! How many values of a list have each hash.
+ghost use Rattle.std.specs.Prelude.{◌≡◌, ℕ, ◌+◌, ◌-◌, ◌^◌, ◌<◌, ◌≤◌, fold, nat_eq, nat_lt, IfOk, OnOk, if◌then◌else◌};
+ghost use Rattle.std.specs.Hash.DefaultHasher as sip;
+ghost use Rattle.indexmap.specs.IndexMap.{spare};
+ghost use Rattle.value_lists.specs.Hashes.{count_in, count_of, fed_by, hash_of};
+
+use indexmap::IndexMap;
+use mm_types::Value;
+use std::alloc::{AllocError, Global};
+use std::hash::{DefaultHasher, Hash, Hasher};
+
+/// How many values have a hash, and where the one of them stood that was put in last.
+#[derive(Clone, Copy)]
+pub(crate) struct Counted {
+    pub count: usize,
+    /// Its index when it was put in.
+    pub from_front: usize,
+    /// How far it was from the end then; 1 where it was the last.
+    pub from_end: usize,
+}
+
+/// For each hash that any value has, how many have it.
+#[derive(Drop)]
+pub(crate) struct HashCounts {
+    counts: IndexMap<u64, Counted>,
+}
+
+impl HashCounts {
+    /// No values, with room for some. Errs where memory is refused.
+    pub fn with_capacity(alloc: Global, capacity: usize) -> Result<Self, AllocError>
+        ensures none { IfOk result (λ t. (h : ℕ) → count_in t h ≡ 0) }
+        ensures spare { IfOk result (λ t. capacity ≤ spare t.counts) }
+    {
+        Ok(HashCounts {
+            counts: IndexMap::with_capacity(alloc, capacity)?,
+        })
+    }
+
+    /// How many values have a hash; nothing where none has.
+    pub fn get(&self, hash: u64) -> Option<Counted>
+        ensures { count_of result ≡ count_in self.now hash }
+    {
+        self.counts.get(&hash).copied()
+    }
+
+    // How many values have a hash.
+    fn count(&self, hash: u64) -> usize
+        ensures { result ≡ count_in self.now hash }
+    {
+        match self.counts.get(&hash) {
+            Some(counted) => counted.count,
+            None => 0,
+        }
+    }
+
+    /// Makes room for more values. Errs where memory is refused.
+    pub fn reserve(&mut self, additional: usize) -> Result<(), AllocError>
+        ensures counts { (h : ℕ) → count_in self.new h ≡ count_in self.old h }
+        ensures spare { spare self.old.counts ≤ spare self.new.counts }
+        ensures ok { OnOk result (additional ≤ spare self.new.counts) }
+    {
+        self.counts.reserve(additional)
+    }
+
+    /// Counts one value more, which stands there from the front and from the end. Takes no memory.
+    pub fn add(&mut self, hash: u64, from_front: usize, from_end: usize)
+        requires room { 0 < spare self.old.counts }
+        requires fits { count_in self.old hash + 1 < 2 ^ 64 }
+        ensures counts { (h : ℕ) → count_in self.new h ≡ count_in self.old h + (if nat_eq hash h then 1 else 0) }
+        ensures spare { spare self.old.counts ≤ spare self.new.counts + 1 }
+    {
+        let counted = Counted {
+            count: self.count(hash) + 1,
+            from_front,
+            from_end,
+        };
+        match self.counts.insert(hash, counted) {
+            Ok(_) => {}
+            Err(_) => unreachable!(),
+        }
+    }
+
+    /// Counts one value less. Takes no memory.
+    pub fn take(&mut self, hash: u64)
+        ensures counts { (h : ℕ) → count_in self.new h ≡ count_in self.old h - (if nat_eq hash h then 1 else 0) }
+        ensures spare { spare self.old.counts ≤ spare self.new.counts }
+    {
+        let count = self.count(hash);
+        if count > 1 {
+            if let Some(kept) = self.counts.get_mut(&hash) {
+                kept.count = count - 1;
+            }
+        } else {
+            self.counts.swap_remove(&hash);
+        }
+    }
+}
+
+/// The hash of a value.
+#[tactic(auto, unfolding(crate::specs::Hashes::hash_of))]
+pub(crate) fn hash_of(value: &Value) -> u64
+    ensures { result ≡ hash_of value.now }
+{
+    let mut hasher = DefaultHasher::new();
+    feed(value, &mut hasher);
+    hasher.finish()
+}
+
+// Feeds a hasher the kind of a value and what it holds.
+fn feed(value: &Value, hasher: &mut DefaultHasher)
+    ensures { hasher.new ≡ fold sip.write hasher.old (fed_by value.now) }
+{
+    match value {
+        Value::Null => hasher.write_u8(0),
+        Value::Bool(b) => {
+            hasher.write_u8(1);
+            b.hash(hasher);
+        }
+        Value::Int(n) => {
+            hasher.write_u8(2);
+            n.hash(hasher);
+        }
+        Value::Text(text) => {
+            hasher.write_u8(3);
+            text.as_str().hash(hasher);
+        }
+        Value::Literal(index) => {
+            hasher.write_u8(4);
+            index.hash(hasher);
+        }
+        Value::Object(object) => {
+            hasher.write_u8(5);
+            object.0.hash(hasher);
+        }
+        Value::Proxy(text) => {
+            hasher.write_u8(6);
+            text.as_str().hash(hasher);
+        }
+        Value::Adapter(adapter) => {
+            hasher.write_u8(7);
+            adapter.0.hash(hasher);
+        }
+    }
+}

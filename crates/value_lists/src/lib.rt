@@ -1,0 +1,9 @@
+//! Lists of values that answer fast whether they have a value, where they are long and will be asked.
+//!
+//! A list counts how many of its values have each hash, so that a new value is looked up and not looked for. The table takes no copy of a value.
+#![tactic(auto)]
+
+mod hash_counts;
+mod value_list;
+
+pub use value_list::ValueList;
