@@ -29,7 +29,7 @@ use Rattle.link_store.specs.LegalSets as sets
 use Rattle.link_store.specs.Links.{end}
 use Rattle.models.specs.Legal.{IsLegal}
 use Rattle.models.specs.Model.{Model, reading, values_at}
-use Rattle.models.specs.Reading.{all_features_of, at_end, is_known, objects_of}
+use Rattle.models.specs.Reading.{all_features_of, at_end, objects_of}
 use Rattle.containment.proofs.MemberLemmas.{all-among, flat_map-from, same-object}
 use Rattle.containment.proofs.PartLemmas.{IsPart, all-append, all-objects, contains-itself, contains-reference, contents-parts, holder-at, values-linked}
 use Rattle.containment.specs.Forest.{contents, subtree, tree}
@@ -171,18 +171,18 @@ objects-from (v ∷ vs) c h = let r = objects-from vs c h in (suc r.0, r.1)
 
 module _ (s : Model) (legal : IsLegal s) where
   abbrev IsHolding : FeatureNo → Type 0
-  IsHolding f = (is_containment s.metamodel f ≡ true) × (is_known s.metamodel f ≡ true)
+  IsHolding f = is_containment s.metamodel f ≡ true
 
   end-distinct : (n : Node) (f : FeatureNo) → IsHolding f → IsDistinct same_object (objects_of (values_at s (at_end n f)))
   end-distinct n f h =
-      let reference = contains-reference s.metamodel f f (contains-itself f (shape s.metamodel f).containing h.0) in
+      let reference = contains-reference s.metamodel f f (contains-itself f (shape s.metamodel f).containing h) in
       subst (λ (vs : List Value). IsDistinct same_object (objects_of vs)) (sym (values-linked s (at_end n f) reference)) (objects-distinct (end s.links (at_end n f)) (legal.links.set.placed.distinct (at_end n f)))
 
   one-end : (n : Node) (f g : FeatureNo) (c : ObjectNo) → IsHolding f → IsHolding g → list_any (same_object c) (objects_of (values_at s (at_end n f))) ≡ true → list_any (same_object c) (objects_of (values_at s (at_end n g))) ≡ true → same_feature f g ≡ true
   one-end n f g c a b h q =
       let x = objects-from (values_at s (at_end n f)) c h in
       let y = objects-from (values_at s (at_end n g)) c q in
-      let same = same_Some (at_end n f) (at_end n g) (sym (holder-at s legal n f a.1 a.0 x.0 c x.1) ∙ holder-at s legal n g b.1 b.0 y.0 c y.1) in
+      let same = same_Some (at_end n f) (at_end n g) (sym (holder-at s legal n f a x.0 c x.1) ∙ holder-at s legal n g b y.0 c y.1) in
       eq-eqb f.0 g.0 (λ i. (same i).feature.0)
 
   -- no node contains an object twice
@@ -190,9 +190,8 @@ module _ (s : Model) (legal : IsLegal s) where
   contents-distinct n =
       let m = s.metamodel in
       let fs = all_features_of (reading s) n in
-      distinct-flat_map same_feature IsHolding (λ f. objects_of (values_at s (at_end n f))) (end-distinct n) (one-end n) (filter (is_containment m) (filter (is_known m) fs))
-      (all-both (λ f. is_containment m f ≡ true) (λ f. is_known m f ≡ true) (filter (is_containment m) (filter (is_known m) fs)) (all-pass (is_containment m) (filter (is_known m) fs)) (all-filter (λ f. is_known m f ≡ true) (is_containment m) (filter (is_known m) fs) (all-pass (is_known m) fs)))
-      (distinct-filter (is_containment m) (filter (is_known m) fs) (distinct-filter (is_known m) fs (features-distinct s legal n)))
+      distinct-flat_map same_feature IsHolding (λ f. objects_of (values_at s (at_end n f))) (end-distinct n) (one-end n) (filter (is_containment m) fs)
+      (all-pass (is_containment m) fs) (distinct-filter (is_containment m) fs (features-distinct s legal n))
 
   ---------------------------------------------------------------- trees
 

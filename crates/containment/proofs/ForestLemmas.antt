@@ -1,11 +1,14 @@
 -- What a node contains, feature by feature.
-use Rattle.std.proofs.Common.{◌≡◌, ◌<◌, ◌+◌, ℕ, true, false, cond, length, drop, slice_index_or, append_assoc, List, [], ◌∷◌, ◌++◌, filter, flat_map, refl, ap, sym, ◌∙◌}
-use Rattle.std.proofs.lemmas.List.{append-nil, drop_more}
+use Rattle.std.proofs.Common.{◌≡◌, ◌<◌, ◌≤◌, ◌+◌, ℕ, zero, suc, Option, Some, arith, slice_get, option_and_then, option_to_list, true, false, cond, length, drop, slice_index_or, append_assoc, List, [], ◌∷◌, ◌++◌, filter, flat_map, refl, ap, sym, ◌∙◌}
+use Rattle.std.proofs.lemmas.List.{append-nil, drop_all, drop_more}
 use Rattle.mm_types.specs.Shapes.{is_containment}
 use Rattle.mm_types.specs.declared.numbers.FeatureNo.{FeatureNo}
 use Rattle.mm_types.specs.declared.numbers.ObjectNo.{ObjectNo}
 use Rattle.mm_types.specs.declared.numbers.Node.{Node}
-use Rattle.models.specs.Reading.{Reading, at_end, is_known, objects_of}
+use Rattle.mm_types.specs.declared.value.Value.{Value}
+use Rattle.mm_types.specs.declared.value.Value.TheVariants as value
+use Rattle.link_store.specs.Links as links
+use Rattle.models.specs.Reading.{Reading, at_end, objects_of}
 use Rattle.containment.specs.Forest.{parts}
 
 -- the parts by the first feature come before the parts by the others
@@ -13,12 +16,8 @@ pub parts-first : (r : Reading) (n : Node) (f : FeatureNo) (fs : List FeatureNo)
 parts-first r n f fs =
     let m = r.metamodel in
     let held = λ (g : FeatureNo). objects_of (r.values (at_end n g)) in
-    elim (is_known m f) as (λ b. flat_map held (filter (is_containment m) (cond b (f ∷ filter (is_known m) fs) (filter (is_known m) fs))) ≡ flat_map held (filter (is_containment m) (cond b (f ∷ []) [])) ++ parts r n fs) [
-      | true ↦
-          elim (is_containment m f) as (λ c. flat_map held (cond c (f ∷ filter (is_containment m) (filter (is_known m) fs)) (filter (is_containment m) (filter (is_known m) fs))) ≡ flat_map held (cond c (f ∷ []) []) ++ parts r n fs) [
-            | true ↦ ap (λ (os : List ObjectNo). os ++ parts r n fs) (sym (append-nil (held f)))
-            | false ↦ refl
-          ]
+    elim (is_containment m f) as (λ c. flat_map held (cond c (f ∷ filter (is_containment m) fs) (filter (is_containment m) fs)) ≡ flat_map held (cond c (f ∷ []) []) ++ parts r n fs) [
+      | true ↦ ap (λ (os : List ObjectNo). os ++ parts r n fs) (sym (append-nil (held f)))
       | false ↦ refl
     ]
 
@@ -30,3 +29,27 @@ parts-step r n fs i d out new all low made whole =
     ∙ append_assoc out (parts r n (slice_index_or fs i d ∷ [])) (parts r n (drop (i + 1) fs))
     ∙ ap (λ os. out ++ os) (sym (parts-first r n (slice_index_or fs i d) (drop (i + 1) fs)) ∙ ap (parts r n) (sym (drop_more fs i d low)))
     ∙ whole
+
+---------------------------------------------------------------- the objects of one end
+
+get-within : (vs : List Value) (k : ℕ) (d : Value) → k < length vs → slice_get vs k ≡ Some (slice_index_or vs k d)
+get-within [] k d h = absurd (omega (arith, h))
+get-within (w ∷ ws) zero d h = refl
+get-within (w ∷ ws) (suc k) d h = get-within ws k d (omega (arith, h))
+
+objects-first : (v : Value) (vs : List Value) → objects_of (v ∷ vs) ≡ option_to_list (links.object_of v) ++ objects_of vs
+objects-first (value.Object o) vs = refl
+objects-first _ vs = refl
+
+-- one place further
+pub objects-step : (vs : List Value) (k : ℕ) (out new all : List ObjectNo) → k < length vs → new ≡ out ++ option_to_list (option_and_then links.object_of (slice_get vs k))
+    → out ++ objects_of (drop k vs) ≡ all → new ++ objects_of (drop (k + 1) vs) ≡ all
+objects-step vs k out new all low made whole =
+    let v = slice_index_or vs k value.Null in
+    ap (λ os. os ++ objects_of (drop (k + 1) vs)) (made ∙ ap (λ (x : Option Value). out ++ option_to_list (option_and_then links.object_of x)) (get-within vs k value.Null low))
+    ∙ append_assoc out (option_to_list (links.object_of v)) (objects_of (drop (k + 1) vs))
+    ∙ ap (λ os. out ++ os) (sym (objects-first v (drop (k + 1) vs)) ∙ ap objects_of (sym (drop_more vs k value.Null low)))
+    ∙ whole
+
+pub objects-end : (vs : List Value) (k : ℕ) (out all : List ObjectNo) → length vs ≤ k → out ++ objects_of (drop k vs) ≡ all → out ≡ all
+objects-end vs k out all past whole = sym (ap (λ (ws : List Value). out ++ objects_of ws) (drop_all k vs past) ∙ append-nil out) ∙ whole

@@ -3,7 +3,7 @@ use Rattle.std.proofs.Common.{◌≡◌, ℕ, zero, suc, ◌<◌, Bool, true, fa
 use Rattle.std.specs.Prelude.{option_and_then}
 use Rattle.std.specs.List.{AllByRecursion, list_any}
 use Rattle.std.specs.Option.{option_map_or}
-use Rattle.std.proofs.lemmas.Bool.{and_parts, false≢true, or_cases, or_left, or_right}
+use Rattle.std.proofs.lemmas.Bool.{false≢true, or_cases, or_left, or_right}
 use Rattle.std.proofs.lemmas.List.Folds.{list_any-append}
 use Rattle.std.proofs.lemmas.Option.{none-some, same_Some}
 use Rattle.mm_types.specs.Lookups as lookups
@@ -24,7 +24,7 @@ use Rattle.link_store.specs.Holders.{IsUnder, above, climb, holder}
 use Rattle.link_store.specs.Links.{Links, end}
 use Rattle.models.specs.Legal.{IsLegal, kinds_of}
 use Rattle.models.specs.Model.{Model, reading, values_at}
-use Rattle.models.specs.Reading.{Reading, all_features_of, at_end, class_has, has_feature, is_known, is_live, is_within, objects_of}
+use Rattle.models.specs.Reading.{Reading, all_features_of, at_end, has_feature, is_live, is_within, objects_of}
 use Rattle.containment.proofs.HolderLemmas.{container_at, holding-feature}
 use Rattle.containment.proofs.PartLemmas.{IsPart, contains-reference, contents-parts, kinds-are, legal-at, values-linked}
 use Rattle.containment.proofs.TreeLemmas.{some-made, subtree-levels, subtree-parts}
@@ -97,8 +97,8 @@ turned (g ∷ gs) f h = elim (or_cases (nat_eq g.0 f.0) (list_any (λ (g : Featu
   | inr later ↦ or_right _ _ (turned gs f later)
 ]
 
--- a feature that a node has is among all its features, and is known
-own-feature : (r : Reading) (n : Node) (f : FeatureNo) → has_feature r n f ≡ true → (list_any (same_feature f) (all_features_of r n) ≡ true) × (is_known r.metamodel f ≡ true)
+-- a feature that a node has is among all its features
+own-feature : (r : Reading) (n : Node) (f : FeatureNo) → has_feature r n f ≡ true → list_any (same_feature f) (all_features_of r n) ≡ true
 own-feature r (node.Resource k) f h = absurd (false≢true h)
 own-feature r (node.Object o) f h = by (r.class o) h
   where
@@ -106,10 +106,10 @@ own-feature r (node.Object o) f h = by (r.class o) h
     listed None q = absurd (false≢true q)
     listed (Some all) q = turned all f q
 
-    by : (x : Option ClassNo) → option_map_or (λ c. class_has r.metamodel c f) x false ≡ true
-        → (list_any (same_feature f) (unwrap_or (option_and_then (lookups.features r.metamodel) x) []) ≡ true) × (is_known r.metamodel f ≡ true)
+    by : (x : Option ClassNo) → option_map_or (λ c. lookups.has_feature r.metamodel c f) x false ≡ true
+        → list_any (same_feature f) (unwrap_or (option_and_then (lookups.features r.metamodel) x) []) ≡ true
     by None q = absurd (false≢true q)
-    by (Some c) q = let two = and_parts (lookups.has_feature r.metamodel c f) (is_known r.metamodel f) q in (listed (lookups.features r.metamodel c) two.0, two.1)
+    by (Some c) q = listed (lookups.features r.metamodel c) q
 
 ---------------------------------------------------------------- chains
 
@@ -137,9 +137,9 @@ module _ (s : Model) (legal : IsLegal s) where
       let by = holding-feature l.0 (node.Object c) e l.2 in
       let whose : (shape m e.feature).containing ≡ Some by.0 = sym (container_at (kinds_of m) (kinds-are m legal.metamodel) l.0 e (at.0, value.Object c) (legal.links.kinds l.0 l.1) at.1) ∙ by.1 in
       let contains : is_containment m e.feature ≡ true = ap (is_feature e.feature) whose ∙ eq-eqb e.feature.0 by.0.0 by.2 in
-      let listed = in-filter (is_containment m) (filter (is_known m) (all_features_of (reading s) e.node)) e.feature (in-filter (is_known m) (all_features_of (reading s) e.node) e.feature own.0 own.1) contains in
+      let listed = in-filter (is_containment m) (all_features_of (reading s) e.node) e.feature own contains in
       let values = ap (λ (vs : List Value). list_any (same_object c) (objects_of vs)) (values-linked s e (contains-reference m e.feature by.0 whose)) ∙ in-objects (end s.links e) at.0 c there in
-      in-flat_map same_feature same-feature (λ f. objects_of (values_at s (at_end e.node f))) (filter (is_containment m) (filter (is_known m) (all_features_of (reading s) e.node))) e.feature c listed values
+      in-flat_map same_feature same-feature (λ f. objects_of (values_at s (at_end e.node f))) (filter (is_containment m) (all_features_of (reading s) e.node)) e.feature c listed values
 
   -- a tree with one more level has the parts of all in it
   parts-in : (k : ℕ) (o p c : ObjectNo) → list_any (same_object p) (tree (reading s) k o) ≡ true → list_any (same_object c) (contents (reading s) (node.Object p)) ≡ true → list_any (same_object c) (tree (reading s) (suc k) o) ≡ true

@@ -1,5 +1,5 @@
 -- What a node contains in a legal model lives, is held by that node, and that node lives.
-use Rattle.std.proofs.Common.{◌≡◌, ℕ, zero, suc, ◌<◌, Bool, true, false, cond, ltb, length, List, [], ◌∷◌, ◌++◌, filter, flat_map, Option, option_map, Some, None, IsTrue, slice_get, refl, sym, ap, ◌∙◌, subst}
+use Rattle.std.proofs.Common.{◌≡◌, ℕ, zero, suc, ◌<◌, Bool, true, false, cond, ltb, length, List, [], ◌∷◌, ◌++◌, flat_map, Option, option_map, Some, None, IsTrue, slice_get, refl, sym, ap, ◌∙◌, subst}
 use Rattle.std.specs.Prelude.{is_some}
 use Rattle.std.specs.List.{AllByRecursion, list_all}
 use Rattle.std.specs.Option.{option_map_or}
@@ -7,6 +7,7 @@ use Rattle.std.proofs.lemmas.Bool.{and_parts, eqb-true, false≢true, ltb-false,
 use Rattle.std.proofs.lemmas.List.{get_or_past}
 use Rattle.std.proofs.lemmas.Option.{none-some, same_Some}
 use Rattle.mm_meta.proofs.ShapeLemmas.{opposites_are_pairs}
+use Rattle.mm_meta.proofs.OwnerLemmas.{has_none}
 use Rattle.mm_types.specs.Lookups as lookups
 use Rattle.mm_types.specs.OfDocument.{IsOfDocument}
 use Rattle.mm_types.specs.Resolved.{Metamodel}
@@ -32,7 +33,7 @@ use Rattle.link_store.specs.LegalSets.{AreKinds}
 use Rattle.link_store.specs.Links.{end}
 use Rattle.models.specs.Legal.{IsLegal, is_legal_end, is_legal_object, kinds_of}
 use Rattle.models.specs.Model.{Model, reading, values_at}
-use Rattle.models.specs.Reading.{Reading, all_features_of, at_end, class_has, has_feature, is_known, is_live, objects_of}
+use Rattle.models.specs.Reading.{Reading, all_features_of, at_end, has_feature, is_live, objects_of}
 use Rattle.containment.proofs.ForestLemmas.{parts-first}
 use Rattle.containment.proofs.HolderLemmas.{container_at, holding_at}
 use Rattle.containment.specs.Forest.{contents, parts}
@@ -73,7 +74,7 @@ some-of p None h = absurd (false≢true h)
 some-of p (Some c) h = refl
 
 has-made : (s : Model) (n : Node) (f : FeatureNo) → has_feature (reading s) n f ≡ true → IsMade s n
-has-made s (node.Object o) f h = (o, refl, live-made s o (some-of (λ c. class_has s.metamodel c f) (class_of s.values o) h))
+has-made s (node.Object o) f h = (o, refl, live-made s o (some-of (λ c. lookups.has_feature s.metamodel c f) (class_of s.values o) h))
 has-made s (node.Resource k) f h = absurd (false≢true h)
 
 pub legal-at : (r : Reading) (e : End) (vs : List Value) (k : ℕ) (v : Value) → IsTrue (is_legal_end r e vs) → slice_get vs k ≡ Some v → (has_feature r e.node e.feature ≡ true) × (is_legal_object r e.feature v ≡ true)
@@ -91,18 +92,26 @@ object-typed m single ELong o = refl
 object-typed m single EBoolean o = refl
 object-typed m single (Enum e) o = refl
 
--- what a single feature takes lives
-taken-live : (m : Metamodel) (class : ObjectNo → Option ClassNo) (f : FeatureNo) (o : ObjectNo) → lookups.takes m class f (value.Object o) ≡ true → (shape m f).is_single ≡ true → is_some (class o) ≡ true
-taken-live m class f o = by (lookups.feature m f)
+-- a node that has a feature is of a class that has it
+class-has : (r : Reading) (n : Node) (f : FeatureNo) → has_feature r n f ≡ true → (c : ClassNo) × (lookups.has_feature r.metamodel c f ≡ true)
+class-has r (node.Object o) f h = by (r.class o) h
+  where
+    by : (x : Option ClassNo) → option_map_or (λ c. lookups.has_feature r.metamodel c f) x false ≡ true → (c : ClassNo) × (lookups.has_feature r.metamodel c f ≡ true)
+    by None h = absurd (false≢true h)
+    by (Some c) h = (c, h)
+class-has r (node.Resource k) f h = absurd (false≢true h)
+
+-- what a feature of a class takes lives
+taken-live : (m : Metamodel) → IsOfDocument m → (class : ObjectNo → Option ClassNo) (c : ClassNo) (f : FeatureNo) (o : ObjectNo) → lookups.has_feature m c f ≡ true → lookups.takes m class f (value.Object o) ≡ true → is_some (class o) ≡ true
+taken-live m accepted class c f o has = by (lookups.feature m f) refl
   where
     by_kind : (single : Bool) (k : Kind) → lookups.is_of_kind m class single k (value.Object o) ≡ true → is_some (class o) ≡ true
     by_kind single (Attribute t unique unsettable default) h = absurd (false≢true (sym (object-typed m single t o) ∙ h))
     by_kind single (Reference target containment opposite) h = some-of (λ c. lookups.conforms m c target) (class o) h
 
-    by : (x : Option Feature) → option_map_or (λ g. lookups.is_of_kind m class (lookups.is_single g) g.kind (value.Object o)) x true ≡ true
-        → (option_map_or (λ g. shape_of m f g g.kind) x (contents_shape m)).is_single ≡ true → is_some (class o) ≡ true
-    by None h single = absurd (false≢true single)
-    by (Some g) h single = by_kind (lookups.is_single g) g.kind h
+    by : (x : Option Feature) → lookups.feature m f ≡ x → option_map_or (λ g. lookups.is_of_kind m class (lookups.is_single g) g.kind (value.Object o)) x true ≡ true → is_some (class o) ≡ true
+    by None none h = absurd (false≢true (has_none m accepted c f none ∙ has))
+    by (Some g) _ h = by_kind (lookups.is_single g) g.kind h
 
 ---------------------------------------------------------------- parts
 
@@ -144,9 +153,9 @@ module _ (s : Model) (legal : IsLegal s) (n : Node) where
   linked : (f : FeatureNo) → is_containment s.metamodel f ≡ true → (k : ℕ) (c : ObjectNo) → slice_get (values_at s (at_end n f)) k ≡ Some (value.Object c) → slice_get (end s.links (at_end n f)) k ≡ Some (value.Object c)
   linked f contains k c at = ap (λ (vs : List Value). slice_get vs k) (sym (values-linked s (at_end n f) (contains-reference s.metamodel f f (contains-itself f (shape s.metamodel f).containing contains)))) ∙ at
 
-  -- an object at an end of a known containment is held through it
-  pub holder-at : (f : FeatureNo) → is_known s.metamodel f ≡ true → is_containment s.metamodel f ≡ true → (k : ℕ) (c : ObjectNo) → slice_get (values_at s (at_end n f)) k ≡ Some (value.Object c) → holder s.links (node.Object c) ≡ Some (at_end n f)
-  holder-at f known contains k c at =
+  -- an object at an end of a containment is held through it
+  pub holder-at : (f : FeatureNo) → is_containment s.metamodel f ≡ true → (k : ℕ) (c : ObjectNo) → slice_get (values_at s (at_end n f)) k ≡ Some (value.Object c) → holder s.links (node.Object c) ≡ Some (at_end n f)
+  holder-at f contains k c at =
       let e = at_end n f in
       let own = contains-itself f (shape s.metamodel f).containing contains in
       let there = linked f contains k c at in
@@ -154,15 +163,16 @@ module _ (s : Model) (legal : IsLegal s) (n : Node) where
       let whose = container_at (kinds_of s.metamodel) (kinds-are s.metamodel legal.metamodel) l.0 e (k, value.Object c) (legal.links.kinds l.0 l.1) l.2 in
       holder_is s.links (node.Object c) l.0 e legal.links.set.held l.1 (holding_at l.0 e k c (legal.links.set.placed.sides l.0 l.1) (whose ∙ own) l.2)
 
-  part-at : (f : FeatureNo) → is_known s.metamodel f ≡ true → is_containment s.metamodel f ≡ true → (k : ℕ) (c : ObjectNo) → slice_get (values_at s (at_end n f)) k ≡ Some (value.Object c) → IsPart s n c
-  part-at f known contains k c at =
+  part-at : (f : FeatureNo) → is_containment s.metamodel f ≡ true → (k : ℕ) (c : ObjectNo) → slice_get (values_at s (at_end n f)) k ≡ Some (value.Object c) → IsPart s n c
+  part-at f contains k c at =
       let e = at_end n f in
       let may = legal-at (reading s) e (end s.links e) k (value.Object c) (legal.links.ends e) (linked f contains k c at) in
+      let owner = class-has (reading s) n f may.0 in
       record {
         whole = has-made s n f may.0;
-        made = live-made s c (taken-live s.metamodel (class_of s.values) f c (and_parts (lookups.is_object (value.Object c)) _ may.1).1 (and_parts _ _ known).0);
+        made = live-made s c (taken-live s.metamodel legal.metamodel (class_of s.values) owner.0 f c owner.1 (and_parts (lookups.is_object (value.Object c)) _ may.1).1);
         by = e;
-        held = holder-at f known contains k c at;
+        held = holder-at f contains k c at;
         here = refl;
       }
 
@@ -170,11 +180,8 @@ module _ (s : Model) (legal : IsLegal s) (n : Node) where
   one-feature f =
       let m = s.metamodel in
       let held = λ (g : FeatureNo). objects_of (values_at s (at_end n g)) in
-      elim (is_known m f) as (λ b. is_known m f ≡ b → AllByRecursion (IsPart s n) (flat_map held (filter (is_containment m) (cond b (f ∷ []) [])))) [
-        | true ↦ λ known. elim (is_containment m f) as (λ b. is_containment m f ≡ b → AllByRecursion (IsPart s n) (flat_map held (cond b (f ∷ []) []))) [
-          | true ↦ λ contains. all-append (IsPart s n) (held f) [] (all-objects (IsPart s n) (values_at s (at_end n f)) (part-at f known contains)) tt
-          | false ↦ λ _. tt
-        ] refl
+      elim (is_containment m f) as (λ b. is_containment m f ≡ b → AllByRecursion (IsPart s n) (flat_map held (cond b (f ∷ []) []))) [
+        | true ↦ λ contains. all-append (IsPart s n) (held f) [] (all-objects (IsPart s n) (values_at s (at_end n f)) (part-at f contains)) tt
         | false ↦ λ _. tt
       ] refl
 

@@ -9,11 +9,11 @@ use Rattle.mm_types.specs.declared.numbers.ObjectNo.{ObjectNo}
 use Rattle.mm_types.specs.declared.numbers.Node.{Node}
 use Rattle.mm_types.specs.declared.numbers.Node.TheVariants as node
 use Rattle.mm_types.specs.declared.end.End.{End}
-use Rattle.models.specs.Reading.{Reading, all_features_of, at_end, is_known, objects_of}
+use Rattle.models.specs.Reading.{Reading, all_features_of, at_end, objects_of}
 
 -- the objects that a node contains by those of some features that contain, feature by feature, then by position
 abbrev pub parts : Reading → Node → List FeatureNo → List ObjectNo
-parts r n fs = flat_map (λ f. objects_of (r.values (at_end n f))) (filter (is_containment r.metamodel) (filter (is_known r.metamodel) fs))
+parts r n fs = flat_map (λ f. objects_of (r.values (at_end n f))) (filter (is_containment r.metamodel) fs)
 
 -- the objects that a node directly contains, by feature in the order of all features, then by position
 abbrev pub contents : Reading → Node → List ObjectNo

@@ -1,11 +1,13 @@
 //! What contains an object, and what a node contains.
-ghost use Rattle.std.specs.Prelude.{◌≡◌, ◌∷◌, ◌++◌, [], IfOk, OnOk};
+ghost use Rattle.std.specs.Prelude.{◌≡◌, ◌∷◌, ◌++◌, [], IfOk, OnOk, option_to_list, true};
+ghost use Rattle.mm_types.specs.Shapes.{shape};
 ghost use Rattle.models.specs.Model.{reading};
+ghost use Rattle.models.specs.Reading.{objects_of};
 ghost use Rattle.containment.specs.Forest as forest;
 
 use link_store::LinkStore;
 use mm_types::{End, FeatureNo, Node, ObjectNo};
-use models::{ModelRef, is_known};
+use models::ModelRef;
 use std::alloc::{AllocError, Global};
 
 /// The object that contains an object (EMF: EObject.eContainer); `None` where none does. Takes no memory.
@@ -44,11 +46,32 @@ fn push_parts<L: LinkStore>(
 ) -> Result<(), AllocError>
     ensures { OnOk result (out.new.items ≡ out.old.items ++ forest.parts (reading model.now) node (feature ∷ [])) }
 {
-    if !is_known(model.meta(), feature) || !model.meta().is_containment(feature) {
+    if !model.meta().is_containment(feature) {
         return Ok(());
     }
-    if let Some(part) = model.object_at(End { node, feature }) {
-        out.push(part)?;
+    push_objects(model, End { node, feature }, out)
+}
+
+/// Adds the objects that stand at the end of a reference.
+fn push_objects<L: LinkStore>(
+    model: &ModelRef<L>,
+    end: End,
+    out: &mut Vec<ObjectNo>,
+) -> Result<(), AllocError>
+    requires reference { (shape model.now.metamodel end.feature).is_reference ≡ true }
+    ensures { OnOk result (out.new.items ≡ out.old.items ++ objects_of ((reading model.now).values end)) }
+{
+    for index in 0..model.len(end) {
+        push_some(model.store().at(end, index), out)?;
+    }
+    Ok(())
+}
+
+fn push_some(object: Option<ObjectNo>, out: &mut Vec<ObjectNo>) -> Result<(), AllocError>
+    ensures { OnOk result (out.new.items ≡ out.old.items ++ option_to_list object) }
+{
+    if let Some(object) = object {
+        out.push(object)?;
     }
     Ok(())
 }

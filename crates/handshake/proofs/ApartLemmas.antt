@@ -1,15 +1,17 @@
--- A chain tells no end twice and tells single ends alone, so its notices are those that are read in the model as it is.
-use Rattle.std.proofs.Common.{◌≡◌, ◌≢◌, Bool, true, false, not, List, [], ◌∷◌, ◌++◌, filter, flat_map, map, Option, Some, None, option_map, if◌then◌else◌, refl, sym, ap, ◌∙◌, subst, inl, inr}
-use Rattle.std.specs.List.{All, AllByRecursion}
+-- A chain tells no end twice, but a list that is unset, and so its notices are those that are read in the model as it is.
+use Rattle.std.proofs.Common.{◌≡◌, ◌≢◌, ◌<◌, ◌≤◌, ◌||◌, ℕ, zero, suc, pos, nat_lt, length, take, remove, slice_get, option_to_list, arith, Bool, true, false, not, List, [], ◌∷◌, ◌++◌, filter, flat_map, map, Option, Some, None, option_map, if◌then◌else◌, refl, sym, ap, ◌∙◌, subst, inl, inr}
+use Rattle.std.specs.List.{AllByRecursion}
 use Rattle.std.specs.Option.{option_map_or}
 use Rattle.std.proofs.lemmas.Bool.{and_from, false≢true, or_left, or_right}
-use Rattle.std.proofs.lemmas.List.Elements.{All-from_recursion}
+use Rattle.std.proofs.lemmas.Bool.Decides.{nat_tests}
+use Rattle.std.proofs.lemmas.Option.{none-some, same_Some}
 use Rattle.mm_meta.proofs.ShapeLemmas.{opposites_are_pairs}
 use Rattle.mm_types.proofs.SameLemmas.{same_end-self}
-use Rattle.mm_types.specs.Ends.{Ends, Held, with_held}
+use Rattle.mm_types.specs.Ends.{Ends, Held, is_set, shown, value_in, with_held}
+use Rattle.mm_types.specs.Lookups as lookups
 use Rattle.mm_types.specs.Resolved.{Metamodel}
-use Rattle.mm_types.specs.Same.{node_value, same_end}
-use Rattle.mm_types.specs.Shapes.{is_containment, shape}
+use Rattle.mm_types.specs.Same.{is_nil, node_value, same_end}
+use Rattle.mm_types.specs.Shapes.{Shape, is_containment, shape}
 use Rattle.mm_types.specs.declared.end.End.{End}
 use Rattle.mm_types.specs.declared.numbers.FeatureNo.{FeatureNo}
 use Rattle.mm_types.specs.declared.numbers.Node.{Node}
@@ -17,24 +19,29 @@ use Rattle.mm_types.specs.declared.numbers.ObjectNo.{ObjectNo}
 use Rattle.mm_types.specs.declared.value.Value.TheVariants as value
 use Rattle.mm_types.specs.declared.value.Value.{Value}
 use Rattle.link_store.proofs.PlaceLemmas.{ne-same_end}
-use Rattle.link_store.specs.Links.{far_end}
+use Rattle.link_store.specs.Links.{end, far_end}
+use Rattle.link_store.specs.Plans.{Lacks}
 use Rattle.models.specs.Legal.{IsLegal}
 use Rattle.models.specs.Model.{Model, reading}
-use Rattle.models.specs.Reading.{Reading, at_end, has_feature, held_at}
-use Rattle.notice_chain.specs.Replay.{replayed_in}
+use Rattle.models.specs.Reading.{Reading, at_end, first_at, held_at, is_repeat}
+use Rattle.notice_chain.specs.Replay.{removed, replayed_in}
+use Rattle.notice_chain.specs.declared.kind.NoticeKind.TheVariants as kind
 use Rattle.notice_chain.specs.declared.notice.Notice.{Notice}
-use Rattle.handshake.proofs.CutTieLemmas.{Stands, all_append, all_map, all_weaker, plain-not, ties_at-different, ties_at-stand, yields-different, yields-stand}
-use Rattle.handshake.proofs.KnownLemmas.{feature-far_single, feature-single, set-there, unset-there}
+use Rattle.handshake.proofs.CutTieLemmas.{Stands, all_append, all_front, all_map, all_push, all_weaker, backwards-different, plain-not, tie_in-different, tie_in-stand, ties_at-different, ties_at-stand, ties_backwards-stand, values-linked, yields-different, yields-stand}
+use Rattle.handshake.proofs.KnownLemmas.{add-taken, object-reference, set-named}
+use Rattle.handshake.proofs.LinkLemmas.{IsNewLink, far-lacks}
+use Rattle.handshake.proofs.PlanLemmas.{add-new, set-new}
+use Rattle.handshake.proofs.YieldLemmas.{Origin, yields-origin}
 use Rattle.handshake.proofs.ReplayLemmas.{replayed_all-told}
-use Rattle.handshake.proofs.TieNameLemmas.{IsNameOf, name-stands, names-apart, open-of, turned-apart}
-use Rattle.handshake.specs.Displaced.{cut_by_set, cut_ties, has_already, is_plain_set, same_link, tie, ties_at, turned, yields}
-use Rattle.handshake.specs.Laws.{AreApart, AreDifferent}
-use Rattle.handshake.specs.Refusals.{early_refusal}
-use Rattle.handshake.specs.Telling.{IsOfSingle, changed, flagged, has_flag, notice_at, notice_of, telling, told}
-use Rattle.handshake.specs.Tellings.{before_gain, chain, far_gain, far_loss, far_losses, is_replaced, loss, losses, other_losses, tellings, tellings_with}
-use Rattle.handshake.specs.declared.change.Change.TheVariants.{Create, Set, Unset}
+use Rattle.handshake.proofs.TieNameLemmas.{IsNameOf, IsYielded, name-stands, names-apart, turned-apart, yielded, yielded-agree, yielded-far, yielded-near}
+use Rattle.handshake.specs.Displaced.{cut_by_new, cut_by_set, cut_ties, has_already, is_plain_add, is_plain_set, other_side, same_link, tie, tie_in, ties_at, ties_backwards, turned, yields}
+use Rattle.handshake.specs.Laws.{AreApart, AreDifferent, takes_many}
+use Rattle.handshake.specs.Refusals.{early_refusal, late_refusal}
+use Rattle.handshake.specs.Telling.{changed, flagged, happened, happened_all, has_flag, notice_at, notice_of, telling, told}
+use Rattle.handshake.specs.Tellings.{all_lost, before_gain, chain, far_gain, far_loss, far_losses, gain_at, is_replaced, loss, losses, other_losses, taken_out, tellings, tellings_with}
+use Rattle.handshake.specs.declared.change.Change.TheVariants.{Create, Set, Unset, Add, Remove, RemoveValue, Move}
 use Rattle.handshake.specs.declared.change.Change.{Change}
-use Rattle.handshake.specs.declared.happening.Happening.TheVariants.{Gains, Unsets}
+use Rattle.handshake.specs.declared.happening.Happening.TheVariants.{Gains, LosesAt, Moves, Unsets}
 use Rattle.handshake.specs.declared.happening.Happening.{Happening}
 use Rattle.handshake.specs.declared.happening.Telling.{Telling}
 use Rattle.handshake.specs.declared.tie.Tie.{Tie}
@@ -155,30 +162,30 @@ module _ (s : Model) (legal : IsLegal s) where
             | false ↦ ((turned-apart s legal t u is, tt), (tt, tt))
           ]
 
-  -- what several links tell, each at its own ends
-  module _ (f : Tie → List Telling) (of : (t : Tie) → AllByRecursion (IsOf (reading s) t) (f t)) where
-    others_away : (t : Tie) (ts : List Tie) (x : Telling) → Stands s.links t → AllByRecursion (λ (u : Tie). same_link (reading s) u t ≡ false) ts → AllByRecursion (Stands s.links) ts → IsOf (reading s) t x → IsNotAt x.at (flat_map f ts)
-    others_away t ts x at_t others stand of_x =
-        let away : (u : Tie) → (same_link (reading s) u t ≡ false) × Stands s.links u → IsNotAt x.at (f u) = λ u h. all_weaker (IsOf (reading s) u) (λ (y : Telling). x.at ≡ y.at → ⊥) (f u)
-        (λ y of_y same. names-apart s legal t u of_x.name of_y.name at_t h.1 h.0 of_x.is_name of_y.is_name (sym of_x.at ∙ same ∙ of_y.at)) (of u) in
-        all_flat (λ (u : Tie). (same_link (reading s) u t ≡ false) × Stands s.links u) (λ (y : Telling). x.at ≡ y.at → ⊥) f ts away (all_both _ _ ts others stand)
+  -- what several links tell, each at its own ends: names of theirs in one end are of one value
+  module _ (f : Tie → List Telling) (of : (t : Tie) → AllByRecursion (IsOf (reading s) t) (f t)) (Ok Key : Tie → Type 0)
+      (key : (t y : Tie) → Ok t → IsNameOf (reading s) t y → Key y) (agree : (y z : Tie) → Stands s.links y → Stands s.links z → Key y → Key z → y.end ≡ z.end → y.value ≡ z.value) where
+    abbrev Known : Tie → Type 0
+    Known t = Stands s.links t × Ok t
 
-    flat-apart : ((t : Tie) → AreApart (f t)) → (ts : List Tie) → AreDifferent (reading s) ts → AllByRecursion (Stands s.links) ts → AreApart (flat_map f ts)
-    flat-apart each [] different stand = tt
-    flat-apart each (t ∷ ts) different stand =
-        apart_append (f t) (flat_map f ts) (each t) (flat-apart each ts different.1 stand.1)
-        (all_weaker (IsOf (reading s) t) (λ (x : Telling). IsNotAt x.at (flat_map f ts)) (f t) (λ x of_x. others_away t ts x stand.0 different.0 stand.1 of_x) (of t))
+    others_away : (t : Tie) (ts : List Tie) (x : Telling) → Known t → AllByRecursion (λ (u : Tie). same_link (reading s) u t ≡ false) ts → AllByRecursion Known ts → IsOf (reading s) t x → IsNotAt x.at (flat_map f ts)
+    others_away t ts x at_t others known of_x =
+        let away : (u : Tie) → (same_link (reading s) u t ≡ false) × Known u → IsNotAt x.at (f u) = λ u h. all_weaker (IsOf (reading s) u) (λ (y : Telling). x.at ≡ y.at → ⊥) (f u)
+        (λ y of_y same.
+        let one = sym of_x.at ∙ same ∙ of_y.at in
+        names-apart s legal t u of_x.name of_y.name at_t.0 h.1.0 h.0 of_x.is_name of_y.is_name one
+        (agree of_x.name of_y.name (name-stands s legal t of_x.name at_t.0 of_x.is_name) (name-stands s legal u of_y.name h.1.0 of_y.is_name) (key t of_x.name at_t.1 of_x.is_name) (key u of_y.name h.1.1 of_y.is_name) one)) (of u) in
+        all_flat (λ (u : Tie). (same_link (reading s) u t ≡ false) × Known u) (λ (y : Telling). x.at ≡ y.at → ⊥) f ts away (all_both _ _ ts others known)
 
-    flat-single : (ts : List Tie) → AllByRecursion (Stands s.links) ts → AllByRecursion (IsOfSingle s.metamodel) (flat_map f ts)
-    flat-single ts stand =
-        let single : (t : Tie) (x : Telling) → Stands s.links t → IsOf (reading s) t x → IsOfSingle s.metamodel x = λ t x at of_x.
-        subst (λ (d : End). (shape s.metamodel d.feature).is_single ≡ true) (sym of_x.at)
-        (feature-single (reading s) of_x.name.end.node of_x.name.end.feature (open-of s legal of_x.name (name-stands s legal t of_x.name at of_x.is_name)).has) in
-        all_flat (Stands s.links) (IsOfSingle s.metamodel) f ts (λ t at. all_weaker (IsOf (reading s) t) (IsOfSingle s.metamodel) (f t) (λ x. single t x at) (of t)) stand
+    flat-apart : ((t : Tie) → AreApart (f t)) → (ts : List Tie) → AreDifferent (reading s) ts → AllByRecursion Known ts → AreApart (flat_map f ts)
+    flat-apart each [] different known = tt
+    flat-apart each (t ∷ ts) different known =
+        apart_append (f t) (flat_map f ts) (each t) (flat-apart each ts different.1 known.1)
+        (all_weaker (IsOf (reading s) t) (λ (x : Telling). IsNotAt x.at (flat_map f ts)) (f t) (λ x of_x. others_away t ts x known.0 different.0 known.1 of_x) (of t))
 
   ---------------------------------------------------------------- what cuts of an end tell
 
-  far_losses-away : (e : End) (ts : List Tie) → AllByRecursion (λ (t : Tie). t.end ≡ e) ts → AllByRecursion (λ (x : Telling). x.at ≡ e → ⊥) (far_losses (reading s) ts)
+  pub far_losses-away : (e : End) (ts : List Tie) → AllByRecursion (λ (t : Tie). t.end ≡ e) ts → AllByRecursion (λ (x : Telling). x.at ≡ e → ⊥) (far_losses (reading s) ts)
   far_losses-away e ts all = all_flat (λ (t : Tie). t.end ≡ e) (λ (x : Telling). x.at ≡ e → ⊥) (far_loss (reading s)) ts each all
     where
       by : (t : Tie) (q : Option Tie) → t.end ≡ e → turned (reading s) t ≡ q → AllByRecursion (λ (x : Telling). x.at ≡ e → ⊥) (option_map_or (λ u. loss u ∷ []) q [])
@@ -188,20 +195,47 @@ module _ (s : Model) (legal : IsLegal s) where
       each : (t : Tie) → t.end ≡ e → AllByRecursion (λ (x : Telling). x.at ≡ e → ⊥) (far_loss (reading s) t)
       each t is = by t (turned (reading s) t) is refl
 
-  module _ (e : End) (reference : (shape s.metamodel e.feature).is_reference ≡ true) (single : (shape s.metamodel e.feature).is_single ≡ true) where
-    emptied-apart : (h : Happening) → AreApart (far_losses (reading s) (ties_at (reading s) e) ++ telling e h ∷ [])
-    emptied-apart h = apart_push (far_losses (reading s) (ties_at (reading s) e)) (telling e h)
-        (flat-apart (far_loss (reading s)) (far_loss-of (reading s)) (far_loss-apart (reading s)) (ties_at (reading s) e) (ties_at-different s e legal reference single) (ties_at-stand s e reference))
-        (far_losses-away e (ties_at (reading s) e) (all_map (λ (t : Tie). t.end ≡ e) (tie e) ((reading s).values e) (all_of _ ((reading s).values e) (λ v. refl))))
+  -- links that stand in one end, told at their far ends
+  far-name : (e : End) (t y : Tie) → t.end ≡ e → turned (reading s) t ≡ Some y → y.value ≡ node_value e.node
+  far-name e t y is turns = by t.value (shape s.metamodel t.end.feature).opposite turns ∙ ap (λ (d : End). node_value d.node) is
+    where
+      by : (v : Value) (q : Option FeatureNo) → other_side t.end.node v q ≡ Some y → y.value ≡ node_value t.end.node
+      by (value.Object o) (Some g) h = ap (λ (z : Tie). z.value) (sym (same_Some (tie (far_end o g) (node_value t.end.node)) y h))
+      by v q h = absurd (none-some y h)
 
-    emptied-single : (h : Happening) → AllByRecursion (IsOfSingle s.metamodel) (far_losses (reading s) (ties_at (reading s) e) ++ telling e h ∷ [])
-    emptied-single h = all_append (IsOfSingle s.metamodel) (far_losses (reading s) (ties_at (reading s) e)) (telling e h ∷ [])
-        (flat-single (far_loss (reading s)) (far_loss-of (reading s)) (ties_at (reading s) e) (ties_at-stand s e reference)) (single, tt)
+  abbrev FarKey : End → Tie → Type 0
+  FarKey e y = (y.end ≡ e → ⊥) × (y.value ≡ node_value e.node)
+
+  far_loss-far : (e : End) (t : Tie) → t.end ≡ e → AllByRecursion (λ (x : Telling). (y : Tie) × (turned (reading s) t ≡ Some y) × (x.at ≡ y.end)) (far_loss (reading s) t)
+  far_loss-far e t is = by (turned (reading s) t) refl
+    where
+      by : (q : Option Tie) → turned (reading s) t ≡ q → AllByRecursion (λ (x : Telling). (y : Tie) × (turned (reading s) t ≡ Some y) × (x.at ≡ y.end)) (option_map_or (λ u. loss u ∷ []) q [])
+      by None _ = tt
+      by (Some u) turns = ((u, turns, refl), tt)
+
+  -- two links of one end have other far ends
+  far-others : (e : End) (t u y z : Tie) → t.end ≡ e → u.end ≡ e → Stands s.links t → Stands s.links u → same_link (reading s) u t ≡ false → turned (reading s) t ≡ Some y → turned (reading s) u ≡ Some z → y.end ≡ z.end → ⊥
+  far-others e t u y z is_t is_u at_t at_u other turns_t turns_u same =
+      names-apart s legal t u y z at_t at_u other (inr turns_t) (inr turns_u) same (far-name e t y is_t turns_t ∙ sym (far-name e u z is_u turns_u))
+
+  far-apart : (e : End) (ts : List Tie) → AllByRecursion (λ (t : Tie). t.end ≡ e) ts → AreDifferent (reading s) ts → AllByRecursion (Stands s.links) ts → AreApart (far_losses (reading s) ts)
+  far-apart e [] here different stand = tt
+  far-apart e (t ∷ ts) here different stand =
+      let r = reading s in
+      let Here : Tie → Type 0 = λ u. (same_link r u t ≡ false) × ((u.end ≡ e) × Stands s.links u) in
+      let away : (x : Telling) → ((y : Tie) × (turned r t ≡ Some y) × (x.at ≡ y.end)) → IsNotAt x.at (far_losses r ts) = λ x of_x. all_flat Here (λ (w : Telling). x.at ≡ w.at → ⊥) (far_loss r) ts
+      (λ u h. all_weaker _ _ (far_loss r u) (λ w of_w same. far-others e t u of_x.0 of_w.0 here.0 h.1.0 stand.0 h.1.1 h.0 of_x.1 of_w.1 (sym of_x.2 ∙ same ∙ of_w.2)) (far_loss-far e u h.1.0))
+      (all_both _ _ ts different.0 (all_both _ _ ts here.1 stand.1)) in
+      apart_append (far_loss r t) (far_losses r ts) (far_loss-apart r t) (far-apart e ts here.1 different.1 stand.1)
+      (all_weaker _ _ (far_loss r t) away (far_loss-far e t here.0))
+
+  -- what is told of cuts of an end, and then of the end itself
+  pub emptied-apart : (e : End) (ts : List Tie) (h : Happening) → AllByRecursion (λ (t : Tie). t.end ≡ e) ts → AreDifferent (reading s) ts → AllByRecursion (Stands s.links) ts → AreApart (far_losses (reading s) ts ++ telling e h ∷ [])
+  emptied-apart e ts h here different stand = apart_push (far_losses (reading s) ts) (telling e h) (far-apart e ts here different stand) (far_losses-away e ts here)
 
   ---------------------------------------------------------------- what a new link tells
 
-  module _ (e : End) (o : ObjectNo) (reference : (shape s.metamodel e.feature).is_reference ≡ true) (single : (shape s.metamodel e.feature).is_single ≡ true)
-      (far_single : (g : FeatureNo) → (shape s.metamodel e.feature).opposite ≡ Some g → (shape s.metamodel g).is_single ≡ true) where
+  module _ (e : End) (o : ObjectNo) (new : IsNewLink s e o) where
     -- what the displaced links tell
     abbrev kept : List Telling
     kept = flat_map (other_losses (reading s) e o) (yields (reading s) e o)
@@ -215,109 +249,279 @@ module _ (s : Model) (legal : IsLegal s) where
     other_losses-apart : (t : Tie) → AreApart (other_losses (reading s) e o t)
     other_losses-apart t = apart_filter (λ x. not (is_replaced (reading s) e o x.at)) (losses (reading s) t) (losses-apart t)
 
+    known : AllByRecursion (λ (t : Tie). Stands s.links t × Origin s e o t) (yields (reading s) e o)
+    known = all_both _ _ (yields (reading s) e o) (yields-stand s e o legal new.reference) (yields-origin s e o)
+
     kept-apart : AreApart kept
-    kept-apart = flat-apart (other_losses (reading s) e o) other_losses-of other_losses-apart (yields (reading s) e o) (yields-different (reading s) e o) (yields-stand s e o legal reference)
+    kept-apart = flat-apart (other_losses (reading s) e o) other_losses-of (Origin s e o) (IsYielded s e o) (yielded s legal e o) (yielded-agree s legal e o) other_losses-apart (yields (reading s) e o) (yields-different (reading s) e o) known
 
     kept-other : AllByRecursion (λ (x : Telling). not (is_replaced (reading s) e o x.at) ≡ true) kept
     kept-other = all_flat (λ (t : Tie). Unit {0}) (λ (x : Telling). not (is_replaced (reading s) e o x.at) ≡ true) (other_losses (reading s) e o) (yields (reading s) e o)
         (λ t _. all_pass (λ x. not (is_replaced (reading s) e o x.at)) (losses (reading s) t)) (all_of (λ (t : Tie). Unit {0}) (yields (reading s) e o) (λ t. tt))
 
-    -- the new link replaces what both its ends hold
+    -- the new link replaces what both its single ends hold
     replaced_away : (d : End) → is_replaced (reading s) e o d ≡ true → AllByRecursion (λ (x : Telling). x.at ≡ d → ⊥) kept
     replaced_away d replaced =
         let away : (x : Telling) → not (is_replaced (reading s) e o x.at) ≡ true → x.at ≡ d → ⊥ = λ x h same. false≢true (sym (ap not (subst (λ (y : End). is_replaced (reading s) e o y ≡ true) (sym same) replaced)) ∙ h) in
         all_weaker _ _ kept away kept-other
 
-    near_replaced : is_replaced (reading s) e o e ≡ true
-    near_replaced = and_from (shape s.metamodel e.feature).is_single _ single (or_left (same_end e e) _ (same_end-self e))
+    -- and a list of the new link lacks what the displaced ones would lose there
+    lacking_away : (d : End) (w : Value) → Lacks s.links d w → ((y : Tie) → IsYielded s e o y → y.end ≡ d → y.value ≡ w) → AllByRecursion (λ (x : Telling). x.at ≡ d → ⊥) kept
+    lacking_away d w lacks only =
+        all_flat (λ (t : Tie). Stands s.links t × Origin s e o t) (λ (x : Telling). x.at ≡ d → ⊥) (other_losses (reading s) e o) (yields (reading s) e o)
+        (λ t at_t. all_weaker (IsOf (reading s) t) (λ (x : Telling). x.at ≡ d → ⊥) (other_losses (reading s) e o t) (λ x of_x same.
+        let y = of_x.name in
+        let here : y.end ≡ d = sym of_x.at ∙ same in
+        let at_y = name-stands s legal t y at_t.0 of_x.is_name in
+        let is = only y (yielded s legal e o t y at_t.1 of_x.is_name) here in
+        lacks at_y.0 (subst (λ (v : Value). slice_get (end s.links d) at_y.0 ≡ Some v) is (subst (λ (x : End). slice_get (end s.links x) at_y.0 ≡ Some y.value) here at_y.1))) (other_losses-of t)) known
 
-    far_replaced : (g : FeatureNo) → (shape s.metamodel e.feature).opposite ≡ Some g → is_replaced (reading s) e o (far_end o g) ≡ true
-    far_replaced g opposite = and_from (shape s.metamodel g).is_single _ (far_single g opposite)
-        (or_right (same_end e (far_end o g)) _ (ap (λ (q : Option FeatureNo). option_map_or (same_end (far_end o g)) (option_map (far_end o) q) false) opposite ∙ same_end-self (far_end o g)))
+    near-away : AllByRecursion (λ (x : Telling). x.at ≡ e → ⊥) kept
+    near-away =
+        elim (shape s.metamodel e.feature).is_single as (λ b. (shape s.metamodel e.feature).is_single ≡ b → AllByRecursion (λ (x : Telling). x.at ≡ e → ⊥) kept) [
+          | true ↦ λ single. replaced_away e (and_from (shape s.metamodel e.feature).is_single _ single (or_left (same_end e e) _ (same_end-self e)))
+          | false ↦ λ many. lacking_away e (value.Object o) new.lacks (λ y name same. yielded-near s legal e o y name many same)
+        ] refl
 
-    with_gain-apart : (q : Option FeatureNo) → (shape s.metamodel e.feature).opposite ≡ q → (v : Value) → AreApart ((kept ++ gain_by q) ++ telling e (Gains v) ∷ [])
-    with_gain-apart None opposite v = apart_push (kept ++ []) (telling e (Gains v))
+    far-away : (g : FeatureNo) → (shape s.metamodel e.feature).opposite ≡ Some g → AllByRecursion (λ (x : Telling). x.at ≡ far_end o g → ⊥) kept
+    far-away g opposite =
+        elim (shape s.metamodel g).is_single as (λ b. (shape s.metamodel g).is_single ≡ b → AllByRecursion (λ (x : Telling). x.at ≡ far_end o g → ⊥) kept) [
+          | true ↦ λ single. replaced_away (far_end o g) (and_from (shape s.metamodel g).is_single _ single
+              (or_right (same_end e (far_end o g)) _ (ap (λ (q : Option FeatureNo). option_map_or (same_end (far_end o g)) (option_map (far_end o) q) false) opposite ∙ same_end-self (far_end o g))))
+          | false ↦ λ many. lacking_away (far_end o g) (node_value e.node) (far-lacks s legal e o new g opposite) (λ y name same. yielded-far s legal e o y g opposite name many same)
+        ] refl
+
+    with_gain-apart : (q : Option FeatureNo) → (shape s.metamodel e.feature).opposite ≡ q → (h : Happening) → AreApart ((kept ++ gain_by q) ++ telling e h ∷ [])
+    with_gain-apart None opposite h = apart_push (kept ++ []) (telling e h)
         (apart_append kept [] kept-apart tt (all_of (λ (x : Telling). IsNotAt x.at []) kept (λ x. tt)))
-        (all_append (λ (x : Telling). x.at ≡ e → ⊥) kept [] (replaced_away e near_replaced) tt)
-    with_gain-apart (Some g) opposite v = apart_push (kept ++ gain_by (Some g)) (telling e (Gains v))
-        (apart_push kept (telling (far_end o g) (Gains (node_value e.node))) kept-apart (replaced_away (far_end o g) (far_replaced g opposite)))
-        (all_append (λ (x : Telling). x.at ≡ e → ⊥) kept (gain_by (Some g)) (replaced_away e near_replaced) (λ same. (opposites_are_pairs s.metamodel legal.metamodel e.feature g opposite).apart (ap (λ (x : End). x.feature.0) same), tt))
+        (all_append (λ (x : Telling). x.at ≡ e → ⊥) kept [] near-away tt)
+    with_gain-apart (Some g) opposite h = apart_push (kept ++ gain_by (Some g)) (telling e h)
+        (apart_push kept (telling (far_end o g) (Gains (node_value e.node))) kept-apart (far-away g opposite))
+        (all_append (λ (x : Telling). x.at ≡ e → ⊥) kept (gain_by (Some g)) near-away (λ same. (opposites_are_pairs s.metamodel legal.metamodel e.feature g opposite).apart (ap (λ (x : End). x.feature.0) same), tt))
 
-    gain_by-single : (q : Option FeatureNo) → (shape s.metamodel e.feature).opposite ≡ q → AllByRecursion (IsOfSingle s.metamodel) (gain_by q)
-    gain_by-single None opposite = tt
-    gain_by-single (Some g) opposite = (far_single g opposite, tt)
-
-    linked-apart : (v : Value) → AreApart ((kept ++ far_gain (reading s) e o) ++ telling e (Gains v) ∷ [])
-    linked-apart v = with_gain-apart (shape s.metamodel e.feature).opposite refl v
-
-    linked-single : (v : Value) → AllByRecursion (IsOfSingle s.metamodel) ((kept ++ far_gain (reading s) e o) ++ telling e (Gains v) ∷ [])
-    linked-single v = all_append (IsOfSingle s.metamodel) (kept ++ far_gain (reading s) e o) (telling e (Gains v) ∷ [])
-        (all_append (IsOfSingle s.metamodel) kept (far_gain (reading s) e o)
-        (flat-single (other_losses (reading s) e o) other_losses-of (yields (reading s) e o) (yields-stand s e o legal reference))
-        (gain_by-single (shape s.metamodel e.feature).opposite refl)) (single, tt)
+    linked-apart : (h : Happening) → AreApart ((kept ++ far_gain (reading s) e o) ++ telling e h ∷ [])
+    linked-apart h = with_gain-apart (shape s.metamodel e.feature).opposite refl h
 
 ---------------------------------------------------------------- changes
 
--- the tellings of a set that is plain, and of one that is not
-set-tellings : (P : List Telling → Type 0) (s : Model) (n : Node) (f : FeatureNo) (v : Value) → P (telling (at_end n f) (Gains v) ∷ [])
-    → ((shape s.metamodel f).is_reference ≡ true → P (before_gain (reading s) (at_end n f) v (cut_by_set (reading s) (at_end n f) v) ++ telling (at_end n f) (Gains v) ∷ [])) → P (tellings (reading s) (Set n f v))
-set-tellings P s n f v plain other =
+pub backwards-here : (e : End) (vs : List Value) → AllByRecursion (λ (t : Tie). t.end ≡ e) (ties_backwards e vs)
+backwards-here e [] = tt
+backwards-here e (v ∷ vs) = all_push (λ (t : Tie). t.end ≡ e) (ties_backwards e vs) (tie e v) (backwards-here e vs) refl
+
+pub tie_in-here : (r : Reading) (e : End) (i : ℕ) → AllByRecursion (λ (t : Tie). t.end ≡ e) (tie_in r e i)
+tie_in-here r e i = elim (slice_get (r.values e) i) as (λ q. AllByRecursion (λ (t : Tie). t.end ≡ e) (option_to_list (option_map (tie e) q))) [ None ↦ tt | Some v ↦ (refl, tt) ]
+
+pub ties_at-here : (r : Reading) (e : End) → AllByRecursion (λ (t : Tie). t.end ≡ e) (ties_at r e)
+ties_at-here r e = all_map (λ (t : Tie). t.end ≡ e) (tie e) (r.values e) (all_of _ (r.values e) (λ v. refl))
+
+one-apart : (t : Telling) → AreApart (t ∷ [])
+one-apart t = (tt, tt)
+
+-- of a reference, or of an attribute, which cuts nothing
+reference-tells : (P : List Tie → Type 0) (b : Bool) (ts : List Tie) → (b ≡ true → P ts) → P [] → P (if b then ts else [])
+reference-tells P true ts some none = some refl
+reference-tells P false ts some none = none
+
+set-apart : (s : Model) (n : Node) (f : FeatureNo) (v : Value) → IsLegal s → early_refusal (reading s) (Set n f v) ≡ None → late_refusal (reading s) (Set n f v) ≡ None → is_plain_set (reading s) (at_end n f) v ≡ false
+    → AreApart (before_gain (reading s) (at_end n f) v (cut_by_set (reading s) (at_end n f) v) ++ telling (at_end n f) (Gains v) ∷ [])
+set-apart s n f (value.Object o) legal early late h = linked-apart s legal (at_end n f) o (set-new s n f o legal early late h) (Gains (value.Object o))
+set-apart s n f v legal early late h =
+    let e = at_end n f in
+    let both = plain-not (shape s.metamodel f).is_reference (has_already (reading s) e v) h in
+    emptied-apart s legal e (ties_at (reading s) e) (Gains v) (ties_at-here (reading s) e) (ties_at-different s e legal both.0 (set-named (reading s) n f v early).single) (ties_at-stand s e both.0)
+
+add-apart : (s : Model) (n : Node) (f : FeatureNo) (v : Value) (i : Option ℕ) → IsLegal s → early_refusal (reading s) (Add n f v i) ≡ None → late_refusal (reading s) (Add n f v i) ≡ None → is_plain_add (reading s) (at_end n f) v ≡ false
+    → AreApart (before_gain (reading s) (at_end n f) v (cut_by_new (reading s) (at_end n f) v) ++ telling (at_end n f) (gain_at i v) ∷ [])
+add-apart s n f (value.Object o) i legal early late h = linked-apart s legal (at_end n f) o (add-new s n f o i early late h) (gain_at i (value.Object o))
+add-apart s n f v i legal early late h = one-apart (telling (at_end n f) (gain_at i v))
+
+-- an addition to an attribute tells of it alone
+attribute-add : (s : Model) (n : Node) (f : FeatureNo) (v : Value) (h : Happening) → (shape s.metamodel f).is_reference ≡ false → lookups.takes s.metamodel (reading s).class f v ≡ true
+    → AreApart (before_gain (reading s) (at_end n f) v [] ++ telling (at_end n f) h ∷ [])
+attribute-add s n f (value.Object o) h attribute takes = absurd (false≢true (sym attribute ∙ object-reference s.metamodel (reading s).class f o takes))
+attribute-add s n f v h attribute takes = one-apart (telling (at_end n f) h)
+
+taken-apart : (s : Model) (n : Node) (f : FeatureNo) (i : ℕ) → IsLegal s → AreApart (taken_out (reading s) (at_end n f) (if (shape s.metamodel f).is_reference then tie_in (reading s) (at_end n f) i else []) i)
+taken-apart s n f i legal =
+    let e = at_end n f in
+    reference-tells (λ ts. AreApart (taken_out (reading s) e ts i)) (shape s.metamodel f).is_reference (tie_in (reading s) e i)
+    (λ reference. emptied-apart s legal e (tie_in (reading s) e i) (LosesAt i) (tie_in-here (reading s) e i) (tie_in-different (reading s) e i) (tie_in-stand s e i reference)) (one-apart (telling e (LosesAt i)))
+
+-- where an end is unset, no far end is told twice, and none of them is the end itself
+pub unset-apart : (s : Model) (n : Node) (f : FeatureNo) (h : Happening) → IsLegal s → AreApart (far_losses (reading s) (cut_ties (reading s) (Unset n f)) ++ telling (at_end n f) h ∷ [])
+unset-apart s n f h legal =
+    let e = at_end n f in
+    let vs = (reading s).values e in
+    reference-tells (λ ts. AreApart (far_losses (reading s) ts ++ telling e h ∷ [])) (shape s.metamodel f).is_reference (ties_backwards e vs)
+    (λ reference. emptied-apart s legal e (ties_backwards e vs) h (backwards-here e vs)
+    (subst (λ (ws : List Value). AreDifferent (reading s) (ties_backwards e ws)) (sym (values-linked s e reference)) (backwards-different s e (end s.links e) legal (legal.links.set.placed.distinct e)))
+    (ties_backwards-stand s e reference))
+    (one-apart (telling e h))
+
+-- no end is told twice, but a list that is unset
+pub tellings-apart : (s : Model) (c : Change) → IsLegal s → early_refusal (reading s) c ≡ None → late_refusal (reading s) c ≡ None → takes_many (reading s) c ≡ false → AreApart (tellings (reading s) c)
+tellings-apart s (Create c) legal early late few = tt
+tellings-apart s (Set n f v) legal early late few =
     let r = reading s in
     let e = at_end n f in
-    elim (is_plain_set r e v) as (λ b. is_plain_set r e v ≡ b → P ((if b then [] else before_gain r e v (if b then [] else cut_by_set r e v)) ++ telling e (Gains v) ∷ [])) [
-      | true ↦ λ _. plain
-      | false ↦ λ h. other (plain-not (shape s.metamodel f).is_reference (has_already r e v) h).0
+    elim (is_plain_set r e v) as (λ b. is_plain_set r e v ≡ b → AreApart ((if b then [] else before_gain r e v (if b then [] else cut_by_set r e v)) ++ telling e (Gains v) ∷ [])) [
+      | true ↦ λ _. one-apart (telling e (Gains v))
+      | false ↦ λ h. set-apart s n f v legal early late h
     ] refl
-
--- of an unset of an attribute, and of a reference
-unset-tellings : (P : List Telling → Type 0) (s : Model) (n : Node) (f : FeatureNo) → P (telling (at_end n f) Unsets ∷ [])
-    → ((shape s.metamodel f).is_reference ≡ true → P (far_losses (reading s) (ties_at (reading s) (at_end n f)) ++ telling (at_end n f) Unsets ∷ [])) → P (tellings (reading s) (Unset n f))
-unset-tellings P s n f plain other =
+tellings-apart s (Unset n f) legal early late few =
+    let single = not-not (shape s.metamodel f).is_single few in
+    subst (λ (b : Bool). AreApart (far_losses (reading s) (cut_ties (reading s) (Unset n f)) ++ (if b then telling (at_end n f) Unsets ∷ [] else all_lost (at_end n f) (length ((reading s).values (at_end n f)))))) (sym single)
+    (unset-apart s n f Unsets legal)
+  where
+    not-not : (b : Bool) → not b ≡ false → b ≡ true
+    not-not true h = refl
+    not-not false h = absurd (false≢true (sym h))
+tellings-apart s (Add n f v i) legal early late few =
     let r = reading s in
     let e = at_end n f in
-    elim (shape s.metamodel f).is_reference as (λ b. (shape s.metamodel f).is_reference ≡ b → P (far_losses r (if b then ties_at r e else []) ++ telling e Unsets ∷ [])) [ true ↦ other | false ↦ λ _. plain ] refl
+    elim (is_repeat r e v) as (λ b. is_repeat r e v ≡ b → AreApart (if b then [] else before_gain r e v (if not (shape s.metamodel f).is_reference || b then [] else cut_by_new r e v) ++ telling e (gain_at i v) ∷ [])) [
+      | true ↦ λ _. tt
+      | false ↦ λ new. elim (shape s.metamodel f).is_reference as (λ b. (shape s.metamodel f).is_reference ≡ b → AreApart (before_gain r e v (if not b || false then [] else cut_by_new r e v) ++ telling e (gain_at i v) ∷ [])) [
+        | true ↦ λ reference. add-apart s n f v i legal early late (λ j. not (reference j) || new j)
+        | false ↦ λ attribute. attribute-add s n f v (gain_at i v) attribute (add-taken r n f v i late).takes
+      ] refl
+    ] refl
+tellings-apart s (Remove n f i) legal early late few = taken-apart s n f i legal
+tellings-apart s (RemoveValue n f v) legal early late few =
+    let r = reading s in
+    let e = at_end n f in
+    elim (first_at r e v) as (λ q. AreApart (option_map_or (taken_out r e (if (shape s.metamodel f).is_reference then option_map_or (tie_in r e) q [] else [])) q [])) [
+      | None ↦ tt
+      | Some i ↦ taken-apart s n f i legal
+    ]
+tellings-apart s (Move n f to from) legal early late few = one-apart (telling (at_end n f) (Moves to from))
 
-module _ (s : Model) (legal : IsLegal s) (n : Node) (f : FeatureNo) (has : has_feature (reading s) n f ≡ true) (reference : (shape s.metamodel f).is_reference ≡ true) where
-  gained-apart : (v : Value) → AreApart (before_gain (reading s) (at_end n f) v (cut_by_set (reading s) (at_end n f) v) ++ telling (at_end n f) (Gains v) ∷ [])
-  gained-apart (value.Object o) = linked-apart s legal (at_end n f) o reference (feature-single (reading s) n f has) (λ g h. feature-far_single (reading s) n f g has h) (value.Object o)
-  gained-apart v = emptied-apart s legal (at_end n f) reference (feature-single (reading s) n f has) (Gains v)
+---------------------------------------------------------------- a list that is unset
 
-  gained-single : (v : Value) → AllByRecursion (IsOfSingle s.metamodel) (before_gain (reading s) (at_end n f) v (cut_by_set (reading s) (at_end n f) v) ++ telling (at_end n f) (Gains v) ∷ [])
-  gained-single (value.Object o) = linked-single s legal (at_end n f) o reference (feature-single (reading s) n f has) (λ g h. feature-far_single (reading s) n f g has h) (value.Object o)
-  gained-single v = emptied-single s legal (at_end n f) reference (feature-single (reading s) n f has) (Gains v)
+take-length : (vs : List Value) (n : ℕ) → n ≤ length vs → length (take n vs) ≡ n
+take-length vs zero low = refl
+take-length [] (suc n) low = absurd (omega (arith, low))
+take-length (v ∷ vs) (suc n) low = ap suc (take-length vs n (omega (arith, low)))
 
--- no end is told twice
-pub tellings-apart : (s : Model) (c : Change) → IsLegal s → early_refusal (reading s) c ≡ None → AreApart (tellings (reading s) c)
-tellings-apart s (Create c) legal early = tt
-tellings-apart s (Set n f v) legal early = set-tellings AreApart s n f v (tt, tt) (λ reference. gained-apart s legal n f (set-there (reading s) n f v early) reference v)
-tellings-apart s (Unset n f) legal early =
-    unset-tellings AreApart s n f (tt, tt) (λ reference. emptied-apart s legal (at_end n f) reference (feature-single (reading s) n f (unset-there (reading s) n f early)) Unsets)
+take-value : (vs : List Value) (n : ℕ) → n < length vs → value_in (take (suc n) vs) n ≡ value_in vs n
+take-value [] n low = absurd (omega (arith, low))
+take-value (v ∷ vs) zero low = refl
+take-value (v ∷ vs) (suc n) low = take-value vs n (omega (arith, low))
 
-tellings-single : (s : Model) (c : Change) → IsLegal s → early_refusal (reading s) c ≡ None → AllByRecursion (IsOfSingle s.metamodel) (tellings (reading s) c)
-tellings-single s (Create c) legal early = tt
-tellings-single s (Set n f v) legal early =
-    let has = set-there (reading s) n f v early in
-    set-tellings (AllByRecursion (IsOfSingle s.metamodel)) s n f v (feature-single (reading s) n f has, tt) (λ reference. gained-single s legal n f has reference v)
-tellings-single s (Unset n f) legal early =
-    let single = feature-single (reading s) n f (unset-there (reading s) n f early) in
-    unset-tellings (AllByRecursion (IsOfSingle s.metamodel)) s n f (single, tt) (λ reference. emptied-single s legal (at_end n f) reference single Unsets)
+take-remove : (vs : List Value) (n : ℕ) → n < length vs → remove (take (suc n) vs) n ≡ take n vs
+take-remove [] n low = absurd (omega (arith, low))
+take-remove (v ∷ vs) zero low = refl
+take-remove (v ∷ vs) (suc n) low = ap (λ (ws : List Value). v ∷ ws) (take-remove vs n (omega (arith, low)))
 
--- every telling is at a single end
-pub singles : (s : Model) (c : Change) → IsLegal s → early_refusal (reading s) c ≡ None → All (IsOfSingle s.metamodel) (tellings (reading s) c)
-singles s c legal early = All-from_recursion (IsOfSingle s.metamodel) (tellings (reading s) c) (tellings-single s c legal early)
+take-all : (vs : List Value) → take (length vs) vs ≡ vs
+take-all [] = refl
+take-all (v ∷ vs) = ap (λ (ws : List Value). v ∷ ws) (take-all vs)
+
+-- the last of a list is taken out
+take-removed : (vs : List Value) (n : ℕ) → n < length vs → removed (take (suc n) vs) (pos n) ≡ take n vs
+take-removed vs n low =
+    let long = take-length vs (suc n) (omega (arith, low)) in
+    let below : nat_lt n (length (take (suc n) vs)) ≡ true = rw long (grind (arith, nat_tests)) in
+    rw below (take-remove vs n low)
+
+not-nil : (vs : List Value) (n : ℕ) → n < length vs → not (is_nil vs) ≡ true
+not-nil [] n low = absurd (omega (arith, low))
+not-nil (v ∷ vs) n low = refl
+
+-- the end's own losses, from what is left of its list
+lost-read : (m : Metamodel) (e : Ends) (x : End) (n : ℕ) (d : Ends) → (shape m x.feature).is_single ≡ false → (d x).values ≡ take n (e x).values → n ≤ length (e x).values → told m d (all_lost x n) ≡ map (read_in m e) (all_lost x n)
+lost-read m e x zero d many is low = refl
+lost-read m e x (suc n) d many is low =
+    let a = shape m x.feature in
+    let vs = (e x).values in
+    let t = telling x (LosesAt n) in
+    let next : Ends = replayed_in (has_flag m) d (read_in m d t) in
+    let below : n < length vs = omega (arith, low) in
+    let left : (next x).values ≡ take n vs =
+    ap (λ (f : Ends). (f x).values) (replayed_all-told m d (t ∷ []))
+    ∙ ap (λ (b : Bool). (if b then record { values = removed (d x).values (pos n); flag = (d x).flag } else d x).values) (same_end-self x)
+    ∙ ap (λ (ws : List Value). removed ws (pos n)) is ∙ take-removed vs n below in
+    let old : value_in (d x).values n ≡ value_in vs n = ap (λ (ws : List Value). value_in ws n) is ∙ take-value vs n below in
+    let long : n < length (take (suc n) vs) = subst (λ (k : ℕ). n < k) (sym (take-length vs (suc n) low)) (omega arith) in
+    let set : is_set a (d x) ≡ is_set a (e x) =
+    list-set a (d x) many (ap (λ (ws : List Value). not (is_nil ws)) is ∙ not-nil (take (suc n) vs) n long) ∙ sym (list-set a (e x) many (not-nil vs n below)) in
+    let same : read_in m d t ≡ read_in m e t = λ i. record { notifier = x.node; feature = Some x.feature; kind = kind.Remove; old_value = old i; new_value = value.Null; position = pos n; was_set = set i } in
+    ap (λ (y : Notice). y ∷ told m next (all_lost x n)) same ∙ ap (λ (ns : List Notice). read_in m e t ∷ ns) (lost-read m e x n next many left (omega (arith, low)))
+  where
+    list-set : (a : Shape) (h : Held) → a.is_single ≡ false → not (is_nil h.values) ≡ true → is_set a h ≡ true
+    list-set a h many set = rw many set
+
+happened-away : (m : Metamodel) (e : Ends) (ts : List Telling) (x : End) → AllByRecursion (λ (t : Telling). t.at ≡ x → ⊥) ts → happened_all m e ts x ≡ e x
+happened-away m e [] x away = refl
+happened-away m e (t ∷ ts) x away =
+    happened-away m (happened m e t) ts x away.1
+    ∙ with_held-other e t.at x (record { values = changed (shape m t.at.feature) t.does (e t.at).values; flag = flagged (shape m t.at.feature) t.does (e t.at).flag }) away.0
+
+told-append : (m : Metamodel) (e : Ends) (ts us : List Telling) → told m e (ts ++ us) ≡ told m e ts ++ told m (happened_all m e ts) us
+told-append m e [] us = refl
+told-append m e (t ∷ ts) us =
+    let n = read_in m e t in
+    let next : Ends = replayed_in (has_flag m) e n in
+    ap (λ (ns : List Notice). n ∷ ns) (told-append m next ts us ∙ ap (λ (d : Ends). told m next ts ++ told m (happened_all m d ts) us) (replayed_all-told m e (t ∷ [])))
+
+map-append : (f : Telling → Notice) (ts us : List Telling) → map f (ts ++ us) ≡ map f ts ++ map f us
+map-append f [] us = refl
+map-append f (t ∷ ts) us = ap (λ (ns : List Notice). f t ∷ ns) (map-append f ts us)
+
+apart-front : (ts us : List Telling) → AreApart (ts ++ us) → AreApart ts
+apart-front [] us apart = tt
+apart-front (t ∷ ts) us apart = (all_front (λ (u : Telling). t.at ≡ u.at → ⊥) ts us apart.0, apart-front ts us apart.1)
+
+push-away : (ts : List Telling) (u : Telling) → AreApart (ts ++ u ∷ []) → AllByRecursion (λ (t : Telling). t.at ≡ u.at → ⊥) ts
+push-away [] u apart = tt
+push-away (t ∷ ts) u apart = (last ts apart.0, push-away ts u apart.1)
+  where
+    last : (xs : List Telling) → AllByRecursion (λ (w : Telling). t.at ≡ w.at → ⊥) (xs ++ u ∷ []) → t.at ≡ u.at → ⊥
+    last [] all = all.0
+    last (x ∷ xs) all = last xs all.1
+
+unset-read : (s : Model) (n : Node) (f : FeatureNo) → IsLegal s → (shape s.metamodel f).is_single ≡ false → chain (reading s) (Unset n f) ≡ map (notice_at (reading s)) (tellings (reading s) (Unset n f))
+unset-read s n f legal many =
+    let m = s.metamodel in
+    let r = reading s in
+    let e = at_end n f in
+    let h = held_at r in
+    let far = far_losses r (cut_ties r (Unset n f)) in
+    let own = all_lost e (length (r.values e)) in
+    let apart = unset-apart s n f Unsets legal in
+    let away = push-away far (telling e Unsets) apart in
+    let listed : (h e).values ≡ r.values e = ap (λ (b : Bool). shown b (r.values e)) many in
+    let is : (happened_all m h far e).values ≡ take (length (r.values e)) (h e).values =
+    ap (λ (k : Held). k.values) (happened-away m h far e away) ∙ listed ∙ sym (ap (take (length (r.values e))) listed ∙ take-all (r.values e)) in
+    let whole : told m h (far ++ own) ≡ map (read_in m h) (far ++ own) =
+    told-append m h far own
+    ∙ (λ i. told-apart m h far (apart-front far (telling e Unsets ∷ []) apart) i ++ lost-read m h e (length (r.values e)) (happened_all m h far) many is (within r e listed) i)
+    ∙ sym (map-append (read_in m h) far own) in
+    subst (λ (b : Bool). told m h (far ++ (if b then telling e Unsets ∷ [] else own)) ≡ map (read_in m h) (far ++ (if b then telling e Unsets ∷ [] else own))) (sym many) whole
+  where
+    within : (r : Reading) (e : End) → (held_at r e).values ≡ r.values e → length (r.values e) ≤ length (held_at r e).values
+    within r e is = subst (λ (vs : List Value). length (r.values e) ≤ length vs) (sym is) (omega arith)
 
 -- the chain is the notices that are read in the model as it is
-pub chain-read : (s : Model) (c : Change) → IsLegal s → early_refusal (reading s) c ≡ None → chain (reading s) c ≡ map (notice_at (reading s)) (tellings (reading s) c)
-chain-read s c legal early = told-apart s.metamodel (held_at (reading s)) (tellings (reading s) c) (tellings-apart s c legal early)
+pub chain-read : (s : Model) (c : Change) → IsLegal s → early_refusal (reading s) c ≡ None → late_refusal (reading s) c ≡ None → chain (reading s) c ≡ map (notice_at (reading s)) (tellings (reading s) c)
+chain-read s c legal early late =
+    elim (takes_many (reading s) c) as (λ b. takes_many (reading s) c ≡ b → chain (reading s) c ≡ map (notice_at (reading s)) (tellings (reading s) c)) [
+      | true ↦ λ many. by c many
+      | false ↦ λ few. told-apart s.metamodel (held_at (reading s)) (tellings (reading s) c) (tellings-apart s c legal early late few)
+    ] refl
+  where
+    not-true : (b : Bool) → not b ≡ true → b ≡ false
+    not-true true h = absurd (false≢true h)
+    not-true false h = refl
+
+    by : (c : Change) → takes_many (reading s) c ≡ true → chain (reading s) c ≡ map (notice_at (reading s)) (tellings (reading s) c)
+    by (Unset n f) many = unset-read s n f legal (not-true (shape s.metamodel f).is_single many)
+    by _ many = absurd (false≢true many)
 
 ---------------------------------------------------------------- tellings that are made
 
-module _ (s : Model) (c : Change) (cut : List Tie) (ts : List Telling) (legal : IsLegal s) (early : early_refusal (reading s) c ≡ None) (is_cut : cut ≡ cut_ties (reading s) c) (made : ts ≡ tellings_with (reading s) c cut) where
-  are_tellings : ts ≡ tellings (reading s) c
-  are_tellings = made ∙ ap (tellings_with (reading s) c) is_cut
-
-  pub made-single : All (IsOfSingle s.metamodel) ts
-  made-single = subst (λ (us : List Telling). All (IsOfSingle s.metamodel) us) (sym are_tellings) (singles s c legal early)
-
-  pub made-chain : (heard : Bool) → heard ≡ true → map (notice_at (reading s)) ts ≡ (if heard then chain (reading s) c else [])
-  made-chain heard is = ap (map (notice_at (reading s))) are_tellings ∙ sym (chain-read s c legal early) ∙ ap (λ (b : Bool). if b then chain (reading s) c else []) (sym is)
+-- the notices of the tellings that are made are the chain
+pub made-chain : (s : Model) (c : Change) (cut : List Tie) (ts : List Telling) → IsLegal s → early_refusal (reading s) c ≡ None → late_refusal (reading s) c ≡ None → cut ≡ cut_ties (reading s) c → ts ≡ tellings_with (reading s) c cut
+    → (heard : Bool) → heard ≡ true → map (notice_at (reading s)) ts ≡ (if heard then chain (reading s) c else [])
+made-chain s c cut ts legal early late is_cut made heard is =
+    ap (map (notice_at (reading s))) (made ∙ ap (tellings_with (reading s) c) is_cut) ∙ sym (chain-read s c legal early late) ∙ ap (λ (b : Bool). if b then chain (reading s) c else []) (sym is)

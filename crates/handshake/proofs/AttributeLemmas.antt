@@ -1,5 +1,6 @@
 -- What ends hold after an object is made, and after a single attribute is put.
-use Rattle.std.proofs.Common.{◌≡◌, ℕ, zero, suc, eqb, nat_eq, Bool, true, false, ◌&&◌, IsTrue, List, [], ◌∷◌, slice_index_or, slice_set, Option, Some, None, unwrap_or, option_map, is_some, if◌then◌else◌, refl, sym, ap, ◌∙◌, arith}
+use Rattle.std.proofs.Common.{◌≡◌, ℕ, zero, suc, eqb, nat_eq, Bool, true, false, ◌&&◌, IsTrue, List, [], ◌∷◌, slice_index_or, slice_set, Option, Some, None, unwrap_or, option_map, is_some, if◌then◌else◌, refl, sym, ap, ◌∙◌, subst, arith}
+use Rattle.std.specs.List.{AllByRecursion}
 use Rattle.std.specs.Ordering.{nat_cmp}
 use Rattle.std.specs.FinMap as map
 use Rattle.std.proofs.lemmas.Bool.Decides.{nat_tests}
@@ -21,11 +22,9 @@ use Rattle.link_store.specs.Links.{end}
 use Rattle.models.specs.Model.{Model, attribute_values, reading}
 use Rattle.models.specs.Reading.{at_end, held_at}
 use Rattle.handshake.specs.Effects.{after}
-use Rattle.handshake.specs.Telling.{telling}
 use Rattle.handshake.specs.declared.change.Change.TheVariants.{Create}
-use Rattle.handshake.specs.declared.happening.Happening.{Happening}
 use Rattle.handshake.specs.declared.happening.Telling.{Telling}
-use Rattle.handshake.proofs.HappenedLemmas.{done, happened_at}
+use Rattle.handshake.proofs.HappenedLemmas.{at-own, happened_at}
 
 -- what tellings do is what is between two models
 abbrev pub Replays : Model → List Telling → Model → Type 0
@@ -112,14 +111,13 @@ held_at-put s o f h (node.Object p) g live =
 held_at-put s o f h (node.Resource k) g live = refl
 
 -- what happens at an attribute is what is put
-pub put-replays : (s : Model) (o : ObjectNo) (f : FeatureNo) (x : Happening) (h : Stored) → IsTrue (is_some ((reading s).class o))
-    → ((vs : List Value) (k : Held) → done (shape s.metamodel f) x k ≡ held_of (shape s.metamodel f) vs h) → Replays s (telling (at_end (node.Object o) f) x ∷ []) (with_put s o f h)
-put-replays s o f x h live does d =
+pub put-replays : (s : Model) (o : ObjectNo) (f : FeatureNo) (own : List Telling) (h : Stored) → IsTrue (is_some ((reading s).class o)) → AllByRecursion (λ (t : Telling). t.at ≡ at_end (node.Object o) f) own
+    → ((vs : List Value) → happened_at s.metamodel own (at_end (node.Object o) f) (held_at (reading s) (at_end (node.Object o) f)) ≡ held_of (shape s.metamodel f) vs h) → Replays s own (with_put s o f h)
+put-replays s o f own h live here does d =
     let m = s.metamodel in
     let e = at_end (node.Object o) f in
-    elim (same_end e d) as (λ b. same_end e d ≡ b → (if b then done (shape m d.feature) x (held_at (reading s) d) else held_at (reading s) d) ≡ (if b then held_of (shape m d.feature) (end s.links d) h else held_at (reading s) d)) [
-      | true ↦ λ same. ap (λ (y : End). done (shape m y.feature) x (held_at (reading s) d)) (sym (same_end-true e d same)) ∙ does (end s.links d) (held_at (reading s) d)
-          ∙ ap (λ (y : End). held_of (shape m y.feature) (end s.links d) h) (same_end-true e d same)
-      | false ↦ λ _. refl
+    elim (same_end e d) as (λ b. same_end e d ≡ b → happened_at m own d (held_at (reading s) d) ≡ (if b then held_of (shape m d.feature) (end s.links d) h else held_at (reading s) d)) [
+      | true ↦ λ same. subst (λ (y : End). happened_at m own y (held_at (reading s) y) ≡ held_of (shape m y.feature) (end s.links y) h) (same_end-true e d same) (does (end s.links e))
+      | false ↦ λ other. at-own m e d own (held_at (reading s) d) here other
     ] refl
     ∙ sym (held_at-put s o f h d.node d.feature live)

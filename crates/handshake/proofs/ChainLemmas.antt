@@ -1,9 +1,12 @@
 -- The chain of a change, replayed at each end, gives what the end holds after it.
-use Rattle.std.proofs.Common.{◌≡◌, Bool, true, false, ◌||◌, not, IsTrue, List, [], ◌∷◌, ◌++◌, length, Option, Some, None, is_some, if◌then◌else◌, refl, sym, ap, ◌∙◌, subst}
+use Rattle.std.proofs.Common.{◌≡◌, ℕ, zero, suc, ◌≤◌, nat_le, nat_lt, pos, insert, remove, length, slice_get, slice_index_or, option_map, option_to_list, arith, Bool, true, false, ◌||◌, not, List, [], ◌∷◌, ◌++◌, map, Option, Some, None, if◌then◌else◌, refl, sym, ap, ◌∙◌, subst}
+use Rattle.std.specs.List.{AllByRecursion, list_any}
 use Rattle.std.specs.Option.{option_map_or}
-use Rattle.std.proofs.lemmas.Bool.{false≢true}
-use Rattle.std.proofs.lemmas.Option.{none-some}
-use Rattle.mm_types.specs.Ends.{Ends, Held}
+use Rattle.std.proofs.lemmas.Bool.{false≢true, or_left, or_right, true≢false}
+use Rattle.std.proofs.lemmas.Bool.Decides.{nat_tests}
+use Rattle.std.proofs.lemmas.Option.{none-some, same_Some}
+use Rattle.mm_types.proofs.SameLemmas.{same_end-self}
+use Rattle.mm_types.specs.Ends.{Ends, Held, first_in}
 use Rattle.mm_types.specs.Lookups as lookups
 use Rattle.mm_types.specs.Resolved.{Metamodel}
 use Rattle.mm_types.specs.Shapes.{Shape, contents_shape, shape, shape_of}
@@ -18,67 +21,68 @@ use Rattle.mm_types.specs.declared.numbers.Node.TheVariants as node
 use Rattle.mm_types.specs.declared.numbers.ObjectNo.{ObjectNo}
 use Rattle.mm_types.specs.declared.value.Value.{Value}
 use Rattle.mm_types.specs.declared.value.Value.TheVariants as value
-use Rattle.mm_values.specs.Stored.{Stored, nothing_stored}
 use Rattle.mm_values.specs.Values.{ValuesState, applied}
-use Rattle.link_store.specs.Laws.{without_all}
-use Rattle.link_store.specs.Links.{Links, put}
-use Rattle.models.specs.Legal.{IsLegal}
-use Rattle.models.specs.Model.{Model, reading}
-use Rattle.models.specs.Reading.{at_end, class_has, has_feature, held_at, object_of}
-use Rattle.handshake.specs.Displaced.{cut_by_set, has_already, is_plain_set, ties_at, yields}
-use Rattle.handshake.specs.Effects.{after, put_values, value_edits, with_value, without_ties}
-use Rattle.handshake.specs.Laws.{ChainReplays}
+use Rattle.mm_values.specs.declared.edit.ValueEdit.{ValueEdit}
+use Rattle.mm_values.specs.declared.edit.ValueEdit.TheVariants.{InsertValue, MoveValue}
+use Rattle.link_store.proofs.CutLemmas.{end-shift_near, end-shift_other}
+use Rattle.link_store.proofs.CutNamedLemmas.{end-without_all}
+use Rattle.link_store.proofs.FilterLemmas.{remove-filter}
+use Rattle.link_store.specs.Laws.{is_named, without_all}
+use Rattle.link_store.specs.Links.{Links, end, put, shift}
+use Rattle.models.proofs.PlaceLemmas.{first-below}
+use Rattle.models.specs.Legal.{IsLegal, kinds_of}
+use Rattle.models.specs.Model.{Model, kept_flag, reading}
+use Rattle.models.specs.Reading.{Reading, at_end, first_at, has_feature, held_at, is_repeat, object_of, place_for}
+use Rattle.notice_chain.specs.Replay as replay
+use Rattle.notice_chain.specs.Replay.{moved}
+use Rattle.handshake.specs.Displaced.{cut_by_new, cut_by_set, has_already, is_plain_add, is_plain_set, same_link, tie, tie_in, ties_at, ties_backwards, yields}
+use Rattle.handshake.specs.Effects.{add_value, after, of_object, put_values, take_value, value_edits, with_value, without_ties}
+use Rattle.handshake.specs.Laws.{AreDifferent, ChainReplays}
 use Rattle.handshake.specs.Refusals.{early_refusal, late_refusal}
 use Rattle.handshake.specs.Telling.{telling}
-use Rattle.handshake.specs.Tellings.{before_gain, far_losses, tellings}
+use Rattle.handshake.specs.Tellings.{all_lost, before_gain, far_losses, gain_at, taken_out, tellings}
 use Rattle.handshake.specs.declared.change.Change.{Change}
-use Rattle.handshake.specs.declared.change.Change.TheVariants.{Create, Set, Unset}
+use Rattle.handshake.specs.declared.change.Change.TheVariants.{Create, Set, Unset, Add, Remove, RemoveValue, Move}
 use Rattle.handshake.specs.declared.happening.Happening.{Happening}
-use Rattle.handshake.specs.declared.happening.Happening.TheVariants.{Gains, Unsets}
+use Rattle.handshake.specs.declared.happening.Happening.TheVariants.{Gains, LosesAt, Moves, Unsets}
 use Rattle.handshake.specs.declared.happening.Telling.{Telling}
 use Rattle.handshake.specs.declared.tie.Tie.{Tie}
-use Rattle.handshake.proofs.AttributeLemmas.{Replays, create-replays, held_of, put-replays}
-use Rattle.handshake.proofs.CutEndLemmas.{reference-plain}
-use Rattle.handshake.proofs.CutTieLemmas.{pairs, plain-not, without_ties-pairs}
-use Rattle.handshake.proofs.HappenedLemmas.{done, happened_all-at}
-use Rattle.handshake.proofs.KnownLemmas.{feature-single, set-taken, set-there, unset-there}
+use Rattle.handshake.proofs.ApartLemmas.{backwards-here, tie_in-here, ties_at-here}
+use Rattle.handshake.proofs.AttributeLemmas.{Replays, create-replays}
+use Rattle.handshake.proofs.CutEndLemmas.{held-none, reference-plain, same-held}
+use Rattle.handshake.proofs.CutHeldLemmas.{all-left, held_in, near-gives}
+use Rattle.mm_types.specs.Same.{same_end}
+use Rattle.mm_types.specs.Lists.{put_back, shifted}
+use Rattle.handshake.proofs.CutTieLemmas.{Stands, all_at, any_append_left, any_push, backwards-different, filter_none, is_named-same_link, pairs, plain-not, same_link-self, tie_in-different, tie_in-stand, ties_at-different, ties_at-stand, ties_backwards-stand, values-linked, without_ties-pairs}
+use Rattle.handshake.proofs.HappenedLemmas.{at-own, done, happened_all-at, happened_at}
+use Rattle.handshake.proofs.KnownLemmas.{add-named, add-taken, kinds-are, move-named, move-placed, object-reference, remove-named, remove-placed, set-named, set-taken, take-named, unset-there}
+use Rattle.handshake.proofs.LinkLemmas.{IsNewLink, near-empty, without_displaced}
+use Rattle.handshake.proofs.ListReplayLemmas.{all_lost-own, list-added, list-moved, list-taken, list-unset, lost-done, one-done, own-one, single-set, single-unset}
 use Rattle.handshake.proofs.LossLemmas.{gained-single, lost}
-use Rattle.handshake.proofs.PlanLemmas.{near-empty}
-use Rattle.handshake.proofs.RelinkLemmas.{emptied-replays, kept-replays, linked-replays}
+use Rattle.handshake.proofs.PlanLemmas.{add-new, add-place, below, set-new}
+use Rattle.handshake.proofs.RelinkLemmas.{add-replays, at-each, cut-replays, kept-replays, list-held, set-replays}
 use Rattle.handshake.proofs.ReplayLemmas.{replayed_all-told}
+use Rattle.handshake.proofs.TellingLemmas.{get-place}
 
----------------------------------------------------------------- attributes
+---------------------------------------------------------------- ends that are emptied
 
-live-of : (m : Metamodel) (f : FeatureNo) (c : Option ClassNo) → option_map_or (λ k. class_has m k f) c false ≡ true → IsTrue (is_some c)
-live-of m f None has = absurd (false≢true has)
-live-of m f (Some k) has = refl
+-- an end whose links are all named is empty once they are cut
+all-named : (s : Model) (e : End) (ts : List Tie) → IsLegal s → ((k : ℕ) (w : Value) → slice_get (end s.links e) k ≡ Some w → list_any (same_link (reading s) (tie e w)) ts ≡ true) → end (without_all s.links (pairs ts)) e ≡ []
+all-named s e ts legal each =
+    let m = kinds_of s.metamodel in
+    end-without_all m (kinds-are s.metamodel legal.metamodel) s.links (pairs ts) legal.links.set legal.links.kinds e
+    ∙ filter_none (is_named m (pairs ts) e) (end s.links e) (all_at _ (end s.links e) (λ k w at. is_named-same_link (reading s) ts (tie e w) ∙ each k w at))
 
--- what is put where an attribute gains a value, and where it is unset
-abbrev value_stored : Shape → Value → Stored
-value_stored a v = record { list = v ∷ []; flag = a.is_unsettable }
+backwards-named : (r : Reading) (e : End) (vs : List Value) (k : ℕ) (w : Value) → slice_get vs k ≡ Some w → list_any (same_link r (tie e w)) (ties_backwards e vs) ≡ true
+backwards-named r e [] k w at = absurd (none-some w at)
+backwards-named r e (v ∷ vs) zero w at =
+    any_push (same_link r (tie e w)) (ties_backwards e vs) (tie e v) (subst (λ (x : Value). same_link r (tie e x) (tie e v) ≡ true) (same_Some v w at) (same_link-self r (tie e v)))
+backwards-named r e (v ∷ vs) (suc k) w at = any_append_left (same_link r (tie e w)) (ties_backwards e vs) (tie e v ∷ []) (backwards-named r e vs k w at)
 
-gain-stored : (a : Shape) (v : Value) (vs : List Value) (k : Held) → a.is_single ≡ true → a.is_reference ≡ false → done a (Gains v) k ≡ held_of a vs (value_stored a v)
-gain-stored a v vs k single attribute = rw (single, attribute) refl
-
-unset-stored : (a : Shape) (vs : List Value) (k : Held) → a.is_single ≡ true → a.is_reference ≡ false → done a Unsets k ≡ held_of a vs nothing_stored
-unset-stored a vs k single attribute = rw (single, attribute) refl
-
--- the model after values are put under a feature
-abbrev with_values : Model → Node → FeatureNo → List Value → Bool → Model
-with_values s n f vs flag = record s { values = applied s.values (put_values (at_end n f) vs flag) }
-
-module _ (s : Model) (f : FeatureNo) (attribute : (shape s.metamodel f).is_reference ≡ false) where
-  attribute-set : (n : Node) (v : Value) → has_feature (reading s) n f ≡ true → Replays s (telling (at_end n f) (Gains v) ∷ []) (with_values s n f (v ∷ []) (shape s.metamodel f).is_unsettable)
-  attribute-set (node.Object o) v has =
-      let a = shape s.metamodel f in
-      put-replays s o f (Gains v) (value_stored a v) (live-of s.metamodel f ((reading s).class o) has) (λ vs k. gain-stored a v vs k (feature-single (reading s) (node.Object o) f has) attribute)
-  attribute-set (node.Resource k) v has = absurd (false≢true has)
-
-  attribute-unset : (n : Node) → has_feature (reading s) n f ≡ true → Replays s (telling (at_end n f) Unsets ∷ []) (with_values s n f [] false)
-  attribute-unset (node.Object o) has =
-      let a = shape s.metamodel f in
-      put-replays s o f Unsets nothing_stored (live-of s.metamodel f ((reading s).class o) has) (λ vs k. unset-stored a vs k (feature-single (reading s) (node.Object o) f has) attribute)
-  attribute-unset (node.Resource k) has = absurd (false≢true has)
+map-named : (r : Reading) (e : End) (vs : List Value) (k : ℕ) (w : Value) → slice_get vs k ≡ Some w → list_any (same_link r (tie e w)) (map (tie e) vs) ≡ true
+map-named r e [] k w at = absurd (none-some w at)
+map-named r e (v ∷ vs) zero w at = or_left (same_link r (tie e w) (tie e v)) _ (subst (λ (x : Value). same_link r (tie e x) (tie e v) ≡ true) (same_Some v w at) (same_link-self r (tie e v)))
+map-named r e (v ∷ vs) (suc k) w at = or_right (same_link r (tie e w) (tie e v)) _ (map-named r e vs k w at)
 
 ---------------------------------------------------------------- references
 
@@ -105,93 +109,170 @@ null-taken m class f v reference h none = by (lookups.feature m f) reference h
     by None reference h = object-value v h none
     by (Some x) reference h = null-of_kind m class f x x.kind v reference h none
 
-module _ (s : Model) (e : End) (legal : IsLegal s) (reference : (shape s.metamodel e.feature).is_reference ≡ true) (has : has_feature (reading s) e.node e.feature ≡ true) where
-  -- null takes a reference's object away, and so does unsetting it
-  null-lost : (v : Value) (k : Held) → v ≡ value.Null → done (shape s.metamodel e.feature) (Gains v) k ≡ lost (shape s.metamodel e.feature)
-  null-lost v k is =
-      let a = shape s.metamodel e.feature in
-      ap (λ (w : Value). done a (Gains w) k) is ∙ gained-single a value.Null k (feature-single (reading s) e.node e.feature has)
+-- the model with other links
+abbrev relinked : Model → Links → Model
+relinked s t = record s { links = t }
 
-  unset-lost : (k : Held) → done (shape s.metamodel e.feature) Unsets k ≡ lost (shape s.metamodel e.feature)
-  unset-lost k = let plain = reference-plain s.metamodel e.feature reference in λ i. record { values = plain.1 i ∷ []; flag = sym plain.0 i }
+relinked-by : (s : Model) (ts : List Telling) (t u : Links) → t ≡ u → Replays s ts (relinked s t) → Replays s ts (relinked s u)
+relinked-by s ts t u same = subst (λ (x : Links). Replays s ts (relinked s x)) same
 
-  -- the model with other links
-  abbrev pub relinked : Links → Model
-  relinked t = record s { links = t }
+module _ (s : Model) (legal : IsLegal s) (e : End) (reference : (shape s.metamodel e.feature).is_reference ≡ true) where
+  abbrev r : Reading
+  r = reading s
 
-  relinked-by : (ts : List Telling) (t u : Links) → t ≡ u → Replays s ts (relinked t) → Replays s ts (relinked u)
-  relinked-by ts t u same = subst (λ (x : Links). Replays s ts (relinked x)) same
+  abbrev a : Shape
+  a = shape s.metamodel e.feature
 
-  -- the losses at the far ends, and then this at the near end
-  abbrev pub emptying : Happening → List Telling
-  emptying x = far_losses (reading s) (ties_at (reading s) e) ++ telling e x ∷ []
+  -- what the far ends of cut links lose, and then the end itself
+  cut-tells : (ts : List Tie) → AllByRecursion (λ (t : Tie). t.end ≡ e) ts → AreDifferent r ts → AllByRecursion (Stands s.links) ts → (own : List Telling) → AllByRecursion (λ (t : Telling). t.at ≡ e) own
+      → happened_at s.metamodel own e (held_at r e) ≡ held_in s (without_all s.links (pairs ts)) e → Replays s (far_losses r ts ++ own) (relinked s (without_ties s.links ts))
+  cut-tells ts here different stand own own_here makes =
+      relinked-by s (far_losses r ts ++ own) (without_all s.links (pairs ts)) (without_ties s.links ts) (sym (without_ties-pairs s.links ts)) (cut-replays s legal e ts here different stand own own_here makes)
 
-  emptying-replays : (x : Happening) → ((k : Held) → done (shape s.metamodel e.feature) x k ≡ lost (shape s.metamodel e.feature)) → Replays s (emptying x) (relinked (without_ties s.links (ties_at (reading s) e)))
-  emptying-replays x does =
-      let ts = ties_at (reading s) e in
-      relinked-by (emptying x) (without_all s.links (pairs ts)) (without_ties s.links ts) (sym (without_ties-pairs s.links ts))
-      (emptied-replays s e legal reference (feature-single (reading s) e.node e.feature has) x does)
+  -- a single end is emptied
+  null-replays : a.is_single ≡ true → (x : Happening) → ((k : Held) → done a x k ≡ lost a) → Replays s (far_losses r (ties_at r e) ++ telling e x ∷ []) (relinked s (without_ties s.links (ties_at r e)))
+  null-replays single x does =
+      let ts = ties_at r e in
+      let none : end (without_all s.links (pairs ts)) e ≡ [] = all-named s e ts legal (λ k w at. map-named r e (r.values e) k w (subst (λ (vs : List Value). slice_get vs k ≡ Some w) (sym (values-linked s e reference)) at)) in
+      cut-tells ts (ties_at-here r e) (ties_at-different s e legal reference single) (ties_at-stand s e reference) (telling e x ∷ []) (own-one e x)
+      (one-done s.metamodel e x (held_at r e) ∙ does (held_at r e) ∙ held-none s (without_all s.links (pairs ts)) e legal reference single none)
 
-  null-replays : (v : Value) → v ≡ value.Null → Replays s (emptying (Gains v)) (relinked (without_ties s.links (ties_at (reading s) e)))
-  null-replays v is = emptying-replays (Gains v) (λ k. null-lost v k is)
+  all-gone : end (without_all s.links (pairs (ties_backwards e (r.values e)))) e ≡ []
+  all-gone = all-named s e (ties_backwards e (r.values e)) legal (λ k w at. backwards-named r e (r.values e) k w (subst (λ (vs : List Value). slice_get vs k ≡ Some w) (sym (values-linked s e reference)) at))
 
-  pub unset-replays : Replays s (emptying Unsets) (relinked (without_ties s.links (ties_at (reading s) e)))
-  unset-replays = emptying-replays Unsets unset-lost
+  backwards-apart : AreDifferent r (ties_backwards e (r.values e))
+  backwards-apart = subst (λ (vs : List Value). AreDifferent r (ties_backwards e vs)) (sym (values-linked s e reference)) (backwards-different s e (end s.links e) legal (legal.links.set.placed.distinct e))
 
-  -- nothing stands at the end where the new link is put
-  put-same : (o : ObjectNo) → put (without_all s.links (pairs (yields (reading s) e o))) e 0 o (shape s.metamodel e.feature).opposite (shape s.metamodel e.feature).containing ≡ with_value (without_ties s.links (yields (reading s) e o)) (reading s) e (value.Object o)
-  put-same o =
-      let t = without_all s.links (pairs (yields (reading s) e o)) in
-      let a = shape s.metamodel e.feature in
-      ap (λ (vs : List Value). put t e (length vs) o a.opposite a.containing) (sym (near-empty s legal e o reference has))
-      ∙ ap (λ (t : Links). with_value t (reading s) e (value.Object o)) (sym (without_ties-pairs s.links (yields (reading s) e o)))
+  -- so is one that is unset
+  single-unset_link : a.is_single ≡ true → Replays s (far_losses r (ties_backwards e (r.values e)) ++ telling e Unsets ∷ []) (relinked s (without_ties s.links (ties_backwards e (r.values e))))
+  single-unset_link single =
+      let ts = ties_backwards e (r.values e) in
+      let plain = reference-plain s.metamodel e.feature reference in
+      let lost-so : (k : Held) → done a Unsets k ≡ lost a = λ k i. record { values = plain.1 i ∷ []; flag = sym plain.0 i } in
+      cut-tells ts (backwards-here e (r.values e)) backwards-apart (ties_backwards-stand s e reference) (telling e Unsets ∷ []) (own-one e Unsets)
+      (one-done s.metamodel e Unsets (held_at r e) ∙ lost-so (held_at r e) ∙ held-none s (without_all s.links (pairs ts)) e legal reference single all-gone)
 
-  -- a set that is not plain
-  pub new-replays : (v : Value) → lookups.takes s.metamodel (reading s).class e.feature v ≡ true
-      → Replays s (before_gain (reading s) e v (cut_by_set (reading s) e v) ++ telling e (Gains v) ∷ []) (relinked (with_value (without_ties s.links (cut_by_set (reading s) e v)) (reading s) e v))
-  new-replays (value.Object o) takes =
-      let r = reading s in
-      let ts = yields r e o in
-      let a = shape s.metamodel e.feature in
-      relinked-by (before_gain r e (value.Object o) ts ++ telling e (Gains (value.Object o)) ∷ []) (put (without_all s.links (pairs ts)) e 0 o a.opposite a.containing)
-      (with_value (without_ties s.links ts) r e (value.Object o)) (put-same o) (linked-replays s e o legal reference has)
-  new-replays v takes = null-replays v (null-taken s.metamodel (reading s).class e.feature v reference takes refl)
+  -- a list that is unset loses each value
+  many-unset_link : a.is_single ≡ false → Replays s (far_losses r (ties_backwards e (r.values e)) ++ all_lost e (length (r.values e))) (relinked s (without_ties s.links (ties_backwards e (r.values e))))
+  many-unset_link many =
+      let ts = ties_backwards e (r.values e) in
+      let n = length (r.values e) in
+      let b = kept_flag s.values e.node e.feature in
+      cut-tells ts (backwards-here e (r.values e)) backwards-apart (ties_backwards-stand s e reference) (all_lost e n) (all_lost-own e n)
+      (ap (happened_at s.metamodel (all_lost e n) e) (list-held s s.links e reference many)
+      ∙ lost-done s.metamodel e n (end s.links e) b many (sym (ap (λ (vs : List Value). length vs) (values-linked s e reference)))
+      ∙ sym (list-held s (without_all s.links (pairs ts)) e reference many ∙ ap (λ (vs : List Value). record { values = vs; flag = b }) all-gone))
 
----------------------------------------------------------------- changes
+  -- one value is taken out of a list
+  take-link : (i : ℕ) → a.is_single ≡ false → nat_lt i (length (r.values e)) ≡ true → Replays s (taken_out r e (tie_in r e i) i) (relinked s (without_ties s.links (tie_in r e i)))
+  take-link i many low =
+      let vs = end s.links e in
+      let b = kept_flag s.values e.node e.feature in
+      let below_links = subst (λ (ws : List Value). nat_lt i (length ws) ≡ true) (values-linked s e reference) low in
+      let v = slice_index_or vs i value.Null in
+      let at = get-place vs i value.Null (below i (length vs) below_links) in
+      let one : tie_in r e i ≡ tie e v ∷ [] = ap (λ (ws : List Value). option_to_list (option_map (tie e) (slice_get ws i))) (values-linked s e reference) ∙ ap (λ (q : Option Value). option_to_list (option_map (tie e) q)) at in
+      let cut : end (without_all s.links (pairs (tie_in r e i))) e ≡ remove vs i =
+      ap (λ (ts : List Tie). end (without_all s.links (pairs ts)) e) one ∙ near-gives s legal s.links e v (all-left s legal) (i, at) ∙ sym (remove-filter vs i v (legal.links.set.placed.distinct e) at) in
+      cut-tells (tie_in r e i) (tie_in-here r e i) (tie_in-different r e i) (tie_in-stand s e i reference) (telling e (LosesAt i) ∷ []) (own-one e (LosesAt i))
+      (one-done s.metamodel e (LosesAt i) (held_at r e)
+      ∙ ap (done a (LosesAt i)) (list-held s s.links e reference many)
+      ∙ ap (λ (x : Bool). record { values = if x then remove vs i else vs; flag = b }) below_links
+      ∙ sym (list-held s (without_all s.links (pairs (tie_in r e i))) e reference many ∙ ap (λ (ws : List Value). record { values = ws; flag = b }) cut))
+
+  -- and one is moved
+  move-link : (to from : ℕ) → a.is_single ≡ false → nat_lt to (length (r.values e)) ≡ true → nat_lt from (length (r.values e)) ≡ true → Replays s (telling e (Moves to from) ∷ []) (relinked s (shift s.links e to from))
+  move-link to from many low_to low_from d =
+      let vs = end s.links e in
+      let b = kept_flag s.values e.node e.feature in
+      let linked = values-linked s e reference in
+      let to_links = subst (λ (ws : List Value). nat_lt to (length ws) ≡ true) linked low_to in
+      let from_links = subst (λ (ws : List Value). nat_lt from (length ws) ≡ true) linked low_from in
+      let placed = legal.links.set.placed in
+      at-each (λ y. happened_at s.metamodel (telling e (Moves to from) ∷ []) y (held_at r y) ≡ held_in s (shift s.links e to from) y) e d
+      (one-done s.metamodel e (Moves to from) (held_at r e)
+      ∙ ap (done a (Moves to from)) (list-held s s.links e reference many)
+      ∙ ap (λ (ws : List Value). record { values = ws; flag = b }) (moved-linked vs to from to_links from_links)
+      ∙ sym (list-held s (shift s.links e to from) e reference many ∙ ap (λ (ws : List Value). record { values = ws; flag = b }) (end-shift_near s.links placed e to from (below from _ from_links) (below to _ to_links))))
+      (λ other.
+      at-own s.metamodel e d (telling e (Moves to from) ∷ []) (held_at r d) (own-one e (Moves to from)) other
+      ∙ same-held s s.links (shift s.links e to from) d (sym (end-shift_other s.links placed e to from (below from _ from_links) (below to _ to_links) d (λ same. true≢false (sym (same_end-self e) ∙ ap (same_end e) same ∙ other)))))
+    where
+      moved-linked : (vs : List Value) (to from : ℕ) → nat_lt to (length vs) ≡ true → nat_lt from (length vs) ≡ true → moved vs (pos from) (pos to) ≡ shifted vs to from
+      moved-linked vs to from low_to low_from =
+          ap (λ (b : Bool). if b then (if nat_lt to (length vs) then replay.shifted vs to from else vs) else vs) low_from
+          ∙ ap (λ (b : Bool). if b then replay.shifted vs to from else vs) low_to
+          ∙ elim (slice_get vs from) as (λ q. option_map_or (λ x. insert (remove vs from) to x) q vs ≡ put_back q vs to from) [ None ↦ refl | Some v ↦ refl ]
+
+---------------------------------------------------------------- changes of a reference, and of an attribute
 
 right-of : (a b : Bool) → a ≡ true → (not a || b) ≡ true → b ≡ true
 right-of a b is h = subst (λ (x : Bool). (not x || b) ≡ true) is h
 
--- an attribute is put, or a reference has the value already
-plain-replays : (s : Model) (n : Node) (f : FeatureNo) (v : Value) → IsLegal s → has_feature (reading s) n f ≡ true → is_plain_set (reading s) (at_end n f) v ≡ true
+-- a node that has a feature is an object
+by-object : (s : Model) (f : FeatureNo) (P : Node → Type 0) → ((o : ObjectNo) → has_feature (reading s) (node.Object o) f ≡ true → P (node.Object o)) → (n : Node) → has_feature (reading s) n f ≡ true → P n
+by-object s f P each (node.Object o) has = each o has
+by-object s f P each (node.Resource k) has = absurd (false≢true has)
+
+---------------------------------------------------------------- each change
+
+-- a set that is plain: of an attribute, or to the value that is there
+plain-set : (s : Model) (n : Node) (f : FeatureNo) (v : Value) → IsLegal s → has_feature (reading s) n f ≡ true → (shape s.metamodel f).is_single ≡ true → is_plain_set (reading s) (at_end n f) v ≡ true
     → Replays s (telling (at_end n f) (Gains v) ∷ []) (record s { values = applied s.values (value_edits (reading s) (Set n f v)) })
-plain-replays s n f v legal has plain =
+plain-set s n f v legal has single plain =
     let e = at_end n f in
     let a = shape s.metamodel f in
     elim a.is_reference as (λ b. a.is_reference ≡ b → Replays s (telling e (Gains v) ∷ []) (record s { values = applied s.values (if b then [] else put_values e (v ∷ []) a.is_unsettable) })) [
-      | true ↦ λ reference. kept-replays s e legal reference (feature-single (reading s) n f has) v (right-of a.is_reference (has_already (reading s) e v) reference plain)
-      | false ↦ λ attribute. attribute-set s f attribute n v has
+      | true ↦ λ reference. kept-replays s e legal reference single v (right-of a.is_reference (has_already (reading s) e v) reference plain)
+      | false ↦ λ attribute. by-object s f (λ n. Replays s (telling (at_end n f) (Gains v) ∷ []) (record s { values = applied s.values (put_values (at_end n f) (v ∷ []) a.is_unsettable) })) (λ o has. single-set s legal o f has attribute v single) n has
     ] refl
 
--- a change of a reference puts no value
-no-values : (s : Model) (n : Node) (f : FeatureNo) (v : Value) → (shape s.metamodel f).is_reference ≡ true → s.values ≡ applied s.values (value_edits (reading s) (Set n f v))
-no-values s n f v reference = let a = shape s.metamodel f in ap (λ b. applied s.values (if b then [] else put_values (at_end n f) (v ∷ []) a.is_unsettable)) (sym reference)
+-- nothing stands at a single end where its new link is put
+new-put_set : (s : Model) (legal : IsLegal s) (e : End) (o : ObjectNo) (new : IsNewLink s e o) → (shape s.metamodel e.feature).is_single ≡ true
+    → put (without_displaced s e o) e 0 o (shape s.metamodel e.feature).opposite (shape s.metamodel e.feature).containing ≡ with_value (without_ties s.links (yields (reading s) e o)) (reading s) e None (value.Object o)
+new-put_set s legal e o new single =
+    let t = without_displaced s e o in
+    let a = shape s.metamodel e.feature in
+    ap (λ (vs : List Value). put t e (length vs) o a.opposite a.containing) (sym (near-empty s legal e o new single))
+    ∙ ap (λ (t : Links). with_value t (reading s) e None (value.Object o)) (sym (without_ties-pairs s.links (yields (reading s) e o)))
 
-set-replays : (s : Model) (n : Node) (f : FeatureNo) (v : Value) → IsLegal s → has_feature (reading s) n f ≡ true → lookups.takes s.metamodel (reading s).class f v ≡ true
-    → Replays s (tellings (reading s) (Set n f v)) (after s (Set n f v))
-set-replays s n f v legal has takes =
+-- a set that is not
+new-set : (s : Model) (n : Node) (f : FeatureNo) (v : Value) → IsLegal s → early_refusal (reading s) (Set n f v) ≡ None → late_refusal (reading s) (Set n f v) ≡ None → is_plain_set (reading s) (at_end n f) v ≡ false
+    → (let e = at_end n f in Replays s (before_gain (reading s) e v (cut_by_set (reading s) e v) ++ telling e (Gains v) ∷ []) (relinked s (with_value (without_ties s.links (cut_by_set (reading s) e v)) (reading s) e None v)))
+new-set s n f (value.Object o) legal early late h =
+    let e = at_end n f in
+    let r = reading s in
+    let a = shape s.metamodel f in
+    let new = set-new s n f o legal early late h in
+    let single = (set-named r n f (value.Object o) early).single in
+    relinked-by s (before_gain r e (value.Object o) (yields r e o) ++ telling e (Gains (value.Object o)) ∷ []) (put (without_displaced s e o) e 0 o a.opposite a.containing)
+    (with_value (without_ties s.links (yields r e o)) r e None (value.Object o)) (new-put_set s legal e o new single) (set-replays s legal e o new single)
+new-set s n f v legal early late h =
+    let e = at_end n f in
+    let a = shape s.metamodel f in
+    let reference = (plain-not a.is_reference (has_already (reading s) e v) h).0 in
+    let single = (set-named (reading s) n f v early).single in
+    let is = null-taken s.metamodel (reading s).class f v reference (set-taken (reading s) n f v late).takes refl in
+    null-replays s legal e reference single (Gains v) (λ k. ap (λ (w : Value). done a (Gains w) k) is ∙ gained-single a value.Null k single)
+
+-- a change of a reference puts no value
+no-values : (s : Model) (f : FeatureNo) (es : List ValueEdit) → (shape s.metamodel f).is_reference ≡ true → s.values ≡ applied s.values (if (shape s.metamodel f).is_reference then [] else es)
+no-values s f es reference = ap (λ b. applied s.values (if b then [] else es)) (sym reference)
+
+set-changes : (s : Model) (n : Node) (f : FeatureNo) (v : Value) → IsLegal s → early_refusal (reading s) (Set n f v) ≡ None → late_refusal (reading s) (Set n f v) ≡ None → Replays s (tellings (reading s) (Set n f v)) (after s (Set n f v))
+set-changes s n f v legal early late =
     let r = reading s in
     let e = at_end n f in
     let vs = applied s.values (value_edits r (Set n f v)) in
     let cut : Bool → List Tie = λ b. if b then [] else cut_by_set r e v in
     elim (is_plain_set r e v) as (λ b. is_plain_set r e v ≡ b → Replays s ((if b then [] else before_gain r e v (cut b)) ++ telling e (Gains v) ∷ [])
-    (record s { values = vs; links = if b then without_ties s.links (cut b) else with_value (without_ties s.links (cut b)) r e v })) [
-      | true ↦ λ plain. plain-replays s n f v legal has plain
+    (record s { values = vs; links = if b then without_ties s.links (cut b) else with_value (without_ties s.links (cut b)) r e None v })) [
+      | true ↦ λ plain. plain-set s n f v legal (set-named r n f v early).there (set-named r n f v early).single plain
       | false ↦ λ new.
           let reference = (plain-not (shape s.metamodel f).is_reference (has_already r e v) new).0 in
-          let t = with_value (without_ties s.links (cut_by_set r e v)) r e v in
-          subst (λ (x : ValuesState). Replays s (before_gain r e v (cut_by_set r e v) ++ telling e (Gains v) ∷ []) (record s { values = x; links = t })) (no-values s n f v reference)
-          (new-replays s e legal reference has v takes)
+          let t = with_value (without_ties s.links (cut_by_set r e v)) r e None v in
+          subst (λ (x : ValuesState). Replays s (before_gain r e v (cut_by_set r e v) ++ telling e (Gains v) ∷ []) (record s { values = x; links = t })) (no-values s f (put_values e (v ∷ []) (shape s.metamodel f).is_unsettable) reference)
+          (new-set s n f v legal early late new)
     ] refl
 
 unset-changes : (s : Model) (n : Node) (f : FeatureNo) → IsLegal s → has_feature (reading s) n f ≡ true → Replays s (tellings (reading s) (Unset n f)) (after s (Unset n f))
@@ -199,17 +280,140 @@ unset-changes s n f legal has =
     let r = reading s in
     let e = at_end n f in
     let a = shape s.metamodel f in
-    let cut : Bool → List Tie = λ b. if b then ties_at r e else [] in
-    elim a.is_reference as (λ b. a.is_reference ≡ b → Replays s (far_losses r (cut b) ++ telling e Unsets ∷ [])
+    let cut : Bool → List Tie = λ b. if b then ties_backwards e (r.values e) else [] in
+    let own : Bool → List Telling = λ b. if b then telling e Unsets ∷ [] else all_lost e (length (r.values e)) in
+    elim a.is_reference as (λ b. a.is_reference ≡ b → Replays s (far_losses r (cut b) ++ own a.is_single)
     (record s { values = applied s.values (if b then [] else put_values e [] false); links = without_ties s.links (cut b) })) [
-      | true ↦ λ reference. unset-replays s e legal reference has
-      | false ↦ λ attribute. attribute-unset s f attribute n has
+      | true ↦ λ reference. elim a.is_single as (λ c. a.is_single ≡ c → Replays s (far_losses r (cut true) ++ own c) (record s { links = without_ties s.links (cut true) })) [
+        | true ↦ λ single. single-unset_link s legal e reference single
+        | false ↦ λ many. many-unset_link s legal e reference many
+      ] refl
+      | false ↦ λ attribute. elim a.is_single as (λ c. a.is_single ≡ c → Replays s (own c) (record s { values = applied s.values (put_values e [] false) })) [
+        | true ↦ λ single. by-object s f (λ n. Replays s (telling (at_end n f) Unsets ∷ []) (record s { values = applied s.values (put_values (at_end n f) [] false) })) (λ o has. single-unset s legal o f has attribute single) n has
+        | false ↦ λ many. by-object s f (λ n. Replays s (all_lost (at_end n f) (length (r.values (at_end n f)))) (record s { values = applied s.values (put_values (at_end n f) [] false) })) (λ o has. list-unset s legal o f has attribute many) n has
+      ] refl
+    ] refl
+
+-- a new link in a list
+new-add : (s : Model) (n : Node) (f : FeatureNo) (v : Value) (i : Option ℕ) → IsLegal s → early_refusal (reading s) (Add n f v i) ≡ None → late_refusal (reading s) (Add n f v i) ≡ None → is_plain_add (reading s) (at_end n f) v ≡ false
+    → (let e = at_end n f in Replays s (before_gain (reading s) e v (cut_by_new (reading s) e v) ++ telling e (gain_at i v) ∷ []) (relinked s (with_value (without_ties s.links (cut_by_new (reading s) e v)) (reading s) e i v)))
+new-add s n f (value.Object o) i legal early late h =
+    let e = at_end n f in
+    let r = reading s in
+    let a = shape s.metamodel f in
+    let new = add-new s n f o i early late h in
+    let many = (add-named r n f (value.Object o) i early).single in
+    let at = add-place s n f o i legal early late h in
+    let k = place_for r e i in
+    relinked-by s (before_gain r e (value.Object o) (yields r e o) ++ telling e (gain_at i (value.Object o)) ∷ []) (put (without_displaced s e o) e k o a.opposite a.containing)
+    (with_value (without_ties s.links (yields r e o)) r e i (value.Object o))
+    (ap (λ (x : ℕ). put (without_displaced s e o) e x o a.opposite a.containing) at.1 ∙ ap (λ (t : Links). with_value t r e i (value.Object o)) (sym (without_ties-pairs s.links (yields r e o))))
+    (add-replays s legal e o new i k many at.0 at.1)
+new-add s n f v i legal early late h =
+    let both = plain-not (shape s.metamodel f).is_reference (is_repeat (reading s) (at_end n f) v) h in
+    absurd (not-null s f v both.0 (add-named (reading s) n f v i early).single (add-taken (reading s) n f v i late).takes refl)
+  where
+    null-kind : (m : Metamodel) (class : ObjectNo → Option ClassNo) (f : FeatureNo) (x : Feature) (k : Kind) → (shape_of m f x k).is_reference ≡ true → (shape_of m f x k).is_single ≡ false → lookups.is_of_kind m class (lookups.is_single x) k value.Null ≡ true → ⊥
+    null-kind m class f x (Attribute t unique unsettable default) reference many h = false≢true reference
+    null-kind m class f x (Reference target containment opposite) reference many h = false≢true (sym many ∙ h)
+
+    null-many : (m : Metamodel) (class : ObjectNo → Option ClassNo) (f : FeatureNo) → (shape m f).is_reference ≡ true → (shape m f).is_single ≡ false → lookups.takes m class f value.Null ≡ true → ⊥
+    null-many m class f reference many h = by (lookups.feature m f) reference many h
+      where
+        by : (x : Option Feature) → (option_map_or (λ g. shape_of m f g g.kind) x (contents_shape m)).is_reference ≡ true → (option_map_or (λ g. shape_of m f g g.kind) x (contents_shape m)).is_single ≡ false
+            → option_map_or (λ g. lookups.is_of_kind m class (lookups.is_single g) g.kind value.Null) x (lookups.is_object value.Null) ≡ true → ⊥
+        by None reference many h = false≢true h
+        by (Some x) reference many h = null-kind m class f x x.kind reference many h
+
+    -- a list of a reference takes objects alone
+    not-null : (s : Model) (f : FeatureNo) (v : Value) → (shape s.metamodel f).is_reference ≡ true → (shape s.metamodel f).is_single ≡ false → lookups.takes s.metamodel (reading s).class f v ≡ true → object_of v ≡ None → ⊥
+    not-null s f v reference many takes none =
+        null-many s.metamodel (reading s).class f reference many (subst (λ (w : Value). lookups.takes s.metamodel (reading s).class f w ≡ true) (null-taken s.metamodel (reading s).class f v reference takes none) takes)
+
+-- a value that is added to an attribute
+attribute-add : (s : Model) (n : Node) (f : FeatureNo) (v : Value) (i : Option ℕ) → IsLegal s → early_refusal (reading s) (Add n f v i) ≡ None → late_refusal (reading s) (Add n f v i) ≡ None → (shape s.metamodel f).is_reference ≡ false → is_repeat (reading s) (at_end n f) v ≡ false
+    → Replays s (before_gain (reading s) (at_end n f) v [] ++ telling (at_end n f) (gain_at i v) ∷ []) (record s { values = applied s.values (add_value (reading s) (at_end n f) v i) })
+attribute-add s (node.Resource k) f v i legal early late attribute new = absurd (false≢true (add-named (reading s) (node.Resource k) f v i early).there)
+attribute-add s (node.Object o) f (value.Object p) i legal early late attribute new =
+    absurd (false≢true (sym attribute ∙ object-reference s.metamodel (reading s).class f p (add-taken (reading s) (node.Object o) f (value.Object p) i late).takes))
+attribute-add s (node.Object o) f v i legal early late attribute new =
+    let r = reading s in
+    let e = at_end (node.Object o) f in
+    let named = add-named r (node.Object o) f v i early in
+    let low = (add-taken r (node.Object o) f v i late).placed in
+    let a = shape s.metamodel f in
+    subst (λ (b : Bool). Replays s (telling e (gain_at i v) ∷ []) (record s { values = applied s.values (if b then [] else InsertValue o f (place_for r e i) v a.is_unique ∷ []) })) (sym new)
+    (list-added s legal o f named.there attribute named.single v i (place_for r e i) refl (below_or _ _ low))
+  where
+    below_or : (k n : ℕ) → nat_le k n ≡ true → k ≤ n
+    below_or k n h = grind (arith, nat_tests)
+
+add-changes : (s : Model) (n : Node) (f : FeatureNo) (v : Value) (i : Option ℕ) → IsLegal s → early_refusal (reading s) (Add n f v i) ≡ None → late_refusal (reading s) (Add n f v i) ≡ None → Replays s (tellings (reading s) (Add n f v i)) (after s (Add n f v i))
+add-changes s n f v i legal early late =
+    let r = reading s in
+    let e = at_end n f in
+    let a = shape s.metamodel f in
+    let edits : Bool → List ValueEdit = λ c. if c then [] else of_object n (λ o. InsertValue o f (place_for r e i) v a.is_unique) in
+    let cut : Bool → Bool → List Tie = λ b c. if not b || c then [] else cut_by_new r e v in
+    let made : Bool → Bool → Links = λ b c. let t = without_ties s.links (cut b c) in if not b || c then t else with_value t r e i v in
+    elim (is_repeat r e v) as (λ c. is_repeat r e v ≡ c → Replays s (if c then [] else before_gain r e v (cut a.is_reference c) ++ telling e (gain_at i v) ∷ []) (record s { values = applied s.values (if a.is_reference then [] else edits c); links = made a.is_reference c })) [
+      | true ↦ λ _. elim a.is_reference as (λ b. Replays s [] (record s { values = applied s.values (if b then [] else []); links = made b true })) [ true ↦ λ d. refl | false ↦ λ d. refl ]
+      | false ↦ λ new. elim a.is_reference as (λ b. a.is_reference ≡ b → Replays s (before_gain r e v (cut b false) ++ telling e (gain_at i v) ∷ []) (record s { values = applied s.values (if b then [] else edits false); links = made b false })) [
+        | true ↦ λ reference. new-add s n f v i legal early late (λ j. not (reference j) || new j)
+        | false ↦ λ attribute. subst (λ (c : Bool). Replays s (before_gain r e v [] ++ telling e (gain_at i v) ∷ []) (record s { values = applied s.values (edits c) })) new (attribute-add s n f v i legal early late attribute new)
+      ] refl
+    ] refl
+
+-- the value at a place is taken out
+take-changes : (s : Model) (n : Node) (f : FeatureNo) (i : ℕ) → IsLegal s → has_feature (reading s) n f ≡ true → (shape s.metamodel f).is_single ≡ false → nat_lt i (length ((reading s).values (at_end n f))) ≡ true
+    → (let r = reading s in let e = at_end n f in let cut = if (shape s.metamodel f).is_reference then tie_in r e i else [] in
+    Replays s (taken_out r e cut i) (record s { values = applied s.values (if (shape s.metamodel f).is_reference then [] else take_value e i); links = without_ties s.links cut }))
+take-changes s n f i legal has many low =
+    let r = reading s in
+    let e = at_end n f in
+    elim (shape s.metamodel f).is_reference as (λ b. (shape s.metamodel f).is_reference ≡ b → Replays s (taken_out r e (if b then tie_in r e i else []) i) (record s { values = applied s.values (if b then [] else take_value e i); links = without_ties s.links (if b then tie_in r e i else []) })) [
+      | true ↦ λ reference. take-link s legal e reference i many low
+      | false ↦ λ attribute. by-object s f (λ n. nat_lt i (length (r.values (at_end n f))) ≡ true → Replays s (telling (at_end n f) (LosesAt i) ∷ []) (record s { values = applied s.values (take_value (at_end n f) i) })) (λ o has low. list-taken s legal o f has attribute many i low) n has low
+    ] refl
+
+-- a value that first stands at a place is there
+first-low : (vs : List Value) (v : Value) (i : ℕ) → first_in vs v ≡ Some i → nat_lt i (length vs) ≡ true
+first-low vs v i h =
+    let low = first-below vs v i (sym h) in
+    grind (arith, nat_tests)
+
+take-value_changes : (s : Model) (n : Node) (f : FeatureNo) (v : Value) → IsLegal s → has_feature (reading s) n f ≡ true → (shape s.metamodel f).is_single ≡ false → Replays s (tellings (reading s) (RemoveValue n f v)) (after s (RemoveValue n f v))
+take-value_changes s n f v legal has many =
+    let r = reading s in
+    let e = at_end n f in
+    let b = (shape s.metamodel f).is_reference in
+    elim (first_at r e v) as (λ q. first_at r e v ≡ q → (let cut = if b then option_map_or (tie_in r e) q [] else [] in
+    Replays s (option_map_or (taken_out r e cut) q []) (record s { values = applied s.values (if b then [] else option_map_or (take_value e) q []); links = without_ties s.links cut }))) [
+      | None ↦ λ _. elim b as (λ c. Replays s [] (record s { values = applied s.values (if c then [] else []); links = without_ties s.links (if c then [] else []) })) [ true ↦ λ d. refl | false ↦ λ d. refl ]
+      | Some i ↦ λ at. take-changes s n f i legal has many (first-low (r.values e) v i at)
+    ] refl
+
+move-changes : (s : Model) (n : Node) (f : FeatureNo) (to from : ℕ) → IsLegal s → has_feature (reading s) n f ≡ true → (shape s.metamodel f).is_single ≡ false → late_refusal (reading s) (Move n f to from) ≡ None → Replays s (tellings (reading s) (Move n f to from)) (after s (Move n f to from))
+move-changes s n f to from legal has many late =
+    let r = reading s in
+    let e = at_end n f in
+    let placed = move-placed r n f to from late in
+    elim (shape s.metamodel f).is_reference as (λ b. (shape s.metamodel f).is_reference ≡ b → Replays s (telling e (Moves to from) ∷ []) (record s { values = applied s.values (if b then [] else of_object n (λ o. MoveValue o f to from)); links = if b then shift s.links e to from else s.links })) [
+      | true ↦ λ reference. move-link s legal e reference to from many placed.0 placed.1
+      | false ↦ λ attribute. by-object s f (λ n. nat_lt to (length (r.values (at_end n f))) ≡ true → nat_lt from (length (r.values (at_end n f))) ≡ true → Replays s (telling (at_end n f) (Moves to from) ∷ []) (record s { values = applied s.values (of_object n (λ o. MoveValue o f to from)) }))
+          (λ o has low_to low_from. list-moved s legal o f has attribute many to from low_to low_from) n has placed.0 placed.1
     ] refl
 
 changes-replay : (s : Model) (c : Change) → IsLegal s → early_refusal (reading s) c ≡ None → late_refusal (reading s) c ≡ None → Replays s (tellings (reading s) c) (after s c)
 changes-replay s (Create k) legal early late = create-replays s k
-changes-replay s (Set n f v) legal early late = set-replays s n f v legal (set-there (reading s) n f v early) (set-taken (reading s) n f v late).takes
+changes-replay s (Set n f v) legal early late = set-changes s n f v legal early late
 changes-replay s (Unset n f) legal early late = unset-changes s n f legal (unset-there (reading s) n f early)
+changes-replay s (Add n f v i) legal early late = add-changes s n f v i legal early late
+changes-replay s (Remove n f i) legal early late =
+    let named = remove-named (reading s) n f i early in
+    take-changes s n f i legal named.0 named.1 (remove-placed (reading s) n f i late)
+changes-replay s (RemoveValue n f v) legal early late = let named = take-named (reading s) n f v early in take-value_changes s n f v legal named.there named.single
+changes-replay s (Move n f to from) legal early late = let named = move-named (reading s) n f to from early in move-changes s n f to from legal named.0 named.1 late
 
 pub chain-replays : (s : Model) (c : Change) → ChainReplays s c
 chain-replays s c legal early late d =

@@ -1,10 +1,11 @@
 -- The links that a change cuts: each is there, none is cut twice, and what is cut leaves room for the new link.
-use Rattle.std.proofs.Common.{◌≡◌, ℕ, suc, Bool, true, false, not, List, [], ◌∷◌, ◌++◌, filter, fold, map, slice_get, Option, Some, None, option_map, option_to_list, if◌then◌else◌, refl, sym, ap, ◌∙◌, subst}
+use Rattle.std.proofs.Common.{◌≡◌, ℕ, suc, Bool, true, false, not, List, [], ◌∷◌, ◌++◌, filter, fold, map, slice_get, Option, Some, None, option_map, option_to_list, if◌then◌else◌, refl, sym, ap, ◌∙◌, subst, arith}
 use Rattle.std.specs.Prelude.{◌&&◌, ◌||◌}
 use Rattle.std.specs.List.{AllByRecursion, list_any}
 use Rattle.std.specs.Option.{option_map_or}
 use Rattle.std.proofs.lemmas.Bool.{and_from, false≢true, or_left, or_parts, or_right}
 use Rattle.std.proofs.lemmas.Option.{none-some, same_Some}
+use Rattle.mm_meta.proofs.ShapeLemmas.{opposites_are_pairs}
 use Rattle.mm_types.proofs.SameLemmas.{same_end-self, same_end-true}
 use Rattle.mm_types.specs.Same.{node_value, same_end, same_value}
 use Rattle.mm_types.specs.Shapes.{shape}
@@ -20,18 +21,18 @@ use Rattle.mm_types.specs.SameValues.{same_value-self, same_value-true}
 use Rattle.link_store.proofs.ScanLemmas.{same_bool}
 use Rattle.link_store.specs.Holders.{contained, holder}
 use Rattle.link_store.specs.Laws.{AreOnce, AreThere, is_named, kept_holder, names, names_far, without_all}
-use Rattle.link_store.specs.LegalSets.{IsLegalSet}
+use Rattle.link_store.specs.LegalSets.{IsDistinct, IsLegalSet}
 use Rattle.link_store.specs.Links.{Links, cut_value, end, far_end, object_at}
 use Rattle.link_store.specs.Plans.{Has}
 use Rattle.models.proofs.EndLemmas.{values-single}
 use Rattle.models.specs.Legal.{IsLegal, kinds_of}
 use Rattle.models.specs.Model.{Model, reading}
-use Rattle.models.specs.Reading.{Reading, at_end}
-use Rattle.handshake.proofs.KnownLemmas.{far-reference, feature-single, kinds-are, set-there, unset-there}
+use Rattle.models.specs.Reading.{Reading, at_end, first_at, is_repeat}
+use Rattle.handshake.proofs.KnownLemmas.{far-reference, kinds-are, set-named}
 use Rattle.handshake.specs.declared.change.Change.{Change}
-use Rattle.handshake.specs.declared.change.Change.TheVariants.{Create, Set, Unset}
+use Rattle.handshake.specs.declared.change.Change.TheVariants.{Create, Set, Unset, Add, Remove, RemoveValue, Move}
 use Rattle.handshake.specs.declared.tie.Tie.{Tie}
-use Rattle.handshake.specs.Displaced.{cut_by_set, cut_ties, has_already, in_the_way, is_plain_set, once, opposite_end, holding_tie, other_side, same_link, same_tie, tie, ties_at, ties_if_single, with_tie, yields}
+use Rattle.handshake.specs.Displaced.{cut_by_new, cut_by_set, cut_ties, is_plain_add, tie_in, ties_backwards, has_already, in_the_way, is_plain_set, once, opposite_end, holding_tie, other_side, same_link, same_tie, tie, ties_at, ties_if_single, with_tie, yields}
 use Rattle.handshake.specs.Effects.{without_ties}
 use Rattle.handshake.specs.Laws.{AreDifferent}
 use Rattle.handshake.specs.Refusals.{early_refusal, late_refusal}
@@ -78,16 +79,16 @@ pub all_at : {X : Type 0} (P : X → Type 0) (xs : List X) → ((k : ℕ) (x : X
 all_at P [] at = tt
 all_at P (x ∷ xs) at = (at 0 x refl, all_at P xs (λ k y h. at (suc k) y h))
 
-filter_none : (p : Value → Bool) (vs : List Value) → AllByRecursion (λ (v : Value). p v ≡ true) vs → filter (λ w. not (p w)) vs ≡ []
+pub filter_none : (p : Value → Bool) (vs : List Value) → AllByRecursion (λ (v : Value). p v ≡ true) vs → filter (λ w. not (p w)) vs ≡ []
 filter_none p [] all = refl
 filter_none p (v ∷ vs) all = ap (λ (b : Bool). if not b then v ∷ filter (λ w. not (p w)) vs else filter (λ w. not (p w)) vs) all.0 ∙ filter_none p vs all.1
 
-any_append_left : {X : Type 0} (p : X → Bool) (xs ys : List X) → list_any p xs ≡ true → list_any p (xs ++ ys) ≡ true
+pub any_append_left : {X : Type 0} (p : X → Bool) (xs ys : List X) → list_any p xs ≡ true → list_any p (xs ++ ys) ≡ true
 any_append_left p [] ys h = absurd (false≢true h)
 any_append_left p (x ∷ xs) ys h =
     elim (p x) as (λ b. (b || list_any p xs) ≡ true → (b || list_any p (xs ++ ys)) ≡ true) [ true ↦ λ _. refl | false ↦ λ q. any_append_left p xs ys q ] h
 
-any_push : {X : Type 0} (p : X → Bool) (xs : List X) (x : X) → p x ≡ true → list_any p (xs ++ x ∷ []) ≡ true
+pub any_push : {X : Type 0} (p : X → Bool) (xs : List X) (x : X) → p x ≡ true → list_any p (xs ++ x ∷ []) ≡ true
 any_push p [] x h = or_left (p x) false h
 any_push p (y ∷ ys) x h = or_right (p y) (list_any p (ys ++ x ∷ [])) (any_push p ys x h)
 
@@ -161,7 +162,7 @@ module _ (r : Reading) where
   pub all_once : (P : Tie → Type 0) (ts : List Tie) → AllByRecursion P ts → AllByRecursion P (once r ts)
   all_once P ts all = all_fold P [] ts tt all
 
-  same_link-self : (t : Tie) → same_link r t t ≡ true
+  pub same_link-self : (t : Tie) → same_link r t t ≡ true
   same_link-self t = or_left (same_tie t t) _ (same_tie-self t)
 
   named_fold : (x : Tie) (done ts : List Tie) → list_any (same_link r x) done ≡ true → list_any (same_link r x) (fold (with_tie r) done ts) ≡ true
@@ -253,19 +254,61 @@ module _ (P : List Tie → Type 0) (s : Model) (n : Node) (f : FeatureNo) (none 
         | false ↦ λ h. let both = plain-not (shape s.metamodel f).is_reference (has_already (reading s) (at_end n f) v) h in some both.0 both.1
       ] refl
 
-  pub unset-cuts : ((shape s.metamodel f).is_reference ≡ true → P (ties_at (reading s) (at_end n f))) → P (cut_ties (reading s) (Unset n f))
-  unset-cuts some =
-      elim (shape s.metamodel f).is_reference as (λ b. (shape s.metamodel f).is_reference ≡ b → P (if b then ties_at (reading s) (at_end n f) else [])) [ true ↦ some | false ↦ λ _. none ] refl
+  pub add-cuts : (v : Value) (i : Option ℕ) → ((shape s.metamodel f).is_reference ≡ true → is_repeat (reading s) (at_end n f) v ≡ false → P (cut_by_new (reading s) (at_end n f) v)) → P (cut_ties (reading s) (Add n f v i))
+  add-cuts v i some =
+      elim (is_plain_add (reading s) (at_end n f) v) as (λ b. is_plain_add (reading s) (at_end n f) v ≡ b → P (if b then [] else cut_by_new (reading s) (at_end n f) v)) [
+        | true ↦ λ _. none
+        | false ↦ λ h. let both = plain-not (shape s.metamodel f).is_reference (is_repeat (reading s) (at_end n f) v) h in some both.0 both.1
+      ] refl
+
+  -- of a reference alone
+  pub reference-cuts : (ts : List Tie) → ((shape s.metamodel f).is_reference ≡ true → P ts) → P (if (shape s.metamodel f).is_reference then ts else [])
+  reference-cuts ts some =
+      elim (shape s.metamodel f).is_reference as (λ b. (shape s.metamodel f).is_reference ≡ b → P (if b then ts else [])) [ true ↦ some | false ↦ λ _. none ] refl
+
+  pub unset-cuts : ((shape s.metamodel f).is_reference ≡ true → P (ties_backwards (at_end n f) ((reading s).values (at_end n f)))) → P (cut_ties (reading s) (Unset n f))
+  unset-cuts some = reference-cuts (ties_backwards (at_end n f) ((reading s).values (at_end n f))) some
+
+  pub take-cuts : (v : Value) → ((shape s.metamodel f).is_reference ≡ true → (i : ℕ) → P (tie_in (reading s) (at_end n f) i)) → P (cut_ties (reading s) (RemoveValue n f v))
+  take-cuts v some =
+      let r = reading s in
+      let e = at_end n f in
+      elim (first_at r e v) as (λ q. P (if (shape s.metamodel f).is_reference then option_map_or (tie_in r e) q [] else [])) [
+        | None ↦ reference-cuts [] (λ _. none)
+        | Some i ↦ reference-cuts (tie_in r e i) (λ reference. some reference i)
+      ]
 
 cut_by_set-stand : (s : Model) (e : End) (v : Value) → IsLegal s → (shape s.metamodel e.feature).is_reference ≡ true → AllByRecursion (Stands s.links) (cut_by_set (reading s) e v)
 cut_by_set-stand s e (value.Object o) legal reference = yields-stand s e o legal reference
 cut_by_set-stand s e _ legal reference = ties_at-stand s e reference
 
+cut_by_new-stand : (s : Model) (e : End) (v : Value) → IsLegal s → (shape s.metamodel e.feature).is_reference ≡ true → AllByRecursion (Stands s.links) (cut_by_new (reading s) e v)
+cut_by_new-stand s e (value.Object o) legal reference = yields-stand s e o legal reference
+cut_by_new-stand s e _ legal reference = tt
+
+backwards-all : (P : Tie → Type 0) (e : End) (vs : List Value) → AllByRecursion (λ (v : Value). P (tie e v)) vs → AllByRecursion P (ties_backwards e vs)
+backwards-all P e [] all = tt
+backwards-all P e (v ∷ vs) all = all_push P (ties_backwards e vs) (tie e v) (backwards-all P e vs all.1) all.0
+
+pub ties_backwards-stand : (s : Model) (e : End) → (shape s.metamodel e.feature).is_reference ≡ true → AllByRecursion (Stands s.links) (ties_backwards e ((reading s).values e))
+ties_backwards-stand s e reference =
+    subst (λ (vs : List Value). AllByRecursion (Stands s.links) (ties_backwards e vs)) (sym (values-linked s e reference))
+    (backwards-all (Stands s.links) e (end s.links e) (all_at (Has s.links e) (end s.links e) (λ k v at. (k, at))))
+
+pub tie_in-stand : (s : Model) (e : End) (i : ℕ) → (shape s.metamodel e.feature).is_reference ≡ true → AllByRecursion (Stands s.links) (tie_in (reading s) e i)
+tie_in-stand s e i reference =
+    subst (λ (vs : List Value). AllByRecursion (Stands s.links) (option_to_list (option_map (tie e) (slice_get vs i)))) (sym (values-linked s e reference))
+    (elim (slice_get (end s.links e) i) as (λ q. slice_get (end s.links e) i ≡ q → AllByRecursion (Stands s.links) (option_to_list (option_map (tie e) q))) [ None ↦ λ _. tt | Some v ↦ λ at. ((i, at), tt) ] refl)
+
 -- each link that a change cuts stands where its name says
 pub cuts-stand : (s : Model) (c : Change) → IsLegal s → AllByRecursion (Stands s.links) (cut_ties (reading s) c)
 cuts-stand s (Create c) legal = tt
 cuts-stand s (Set n f v) legal = set-cuts (AllByRecursion (Stands s.links)) s n f tt v (λ reference _. cut_by_set-stand s (at_end n f) v legal reference)
-cuts-stand s (Unset n f) legal = unset-cuts (AllByRecursion (Stands s.links)) s n f tt (λ reference. ties_at-stand s (at_end n f) reference)
+cuts-stand s (Unset n f) legal = unset-cuts (AllByRecursion (Stands s.links)) s n f tt (λ reference. ties_backwards-stand s (at_end n f) reference)
+cuts-stand s (Add n f v i) legal = add-cuts (AllByRecursion (Stands s.links)) s n f tt v i (λ reference _. cut_by_new-stand s (at_end n f) v legal reference)
+cuts-stand s (Remove n f i) legal = reference-cuts (AllByRecursion (Stands s.links)) s n f tt (tie_in (reading s) (at_end n f) i) (λ reference. tie_in-stand s (at_end n f) i reference)
+cuts-stand s (RemoveValue n f v) legal = take-cuts (AllByRecursion (Stands s.links)) s n f tt v (λ reference i. tie_in-stand s (at_end n f) i reference)
+cuts-stand s (Move n f to from) legal = tt
 
 pub cuts-there : (s : Model) (c : Change) → IsLegal s → early_refusal (reading s) c ≡ None → late_refusal (reading s) c ≡ None → AreThere s.links (pairs (cut_ties (reading s) c))
 cuts-there s c legal early late = all_map (λ (t : End × Value). Has s.links t.0 t.1) (λ (t : Tie). (t.end, t.value)) (cut_ties (reading s) c) (cuts-stand s c legal)
@@ -280,12 +323,78 @@ cut_by_set-different : (s : Model) (e : End) (v : Value) → IsLegal s → (shap
 cut_by_set-different s e (value.Object o) legal reference single = yields-different (reading s) e o
 cut_by_set-different s e _ legal reference single = ties_at-different s e legal reference single
 
+-- two values of an end are two links
+pub near-different : (s : Model) (e : End) (v w : Value) → IsLegal s → same_value v w ≡ false → same_link (reading s) (tie e v) (tie e w) ≡ false
+near-different s e v w legal other = by (shape s.metamodel e.feature).opposite refl
+  where
+    not_same : (q : Option Tie) → same_tie (tie e v) (tie e w) ≡ false → option_map_or (same_tie (tie e v)) q false ≡ false → (same_tie (tie e v) (tie e w) || option_map_or (same_tie (tie e v)) q false) ≡ false
+    not_same q a b = rw (a, b) refl
+
+    here : same_tie (tie e v) (tie e w) ≡ false
+    here = rw (other, same_end-self e) refl
+
+    there : (g : FeatureNo) (o : ObjectNo) → (shape s.metamodel e.feature).opposite ≡ Some g → same_tie (tie e v) (tie (far_end o g) (node_value e.node)) ≡ false
+    there g o opposite =
+        elim (same_end e (far_end o g)) as (λ b. same_end e (far_end o g) ≡ b → (b && same_value v (node_value e.node)) ≡ false) [
+          | true ↦ λ same. absurd ((opposites_are_pairs s.metamodel legal.metamodel e.feature g opposite).apart (ap (λ (x : End). x.feature.0) (sym (same_end-true e (far_end o g) same))))
+          | false ↦ λ _. refl
+        ] refl
+
+    other_side-not : (q : Option FeatureNo) (x : Value) → (shape s.metamodel e.feature).opposite ≡ q → option_map_or (same_tie (tie e v)) (other_side e.node x q) false ≡ false
+    other_side-not (Some g) (value.Object o) opposite = there g o opposite
+    other_side-not None (value.Object o) opposite = refl
+    other_side-not q x opposite = refl
+
+    by : (q : Option FeatureNo) → (shape s.metamodel e.feature).opposite ≡ q → same_link (reading s) (tie e v) (tie e w) ≡ false
+    by q opposite = not_same (other_side e.node w (shape s.metamodel e.feature).opposite) here (other_side-not (shape s.metamodel e.feature).opposite w refl)
+
+-- the others of a list that repeats nothing are other values
+others-differ : (v : Value) (vs : List Value) → IsDistinct (v ∷ vs) → AllByRecursion (λ (w : Value). same_value v w ≡ false) vs
+others-differ v vs distinct = all_at (λ (w : Value). same_value v w ≡ false) vs (λ k w at.
+    elim (same_value v w) as (λ b. same_value v w ≡ b → b ≡ false) [
+      | true ↦ λ same. absurd (zero-not_suc k (distinct 0 (suc k) w (ap Some (same_value-true v w same)) at))
+      | false ↦ λ _. refl
+    ] refl)
+  where
+    zero-not_suc : (k : ℕ) → 0 ≡ suc k → ⊥
+    zero-not_suc k h = omega (arith, h)
+
+rest-distinct : (v : Value) (vs : List Value) → IsDistinct (v ∷ vs) → IsDistinct vs
+rest-distinct v vs distinct j k w at_j at_k = suc-same j k (distinct (suc j) (suc k) w at_j at_k)
+  where
+    suc-same : (j k : ℕ) → suc j ≡ suc k → j ≡ k
+    suc-same j k h = omega (arith, h)
+
+none_of : (p : Tie → Bool) (ts : List Tie) → AllByRecursion (λ (t : Tie). p t ≡ false) ts → list_any p ts ≡ false
+none_of p [] all = refl
+none_of p (t ∷ ts) all = rw all.0 (none_of p ts all.1)
+
+pub backwards-different : (s : Model) (e : End) (vs : List Value) → IsLegal s → IsDistinct vs → AreDifferent (reading s) (ties_backwards e vs)
+backwards-different s e [] legal distinct = tt
+backwards-different s e (v ∷ vs) legal distinct =
+    let r = reading s in
+    let others = backwards-all (λ (t : Tie). same_link r (tie e v) t ≡ false) e vs (all_weaker _ _ vs (λ w other. near-different s e v w legal other) (others-differ v vs distinct)) in
+    different_push r (ties_backwards e vs) (tie e v) (backwards-different s e vs legal (rest-distinct v vs distinct)) (none_of (same_link r (tie e v)) (ties_backwards e vs) others)
+
+pub tie_in-different : (r : Reading) (e : End) (i : ℕ) → AreDifferent r (tie_in r e i)
+tie_in-different r e i = elim (slice_get (r.values e) i) as (λ q. AreDifferent r (option_to_list (option_map (tie e) q))) [ None ↦ tt | Some v ↦ (tt, tt) ]
+
+cut_by_new-different : (r : Reading) (e : End) (v : Value) → AreDifferent r (cut_by_new r e v)
+cut_by_new-different r e (value.Object o) = yields-different r e o
+cut_by_new-different r e _ = tt
+
 pub cuts-different : (s : Model) (c : Change) → IsLegal s → early_refusal (reading s) c ≡ None → AreDifferent (reading s) (cut_ties (reading s) c)
 cuts-different s (Create c) legal early = tt
 cuts-different s (Set n f v) legal early =
-    set-cuts (AreDifferent (reading s)) s n f tt v (λ reference _. cut_by_set-different s (at_end n f) v legal reference (feature-single (reading s) n f (set-there (reading s) n f v early)))
+    set-cuts (AreDifferent (reading s)) s n f tt v (λ reference _. cut_by_set-different s (at_end n f) v legal reference (set-named (reading s) n f v early).single)
 cuts-different s (Unset n f) legal early =
-    unset-cuts (AreDifferent (reading s)) s n f tt (λ reference. ties_at-different s (at_end n f) legal reference (feature-single (reading s) n f (unset-there (reading s) n f early)))
+    let e = at_end n f in
+    unset-cuts (AreDifferent (reading s)) s n f tt (λ reference.
+    subst (λ (vs : List Value). AreDifferent (reading s) (ties_backwards e vs)) (sym (values-linked s e reference)) (backwards-different s e (end s.links e) legal (legal.links.set.placed.distinct e)))
+cuts-different s (Add n f v i) legal early = add-cuts (AreDifferent (reading s)) s n f tt v i (λ reference _. cut_by_new-different (reading s) (at_end n f) v)
+cuts-different s (Remove n f i) legal early = reference-cuts (AreDifferent (reading s)) s n f tt (tie_in (reading s) (at_end n f) i) (λ reference. tie_in-different (reading s) (at_end n f) i)
+cuts-different s (RemoveValue n f v) legal early = take-cuts (AreDifferent (reading s)) s n f tt v (λ reference i. tie_in-different (reading s) (at_end n f) i)
+cuts-different s (Move n f to from) legal early = tt
 
 pub cuts-once : (s : Model) (c : Change) → IsLegal s → early_refusal (reading s) c ≡ None → late_refusal (reading s) c ≡ None → AreOnce (kinds_of s.metamodel) (pairs (cut_ties (reading s) c))
 cuts-once s c legal early late = once-of_different (reading s) (cut_ties (reading s) c) (cuts-different s c legal early)

@@ -1,5 +1,6 @@
 -- What tellings make of one end: those at the other ends change nothing there.
 use Rattle.std.proofs.Common.{◌≡◌, Bool, true, false, cond, List, [], ◌∷◌, ◌++◌, filter, if◌then◌else◌, refl, sym, ap, ◌∙◌}
+use Rattle.std.specs.List.{AllByRecursion}
 use Rattle.std.proofs.lemmas.Bool.{true≢false}
 use Rattle.mm_types.proofs.SameLemmas.{same_end-true}
 use Rattle.mm_types.specs.Ends.{Ends, Held}
@@ -7,6 +8,7 @@ use Rattle.mm_types.specs.Resolved.{Metamodel}
 use Rattle.mm_types.specs.Same.{same_end}
 use Rattle.mm_types.specs.Shapes.{Shape, shape}
 use Rattle.mm_types.specs.declared.end.End.{End}
+use Rattle.link_store.proofs.PlaceLemmas.{ne-same_end}
 use Rattle.handshake.specs.Telling.{changed, flagged, happened, happened_all}
 use Rattle.handshake.specs.declared.happening.Happening.{Happening}
 use Rattle.handshake.specs.declared.happening.Telling.{Telling}
@@ -62,3 +64,14 @@ happened_at-filter m q (t ∷ ts) d h kept =
       | true ↦ λ _. happened_at-filter m q ts d (done_at m d t h) kept
       | false ↦ λ out. happened_at-filter m q ts d h kept ∙ ap (happened_at m ts d) (sym (done-other m d t h (apart-of q t.at d out kept)))
     ] refl
+
+-- tellings at e alone do nothing at another end
+pub at-own : (m : Metamodel) (e d : End) (own : List Telling) (h : Held) → AllByRecursion (λ (t : Telling). t.at ≡ e) own → same_end e d ≡ false → happened_at m own d h ≡ h
+at-own m e d [] h here other = refl
+at-own m e d (t ∷ ts) h here other =
+    ap (happened_at m ts d) (done-other m d t h (ap (λ (x : End). same_end x d) here.0 ∙ other)) ∙ at-own m e d ts h here.1 other
+
+-- and tellings at others do nothing at e
+pub at-others : (m : Metamodel) (e : End) (ts : List Telling) (h : Held) → AllByRecursion (λ (t : Telling). t.at ≡ e → ⊥) ts → happened_at m ts e h ≡ h
+at-others m e [] h away = refl
+at-others m e (t ∷ ts) h away = ap (happened_at m ts e) (done-other m e t h (ne-same_end t.at e away.0)) ∙ at-others m e ts h away.1

@@ -1,6 +1,6 @@
--- What follows where a change is not refused: the node lives and has the feature, which is single, as is its opposite; and the value
--- is one of its type.
-use Rattle.std.proofs.Common.{◌≡◌, ◌&&◌, Bool, true, false, Option, Some, None, refl, sym, ◌∙◌, subst}
+-- What follows where a change is not refused: the node lives and has the feature, the value is one of its type, and the end can gain
+-- it.
+use Rattle.std.proofs.Common.{◌≡◌, ℕ, nat_le, nat_lt, length, ◌&&◌, Bool, true, false, Option, Some, None, is_some, if◌then◌else◌, refl, sym, ◌∙◌, subst}
 use Rattle.std.specs.Option.{option_map_or}
 use Rattle.std.proofs.lemmas.Bool.{and_parts, false≢true}
 use Rattle.std.proofs.lemmas.Option.{none-some}
@@ -20,16 +20,17 @@ use Rattle.mm_types.specs.declared.numbers.FeatureNo.{FeatureNo}
 use Rattle.mm_types.specs.declared.numbers.Node.{Node}
 use Rattle.mm_types.specs.declared.numbers.Node.TheVariants as node
 use Rattle.mm_types.specs.declared.numbers.ObjectNo.{ObjectNo}
+use Rattle.mm_types.specs.declared.end.End.{End}
 use Rattle.mm_types.specs.declared.refused.Refused.{Refused}
-use Rattle.mm_types.specs.declared.refused.Refused.TheVariants.{NoObject, NoFeature, WrongType, TextLength}
+use Rattle.mm_types.specs.declared.refused.Refused.TheVariants.{NoObject, NoFeature, NotSingle, NotMany, WrongType, TextLength, Index, Duplicate, Bound, Recursive, Limit}
 use Rattle.mm_types.specs.declared.value.Value.{Value}
 use Rattle.mm_types.specs.declared.value.Value.TheVariants as value
 use Rattle.link_store.specs.LegalSets.{AreKinds}
 use Rattle.models.specs.Legal.{is_short, kinds_of}
-use Rattle.models.specs.Reading.{Reading, at_end, class_has, has_feature, is_known, is_node_live, is_value_live, takes}
-use Rattle.handshake.specs.Named.{feature_refusal, node_refusal, value_refusal}
-use Rattle.handshake.specs.Refusals.{early_refusal, late_refusal, set_refusal, type_refusal}
-use Rattle.handshake.specs.declared.change.Change.TheVariants.{Set, Unset}
+use Rattle.models.specs.Reading.{Reading, at_end, has_feature, is_node_live, is_repeat, is_value_live, place_for, takes}
+use Rattle.handshake.specs.Named.{feature_refusal, many_refusal, node_refusal, single_refusal, value_refusal}
+use Rattle.handshake.specs.Refusals.{add_refusal, early_refusal, gain_refusal, is_at_limit, is_full_at, is_recursive, late_refusal, link_refusal, of_either, set_refusal, type_refusal}
+use Rattle.handshake.specs.declared.change.Change.TheVariants.{Set, Unset, Add, Remove, RemoveValue, Move}
 
 ---------------------------------------------------------------- the metamodel
 
@@ -46,13 +47,6 @@ near-reference m d f g h = (opposites_are_pairs m d f g h).near_refers
 
 pub far-reference : (m : Metamodel) → IsOfDocument m → (f g : FeatureNo) → (shape m f).opposite ≡ Some g → (shape m g).is_reference ≡ true
 far-reference m d f g h = (opposites_are_pairs m d f g h).far_refers
-
-pub known-single : (m : Metamodel) (f : FeatureNo) → is_known m f ≡ true → (shape m f).is_single ≡ true
-known-single m f h = (and_parts (shape m f).is_single _ h).0
-
-pub known-far_single : (m : Metamodel) (f g : FeatureNo) → is_known m f ≡ true → (shape m f).opposite ≡ Some g → (shape m g).is_single ≡ true
-known-far_single m f g h opposite =
-    subst (λ (o : Option FeatureNo). option_map_or (λ g. (shape m g).is_single) o true ≡ true) opposite (and_parts (shape m f).is_single _ h).1
 
 -- no attribute takes an object
 object-typed : (m : Metamodel) (single : Bool) (t : DataType) (o : ObjectNo) → lookups.is_attribute_value m single t (value.Object o) ≡ false
@@ -92,33 +86,21 @@ none-else_by (Some x) b h = absurd (none-some x (sym h))
 
 ---------------------------------------------------------------- what is named is there
 
--- the node is a live object, whose class has the feature, one that commands know
+-- the node is a live object, whose class has the feature
 pub record IsThere (r : Reading) (n : Node) (f : FeatureNo) : Type 0 where
   pub object : ObjectNo
   pub class : ClassNo
   pub node : n ≡ node.Object object
   pub class_is : r.class object ≡ Some class
   pub has : lookups.has_feature r.metamodel class f ≡ true
-  pub known : is_known r.metamodel f ≡ true
 
-there-of : (r : Reading) (o : ObjectNo) (f : FeatureNo) (c : Option ClassNo) → r.class o ≡ c → option_map_or (λ c. class_has r.metamodel c f) c false ≡ true → IsThere r (node.Object o) f
+there-of : (r : Reading) (o : ObjectNo) (f : FeatureNo) (c : Option ClassNo) → r.class o ≡ c → option_map_or (λ c. lookups.has_feature r.metamodel c f) c false ≡ true → IsThere r (node.Object o) f
 there-of r o f None is h = absurd (false≢true h)
-there-of r o f (Some c) is h =
-    let both = and_parts (lookups.has_feature r.metamodel c f) (is_known r.metamodel f) h in
-    record { object = o; class = c; node = refl; class_is = is; has = both.0; known = both.1 }
+there-of r o f (Some c) is h = record { object = o; class = c; node = refl; class_is = is; has = h }
 
 pub feature-there : (r : Reading) (n : Node) (f : FeatureNo) → has_feature r n f ≡ true → IsThere r n f
 feature-there r (node.Object o) f h = there-of r o f (r.class o) refl h
 feature-there r (node.Resource k) f h = absurd (false≢true h)
-
-pub feature-known : (r : Reading) (n : Node) (f : FeatureNo) → has_feature r n f ≡ true → is_known r.metamodel f ≡ true
-feature-known r n f h = (feature-there r n f h).known
-
-pub feature-single : (r : Reading) (n : Node) (f : FeatureNo) → has_feature r n f ≡ true → (shape r.metamodel f).is_single ≡ true
-feature-single r n f h = known-single r.metamodel f (feature-known r n f h)
-
-pub feature-far_single : (r : Reading) (n : Node) (f g : FeatureNo) → has_feature r n f ≡ true → (shape r.metamodel f).opposite ≡ Some g → (shape r.metamodel g).is_single ≡ true
-feature-far_single r n f g h = known-far_single r.metamodel f g (feature-known r n f h)
 
 ---------------------------------------------------------------- early refusals
 
@@ -132,17 +114,62 @@ value-named r n f v h =
       feature-named r n f both.1,
     )
 
--- an early refusal of None, of each change
-pub set-there : (r : Reading) (n : Node) (f : FeatureNo) (v : Value) → early_refusal r (Set n f v) ≡ None → has_feature r n f ≡ true
-set-there r n f v h = (value-named r n f v h).1
+-- a value, a node and its feature that are there; the feature is single, or it is not
+pub record IsNamed (one : Bool) (r : Reading) (n : Node) (f : FeatureNo) (v : Value) : Type 0 where
+  pub live : is_value_live r v ≡ true
+  pub there : has_feature r n f ≡ true
+  pub single : (shape r.metamodel f).is_single ≡ one
 
-pub set-live : (r : Reading) (n : Node) (f : FeatureNo) (v : Value) → early_refusal r (Set n f v) ≡ None → is_value_live r v ≡ true
-set-live r n f v h = (value-named r n f v h).0
+single-named : (r : Reading) (n : Node) (f : FeatureNo) (v : Value) → (value_refusal r n f v else_by single_refusal r.metamodel f) ≡ None → IsNamed true r n f v
+single-named r n f v h =
+    let both = none-else_by (value_refusal r n f v) (single_refusal r.metamodel f) h in
+    let named = value-named r n f v both.0 in
+    record { live = named.0; there = named.1; single = none-unless NotSingle (shape r.metamodel f).is_single both.1 }
+
+many-named : (r : Reading) (n : Node) (f : FeatureNo) (v : Value) → (value_refusal r n f v else_by many_refusal r.metamodel f) ≡ None → IsNamed false r n f v
+many-named r n f v h =
+    let both = none-else_by (value_refusal r n f v) (many_refusal r.metamodel f) h in
+    let named = value-named r n f v both.0 in
+    record { live = named.0; there = named.1; single = none-where_so NotMany (shape r.metamodel f).is_single both.1 }
+
+list-named : (r : Reading) (n : Node) (f : FeatureNo) → (feature_refusal r n f else_by many_refusal r.metamodel f) ≡ None → (has_feature r n f ≡ true) × ((shape r.metamodel f).is_single ≡ false)
+list-named r n f h =
+    let both = none-else_by (feature_refusal r n f) (many_refusal r.metamodel f) h in
+    (feature-named r n f both.0, none-where_so NotMany (shape r.metamodel f).is_single both.1)
+
+-- an early refusal of None, of each change
+pub set-named : (r : Reading) (n : Node) (f : FeatureNo) (v : Value) → early_refusal r (Set n f v) ≡ None → IsNamed true r n f v
+set-named r n f v h = single-named r n f v h
+
+pub set-there : (r : Reading) (n : Node) (f : FeatureNo) (v : Value) → early_refusal r (Set n f v) ≡ None → has_feature r n f ≡ true
+set-there r n f v h = (set-named r n f v h).there
 
 pub unset-there : (r : Reading) (n : Node) (f : FeatureNo) → early_refusal r (Unset n f) ≡ None → has_feature r n f ≡ true
 unset-there r n f h = feature-named r n f h
 
+pub add-named : (r : Reading) (n : Node) (f : FeatureNo) (v : Value) (i : Option ℕ) → early_refusal r (Add n f v i) ≡ None → IsNamed false r n f v
+add-named r n f v i h = many-named r n f v h
+
+pub remove-named : (r : Reading) (n : Node) (f : FeatureNo) (i : ℕ) → early_refusal r (Remove n f i) ≡ None → (has_feature r n f ≡ true) × ((shape r.metamodel f).is_single ≡ false)
+remove-named r n f i h = list-named r n f h
+
+pub take-named : (r : Reading) (n : Node) (f : FeatureNo) (v : Value) → early_refusal r (RemoveValue n f v) ≡ None → IsNamed false r n f v
+take-named r n f v h = many-named r n f v h
+
+pub move-named : (r : Reading) (n : Node) (f : FeatureNo) (to from : ℕ) → early_refusal r (Move n f to from) ≡ None → (has_feature r n f ≡ true) × ((shape r.metamodel f).is_single ≡ false)
+move-named r n f to from h = list-named r n f h
+
 ---------------------------------------------------------------- late refusals
+
+-- a value is one of the feature's type, and short
+pub record IsTyped (r : Reading) (f : FeatureNo) (v : Value) : Type 0 where
+  pub takes : takes r f v ≡ true
+  pub short : is_short v ≡ true
+
+pub typed-of : (r : Reading) (f : FeatureNo) (v : Value) → type_refusal r f v ≡ None → IsTyped r f v
+typed-of r f v h =
+    let typed = none-else_by (WrongType unless takes r f v) (TextLength unless is_short v) h in
+    record { takes = none-unless WrongType (takes r f v) typed.0; short = none-unless TextLength (is_short v) typed.1 }
 
 -- a set that nothing refuses: the value is one of the feature's type, short, and the end can have it
 pub record IsTaken (r : Reading) (n : Node) (f : FeatureNo) (v : Value) : Type 0 where
@@ -153,8 +180,46 @@ pub record IsTaken (r : Reading) (n : Node) (f : FeatureNo) (v : Value) : Type 0
 pub set-taken : (r : Reading) (n : Node) (f : FeatureNo) (v : Value) → late_refusal r (Set n f v) ≡ None → IsTaken r n f v
 set-taken r n f v h =
     let both = none-else_by (type_refusal r f v) (set_refusal r (at_end n f) v) h in
-    let typed = none-else_by (WrongType unless takes r f v) (TextLength unless is_short v) both.0 in
-    record { takes = none-unless WrongType (takes r f v) typed.0; short = none-unless TextLength (is_short v) typed.1; allowed = both.1 }
+    let typed = typed-of r f v both.0 in
+    record { takes = typed.takes; short = typed.short; allowed = both.1 }
+
+-- an addition that nothing refuses: besides, the place is one of the list or the one behind the last
+pub record IsAdded (r : Reading) (n : Node) (f : FeatureNo) (v : Value) (i : Option ℕ) : Type 0 where
+  pub takes : takes r f v ≡ true
+  pub short : is_short v ≡ true
+  pub placed : nat_le (place_for r (at_end n f) i) (length (r.values (at_end n f))) ≡ true
+  pub allowed : add_refusal r (at_end n f) v i ≡ None
+
+pub add-taken : (r : Reading) (n : Node) (f : FeatureNo) (v : Value) (i : Option ℕ) → late_refusal r (Add n f v i) ≡ None → IsAdded r n f v i
+add-taken r n f v i h =
+    let e = at_end n f in
+    let both = none-else_by (type_refusal r f v) _ h in
+    let typed = typed-of r f v both.0 in
+    let rest = none-else_by (Index unless nat_le (place_for r e i) (length (r.values e))) (add_refusal r e v i) both.1 in
+    record { takes = typed.takes; short = typed.short; placed = none-unless Index _ rest.0; allowed = rest.1 }
+
+-- what an addition of a value that is no repeat asks of its end
+pub add-gains : (r : Reading) (e : End) (v : Value) (i : Option ℕ) → is_repeat r e v ≡ false → add_refusal r e v i ≡ None → gain_refusal r e v ≡ None
+add-gains r e v i new h = subst (λ (b : Bool). (if b then (Duplicate where_so is_some i) else gain_refusal r e v) ≡ None) new h
+
+pub remove-placed : (r : Reading) (n : Node) (f : FeatureNo) (i : ℕ) → late_refusal r (Remove n f i) ≡ None → nat_lt i (length (r.values (at_end n f))) ≡ true
+remove-placed r n f i h = none-unless Index _ h
+
+pub move-placed : (r : Reading) (n : Node) (f : FeatureNo) (to from : ℕ) → late_refusal r (Move n f to from) ≡ None
+    → (nat_lt to (length (r.values (at_end n f))) ≡ true) × (nat_lt from (length (r.values (at_end n f))) ≡ true)
+move-placed r n f to from h = and_parts _ _ (none-unless Index _ h)
+
+-- a link that nothing refuses: no end that gains is full, none is at the limit, and no object would contain itself
+pub record IsLinkable (r : Reading) (e : End) (o : ObjectNo) : Type 0 where
+  pub room : of_either (is_full_at r) r e o ≡ false
+  pub clear : is_recursive r e o ≡ false
+  pub few : of_either (is_at_limit r) r e o ≡ false
+
+pub linkable : (r : Reading) (e : End) (o : ObjectNo) → link_refusal r e o ≡ None → IsLinkable r e o
+linkable r e o h =
+    let first = none-else_by (Bound where_so of_either (is_full_at r) r e o) _ h in
+    let later = none-else_by (Recursive where_so is_recursive r e o) (Limit where_so of_either (is_at_limit r) r e o) first.1 in
+    record { room = none-where_so Bound _ first.0; clear = none-where_so Recursive _ later.0; few = none-where_so Limit _ later.1 }
 
 -- so an object is set under a reference
 pub set-reference : (r : Reading) (n : Node) (f : FeatureNo) (o : ObjectNo) → late_refusal r (Set n f (value.Object o)) ≡ None → (shape r.metamodel f).is_reference ≡ true

@@ -1,14 +1,15 @@
 -- The ends of a legal model stay legal: once links are cut, where a link is made, and where objects come.
-use Rattle.std.proofs.Common.{◌≡◌, ℕ, ◌≤◌, nat_le, pos, negsuc, ℤ, Bool, true, false, ◌&&◌, not, List, [], ◌∷◌, ◌++◌, filter, length, Option, Some, None, if◌then◌else◌, refl, sym, subst, arith}
-use Rattle.std.specs.Prelude.{int_le}
+use Rattle.std.proofs.Common.{◌≡◌, ℕ, zero, suc, ◌<◌, ◌≤◌, nat_le, pos, negsuc, ℤ, Bool, true, false, ◌&&◌, not, List, [], ◌∷◌, ◌++◌, filter, length, Option, Some, None, if◌then◌else◌, slice_get, remove, refl, sym, ap, ◌∙◌, subst, arith}
+use Rattle.std.specs.Prelude.{int_le, int_lt}
 use Rattle.std.specs.List.{insert, list_all}
 use Rattle.std.specs.Option.{option_map_or}
-use Rattle.std.proofs.lemmas.Bool.{and_from, and_parts, false≢true}
-use Rattle.std.proofs.lemmas.Bool.Decides.{nat_tests}
+use Rattle.std.proofs.lemmas.Bool.{and_from, and_parts, false≢true, true≢false}
+use Rattle.std.proofs.lemmas.Bool.Decides.{Decides-int_eq, nat_tests}
+use Rattle.std.proofs.lemmas.Option.{none-some, same_Some}
 use Rattle.mm_types.specs.Lookups as lookups
 use Rattle.mm_types.specs.Resolved.{Metamodel}
 use Rattle.mm_types.specs.Same.{node_value, same_end}
-use Rattle.mm_types.specs.Shapes.{Shape, shape}
+use Rattle.mm_types.specs.Shapes.{Shape, contents_shape, is_full_list, shape, shape_of}
 use Rattle.mm_types.specs.declared.end.End.{End}
 use Rattle.mm_types.specs.declared.feature.Feature.{Feature}
 use Rattle.mm_types.specs.declared.feature.Kind.{Kind}
@@ -21,22 +22,26 @@ use Rattle.mm_types.specs.declared.numbers.Node.TheVariants as node
 use Rattle.mm_types.specs.declared.numbers.ObjectNo.{ObjectNo}
 use Rattle.mm_types.specs.declared.value.Value.{Value}
 use Rattle.mm_types.specs.declared.value.Value.TheVariants as value
-use Rattle.mm_types.proofs.SameLemmas.{same_end-true}
+use Rattle.mm_types.proofs.SameLemmas.{same_end-self, same_end-true}
 use Rattle.mm_meta.specs.Laws as meta
-use Rattle.mm_meta.proofs.ShapeLemmas.{far_types_fit, opposites_are_pairs}
+use Rattle.mm_meta.proofs.ShapeLemmas.{far_types_fit}
 use Rattle.mm_values.specs.Values.{ValuesState, class_of}
 use Rattle.link_store.specs.Laws.{is_far, is_named, put_end, without_all}
-use Rattle.link_store.specs.Links.{Links, end, far_end, put}
+use Rattle.link_store.specs.Links.{Links, end, far_end, put, shift}
+use Rattle.mm_types.specs.Lists.{put_back, shifted}
+use Rattle.link_store.proofs.CutLemmas.{end-shift_near, end-shift_other}
 use Rattle.link_store.proofs.CutNamedLemmas.{end-without_all, without_all_legal}
 use Rattle.link_store.proofs.FilterLemmas.{length-filter_le}
 use Rattle.link_store.proofs.PutEndLemmas.{end-put}
+use Rattle.link_store.specs.LegalSets.{most}
 use Rattle.models.specs.Legal.{IsLegal, is_bounded, is_legal_end, is_legal_object, kinds_of}
 use Rattle.models.specs.Model.{Model, model_of, reading}
-use Rattle.models.specs.Reading.{Reading, has_feature, is_known, shape_at, takes}
+use Rattle.models.specs.Reading.{Reading, has_feature, shape_at, takes}
 use Rattle.handshake.specs.Displaced.{yields}
-use Rattle.handshake.proofs.CutTieLemmas.{pairs}
-use Rattle.handshake.proofs.KnownLemmas.{feature-far_single, feature-single, feature-there, kinds-are}
-use Rattle.handshake.proofs.PlanLemmas.{far-empty, near-empty, new-fits, without_displaced}
+use Rattle.handshake.specs.Refusals.{is_at_limit, is_full_at}
+use Rattle.handshake.proofs.CutTieLemmas.{far-emptied, pairs, values-linked}
+use Rattle.handshake.proofs.KnownLemmas.{far-reference, feature-there, kinds-are}
+use Rattle.handshake.proofs.LinkLemmas.{IsNewLink, below-limit, far-of, fewer-left, near-empty, near-of, new-fits, without_displaced}
 
 ---------------------------------------------------------------- lists
 
@@ -56,7 +61,7 @@ int-less (pos k) m n le h = grind (arith, nat_tests)
 int-less (negsuc k) m n le h = absurd (false≢true h)
 
 -- fewer values are no more than an end may have
-bounded-less : (a : Shape) (m n : ℕ) → m ≤ n → is_bounded a n ≡ true → is_bounded a m ≡ true
+pub bounded-less : (a : Shape) (m n : ℕ) → m ≤ n → is_bounded a n ≡ true → is_bounded a m ≡ true
 bounded-less a m n le h =
     let both = and_parts (nat_le n LIST_VALUES) (if int_le (pos 1) a.upper then int_le (pos n) a.upper else true) h in
     let low : nat_le m LIST_VALUES ≡ true = let high = both.0 in grind (arith, nat_tests) in
@@ -89,64 +94,157 @@ cut-end s ts legal d =
     let m = kinds_of s.metamodel in
     rw (end-without_all m (kinds-are s.metamodel legal.metamodel) s.links ts legal.links.set legal.links.kinds d) (filter-legal (reading s) d (λ w. not (is_named m ts d w)) (end s.links d) (legal.links.ends d))
 
+---------------------------------------------------------------- one value more
+
+single-kind : (m : Metamodel) (f : FeatureNo) (g : Feature) (k : Kind) → (shape_of m f g k).upper ≡ pos 1 → (shape_of m f g k).is_single ≡ true
+single-kind m f g (Attribute t unique unsettable default) h = (Decides-int_eq g.upper (pos 1)).1 h
+single-kind m f g (Reference target containment opposite) h = (Decides-int_eq g.upper (pos 1)).1 h
+
+-- a feature of one value at most is single
+pub single-of : (m : Metamodel) (f : FeatureNo) → (shape m f).upper ≡ pos 1 → (shape m f).is_single ≡ true
+single-of m f h = by (lookups.feature m f) h
+  where
+    by : (o : Option Feature) → (option_map_or (λ g. shape_of m f g g.kind) o (contents_shape m)).upper ≡ pos 1 → (option_map_or (λ g. shape_of m f g g.kind) o (contents_shape m)).is_single ≡ true
+    by None h = cc
+    by (Some g) h = single-kind m f g g.kind h
+
+upper-more : (u : ℤ) (m n : ℕ) → m ≤ n → (int_lt (pos 1) u && int_le u (pos n)) ≡ false → (u ≡ pos 1 → m ≡ 0) → (if int_le (pos 1) u then int_le (pos (suc m)) u else true) ≡ true
+upper-more (negsuc k) m n le room one = refl
+upper-more (pos zero) m n le room one = refl
+upper-more (pos (suc zero)) m n le room one = subst (λ (k : ℕ). int_le (pos (suc k)) (pos 1) ≡ true) (sym (one refl)) refl
+upper-more (pos (suc (suc k))) m n le room one =
+    let above : int_lt (pos 1) (pos (suc (suc k))) ≡ true = grind (arith, nat_tests) in
+    let least : int_le (pos 1) (pos (suc (suc k))) ≡ true = grind (arith, nat_tests) in
+    let short : int_le (pos (suc (suc k))) (pos n) ≡ false = subst (λ (b : Bool). (b && int_le (pos (suc (suc k))) (pos n)) ≡ false) above room in
+    let fits : int_le (pos (suc m)) (pos (suc (suc k))) ≡ true = grind (arith, nat_tests) in
+    rw least fits
+
+-- an end that is not full may have one value more, a single one where it has none
+pub bounded-more : (a : Shape) (m n : ℕ) → m ≤ n → n < most → is_full_list a n ≡ false → (a.upper ≡ pos 1 → m ≡ 0) → is_bounded a (suc m) ≡ true
+bounded-more a m n le few room one =
+    let low : nat_le (suc m) LIST_VALUES ≡ true = grind (arith, nat_tests) in
+    and_from (nat_le (suc m) LIST_VALUES) _ low (upper-more a.upper m n le room one)
+
+list_all-append : {X : Type 0} (p : X → Bool) (xs ys : List X) → list_all p xs ≡ true → list_all p ys ≡ true → list_all p (xs ++ ys) ≡ true
+list_all-append p [] ys a b = b
+list_all-append p (x ∷ xs) ys a b = let both = and_parts (p x) (list_all p xs) a in and_from (p x) (list_all p (xs ++ ys)) both.0 (list_all-append p xs ys both.1 b)
+
+pub list_all-insert : {X : Type 0} (p : X → Bool) (xs : List X) (i : ℕ) (x : X) → list_all p xs ≡ true → p x ≡ true → list_all p (insert xs i x) ≡ true
+list_all-insert p xs zero x a b = and_from (p x) (list_all p xs) b a
+list_all-insert p [] (suc i) x a b = and_from (p x) true b refl
+list_all-insert p (y ∷ ys) (suc i) x a b = let both = and_parts (p y) (list_all p ys) a in and_from (p y) (list_all p (insert ys i x)) both.0 (list_all-insert p ys i x both.1 b)
+
+end-all : (r : Reading) (e : End) (vs : List Value) → is_legal_end r e vs ≡ true → list_all (is_legal_object r e.feature) vs ≡ true
+end-all r e [] h = refl
+end-all r e (v ∷ vs) h = (and_parts (list_all (is_legal_object r e.feature) (v ∷ vs)) _ (and_parts (has_feature r e.node e.feature) _ h).1).0
+
+length-push : {X : Type 0} (xs : List X) (x : X) → suc (length xs) ≡ length (xs ++ x ∷ [])
+length-push [] x = refl
+length-push (y ∷ ys) x = ap suc (length-push ys x)
+
+pub length-put : {X : Type 0} (xs : List X) (i : ℕ) (x : X) → suc (length xs) ≡ length (insert xs i x)
+length-put xs zero x = refl
+length-put [] (suc i) x = refl
+length-put (y ∷ ys) (suc i) x = ap suc (length-put ys i x)
+
 ---------------------------------------------------------------- a new link
 
-one-legal : (r : Reading) (e : End) (o : ObjectNo) → has_feature r e.node e.feature ≡ true → takes r e.feature (value.Object o) ≡ true → is_legal_end r e (value.Object o ∷ []) ≡ true
-one-legal r e o has taken = end-from r e (value.Object o ∷ []) has (and_from _ _ taken refl) (one-bounded (shape_at r e))
+module _ (s : Model) (legal : IsLegal s) (e : End) (o : ObjectNo) (new : IsNewLink s e o) (taken : takes (reading s) e.feature (value.Object o) ≡ true) where
+  abbrev left : Links
+  left = without_displaced s e o
 
--- a class has a feature, and commands know it
-class-has : (m : Metamodel) (f : FeatureNo) (k : Bool) (c : Option ClassNo) → k ≡ true → option_map_or (λ x. lookups.has_feature m x f) c false ≡ true
-    → option_map_or (λ x. lookups.has_feature m x f && k) c false ≡ true
-class-has m f k None known h = h
-class-has m f k (Some c) known h = and_from (lookups.has_feature m c f) k h known
+  left-all : (d : End) → list_all (is_legal_object (reading s) d.feature) (end left d) ≡ true
+  left-all d = end-all (reading s) d (end left d) (cut-end s (pairs (yields (reading s) e o)) legal d)
 
-module _ (s : Model) (legal : IsLegal s) (e : End) (o : ObjectNo) (reference : (shape s.metamodel e.feature).is_reference ≡ true) (has : has_feature (reading s) e.node e.feature ≡ true) (taken : takes (reading s) e.feature (value.Object o) ≡ true) where
-  -- commands know the opposite too
-  far-known : (g : FeatureNo) → (shape s.metamodel e.feature).opposite ≡ Some g → is_known s.metamodel g ≡ true
-  far-known g opposite =
-      let back = (opposites_are_pairs s.metamodel legal.metamodel e.feature g opposite).back in
-      and_from (shape s.metamodel g).is_single _ (feature-far_single (reading s) e.node e.feature g has opposite)
-      (subst (λ (q : Option FeatureNo). option_map_or (λ f. (shape s.metamodel f).is_single) q true ≡ true) (sym back) (feature-single (reading s) e.node e.feature has))
+  linked-length : (d : End) → (shape s.metamodel d.feature).is_reference ≡ true → length ((reading s).values d) ≡ length (end s.links d)
+  linked-length d reference = ap (λ (vs : List Value). length vs) (values-linked s d reference)
 
-  far-legal : (g : FeatureNo) → (shape s.metamodel e.feature).opposite ≡ Some g → is_legal_end (reading s) (far_end o g) (node_value e.node ∷ []) ≡ true
+  -- an end of the new link may have one value more than is left
+  gains : (d : End) → (shape s.metamodel d.feature).is_reference ≡ true → is_full_at (reading s) d ≡ false → is_at_limit (reading s) d ≡ false
+      → ((shape s.metamodel d.feature).is_single ≡ true → end left d ≡ []) → is_bounded (shape s.metamodel d.feature) (suc (length (end left d))) ≡ true
+  gains d reference room few empty =
+      let a = shape s.metamodel d.feature in
+      let same = linked-length d reference in
+      bounded-more a (length (end left d)) (length (end s.links d)) (fewer-left s legal e o new d) (below-limit _ (subst (λ (n : ℕ). nat_le LIST_VALUES n ≡ false) same few))
+      (subst (λ (n : ℕ). is_full_list a n ≡ false) same room) (λ one. ap (λ (vs : List Value). length vs) (empty (single-of s.metamodel d.feature one)))
+
+  far-legal : (g : FeatureNo) → (shape s.metamodel e.feature).opposite ≡ Some g → (has_feature (reading s) (node.Object o) g ≡ true) × (is_legal_object (reading s) g (node_value e.node) ≡ true)
   far-legal g opposite =
-      let there = feature-there (reading s) e.node e.feature has in
+      let there = feature-there (reading s) e.node e.feature new.has in
       let near : meta.class_has s.metamodel (class_of s.values) there.object e.feature ≡ true = rw there.class_is there.has in
       let fit = far_types_fit s.metamodel legal.metamodel (class_of s.values) there.object o e.feature g opposite near taken in
-      subst (λ (n : Node). is_legal_end (reading s) (far_end o g) (node_value n ∷ []) ≡ true) (sym there.node)
-      (one-legal (reading s) (far_end o g) there.object (class-has s.metamodel g (is_known s.metamodel g) (class_of s.values o) (far-known g opposite) fit.0) fit.1)
+      (fit.0, subst (λ (n : Node). is_legal_object (reading s) g (node_value n) ≡ true) (sym there.node) fit.1)
 
-  -- each end once the link is there, by whether it is the near one, and whether it is the far one
-  near-put : (d : End) → same_end e d ≡ true → is_legal_end (reading s) d (insert (end (without_displaced s e o) d) 0 (value.Object o)) ≡ true
-  near-put d h =
-      subst (λ (x : End). is_legal_end (reading s) x (insert (end (without_displaced s e o) x) 0 (value.Object o)) ≡ true) (same_end-true e d h)
-      (rw (near-empty s legal e o reference has) (one-legal (reading s) e o has taken))
+  near-put : (i : ℕ) (d : End) → same_end e d ≡ true → is_legal_end (reading s) d (insert (end left d) i (value.Object o)) ≡ true
+  near-put i d h =
+      let r = reading s in
+      subst (λ (x : End). is_legal_end r x (insert (end left x) i (value.Object o)) ≡ true) (same_end-true e d h)
+      (end-from r e (insert (end left e) i (value.Object o)) new.has (list_all-insert (is_legal_object r e.feature) (end left e) i (value.Object o) (left-all e) taken)
+      (subst (λ (n : ℕ). is_bounded (shape s.metamodel e.feature) n ≡ true) (length-put (end left e) i (value.Object o))
+      (gains e new.reference (near-of (is_full_at r) r e o new.linkable.room) (near-of (is_at_limit r) r e o new.linkable.few) (near-empty s legal e o new))))
 
-  far-put : (d : End) (q : Option FeatureNo) → (shape s.metamodel e.feature).opposite ≡ q → is_far o q d ≡ true → is_legal_end (reading s) d (end (without_displaced s e o) d ++ node_value e.node ∷ []) ≡ true
+  far-put : (d : End) (q : Option FeatureNo) → (shape s.metamodel e.feature).opposite ≡ q → is_far o q d ≡ true → is_legal_end (reading s) d (end left d ++ node_value e.node ∷ []) ≡ true
   far-put d None is h = absurd (false≢true h)
   far-put d (Some g) is h =
-      subst (λ (x : End). is_legal_end (reading s) x (end (without_displaced s e o) x ++ node_value e.node ∷ []) ≡ true) (same_end-true (far_end o g) d h)
-      (rw (far-empty s legal e o reference has g is) (far-legal g is))
+      let r = reading s in
+      let x = far_end o g in
+      let fit = far-legal g is in
+      subst (λ (y : End). is_legal_end r y (end left y ++ node_value e.node ∷ []) ≡ true) (same_end-true x d h)
+      (end-from r x (end left x ++ node_value e.node ∷ []) fit.0 (list_all-append (is_legal_object r g) (end left x) (node_value e.node ∷ []) (left-all x) (and_from _ _ fit.1 refl))
+      (subst (λ (n : ℕ). is_bounded (shape s.metamodel g) n ≡ true) (length-push (end left x) (node_value e.node))
+      (gains x (far-reference s.metamodel legal.metamodel e.feature g is) (far-of (is_full_at r) r e o g is new.linkable.room) (far-of (is_at_limit r) r e o g is new.linkable.few) (λ single. far-emptied s e o g legal is single))))
 
-  put-legal : (d : End) → is_legal_end (reading s) d (put_end (without_displaced s e o) e 0 o (shape s.metamodel e.feature).opposite d) ≡ true
-  put-legal d =
-      let t = without_displaced s e o in
+  put-legal : (i : ℕ) (d : End) → is_legal_end (reading s) d (put_end left e i o (shape s.metamodel e.feature).opposite d) ≡ true
+  put-legal i d =
       let q = (shape s.metamodel e.feature).opposite in
       let other = cut-end s (pairs (yields (reading s) e o)) legal d in
-      let by_far : (b : Bool) → is_far o q d ≡ b → is_legal_end (reading s) d (if b then end t d ++ node_value e.node ∷ [] else end t d) ≡ true = λ b. elim b as (λ b. is_far o q d ≡ b → is_legal_end (reading s) d (if b then end t d ++ node_value e.node ∷ [] else end t d) ≡ true) [
+      let by_far : (b : Bool) → is_far o q d ≡ b → is_legal_end (reading s) d (if b then end left d ++ node_value e.node ∷ [] else end left d) ≡ true = λ b. elim b as (λ b. is_far o q d ≡ b → is_legal_end (reading s) d (if b then end left d ++ node_value e.node ∷ [] else end left d) ≡ true) [
         | true ↦ λ h. far-put d q refl h
         | false ↦ λ _. other
       ] in
-      elim (same_end e d) as (λ b. same_end e d ≡ b → is_legal_end (reading s) d (if b then insert (end t d) 0 (value.Object o) else (if is_far o q d then end t d ++ node_value e.node ∷ [] else end t d)) ≡ true) [
-        | true ↦ λ h. near-put d h
+      elim (same_end e d) as (λ b. same_end e d ≡ b → is_legal_end (reading s) d (if b then insert (end left d) i (value.Object o) else (if is_far o q d then end left d ++ node_value e.node ∷ [] else end left d)) ≡ true) [
+        | true ↦ λ h. near-put i d h
         | false ↦ λ _. by_far (is_far o q d) refl
       ] refl
 
-  pub put-end : (d : End) → is_legal_end (reading s) d (end (put (without_displaced s e o) e 0 o (shape s.metamodel e.feature).opposite (shape s.metamodel e.feature).containing) d) ≡ true
-  put-end d =
-      let t = without_displaced s e o in
-      let gives = end-put t e 0 o (shape s.metamodel e.feature).opposite (shape s.metamodel e.feature).containing (without_all_legal s.links (pairs (yields (reading s) e o)) legal.links.set) (new-fits s legal e o reference has) d in
-      rw gives (put-legal d)
+  pub put-end : (i : ℕ) → i ≤ length (end left e) → (d : End) → is_legal_end (reading s) d (end (put left e i o (shape s.metamodel e.feature).opposite (shape s.metamodel e.feature).containing) d) ≡ true
+  put-end i placed d =
+      let gives = end-put left e i o (shape s.metamodel e.feature).opposite (shape s.metamodel e.feature).containing (without_all_legal s.links (pairs (yields (reading s) e o)) legal.links.set) (new-fits s legal e o new i placed) d in
+      rw gives (put-legal i d)
+
+---------------------------------------------------------------- a move
+
+-- what is taken out of a list, and what is left
+pub taken_out : (vs : List Value) (k : ℕ) (v : Value) → slice_get vs k ≡ Some v → (p : Value → Bool) → list_all p vs ≡ true → (p v ≡ true) × (list_all p (remove vs k) ≡ true) × (suc (length (remove vs k)) ≡ length vs)
+taken_out [] k v at p all = absurd (none-some v at)
+taken_out (w ∷ ws) zero v at p all = let both = and_parts (p w) (list_all p ws) all in (subst (λ (x : Value). p x ≡ true) (same_Some w v at) both.0, both.1, refl)
+taken_out (w ∷ ws) (suc k) v at p all =
+    let both = and_parts (p w) (list_all p ws) all in
+    let rest = taken_out ws k v at p both.1 in
+    (rest.0, and_from (p w) (list_all p (remove ws k)) both.0 rest.1, ap suc rest.2)
+
+-- a list with its values in another order is as legal
+pub shifted-end : (s : Model) (e : End) (to from : ℕ) → IsLegal s → from < length (end s.links e) → to < length (end s.links e) → (d : End) → is_legal_end (reading s) d (end (shift s.links e to from) d) ≡ true
+shifted-end s e to from legal low_from low_to d =
+    elim (same_end e d) as (λ b. same_end e d ≡ b → is_legal_end (reading s) d (end (shift s.links e to from) d) ≡ true) [
+      | true ↦ λ same. subst (λ (x : End). is_legal_end (reading s) x (end (shift s.links e to from) x) ≡ true) (same_end-true e d same) (rw (end-shift_near s.links legal.links.set.placed e to from low_from low_to) (in_order (end s.links e) low_from (legal.links.ends e)))
+      | false ↦ λ other. rw (end-shift_other s.links legal.links.set.placed e to from low_from low_to d (λ is. true≢false (sym (same_end-self e) ∙ ap (same_end e) is ∙ other))) (legal.links.ends d)
+    ] refl
+  where
+    in_order : (vs : List Value) → from < length vs → is_legal_end (reading s) e vs ≡ true → is_legal_end (reading s) e (shifted vs to from) ≡ true
+    in_order [] low legal_end = absurd (omega (arith, low))
+    in_order (w ∷ ws) low legal_end =
+        let r = reading s in
+        let vs = w ∷ ws in
+        let has = and_parts (has_feature r e.node e.feature) _ legal_end in
+        let held = and_parts (list_all (is_legal_object r e.feature) vs) _ has.1 in
+        elim (slice_get vs from) as (λ q. slice_get vs from ≡ q → is_legal_end r e (put_back q vs to from) ≡ true) [
+          | None ↦ λ _. legal_end
+          | Some v ↦ λ at.
+              let rest = taken_out vs from v at (is_legal_object r e.feature) held.0 in
+              let same = sym (length-put (remove vs from) to v) ∙ rest.2 in
+              end-from r e (insert (remove vs from) to v) has.0 (list_all-insert (is_legal_object r e.feature) (remove vs from) to v rest.1 rest.0) (subst (λ (n : ℕ). is_bounded (shape_at r e) n ≡ true) (sym same) held.1)
+        ] refl
 
 ---------------------------------------------------------------- classes
 
@@ -178,7 +276,7 @@ takes-kept m x y kept f v h = by (lookups.feature m f) h
 
 module _ (s : Model) (v : ValuesState) (l : Links) (kept : HaveClasses (class_of s.values) (class_of v)) where
   has-kept : (n : Node) (f : FeatureNo) → has_feature (reading s) n f ≡ true → has_feature (reading (model_of s.metamodel v l)) n f ≡ true
-  has-kept (node.Object o) f h = test-kept (class_of s.values o) (class_of v o) (λ c. lookups.has_feature s.metamodel c f && is_known s.metamodel f) (kept o) h
+  has-kept (node.Object o) f h = test-kept (class_of s.values o) (class_of v o) (λ c. lookups.has_feature s.metamodel c f) (kept o) h
   has-kept (node.Resource k) f h = h
 
   object-kept : (f : FeatureNo) (w : Value) → is_legal_object (reading s) f w ≡ true → is_legal_object (reading (model_of s.metamodel v l)) f w ≡ true

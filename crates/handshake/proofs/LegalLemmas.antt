@@ -1,53 +1,61 @@
 -- A change that nothing refuses keeps a legal model legal.
-use Rattle.std.proofs.Common.{◌≡◌, ℕ, zero, suc, ◌≤◌, eqb, Bool, true, false, ◌&&◌, List, [], ◌∷◌, ◌++◌, length, slice_index_or, slice_set, Option, Some, None, unwrap_or, option_map, if◌then◌else◌, refl, sym, ap, ◌∙◌, subst, arith}
+use Rattle.std.proofs.Common.{◌≡◌, ℕ, zero, suc, ◌≤◌, nat_le, nat_lt, insert, remove, eqb, Bool, true, false, ◌&&◌, List, [], ◌∷◌, ◌++◌, length, slice_index_or, slice_set, Option, Some, None, unwrap_or, option_map, if◌then◌else◌, refl, sym, ap, ◌∙◌, subst, arith}
 use Rattle.std.specs.List.{All, IsDistinct}
 use Rattle.std.specs.Ordering.{nat_cmp}
 use Rattle.std.specs.FinMap as map
 use Rattle.std.specs.Option.{option_map_or}
-use Rattle.std.proofs.lemmas.Bool.{and_from}
+use Rattle.std.proofs.lemmas.Bool.{and_from, false≢true}
 use Rattle.std.proofs.lemmas.Bool.Decides.{nat_tests}
 use Rattle.std.proofs.lemmas.Option.{none-some}
 use Rattle.std.proofs.lemmas.List.{length-set, length-append}
 use Rattle.std.proofs.lemmas.List.Elements.{All-append, All-cons, All-nil, All-head, All-tail, All-set}
+use Rattle.mm_types.specs.Conditions.{◌where_so◌}
+use Rattle.mm_types.specs.Ends.{has_value}
 use Rattle.mm_types.specs.Lookups as lookups
 use Rattle.mm_types.specs.Resolved.{Metamodel}
-use Rattle.mm_types.specs.Shapes.{contents_shape, shape, shape_of}
+use Rattle.mm_types.specs.Shapes.{contents_shape, is_full_list, shape, shape_of}
 use Rattle.mm_types.specs.declared.feature.Feature.{Feature}
 use Rattle.mm_types.specs.declared.feature.Kind.{Kind}
 use Rattle.mm_types.specs.declared.feature.Kind.TheVariants.{Attribute, Reference}
-use Rattle.mm_types.specs.declared.limits.TheConstants.{OBJECTS}
+use Rattle.mm_types.specs.declared.limits.TheConstants.{LIST_VALUES, OBJECTS}
 use Rattle.mm_types.specs.declared.end.End.{End}
 use Rattle.mm_types.specs.declared.numbers.ClassNo.{ClassNo}
 use Rattle.mm_types.specs.declared.numbers.FeatureNo.{FeatureNo}
+use Rattle.mm_types.specs.declared.numbers.Node.{Node}
 use Rattle.mm_types.specs.declared.numbers.Node.TheVariants as node
 use Rattle.mm_types.specs.declared.numbers.ObjectNo.{ObjectNo}
-use Rattle.mm_types.specs.declared.refused.Refused.TheVariants.{Abstract, Limit}
+use Rattle.mm_types.specs.declared.refused.Refused.TheVariants.{Abstract, Bound, Limit}
 use Rattle.mm_types.specs.declared.value.Value.{Value}
 use Rattle.mm_types.specs.declared.value.Value.TheVariants as value
-use Rattle.mm_values.specs.Stored.{Stored, is_nothing, nothing_stored}
-use Rattle.mm_values.specs.Values.{ObjectState, Objects, ValuesState, applied, class_of, object_at, put_stored}
+use Rattle.mm_values.specs.Stored.{Stored, is_nothing, list_changed, nothing_stored}
+use Rattle.mm_values.specs.Values.{ObjectState, Objects, ValuesState, applied, change_list, class_of, object_at, put_stored, stored_under, with_changed}
+use Rattle.mm_types.specs.Lists.{shifted}
+use Rattle.mm_values.specs.declared.edit.ValueEdit.{ValueEdit}
+use Rattle.mm_values.specs.declared.edit.ValueEdit.TheVariants.{InsertValue}
 use Rattle.mm_values.proofs.StoredIn.{get-with_stored, kept}
 use Rattle.link_store.specs.Holders.{HasNoCycle}
 use Rattle.link_store.specs.Laws.{without_all}
 use Rattle.link_store.specs.LegalSets.{AreOfKind, IsLegalSet}
-use Rattle.link_store.specs.Links.{Links, end, put}
+use Rattle.link_store.specs.Links.{Links, end, put, shift}
 use Rattle.link_store.proofs.CycleLemmas.{plan_makes_no_cycle}
 use Rattle.link_store.proofs.KindLemmas.{plan_keeps_kinds}
 use Rattle.link_store.proofs.LegalLemmas.{plan_keeps_legal}
 use Rattle.models.specs.Legal.{AreLegalLinks, IsLegal, IsLegalObject, IsLegalStored, IsUniqueList, is_concrete, is_legal_end, is_short, kinds_of}
-use Rattle.models.specs.Model.{Model, reading}
-use Rattle.models.specs.Reading.{at_end, class_has, has_feature, takes}
+use Rattle.models.specs.Model.{Model, attribute_values, kept_values, reading}
+use Rattle.models.specs.Reading.{at_end, first_at, has_feature, is_repeat, place_for, takes}
 use Rattle.handshake.specs.declared.change.Change.{Change}
-use Rattle.handshake.specs.declared.change.Change.TheVariants.{Create, Set, Unset}
-use Rattle.handshake.specs.Displaced.{cut_by_set, cut_ties, is_plain_set}
+use Rattle.handshake.specs.declared.change.Change.TheVariants.{Create, Set, Unset, Add, Remove, RemoveValue, Move}
+use Rattle.handshake.specs.Displaced.{cut_by_new, cut_by_set, cut_ties, is_plain_add, is_plain_set}
 use Rattle.handshake.specs.Edits.{link_edits}
-use Rattle.handshake.specs.Effects.{after, links_after, put_by, put_under, value_edits, with_value}
+use Rattle.handshake.specs.Effects.{add_value, after, links_after, put_by, put_under, take_value, value_edits, with_value}
 use Rattle.handshake.specs.Laws.{KeepsLegal}
-use Rattle.handshake.specs.Refusals.{early_refusal, late_refusal}
-use Rattle.handshake.proofs.CutTieLemmas.{pairs, without_ties-pairs}
-use Rattle.handshake.proofs.KnownLemmas.{kinds-are, none-else_by, none-unless, object-reference, set-taken, set-there}
-use Rattle.handshake.proofs.LegalEndLemmas.{HaveClasses, cut-end, legal-end-kept, one-bounded, put-end}
-use Rattle.handshake.proofs.PlanLemmas.{near-empty, plan-for, without_displaced}
+use Rattle.handshake.specs.Refusals.{early_refusal, gain_refusal, is_at_limit, is_full_at, late_refusal}
+use Rattle.handshake.proofs.CutTieLemmas.{pairs, values-linked, without_ties-pairs}
+use Rattle.handshake.proofs.KnownLemmas.{add-gains, add-named, add-taken, kinds-are, move-named, move-placed, none-else_by, none-unless, none-where_so, object-reference, remove-named, set-named, set-taken, set-there, take-named}
+use Rattle.handshake.proofs.LegalEndLemmas.{HaveClasses, cut-end, legal-end-kept, one-bounded, put-end, shifted-end}
+use Rattle.handshake.proofs.LinkLemmas.{below-limit, near-empty, without_displaced}
+use Rattle.handshake.proofs.ListLegalLemmas.{insert-legal, move-legal, remove-legal}
+use Rattle.handshake.proofs.PlanLemmas.{add-new, add-place, below, plan-for, set-new}
 
 ---------------------------------------------------------------- what an object keeps
 
@@ -56,13 +64,18 @@ legal-at P [] i none all = none
 legal-at P (o ∷ os) zero none all = All-head P o os all
 legal-at P (o ∷ os) (suc i) none all = legal-at P os i none (All-tail P o os all)
 
-flag-off : (b : Bool) → false ≡ (b && false)
-flag-off true = refl
-flag-off false = refl
+flag-off : (a b : Bool) → false ≡ (a && (b && false))
+flag-off true true = refl
+flag-off true false = refl
+flag-off false b = refl
 
-flag-on : (b : Bool) → b ≡ (b && true)
-flag-on true = refl
-flag-on false = refl
+flag-on : (a b : Bool) → b ≡ true → a ≡ (a && (b && true))
+flag-on true b h = sym h ∙ sym (and-true b)
+  where
+    and-true : (b : Bool) → (b && true) ≡ b
+    and-true true = refl
+    and-true false = refl
+flag-on false b h = refl
 
 unique-none : (b : Bool) → IsUniqueList b []
 unfolding IsDistinct
@@ -79,7 +92,7 @@ same_number f g e = ap (λ (n : ℕ). record { 0 = n }) e
 
 -- what holds nothing is legal
 nothing-legal : (m : Metamodel) (c : ClassNo) (f : FeatureNo) → IsLegalStored m c f nothing_stored
-nothing-legal m c f = record { values = refl; unique = unique-none (shape m f).is_unique; flag = flag-off (shape m f).is_unsettable }
+nothing-legal m c f = record { values = refl; unique = unique-none (shape m f).is_unique; flag = flag-off (shape m f).is_unsettable (shape m f).is_single }
 
 kept-of_kind : (m : Metamodel) (class : ObjectNo → Option ClassNo) (f : FeatureNo) (x : Feature) (k : Kind) (v : Value)
     → (shape_of m f x k).is_reference ≡ false → lookups.is_of_kind m class (lookups.is_single x) k v ≡ true → lookups.is_of_attribute m (lookups.is_single x) k v ≡ true
@@ -97,13 +110,13 @@ keeps-taken m class f v attribute h = by (lookups.feature m f) attribute h
     by (Some g) attribute h = kept-of_kind m class f g g.kind v attribute h
 
 -- one value of an attribute's type is legal
-one-legal : (m : Metamodel) (c : ClassNo) (f : FeatureNo) (v : Value) → class_has m c f ≡ true → lookups.keeps m f v ≡ true → is_short v ≡ true
+one-legal : (m : Metamodel) (c : ClassNo) (f : FeatureNo) (v : Value) → (shape m f).is_single ≡ true → lookups.has_feature m c f ≡ true → lookups.keeps m f v ≡ true → is_short v ≡ true
     → IsLegalStored m c f (record { list = v ∷ []; flag = (shape m f).is_unsettable })
-one-legal m c f v has held short =
+one-legal m c f v single has held short =
     record {
       values = and_from _ _ has (and_from _ _ (and_from _ _ (and_from _ _ held short) refl) (one-bounded (shape m f)));
       unique = unique-one (shape m f).is_unique v;
-      flag = flag-on (shape m f).is_unsettable;
+      flag = flag-on (shape m f).is_unsettable (shape m f).is_single single;
     }
 
 -- what is kept of it
@@ -131,8 +144,8 @@ put-at m None f h legal held = tt
 put-at m (Some o) f h legal held = put-legal m o f h legal (held o refl)
 
 -- the class of the object there has the feature, where the object does
-has-of : (m : Metamodel) (o : Option ObjectState) (f : FeatureNo) (x : ObjectState) → o ≡ Some x → option_map_or (λ c. class_has m c f) (option_map (λ (s : ObjectState). s.class) o) false ≡ true → class_has m x.class f ≡ true
-has-of m o f x e has = subst (λ (o : Option ObjectState). option_map_or (λ c. class_has m c f) (option_map (λ (s : ObjectState). s.class) o) false ≡ true) e has
+has-of : (m : Metamodel) (o : Option ObjectState) (f : FeatureNo) (x : ObjectState) → o ≡ Some x → option_map_or (λ c. lookups.has_feature m c f) (option_map (λ (s : ObjectState). s.class) o) false ≡ true → lookups.has_feature m x.class f ≡ true
+has-of m o f x e has = subst (λ (o : Option ObjectState). option_map_or (λ c. lookups.has_feature m c f) (option_map (λ (s : ObjectState). s.class) o) false ≡ true) e has
 
 ---------------------------------------------------------------- the objects after a change
 
@@ -176,6 +189,84 @@ put-values s o f h legal held =
       classes = λ p c is. class-put f h s.values.objects o.0 p.0 ∙ is;
     }
 
+changed-at : (m : Metamodel) (o : Option ObjectState) (f : FeatureNo) (g : List Value → List Value) → IsLegalObject m o → ((x : ObjectState) → o ≡ Some x → IsLegalStored m x.class f (list_changed g (stored_under x f)))
+    → IsLegalObject m (option_map (change_list f g) o)
+changed-at m None f g legal held = tt
+changed-at m (Some x) f g legal held = put-legal m x f (list_changed g (stored_under x f)) legal (held x refl)
+
+change-class : (f : FeatureNo) (g : List Value → List Value) (o : Option ObjectState) → option_map (λ (x : ObjectState). x.class) (option_map (change_list f g) o) ≡ option_map (λ (x : ObjectState). x.class) o
+change-class f g None = refl
+change-class f g (Some x) = refl
+
+class-changed : (f : FeatureNo) (g : List Value → List Value) (os : Objects) (k i : ℕ)
+    → option_map (λ (x : ObjectState). x.class) (slice_index_or (slice_set os k (option_map (change_list f g) (slice_index_or os k None))) i None) ≡ option_map (λ (x : ObjectState). x.class) (slice_index_or os i None)
+class-changed f g [] k i = refl
+class-changed f g (o ∷ os) zero zero = change-class f g o
+class-changed f g (o ∷ os) zero (suc i) = refl
+class-changed f g (o ∷ os) (suc k) zero = refl
+class-changed f g (o ∷ os) (suc k) (suc i) = class-changed f g os k i
+
+-- a list under a feature of an object is changed
+changed-values : (s : Model) (o : ObjectNo) (f : FeatureNo) (g : List Value → List Value) → IsLegal s
+    → ((x : ObjectState) → object_at s.values.objects o ≡ Some x → IsLegalStored s.metamodel x.class f (list_changed g (stored_under x f)))
+    → AreLegalValues s (record { objects = with_changed s.values.objects o f g; uris = s.values.uris })
+changed-values s o f g legal held =
+    let P = IsLegalObject s.metamodel in
+    record {
+      count = rw (length-set s.values.objects o.0 _) legal.count;
+      objects = All-set P s.values.objects o.0 _ (changed-at s.metamodel (object_at s.values.objects o) f g (legal-at P s.values.objects o.0 tt legal.objects) held) legal.objects;
+      classes = λ p c is. class-changed f g s.values.objects o.0 p.0 ∙ is;
+    }
+
+-- of an attribute alone
+of-attribute : (s : Model) (f : FeatureNo) (es : List ValueEdit) → IsLegal s → ((shape s.metamodel f).is_reference ≡ false → AreLegalValues s (applied s.values es)) → AreLegalValues s (applied s.values (if (shape s.metamodel f).is_reference then [] else es))
+of-attribute s f es legal of =
+    elim (shape s.metamodel f).is_reference as (λ b. (shape s.metamodel f).is_reference ≡ b → AreLegalValues s (applied s.values (if b then [] else es))) [ true ↦ λ _. same-values s legal | false ↦ of ] refl
+
+-- what an attribute's list has is what its object stores
+module _ (s : Model) (legal : IsLegal s) (o : ObjectNo) (f : FeatureNo) (many : (shape s.metamodel f).is_single ≡ false) (has : has_feature (reading s) (node.Object o) f ≡ true) (attribute : (shape s.metamodel f).is_reference ≡ false) where
+  abbrev e : End
+  e = at_end (node.Object o) f
+
+  pub kept-values : (vs : List Value) → attribute_values (shape s.metamodel f) vs ≡ vs
+  kept-values [] = rw many refl
+  kept-values (v ∷ vs) = refl
+
+  pub stored-list : (x : ObjectState) → object_at s.values.objects o ≡ Some x → (reading s).values e ≡ (stored_under x f).list
+  stored-list x is =
+      let a = shape s.metamodel f in
+      ap (λ (b : Bool). if b then end s.links e else attribute_values a (kept_values s.values e.node f)) attribute
+      ∙ kept-values (kept_values s.values e.node f)
+      ∙ ap (λ (q : Option ObjectState). unwrap_or (option_map (λ t. (stored_under t f).list) q) []) is
+
+  pub stored-legal : (x : ObjectState) → object_at s.values.objects o ≡ Some x → IsLegalStored s.metamodel x.class f (stored_under x f)
+  stored-legal x is = (subst (IsLegalObject s.metamodel) is (legal-at (IsLegalObject s.metamodel) s.values.objects o.0 tt legal.objects)).1 f
+
+  stored-has : (x : ObjectState) → object_at s.values.objects o ≡ Some x → lookups.has_feature s.metamodel x.class f ≡ true
+  stored-has x is = has-of s.metamodel (object_at s.values.objects o) f x is has
+
+  plain-room : (v : Value) → lookups.takes s.metamodel (class_of s.values) f v ≡ true → gain_refusal (reading s) e v ≡ None → (is_full_at (reading s) e ≡ false) × (is_at_limit (reading s) e ≡ false)
+  plain-room (value.Object p) takes h = absurd (false≢true (sym attribute ∙ object-reference s.metamodel (class_of s.values) f p takes))
+  plain-room _ takes h = let both = none-else_by (Bound where_so is_full_at (reading s) e) (Limit where_so is_at_limit (reading s) e) h in (none-where_so Bound _ both.0, none-where_so Limit _ both.1)
+
+  added-values : (v : Value) (i : Option ℕ) → late_refusal (reading s) (Add (node.Object o) f v i) ≡ None → is_repeat (reading s) e v ≡ false
+      → AreLegalValues s (record { objects = with_changed s.values.objects o f (λ vs. insert vs (place_for (reading s) e i) v); uris = s.values.uris })
+  added-values v i late new =
+      let m = s.metamodel in
+      let ask = add-taken (reading s) (node.Object o) f v i late in
+      let room = plain-room v ask.takes (add-gains (reading s) e v i new ask.allowed) in
+      changed-values s o f (λ vs. insert vs (place_for (reading s) e i) v) legal (λ x is.
+      let list = stored-list x is in
+      insert-legal m x.class f (stored_under x f) many (stored-has x is) (stored-legal x is) (place_for (reading s) e i) v (keeps-taken m (class_of s.values) f v attribute ask.takes) ask.short
+      (subst (λ (vs : List Value). is_full_list (shape m f) (length vs) ≡ false) list room.0) (below-limit _ (subst (λ (vs : List Value). nat_le LIST_VALUES (length vs) ≡ false) list room.1))
+      (subst (λ (vs : List Value). ((shape m f).is_unique && has_value vs v) ≡ false) list new))
+
+  taken-values : (i : ℕ) → AreLegalValues s (record { objects = with_changed s.values.objects o f (λ vs. remove vs i); uris = s.values.uris })
+  taken-values i = changed-values s o f (λ vs. remove vs i) legal (λ x is. remove-legal s.metamodel x.class f (stored_under x f) many (stored-has x is) (stored-legal x is) i)
+
+  moved-values : (to from : ℕ) → AreLegalValues s (record { objects = with_changed s.values.objects o f (λ vs. shifted vs to from); uris = s.values.uris })
+  moved-values to from = changed-values s o f (λ vs. shifted vs to from) legal (λ x is. move-legal s.metamodel x.class f (stored_under x f) many (stored-has x is) (stored-legal x is) to from)
+
 values-after : (s : Model) (c : Change) → IsLegal s → early_refusal (reading s) c ≡ None → late_refusal (reading s) c ≡ None → AreLegalValues s (applied s.values (value_edits (reading s) c))
 values-after s (Create c) legal early late =
     let P = IsLegalObject s.metamodel in
@@ -190,7 +281,7 @@ values-after s (Set (node.Object o) f v) legal early late =
     let h : Stored = record { list = v ∷ []; flag = (shape m f).is_unsettable } in
     elim (shape m f).is_reference as (λ b. (shape m f).is_reference ≡ b → AreLegalValues s (applied s.values (if b then [] else put_under f h.list h.flag (node.Object o)))) [
       | true ↦ λ _. same-values s legal
-      | false ↦ λ attribute. put-values s o f h legal (λ x e. one-legal m x.class f v (has-of m _ f x e (set-there (reading s) (node.Object o) f v early)) (keeps-taken m (class_of s.values) f v attribute ask.takes) ask.short)
+      | false ↦ λ attribute. put-values s o f h legal (λ x e. one-legal m x.class f v (set-named (reading s) (node.Object o) f v early).single (has-of m _ f x e (set-there (reading s) (node.Object o) f v early)) (keeps-taken m (class_of s.values) f v attribute ask.takes) ask.short)
     ] refl
 values-after s (Set (node.Resource k) f v) legal early late =
     elim (shape s.metamodel f).is_reference as (λ b. AreLegalValues s (applied s.values (if b then [] else []))) [ true ↦ same-values s legal | false ↦ same-values s legal ]
@@ -201,31 +292,95 @@ values-after s (Unset (node.Object o) f) legal early late =
     ]
 values-after s (Unset (node.Resource k) f) legal early late =
     elim (shape s.metamodel f).is_reference as (λ b. AreLegalValues s (applied s.values (if b then [] else []))) [ true ↦ same-values s legal | false ↦ same-values s legal ]
+values-after s (Add (node.Object o) f v i) legal early late =
+    let r = reading s in
+    let e = at_end (node.Object o) f in
+    let named = add-named r (node.Object o) f v i early in
+    of-attribute s f (add_value r e v i) legal (λ attribute.
+    elim (is_repeat r e v) as (λ b. is_repeat r e v ≡ b → AreLegalValues s (applied s.values (if b then [] else InsertValue o f (place_for r e i) v (shape s.metamodel f).is_unique ∷ []))) [
+      | true ↦ λ _. same-values s legal
+      | false ↦ λ new. added-values s legal o f named.single named.there attribute v i late new
+    ] refl)
+values-after s (Add (node.Resource k) f v i) legal early late = absurd (false≢true (add-named (reading s) (node.Resource k) f v i early).there)
+values-after s (Remove (node.Object o) f i) legal early late =
+    let named = remove-named (reading s) (node.Object o) f i early in
+    of-attribute s f _ legal (λ attribute. taken-values s legal o f named.1 named.0 attribute i)
+values-after s (Remove (node.Resource k) f i) legal early late = absurd (false≢true (remove-named (reading s) (node.Resource k) f i early).0)
+values-after s (RemoveValue (node.Object o) f v) legal early late =
+    let r = reading s in
+    let e = at_end (node.Object o) f in
+    let named = take-named r (node.Object o) f v early in
+    of-attribute s f _ legal (λ attribute.
+    elim (first_at r e v) as (λ q. AreLegalValues s (applied s.values (option_map_or (take_value e) q []))) [
+      | None ↦ same-values s legal
+      | Some i ↦ taken-values s legal o f named.single named.there attribute i
+    ])
+values-after s (RemoveValue (node.Resource k) f v) legal early late = absurd (false≢true (take-named (reading s) (node.Resource k) f v early).there)
+values-after s (Move (node.Object o) f to from) legal early late =
+    let named = move-named (reading s) (node.Object o) f to from early in
+    of-attribute s f _ legal (λ attribute. moved-values s legal o f named.1 named.0 attribute to from)
+values-after s (Move (node.Resource k) f to from) legal early late = absurd (false≢true (move-named (reading s) (node.Resource k) f to from early).0)
 
 ---------------------------------------------------------------- the links after a change
 
--- of a set of an end that is not plain
-set-ends : (s : Model) (e : End) (v : Value) → IsLegal s → has_feature (reading s) e.node e.feature ≡ true → takes (reading s) e.feature v ≡ true → (d : End)
-    → is_legal_end (reading s) d (end (with_value (without_all s.links (pairs (cut_by_set (reading s) e v))) (reading s) e v) d) ≡ true
-set-ends s e (value.Object o) legal has taken d =
-    let a = shape s.metamodel e.feature in
+-- of a set and an addition that are not plain
+set-ends : (s : Model) (n : Node) (f : FeatureNo) (v : Value) → IsLegal s → early_refusal (reading s) (Set n f v) ≡ None → late_refusal (reading s) (Set n f v) ≡ None → is_plain_set (reading s) (at_end n f) v ≡ false → (d : End)
+    → is_legal_end (reading s) d (end (with_value (without_all s.links (pairs (cut_by_set (reading s) (at_end n f) v))) (reading s) (at_end n f) None v) d) ≡ true
+set-ends s n f (value.Object o) legal early late h d =
+    let e = at_end n f in
+    let a = shape s.metamodel f in
     let t = without_displaced s e o in
-    let reference = object-reference s.metamodel (class_of s.values) e.feature o taken in
-    subst (λ (vs : List Value). is_legal_end (reading s) d (end (put t e (length vs) o a.opposite a.containing) d) ≡ true) (sym (near-empty s legal e o reference has)) (put-end s legal e o reference has taken d)
-set-ends s e v legal has taken d = cut-end s (pairs (cut_by_set (reading s) e v)) legal d
+    let new = set-new s n f o legal early late h in
+    let empty = near-empty s legal e o new (set-named (reading s) n f (value.Object o) early).single in
+    subst (λ (vs : List Value). is_legal_end (reading s) d (end (put t e (length vs) o a.opposite a.containing) d) ≡ true) (sym empty)
+    (put-end s legal e o new (set-taken (reading s) n f (value.Object o) late).takes 0 (omega arith) d)
+set-ends s n f v legal early late h d = cut-end s (pairs (cut_by_set (reading s) (at_end n f) v)) legal d
+
+add-ends : (s : Model) (n : Node) (f : FeatureNo) (v : Value) (i : Option ℕ) → IsLegal s → early_refusal (reading s) (Add n f v i) ≡ None → late_refusal (reading s) (Add n f v i) ≡ None → is_plain_add (reading s) (at_end n f) v ≡ false → (d : End)
+    → is_legal_end (reading s) d (end (with_value (without_all s.links (pairs (cut_by_new (reading s) (at_end n f) v))) (reading s) (at_end n f) i v) d) ≡ true
+add-ends s n f (value.Object o) i legal early late h d =
+    let e = at_end n f in
+    let a = shape s.metamodel f in
+    let t = without_displaced s e o in
+    let at = add-place s n f o i legal early late h in
+    subst (λ (k : ℕ). is_legal_end (reading s) d (end (put t e k o a.opposite a.containing) d) ≡ true) at.1
+    (put-end s legal e o (add-new s n f o i early late h) (add-taken (reading s) n f (value.Object o) i late).takes (place_for (reading s) e i) at.0 d)
+add-ends s n f v i legal early late h d = cut-end s (pairs (cut_by_new (reading s) (at_end n f) v)) legal d
+
+move-ends : (s : Model) (n : Node) (f : FeatureNo) (to from : ℕ) → IsLegal s → late_refusal (reading s) (Move n f to from) ≡ None → (shape s.metamodel f).is_reference ≡ true → (d : End) → is_legal_end (reading s) d (end (shift s.links (at_end n f) to from) d) ≡ true
+move-ends s n f to from legal late reference d =
+    let e = at_end n f in
+    let placed = move-placed (reading s) n f to from late in
+    let linked = values-linked s e reference in
+    shifted-end s e to from legal (below from _ (subst (λ (vs : List Value). nat_lt from (length vs) ≡ true) linked placed.1)) (below to _ (subst (λ (vs : List Value). nat_lt to (length vs) ≡ true) linked placed.0)) d
 
 ends-by-pairs : (s : Model) (c : Change) → IsLegal s → early_refusal (reading s) c ≡ None → late_refusal (reading s) c ≡ None → (d : End)
     → is_legal_end (reading s) d (end (put_by (without_all s.links (pairs (cut_ties (reading s) c))) (reading s) c) d) ≡ true
 ends-by-pairs s (Create k) legal early late d = legal.links.ends d
 ends-by-pairs s (Unset n f) legal early late d = cut-end s (pairs (cut_ties (reading s) (Unset n f))) legal d
+ends-by-pairs s (Remove n f i) legal early late d = cut-end s (pairs (cut_ties (reading s) (Remove n f i))) legal d
+ends-by-pairs s (RemoveValue n f v) legal early late d = cut-end s (pairs (cut_ties (reading s) (RemoveValue n f v))) legal d
 ends-by-pairs s (Set n f v) legal early late d =
     let r = reading s in
     let e = at_end n f in
     let t : Bool → Links = λ b. without_all s.links (pairs (if b then [] else cut_by_set r e v)) in
-    elim (is_plain_set r e v) as (λ b. is_legal_end r d (end (if b then t b else with_value (t b) r e v) d) ≡ true) [
-      | true ↦ legal.links.ends d
-      | false ↦ set-ends s e v legal (set-there r n f v early) (set-taken r n f v late).takes d
-    ]
+    elim (is_plain_set r e v) as (λ b. is_plain_set r e v ≡ b → is_legal_end r d (end (if b then t b else with_value (t b) r e None v) d) ≡ true) [
+      | true ↦ λ _. legal.links.ends d
+      | false ↦ λ new. set-ends s n f v legal early late new d
+    ] refl
+ends-by-pairs s (Add n f v i) legal early late d =
+    let r = reading s in
+    let e = at_end n f in
+    let t : Bool → Links = λ b. without_all s.links (pairs (if b then [] else cut_by_new r e v)) in
+    elim (is_plain_add r e v) as (λ b. is_plain_add r e v ≡ b → is_legal_end r d (end (if b then t b else with_value (t b) r e i v) d) ≡ true) [
+      | true ↦ λ _. legal.links.ends d
+      | false ↦ λ new. add-ends s n f v i legal early late new d
+    ] refl
+ends-by-pairs s (Move n f to from) legal early late d =
+    elim (shape s.metamodel f).is_reference as (λ b. (shape s.metamodel f).is_reference ≡ b → is_legal_end (reading s) d (end (if b then shift s.links (at_end n f) to from else s.links) d) ≡ true) [
+      | true ↦ λ reference. move-ends s n f to from legal late reference d
+      | false ↦ λ _. legal.links.ends d
+    ] refl
 
 ends-after : (s : Model) (c : Change) → IsLegal s → early_refusal (reading s) c ≡ None → late_refusal (reading s) c ≡ None → (d : End)
     → is_legal_end (reading s) d (end (links_after s.links (reading s) c) d) ≡ true

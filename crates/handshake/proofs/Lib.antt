@@ -2,11 +2,16 @@ pub mod ApartLemmas
 pub mod AttributeLemmas
 pub mod ChainLemmas
 pub mod CutEndLemmas
+mod CutHeldLemmas
 pub mod CutTieLemmas
+mod YieldLemmas
 pub mod HappenedLemmas
 pub mod KnownLemmas
 pub mod LegalEndLemmas
 pub mod LegalLemmas
+mod LinkLemmas
+mod ListLegalLemmas
+mod ListReplayLemmas
 pub mod LossLemmas
 pub mod PlanLemmas
 pub mod RelinkLemmas

@@ -1,12 +1,16 @@
--- What a change of a single reference tells is what it makes of each end.
-use Rattle.std.proofs.Common.{◌≡◌, Bool, true, false, ◌&&◌, ◌||◌, List, [], ◌∷◌, ◌++◌, flat_map, map, Option, Some, None, option_map, option_to_list, if◌then◌else◌, refl, sym, ap, ◌∙◌, subst}
+-- What a change of a reference tells is what it makes of each end.
+use Rattle.std.proofs.Common.{◌≡◌, ℕ, suc, ◌≤◌, nat_lt, length, unwrap_or, arith, inl, inr, Bool, true, false, ◌&&◌, ◌||◌, List, [], ◌∷◌, ◌++◌, flat_map, Option, Some, None, option_map, option_to_list, if◌then◌else◌, refl, sym, ap, ◌∙◌, subst}
+use Rattle.std.specs.Prelude.{◌⊎◌}
 use Rattle.std.specs.List.{AllByRecursion, insert}
 use Rattle.std.specs.Option.{option_map_or}
-use Rattle.std.proofs.lemmas.Bool.{or_left}
+use Rattle.std.proofs.lemmas.Bool.{true≢false}
+use Rattle.std.proofs.lemmas.Bool.Decides.{nat_tests}
+use Rattle.std.proofs.lemmas.List.Edits.{insert_end}
+use Rattle.mm_meta.proofs.ShapeLemmas.{opposites_are_pairs}
 use Rattle.mm_types.proofs.SameLemmas.{same_end-self, same_end-true}
 use Rattle.mm_types.specs.Ends.{Held, shown, value_in}
 use Rattle.mm_types.specs.Same.{node_value, same_end}
-use Rattle.mm_types.specs.Shapes.{shape}
+use Rattle.mm_types.specs.Shapes.{Shape, shape}
 use Rattle.mm_types.specs.declared.end.End.{End}
 use Rattle.mm_types.specs.declared.numbers.FeatureNo.{FeatureNo}
 use Rattle.mm_types.specs.declared.numbers.ObjectNo.{ObjectNo}
@@ -20,25 +24,28 @@ use Rattle.link_store.specs.Links.{Links, end, far_end, object_at, put}
 use Rattle.link_store.specs.Plans.{Has}
 use Rattle.models.proofs.EndLemmas.{values-single}
 use Rattle.models.specs.Legal.{IsLegal}
-use Rattle.models.specs.Model.{Model, reading}
-use Rattle.models.specs.Reading.{Reading, has_feature, held_at, value_at}
-use Rattle.handshake.specs.Displaced.{has_already, opposite_end, tie, ties_at, yields}
+use Rattle.models.specs.Model.{Model, kept_flag, reading}
+use Rattle.models.specs.Reading.{Reading, held_at, value_at}
+use Rattle.handshake.specs.Displaced.{has_already, opposite_end, yields}
+use Rattle.handshake.specs.Laws.{AreDifferent}
 use Rattle.handshake.specs.Telling.{telling}
-use Rattle.handshake.specs.Tellings.{far_gain, far_losses, is_replaced, other_losses}
+use Rattle.handshake.specs.Tellings.{far_gain, far_loss, far_losses, gain_at, is_replaced, losses, other_losses}
 use Rattle.handshake.specs.declared.happening.Happening.{Happening}
 use Rattle.handshake.specs.declared.happening.Happening.TheVariants.{Gains}
 use Rattle.handshake.specs.declared.happening.Telling.{Telling}
 use Rattle.handshake.specs.declared.tie.Tie.{Tie}
 use Rattle.handshake.proofs.AttributeLemmas.{Replays}
-use Rattle.handshake.proofs.CutEndLemmas.{end-at, held-none, held-one, losses-cut, reference-flag, reference-plain, same-held}
-use Rattle.handshake.proofs.CutTieLemmas.{Stands, all_at, all_map, pairs, same_end-symmetric, values-linked, yields-stand}
-use Rattle.handshake.proofs.HappenedLemmas.{done, done-here, done-other, done_at, happened_at, happened_at-append}
-use Rattle.handshake.proofs.KnownLemmas.{far-reference, feature-far_single, feature-single}
-use Rattle.handshake.proofs.LossLemmas.{gained, gained-single, happened_at-far_losses, happened_at-other_losses, is_any_at, is_at, is_far_at, lost}
-use Rattle.handshake.proofs.PlanLemmas.{far-empty, near-empty, new-fits}
+use Rattle.handshake.proofs.ApartLemmas.{far_losses-away}
+use Rattle.handshake.proofs.CutEndLemmas.{held-one, reference-flag, reference-plain, same-held}
+use Rattle.handshake.proofs.CutHeldLemmas.{held_in, losses-cut}
+use Rattle.handshake.proofs.CutTieLemmas.{Stands, all_map, far-emptied, pairs, same_end-symmetric, yields-different, yields-stand}
+use Rattle.handshake.proofs.HappenedLemmas.{at-others, at-own, done, done-here, done-other, done_at, happened_at, happened_at-append}
+use Rattle.handshake.proofs.KnownLemmas.{far-reference}
+use Rattle.handshake.proofs.LossLemmas.{gained, gained-single, happened_at-far_loss, happened_at-other_losses}
+use Rattle.handshake.proofs.LinkLemmas.{IsNewLink, near-empty, new-fits, without_displaced}
 
 -- what holds at e, and at each other end, holds at each
-at-each : (P : End → Type 0) (e d : End) → P e → (same_end e d ≡ false → P d) → P d
+pub at-each : (P : End → Type 0) (e d : End) → P e → (same_end e d ≡ false → P d) → P d
 at-each P e d here other = elim (same_end e d) as (λ b. same_end e d ≡ b → P d) [ true ↦ λ same. subst P (same_end-true e d same) here | false ↦ other ] refl
 
 stand-there : (s : Links) (ts : List Tie) → AllByRecursion (Stands s) ts → AreThere s (pairs ts)
@@ -73,48 +80,42 @@ module _ (s : Model) (e : End) (legal : IsLegal s) (reference : (shape s.metamod
       ∙ held-value)
       (λ other. done-other m d t (held_at (reading s) d) other)
 
----------------------------------------------------------------- a reference is emptied
+---------------------------------------------------------------- links of one end are cut
 
-module _ (s : Model) (e : End) (legal : IsLegal s) (reference : (shape s.metamodel e.feature).is_reference ≡ true) (single : (shape s.metamodel e.feature).is_single ≡ true) where
-  ties-there : AreThere s.links (pairs (ties_at (reading s) e))
-  ties-there = stand-there s.links (ties_at (reading s) e)
-      (subst (λ (vs : List Value). AllByRecursion (Stands s.links) (map (tie e) vs)) (sym (values-linked s e reference))
-      (all_map (Stands s.links) (tie e) (end s.links e) (all_at (Has s.links e) (end s.links e) (λ k v at. (k, at)))))
+-- the far losses of links of e are all their losses, at another end
+far_losses-all : (r : Reading) (e : End) (ts : List Tie) (d : End) (h : Held) → AllByRecursion (λ (t : Tie). t.end ≡ e) ts → same_end e d ≡ false → happened_at r.metamodel (far_losses r ts) d h ≡ happened_at r.metamodel (flat_map (losses r) ts) d h
+far_losses-all r e [] d h here other = refl
+far_losses-all r e (t ∷ ts) d h here other =
+    let m = r.metamodel in
+    happened_at-append m (far_loss r t) (far_losses r ts) d h
+    ∙ far_losses-all r e ts d (happened_at m (far_loss r t) d h) here.1 other
+    ∙ ap (happened_at m (flat_map (losses r) ts) d) (happened_at-far_loss r t d h (ap (λ (x : End). same_end x d) here.0 ∙ other))
+    ∙ sym (happened_at-append m (losses r t) (flat_map (losses r) ts) d h)
 
-  emptied-end : (vs : List Value) → end s.links e ≡ vs → AreThere s.links (pairs (map (tie e) vs)) → end (without_all s.links (pairs (map (tie e) vs))) e ≡ []
-  emptied-end [] is there = is
-  emptied-end (w ∷ ws) is there =
-      let ts = map (tie e) (w ∷ ws) in
-      let t = tie e w in
-      end-at s ts legal there e (or_left (is_at (reading s) t e) (is_any_at (reading s) (map (tie e) ws) e) (or_left (same_end e e) (is_far_at (reading s) t e) (same_end-self e)))
-
-  abbrev emptied : Model
-  emptied = record s { links = without_all s.links (pairs (ties_at (reading s) e)) }
-
-  -- the losses at the far ends, and then what empties the near end
-  pub emptied-replays : (x : Happening) → ((k : Held) → done (shape s.metamodel e.feature) x k ≡ lost (shape s.metamodel e.feature))
-      → Replays s (far_losses (reading s) (ties_at (reading s) e) ++ telling e x ∷ []) emptied
-  emptied-replays x does d =
+module _ (s : Model) (legal : IsLegal s) (e : End) (ts : List Tie) (here : AllByRecursion (λ (t : Tie). t.end ≡ e) ts) (different : AreDifferent (reading s) ts) (stand : AllByRecursion (Stands s.links) ts) where
+  -- the far ends' losses, and then the end's own tellings, where they make of it what the cuts do
+  pub cut-replays : (own : List Telling) → AllByRecursion (λ (t : Telling). t.at ≡ e) own → happened_at s.metamodel own e (held_at (reading s) e) ≡ held_in s (without_all s.links (pairs ts)) e
+      → Replays s (far_losses (reading s) ts ++ own) (record s { links = without_all s.links (pairs ts) })
+  cut-replays own own_here makes d =
       let m = s.metamodel in
       let r = reading s in
-      let t = telling e x in
-      let xs = far_losses r (ties_at r e) in
-      at-each (λ y. happened_at m (xs ++ t ∷ []) y (held_at r y) ≡ held_at (reading emptied) y) e d
-      (happened_at-append m xs (t ∷ []) e (held_at r e)
-      ∙ done-here m e t (happened_at m xs e (held_at r e)) (same_end-self e)
-      ∙ does (happened_at m xs e (held_at r e))
-      ∙ held-none s (without_all s.links (pairs (ties_at r e))) e legal reference single (emptied-end (r.values e) (sym (values-linked s e reference)) ties-there))
+      let xs = far_losses r ts in
+      at-each (λ y. happened_at m (xs ++ own) y (held_at r y) ≡ held_in s (without_all s.links (pairs ts)) y) e d
+      (happened_at-append m xs own e (held_at r e) ∙ ap (happened_at m own e) (at-others m e xs (held_at r e) (far_losses-away s legal e ts here)) ∙ makes)
       (λ other.
-      happened_at-append m xs (t ∷ []) d (held_at r d)
-      ∙ done-other m d t (happened_at m xs d (held_at r d)) other
-      ∙ happened_at-far_losses r e (r.values e) d (held_at r d) other
-      ∙ losses-cut s (ties_at r e) legal ties-there d)
+      happened_at-append m xs own d (held_at r d)
+      ∙ at-own m e d own (happened_at m xs d (held_at r d)) own_here other
+      ∙ far_losses-all r e ts d (held_at r d) here other
+      ∙ losses-cut s legal ts (stand-there s.links ts stand) different d)
 
 ---------------------------------------------------------------- a reference is given another object
 
 not-replaced : (b x y : Bool) → x ≡ false → y ≡ false → (b && (x || y)) ≡ false
 not-replaced true x y near far = rw (near, far) refl
 not-replaced false x y near far = refl
+
+list-kept : (b x : Bool) → b ≡ false → (b && x) ≡ false
+list-kept b x h = ap (λ (y : Bool). y && x) h
 
 far-turned : (o : ObjectNo) (d : End) (q : Option FeatureNo) → option_map_or (same_end d) (option_map (far_end o) q) false ≡ is_far o q d
 far-turned o d None = refl
@@ -130,105 +131,168 @@ far_gain-other : (r : Reading) (e : End) (o : ObjectNo) (d : End) (k : Held) (q 
 far_gain-other r e o d k None far = refl
 far_gain-other r e o d k (Some g) far = done-other r.metamodel d (telling (far_end o g) (Gains (node_value e.node))) k far
 
-module _ (s : Model) (e : End) (o : ObjectNo) (legal : IsLegal s) (reference : (shape s.metamodel e.feature).is_reference ≡ true) (has : has_feature (reading s) e.node e.feature ≡ true) where
+module _ (s : Model) (legal : IsLegal s) (e : End) (o : ObjectNo) (new : IsNewLink s e o) (i : ℕ) (placed : i ≤ length (end (without_displaced s e o) e)) where
   abbrev left : Links
-  left = without_all s.links (pairs (yields (reading s) e o))
+  left = without_displaced s e o
 
   abbrev joined : Links
-  joined = put left e 0 o (shape s.metamodel e.feature).opposite (shape s.metamodel e.feature).containing
+  joined = put left e i o (shape s.metamodel e.feature).opposite (shape s.metamodel e.feature).containing
 
-  abbrev pub linked : Model
-  linked = record s { links = joined }
-
-  end-joined : (d : End) → end joined d ≡ put_end left e 0 o (shape s.metamodel e.feature).opposite d
+  end-joined : (d : End) → end joined d ≡ put_end left e i o (shape s.metamodel e.feature).opposite d
   end-joined d =
-      end-put left e 0 o (shape s.metamodel e.feature).opposite (shape s.metamodel e.feature).containing
-      (without_all_legal s.links (pairs (yields (reading s) e o)) legal.links.set) (new-fits s legal e o reference has) d
+      end-put left e i o (shape s.metamodel e.feature).opposite (shape s.metamodel e.feature).containing
+      (without_all_legal s.links (pairs (yields (reading s) e o)) legal.links.set) (new-fits s legal e o new i placed) d
 
   -- what put_end gives, where the tests answer so
   abbrev end_if : Bool → Bool → End → List Value
-  end_if near far d = if near then insert (end left d) 0 (value.Object o) else if far then end left d ++ node_value e.node ∷ [] else end left d
+  end_if near far d = if near then insert (end left d) i (value.Object o) else if far then end left d ++ node_value e.node ∷ [] else end left d
 
   end-joined_if : (d : End) (near far : Bool) → same_end e d ≡ near → is_far o (shape s.metamodel e.feature).opposite d ≡ far → end joined d ≡ end_if near far d
-  end-joined_if d near far is_near is_far = end-joined d ∙ (λ i. end_if (is_near i) (is_far i) d)
+  end-joined_if d near far is_near is_far = end-joined d ∙ (λ j. end_if (is_near j) (is_far j) d)
 
-  near-joined : end joined e ≡ value.Object o ∷ []
-  near-joined = end-joined_if e true _ (same_end-self e) refl ∙ ap (λ (vs : List Value). insert vs 0 (value.Object o)) (near-empty s legal e o reference has)
+  near-joined : end joined e ≡ insert (end left e) i (value.Object o)
+  near-joined = end-joined_if e true _ (same_end-self e) refl
 
-  far-joined : (g : FeatureNo) → (shape s.metamodel e.feature).opposite ≡ Some g → same_end e (far_end o g) ≡ false → end joined (far_end o g) ≡ node_value e.node ∷ []
-  far-joined g is other =
-      end-joined_if (far_end o g) false true other (ap (λ (q : Option FeatureNo). is_far o q (far_end o g)) is ∙ same_end-self (far_end o g))
-      ∙ ap (λ (vs : List Value). vs ++ node_value e.node ∷ []) (far-empty s legal e o reference has g is)
+  far-joined : (g : FeatureNo) → (shape s.metamodel e.feature).opposite ≡ Some g → same_end e (far_end o g) ≡ false → end joined (far_end o g) ≡ end left (far_end o g) ++ node_value e.node ∷ []
+  far-joined g is other = end-joined_if (far_end o g) false true other (ap (λ (q : Option FeatureNo). is_far o q (far_end o g)) is ∙ same_end-self (far_end o g))
 
   there : AreThere s.links (pairs (yields (reading s) e o))
-  there = stand-there s.links (yields (reading s) e o) (yields-stand s e o legal reference)
+  there = stand-there s.links (yields (reading s) e o) (yields-stand s e o legal new.reference)
 
-  -- what is told before the end itself gains
+  -- what the displaced links tell, and what is told before the end itself gains
+  abbrev kept : List Telling
+  kept = flat_map (other_losses (reading s) e o) (yields (reading s) e o)
+
   abbrev before : List Telling
-  before = flat_map (other_losses (reading s) e o) (yields (reading s) e o) ++ far_gain (reading s) e o
+  before = kept ++ far_gain (reading s) e o
 
-  abbrev gain : Telling
-  gain = telling e (Gains (value.Object o))
+  -- at an end that the new link does not replace
+  kept-left : (d : End) → is_replaced (reading s) e o d ≡ false → happened_at s.metamodel kept d (held_at (reading s) d) ≡ held_in s left d
+  kept-left d stays =
+      happened_at-other_losses (reading s) e o (yields (reading s) e o) d (held_at (reading s) d) stays
+      ∙ losses-cut s legal (yields (reading s) e o) there (yields-different (reading s) e o) d
 
-  abbrev At : End → Type 0
-  At d = happened_at s.metamodel (before ++ gain ∷ []) d (held_at (reading s) d) ≡ held_at (reading linked) d
+  module _ (gain : Happening) where
+    abbrev At : End → Type 0
+    At d = happened_at s.metamodel (before ++ telling e gain ∷ []) d (held_at (reading s) d) ≡ held_in s joined d
 
-  at-near : At e
-  at-near =
-      let m = s.metamodel in
-      let h = held_at (reading s) e in
-      let single = feature-single (reading s) e.node e.feature has in
-      happened_at-append m before (gain ∷ []) e h
-      ∙ done-here m e gain (happened_at m before e h) (same_end-self e)
-      ∙ gained-single (shape m e.feature) (value.Object o) (happened_at m before e h) single
-      ∙ held-one s joined e legal reference single (value.Object o) near-joined
+    -- at another end, the far gain after the losses
+    at-another : (d : End) → same_end e d ≡ false
+        → happened_at s.metamodel (before ++ telling e gain ∷ []) d (held_at (reading s) d) ≡ happened_at s.metamodel (far_gain (reading s) e o) d (happened_at s.metamodel kept d (held_at (reading s) d))
+    at-another d other =
+        let m = s.metamodel in
+        let r = reading s in
+        happened_at-append m before (telling e gain ∷ []) d (held_at r d)
+        ∙ done-other m d (telling e gain) (happened_at m before d (held_at r d)) other
+        ∙ happened_at-append m kept (far_gain r e o) d (held_at r d)
 
-  -- at another end, the far gain after the losses
-  at-others : (d : End) → same_end e d ≡ false
-      → happened_at s.metamodel (before ++ gain ∷ []) d (held_at (reading s) d)
-      ≡ happened_at s.metamodel (far_gain (reading s) e o) d (happened_at s.metamodel (flat_map (other_losses (reading s) e o) (yields (reading s) e o)) d (held_at (reading s) d))
-  at-others d other =
-      let m = s.metamodel in
-      let r = reading s in
-      happened_at-append m before (gain ∷ []) d (held_at r d)
-      ∙ done-other m d gain (happened_at m before d (held_at r d)) other
-      ∙ happened_at-append m (flat_map (other_losses r e o) (yields r e o)) (far_gain r e o) d (held_at r d)
+    -- the far end has the node alone, or behind what it has
+    far-gained : (g : FeatureNo) (is : (shape s.metamodel e.feature).opposite ≡ Some g) → same_end e (far_end o g) ≡ false → done (shape s.metamodel g) (Gains (node_value e.node)) (happened_at s.metamodel kept (far_end o g) (held_at (reading s) (far_end o g))) ≡ held_in s joined (far_end o g)
+    far-gained g is other =
+        let a = shape s.metamodel g in
+        let y = far_end o g in
+        let v = node_value e.node in
+        let reference = far-reference s.metamodel legal.metamodel e.feature g is in
+        elim a.is_single as (λ b. a.is_single ≡ b → done a (Gains v) (happened_at s.metamodel kept y (held_at (reading s) y)) ≡ held_in s joined y) [
+          | true ↦ λ single. gained-single a v _ single ∙ held-one s joined y legal reference single v (far-joined g is other ∙ ap (λ (vs : List Value). vs ++ v ∷ []) (far-emptied s e o g legal is single))
+          | false ↦ λ many. ap (done a (Gains v)) (kept-left y (list-kept a.is_single _ many)) ∙ grown y v reference many (far-joined g is other)
+        ] refl
+      where
+        grown : (y : End) (v : Value) → (shape s.metamodel y.feature).is_reference ≡ true → (shape s.metamodel y.feature).is_single ≡ false → end joined y ≡ end left y ++ v ∷ [] → done (shape s.metamodel y.feature) (Gains v) (held_in s left y) ≡ held_in s joined y
+        grown y v reference many is = rw (many, reference, is) refl
 
-  at-far : (g : FeatureNo) → (shape s.metamodel e.feature).opposite ≡ Some g → same_end e (far_end o g) ≡ false → At (far_end o g)
-  at-far g is other =
-      let m = s.metamodel in
-      let r = reading s in
-      let y = far_end o g in
-      let v = node_value e.node in
-      let single = feature-far_single r e.node e.feature g has is in
-      let k = happened_at m (flat_map (other_losses r e o) (yields r e o)) y (held_at r y) in
-      at-others y other
-      ∙ ap (λ (q : Option FeatureNo). happened_at m (option_map_or (λ z. telling z (Gains v) ∷ []) (option_map (far_end o) q) []) y k) is
-      ∙ done-here m y (telling y (Gains v)) k (same_end-self y)
-      ∙ gained-single (shape m g) v k single
-      ∙ held-one s joined y legal (far-reference m legal.metamodel e.feature g is) single v (far-joined g is other)
+    at-far : (g : FeatureNo) → (shape s.metamodel e.feature).opposite ≡ Some g → same_end e (far_end o g) ≡ false → At (far_end o g)
+    at-far g is other =
+        let m = s.metamodel in
+        let y = far_end o g in
+        let v = node_value e.node in
+        let k = happened_at m kept y (held_at (reading s) y) in
+        at-another y other
+        ∙ ap (λ (q : Option FeatureNo). happened_at m (option_map_or (λ z. telling z (Gains v) ∷ []) (option_map (far_end o) q) []) y k) is
+        ∙ done-here m y (telling y (Gains v)) k (same_end-self y)
+        ∙ far-gained g is other
 
-  at-rest : (d : End) → same_end e d ≡ false → is_far o (shape s.metamodel e.feature).opposite d ≡ false → At d
-  at-rest d other far =
-      let m = s.metamodel in
-      let r = reading s in
-      let ts = yields r e o in
-      at-others d other
-      ∙ far_gain-other r e o d (happened_at m (flat_map (other_losses r e o) ts) d (held_at r d)) (shape m e.feature).opposite far
-      ∙ happened_at-other_losses r e o ts d (held_at r d) (other-kept r e o d other far)
-      ∙ losses-cut s ts legal there d
-      ∙ same-held s left joined d (sym (end-joined_if d false false other far))
+    at-rest : (d : End) → same_end e d ≡ false → is_far o (shape s.metamodel e.feature).opposite d ≡ false → At d
+    at-rest d other far =
+        let m = s.metamodel in
+        let r = reading s in
+        at-another d other
+        ∙ far_gain-other r e o d (happened_at m kept d (held_at r d)) (shape m e.feature).opposite far
+        ∙ kept-left d (other-kept r e o d other far)
+        ∙ same-held s left joined d (sym (end-joined_if d false false other far))
 
-  at-other : (d : End) (q : Option FeatureNo) → (shape s.metamodel e.feature).opposite ≡ q → same_end e d ≡ false → At d
-  at-other d None is other = at-rest d other (ap (λ (q : Option FeatureNo). is_far o q d) is)
-  at-other d (Some g) is other =
-      elim (same_end (far_end o g) d) as (λ b. same_end (far_end o g) d ≡ b → At d) [
-        | true ↦ λ far.
-            let same = same_end-true (far_end o g) d far in
-            subst At same (at-far g is (subst (λ (x : End). same_end e x ≡ false) (sym same) other))
-        | false ↦ λ far. at-rest d other (ap (λ (q : Option FeatureNo). is_far o q d) is ∙ far)
-      ] refl
+    at-other : (d : End) (q : Option FeatureNo) → (shape s.metamodel e.feature).opposite ≡ q → same_end e d ≡ false → At d
+    at-other d None is other = at-rest d other (ap (λ (q : Option FeatureNo). is_far o q d) is)
+    at-other d (Some g) is other =
+        elim (same_end (far_end o g) d) as (λ b. same_end (far_end o g) d ≡ b → At d) [
+          | true ↦ λ far.
+              let same = same_end-true (far_end o g) d far in
+              subst At same (at-far g is (subst (λ (x : End). same_end e x ≡ false) (sym same) other))
+          | false ↦ λ far. at-rest d other (ap (λ (q : Option FeatureNo). is_far o q d) is ∙ far)
+        ] refl
 
-  -- the losses of what is displaced, the far end's gain, and then the near end's
-  pub linked-replays : Replays s (before ++ gain ∷ []) linked
-  linked-replays d = at-each At e d at-near (at-other d (shape s.metamodel e.feature).opposite refl)
+    -- the losses of what is displaced, the far end's gain, and then the near end's, where it makes of it what the put does
+    linked-replays : ((k : Held) → (k ≡ held_in s left e) ⊎ ((shape s.metamodel e.feature).is_single ≡ true) → done (shape s.metamodel e.feature) gain k ≡ held_in s joined e) → Replays s (before ++ telling e gain ∷ []) (record s { links = joined })
+    linked-replays makes d =
+        let m = s.metamodel in
+        let h = held_at (reading s) e in
+        at-each At e d
+        (happened_at-append m before (telling e gain ∷ []) e h ∙ done-here m e (telling e gain) (happened_at m before e h) (same_end-self e) ∙ makes (happened_at m before e h) near-before)
+        (at-other d (shape m e.feature).opposite refl)
+      where
+        near-before : (happened_at s.metamodel before e (held_at (reading s) e) ≡ held_in s left e) ⊎ ((shape s.metamodel e.feature).is_single ≡ true)
+        near-before =
+            elim (shape s.metamodel e.feature).is_single as (λ b. (shape s.metamodel e.feature).is_single ≡ b → (happened_at s.metamodel before e (held_at (reading s) e) ≡ held_in s left e) ⊎ (b ≡ true)) [
+              | true ↦ λ _. inr refl
+              | false ↦ λ many. inl (
+                  happened_at-append s.metamodel kept (far_gain (reading s) e o) e (held_at (reading s) e)
+                  ∙ ap (happened_at s.metamodel (far_gain (reading s) e o) e) (kept-left e (list-kept (shape s.metamodel e.feature).is_single _ many))
+                  ∙ far_gain-other (reading s) e o e (held_in s left e) (shape s.metamodel e.feature).opposite (near-not_far (shape s.metamodel e.feature).opposite refl))
+            ] refl
+          where
+            near-not_far : (q : Option FeatureNo) → (shape s.metamodel e.feature).opposite ≡ q → is_far o q e ≡ false
+            near-not_far None is = refl
+            near-not_far (Some g) is = elim (same_end (far_end o g) e) as (λ b. same_end (far_end o g) e ≡ b → b ≡ false) [
+              | true ↦ λ same. absurd ((opposites_are_pairs s.metamodel legal.metamodel e.feature g is).apart (ap (λ (x : End). x.feature.0) (same_end-true (far_end o g) e same)))
+              | false ↦ λ _. refl
+            ] refl
+
+-- a single end has the object alone
+pub set-replays : (s : Model) (legal : IsLegal s) (e : End) (o : ObjectNo) (new : IsNewLink s e o) → (shape s.metamodel e.feature).is_single ≡ true
+    → Replays s ((flat_map (other_losses (reading s) e o) (yields (reading s) e o) ++ far_gain (reading s) e o) ++ telling e (Gains (value.Object o)) ∷ [])
+    (record s { links = put (without_displaced s e o) e 0 o (shape s.metamodel e.feature).opposite (shape s.metamodel e.feature).containing })
+set-replays s legal e o new single =
+    let a = shape s.metamodel e.feature in
+    let v = value.Object o in
+    let zero : 0 ≤ length (end (without_displaced s e o) e) = omega arith in
+    let t = put (without_displaced s e o) e 0 o a.opposite a.containing in
+    linked-replays s legal e o new 0 zero (Gains v) (λ k _.
+    gained-single a v k single ∙ held-one s t e legal new.reference single v (near-joined s legal e o new 0 zero ∙ ap (λ (vs : List Value). insert vs 0 v) (near-empty s legal e o new single)))
+
+-- a list has it at its place
+pub gained-list : (a : Shape) (j : Option ℕ) (v : Value) (vs : List Value) (i : ℕ) (b : Bool) → a.is_single ≡ false → i ≡ unwrap_or j (length vs) → i ≤ length vs → done a (gain_at j v) (record { values = vs; flag = b }) ≡ record { values = insert vs i v; flag = b }
+gained-list a None v vs i b many is low = rw (many, is) (ap (λ (ws : List Value). record { values = ws; flag = b }) (sym (insert_end vs v)))
+gained-list a (Some k) v vs i b many is low =
+    let below : nat_lt k (suc (length vs)) ≡ true = grind (arith, nat_tests) in
+    ap (λ (ws : List Value). record { values = ws; flag = b }) (ap (λ (x : Bool). if x then insert vs k v else vs) below ∙ ap (λ (x : ℕ). insert vs x v) (sym is))
+
+-- what a list of a reference holds
+pub list-held : (s : Model) (l : Links) (y : End) → (shape s.metamodel y.feature).is_reference ≡ true → (shape s.metamodel y.feature).is_single ≡ false → held_in s l y ≡ record { values = end l y; flag = kept_flag s.values y.node y.feature }
+list-held s l y reference many = rw (many, reference) refl
+
+pub add-replays : (s : Model) (legal : IsLegal s) (e : End) (o : ObjectNo) (new : IsNewLink s e o) (j : Option ℕ) (i : ℕ) → (shape s.metamodel e.feature).is_single ≡ false → i ≤ length (end (without_displaced s e o) e) → i ≡ unwrap_or j (length (end (without_displaced s e o) e))
+    → Replays s ((flat_map (other_losses (reading s) e o) (yields (reading s) e o) ++ far_gain (reading s) e o) ++ telling e (gain_at j (value.Object o)) ∷ [])
+    (record s { links = put (without_displaced s e o) e i o (shape s.metamodel e.feature).opposite (shape s.metamodel e.feature).containing })
+add-replays s legal e o new j i many placed is =
+    let a = shape s.metamodel e.feature in
+    let v = value.Object o in
+    let t = put (without_displaced s e o) e i o a.opposite a.containing in
+    let vs = end (without_displaced s e o) e in
+    let b = kept_flag s.values e.node e.feature in
+    let here = list-held s (without_displaced s e o) e new.reference many in
+    let there : record { values = insert vs i v; flag = b } ≡ held_in s t e = sym (list-held s t e new.reference many ∙ ap (λ (ws : List Value). record { values = ws; flag = b }) (near-joined s legal e o new i placed)) in
+    linked-replays s legal e o new i placed (gain_at j v) (λ k near. by a (gain_at j v) k (held_in s (without_displaced s e o) e) (held_in s t e) (ap (done a (gain_at j v)) here ∙ gained-list a j v vs i b many is placed ∙ there) many near)
+  where
+    by : (a : Shape) (g : Happening) (k l x : Held) → done a g l ≡ x → a.is_single ≡ false → (k ≡ l) ⊎ (a.is_single ≡ true) → done a g k ≡ x
+    by a g k l x made many (inl same) = ap (done a g) same ∙ made
+    by a g k l x made many (inr single) = absurd (true≢false (sym single ∙ many))

@@ -3,7 +3,7 @@ use Rattle.std.proofs.Common.{◌≡◌, zero, suc, nat_lt, pos, Bool, true, fal
 use Rattle.std.proofs.lemmas.Bool.{lt-ltb}
 use Rattle.std.proofs.lemmas.Bool.Decides.{nat_tests}
 use Rattle.std.proofs.lemmas.List.Edits.{insert_end}
-use Rattle.mm_types.specs.Ends.{Ends, value_in, with_held}
+use Rattle.mm_types.specs.Ends.{Ends, index_in, value_in, with_held}
 use Rattle.mm_types.specs.Resolved.{Metamodel}
 use Rattle.mm_types.specs.Same.{same_value}
 use Rattle.mm_types.specs.Shapes.{shape}
@@ -13,9 +13,9 @@ use Rattle.mm_types.specs.declared.value.Value.TheVariants as value
 use Rattle.notice_chain.specs.Kinds.{no_index}
 use Rattle.notice_chain.specs.Replay.{added, removed, replayed_all, replayed_in}
 use Rattle.notice_chain.specs.declared.kind.NoticeKind.TheVariants as kind
-use Rattle.handshake.specs.Telling.{happened, happened_all, has_flag, index_in, notice, notice_of, telling, told, without}
+use Rattle.handshake.specs.Telling.{happened, happened_all, has_flag, notice, notice_of, telling, told, without}
 use Rattle.handshake.specs.declared.happening.Happening.{Happening}
-use Rattle.handshake.specs.declared.happening.Happening.TheVariants.{Gains, Loses, Unsets}
+use Rattle.handshake.specs.declared.happening.Happening.TheVariants.{Gains, GainsAt, Loses, LosesAt, Unsets, Moves}
 use Rattle.handshake.specs.declared.happening.Telling.{Telling}
 
 ---------------------------------------------------------------- what tellings report is what they do
@@ -60,7 +60,10 @@ replayed_in-loss m e x v =
 replayed_in-notice_of : (m : Metamodel) (e : Ends) (x : End) (h : Happening) → replayed_in (has_flag m) e (notice_of (shape m x.feature) x h (e x)) ≡ happened m e (telling x h)
 replayed_in-notice_of m e x (Gains v) = replayed_in-gain m e x v
 replayed_in-notice_of m e x (Loses v) = replayed_in-loss m e x v
+replayed_in-notice_of m e x (GainsAt i v) = refl
+replayed_in-notice_of m e x (LosesAt i) = refl
 replayed_in-notice_of m e x Unsets = refl
+replayed_in-notice_of m e x (Moves to from) = refl
 
 pub replayed_all-told : (m : Metamodel) (e : Ends) (ts : List Telling) → replayed_all (has_flag m) e (told m e ts) ≡ happened_all m e ts
 replayed_all-told m e [] = refl

@@ -1,20 +1,23 @@
 -- A link has a name at each of its ends. Two links share no single end, so a name that both have tells that they are one.
-use Rattle.std.proofs.Common.{◌≡◌, ℕ, zero, suc, true, false, IsTrue, List, [], ◌∷◌, slice_get, Option, Some, None, option_map, option_to_list, refl, sym, ap, ◌∙◌, subst, inl, inr}
+use Rattle.std.proofs.Common.{◌≡◌, ℕ, zero, suc, ◌<◌, ◌≤◌, eq-eqb, eqb-true, Bool, if◌then◌else◌, arith, true, false, IsTrue, List, [], ◌∷◌, slice_get, Option, Some, None, option_map, option_to_list, refl, sym, ap, ◌∙◌, subst, inl, inr}
 use Rattle.std.specs.Prelude.{◌⊎◌}
 use Rattle.std.specs.List.{list_all}
 use Rattle.std.specs.Option.{option_map_or}
 use Rattle.std.proofs.lemmas.Bool.{and_parts, false≢true, or_left, or_right, true≢false}
 use Rattle.std.proofs.lemmas.Option.{none-some, same_Some}
-use Rattle.mm_meta.proofs.ShapeLemmas.{opposites_are_pairs}
-use Rattle.mm_types.specs.Same.{node_value}
+use Rattle.mm_meta.proofs.ShapeLemmas.{containing_is_known, opposites_are_pairs}
+use Rattle.mm_meta.specs.Laws.{IsPair}
+use Rattle.mm_types.specs.Same.{node_value, same_feature}
 use Rattle.mm_types.specs.Shapes.{shape}
 use Rattle.mm_types.specs.declared.end.End.{End}
 use Rattle.mm_types.specs.declared.numbers.FeatureNo.{FeatureNo}
 use Rattle.mm_types.specs.declared.numbers.Node.TheVariants as node
 use Rattle.mm_types.specs.declared.numbers.Node.{Node}
+use Rattle.mm_types.specs.declared.numbers.ObjectNo.{ObjectNo}
 use Rattle.mm_types.specs.declared.value.Value.TheVariants as value
 use Rattle.mm_types.specs.declared.value.Value.{Value}
 use Rattle.link_store.proofs.SideLemmas.{both_ends_agree}
+use Rattle.link_store.specs.Holders.{contained}
 use Rattle.link_store.specs.Links.{end, far_end, object_at}
 use Rattle.link_store.specs.Plans.{Has}
 use Rattle.models.proofs.EndLemmas.{values-single}
@@ -22,7 +25,8 @@ use Rattle.models.specs.Legal.{IsLegal, is_legal_end, is_legal_object, kinds_of}
 use Rattle.models.specs.Model.{Model, reading}
 use Rattle.models.specs.Reading.{Reading, at_end, has_feature}
 use Rattle.handshake.proofs.CutTieLemmas.{Stands, same_tie-self, values-linked}
-use Rattle.handshake.proofs.KnownLemmas.{feature-single, object-reference}
+use Rattle.handshake.proofs.KnownLemmas.{object-reference}
+use Rattle.handshake.proofs.YieldLemmas.{Origin, holder-contains}
 use Rattle.handshake.specs.Displaced.{other_side, same_link, same_tie, tie, turned}
 use Rattle.handshake.specs.declared.tie.Tie.{Tie}
 
@@ -54,10 +58,9 @@ one_of (Some x) zero (suc k) v w a b = absurd (none-some w b)
 one_of (Some x) (suc j) k v w a b = absurd (none-some v a)
 
 -- a single end has one value
-one_value : (s : Model) → IsLegal s → (t u : Tie) → t.end ≡ u.end → Stands s.links t → Stands s.links u → t.value ≡ u.value
-one_value s legal t u same at_t at_u =
+one_value : (s : Model) → IsLegal s → (t u : Tie) → (shape s.metamodel t.end.feature).is_single ≡ true → t.end ≡ u.end → Stands s.links t → Stands s.links u → t.value ≡ u.value
+one_value s legal t u single same at_t at_u =
     let o = open-of s legal t at_t in
-    let single = feature-single (reading s) t.end.node t.end.feature o.has in
     let is : end s.links t.end ≡ option_to_list (option_map value.Object (object_at s.links t.end 0)) = sym (values-linked s t.end o.reference) ∙ values-single s t.end legal o.reference single in
     let here = subst (λ (e : End). slice_get (end s.links e) at_u.0 ≡ Some u.value) (sym same) at_u.1 in
     one_of (option_map value.Object (object_at s.links t.end 0)) at_t.0 at_u.0 t.value u.value
@@ -118,9 +121,115 @@ module _ (s : Model) (legal : IsLegal s) where
       let same : t ≡ u = same_Some t u (sym (turned-back t y at_t is_t) ∙ turned-back u y at_u is_u) in
       or_left (same_tie u t) _ (subst (λ (x : Tie). same_tie u x ≡ true) (sym same) (same_tie-self u))
 
-  -- two links share no single end
-  pub names-apart : (t u y z : Tie) → Stands s.links t → Stands s.links u → same_link (reading s) u t ≡ false → IsNameOf (reading s) t y → IsNameOf (reading s) u z → y.end ≡ z.end → ⊥
-  names-apart t u y z at_t at_u other name_y name_z same =
-      let values = one_value s legal y z same (name-stands t y at_t name_y) (name-stands u z at_u name_z) in
+  -- names of two links are not the same
+  pub names-apart : (t u y z : Tie) → Stands s.links t → Stands s.links u → same_link (reading s) u t ≡ false → IsNameOf (reading s) t y → IsNameOf (reading s) u z → y.end ≡ z.end → y.value ≡ z.value → ⊥
+  names-apart t u y z at_t at_u other name_y name_z same values =
       let is : y ≡ z = λ i. tie (same i) (values i) in
       true≢false (sym (one_link t u y at_t at_u name_y (subst (IsNameOf (reading s) u) (sym is) name_z)) ∙ other)
+
+---------------------------------------------------------------- the names of what a new link displaces
+
+-- a name of a displaced link: in a single end, or of the object, of the node, or of the part that the new link is of
+pub data IsYielded (s : Model) (e : End) (o : ObjectNo) (y : Tie) : Type 0 where
+  InSingle : (shape s.metamodel y.end.feature).is_single ≡ true → IsYielded s e o y
+  OfObject : y.end.feature ≡ e.feature → y.value ≡ value.Object o → IsYielded s e o y
+  OfNode : (shape s.metamodel e.feature).opposite ≡ Some y.end.feature → y.value ≡ node_value e.node → IsYielded s e o y
+  OfPart : (p : Node) → contained e o (shape s.metamodel e.feature).containing ≡ Some p → (shape s.metamodel y.end.feature).containing ≡ Some y.end.feature → y.value ≡ node_value p → IsYielded s e o y
+
+module _ (s : Model) (legal : IsLegal s) (e : End) (o : ObjectNo) where
+  r : Reading
+  r = reading s
+
+  pair : (f g : FeatureNo) → (shape s.metamodel f).opposite ≡ Some g → IsPair s.metamodel f g
+  pair = opposites_are_pairs s.metamodel legal.metamodel
+
+  turned-near : (t y : Tie) (q : Option FeatureNo) → (shape s.metamodel e.feature).opposite ≡ q → other_side e.node t.value q ≡ Some y → IsYielded s e o y
+  turned-near t y q opposite is = by t.value q opposite is
+    where
+      by : (v : Value) (q : Option FeatureNo) → (shape s.metamodel e.feature).opposite ≡ q → other_side e.node v q ≡ Some y → IsYielded s e o y
+      by (value.Object x) (Some g) opposite is =
+          let same = same_Some (tie (far_end x g) (node_value e.node)) y is in
+          OfNode (opposite ∙ ap (λ (z : Tie). Some z.end.feature) same) (ap (λ (z : Tie). z.value) (sym same))
+      by v q opposite is = absurd (none-some y is)
+
+  turned-far : (t y : Tie) (f : FeatureNo) (v : Value) → f ≡ e.feature → other_side (node.Object o) v (Some f) ≡ Some y → IsYielded s e o y
+  turned-far t y f (value.Object x) same is =
+      let made = same_Some (tie (far_end x f) (value.Object o)) y is in
+      OfObject (ap (λ (z : Tie). z.end.feature) (sym made) ∙ same) (ap (λ (z : Tie). z.value) (sym made))
+  turned-far t y f v same is = absurd (none-some y is)
+
+  -- the other end of what is contained is single
+  turned-held : (d : End) (v : Value) (q : Option FeatureNo) (y : Tie) → (shape s.metamodel d.feature).containing ≡ Some d.feature → (shape s.metamodel d.feature).opposite ≡ q → other_side d.node v q ≡ Some y → IsYielded s e o y
+  turned-held d (value.Object c) (Some g) y contains opposite is =
+      let p = pair d.feature g opposite in
+      let held : (shape s.metamodel g).containing ≡ Some d.feature = sym p.one_containing ∙ contains in
+      let made = same_Some (tie (far_end c g) (node_value d.node)) y is in
+      elim (containing_is_known s.metamodel legal.metamodel g d.feature (below p.far_there) held) [
+        | inl same ↦ absurd (p.apart (ap (λ (f : FeatureNo). f.0) (sym same)))
+        | inr container ↦ InSingle (subst (λ (z : Tie). (shape s.metamodel z.end.feature).is_single ≡ true) made container.single)
+      ]
+    where
+      below : {m n : ℕ} → m < n → m ≤ n
+      below h = omega (arith, h)
+  turned-held d v q y contains opposite is = absurd (none-some y is)
+
+  -- each name of a displaced link is one of these
+  pub yielded : (t y : Tie) → Origin s e o t → IsNameOf (reading s) t y → IsYielded s e o y
+  yielded t y (inl near) (inl is) = InSingle (subst (λ (d : End). (shape s.metamodel d.feature).is_single ≡ true) (sym (ap (λ (z : Tie). z.end) is ∙ near.0)) near.1)
+  yielded t y (inl near) (inr is) =
+      turned-near t y (shape s.metamodel e.feature).opposite refl (subst (λ (d : End). other_side d.node t.value (shape s.metamodel d.feature).opposite ≡ Some y) near.0 is)
+  yielded t y (inr (inl far)) (inl is) = InSingle (subst (λ (d : End). (shape s.metamodel d.feature).is_single ≡ true) (sym (ap (λ (z : Tie). z.end) is ∙ far.here)) far.single)
+  yielded t y (inr (inl far)) (inr is) =
+      let back = (pair e.feature far.feature far.opposite).back in
+      turned-far t y e.feature t.value refl (subst (λ (q : Option FeatureNo). other_side (node.Object o) t.value q ≡ Some y) back (subst (λ (d : End). other_side d.node t.value (shape s.metamodel d.feature).opposite ≡ Some y) far.here is))
+  yielded t y (inr (inr held)) (inl is) =
+      OfPart held.part held.becomes (subst (λ (z : Tie). (shape s.metamodel z.end.feature).containing ≡ Some z.end.feature) (sym is) (holder-contains s held.part t.end legal held.held)) (ap (λ (z : Tie). z.value) is ∙ held.value)
+  yielded t y (inr (inr held)) (inr is) = turned-held t.end t.value (shape s.metamodel t.end.feature).opposite y (holder-contains s held.part t.end legal held.held) refl is
+
+  -- the part, where the near feature contains, and where the far one does
+  near-part : (p : Node) (f : FeatureNo) → f ≡ e.feature → (shape s.metamodel f).containing ≡ Some f → contained e o (shape s.metamodel e.feature).containing ≡ Some p → node_value p ≡ value.Object o
+  near-part p f same contains becomes =
+      let own : (shape s.metamodel e.feature).containing ≡ Some e.feature = subst (λ (x : FeatureNo). (shape s.metamodel x).containing ≡ Some x) same contains in
+      let becomes_own = subst (λ (q : Option FeatureNo). contained e o q ≡ Some p) own becomes in
+      let self : same_feature e.feature e.feature ≡ true = eq-eqb e.feature.0 e.feature.0 refl in
+      ap node_value (sym (same_Some _ p (sym (ap (λ (b : Bool). Some (if b then node.Object o else e.node)) self) ∙ becomes_own)))
+
+  far-part : (p : Node) (g : FeatureNo) → (shape s.metamodel e.feature).opposite ≡ Some g → (shape s.metamodel g).containing ≡ Some g → contained e o (shape s.metamodel e.feature).containing ≡ Some p → node_value p ≡ node_value e.node
+  far-part p g opposite contains becomes =
+      let two = pair e.feature g opposite in
+      let becomes_far = subst (λ (q : Option FeatureNo). contained e o q ≡ Some p) (two.one_containing ∙ contains) becomes in
+      let other : same_feature g e.feature ≡ false = elim (same_feature g e.feature) as (λ b. same_feature g e.feature ≡ b → b ≡ false) [ true ↦ λ h. absurd (two.apart (eqb-true g.0 e.feature.0 h)) | false ↦ λ _. refl ] refl in
+      ap node_value (sym (same_Some _ p (sym (ap (λ (b : Bool). Some (if b then node.Object o else e.node)) other) ∙ becomes_far)))
+
+  -- names in one end are of one value
+  pub yielded-agree : (y z : Tie) → Stands s.links y → Stands s.links z → IsYielded s e o y → IsYielded s e o z → y.end ≡ z.end → y.value ≡ z.value
+  yielded-agree y z at_y at_z (InSingle single) other same = one_value s legal y z single same at_y at_z
+  yielded-agree y z at_y at_z name (InSingle single) same = sym (one_value s legal z y single (sym same) at_z at_y)
+  yielded-agree y z at_y at_z (OfObject f v) (OfObject h w) same = v ∙ sym w
+  yielded-agree y z at_y at_z (OfObject f v) (OfNode opposite w) same =
+      absurd ((pair e.feature z.end.feature opposite).apart (ap (λ (x : FeatureNo). x.0) (sym (ap (λ (d : End). d.feature) same) ∙ f)))
+  yielded-agree y z at_y at_z (OfObject f v) (OfPart p becomes contains w) same = v ∙ sym (w ∙ near-part p z.end.feature (sym (ap (λ (d : End). d.feature) same) ∙ f) contains becomes)
+  yielded-agree y z at_y at_z (OfNode opposite v) (OfObject h w) same =
+      absurd ((pair e.feature y.end.feature opposite).apart (ap (λ (x : FeatureNo). x.0) (ap (λ (d : End). d.feature) same ∙ h)))
+  yielded-agree y z at_y at_z (OfNode opposite v) (OfNode h w) same = v ∙ sym w
+  yielded-agree y z at_y at_z (OfNode opposite v) (OfPart p becomes contains w) same =
+      v ∙ sym (w ∙ far-part p z.end.feature (opposite ∙ ap (λ (d : End). Some d.feature) same) contains becomes)
+  yielded-agree y z at_y at_z (OfPart p becomes contains v) (OfObject h w) same = v ∙ near-part p y.end.feature (ap (λ (d : End). d.feature) same ∙ h) contains becomes ∙ sym w
+  yielded-agree y z at_y at_z (OfPart p becomes contains v) (OfNode opposite w) same =
+      v ∙ far-part p y.end.feature (opposite ∙ ap (λ (d : End). Some d.feature) (sym same)) contains becomes ∙ sym w
+  yielded-agree y z at_y at_z (OfPart p becomes contains v) (OfPart q also more w) same = v ∙ ap node_value (same_Some p q (sym becomes ∙ also)) ∙ sym w
+
+  -- a name in a list at an end of the new link would be of what the new link is of
+  pub yielded-near : (y : Tie) → IsYielded s e o y → (shape s.metamodel e.feature).is_single ≡ false → y.end ≡ e → y.value ≡ value.Object o
+  yielded-near y (InSingle single) many same = absurd (true≢false (sym single ∙ ap (λ (d : End). (shape s.metamodel d.feature).is_single) same ∙ many))
+  yielded-near y (OfObject f v) many same = v
+  yielded-near y (OfNode opposite v) many same = absurd ((pair e.feature y.end.feature opposite).apart (ap (λ (d : End). d.feature.0) same))
+  yielded-near y (OfPart p becomes contains v) many same = v ∙ near-part p y.end.feature (ap (λ (d : End). d.feature) same) contains becomes
+
+  pub yielded-far : (y : Tie) (g : FeatureNo) → (shape s.metamodel e.feature).opposite ≡ Some g → IsYielded s e o y → (shape s.metamodel g).is_single ≡ false → y.end ≡ far_end o g → y.value ≡ node_value e.node
+  yielded-far y g opposite (InSingle single) many same = absurd (true≢false (sym single ∙ ap (λ (d : End). (shape s.metamodel d.feature).is_single) same ∙ many))
+  yielded-far y g opposite (OfObject f v) many same = absurd ((pair e.feature g opposite).apart (ap (λ (x : FeatureNo). x.0) (sym (ap (λ (d : End). d.feature) same) ∙ f)))
+  yielded-far y g opposite (OfNode h v) many same = v
+  yielded-far y g opposite (OfPart p becomes contains v) many same =
+      let is : y.end.feature ≡ g = ap (λ (d : End). d.feature) same in
+      v ∙ far-part p g opposite (subst (λ (f : FeatureNo). (shape s.metamodel f).containing ≡ Some f) is contains) becomes

@@ -1,6 +1,6 @@
 -- Which links a change cuts: those that a new link displaces (EMF: EObjectWithInverse.eInverseRemove, eBasicRemoveFromContainer), or
--- those of an end that is emptied.
-use Rattle.std.specs.Prelude.{◌&&◌, ◌||◌, Bool, false, not, List, [], ◌∷◌, ◌++◌, map, Option, fold, Some, None, option_map, option_to_list, if◌then◌else◌}
+-- those of values that an end loses.
+use Rattle.std.specs.Prelude.{ℕ, ◌&&◌, ◌||◌, Bool, false, not, List, [], ◌∷◌, ◌++◌, map, Option, fold, Some, None, option_map, option_to_list, slice_get, if◌then◌else◌}
 use Rattle.std.specs.List.{list_any}
 use Rattle.std.specs.Option.{option_map_or}
 use Rattle.mm_types.specs.Same.{node_value, same_end, same_value}
@@ -13,9 +13,9 @@ use Rattle.mm_types.specs.declared.value.Value.TheVariants as value
 use Rattle.handshake.specs.declared.tie.Tie.{Tie}
 use Rattle.link_store.specs.Links.{far_end}
 use Rattle.link_store.specs.Holders.{contained}
-use Rattle.models.specs.Reading.{Reading, at_end, shape_at, value_at}
+use Rattle.models.specs.Reading.{Reading, at_end, is_repeat, shape_at, first_at, value_at}
 use Rattle.handshake.specs.declared.change.Change.{Change}
-use Rattle.handshake.specs.declared.change.Change.TheVariants.{Create, Set, Unset}
+use Rattle.handshake.specs.declared.change.Change.TheVariants.{Create, Set, Unset, Add, Remove, RemoveValue, Move}
 
 abbrev pub tie : End → Value → Tie
 tie e v = record { end = e; value = v }
@@ -37,6 +37,15 @@ same_link r t u = same_tie t u || option_map_or (same_tie t) (turned r u) false
 -- those that stand in an end
 abbrev pub ties_at : Reading → End → List Tie
 ties_at r e = map (tie e) (r.values e)
+
+-- those of values of an end, the last value's first
+abbrev pub ties_backwards : End → List Value → List Tie
+ties_backwards e [] = []
+ties_backwards e (v ∷ vs) = ties_backwards e vs ++ tie e v ∷ []
+
+-- the one of the value at a place of an end
+abbrev pub tie_in : Reading → End → ℕ → List Tie
+tie_in r e i = option_to_list (option_map (tie e) (slice_get (r.values e) i))
 
 abbrev pub ties_if_single : Reading → End → List Tie
 ties_if_single r e = if (shape_at r e).is_single then ties_at r e else []
@@ -78,6 +87,14 @@ has_already r e v = same_value v (value_at r e)
 abbrev pub is_plain_set : Reading → End → Value → Bool
 is_plain_set r e v = not (shape_at r e).is_reference || has_already r e v
 
+-- an addition that makes no link: to an attribute, or of a value that a unique list has
+abbrev pub is_plain_add : Reading → End → Value → Bool
+is_plain_add r e v = not (shape_at r e).is_reference || is_repeat r e v
+
+abbrev pub cut_by_new : Reading → End → Value → List Tie
+cut_by_new r e (value.Object o) = yields r e o
+cut_by_new r e v = []
+
 abbrev pub cut_by_set : Reading → End → Value → List Tie
 cut_by_set r e (value.Object o) = yields r e o
 cut_by_set r e v = ties_at r e
@@ -86,4 +103,8 @@ cut_by_set r e v = ties_at r e
 abbrev pub cut_ties : Reading → Change → List Tie
 cut_ties r (Create c) = []
 cut_ties r (Set n f v) = let e = at_end n f in if is_plain_set r e v then [] else cut_by_set r e v
-cut_ties r (Unset n f) = let e = at_end n f in if (shape_at r e).is_reference then ties_at r e else []
+cut_ties r (Unset n f) = let e = at_end n f in if (shape_at r e).is_reference then ties_backwards e (r.values e) else []
+cut_ties r (Add n f v i) = let e = at_end n f in if is_plain_add r e v then [] else cut_by_new r e v
+cut_ties r (Remove n f i) = let e = at_end n f in if (shape_at r e).is_reference then tie_in r e i else []
+cut_ties r (RemoveValue n f v) = let e = at_end n f in if (shape_at r e).is_reference then option_map_or (tie_in r e) (first_at r e v) [] else []
+cut_ties r (Move n f to from) = []

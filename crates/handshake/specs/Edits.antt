@@ -1,30 +1,34 @@
 -- The edits of links that make a change.
-use Rattle.std.specs.Prelude.{List, [], ◌∷◌, ◌++◌, map, Option, Some, None, if◌then◌else◌}
-use Rattle.std.specs.Option.{option_map}
-use Rattle.mm_types.specs.declared.numbers.ObjectNo.{ObjectNo}
+use Rattle.std.specs.Prelude.{ℕ, List, ◌++◌, map, Option, Some, None, option_to_list, if◌then◌else◌}
 use Rattle.mm_types.specs.declared.end.End.{End}
+use Rattle.mm_types.specs.declared.value.Value.{Value}
+use Rattle.mm_types.specs.declared.value.Value.TheVariants as value
 use Rattle.link_store.specs.declared.plan.Edit.{Edit}
-use Rattle.link_store.specs.declared.plan.Edit.TheVariants.{Put}
+use Rattle.link_store.specs.declared.plan.Edit.TheVariants.{Put, Shift}
 use Rattle.link_store.specs.Laws.{cut_edit}
-use Rattle.models.specs.Reading.{Reading, at_end, object_of, shape_at}
+use Rattle.models.specs.Reading.{Reading, at_end, place_for, shape_at}
 use Rattle.handshake.specs.declared.change.Change.{Change}
-use Rattle.handshake.specs.declared.change.Change.TheVariants.{Create, Set, Unset}
+use Rattle.handshake.specs.declared.change.Change.TheVariants.{Create, Set, Unset, Add, Remove, RemoveValue, Move}
 use Rattle.handshake.specs.declared.tie.Tie.{Tie}
-use Rattle.handshake.specs.Displaced.{cut_ties, is_plain_set}
+use Rattle.handshake.specs.Displaced.{cut_ties, is_plain_add, is_plain_set}
 
 abbrev pub cut_of : Tie → Edit
 cut_of t = cut_edit t.end t.value
 
--- the end and the object of the link that a change makes, if it makes one
-abbrev pub made_link : Reading → Change → Option (End × ObjectNo)
-made_link r (Create c) = None
-made_link r (Set n f v) = let e = at_end n f in if is_plain_set r e v then None else option_map (λ (o : ObjectNo). (e, o)) (object_of v)
-made_link r (Unset n f) = None
+-- the edit that puts an object at a place of an end; no other value is put
+abbrev pub new_put : Reading → End → ℕ → Value → Option Edit
+new_put r e i (value.Object o) = Some (Put e i o (shape_at r e).opposite (shape_at r e).containing)
+new_put r e i v = None
 
--- a single end has no value once what it had is cut
-abbrev pub puts : Reading → Option (End × ObjectNo) → List Edit
-puts r None = []
-puts r (Some (e, o)) = Put e 0 o (shape_at r e).opposite (shape_at r e).containing ∷ []
+-- the edit behind the cuts, if there is one: it makes a link, or moves what stands in a list. What a single end had is cut by then
+abbrev pub made_edit : Reading → Change → Option Edit
+made_edit r (Create c) = None
+made_edit r (Set n f v) = let e = at_end n f in if is_plain_set r e v then None else new_put r e 0 v
+made_edit r (Unset n f) = None
+made_edit r (Add n f v i) = let e = at_end n f in if is_plain_add r e v then None else new_put r e (place_for r e i) v
+made_edit r (Remove n f i) = None
+made_edit r (RemoveValue n f v) = None
+made_edit r (Move n f to from) = let e = at_end n f in if (shape_at r e).is_reference then Some (Shift e to from) else None
 
 abbrev pub link_edits : Reading → Change → List Edit
-link_edits r c = map cut_of (cut_ties r c) ++ puts r (made_link r c)
+link_edits r c = map cut_of (cut_ties r c) ++ option_to_list (made_edit r c)

@@ -1,6 +1,8 @@
 -- What a change makes of values and of links.
-use Rattle.std.specs.Prelude.{Bool, false, List, [], ◌∷◌, fold, length, if◌then◌else◌}
+use Rattle.std.specs.Prelude.{ℕ, Bool, false, List, [], ◌∷◌, fold, length, Option, None, unwrap_or, if◌then◌else◌}
+use Rattle.std.specs.Option.{option_map_or}
 use Rattle.mm_types.specs.declared.numbers.FeatureNo.{FeatureNo}
+use Rattle.mm_types.specs.declared.numbers.ObjectNo.{ObjectNo}
 use Rattle.mm_types.specs.declared.numbers.Node.{Node}
 use Rattle.mm_types.specs.declared.numbers.Node.TheVariants as node
 use Rattle.mm_types.specs.declared.end.End.{End}
@@ -8,14 +10,14 @@ use Rattle.mm_types.specs.declared.value.Value.{Value}
 use Rattle.mm_types.specs.declared.value.Value.TheVariants as value
 use Rattle.mm_values.specs.Values.{applied}
 use Rattle.mm_values.specs.declared.edit.ValueEdit.{ValueEdit}
-use Rattle.mm_values.specs.declared.edit.ValueEdit.TheVariants.{NewObject, PutList}
-use Rattle.link_store.specs.Links.{Links, cut_value, end, put}
-use Rattle.models.specs.Reading.{Reading, at_end, shape_at}
+use Rattle.mm_values.specs.declared.edit.ValueEdit.TheVariants.{NewObject, PutList, InsertValue, RemoveValue as TakeValue, MoveValue}
+use Rattle.link_store.specs.Links.{Links, cut_value, end, put, shift}
+use Rattle.models.specs.Reading.{Reading, at_end, first_at, is_repeat, place_for, shape_at}
 use Rattle.models.specs.Model.{Model, reading}
 use Rattle.handshake.specs.declared.change.Change.{Change}
-use Rattle.handshake.specs.declared.change.Change.TheVariants.{Create, Set, Unset}
+use Rattle.handshake.specs.declared.change.Change.TheVariants.{Create, Set, Unset, Add, Remove, RemoveValue, Move}
 use Rattle.handshake.specs.declared.tie.Tie.{Tie}
-use Rattle.handshake.specs.Displaced.{cut_ties, is_plain_set}
+use Rattle.handshake.specs.Displaced.{cut_ties, is_plain_add, is_plain_set}
 
 ---------------------------------------------------------------- values
 
@@ -31,26 +33,49 @@ put_values e vs flag = put_under e.feature vs flag e.node
 abbrev pub if_attribute : Reading → End → List ValueEdit → List ValueEdit
 if_attribute r e edits = if (shape_at r e).is_reference then [] else edits
 
+-- the edit of an object; a resource has no attribute
+abbrev pub of_object : Node → (ObjectNo → ValueEdit) → List ValueEdit
+of_object (node.Object o) edit = edit o ∷ []
+of_object (node.Resource k) edit = []
+
+abbrev pub add_value : Reading → End → Value → Option ℕ → List ValueEdit
+add_value r e v i =
+    if is_repeat r e v then [] else of_object e.node (λ o. InsertValue o e.feature (place_for r e i) v (shape_at r e).is_unique)
+
+abbrev pub take_value : End → ℕ → List ValueEdit
+take_value e i = of_object e.node (λ o. TakeValue o e.feature i)
+
+abbrev pub take_first : Reading → End → Value → List ValueEdit
+take_first r e v = option_map_or (take_value e) (first_at r e v) []
+
 abbrev pub value_edits : Reading → Change → List ValueEdit
 value_edits r (Create c) = NewObject c ∷ []
 value_edits r (Set n f v) = let e = at_end n f in if_attribute r e (put_values e (v ∷ []) (shape_at r e).is_unsettable)
 value_edits r (Unset n f) = let e = at_end n f in if_attribute r e (put_values e [] false)
+value_edits r (Add n f v i) = let e = at_end n f in if_attribute r e (add_value r e v i)
+value_edits r (Remove n f i) = let e = at_end n f in if_attribute r e (take_value e i)
+value_edits r (RemoveValue n f v) = let e = at_end n f in if_attribute r e (take_first r e v)
+value_edits r (Move n f to from) = let e = at_end n f in if_attribute r e (of_object n (λ o. MoveValue o f to from))
 
 ---------------------------------------------------------------- links
 
 abbrev pub without_ties : Links → List Tie → Links
 without_ties s ts = fold (λ t x. cut_value t x.end x.value) s ts
 
--- an object is put last at an end; null is put nowhere
-abbrev pub with_value : Links → Reading → End → Value → Links
-with_value s r e (value.Object o) = put s e (length (end s e)) o (shape_at r e).opposite (shape_at r e).containing
-with_value s r e v = s
+-- an object is put at a place of an end, or last; no other value is put
+abbrev pub with_value : Links → Reading → End → Option ℕ → Value → Links
+with_value s r e i (value.Object o) = put s e (unwrap_or i (length (end s e))) o (shape_at r e).opposite (shape_at r e).containing
+with_value s r e i v = s
 
--- the link that a change makes
+-- the link that a change makes, or what it moves
 abbrev pub put_by : Links → Reading → Change → Links
 put_by s r (Create c) = s
-put_by s r (Set n f v) = let e = at_end n f in if is_plain_set r e v then s else with_value s r e v
+put_by s r (Set n f v) = let e = at_end n f in if is_plain_set r e v then s else with_value s r e None v
 put_by s r (Unset n f) = s
+put_by s r (Add n f v i) = let e = at_end n f in if is_plain_add r e v then s else with_value s r e i v
+put_by s r (Remove n f i) = s
+put_by s r (RemoveValue n f v) = s
+put_by s r (Move n f to from) = let e = at_end n f in if (shape_at r e).is_reference then shift s e to from else s
 
 abbrev pub links_after : Links → Reading → Change → Links
 links_after s r c = put_by (without_ties s (cut_ties r c)) r c

@@ -1,19 +1,23 @@
 -- What holds of every change of a legal model that nothing refuses.
-use Rattle.std.specs.Prelude.{◌≡◌, List, [], ◌∷◌, false, None}
+use Rattle.std.specs.Prelude.{◌≡◌, Bool, false, not, IsFalse, List, [], ◌∷◌, ◌++◌, None}
 use Rattle.std.specs.List.{AllByRecursion}
 use Rattle.mm_types.specs.declared.end.End.{End}
+use Rattle.mm_types.specs.declared.numbers.FeatureNo.{FeatureNo}
+use Rattle.mm_types.specs.declared.numbers.Node.{Node}
 use Rattle.models.specs.Legal.{IsLegal}
 use Rattle.models.specs.Model.{Model, reading}
-use Rattle.models.specs.Reading.{Reading, held_at}
+use Rattle.models.specs.Reading.{Reading, at_end, held_at, shape_at}
 use Rattle.notice_chain.specs.Replay.{replayed_all}
 use Rattle.handshake.specs.declared.change.Change.{Change}
+use Rattle.handshake.specs.declared.change.Change.TheVariants.{Unset}
+use Rattle.handshake.specs.declared.happening.Happening.TheVariants.{Unsets}
 use Rattle.handshake.specs.declared.happening.Telling.{Telling}
 use Rattle.handshake.specs.declared.tie.Tie.{Tie}
 use Rattle.handshake.specs.Displaced.{cut_ties, same_link}
 use Rattle.handshake.specs.Effects.{after}
 use Rattle.handshake.specs.Refusals.{early_refusal, late_refusal}
-use Rattle.handshake.specs.Telling.{has_flag}
-use Rattle.handshake.specs.Tellings.{chain, tellings}
+use Rattle.handshake.specs.Telling.{has_flag, telling}
+use Rattle.handshake.specs.Tellings.{chain, far_losses, tellings}
 
 -- something holds of a change of a model, where the model is legal and nothing refuses the change
 abbrev pub OfAllowed : (Model → Change → Type 0) → Model → Change → Type 0
@@ -27,13 +31,26 @@ KeepsLegal = OfAllowed (λ s c. IsLegal (after s c))
 abbrev pub ChainReplays : Model → Change → Type 0
 ChainReplays = OfAllowed (λ s c. (d : End) → replayed_all (has_flag s.metamodel) (held_at (reading s)) (chain (reading s) c) d ≡ held_at (reading (after s c)) d)
 
+-- a change that takes several values out of one list
+abbrev pub takes_many : Reading → Change → Bool
+takes_many r (Unset n f) = not (shape_at r (at_end n f)).is_single
+takes_many r _ = false
+
 -- no end is told twice
 abbrev pub AreApart : List Telling → Type 0
 AreApart [] = Unit {0}
 AreApart (t ∷ ts) = AllByRecursion (λ (u : Telling). t.at ≡ u.at → ⊥) ts × AreApart ts
 
+-- but a list that is unset, which is told last, value by value
 abbrev pub TellsNoEndTwice : Model → Change → Type 0
-TellsNoEndTwice = OfAllowed (λ s c. AreApart (tellings (reading s) c))
+TellsNoEndTwice = OfAllowed (λ s c. IsFalse (takes_many (reading s) c) → AreApart (tellings (reading s) c))
+
+-- where a list is unset, no far end is told twice, and none of them is the list
+abbrev pub FarEndsAreApart : Model → Node → FeatureNo → Type 0
+FarEndsAreApart s n f =
+    let e = at_end n f in
+    let far = far_losses (reading s) (cut_ties (reading s) (Unset n f)) in
+    OfAllowed (λ s c. AreApart (far ++ telling e Unsets ∷ [])) s (Unset n f)
 
 -- no two of the names are of one link
 abbrev pub AreDifferent : Reading → List Tie → Type 0

@@ -1,6 +1,7 @@
 pub mod Named
 pub mod Displaced
 pub mod Telling
+pub mod Reports
 pub mod Tellings
 pub mod Effects
 pub mod Edits

@@ -1,24 +1,25 @@
--- Why a change is refused: by what it names, by a value's type or length, a cycle of parts, or a limit. What is looked for after is
--- the repository's.
-use Rattle.std.specs.Prelude.{Bool, false, nat_lt, Option, None, if◌then◌else◌}
+-- Why a change is refused: by what it names, by a value's type or length, an index, a repeated value, a full end, a cycle of parts, or a
+-- limit. What is looked for after is the repository's.
+use Rattle.std.specs.Prelude.{ℕ, ◌&&◌, ◌||◌, Bool, false, length, nat_le, nat_lt, Option, None, is_some, if◌then◌else◌}
 use Rattle.std.specs.Option.{option_map_or}
 use Rattle.mm_types.specs.Conditions.{◌unless◌, ◌where_so◌, ◌else_by◌}
 use Rattle.mm_types.specs.Same.{same_feature}
-use Rattle.mm_types.specs.declared.limits.TheConstants.{OBJECTS}
+use Rattle.mm_types.specs.Shapes.{is_full_list}
+use Rattle.mm_types.specs.declared.limits.TheConstants.{LIST_VALUES, OBJECTS}
 use Rattle.mm_types.specs.declared.numbers.FeatureNo.{FeatureNo}
 use Rattle.mm_types.specs.declared.numbers.ObjectNo.{ObjectNo}
 use Rattle.mm_types.specs.declared.numbers.Node.TheVariants as node
 use Rattle.mm_types.specs.declared.end.End.{End}
 use Rattle.mm_types.specs.declared.refused.Refused.{Refused}
-use Rattle.mm_types.specs.declared.refused.Refused.TheVariants.{WrongType, TextLength, Recursive, Limit}
+use Rattle.mm_types.specs.declared.refused.Refused.TheVariants.{WrongType, TextLength, Index, Duplicate, Bound, Recursive, Limit}
 use Rattle.mm_types.specs.declared.value.Value.{Value}
 use Rattle.mm_types.specs.declared.value.Value.TheVariants as value
-use Rattle.models.specs.Reading.{Reading, at_end, is_within, shape_at, takes}
+use Rattle.models.specs.Reading.{Reading, at_end, is_repeat, is_within, place_for, shape_at, takes}
 use Rattle.models.specs.Legal.{is_short}
-use Rattle.handshake.specs.Named.{class_refusal, feature_refusal, value_refusal}
-use Rattle.handshake.specs.Displaced.{has_already}
+use Rattle.handshake.specs.Named.{class_refusal, feature_refusal, many_refusal, single_refusal, value_refusal}
+use Rattle.handshake.specs.Displaced.{has_already, opposite_end}
 use Rattle.handshake.specs.declared.change.Change.{Change}
-use Rattle.handshake.specs.declared.change.Change.TheVariants.{Create, Set, Unset}
+use Rattle.handshake.specs.declared.change.Change.TheVariants.{Create, Set, Unset, Add, Remove, RemoveValue, Move}
 
 -- why a value is not one of a feature
 abbrev pub type_refusal : Reading → FeatureNo → Value → Option Refused
@@ -34,20 +35,53 @@ is_recursive_for r e o h =
 abbrev pub is_recursive : Reading → End → ObjectNo → Bool
 is_recursive r e o = option_map_or (is_recursive_for r e o) (shape_at r e).containing false
 
+-- how many values stand at an end
+abbrev pub count_at : Reading → End → ℕ
+count_at r e = length (r.values e)
+
+-- an end of an upper bound above 1 has as many values as it may have, and an end as many as any list may have
+abbrev pub is_full_at : Reading → End → Bool
+is_full_at r e = is_full_list (shape_at r e) (count_at r e)
+
+abbrev pub is_at_limit : Reading → End → Bool
+is_at_limit r e = nat_le LIST_VALUES (count_at r e)
+
+-- something holds of an end, or of the opposite end of a new link
+abbrev pub of_either : (End → Bool) → Reading → End → ObjectNo → Bool
+of_either holds r e o = holds e || option_map_or holds (opposite_end r e o) false
+
+-- why an end can't gain a link to an object
+abbrev pub link_refusal : Reading → End → ObjectNo → Option Refused
+link_refusal r e o =
+    Bound where_so of_either (is_full_at r) r e o else_by
+    Recursive where_so is_recursive r e o else_by
+    Limit where_so of_either (is_at_limit r) r e o
+
 -- why an end can't gain a value
 abbrev pub gain_refusal : Reading → End → Value → Option Refused
-gain_refusal r e (value.Object o) = Recursive where_so is_recursive r e o
-gain_refusal r e v = None
+gain_refusal r e (value.Object o) = link_refusal r e o
+gain_refusal r e v =
+    Bound where_so is_full_at r e else_by
+    Limit where_so is_at_limit r e
 
--- nothing more is looked for where a single end is set to the value that it has
+-- a single end is never full; nothing more is looked for where it is set to the object that it has
 abbrev pub set_refusal : Reading → End → Value → Option Refused
-set_refusal r e v = if has_already r e v then None else gain_refusal r e v
+set_refusal r e (value.Object o) = if has_already r e (value.Object o) then None else link_refusal r e o
+set_refusal r e v = None
+
+-- a value that a unique list has is refused at an index, and else nothing more is looked for
+abbrev pub add_refusal : Reading → End → Value → Option ℕ → Option Refused
+add_refusal r e v i = if is_repeat r e v then (Duplicate where_so is_some i) else gain_refusal r e v
 
 -- why it is refused before anything is planned
 abbrev pub early_refusal : Reading → Change → Option Refused
 early_refusal r (Create c) = class_refusal r.metamodel c
-early_refusal r (Set n f v) = value_refusal r n f v
+early_refusal r (Set n f v) = value_refusal r n f v else_by single_refusal r.metamodel f
 early_refusal r (Unset n f) = feature_refusal r n f
+early_refusal r (Add n f v i) = value_refusal r n f v else_by many_refusal r.metamodel f
+early_refusal r (Remove n f i) = feature_refusal r n f else_by many_refusal r.metamodel f
+early_refusal r (RemoveValue n f v) = value_refusal r n f v else_by many_refusal r.metamodel f
+early_refusal r (Move n f to from) = feature_refusal r n f else_by many_refusal r.metamodel f
 
 -- why one that is not is refused when it is planned
 abbrev pub late_refusal : Reading → Change → Option Refused
@@ -56,3 +90,10 @@ late_refusal r (Set n f v) =
     type_refusal r f v else_by
     set_refusal r (at_end n f) v
 late_refusal r (Unset n f) = None
+late_refusal r (Add n f v i) =
+    type_refusal r f v else_by
+    Index unless nat_le (place_for r (at_end n f) i) (count_at r (at_end n f)) else_by
+    add_refusal r (at_end n f) v i
+late_refusal r (Remove n f i) = Index unless nat_lt i (count_at r (at_end n f))
+late_refusal r (RemoveValue n f v) = type_refusal r f v
+late_refusal r (Move n f to from) = Index unless (nat_lt to (count_at r (at_end n f)) && nat_lt from (count_at r (at_end n f)))

@@ -1,9 +1,9 @@
 -- What happens to ends, without positions; and the notices that report it, each read in the ends that the notices before it left.
-use Rattle.std.specs.Prelude.{◌≡◌, true, ℕ, suc, ℤ, pos, Bool, false, List, [], ◌∷◌, ◌++◌, length, Some, if◌then◌else◌}
+use Rattle.std.specs.Prelude.{ℤ, pos, Bool, false, List, [], ◌∷◌, ◌++◌, length, Some, if◌then◌else◌}
 use Rattle.mm_types.specs.Resolved.{Metamodel}
 use Rattle.mm_types.specs.Same.{same_value}
 use Rattle.mm_types.specs.Shapes.{Shape, shape}
-use Rattle.mm_types.specs.Ends.{Ends, Held, is_set, value_in, with_held}
+use Rattle.mm_types.specs.Ends.{Ends, Held, index_in, is_set, value_in, with_held}
 use Rattle.mm_types.specs.declared.numbers.FeatureNo.{FeatureNo}
 use Rattle.mm_types.specs.declared.end.End.{End}
 use Rattle.mm_types.specs.declared.value.Value.{Value}
@@ -13,9 +13,9 @@ use Rattle.notice_chain.specs.declared.kind.NoticeKind.TheVariants as kind
 use Rattle.notice_chain.specs.declared.notice.Notice.{Notice}
 use Rattle.models.specs.Reading.{Reading, held_at, shape_at}
 use Rattle.notice_chain.specs.Kinds.{no_index}
-use Rattle.notice_chain.specs.Replay.{replayed_in}
+use Rattle.notice_chain.specs.Replay.{added, moved, removed, replayed_in}
 use Rattle.handshake.specs.declared.happening.Happening.{Happening}
-use Rattle.handshake.specs.declared.happening.Happening.TheVariants.{Gains, Loses, Unsets}
+use Rattle.handshake.specs.declared.happening.Happening.TheVariants.{Gains, GainsAt, Loses, LosesAt, Unsets, Moves}
 use Rattle.handshake.specs.declared.happening.Telling.{Telling}
 
 abbrev pub telling : End → Happening → Telling
@@ -28,26 +28,21 @@ abbrev pub notice : Shape → End → Held → NoticeKind → Value → Value �
 notice a e h k old new p =
     record { notifier = e.node; feature = Some e.feature; kind = k; old_value = old; new_value = new; position = p; was_set = is_set a h }
 
--- where a value stands in a list; past its end, where it does not
-abbrev pub index_in : List Value → Value → ℕ
-index_in [] v = 0
-index_in (w ∷ ws) v = if same_value v w then 0 else suc (index_in ws v)
-
 abbrev pub notice_of : Shape → End → Happening → Held → Notice
 notice_of a e (Gains v) h =
     if a.is_single then notice a e h kind.Set (value_in h.values 0) v no_index
     else notice a e h kind.Add value.Null v (pos (length h.values))
+notice_of a e (GainsAt i v) h = notice a e h kind.Add value.Null v (pos i)
 notice_of a e (Loses v) h =
     if a.is_single then notice a e h kind.Set v value.Null no_index
     else notice a e h kind.Remove v value.Null (pos (index_in h.values v))
+notice_of a e (LosesAt i) h = notice a e h kind.Remove (value_in h.values i) value.Null (pos i)
 notice_of a e Unsets h = notice a e h kind.Unset (value_in h.values 0) a.default no_index
+notice_of a e (Moves to from) h = notice a e h kind.Move (value.Int (pos from)) (value_in h.values from) (pos to)
 
 -- the notice of a telling, read in a model
 abbrev pub notice_at : Reading → Telling → Notice
 notice_at r t = notice_of (shape_at r t.at) t.at t.does (held_at r t.at)
-
-abbrev pub IsOfSingle : Metamodel → Telling → Type 0
-IsOfSingle m t = (shape m t.at.feature).is_single ≡ true
 
 -- the features that have a set flag
 abbrev pub has_flag : Metamodel → FeatureNo → Bool
@@ -70,14 +65,20 @@ without (w ∷ ws) v = if same_value v w then ws else w ∷ without ws v
 -- the values after it
 abbrev pub changed : Shape → Happening → List Value → List Value
 changed a (Gains v) vs = if a.is_single then v ∷ [] else vs ++ v ∷ []
+changed a (GainsAt i v) vs = added vs (pos i) v
 changed a (Loses v) vs = if a.is_single then value.Null ∷ [] else without vs v
+changed a (LosesAt i) vs = removed vs (pos i)
 changed a Unsets vs = a.default ∷ []
+changed a (Moves to from) vs = moved vs (pos from) (pos to)
 
 -- the flag after it: a gain or loss of a single end turns it on, where there is one, and unsetting turns it off
 abbrev pub flagged : Shape → Happening → Bool → Bool
 flagged a (Gains v) b = if a.is_single then a.is_unsettable else b
+flagged a (GainsAt i v) b = b
 flagged a (Loses v) b = if a.is_single then a.is_unsettable else b
+flagged a (LosesAt i) b = b
 flagged a Unsets b = false
+flagged a (Moves to from) b = b
 
 abbrev pub happened : Metamodel → Ends → Telling → Ends
 happened m e t =

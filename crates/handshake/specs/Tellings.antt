@@ -1,5 +1,5 @@
 -- What a change makes happen, end by end in the order of the rules, and its chain of notices.
-use Rattle.std.specs.Prelude.{◌&&◌, ◌||◌, Bool, false, not, List, [], ◌∷◌, ◌++◌, filter, flat_map, if◌then◌else◌}
+use Rattle.std.specs.Prelude.{ℕ, zero, suc, ◌&&◌, ◌||◌, Bool, false, not, List, [], ◌∷◌, ◌++◌, filter, flat_map, length, Option, Some, None, if◌then◌else◌}
 use Rattle.std.specs.Option.{option_map_or}
 use Rattle.mm_types.specs.Same.{node_value, same_end}
 use Rattle.mm_types.specs.Shapes.{is_containment}
@@ -8,10 +8,11 @@ use Rattle.mm_types.specs.declared.end.End.{End}
 use Rattle.mm_types.specs.declared.value.Value.{Value}
 use Rattle.mm_types.specs.declared.value.Value.TheVariants as value
 use Rattle.notice_chain.specs.declared.notice.Notice.{Notice}
-use Rattle.models.specs.Reading.{Reading, at_end, held_at, shape_at}
+use Rattle.models.specs.Reading.{Reading, at_end, first_at, held_at, is_repeat, shape_at}
 use Rattle.handshake.specs.declared.change.Change.{Change}
-use Rattle.handshake.specs.declared.change.Change.TheVariants.{Create, Set, Unset}
-use Rattle.handshake.specs.declared.happening.Happening.TheVariants.{Gains, Loses, Unsets}
+use Rattle.handshake.specs.declared.change.Change.TheVariants.{Create, Set, Unset, Add, Remove, RemoveValue, Move}
+use Rattle.handshake.specs.declared.happening.Happening.TheVariants.{Gains, GainsAt, Loses, LosesAt, Unsets, Moves}
+use Rattle.handshake.specs.declared.happening.Happening.{Happening}
 use Rattle.handshake.specs.declared.happening.Telling.{Telling}
 use Rattle.handshake.specs.declared.tie.Tie.{Tie}
 use Rattle.handshake.specs.Displaced.{cut_ties, is_plain_set, opposite_end, turned}
@@ -45,19 +46,51 @@ other_losses r e o t = filter (λ x. not (is_replaced r e o x.at)) (losses r t)
 abbrev pub far_gain : Reading → End → ObjectNo → List Telling
 far_gain r e o = option_map_or (λ d. telling d (Gains (node_value e.node)) ∷ []) (opposite_end r e o) []
 
+-- a list of so many values loses each, the last one first
+abbrev pub all_lost : End → ℕ → List Telling
+all_lost e zero = []
+all_lost e (suc n) = telling e (LosesAt n) ∷ all_lost e n
+
 ---------------------------------------------------------------- changes
 
--- what a set that cuts these links tells before the end itself gains: of a new link, the displaced links' losses and the far end's
+-- what a change that cuts these links tells before the end itself gains: of a new link, the displaced links' losses and the far end's
 -- gain; of null, the far ends' losses
 abbrev pub before_gain : Reading → End → Value → List Tie → List Telling
 before_gain r e (value.Object o) ts = flat_map (other_losses r e o) ts ++ far_gain r e o
 before_gain r e v ts = far_losses r ts
 
+-- a gain at the end of a list, or at an index
+abbrev pub gain_at : Option ℕ → Value → Happening
+gain_at None v = Gains v
+gain_at (Some i) v = GainsAt i v
+
+-- the far ends' losses, and then the end's own
+abbrev pub taken_out : Reading → End → List Tie → ℕ → List Telling
+taken_out r e ts i = far_losses r ts ++ telling e (LosesAt i) ∷ []
+
+-- nothing where no value is the same
+abbrev pub value_taken_out : Reading → End → List Tie → Value → List Telling
+value_taken_out r e ts v = option_map_or (taken_out r e ts) (first_at r e v) []
+
+abbrev pub emptied : Reading → End → List Telling
+emptied r e = if (shape_at r e).is_single then telling e Unsets ∷ [] else all_lost e (length (r.values e))
+
+abbrev pub set_to : Reading → End → Value → List Tie → List Telling
+set_to r e v ts = (if is_plain_set r e v then [] else before_gain r e v ts) ++ telling e (Gains v) ∷ []
+
+-- nothing where the list repeats nothing and has the value
+abbrev pub added : Reading → End → Value → Option ℕ → List Tie → List Telling
+added r e v i ts = if is_repeat r e v then [] else before_gain r e v ts ++ telling e (gain_at i v) ∷ []
+
 -- a change that cuts these links
 abbrev pub tellings_with : Reading → Change → List Tie → List Telling
 tellings_with r (Create c) ts = []
-tellings_with r (Set n f v) ts = let e = at_end n f in (if is_plain_set r e v then [] else before_gain r e v ts) ++ telling e (Gains v) ∷ []
-tellings_with r (Unset n f) ts = far_losses r ts ++ telling (at_end n f) Unsets ∷ []
+tellings_with r (Set n f v) ts = set_to r (at_end n f) v ts
+tellings_with r (Unset n f) ts = far_losses r ts ++ emptied r (at_end n f)
+tellings_with r (Add n f v i) ts = added r (at_end n f) v i ts
+tellings_with r (Remove n f i) ts = taken_out r (at_end n f) ts i
+tellings_with r (RemoveValue n f v) ts = value_taken_out r (at_end n f) ts v
+tellings_with r (Move n f to from) ts = telling (at_end n f) (Moves to from) ∷ []
 
 abbrev pub tellings : Reading → Change → List Telling
 tellings r c = tellings_with r c (cut_ties r c)

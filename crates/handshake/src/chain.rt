@@ -1,25 +1,27 @@
 //! The notices of what happens to ends.
-ghost use Rattle.std.specs.Prelude.{◌≡◌, ◌∷◌, ◌++◌, [], map, true, IfOk, IfErr, OnOk, All};
+ghost use Rattle.std.specs.Prelude.{◌≡◌, ◌∷◌, ◌++◌, [], map, IfOk, IfErr, OnOk};
+ghost use Rattle.mm_types.specs.Ends.{index_in};
 ghost use Rattle.mm_types.specs.Shapes.{shape};
 ghost use Rattle.mm_types.specs.declared.refused.Refused.TheVariants.{Memory};
 ghost use Rattle.models.specs.Model.{reading};
-ghost use Rattle.handshake.specs.Telling.{IsOfSingle, notice_at};
+ghost use Rattle.handshake.specs.Reports.{reported};
+ghost use Rattle.handshake.specs.Telling.{notice_at, telling};
+ghost use Rattle.handshake.specs.declared.happening.Happening.TheVariants.{Gains, Loses, Unsets};
 
 use crate::happening::{Happening, Telling};
 use link_store::LinkStore;
 use mm_meta::Meta;
-use mm_types::{FeatureNo, Refused, Value};
-use models::{ModelRef, copied, copy_of};
+use mm_types::{End, FeatureNo, Refused, Value};
+use models::{ModelRef, copied, copy_of, is_single};
 use notice_chain::{Chain, NO_INDEX, Notice, NoticeKind};
 use std::alloc::Global;
 
-/// The notices of what happens to single ends, each read in the model as it is.
+/// The notices of what happens to ends, each read in the model as it is.
 pub(crate) fn notices<L: LinkStore>(
     alloc: Global,
     model: &ModelRef<L>,
     tellings: Vec<Telling>,
 ) -> Result<Chain, Refused>
-    requires single { All (IsOfSingle model.now.metamodel) tellings.items }
     ensures ok { IfOk result (λ c. c ≡ map (notice_at (reading model.now)) tellings.items) }
     ensures err { IfErr result (λ r. r ≡ Memory) }
 {
@@ -30,13 +32,12 @@ pub(crate) fn notices<L: LinkStore>(
     Ok(chain)
 }
 
-/// Adds the notice of what happens to a single end.
+/// Adds the notice of what happens to an end.
 fn push_notice<L: LinkStore>(
     model: &ModelRef<L>,
     telling: Telling,
     chain: &mut Chain,
 ) -> Result<(), Refused>
-    requires single { IsOfSingle model.now.metamodel telling }
     ensures ok { OnOk result (chain.new ≡ chain.old ++ notice_at (reading model.now) telling ∷ []) }
     ensures err { IfErr result (λ r. r ≡ Memory) }
 {
@@ -47,31 +48,129 @@ fn push_notice<L: LinkStore>(
     }
 }
 
-/// The notice of what happens to a single end: SET or UNSET, from the value that it has.
+/// What a notice reports of the end that it names.
+#[derive(Drop)]
+pub(crate) struct Report {
+    kind: NoticeKind,
+    old_value: Value,
+    new_value: Value,
+    position: i64,
+}
+
+/// The notice of what happens to an end.
 fn notice<L: LinkStore>(model: &ModelRef<L>, telling: Telling) -> Result<Notice, Refused>
-    requires single { IsOfSingle model.now.metamodel telling }
     ensures ok { IfOk result (λ n. n ≡ notice_at (reading model.now) telling) }
     ensures err { IfErr result (λ r. r ≡ Memory) }
 {
     let Telling { at, does } = telling;
     let was_set = model.is_set(at);
-    let (kind, old_value, new_value) = match does {
-        Happening::Gains(value) => (NoticeKind::Set, copied(model.value_at(at))?, value),
-        Happening::Loses(value) => (NoticeKind::Set, value, Value::Null),
-        Happening::Unsets => (
-            NoticeKind::Unset,
-            copied(model.value_at(at))?,
-            default(model.meta(), at.feature)?,
-        ),
+    let report = match report_of(model, at, does) {
+        Ok(report) => report,
+        Err(refused) => return Err(refused),
     };
     Ok(Notice {
         notifier: at.node,
         feature: Some(at.feature),
-        kind,
-        old_value,
-        new_value,
-        position: NO_INDEX,
+        kind: report.kind,
+        old_value: report.old_value,
+        new_value: report.new_value,
+        position: report.position,
         was_set,
+    })
+}
+
+/// What is reported of an end to which something happens.
+fn report_of<L: LinkStore>(model: &ModelRef<L>, at: End, does: Happening) -> Result<Report, Refused>
+    ensures ok { IfOk result (λ p. reported (reading model.now) at p ≡ notice_at (reading model.now) (telling at does)) }
+    ensures err { IfErr result (λ r. r ≡ Memory) }
+{
+    match does {
+        Happening::Gains(value) => gain(model, at, value),
+        Happening::GainsAt(index, value) => Ok(Report {
+            kind: NoticeKind::Add,
+            old_value: Value::Null,
+            new_value: value,
+            position: i64::from(index),
+        }),
+        Happening::Loses(value) => Ok(loss(model, at, value)),
+        Happening::LosesAt(index) => Ok(Report {
+            kind: NoticeKind::Remove,
+            old_value: copied(model.value_in(at, index))?,
+            new_value: Value::Null,
+            position: i64::from(index),
+        }),
+        Happening::Unsets => unset(model, at),
+        Happening::Moves(to, from) => Ok(Report {
+            kind: NoticeKind::Move,
+            old_value: Value::Int(i64::from(from)),
+            new_value: copied(model.value_in(at, from))?,
+            position: i64::from(to),
+        }),
+    }
+}
+
+/// A gain: SET at a single end, from what it has, and else ADD behind the last value.
+fn gain<L: LinkStore>(model: &ModelRef<L>, at: End, value: Value) -> Result<Report, Refused>
+    ensures ok { IfOk result (λ p. reported (reading model.now) at p ≡ notice_at (reading model.now) (telling at (Gains value))) }
+    ensures err { IfErr result (λ r. r ≡ Memory) }
+{
+    if !is_single(model.meta(), at.feature) {
+        return Ok(Report {
+            kind: NoticeKind::Add,
+            old_value: Value::Null,
+            new_value: value,
+            position: i64::from(model.len(at)),
+        });
+    }
+    Ok(Report {
+        kind: NoticeKind::Set,
+        old_value: copied(model.value_at(at))?,
+        new_value: value,
+        position: NO_INDEX,
+    })
+}
+
+/// A loss: SET to null at a single end, and else REMOVE where the value stands.
+fn loss<L: LinkStore>(model: &ModelRef<L>, at: End, value: Value) -> Report
+    ensures { reported (reading model.now) at result ≡ notice_at (reading model.now) (telling at (Loses value)) }
+{
+    if is_single(model.meta(), at.feature) {
+        return Report {
+            kind: NoticeKind::Set,
+            old_value: value,
+            new_value: Value::Null,
+            position: NO_INDEX,
+        };
+    }
+    let position = i64::from(place_of(model, at, &value));
+    Report {
+        kind: NoticeKind::Remove,
+        old_value: value,
+        new_value: Value::Null,
+        position,
+    }
+}
+
+/// Where a value stands in a list; past its end, where it does not.
+fn place_of<L: LinkStore>(model: &ModelRef<L>, at: End, value: &Value) -> u32
+    ensures { result ≡ index_in ((reading model.now).values at) value.now }
+{
+    match model.position(at, value) {
+        Some(index) => index,
+        None => model.len(at),
+    }
+}
+
+/// UNSET, from what a single end has to its default.
+fn unset<L: LinkStore>(model: &ModelRef<L>, at: End) -> Result<Report, Refused>
+    ensures ok { IfOk result (λ p. reported (reading model.now) at p ≡ notice_at (reading model.now) (telling at Unsets)) }
+    ensures err { IfErr result (λ r. r ≡ Memory) }
+{
+    Ok(Report {
+        kind: NoticeKind::Unset,
+        old_value: copied(model.value_at(at))?,
+        new_value: default(model.meta(), at.feature)?,
+        position: NO_INDEX,
     })
 }
 

@@ -12,9 +12,35 @@ pub enum Change {
         feature: FeatureNo,
         value: Value,
     },
-    /// Takes a feature back to its default (EMF: EObject.eUnset).
+    /// Takes a feature back to its default, or empties a list (EMF: EObject.eUnset).
     Unset {
         node: Node,
         feature: FeatureNo,
+    },
+    /// Adds a value to a list, at an index or at its end (EMF: EList.add).
+    Add {
+        node: Node,
+        feature: FeatureNo,
+        value: Value,
+        index: Option<u32>,
+    },
+    /// Takes the value at an index out of a list (EMF: EList.remove).
+    Remove {
+        node: Node,
+        feature: FeatureNo,
+        index: u32,
+    },
+    /// Takes a value out of a list where it first stands, if it does (EMF: EList.remove).
+    RemoveValue {
+        node: Node,
+        feature: FeatureNo,
+        value: Value,
+    },
+    /// Takes the value at `from` out of a list and puts it in so that it then stands at `to` (EMF: EList.move).
+    Move {
+        node: Node,
+        feature: FeatureNo,
+        to: u32,
+        from: u32,
     },
 }

@@ -1,13 +1,14 @@
 //! Which links a change cuts.
-ghost use Rattle.std.specs.Prelude.{◌≡◌, true, fold, None, OnOk, IfOk, option_to_list};
+ghost use Rattle.std.specs.Prelude.{◌≡◌, ◌++◌, [], true, fold, OnOk, IfOk, option_map, option_to_list, if◌then◌else◌};
+ghost use Rattle.std.specs.Option.{option_map_or};
 ghost use Rattle.mm_types.specs.Shapes.{shape};
+ghost use Rattle.mm_types.specs.declared.value.Value.TheVariants as value;
 ghost use Rattle.link_store.specs.Holders as h;
 ghost use Rattle.models.specs.Model.{reading};
 ghost use Rattle.handshake.specs.Displaced as d;
-ghost use Rattle.handshake.specs.Refusals as refusals;
 
 use crate::change::Change;
-use crate::tie::{Tie, is_among, node_value, opposite_end};
+use crate::tie::{Tie, at_end, is_among, node_value, opposite_end};
 use link_store::LinkStore;
 use mm_meta::Meta;
 use mm_types::{End, Node, ObjectNo, Value};
@@ -110,59 +111,143 @@ pub(crate) fn cut_ties<L: LinkStore>(
     model: &ModelRef<L>,
     change: &Change,
 ) -> Result<Vec<Tie>, AllocError>
-    requires asked { refusals.early_refusal (reading model.now) change.now ≡ None }
     ensures { IfOk result (λ ts. ts.items ≡ d.cut_ties (reading model.now) change.now) }
 {
     match change {
-        Change::Create(_) => Ok(Vec::new(alloc)),
+        Change::Create(_) | Change::Move { .. } => Ok(Vec::new(alloc)),
         Change::Set {
             node,
             feature,
             value,
+        } => cut_by_set(alloc, model, at_end(node, feature), value),
+        Change::Unset { node, feature } => ties_backwards(alloc, model, at_end(node, feature)),
+        Change::Add {
+            node,
+            feature,
+            value,
+            ..
+        } => cut_by_add(alloc, model, at_end(node, feature), value),
+        Change::Remove {
+            node,
+            feature,
+            index,
+        } => tie_in(alloc, model, at_end(node, feature), Some(*index)),
+        Change::RemoveValue {
+            node,
+            feature,
+            value,
         } => {
-            let end = End {
-                node: *node,
-                feature: *feature,
-            };
-            if is_plain_set(model, end, value) {
-                return Ok(Vec::new(alloc));
-            }
-            match value {
-                Value::Object(object) => yields(alloc, model, end, *object),
-                _ => ties_at(alloc, model, end),
-            }
-        }
-        Change::Unset { node, feature } => {
-            if !is_reference(model.meta(), *feature) {
-                return Ok(Vec::new(alloc));
-            }
-            let end = End {
-                node: *node,
-                feature: *feature,
-            };
-            ties_at(alloc, model, end)
+            let end = at_end(node, feature);
+            tie_in(alloc, model, end, model.position(end, value))
         }
     }
 }
 
-/// The links of a single reference.
+fn cut_by_set<L: LinkStore>(
+    alloc: Global,
+    model: &ModelRef<L>,
+    end: End,
+    value: &Value,
+) -> Result<Vec<Tie>, AllocError>
+    ensures { IfOk result (λ ts. ts.items ≡ (if d.is_plain_set (reading model.now) end value.now then [] else d.cut_by_set (reading model.now) end value.now)) }
+{
+    if is_plain_set(model, end, value) {
+        return Ok(Vec::new(alloc));
+    }
+    match value {
+        Value::Object(object) => yields(alloc, model, end, *object),
+        _ => ties_at(alloc, model, end),
+    }
+}
+
+fn cut_by_add<L: LinkStore>(
+    alloc: Global,
+    model: &ModelRef<L>,
+    end: End,
+    value: &Value,
+) -> Result<Vec<Tie>, AllocError>
+    ensures { IfOk result (λ ts. ts.items ≡ (if d.is_plain_add (reading model.now) end value.now then [] else d.cut_by_new (reading model.now) end value.now)) }
+{
+    if is_plain_add(model, end, value) {
+        return Ok(Vec::new(alloc));
+    }
+    match value {
+        Value::Object(object) => yields(alloc, model, end, *object),
+        _ => Ok(Vec::new(alloc)),
+    }
+}
+
+/// The links of a reference.
 fn ties_at<L: LinkStore>(
     alloc: Global,
     model: &ModelRef<L>,
     end: End,
 ) -> Result<Vec<Tie>, AllocError>
     requires reference { (shape model.now.metamodel end.feature).is_reference ≡ true }
-    requires single { (shape model.now.metamodel end.feature).is_single ≡ true }
     ensures { IfOk result (λ ts. ts.items ≡ d.ties_at (reading model.now) end) }
 {
     let mut ties = Vec::new(alloc);
-    if let Some(object) = model.object_at(end) {
+    for index in 0..model.len(end) {
+        push_tie(end, model.object_in(end, index), &mut ties)?;
+    }
+    Ok(ties)
+}
+
+/// The links of an end, the last one first; none of an attribute.
+fn ties_backwards<L: LinkStore>(
+    alloc: Global,
+    model: &ModelRef<L>,
+    end: End,
+) -> Result<Vec<Tie>, AllocError>
+    ensures { IfOk result (λ ts. ts.items ≡ (if (shape model.now.metamodel end.feature).is_reference then d.ties_backwards end ((reading model.now).values end) else [])) }
+{
+    let mut ties = Vec::new(alloc);
+    if !is_reference(model.meta(), end.feature) {
+        return Ok(ties);
+    }
+    for index in (0..model.len(end)).rev() {
+        push_tie(end, model.object_in(end, index), &mut ties)?;
+    }
+    Ok(ties)
+}
+
+/// The link that stands at a place of an end, if one is named; none of an attribute.
+fn tie_in<L: LinkStore>(
+    alloc: Global,
+    model: &ModelRef<L>,
+    end: End,
+    index: Option<u32>,
+) -> Result<Vec<Tie>, AllocError>
+    ensures { IfOk result (λ ts. ts.items ≡ (if (shape model.now.metamodel end.feature).is_reference then option_map_or (d.tie_in (reading model.now) end) index [] else [])) }
+{
+    let mut ties = Vec::new(alloc);
+    if !is_reference(model.meta(), end.feature) {
+        return Ok(ties);
+    }
+    if let Some(index) = index {
+        push_tie(end, model.object_in(end, index), &mut ties)?;
+    }
+    Ok(ties)
+}
+
+/// Adds the link of an object of an end.
+fn push_tie(end: End, object: Option<ObjectNo>, ties: &mut Vec<Tie>) -> Result<(), AllocError>
+    ensures { OnOk result (ties.new.items ≡ ties.old.items ++ option_to_list (option_map (d.tie end) (option_map value.Object object))) }
+{
+    if let Some(object) = object {
         ties.push(Tie {
             end,
             value: Value::Object(object),
         })?;
     }
-    Ok(ties)
+    Ok(())
+}
+
+/// Whether an addition makes no link: to an attribute, or of a value that a unique list has.
+pub(crate) fn is_plain_add<L: LinkStore>(model: &ModelRef<L>, end: End, value: &Value) -> bool
+    ensures { result ≡ d.is_plain_add (reading model.now) end value.now }
+{
+    !is_reference(model.meta(), end.feature) || model.is_repeat(end, value)
 }
 
 /// Whether a set makes and cuts no link: of an attribute, or to the value that is there.

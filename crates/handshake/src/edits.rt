@@ -1,32 +1,34 @@
 //! The edits of a change.
-ghost use Rattle.std.specs.Prelude.{◌≡◌, ◌∷◌, ◌++◌, [], map, IfOk, IfErr};
+ghost use Rattle.std.specs.Prelude.{◌≡◌, ◌∷◌, ◌++◌, [], map, option_to_list, IfOk, IfErr};
 ghost use Rattle.mm_types.specs.Shapes.{shape};
 ghost use Rattle.mm_types.specs.declared.refused.Refused.TheVariants.{Memory};
 ghost use Rattle.models.specs.Model.{reading};
 ghost use Rattle.models.specs.Reading.{at_end};
 ghost use Rattle.handshake.specs.Edits as e;
+ghost use Rattle.mm_values.specs.declared.edit.ValueEdit.TheVariants.{MoveValue};
+ghost use Rattle.handshake.specs.Effects as effects;
 ghost use Rattle.handshake.specs.Effects.{put_values, value_edits as value_edits_of};
 
 use crate::change::Change;
-use crate::tie::Tie;
+use crate::displaced::{is_plain_add, is_plain_set};
+use crate::tie::{Tie, at_end};
 use link_store::{Edit, LinkStore, Plan};
-use mm_types::{End, FeatureNo, Node, ObjectNo, Refused, Seq, Text, Value};
+use mm_types::{End, FeatureNo, Node, Refused, Seq, Text, Value};
 use mm_values::{ValueEdit, ValuePlan};
-use models::{ModelRef, is_reference, is_unsettable, opposite};
+use models::{ModelRef, is_reference, is_unique, is_unsettable, opposite};
 use std::alloc::{AllocError, Global};
 
-/// The edits that cut links, and then make one, or none.
-pub(crate) fn link_edits<L: LinkStore>(
+/// The edits that cut links, and then the one behind them, if there is one.
+pub(crate) fn link_edits(
     alloc: Global,
-    model: &ModelRef<L>,
     ties: Vec<Tie>,
-    made: Option<(End, ObjectNo)>,
+    made: Option<Edit>,
 ) -> Result<Plan, AllocError>
-    ensures { IfOk result (λ p. p ≡ map e.cut_of ties.items ++ e.puts (reading model.now) made) }
+    ensures { IfOk result (λ p. p ≡ map e.cut_of ties.items ++ option_to_list made) }
 {
     let mut edits = cuts(alloc, ties)?;
-    if let Some((end, object)) = made {
-        edits.push(put(model, end, object))?;
+    if let Some(edit) = made {
+        edits.push(edit)?;
     }
     Ok(Seq::from_vec(edits))
 }
@@ -56,16 +58,61 @@ fn cut(alloc: Global, tie: Tie) -> Edit
     }
 }
 
-/// The edit that puts an object at an end.
-fn put<L: LinkStore>(model: &ModelRef<L>, end: End, object: ObjectNo) -> Edit
-    ensures { result ∷ [] ≡ e.puts (reading model.now) (Some (end, object)) }
+/// The edit behind the cuts, if there is one.
+pub(crate) fn made_edit<L: LinkStore>(model: &ModelRef<L>, change: &Change) -> Option<Edit>
+    ensures { result ≡ e.made_edit (reading model.now) change.now }
 {
-    Edit::Put {
-        end,
-        index: 0,
-        object,
-        opposite: opposite(model.meta(), end.feature),
-        container: model.meta().containing(end.feature),
+    match change {
+        Change::Set {
+            node,
+            feature,
+            value,
+        } => {
+            let end = at_end(node, feature);
+            match is_plain_set(model, end, value) {
+                true => None,
+                false => new_put(model, end, 0, value),
+            }
+        }
+        Change::Add {
+            node,
+            feature,
+            value,
+            index,
+        } => {
+            let end = at_end(node, feature);
+            match is_plain_add(model, end, value) {
+                true => None,
+                false => new_put(model, end, model.place_for(end, *index), value),
+            }
+        }
+        Change::Move {
+            node,
+            feature,
+            to,
+            from,
+        } if is_reference(model.meta(), *feature) => Some(Edit::Shift {
+            end: at_end(node, feature),
+            to: *to,
+            from: *from,
+        }),
+        _ => None,
+    }
+}
+
+/// The edit that puts an object at a place of an end; no other value is put.
+fn new_put<L: LinkStore>(model: &ModelRef<L>, end: End, index: u32, value: &Value) -> Option<Edit>
+    ensures { result ≡ e.new_put (reading model.now) end index value.now }
+{
+    match value {
+        Value::Object(object) => Some(Edit::Put {
+            end,
+            index,
+            object: *object,
+            opposite: opposite(model.meta(), end.feature),
+            container: model.meta().containing(end.feature),
+        }),
+        _ => None,
     }
 }
 
@@ -80,7 +127,12 @@ pub(crate) fn value_edits<L: LinkStore>(
 {
     match change {
         Change::Create(class) => Ok(ValuePlan::one(ValueEdit::NewObject(class))),
-        Change::Set { feature, .. } | Change::Unset { feature, .. }
+        Change::Set { feature, .. }
+        | Change::Unset { feature, .. }
+        | Change::Add { feature, .. }
+        | Change::Remove { feature, .. }
+        | Change::RemoveValue { feature, .. }
+        | Change::Move { feature, .. }
             if is_reference(model.meta(), feature) => { Ok(ValuePlan::none(alloc)) }
         Change::Set {
             node,
@@ -90,6 +142,95 @@ pub(crate) fn value_edits<L: LinkStore>(
         Change::Unset { node, feature } => {
             Ok(put_list(alloc, node, feature, Seq::new(alloc), false))
         }
+        Change::Add {
+            node,
+            feature,
+            value,
+            index,
+        } => Ok(add_value(alloc, model, End { node, feature }, value, index)),
+        Change::Remove {
+            node,
+            feature,
+            index,
+        } => Ok(take_value(alloc, End { node, feature }, index)),
+        Change::RemoveValue {
+            node,
+            feature,
+            value,
+        } => Ok(take_first(alloc, model, End { node, feature }, &value)),
+        Change::Move {
+            node,
+            feature,
+            to,
+            from,
+        } => Ok(move_value(alloc, node, feature, to, from)),
+    }
+}
+
+/// The edit that adds a value to an attribute's list, unless the list repeats nothing and has it.
+fn add_value<L: LinkStore>(
+    alloc: Global,
+    model: &ModelRef<L>,
+    end: End,
+    value: Value,
+    index: Option<u32>,
+) -> ValuePlan
+    ensures { result ≡ effects.add_value (reading model.now) end value index }
+{
+    if model.is_repeat(end, &value) {
+        return ValuePlan::none(alloc);
+    }
+    match end.node {
+        Node::Object(object) => ValuePlan::one(ValueEdit::InsertValue {
+            object,
+            feature: end.feature,
+            index: model.place_for(end, index),
+            value,
+            is_unique: is_unique(model.meta(), end.feature),
+        }),
+        Node::Resource(_) => ValuePlan::none(alloc),
+    }
+}
+
+// Takes out the first value that is the same; no edit where there is none.
+fn take_first<L: LinkStore>(
+    alloc: Global,
+    model: &ModelRef<L>,
+    end: End,
+    value: &Value,
+) -> ValuePlan
+    ensures { result ≡ effects.take_first (reading model.now) end value.now }
+{
+    match model.position(end, value) {
+        Some(index) => take_value(alloc, end, index),
+        None => ValuePlan::none(alloc),
+    }
+}
+
+fn take_value(alloc: Global, end: End, index: u32) -> ValuePlan
+    ensures { result ≡ effects.take_value end index }
+{
+    match end.node {
+        Node::Object(object) => ValuePlan::one(ValueEdit::RemoveValue {
+            object,
+            feature: end.feature,
+            index,
+        }),
+        Node::Resource(_) => ValuePlan::none(alloc),
+    }
+}
+
+fn move_value(alloc: Global, node: Node, feature: FeatureNo, to: u32, from: u32) -> ValuePlan
+    ensures { result ≡ effects.of_object node (λ o. MoveValue o feature to from) }
+{
+    match node {
+        Node::Object(object) => ValuePlan::one(ValueEdit::MoveValue {
+            object,
+            feature,
+            to,
+            from,
+        }),
+        Node::Resource(_) => ValuePlan::none(alloc),
     }
 }
 

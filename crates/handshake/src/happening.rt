@@ -6,10 +6,16 @@ use mm_types::{End, Value};
 pub enum Happening {
     /// A list gains the value at its end; a single end has it in place of what it had.
     Gains(Value),
+    /// A list gains the value at an index.
+    GainsAt(u32, Value),
     /// A list loses the value; a single end is null then.
     Loses(Value),
+    /// A list loses what stands at an index.
+    LosesAt(u32),
     /// A single end goes back to its default.
     Unsets,
+    /// In a list, what stands at the second index then stands at the first.
+    Moves(u32, u32),
 }
 
 /// What happens, and at which end.

@@ -2,9 +2,11 @@
 ghost use Rattle.std.specs.Prelude.{◌≡◌, List};
 ghost use Rattle.mm_types.specs.Ends.{Ends};
 ghost use Rattle.mm_types.specs.Resolved.{Metamodel};
+ghost use Rattle.mm_types.specs.declared.numbers.FeatureNo.{FeatureNo};
+ghost use Rattle.mm_types.specs.declared.numbers.Node.{Node};
 ghost use Rattle.models.specs.Model.{Model};
 ghost use Rattle.notice_chain.specs.Replay.{replayed_all};
-ghost use Rattle.handshake.specs.Laws.{ChainReplays, CutsNoLinkTwice, KeepsLegal, TellsNoEndTwice};
+ghost use Rattle.handshake.specs.Laws.{ChainReplays, CutsNoLinkTwice, FarEndsAreApart, KeepsLegal, TellsNoEndTwice};
 ghost use Rattle.handshake.specs.Telling.{happened_all, has_flag, told};
 ghost use Rattle.handshake.specs.declared.change.Change.{Change};
 ghost use Rattle.handshake.specs.declared.happening.Telling.{Telling};
@@ -27,9 +29,11 @@ pub fn the_chain_of_a_change_replays_it()
     ensures { (s : Model) (c : Change) → ChainReplays s c }
 {}
 
-/// A chain tells no end twice.
+/// A chain tells no end twice, but a list that is unset, which loses its values one by one. No far end is told twice then, and none
+/// of them is the list.
 pub fn a_chain_tells_no_end_twice()
-    ensures { (s : Model) (c : Change) → TellsNoEndTwice s c }
+    ensures ends { (s : Model) (c : Change) → TellsNoEndTwice s c }
+    ensures far_ends { (s : Model) (n : Node) (f : FeatureNo) → FarEndsAreApart s n f }
 {}
 
 /// A change cuts no link twice, by whichever of its ends it is named.

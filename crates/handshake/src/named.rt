@@ -9,11 +9,12 @@ use crate::change::Change;
 use link_store::LinkStore;
 use mm_meta::Meta;
 use mm_types::{ClassNo, FeatureNo, Node, Refused, Value};
-use models::{ModelRef, is_concrete};
+use models::{ModelRef, is_concrete, is_single};
 
 /// The first refusal of a change that needs no memory to be found: what it names is not there.
 ///
-/// `NoObject` where the node, or the value, is an object that does not live; `NoResource`, `NoClass`, `Abstract`, `NoFeature`.
+/// `NoObject` where the node, or the value, is an object that does not live; `NoResource`, `NoClass`, `Abstract`, `NoFeature`;
+/// `NotSingle` where one value is set under a list's feature, `NotMany` where a list is edited under the feature of one value.
 pub fn early_refusal<L: LinkStore>(model: &ModelRef<L>, change: &Change) -> Option<Refused>
     ensures { result ≡ refusals.early_refusal (reading model.now) change.now }
 {
@@ -23,8 +24,45 @@ pub fn early_refusal<L: LinkStore>(model: &ModelRef<L>, change: &Change) -> Opti
             node,
             feature,
             value,
-        } => value_refusal(model, *node, *feature, value),
+        } => value_refusal(model, *node, *feature, value).or(single_refusal(
+            model.meta(),
+            *feature,
+        )),
         Change::Unset { node, feature } => feature_refusal(model, *node, *feature),
+        Change::Add {
+            node,
+            feature,
+            value,
+            ..
+        }
+        | Change::RemoveValue {
+            node,
+            feature,
+            value,
+        } => value_refusal(model, *node, *feature, value).or(many_refusal(model.meta(), *feature)),
+        Change::Remove { node, feature, .. } | Change::Move { node, feature, .. } => {
+            feature_refusal(model, *node, *feature).or(many_refusal(model.meta(), *feature))
+        }
+    }
+}
+
+fn single_refusal(meta: &Meta, feature: FeatureNo) -> Option<Refused>
+    ensures { result ≡ named.single_refusal meta.now feature }
+{
+    if is_single(meta, feature) {
+        None
+    } else {
+        Some(Refused::NotSingle)
+    }
+}
+
+fn many_refusal(meta: &Meta, feature: FeatureNo) -> Option<Refused>
+    ensures { result ≡ named.many_refusal meta.now feature }
+{
+    if is_single(meta, feature) {
+        Some(Refused::NotMany)
+    } else {
+        None
     }
 }
 

@@ -1,33 +1,36 @@
 //! The plan of a change: its edits, and the notices that it tells.
 ghost use Rattle.std.specs.Prelude.{◌≡◌, [], true, None, IfOk, IfErr, if◌then◌else◌};
-ghost use Rattle.mm_types.specs.declared.refused.Refused.TheVariants.{Memory};
+ghost use Rattle.mm_types.specs.Conditions.{◌unless◌, ◌else_by◌};
+ghost use Rattle.mm_types.specs.declared.refused.Refused.TheVariants.{Index, Memory};
 ghost use Rattle.models.specs.Model.{reading};
 ghost use Rattle.models.specs.Reading.{takes};
 ghost use Rattle.handshake.specs.Displaced as d;
-ghost use Rattle.handshake.specs.Edits as e;
 ghost use Rattle.handshake.specs.Plans.{Plans};
 ghost use Rattle.handshake.specs.Refusals as refusals;
 ghost use Rattle.handshake.specs.Tellings as t;
+ghost use Rattle.handshake.specs.declared.change.Change.TheVariants.{Add};
 
 use crate::chain::notices;
 use crate::change::Change;
-use crate::displaced::{cut_ties, has_already, is_plain_set};
-use crate::edits::{link_edits, value_edits};
+use crate::displaced::{cut_ties, has_already};
+use crate::edits::{link_edits, made_edit, value_edits};
 use crate::planned::Planned;
 use crate::recursion::is_recursive;
 use crate::telling::tellings;
-use crate::tie::Tie;
+use crate::tie::{Tie, at_end, opposite_end};
 use link_store::LinkStore;
-use mm_types::{End, ObjectNo, Refused, Value, limits};
-use models::{ModelRef, is_short};
+use mm_types::{End, FeatureNo, ObjectNo, Refused, Value, limits};
+use models::{ModelRef, is_full, is_short};
 use notice_chain::Chain;
 use std::alloc::Global;
 
 /// The plan of a change whose class, nodes and features are there, or the first refusal that planning finds. The notices are
 /// made only where somebody may hear them.
 ///
-/// `WrongType` where the value is not one of the feature's type, `TextLength` above 65,535 bytes, `Recursive` where an object would
-/// become a part of itself, `Limit` where 1,000,000 objects were made; `Memory` where none of these applies.
+/// `WrongType` where the value is not one of the feature's type, `TextLength` above 65,535 bytes, `Index` where nothing stands at an
+/// index or a value would not stand behind the last, `Duplicate` where a unique list has the value that is added at an index, `Bound`
+/// where an end that has to gain is full, `Recursive` where an object would become a part of itself, `Limit` where 1,000,000 objects
+/// were made, or as many values stand at an end; `Memory` where none of these applies.
 pub fn plan<L: LinkStore>(
     alloc: Global,
     model: &ModelRef<L>,
@@ -48,7 +51,7 @@ pub fn plan<L: LinkStore>(
         Ok(chain) => chain,
         Err(refused) => return Err(refused),
     };
-    let Ok(edits) = link_edits(alloc, model, ties, made_link(model, &change)) else {
+    let Ok(edits) = link_edits(alloc, ties, made_edit(model, &change)) else {
         return Err(Refused::Memory);
     };
     match value_edits(alloc, model, change) {
@@ -67,42 +70,170 @@ fn late_refusal<L: LinkStore>(model: &ModelRef<L>, change: &Change) -> Option<Re
 {
     match change {
         Change::Create(_) if model.next() >= limits::OBJECTS => Some(Refused::Limit),
+        Change::Create(_) | Change::Unset { .. } => None,
         Change::Set {
             node,
             feature,
             value,
+        } => set_late_refusal(model, at_end(node, feature), value),
+        Change::Add {
+            node,
+            feature,
+            value,
+            index,
+        } => add_late_refusal(model, at_end(node, feature), value, *index),
+        Change::RemoveValue { feature, value, .. } => type_refusal(model, *feature, value),
+        Change::Remove {
+            node,
+            feature,
+            index,
+        } => index_refusal(*index < model.len(at_end(node, feature))),
+        Change::Move {
+            node,
+            feature,
+            to,
+            from,
         } => {
-            if !model.takes(*feature, value) {
-                return Some(Refused::WrongType);
-            }
-            if !is_short(value) {
-                return Some(Refused::TextLength);
-            }
-            let end = End {
-                node: *node,
-                feature: *feature,
-            };
-            gain_refusal(model, end, value)
+            let len = model.len(at_end(node, feature));
+            index_refusal(*to < len && *from < len)
+        }
+    }
+}
+
+fn set_late_refusal<L: LinkStore>(model: &ModelRef<L>, end: End, value: &Value) -> Option<Refused>
+    ensures { result ≡ (refusals.type_refusal (reading model.now) end.feature value.now else_by refusals.set_refusal (reading model.now) end value.now) }
+{
+    if let Some(refused) = type_refusal(model, end.feature, value) {
+        return Some(refused);
+    }
+    set_refusal(model, end, value)
+}
+
+fn add_late_refusal<L: LinkStore>(
+    model: &ModelRef<L>,
+    end: End,
+    value: &Value,
+    index: Option<u32>,
+) -> Option<Refused>
+    ensures { result ≡ refusals.late_refusal (reading model.now) (Add end.node end.feature value.now index) }
+{
+    if let Some(refused) = type_refusal(model, end.feature, value) {
+        return Some(refused);
+    }
+    if model.place_for(end, index) > model.len(end) {
+        return Some(Refused::Index);
+    }
+    if !model.is_repeat(end, value) {
+        return gain_refusal(model, end, value);
+    }
+    match index {
+        Some(_) => Some(Refused::Duplicate),
+        None => None,
+    }
+}
+
+/// Why a value is not one of a feature: `WrongType` or `TextLength`.
+fn type_refusal<L: LinkStore>(
+    model: &ModelRef<L>,
+    feature: FeatureNo,
+    value: &Value,
+) -> Option<Refused>
+    ensures { result ≡ refusals.type_refusal (reading model.now) feature value.now }
+{
+    if !model.takes(feature, value) {
+        return Some(Refused::WrongType);
+    }
+    if !is_short(value) {
+        return Some(Refused::TextLength);
+    }
+    None
+}
+
+fn index_refusal(is_there: bool) -> Option<Refused>
+    ensures { result ≡ (Index unless is_there) }
+{
+    if is_there { None } else { Some(Refused::Index) }
+}
+
+/// Why a single end can't have a value of its type.
+fn set_refusal<L: LinkStore>(model: &ModelRef<L>, end: End, value: &Value) -> Option<Refused>
+    requires taken { takes (reading model.now) end.feature value.now ≡ true }
+    ensures { result ≡ refusals.set_refusal (reading model.now) end value.now }
+{
+    match value {
+        Value::Object(object) if !has_already(model, end, value) => {
+            link_refusal(model, end, *object)
         }
         _ => None,
     }
 }
 
-/// Why a single end can't have a value of its type.
+/// Why an end can't gain a value: `Bound`, `Recursive` or `Limit`.
 fn gain_refusal<L: LinkStore>(model: &ModelRef<L>, end: End, value: &Value) -> Option<Refused>
-    requires taken { takes (reading model.now) end.feature value.now ≡ true }
-    ensures { result ≡ refusals.set_refusal (reading model.now) end value.now }
+    ensures { result ≡ refusals.gain_refusal (reading model.now) end value.now }
 {
     match value {
-        Value::Object(object) => {
-            if !has_already(model, end, value) && is_recursive(model, end, *object) {
-                Some(Refused::Recursive)
-            } else {
-                None
-            }
-        }
+        Value::Object(object) => link_refusal(model, end, *object),
+        _ if is_full_at(model, end) => Some(Refused::Bound),
+        _ if is_at_limit(model, end) => Some(Refused::Limit),
         _ => None,
     }
+}
+
+/// Why an end can't gain a link to an object.
+fn link_refusal<L: LinkStore>(model: &ModelRef<L>, end: End, object: ObjectNo) -> Option<Refused>
+    ensures { result ≡ refusals.link_refusal (reading model.now) end object }
+{
+    if is_either_full(model, end, object) {
+        return Some(Refused::Bound);
+    }
+    if is_recursive(model, end, object) {
+        return Some(Refused::Recursive);
+    }
+    if is_either_at_limit(model, end, object) {
+        return Some(Refused::Limit);
+    }
+    None
+}
+
+/// Whether an end or the opposite end of a new link is full.
+fn is_either_full<L: LinkStore>(model: &ModelRef<L>, end: End, object: ObjectNo) -> bool
+    ensures { result ≡ refusals.of_either (refusals.is_full_at (reading model.now)) (reading model.now) end object }
+{
+    if is_full_at(model, end) {
+        return true;
+    }
+    match opposite_end(model, end, object) {
+        Some(far) => is_full_at(model, far),
+        None => false,
+    }
+}
+
+/// Whether an end or the opposite end of a new link has as many values as any list may have.
+fn is_either_at_limit<L: LinkStore>(model: &ModelRef<L>, end: End, object: ObjectNo) -> bool
+    ensures { result ≡ refusals.of_either (refusals.is_at_limit (reading model.now)) (reading model.now) end object }
+{
+    if is_at_limit(model, end) {
+        return true;
+    }
+    match opposite_end(model, end, object) {
+        Some(far) => is_at_limit(model, far),
+        None => false,
+    }
+}
+
+/// Whether an end of an upper bound above 1 has as many values as it may have.
+fn is_full_at<L: LinkStore>(model: &ModelRef<L>, end: End) -> bool
+    ensures { result ≡ refusals.is_full_at (reading model.now) end }
+{
+    is_full(model.meta(), end.feature, model.len(end))
+}
+
+/// Whether an end has as many values as any list may have.
+fn is_at_limit<L: LinkStore>(model: &ModelRef<L>, end: End) -> bool
+    ensures { result ≡ refusals.is_at_limit (reading model.now) end }
+{
+    model.len(end) as usize >= limits::LIST_VALUES
 }
 
 /// The notices that a change tells that cuts these links; none where nobody may hear them.
@@ -128,28 +259,4 @@ fn heard_chain<L: LinkStore>(
         Err(refused) => return Err(refused),
     };
     notices(alloc, model, tellings)
-}
-
-/// The end and the object of the link that a change makes, if it makes one.
-fn made_link<L: LinkStore>(model: &ModelRef<L>, change: &Change) -> Option<(End, ObjectNo)>
-    ensures { result ≡ e.made_link (reading model.now) change.now }
-{
-    match change {
-        Change::Set {
-            node,
-            feature,
-            value: Value::Object(object),
-        } => {
-            let end = End {
-                node: *node,
-                feature: *feature,
-            };
-            if is_plain_set(model, end, &Value::Object(*object)) {
-                None
-            } else {
-                Some((end, *object))
-            }
-        }
-        _ => None,
-    }
 }

@@ -10,7 +10,7 @@ ghost use Rattle.handshake.specs.Tellings as t;
 use crate::change::Change;
 use crate::displaced::is_plain_set;
 use crate::happening::{Happening, Telling};
-use crate::tie::{Tie, node_value, opposite_end, turned};
+use crate::tie::{Tie, at_end, node_value, opposite_end, turned};
 use link_store::LinkStore;
 use mm_types::{End, ObjectNo, Refused, Value};
 use models::{ModelRef, copy_of, is_single};
@@ -28,35 +28,150 @@ pub(crate) fn tellings<L: LinkStore>(
 {
     let mut out = Vec::new(alloc);
     match change {
-        Change::Create(_) => Ok(out),
+        Change::Create(_) => {}
         Change::Set {
             node,
             feature,
             value,
-        } => {
-            let end = End {
-                node: *node,
-                feature: *feature,
-            };
-            if !is_plain_set(model, end, value) {
-                push_cuts(model, end, value, ties, &mut out)?;
-            }
-            push(&mut out, end, Happening::Gains(copy_of(value)?))?;
-            Ok(out)
-        }
+        } => push_set(model, at_end(node, feature), value, ties, &mut out)?,
         Change::Unset { node, feature } => {
             push_far_losses(model, ties, &mut out)?;
-            let end = End {
-                node: *node,
-                feature: *feature,
-            };
-            push(&mut out, end, Happening::Unsets)?;
-            Ok(out)
+            push_emptied(model, at_end(node, feature), &mut out)?;
         }
+        Change::Add {
+            node,
+            feature,
+            value,
+            index,
+        } => push_added(model, at_end(node, feature), value, *index, ties, &mut out)?,
+        Change::Remove {
+            node,
+            feature,
+            index,
+        } => push_taken_out(model, at_end(node, feature), ties, *index, &mut out)?,
+        Change::RemoveValue {
+            node,
+            feature,
+            value,
+        } => push_value_taken_out(model, at_end(node, feature), ties, value, &mut out)?,
+        Change::Move {
+            node,
+            feature,
+            to,
+            from,
+        } => push(
+            &mut out,
+            at_end(node, feature),
+            Happening::Moves(*to, *from),
+        )?,
+    }
+    Ok(out)
+}
+
+/// Adds what happens where a single feature is set.
+fn push_set<L: LinkStore>(
+    model: &ModelRef<L>,
+    end: End,
+    value: &Value,
+    ties: &[Tie],
+    out: &mut Vec<Telling>,
+) -> Result<(), Refused>
+    ensures ok { OnOk result (out.new.items ≡ out.old.items ++ t.set_to (reading model.now) end value.now ties.now) }
+    ensures err { IfErr result (λ r. r ≡ Memory) }
+{
+    if !is_plain_set(model, end, value) {
+        push_cuts(model, end, value, ties, out)?;
+    }
+    push(out, end, Happening::Gains(copy_of(value)?))
+}
+
+/// Adds what happens where a value is added to a list: nothing where the list repeats nothing and has it.
+fn push_added<L: LinkStore>(
+    model: &ModelRef<L>,
+    end: End,
+    value: &Value,
+    index: Option<u32>,
+    ties: &[Tie],
+    out: &mut Vec<Telling>,
+) -> Result<(), Refused>
+    ensures ok { OnOk result (out.new.items ≡ out.old.items ++ t.added (reading model.now) end value.now index ties.now) }
+    ensures err { IfErr result (λ r. r ≡ Memory) }
+{
+    if model.is_repeat(end, value) {
+        return Ok(());
+    }
+    push_cuts(model, end, value, ties, out)?;
+    push(out, end, gain_at(index, copy_of(value)?))
+}
+
+/// A gain at the end of a list, or at an index.
+fn gain_at(index: Option<u32>, value: Value) -> Happening
+    ensures { result ≡ t.gain_at index value }
+{
+    match index {
+        Some(index) => Happening::GainsAt(index, value),
+        None => Happening::Gains(value),
     }
 }
 
-/// Adds what a set that cuts these links tells before the end itself gains.
+/// Adds what happens where a value is taken out of a list, and its link is cut.
+fn push_taken_out<L: LinkStore>(
+    model: &ModelRef<L>,
+    end: End,
+    ties: &[Tie],
+    index: u32,
+    out: &mut Vec<Telling>,
+) -> Result<(), Refused>
+    ensures ok { OnOk result (out.new.items ≡ out.old.items ++ t.taken_out (reading model.now) end ties.now index) }
+    ensures err { IfErr result (λ r. r ≡ Memory) }
+{
+    push_far_losses(model, ties, out)?;
+    push(out, end, Happening::LosesAt(index))
+}
+
+/// Adds what happens where the first value that is the same is taken out of a list: nothing where there is none.
+fn push_value_taken_out<L: LinkStore>(
+    model: &ModelRef<L>,
+    end: End,
+    ties: &[Tie],
+    value: &Value,
+    out: &mut Vec<Telling>,
+) -> Result<(), Refused>
+    ensures ok { OnOk result (out.new.items ≡ out.old.items ++ t.value_taken_out (reading model.now) end ties.now value.now) }
+    ensures err { IfErr result (λ r. r ≡ Memory) }
+{
+    match model.position(end, value) {
+        Some(index) => push_taken_out(model, end, ties, index, out),
+        None => Ok(()),
+    }
+}
+
+/// Adds what happens to an end that is unset: a list loses each value, the last one first.
+fn push_emptied<L: LinkStore>(
+    model: &ModelRef<L>,
+    end: End,
+    out: &mut Vec<Telling>,
+) -> Result<(), Refused>
+    ensures ok { OnOk result (out.new.items ≡ out.old.items ++ t.emptied (reading model.now) end) }
+    ensures err { IfErr result (λ r. r ≡ Memory) }
+{
+    if is_single(model.meta(), end.feature) {
+        return push(out, end, Happening::Unsets);
+    }
+    push_all_lost(end, model.len(end), out)
+}
+
+fn push_all_lost(end: End, len: u32, out: &mut Vec<Telling>) -> Result<(), Refused>
+    ensures ok { OnOk result (out.new.items ≡ out.old.items ++ t.all_lost end len) }
+    ensures err { IfErr result (λ r. r ≡ Memory) }
+{
+    for index in (0..len).rev() {
+        push(out, end, Happening::LosesAt(index))?;
+    }
+    Ok(())
+}
+
+/// Adds what a change that cuts these links tells before the end itself gains.
 fn push_cuts<L: LinkStore>(
     model: &ModelRef<L>,
     end: End,

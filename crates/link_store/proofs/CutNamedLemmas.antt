@@ -254,7 +254,7 @@ module _ (m : Kinds) (ok : AreKinds m) where
       let left = filter_keeps (λ w. not (names m t.0 t.1 u.0 w)) (end s u.0) has.0 u.1 has.1 (ap not other) in
       (left.0, subst (λ (xs : List Value). slice_get xs left.0 ≡ Some u.1) (sym (end-cut_value m ok s legal kinds t.0 t.1 u.0)) left.1)
 
-  there_after : (s : Links) → IsLegalSet s → AreOfKind m s → (t : End × Value) (us : List (End × Value)) → AllByRecursion (λ (u : End × Value). names m t.0 t.1 u.0 u.1 ≡ false) us → AreThere s us → AreThere (cut_value s t.0 t.1) us
+  pub there_after : (s : Links) → IsLegalSet s → AreOfKind m s → (t : End × Value) (us : List (End × Value)) → AllByRecursion (λ (u : End × Value). names m t.0 t.1 u.0 u.1 ≡ false) us → AreThere s us → AreThere (cut_value s t.0 t.1) us
   there_after s legal kinds t [] others there = tt
   there_after s legal kinds t (u ∷ us) others there = (has_after s legal kinds t u others.0 there.0, there_after s legal kinds t us others.1 there.1)
 

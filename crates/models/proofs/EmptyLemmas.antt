@@ -1,5 +1,5 @@
 -- An empty model is legal.
-use Rattle.std.proofs.Common.{◌≡◌, IsTrue, List, [], ◌∷◌, slice_get, Some, refl, sym, ap, ◌∙◌, arith}
+use Rattle.std.proofs.Common.{◌≡◌, List, [], ◌∷◌, slice_get, refl, sym, ap, ◌∙◌, arith}
 use Rattle.std.specs.FinSet as set
 use Rattle.std.proofs.lemmas.Bool.{false≢true}
 use Rattle.std.proofs.lemmas.List.Elements.{All-nil}
@@ -11,8 +11,8 @@ use Rattle.link_store.specs.Links.{end, no_links}
 use Rattle.link_store.specs.Order.{link_cmp}
 use Rattle.link_store.proofs.CycleLemmas.{none_no_cycle}
 use Rattle.link_store.proofs.LegalLemmas.{none_kinds, none_legal}
-use Rattle.models.specs.Legal.{IsLegal, IsLegalObject, is_legal_end, kinds_of}
-use Rattle.models.specs.Model.{empty_model, reading}
+use Rattle.models.specs.Legal.{IsLegal, IsLegalObject, kinds_of}
+use Rattle.models.specs.Model.{empty_model}
 
 -- no links leave no end anything
 empty-end : (e : End) → end no_links e ≡ []

@@ -1,7 +1,6 @@
 -- What stands at the ends of references.
-use Rattle.std.proofs.Common.{◌≡◌, ◌≤◌, nat_le, arith, pos, option_to_list, ℕ, zero, suc, Bool, true, false, ◌&&◌, IsTrue, List, [], ◌∷◌, length, slice_get, Option, Some, None, unwrap_or, option_map, option_and_then, if◌then◌else◌, refl, sym, ap, ◌∙◌, subst}
+use Rattle.std.proofs.Common.{◌≡◌, ◌≤◌, nat_le, arith, pos, option_to_list, ℕ, Bool, true, false, IsTrue, List, [], ◌∷◌, length, slice_get, Option, Some, None, unwrap_or, option_map, option_and_then, if◌then◌else◌, refl, sym, ◌∙◌, subst}
 use Rattle.std.specs.Prelude.{int_le}
-use Rattle.std.specs.List.{list_all}
 use Rattle.std.proofs.lemmas.Bool.{and_parts}
 use Rattle.mm_types.specs.Ends.{shown, value_in}
 use Rattle.mm_types.specs.Lookups.{is_object}
@@ -19,9 +18,9 @@ use Rattle.mm_types.specs.declared.end.End.{End}
 use Rattle.mm_types.specs.declared.value.Value.{Value}
 use Rattle.mm_types.specs.declared.value.Value.TheVariants as value
 use Rattle.link_store.specs.Links.{end, object_at, object_of}
-use Rattle.models.specs.Legal.{IsLegal, is_bounded, is_legal_end, is_legal_object}
+use Rattle.models.specs.Legal.{IsLegal, is_bounded, is_legal_end}
 use Rattle.models.specs.Model.{Model, reading}
-use Rattle.models.specs.Reading.{Reading, has_feature, shape_at, value_at}
+use Rattle.models.specs.Reading.{Reading, shape_at, value_at}
 
 shown-none : (b : Bool) → value_in (shown b []) 0 ≡ value.Null
 shown-none true = refl

@@ -1,3 +1,4 @@
 pub mod ReadLemmas
 pub mod EndLemmas
 pub mod EmptyLemmas
+pub mod PlaceLemmas

@@ -18,7 +18,7 @@ use Rattle.mm_values.specs.Values.{ObjectState, stored_under}
 use Rattle.link_store.specs.Holders.{HasNoCycle}
 use Rattle.link_store.specs.LegalSets.{AreOfKind, IsLegalSet, Kinds}
 use Rattle.link_store.specs.Links.{Links, end}
-use Rattle.models.specs.Reading.{Reading, class_has, has_feature, shape_at, takes}
+use Rattle.models.specs.Reading.{Reading, has_feature, shape_at, takes}
 use Rattle.models.specs.Model.{Model, reading}
 
 -- a text is as short as texts must be
@@ -40,17 +40,17 @@ is_legal_value m f v = lookups.keeps m f v && is_short v
 -- an object of a class keeps values under its attributes alone, of the attribute's type, and no more of them than it may
 abbrev pub is_legal_list : Metamodel → ClassNo → FeatureNo → List Value → Bool
 is_legal_list m c f [] = true
-is_legal_list m c f (v ∷ vs) = class_has m c f && (list_all (is_legal_value m f) (v ∷ vs) && is_bounded (shape m f) (length (v ∷ vs)))
+is_legal_list m c f (v ∷ vs) = lookups.has_feature m c f && (list_all (is_legal_value m f) (v ∷ vs) && is_bounded (shape m f) (length (v ∷ vs)))
 
 abbrev pub IsUniqueList : Bool → List Value → Type 0
 IsUniqueList true vs = IsDistinct same_value vs
 IsUniqueList false vs = Unit {0}
 
--- what an object keeps under a feature: no value twice where it is unique, and a flag where it is unsettable and has a value
+-- what an object keeps under a feature: no value twice where it is unique, and a flag where it is unsettable, single and has a value
 pub record IsLegalStored (m : Metamodel) (c : ClassNo) (f : FeatureNo) (h : Stored) : Type 0 where
   pub values : IsTrue (is_legal_list m c f h.list)
   pub unique : IsUniqueList (shape m f).is_unique h.list
-  pub flag : h.flag ≡ ((shape m f).is_unsettable && not (is_nil h.list))
+  pub flag : h.flag ≡ ((shape m f).is_unsettable && ((shape m f).is_single && not (is_nil h.list)))
 
 abbrev pub IsLegalObject : Metamodel → Option ObjectState → Type 0
 IsLegalObject m None = Unit {0}

@@ -1,13 +1,13 @@
 -- What can be read of a model: its objects, what each end holds, and what contains each object. Commands are refused and answered
 -- by this alone, so two models that read the same are one to every caller.
-use Rattle.std.specs.Prelude.{ℕ, ◌&&◌, ◌||◌, Bool, true, false, List, [], filter, length, nat_lt, Option, Some, None, is_some, option_and_then, unwrap_or}
+use Rattle.std.specs.Prelude.{ℕ, ◌&&◌, ◌||◌, Bool, true, false, List, [], length, nat_lt, Option, Some, None, is_some, option_and_then, unwrap_or}
 use Rattle.std.specs.List.{filter_map, list_any}
 use Rattle.std.specs.Option.{option_map_or}
 use Rattle.mm_types.specs.Lookups as lookups
 use Rattle.mm_types.specs.Resolved.{Metamodel}
 use Rattle.mm_types.specs.Same.{same_node}
 use Rattle.mm_types.specs.Shapes.{Shape, shape}
-use Rattle.mm_types.specs.Ends.{Ends, Held, shown}
+use Rattle.mm_types.specs.Ends.{Ends, first_in, has_value, shown}
 use Rattle.mm_types.specs.Ends as ends
 use Rattle.mm_types.specs.declared.numbers.ClassNo.{ClassNo}
 use Rattle.mm_types.specs.declared.numbers.FeatureNo.{FeatureNo}
@@ -68,26 +68,27 @@ abbrev pub is_resource_there : Reading → Node → Bool
 is_resource_there r (node.Object o) = true
 is_resource_there r (node.Resource k) = nat_lt k.0 (length r.uris)
 
--- the features that commands know today: those of one value, whose opposites have one value too
-abbrev pub is_known : Metamodel → FeatureNo → Bool
-is_known m f = (shape m f).is_single && option_map_or (λ g. (shape m g).is_single) (shape m f).opposite true
-
--- a class has a feature that commands know
-abbrev pub class_has : Metamodel → ClassNo → FeatureNo → Bool
-class_has m c f = lookups.has_feature m c f && is_known m f
-
--- a node has a feature that commands know
+-- a node has a feature, own or inherited
 abbrev pub has_feature : Reading → Node → FeatureNo → Bool
-has_feature r (node.Object o) f = option_map_or (λ c. class_has r.metamodel c f) (r.class o) false
+has_feature r (node.Object o) f = option_map_or (λ c. lookups.has_feature r.metamodel c f) (r.class o) false
 has_feature r (node.Resource k) f = false
 
--- all features of a node, and those that commands know
+-- all features of a node
 abbrev pub all_features_of : Reading → Node → List FeatureNo
 all_features_of r (node.Object o) = unwrap_or (option_and_then (lookups.features r.metamodel) (r.class o)) []
 all_features_of r (node.Resource k) = []
 
-abbrev pub features_of : Reading → Node → List FeatureNo
-features_of r n = filter (is_known r.metamodel) (all_features_of r n)
+-- where the first of a value stands at an end
+abbrev pub first_at : Reading → End → Value → Option ℕ
+first_at r e v = first_in (r.values e) v
+
+-- a list that repeats nothing has the value
+abbrev pub is_repeat : Reading → End → Value → Bool
+is_repeat r e v = (shape_at r e).is_unique && has_value (r.values e) v
+
+-- the place that is named at an end, and else the one behind the last value
+abbrev pub place_for : Reading → End → Option ℕ → ℕ
+place_for r e i = unwrap_or i (length (r.values e))
 
 -- the objects among values
 abbrev pub object_of : Value → Option ObjectNo

@@ -1,7 +1,7 @@
 //! What a metamodel says of a feature.
 ghost use Rattle.std.specs.Prelude.{◌≡◌};
 ghost use Rattle.mm_types.specs.Lookups as m;
-ghost use Rattle.mm_types.specs.Shapes.{shape};
+ghost use Rattle.mm_types.specs.Shapes.{is_full_list, shape};
 ghost use Rattle.models.specs.Legal as l;
 ghost use Rattle.models.specs.Reading as r;
 
@@ -18,32 +18,36 @@ pub fn is_concrete(meta: &Meta, class: ClassNo) -> bool
     }
 }
 
-/// Whether a class has a feature that commands know: one of one value, whose opposite has one value too.
-pub(crate) fn class_has(meta: &Meta, class: ClassNo, feature: FeatureNo) -> bool
-    ensures { result ≡ r.class_has meta.now class feature }
-{
-    meta.has_feature(class, feature) && is_known(meta, feature)
-}
-
-/// Whether commands know a feature.
-pub fn is_known(meta: &Meta, feature: FeatureNo) -> bool
-    ensures { result ≡ r.is_known meta.now feature }
-{
-    if !is_single(meta, feature) {
-        return false;
-    }
-    match opposite(meta, feature) {
-        Some(far) => is_single(meta, far),
-        None => true,
-    }
-}
-
 /// Whether a feature holds one value at most (EMF: ETypedElement.isMany, negated). Takes no memory.
 pub fn is_single(meta: &Meta, feature: FeatureNo) -> bool
     ensures { result ≡ (shape meta.now feature).is_single }
 {
     match meta.feature(feature) {
         Some(feature) => feature.upper == 1,
+        None => false,
+    }
+}
+
+/// Whether the values of a feature are distinct (EMF: ETypedElement.isUnique); those of a reference are. Takes no memory.
+pub fn is_unique(meta: &Meta, feature: FeatureNo) -> bool
+    ensures { result ≡ (shape meta.now feature).is_unique }
+{
+    match meta.feature(feature) {
+        Some(found) => match &found.kind {
+            Kind::Attribute { unique, .. } => *unique,
+            Kind::Reference { .. } => true,
+        },
+        None => true,
+    }
+}
+
+/// Whether a list of so many values is full: its feature has an upper bound above 1, and no more values may stand in it. Takes no
+/// memory.
+pub fn is_full(meta: &Meta, feature: FeatureNo, len: u32) -> bool
+    ensures { result ≡ is_full_list (shape meta.now feature) len }
+{
+    match meta.feature(feature) {
+        Some(found) => found.upper > 1 && i64::from(found.upper) <= i64::from(len),
         None => false,
     }
 }

@@ -5,11 +5,12 @@
 #![tactic(auto)]
 
 mod features;
+mod lists;
 mod model_ref;
 mod reads;
 
 pub use features::{
-    is_concrete, is_known, is_reference, is_short, is_single, is_unsettable, opposite,
+    is_concrete, is_full, is_reference, is_short, is_single, is_unique, is_unsettable, opposite,
 };
 pub use model_ref::ModelRef;
 pub use reads::{Found, copied, copy_of, is_same};

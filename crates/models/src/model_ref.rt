@@ -10,7 +10,6 @@ ghost use Rattle.models.specs.Legal.{IsLegal};
 ghost use Rattle.models.specs.Model.{model_of, reading};
 ghost use Rattle.models.specs.Reading as r;
 
-use crate::features::class_has;
 use link_store::LinkStore;
 use mm_meta::Meta;
 use mm_types::{ClassNo, End, FeatureNo, Node, ObjectNo};
@@ -100,13 +99,13 @@ impl<'a, L: LinkStore> ModelRef<'a, L> {
         self.values.class(object)
     }
 
-    /// Whether a node has a feature that commands know; false where it does not live.
+    /// Whether a node has a feature, own or inherited; false where it does not live.
     pub fn has_feature(&self, node: Node, feature: FeatureNo) -> bool
         ensures { result ≡ r.has_feature (reading self.now) node feature }
     {
         match node {
             Node::Object(object) => match self.values.class(object) {
-                Some(class) => class_has(self.meta, class, feature),
+                Some(class) => self.meta.has_feature(class, feature),
                 None => false,
             },
             Node::Resource(_) => false,

@@ -86,7 +86,7 @@ impl<'a, L: LinkStore> ModelRef<'a, L> {
     }
 }
 
-fn found_object<'a>(object: Option<ObjectNo>) -> Option<Found<'a>>
+pub(crate) fn found_object<'a>(object: Option<ObjectNo>) -> Option<Found<'a>>
     ensures { option_map found_value result ≡ option_map value.Object object }
 {
     match object {
@@ -95,7 +95,7 @@ fn found_object<'a>(object: Option<ObjectNo>) -> Option<Found<'a>>
     }
 }
 
-fn found_kept(value: Option<&Value>) -> Option<Found<'_>>
+pub(crate) fn found_kept(value: Option<&Value>) -> Option<Found<'_>>
     ensures { option_map found_value result ≡ option_copied value.entry }
 {
     match value {
@@ -105,7 +105,7 @@ fn found_kept(value: Option<&Value>) -> Option<Found<'_>>
 }
 
 // How many values a node keeps under an attribute.
-fn kept_len(values: &Values, end: End) -> usize
+pub(crate) fn kept_len(values: &Values, end: End) -> usize
     ensures { result ≡ length (kept_values (values_of values.now) end.node end.feature) }
 {
     match end.node {
@@ -115,7 +115,7 @@ fn kept_len(values: &Values, end: End) -> usize
 }
 
 // The value that a node keeps under an attribute at an index; `None` past the end.
-fn kept_at(values: &Values, end: End, index: usize) -> Option<&Value>
+pub(crate) fn kept_at(values: &Values, end: End, index: usize) -> Option<&Value>
     ensures { option_copied result ≡ slice_get (kept_values (values_of values.now) end.node end.feature) index }
 {
     match end.node {

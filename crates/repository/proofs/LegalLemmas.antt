@@ -1,7 +1,8 @@
 -- Every command of a legal state leaves a legal one.
 use Rattle.std.proofs.Common.{◌≡◌, ◌≤◌, ◌<◌, ◌+◌, ◌^◌, ◌⊎◌, inl, inr, ◌&&◌, ℕ, zero, suc, Bool, true, false, IsTrue, List, [], ◌∷◌, ◌++◌, map, length, nat_le, nat_lt, slice_index_or, slice_set, Option, Some, None, option_map, is_some, Ok, if◌then◌else◌, refl, sym, ap, ◌∙◌, subst, arith, true≢false, length-append}
 use Rattle.std.specs.Prelude.{MatchBool}
-use Rattle.std.specs.List.{All, list_any}
+use Rattle.std.specs.List.{All, insert, list_any, remove}
+use Rattle.std.specs.Option.{option_map_or}
 use Rattle.std.proofs.lemmas.Bool.{or_parts, leb-false, ltb-false}
 use Rattle.std.proofs.lemmas.List.{append-nil, length-map}
 use Rattle.std.proofs.lemmas.List.Elements.{All-append, All-cons, All-nil, All-head, All-tail}
@@ -16,9 +17,10 @@ use Rattle.mm_types.specs.declared.refused.Refused.TheVariants.{NoObject, NoReso
 use Rattle.mm_types.specs.Shapes.{shape}
 use Rattle.mm_types.specs.declared.end.End.{End}
 use Rattle.mm_types.specs.declared.value.Value.{Value}
-use Rattle.mm_values.specs.Stored.{Stored}
-use Rattle.mm_values.specs.Values.{Objects, ObjectState, applied, put_stored}
+use Rattle.mm_values.specs.Values.{Objects, ObjectState, applied, change_list, put_stored}
+use Rattle.mm_types.specs.Lists.{shifted}
 use Rattle.mm_values.specs.declared.edit.ValueEdit.{ValueEdit}
+use Rattle.mm_values.specs.declared.edit.ValueEdit.TheVariants.{InsertValue, RemoveValue as TakeValue, MoveValue}
 use Rattle.notice_chain.specs.View.{View}
 use Rattle.notice_chain.specs.Listed.{Above, HasDistinctNumbers, Listed, has_no, heard_of, is_chain_full, is_full, tell_chain}
 use Rattle.notice_chain.specs.declared.notice.Notice.{Notice}
@@ -26,16 +28,16 @@ use Rattle.notice_chain.proofs.ViewLemmas.{told-hear_all}
 use Rattle.adapter_list.specs.Refusals.{attach_refusal, list_refusal, view_refusal}
 use Rattle.models.specs.Legal as models
 use Rattle.models.specs.Model.{Model, reading}
-use Rattle.models.specs.Reading.{Reading, at_end}
+use Rattle.models.specs.Reading.{Reading, at_end, first_at, is_repeat, place_for}
 use Rattle.handshake.specs.Effects as effects
-use Rattle.handshake.specs.Effects.{put_under, put_values}
+use Rattle.handshake.specs.Effects.{of_object, put_under, take_value}
 use Rattle.handshake.specs.Named.{node_refusal}
 use Rattle.handshake.specs.declared.change.Change.{Change}
 use Rattle.handshake.specs.declared.change.Change.TheVariants as change
 use Rattle.handshake.proofs.KnownLemmas.{none-else_by, none-unless}
 use Rattle.handshake.proofs.LegalLemmas.{change-keeps-legal}
 use Rattle.repository.specs.declared.command.Command.{Command}
-use Rattle.repository.specs.declared.command.Command.TheVariants.{Create, Set, Unset, Attach, Detach, Get, IsSet, Container, Contents, Class, AdapterTold, AdapterKept}
+use Rattle.repository.specs.declared.command.Command.TheVariants.{Create, Set, Unset, Add, Remove, RemoveValue, Move, Attach, Detach, Get, IsSet, Container, Contents, Class, AdapterTold, AdapterKept}
 use Rattle.repository.specs.State.{State, IsLegal, IsLegalAdapter, is_there, reads}
 use Rattle.repository.specs.Refusals.{chain, early_refusal, late_refusal}
 use Rattle.repository.specs.Run.{Executed, IsWanting, is_memory}
@@ -69,48 +71,81 @@ push-live [] x i h = absurd (true≢false (sym h))
 push-live (o ∷ os) x zero h = h
 push-live (o ∷ os) x (suc i) h = push-live os x i h
 
-put-object : (f : FeatureNo) (h : Stored) (o : Option ObjectState) → is_object (option_map (put_stored f h) o) ≡ is_object o
-put-object f h None = refl
-put-object f h (Some o) = refl
+change-object : (g : ObjectState → ObjectState) (o : Option ObjectState) → is_object (option_map g o) ≡ is_object o
+change-object g None = refl
+change-object g (Some o) = refl
 
-put-live : (os : Objects) (f : FeatureNo) (h : Stored) (k i : ℕ) → is_object (slice_index_or (slice_set os k (option_map (put_stored f h) (slice_index_or os k None))) i None) ≡ is_object (slice_index_or os i None)
-put-live [] f h k i = refl
-put-live (o ∷ os) f h zero zero = put-object f h o
-put-live (o ∷ os) f h zero (suc i) = refl
-put-live (o ∷ os) f h (suc k) zero = refl
-put-live (o ∷ os) f h (suc k) (suc i) = put-live os f h k i
+change-live : (os : Objects) (g : ObjectState → ObjectState) (k i : ℕ) → is_object (slice_index_or (slice_set os k (option_map g (slice_index_or os k None))) i None) ≡ is_object (slice_index_or os i None)
+change-live [] g k i = refl
+change-live (o ∷ os) g zero zero = change-object g o
+change-live (o ∷ os) g zero (suc i) = refl
+change-live (o ∷ os) g (suc k) zero = refl
+change-live (o ∷ os) g (suc k) (suc i) = change-live os g k i
 
 first-true : (a b : Bool) → (a && b) ≡ true → a ≡ true
 first-true true b h = refl
 first-true false b h = h
 
--- of a reference nothing is put
-put-or-not : (s : Model) (b : Bool) (edits : List ValueEdit) (n : Node) → IsTrue (is_there (reading s) n) → IsTrue (is_there (reading (record s { values = applied s.values edits })) n)
-    → IsTrue (is_there (reading (record s { values = applied s.values (if b then [] else edits) })) n)
-put-or-not s b edits n h put = elim b as (λ b. IsTrue (is_there (reading (record s { values = applied s.values (if b then [] else edits) })) n)) [ true ↦ h | false ↦ put ]
+-- a node that is there is there after these edits
+abbrev Keeps : Model → Node → List ValueEdit → Type 0
+Keeps s n edits = IsTrue (is_there (reading s) n) → IsTrue (is_there (reading (record s { values = applied s.values edits })) n)
 
-put-keeps-node : (s : Model) (e : End) (vs : List Value) (flag : Bool) (n : Node) → IsTrue (is_there (reading s) n) → IsTrue (is_there (reading (record s { values = applied s.values (put_values e vs flag) })) n)
-put-keeps-node s e vs flag n h = at e.node n h where
-  at : (m n : Node) → IsTrue (is_there (reading s) n) → IsTrue (is_there (reading (record s { values = applied s.values (put_under e.feature vs flag m) })) n)
-  at (node.Object k) (node.Object o) h = ap (λ b. b && true) (put-live s.values.objects e.feature (record { list = vs; flag = flag }) k.0 o.0) ∙ h
-  at (node.Object k) (node.Resource r) h = h
-  at (node.Resource k) (node.Object o) h = h
-  at (node.Resource k) (node.Resource r) h = h
+either-keeps : (s : Model) (n : Node) (b : Bool) (xs ys : List ValueEdit) → Keeps s n xs → Keeps s n ys → Keeps s n (if b then xs else ys)
+either-keeps s n true xs ys x y = x
+either-keeps s n false xs ys x y = y
+
+none-keeps : (s : Model) (n : Node) → Keeps s n []
+none-keeps s n h = h
+
+-- after one edit of what an object has under an attribute
+put-keeps : (s : Model) (n m : Node) (f : FeatureNo) (vs : List Value) (flag : Bool) → Keeps s n (put_under f vs flag m)
+put-keeps s (node.Object o) (node.Object k) f vs flag h = ap (λ b. b && true) (change-live s.values.objects (put_stored f (record { list = vs; flag = flag })) k.0 o.0) ∙ h
+put-keeps s (node.Resource r) (node.Object k) f vs flag h = h
+put-keeps s n (node.Resource k) f vs flag h = h
+
+insert-keeps : (s : Model) (n m : Node) (f : FeatureNo) (i : ℕ) (v : Value) (u : Bool) → Keeps s n (of_object m (λ o. InsertValue o f i v u))
+insert-keeps s (node.Object o) (node.Object k) f i v u h = ap (λ b. b && true) (change-live s.values.objects (change_list f (λ vs. insert vs i v)) k.0 o.0) ∙ h
+insert-keeps s (node.Resource r) (node.Object k) f i v u h = h
+insert-keeps s n (node.Resource k) f i v u h = h
+
+remove-keeps : (s : Model) (n : Node) (e : End) (i : ℕ) → Keeps s n (take_value e i)
+remove-keeps s n e i = at n e.node where
+  at : (n m : Node) → Keeps s n (of_object m (λ o. TakeValue o e.feature i))
+  at (node.Object o) (node.Object k) h = ap (λ b. b && true) (change-live s.values.objects (change_list e.feature (λ vs. remove vs i)) k.0 o.0) ∙ h
+  at (node.Resource r) (node.Object k) h = h
+  at n (node.Resource k) h = h
+
+move-keeps : (s : Model) (n m : Node) (f : FeatureNo) (to from : ℕ) → Keeps s n (of_object m (λ o. MoveValue o f to from))
+move-keeps s (node.Object o) (node.Object k) f to from h = ap (λ b. b && true) (change-live s.values.objects (change_list f (λ vs. shifted vs to from)) k.0 o.0) ∙ h
+move-keeps s (node.Resource r) (node.Object k) f to from h = h
+move-keeps s n (node.Resource k) f to from h = h
+
+found-keeps : (s : Model) (n : Node) (e : End) (i : Option ℕ) → Keeps s n (option_map_or (take_value e) i [])
+found-keeps s n e None = none-keeps s n
+found-keeps s n e (Some i) = remove-keeps s n e i
 
 -- a node that is there is there after every change
 change-keeps-node : (s : Model) (c : Change) (n : Node) → IsTrue (is_there (reading s) n) → IsTrue (is_there (reading (effects.after s c)) n)
 change-keeps-node s (change.Create c) (node.Object o) h = both-true _ true (push-live s.values.objects _ o.0 (first-true _ true h)) refl
 change-keeps-node s (change.Create c) (node.Resource r) h = h
-change-keeps-node s (change.Set m f v) n h =
-    let a = shape s.metamodel f in
-    put-or-not s a.is_reference (put_values (at_end m f) (v ∷ []) a.is_unsettable) n h (put-keeps-node s (at_end m f) (v ∷ []) a.is_unsettable n h)
-change-keeps-node s (change.Unset m f) n h =
-    put-or-not s (shape s.metamodel f).is_reference (put_values (at_end m f) [] false) n h (put-keeps-node s (at_end m f) [] false n h)
+change-keeps-node s (change.Set m f v) n h = either-keeps s n (shape s.metamodel f).is_reference _ _ (none-keeps s n) (put-keeps s n m f (v ∷ []) (shape s.metamodel f).is_unsettable) h
+change-keeps-node s (change.Unset m f) n h = either-keeps s n (shape s.metamodel f).is_reference _ _ (none-keeps s n) (put-keeps s n m f [] false) h
+change-keeps-node s (change.Add m f v i) n h =
+    let r = reading s in
+    let e = at_end m f in
+    either-keeps s n (shape s.metamodel f).is_reference _ _ (none-keeps s n) (either-keeps s n (is_repeat r e v) _ _ (none-keeps s n) (insert-keeps s n m f (place_for r e i) v (shape s.metamodel f).is_unique)) h
+change-keeps-node s (change.Remove m f i) n h = either-keeps s n (shape s.metamodel f).is_reference _ _ (none-keeps s n) (remove-keeps s n (at_end m f) i) h
+change-keeps-node s (change.RemoveValue m f v) n h = either-keeps s n (shape s.metamodel f).is_reference _ _ (none-keeps s n) (found-keeps s n (at_end m f) (first_at (reading s) (at_end m f) v)) h
+change-keeps-node s (change.Move m f to from) n h = either-keeps s n (shape s.metamodel f).is_reference _ _ (none-keeps s n) (move-keeps s n m f to from) h
 
 keeps-node : (s : State) (c : Command View) (n : Node) → IsTrue (is_there (reads s) n) → IsTrue (is_there (reading (model_after s.model c)) n)
 keeps-node s (Create c) n h = change-keeps-node s.model (change.Create c) n h
 keeps-node s (Set m f v) n h = change-keeps-node s.model (change.Set m f v) n h
 keeps-node s (Unset m f) n h = change-keeps-node s.model (change.Unset m f) n h
+keeps-node s (Add m f v i) n h = change-keeps-node s.model (change.Add m f v i) n h
+keeps-node s (Remove m f i) n h = change-keeps-node s.model (change.Remove m f i) n h
+keeps-node s (RemoveValue m f v) n h = change-keeps-node s.model (change.RemoveValue m f v) n h
+keeps-node s (Move m f to from) n h = change-keeps-node s.model (change.Move m f to from) n h
 keeps-node s (Attach number target deep view) n h = h
 keeps-node s (Detach number) n h = h
 keeps-node s (Get m f) n h = h
@@ -127,6 +162,10 @@ model-legal : (s : State) (c : Command View) → models.IsLegal s.model → earl
 model-legal s (Create c) legal early late = change-keeps-legal s.model (change.Create c) legal early late
 model-legal s (Set n f v) legal early late = change-keeps-legal s.model (change.Set n f v) legal early late
 model-legal s (Unset n f) legal early late = change-keeps-legal s.model (change.Unset n f) legal early late
+model-legal s (Add n f v i) legal early late = change-keeps-legal s.model (change.Add n f v i) legal early late
+model-legal s (Remove n f i) legal early late = change-keeps-legal s.model (change.Remove n f i) legal early late
+model-legal s (RemoveValue n f v) legal early late = change-keeps-legal s.model (change.RemoveValue n f v) legal early late
+model-legal s (Move n f to from) legal early late = change-keeps-legal s.model (change.Move n f to from) legal early late
 model-legal s (Attach number target deep view) legal early late = legal
 model-legal s (Detach number) legal early late = legal
 model-legal s (Get n f) legal early late = legal
@@ -176,6 +215,10 @@ attaches : (r : Reading) (rs : List Listed) (c : Command View) → (joins c ≡ 
 attaches r rs (Create c) = inl refl
 attaches r rs (Set n f v) = inl refl
 attaches r rs (Unset n f) = inl refl
+attaches r rs (Add n f v i) = inl refl
+attaches r rs (Remove n f i) = inl refl
+attaches r rs (RemoveValue n f v) = inl refl
+attaches r rs (Move n f to from) = inl refl
 attaches r rs (Attach number target deep view) = inr (record { one = record { no = number; target = target; deep = deep; view = view }; joins_one = refl; early = refl; late = refl; quiet = ap (λ (x : Released). x.others) (releases-quiet r.above rs) })
 attaches r rs (Detach number) = inl refl
 attaches r rs (Get n f) = inl refl

@@ -4,4 +4,5 @@ pub mod QuietLemmas
 pub mod AttachLemmas
 pub mod PlanLemmas
 pub mod LegalLemmas
+pub mod ReadLemmas
 pub mod RunLemmas

@@ -1,30 +1,36 @@
 -- What a plan, or its refusal, makes of its command.
-use Rattle.std.proofs.Common.{◌≡◌, inl, inr, Bool, true, false, not, IsTrue, List, [], ◌++◌, Option, Some, None, Ok, Err, if◌then◌else◌, refl, ap, sym, ◌∙◌}
-use Rattle.std.specs.Prelude.{nat_lt}
+use Rattle.std.proofs.Common.{◌≡◌, inl, inr, Bool, true, false, not, IsTrue, List, [], ◌++◌, Option, Some, None, Ok, Err, if◌then◌else◌, refl, ap, sym, subst, ◌∙◌}
+use Rattle.std.specs.Prelude.{◌&&◌, nat_le, nat_lt, is_some}
 use Rattle.std.specs.Option.{option_map_or}
 use Rattle.std.proofs.lemmas.List.{append-nil}
-use Rattle.mm_types.specs.Conditions.{◌else_by◌, ◌where_so◌}
+use Rattle.mm_types.specs.Conditions.{◌else_by◌, ◌unless◌, ◌where_so◌}
 use Rattle.mm_types.specs.declared.limits.TheConstants.{OBJECTS}
 use Rattle.mm_types.specs.declared.refused.Refused.{Refused}
-use Rattle.mm_types.specs.declared.refused.Refused.TheVariants.{WrongType, TextLength, Recursive, Limit, AdapterFull, Memory}
+use Rattle.mm_types.specs.declared.refused.Refused.TheVariants.{NoObject, NoResource, NoClass, Abstract, NoFeature, NotSingle, NotMany, WrongType, TextLength, Index, Duplicate, Bound, Recursive, Limit, AdapterFull, Memory}
 use Rattle.mm_types.specs.declared.end.End.{End}
 use Rattle.mm_types.specs.declared.value.Value.{Value}
 use Rattle.mm_types.specs.declared.value.Value.TheVariants as value
 use Rattle.mm_types.specs.declared.numbers.AdapterNo.{AdapterNo}
+use Rattle.mm_types.specs.declared.numbers.FeatureNo.{FeatureNo}
+use Rattle.mm_types.specs.declared.numbers.Node.{Node}
+use Rattle.mm_types.specs.declared.numbers.ObjectNo.{ObjectNo}
+use Rattle.mm_types.specs.Lookups as lookups
+use Rattle.mm_types.specs.Shapes.{shape}
 use Rattle.notice_chain.specs.Listed.{Above, Listed, is_chain_full, tell_chain, told_list}
 use Rattle.notice_chain.specs.Released.{Released, released}
 use Rattle.notice_chain.specs.declared.notice.Notice.{Notice}
 use Rattle.adapter_list.specs.Refusals.{IsChainRefusal}
-use Rattle.models.specs.Legal.{is_short}
+use Rattle.models.specs.Legal.{is_concrete, is_short}
 use Rattle.models.specs.Model.{Model}
-use Rattle.models.specs.Reading.{Reading, at_end, takes}
+use Rattle.models.specs.Reading.{Reading, at_end, has_feature, is_node_live, is_repeat, is_resource_there, is_value_live, place_for, takes}
+use Rattle.handshake.specs.Named.{feature_refusal, many_refusal, node_refusal, value_refusal}
 use Rattle.handshake.specs.Effects as effects
 use Rattle.handshake.specs.Plans.{Plans, is_memory_refusal}
 use Rattle.handshake.specs.Displaced.{has_already}
-use Rattle.handshake.specs.Refusals.{early_refusal, gain_refusal, is_recursive, late_refusal, set_refusal}
+use Rattle.handshake.specs.Refusals.{count_at, early_refusal, gain_refusal, is_at_limit, is_full_at, is_recursive, late_refusal, link_refusal, of_either, set_refusal, type_refusal}
 use Rattle.handshake.specs.Tellings.{chain}
 use Rattle.handshake.specs.declared.change.Change.{Change}
-use Rattle.handshake.specs.declared.change.Change.TheVariants.{Create, Set, Unset}
+use Rattle.handshake.specs.declared.change.Change.TheVariants.{Create, Set, Unset, Add, Remove, RemoveValue, Move}
 use Rattle.repository.specs.Answers.{answer_of}
 use Rattle.repository.specs.declared.reply.Answer.{Answer}
 use Rattle.repository.specs.Run.{Executed, is_plain, may_want_memory}
@@ -33,9 +39,9 @@ use Rattle.repository.specs.Step.{Stepped, done, refusal_of, step, step_unless}
 use Rattle.repository.specs.Views.{command_of}
 use Rattle.repository.proofs.AdapterLemmas.{Heard, released-nobody}
 
--- a refusal that is found without memory
-plain : Option Refused → Bool
-plain o = option_map_or is_plain o false
+-- no refusal of these
+abbrev pub IsNot : (Refused → Bool) → Option Refused → Type 0
+IsNot q o = option_map_or q o false ≡ false
 
 full : State → Change → Option Refused
 full s c = AdapterFull where_so is_chain_full (reads s).above (chain (reads s) c) s.adapters
@@ -48,45 +54,117 @@ unfolding full
 refusal-planned s (Create c) early = rw early refl
 refusal-planned s (Set n f v) early = rw early refl
 refusal-planned s (Unset n f) early = rw early refl
+refusal-planned s (Add n f v i) early = rw early refl
+refusal-planned s (Remove n f i) early = rw early refl
+refusal-planned s (RemoveValue n f v) early = rw early refl
+refusal-planned s (Move n f to from) early = rw early refl
 
-recursive-not-plain : (r : Reading) (e : End) (v : Value) → plain (gain_refusal r e v) ≡ false
-unfolding plain
-recursive-not-plain r e (value.Object o) = elim (is_recursive r e o) as (λ b. option_map_or is_plain (Recursive where_so b) false ≡ false) [ true ↦ refl | false ↦ refl ]
-recursive-not-plain r e value.Null = refl
-recursive-not-plain r e (value.Bool b) = refl
-recursive-not-plain r e (value.Int n) = refl
-recursive-not-plain r e (value.Text t) = refl
-recursive-not-plain r e (value.Literal i) = refl
-recursive-not-plain r e (value.Proxy t) = refl
-recursive-not-plain r e (value.Adapter a) = refl
+-- a condition that is none of these is none of them behind another that is none
+later-not : (q : Refused → Bool) (o p : Option Refused) → IsNot q o → IsNot q p → IsNot q (o else_by p)
+later-not q None p a b = b
+later-not q (Some r) p a b = a
 
-set-not-plain : (r : Reading) (e : End) (v : Value) → plain (set_refusal r e v) ≡ false
-unfolding plain
-set-not-plain r e v = elim (has_already r e v) as (λ b. option_map_or is_plain (if b then None else gain_refusal r e v) false ≡ false) [ true ↦ refl | false ↦ recursive-not-plain r e v ]
+where-not : (q : Refused → Bool) (r : Refused) (b : Bool) → q r ≡ false → IsNot q (r where_so b)
+where-not q r true h = h
+where-not q r false h = refl
 
-late-not-plain : (r : Reading) (c : Change) → plain (late_refusal r c) ≡ false
-unfolding plain
-late-not-plain r (Create c) = elim (nat_lt r.next OBJECTS) as (λ b. option_map_or is_plain (if b then None else Some Limit) false ≡ false) [ true ↦ refl | false ↦ refl ]
-late-not-plain r (Set n f v) =
-    elim (takes r f v) as (λ a. option_map_or is_plain (((if a then None else Some WrongType) else_by (if is_short v then None else Some TextLength)) else_by set_refusal r (at_end n f) v) false ≡ false) [
-      | true ↦ elim (is_short v) as (λ b. option_map_or is_plain ((if b then None else Some TextLength) else_by set_refusal r (at_end n f) v) false ≡ false) [ true ↦ set-not-plain r (at_end n f) v | false ↦ refl ]
-      | false ↦ refl
-    ]
+unless-not : (q : Refused → Bool) (r : Refused) (b : Bool) → q r ≡ false → IsNot q (r unless b)
+unless-not q r true h = refl
+unless-not q r false h = h
+
+either-not : (q : Refused → Bool) (b : Bool) (o p : Option Refused) → IsNot q o → IsNot q p → IsNot q (if b then o else p)
+either-not q true o p x y = x
+either-not q false o p x y = y
+
+---------------------------------------------------------------- what is found first is not out of memory
+
+abbrev no_memory : Refused → Bool
+no_memory = is_memory_refusal
+
+node-not-memory : (r : Reading) (n : Node) → IsNot no_memory (node_refusal r n)
+node-not-memory r n = later-not no_memory _ _ (unless-not no_memory NoObject (is_node_live r n) refl) (unless-not no_memory NoResource (is_resource_there r n) refl)
+
+pub feature-not-memory : (r : Reading) (n : Node) (f : FeatureNo) → IsNot no_memory (feature_refusal r n f)
+feature-not-memory r n f = later-not no_memory _ _ (node-not-memory r n) (unless-not no_memory NoFeature (has_feature r n f) refl)
+
+value-not-memory : (r : Reading) (n : Node) (f : FeatureNo) (v : Value) → IsNot no_memory (value_refusal r n f v)
+value-not-memory r n f v = later-not no_memory _ _ (unless-not no_memory NoObject (is_node_live r n && is_value_live r v) refl) (feature-not-memory r n f)
+
+many-not-memory : (r : Reading) (f : FeatureNo) (o : Option Refused) → IsNot no_memory o → IsNot no_memory (o else_by many_refusal r.metamodel f)
+many-not-memory r f o h = later-not no_memory _ _ h (where-not no_memory NotMany (shape r.metamodel f).is_single refl)
+
+early-not-memory : (r : Reading) (c : Change) → IsNot no_memory (early_refusal r c)
+early-not-memory r (Create c) = later-not no_memory _ _ (unless-not no_memory NoClass (is_some (lookups.class r.metamodel c)) refl) (unless-not no_memory Abstract (is_concrete r.metamodel c) refl)
+early-not-memory r (Set n f v) = later-not no_memory _ _ (value-not-memory r n f v) (unless-not no_memory NotSingle (shape r.metamodel f).is_single refl)
+early-not-memory r (Unset n f) = feature-not-memory r n f
+early-not-memory r (Add n f v i) = many-not-memory r f (value_refusal r n f v) (value-not-memory r n f v)
+early-not-memory r (Remove n f i) = many-not-memory r f (feature_refusal r n f) (feature-not-memory r n f)
+early-not-memory r (RemoveValue n f v) = many-not-memory r f (value_refusal r n f v) (value-not-memory r n f v)
+early-not-memory r (Move n f to from) = many-not-memory r f (feature_refusal r n f) (feature-not-memory r n f)
+
+---------------------------------------------------------------- what is found later is not plain
+
+link-not-plain : (r : Reading) (e : End) (o : ObjectNo) → IsNot is_plain (link_refusal r e o)
+link-not-plain r e o =
+    later-not is_plain _ _ (where-not is_plain Bound (of_either (is_full_at r) r e o) refl)
+    (later-not is_plain _ _ (where-not is_plain Recursive (is_recursive r e o) refl) (where-not is_plain Limit (of_either (is_at_limit r) r e o) refl))
+
+value-not-plain : (r : Reading) (e : End) → IsNot is_plain (Bound where_so is_full_at r e else_by (Limit where_so is_at_limit r e))
+value-not-plain r e = later-not is_plain _ _ (where-not is_plain Bound (is_full_at r e) refl) (where-not is_plain Limit (is_at_limit r e) refl)
+
+gain-not-plain : (r : Reading) (e : End) (v : Value) → IsNot is_plain (gain_refusal r e v)
+gain-not-plain r e (value.Object o) = link-not-plain r e o
+gain-not-plain r e value.Null = value-not-plain r e
+gain-not-plain r e (value.Bool b) = value-not-plain r e
+gain-not-plain r e (value.Int n) = value-not-plain r e
+gain-not-plain r e (value.Text t) = value-not-plain r e
+gain-not-plain r e (value.Literal i) = value-not-plain r e
+gain-not-plain r e (value.Proxy t) = value-not-plain r e
+gain-not-plain r e (value.Adapter a) = value-not-plain r e
+
+set-not-plain : (r : Reading) (e : End) (v : Value) → IsNot is_plain (set_refusal r e v)
+set-not-plain r e (value.Object o) = either-not is_plain (has_already r e (value.Object o)) None (link_refusal r e o) refl (link-not-plain r e o)
+set-not-plain r e value.Null = refl
+set-not-plain r e (value.Bool b) = refl
+set-not-plain r e (value.Int n) = refl
+set-not-plain r e (value.Text t) = refl
+set-not-plain r e (value.Literal i) = refl
+set-not-plain r e (value.Proxy t) = refl
+set-not-plain r e (value.Adapter a) = refl
+
+type-not-plain : (r : Reading) (f : FeatureNo) (v : Value) → IsNot is_plain (type_refusal r f v)
+type-not-plain r f v = later-not is_plain _ _ (unless-not is_plain WrongType (takes r f v) refl) (unless-not is_plain TextLength (is_short v) refl)
+
+late-not-plain : (r : Reading) (c : Change) → IsNot is_plain (late_refusal r c)
+late-not-plain r (Create c) = unless-not is_plain Limit (nat_lt r.next OBJECTS) refl
+late-not-plain r (Set n f v) = later-not is_plain _ _ (type-not-plain r f v) (set-not-plain r (at_end n f) v)
 late-not-plain r (Unset n f) = refl
+late-not-plain r (Add n f v i) =
+    let e = at_end n f in
+    later-not is_plain _ _ (type-not-plain r f v)
+    (later-not is_plain _ _ (unless-not is_plain Index (nat_le (place_for r e i) (count_at r e)) refl)
+    (either-not is_plain (is_repeat r e v) (Duplicate where_so is_some i) (gain_refusal r e v) (where-not is_plain Duplicate (is_some i) refl) (gain-not-plain r e v)))
+late-not-plain r (Remove n f i) = unless-not is_plain Index (nat_lt i (count_at r (at_end n f))) refl
+late-not-plain r (RemoveValue n f v) = type-not-plain r f v
+late-not-plain r (Move n f to from) = unless-not is_plain Index (nat_lt to (count_at r (at_end n f)) && nat_lt from (count_at r (at_end n f))) refl
 
-full-not-plain : (s : State) (c : Change) (o : Option Refused) → plain o ≡ false → plain (o else_by full s c) ≡ false
-unfolding plain full
-full-not-plain s c None h = elim (is_chain_full (reads s).above (chain (reads s) c) s.adapters) as (λ b. option_map_or is_plain (AdapterFull where_so b) false ≡ false) [ true ↦ refl | false ↦ refl ]
-full-not-plain s c (Some r) h = h
+full-not-plain : (s : State) (c : Change) → IsNot is_plain (full s c)
+unfolding full
+full-not-plain s c = where-not is_plain AdapterFull (is_chain_full (reads s).above (chain (reads s) c) s.adapters) refl
 
 not-plain : (s : State) (c : Change) → early_refusal (reads s) c ≡ None → not (option_map_or is_plain (refusal_of s (command_of c)) false) ≡ true
-unfolding plain
-not-plain s c early = ap (λ (o : Option Refused). not (option_map_or is_plain o false)) (refusal-planned s c early) ∙ ap not (full-not-plain s c (late_refusal (reads s) c) (late-not-plain (reads s) c))
+not-plain s c early =
+    ap (λ (o : Option Refused). not (option_map_or is_plain o false)) (refusal-planned s c early)
+    ∙ ap not (later-not is_plain (late_refusal (reads s) c) (full s c) (late-not-plain (reads s) c) (full-not-plain s c))
 
 may-want : (s : State) (c : Change) → early_refusal (reads s) c ≡ None → IsTrue (may_want_memory s (command_of c))
 may-want s (Create c) early = not-plain s (Create c) early
 may-want s (Set n f v) early = not-plain s (Set n f v) early
 may-want s (Unset n f) early = not-plain s (Unset n f) early
+may-want s (Add n f v i) early = not-plain s (Add n f v i) early
+may-want s (Remove n f i) early = not-plain s (Remove n f i) early
+may-want s (RemoveValue n f v) early = not-plain s (RemoveValue n f v) early
+may-want s (Move n f to from) early = not-plain s (Move n f to from) early
 
 ---------------------------------------------------------------- what is executed
 
@@ -94,11 +172,32 @@ refused_as : (s : State) (c : Change) (r : Refused) → is_memory_refusal r ≡ 
 refused_as s (Create c) r other found = rw other (ap (step_unless s (command_of (Create c))) found)
 refused_as s (Set n f v) r other found = rw other (ap (step_unless s (command_of (Set n f v))) found)
 refused_as s (Unset n f) r other found = rw other (ap (step_unless s (command_of (Unset n f))) found)
+refused_as s (Add n f v i) r other found = rw other (ap (step_unless s (command_of (Add n f v i))) found)
+refused_as s (Remove n f i) r other found = rw other (ap (step_unless s (command_of (Remove n f i))) found)
+refused_as s (RemoveValue n f v) r other found = rw other (ap (step_unless s (command_of (RemoveValue n f v))) found)
+refused_as s (Move n f to from) r other found = rw other (ap (step_unless s (command_of (Move n f to from))) found)
+
+-- what is found first
+found-first : (s : State) (c : Change) (r : Refused) → early_refusal (reads s) c ≡ Some r → refusal_of s (command_of c) ≡ Some r
+found-first s (Create c) r e = rw e refl
+found-first s (Set n f v) r e = rw e refl
+found-first s (Unset n f) r e = rw e refl
+found-first s (Add n f v i) r e = rw e refl
+found-first s (Remove n f i) r e = rw e refl
+found-first s (RemoveValue n f v) r e = rw e refl
+found-first s (Move n f to from) r e = rw e refl
+
+pub early_err : (s : State) (c : Change) (r : Refused) → early_refusal (reads s) c ≡ Some r → Executed s (command_of c) (Err (record { refused = r; given_back = None })) s
+early_err s c r e = refused_as s c r (subst (IsNot no_memory) e (early-not-memory (reads s) c)) (found-first s c r e)
 
 pub out_of_memory : (s : State) (c : Change) → early_refusal (reads s) c ≡ None → Executed s (command_of c) (Err (record { refused = Memory; given_back = None })) s
 out_of_memory s (Create c) early = record { may = may-want s (Create c) early; outcome = refl; state = refl }
 out_of_memory s (Set n f v) early = record { may = may-want s (Set n f v) early; outcome = refl; state = refl }
 out_of_memory s (Unset n f) early = record { may = may-want s (Unset n f) early; outcome = refl; state = refl }
+out_of_memory s (Add n f v i) early = record { may = may-want s (Add n f v i) early; outcome = refl; state = refl }
+out_of_memory s (Remove n f i) early = record { may = may-want s (Remove n f i) early; outcome = refl; state = refl }
+out_of_memory s (RemoveValue n f v) early = record { may = may-want s (RemoveValue n f v) early; outcome = refl; state = refl }
+out_of_memory s (Move n f to from) early = record { may = may-want s (Move n f to from) early; outcome = refl; state = refl }
 
 -- what planning refuses
 pub planned_err : (s : State) (c : Change) (b : Bool) (r : Refused) → early_refusal (reads s) c ≡ None → Plans b (Err r) s.model c → Executed s (command_of c) (Err (record { refused = r; given_back = None })) s
@@ -139,6 +238,10 @@ done_change : (s : State) (c : Change) → done s (command_of c) ≡ record {
 done_change s (Create c) = done_telling (reads s).above (effects.after s.model (Create c)) [] s.adapters (answer_of (reads s) s.adapters (command_of (Create c)))
 done_change s (Set n f v) = done_telling (reads s).above (effects.after s.model (Set n f v)) (chain (reads s) (Set n f v)) s.adapters (answer_of (reads s) s.adapters (command_of (Set n f v)))
 done_change s (Unset n f) = done_telling (reads s).above (effects.after s.model (Unset n f)) (chain (reads s) (Unset n f)) s.adapters (answer_of (reads s) s.adapters (command_of (Unset n f)))
+done_change s (Add n f v i) = done_telling (reads s).above (effects.after s.model (Add n f v i)) (chain (reads s) (Add n f v i)) s.adapters (answer_of (reads s) s.adapters (command_of (Add n f v i)))
+done_change s (Remove n f i) = done_telling (reads s).above (effects.after s.model (Remove n f i)) (chain (reads s) (Remove n f i)) s.adapters (answer_of (reads s) s.adapters (command_of (Remove n f i)))
+done_change s (RemoveValue n f v) = done_telling (reads s).above (effects.after s.model (RemoveValue n f v)) (chain (reads s) (RemoveValue n f v)) s.adapters (answer_of (reads s) s.adapters (command_of (RemoveValue n f v)))
+done_change s (Move n f to from) = done_telling (reads s).above (effects.after s.model (Move n f to from)) (chain (reads s) (Move n f to from)) s.adapters (answer_of (reads s) s.adapters (command_of (Move n f to from)))
 
 -- a change that was made, with the notices that somebody may hear
 pub changed : (s : State) (c : Change) (made : List Notice) → early_refusal (reads s) c ≡ None → late_refusal (reads s) c ≡ None → Heard (reads s).above made (chain (reads s) c) s.adapters → is_chain_full (reads s).above made s.adapters ≡ false → Executed s (command_of c) (Ok (record { answer = answer_of (reads s) s.adapters (command_of c); told = told_list (reads s).above made s.adapters; released = [] })) (record { model = effects.after s.model c; adapters = tell_chain (reads s).above made s.adapters })

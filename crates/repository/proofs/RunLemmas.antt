@@ -2,7 +2,7 @@
 use Rattle.std.proofs.Common.{◌≡◌, Bool, true, false, List, [], ◌∷◌, ◌++◌, Option, Some, None, Ok, Err, refl, sym, ap, subst, ◌∙◌, if◌then◌else◌}
 use Rattle.std.specs.Prelude.{MatchBool}
 use Rattle.repository.specs.declared.command.Command.{Command}
-use Rattle.repository.specs.declared.command.Command.TheVariants.{Create, Set, Unset, Attach, Detach, Get, IsSet, Container, Contents, Class, AdapterTold, AdapterKept}
+use Rattle.repository.specs.declared.command.Command.TheVariants.{Create, Set, Unset, Add, Remove, RemoveValue, Move, Attach, Detach, Get, IsSet, Container, Contents, Class, AdapterTold, AdapterKept}
 use Rattle.repository.specs.State.{State}
 use Rattle.notice_chain.specs.View.{View}
 use Rattle.repository.specs.Views.{Outcome, brought}
@@ -47,6 +47,10 @@ done-metamodel : (s : State) (c : Command View) → (done s c).after.model.metam
 done-metamodel s (Create c) = refl
 done-metamodel s (Set n f v) = refl
 done-metamodel s (Unset n f) = refl
+done-metamodel s (Add n f v i) = refl
+done-metamodel s (Remove n f i) = refl
+done-metamodel s (RemoveValue n f v) = refl
+done-metamodel s (Move n f to from) = refl
 done-metamodel s (Attach number target deep view) = refl
 done-metamodel s (Detach number) = refl
 done-metamodel s (Get n f) = refl

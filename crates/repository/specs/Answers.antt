@@ -1,32 +1,44 @@
 -- What a command that is not refused answers.
-use Rattle.std.specs.Prelude.{ℕ, List, Option, length, unwrap_or}
+use Rattle.std.specs.Prelude.{ℕ, List, length, not, unwrap_or, if◌then◌else◌}
 use Rattle.std.specs.Option.{option_map_or}
 use Rattle.mm_types.specs.declared.numbers.AdapterNo.{AdapterNo}
-use Rattle.mm_types.specs.declared.numbers.ObjectNo.{ObjectNo}
 use Rattle.notice_chain.specs.View.{View}
 use Rattle.notice_chain.specs.Listed.{Listed, adapter}
-use Rattle.models.specs.Reading.{Reading, at_end, is_set, value_at}
+use Rattle.mm_types.specs.Ends.{has_value, value_in}
+use Rattle.mm_types.specs.declared.end.End.{End}
+use Rattle.models.specs.Reading.{Reading, at_end, is_repeat, is_set, shape_at, value_at}
 use Rattle.containment.specs.Forest.{container, contents}
 use Rattle.repository.specs.declared.command.Command.{Command}
 use Rattle.repository.specs.declared.command.Command.TheVariants as command
 use Rattle.repository.specs.declared.reply.Answer.{Answer}
 use Rattle.repository.specs.declared.reply.Answer.TheVariants as answer
+use Rattle.repository.specs.declared.reply.FeatureValue.{FeatureValue}
+use Rattle.repository.specs.declared.reply.FeatureValue.TheVariants as feature_value
 
 -- what is counted of the adapter of a number
 abbrev pub count_of : List Listed → AdapterNo → (View → ℕ) → ℕ
 count_of rs number count = option_map_or (λ a. count a.view) (adapter number rs) 0
 
--- the answer of a change that makes this object, or none
-abbrev pub made_answer : Option ObjectNo → Answer
-made_answer made = option_map_or answer.Object made answer.Done
+-- what a feature of a node has
+abbrev pub got : Reading → End → FeatureValue
+got r e = if (shape_at r e).is_single then feature_value.One (value_at r e) else feature_value.Many (r.values e)
 
+abbrev pub got_answer : FeatureValue → Answer
+got_answer (feature_value.One v) = answer.Value v
+got_answer (feature_value.Many vs) = answer.Values vs
+
+-- an `add` answers whether the list changed, what takes a value out or moves it answers the value, and `remove_value` whether it was there
 abbrev pub answer_of : Reading → List Listed → Command View → Answer
 answer_of r rs (command.Create c) = answer.Object (record { 0 = r.next })
 answer_of r rs (command.Set n f v) = answer.Done
 answer_of r rs (command.Unset n f) = answer.Done
+answer_of r rs (command.Add n f v i) = answer.Flag (not (is_repeat r (at_end n f) v))
+answer_of r rs (command.Remove n f i) = answer.Value (value_in (r.values (at_end n f)) i)
+answer_of r rs (command.RemoveValue n f v) = answer.Flag (has_value (r.values (at_end n f)) v)
+answer_of r rs (command.Move n f to from) = answer.Value (value_in (r.values (at_end n f)) from)
 answer_of r rs (command.Attach number target deep view) = answer.Done
 answer_of r rs (command.Detach number) = answer.Done
-answer_of r rs (command.Get n f) = answer.Value (value_at r (at_end n f))
+answer_of r rs (command.Get n f) = got_answer (got r (at_end n f))
 answer_of r rs (command.IsSet n f) = answer.Flag (is_set r (at_end n f))
 answer_of r rs (command.Container o) = answer.Container (container r o)
 answer_of r rs (command.Contents n) = answer.Objects (contents r n)

@@ -4,5 +4,6 @@ pub mod Refusals
 pub mod Answers
 pub mod Step
 pub mod Run
+pub mod Reads
 pub mod Laws
 pub mod Repository

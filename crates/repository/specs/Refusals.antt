@@ -23,6 +23,10 @@ abbrev pub change_of : Command View → Option Change
 change_of (command.Create c) = Some (change.Create c)
 change_of (command.Set n f v) = Some (change.Set n f v)
 change_of (command.Unset n f) = Some (change.Unset n f)
+change_of (command.Add n f v i) = Some (change.Add n f v i)
+change_of (command.Remove n f i) = Some (change.Remove n f i)
+change_of (command.RemoveValue n f v) = Some (change.RemoveValue n f v)
+change_of (command.Move n f to from) = Some (change.Move n f to from)
 change_of (command.Attach number target deep view) = None
 change_of (command.Detach number) = None
 change_of (command.Get n f) = None
@@ -46,6 +50,10 @@ abbrev pub early_refusal : Reading → List Listed → Command View → Option R
 early_refusal r rs (command.Create c) = planned.early_refusal r (change.Create c)
 early_refusal r rs (command.Set n f v) = planned.early_refusal r (change.Set n f v)
 early_refusal r rs (command.Unset n f) = planned.early_refusal r (change.Unset n f)
+early_refusal r rs (command.Add n f v i) = planned.early_refusal r (change.Add n f v i)
+early_refusal r rs (command.Remove n f i) = planned.early_refusal r (change.Remove n f i)
+early_refusal r rs (command.RemoveValue n f v) = planned.early_refusal r (change.RemoveValue n f v)
+early_refusal r rs (command.Move n f to from) = planned.early_refusal r (change.Move n f to from)
 early_refusal r rs (command.Attach number target deep view) = node_refusal r target
 early_refusal r rs (command.Detach number) = adapter_refusal rs number
 early_refusal r rs (command.Get n f) = feature_refusal r n f
@@ -63,6 +71,10 @@ abbrev pub late_refusal : Reading → List Listed → Command View → Option Re
 late_refusal r rs (command.Create c) = planned.late_refusal r (change.Create c)
 late_refusal r rs (command.Set n f v) = planned.late_refusal r (change.Set n f v)
 late_refusal r rs (command.Unset n f) = planned.late_refusal r (change.Unset n f)
+late_refusal r rs (command.Add n f v i) = planned.late_refusal r (change.Add n f v i)
+late_refusal r rs (command.Remove n f i) = planned.late_refusal r (change.Remove n f i)
+late_refusal r rs (command.RemoveValue n f v) = planned.late_refusal r (change.RemoveValue n f v)
+late_refusal r rs (command.Move n f to from) = planned.late_refusal r (change.Move n f to from)
 late_refusal r rs (command.Attach number target deep view) = attach_refusal rs number view
 late_refusal r rs (command.Detach number) = None
 late_refusal r rs (command.Get n f) = None

@@ -36,6 +36,10 @@ abbrev pub takes_memory : Command View → Bool
 takes_memory (command.Create c) = true
 takes_memory (command.Set n f v) = true
 takes_memory (command.Unset n f) = true
+takes_memory (command.Add n f v i) = true
+takes_memory (command.Remove n f i) = true
+takes_memory (command.RemoveValue n f v) = true
+takes_memory (command.Move n f to from) = true
 takes_memory (command.Attach number target deep view) = true
 takes_memory (command.Detach number) = true
 takes_memory (command.Get n f) = true

@@ -35,6 +35,10 @@ abbrev pub leaves : Command View → Listed → Bool
 leaves (command.Create c) a = false
 leaves (command.Set n f v) a = false
 leaves (command.Unset n f) a = false
+leaves (command.Add n f v i) a = false
+leaves (command.Remove n f i) a = false
+leaves (command.RemoveValue n f v) a = false
+leaves (command.Move n f to from) a = false
 leaves (command.Attach number target deep view) a = false
 leaves (command.Detach number) a = has_no number a
 leaves (command.Get n f) a = false
@@ -50,6 +54,10 @@ abbrev pub joins : Command View → List Listed
 joins (command.Create c) = []
 joins (command.Set n f v) = []
 joins (command.Unset n f) = []
+joins (command.Add n f v i) = []
+joins (command.Remove n f i) = []
+joins (command.RemoveValue n f v) = []
+joins (command.Move n f to from) = []
 joins (command.Attach number target deep view) = record { no = number; target = target; deep = deep; view = view } ∷ []
 joins (command.Detach number) = []
 joins (command.Get n f) = []

@@ -18,12 +18,20 @@ abbrev pub command_of : {A : Type 0} → Change → Command A
 command_of (change.Create c) = command.Create c
 command_of (change.Set n f v) = command.Set n f v
 command_of (change.Unset n f) = command.Unset n f
+command_of (change.Add n f v i) = command.Add n f v i
+command_of (change.Remove n f i) = command.Remove n f i
+command_of (change.RemoveValue n f v) = command.RemoveValue n f v
+command_of (change.Move n f to from) = command.Move n f to from
 
 -- the adapter that a command brings
 abbrev pub brought : {A : Type 0} → Command A → Option A
 brought (command.Create c) = None
 brought (command.Set n f v) = None
 brought (command.Unset n f) = None
+brought (command.Add n f v i) = None
+brought (command.Remove n f i) = None
+brought (command.RemoveValue n f v) = None
+brought (command.Move n f to from) = None
 brought (command.Attach number target deep adapter) = Some adapter
 brought (command.Detach number) = None
 brought (command.Get n f) = None
@@ -39,6 +47,10 @@ module _ {A : Type 0} (heard : A → View) where
   command_view (command.Create c) = command.Create c
   command_view (command.Set n f v) = command.Set n f v
   command_view (command.Unset n f) = command.Unset n f
+  command_view (command.Add n f v i) = command.Add n f v i
+  command_view (command.Remove n f i) = command.Remove n f i
+  command_view (command.RemoveValue n f v) = command.RemoveValue n f v
+  command_view (command.Move n f to from) = command.Move n f to from
   command_view (command.Attach number target deep adapter) = command.Attach number target deep (heard adapter)
   command_view (command.Detach number) = command.Detach number
   command_view (command.Get n f) = command.Get n f

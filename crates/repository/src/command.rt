@@ -13,10 +13,36 @@ pub enum Command<A = Box<dyn Adapter>> {
         feature: FeatureNo,
         value: Value,
     },
-    /// Takes a feature back to its default (EMF: EObject.eUnset; MOF 2.5.1: Reflection, Object.unset).
+    /// Takes a feature back to its default, or empties a list (EMF: EObject.eUnset; MOF 2.5.1: Reflection, Object.unset).
     Unset {
         node: Node,
         feature: FeatureNo,
+    },
+    /// Adds a value to a list, at an index or at its end (EMF: EList.add; MOF 2.5.1: Reflection, ReflectiveSequence.add).
+    Add {
+        node: Node,
+        feature: FeatureNo,
+        value: Value,
+        index: Option<u32>,
+    },
+    /// Takes the value at an index out of a list (EMF: EList.remove; MOF 2.5.1: Reflection, ReflectiveSequence.remove).
+    Remove {
+        node: Node,
+        feature: FeatureNo,
+        index: u32,
+    },
+    /// Takes a value out of a list where it first stands (EMF: EList.remove; MOF 2.5.1: Reflection, ReflectiveCollection.remove).
+    RemoveValue {
+        node: Node,
+        feature: FeatureNo,
+        value: Value,
+    },
+    /// Moves the value at `from` of a list, so that it then stands at `to` (EMF: EList.move).
+    Move {
+        node: Node,
+        feature: FeatureNo,
+        to: u32,
+        from: u32,
     },
     /// Attaches an adapter to a node, last in attach order (EMF: Notifier.eAdapters().add). A deep one is also notified of what
     /// happens below the node (EMF: EContentAdapter).

@@ -10,5 +10,5 @@ mod reply;
 mod repository;
 
 pub use command::Command;
-pub use reply::{Answer, Failure, Reply};
+pub use reply::{Answer, Failure, FeatureValue, Reply};
 pub use repository::Repository;

@@ -1,12 +1,13 @@
 //! Replies and refusals of commands that bring no adapter.
 ghost use Rattle.std.specs.Prelude.{◌≡◌, []};
 ghost use Rattle.notice_chain.specs.View.{View};
+ghost use Rattle.repository.specs.Answers.{got_answer};
 ghost use Rattle.repository.specs.Run.{change_outcome, read_outcome};
 ghost use Rattle.repository.specs.Views.{changed_view, outcome_view};
 ghost use Rattle.repository.specs.declared.reply.Answer.TheVariants as answer;
 
-use crate::reply::{Answer, Failure, Reply};
-use mm_types::{ClassNo, ObjectNo, Refused, Seq, Value};
+use crate::reply::{Answer, Failure, FeatureValue, Reply};
+use mm_types::{ClassNo, ObjectNo, Refused, Seq};
 use std::alloc::Global;
 
 /// An answer, as the reply of a command that notifies nobody. Takes no memory.
@@ -20,12 +21,17 @@ pub(crate) fn reply<A>(alloc: Global, answer: Answer) -> Reply<A>
     }
 }
 
-/// A read's value, as a reply.
-pub(crate) fn replied<A>(alloc: Global, read: Result<Value, Refused>) -> Result<Reply<A>, Refused>
-    ensures { (heard : A → View) → change_outcome (changed_view heard result) ≡ read_outcome answer.Value read }
+/// What a feature has, as a reply.
+pub(crate) fn replied<A>(
+    alloc: Global,
+    read: Result<FeatureValue, Refused>,
+) -> Result<Reply<A>, Refused>
+    ensures { (heard : A → View) → change_outcome (changed_view heard result) ≡ read_outcome got_answer read }
 {
-    let value = read?;
-    Ok(reply(alloc, Answer::Value(value)))
+    match read? {
+        FeatureValue::One(value) => Ok(reply(alloc, Answer::Value(value))),
+        FeatureValue::Many(values) => Ok(reply(alloc, Answer::Values(values))),
+    }
 }
 
 /// Whether a feature was answered to be set, as a reply.

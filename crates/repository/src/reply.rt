@@ -10,9 +10,11 @@ pub enum Answer {
     Done,
     /// The object that was made.
     Object(ObjectNo),
-    /// The value of a feature of one value.
+    /// The value of a feature of one value, or the one that was taken out of a list or moved in it.
     Value(Value),
-    /// Whether a feature is set.
+    /// The values of a feature of many, in order.
+    Values(Seq<Value>),
+    /// Whether a feature is set, or whether a list changed.
     Flag(bool),
     /// The class of an object.
     Class(ClassNo),
@@ -22,6 +24,15 @@ pub enum Answer {
     Container(Option<ObjectNo>),
     /// The objects that a node contains.
     Objects(Seq<ObjectNo>),
+}
+
+/// What a feature has.
+#[derive(Debug, Drop)]
+pub enum FeatureValue {
+    /// The value of a feature of one; null where it is empty.
+    One(Value),
+    /// The values of a feature of many, in order.
+    Many(Seq<Value>),
 }
 
 /// What a command that is done gives.

@@ -13,22 +13,24 @@ few_words [] few = refl
 few_words (v ∷ []) few = refl
 few_words (v ∷ a ∷ ws) few = absurd (omega arith)
 
-pub many_words : (ws : List (List ℕ)) → 5 ≤ length ws → None ≡ form_of ws
+pub many_words : (ws : List (List ℕ)) → 6 ≤ length ws → None ≡ form_of ws
 many_words [] many = absurd (omega arith)
 many_words (v ∷ []) many = absurd (omega arith)
 many_words (v ∷ a ∷ []) many = absurd (omega arith)
 many_words (v ∷ a ∷ b ∷ []) many = absurd (omega arith)
 many_words (v ∷ a ∷ b ∷ c ∷ []) many = absurd (omega arith)
-many_words (v ∷ a ∷ b ∷ c ∷ d ∷ ws) many = refl
+many_words (v ∷ a ∷ b ∷ c ∷ d ∷ []) many = absurd (omega arith)
+many_words (v ∷ a ∷ b ∷ c ∷ d ∷ e ∷ ws) many = refl
 
 -- the first words tell the form
-pub first_words : (ws : List (List ℕ)) → line_of (take 5 ws) ≡ line_of ws
+pub first_words : (ws : List (List ℕ)) → line_of (take 6 ws) ≡ line_of ws
 first_words [] = refl
 first_words (v ∷ []) = refl
 first_words (v ∷ a ∷ []) = refl
 first_words (v ∷ a ∷ b ∷ []) = refl
 first_words (v ∷ a ∷ b ∷ c ∷ []) = refl
-first_words (v ∷ a ∷ b ∷ c ∷ d ∷ ws) = refl
+first_words (v ∷ a ∷ b ∷ c ∷ d ∷ []) = refl
+first_words (v ∷ a ∷ b ∷ c ∷ d ∷ e ∷ ws) = refl
 
 -- ---- texts and other bytes
 

@@ -73,7 +73,7 @@ none_after : (rest : List ℕ) → length rest ≡ 0 → words_after 0 rest ≡ 
 none_after [] none = refl
 none_after (c ∷ cs) none = absurd (omega arith)
 
--- the words found are the first five, where nothing is left or five are found
-pub first_found : (ws : List (List ℕ)) (rest : List ℕ) (all : List (List ℕ)) → ws ++ words_after 0 rest ≡ all → length ws ≤ 5
-    → (length ws < 5 → length rest ≡ 0) → ws ≡ take 5 all
-first_found ws rest all is few none = found_at 5 ws (words_after 0 rest) few (λ low. none_after rest (none low)) ∙ ap (take 5) is
+-- the words found are the first six, where nothing is left or six are found
+pub first_found : (ws : List (List ℕ)) (rest : List ℕ) (all : List (List ℕ)) → ws ++ words_after 0 rest ≡ all → length ws ≤ 6
+    → (length ws < 6 → length rest ≡ 0) → ws ≡ take 6 all
+first_found ws rest all is few none = found_at 6 ws (words_after 0 rest) few (λ low. none_after rest (none low)) ∙ ap (take 6) is

@@ -1,9 +1,10 @@
 -- What a line asks for: its first word says what is done, the others to what.
-use Rattle.std.specs.Prelude.{ℕ, Bool, true, false, List, [], ◌∷◌, Option, Some, None, option_map, codes, if◌then◌else◌}
+use Rattle.std.specs.Prelude.{ℕ, Bool, true, false, List, [], ◌∷◌, Option, Some, None, option_map, option_and_then, codes, if◌then◌else◌}
 use Rattle.std.specs.Option.{option_zip}
 use Rattle.std.specs.Str.{bytes_eq, is_utf8}
 use Rattle.script_lines.specs.Words.{words}
-use Rattle.script_lines.specs.Values.{adapter_in, feature_in, name_in, node_in, object_in, value_in}
+use Rattle.mm_types.specs.Integers.{natural}
+use Rattle.script_lines.specs.Values.{adapter_in, feature_in, feature_value_in, name_in, node_in, object_in}
 use Rattle.script_lines.specs.declared.form.Form.{Form}
 use Rattle.script_lines.specs.declared.form.Form.TheVariants as asks
 use Rattle.script_lines.specs.declared.line.Line.{Line}
@@ -47,7 +48,27 @@ unset_form n f = option_map (λ p. asks.Unset p.0 p.1) (feature_in n f)
 
 -- `set NODE NAME VALUE`
 abbrev pub set_form : List ℕ → List ℕ → List ℕ → Option Form
-set_form n f v = option_map (λ p. asks.Set p.0.0 p.0.1 p.1) (option_zip (feature_in n f) (value_in v))
+set_form n f v = option_map (λ p. asks.Set p.0.0 p.0.1 p.1) (feature_value_in n f v)
+
+-- `add NODE NAME VALUE`, and a place if there is one
+abbrev pub add_form : List ℕ → List ℕ → List ℕ → Option ℕ → Option Form
+add_form n f v place = option_map (λ p. asks.Add p.0.0 p.0.1 p.1 place) (feature_value_in n f v)
+
+-- `add NODE NAME VALUE N`
+abbrev pub add_at_form : List ℕ → List ℕ → List ℕ → List ℕ → Option Form
+add_at_form n f v i = option_and_then (λ k. add_form n f v (Some k)) (natural i)
+
+-- `remove NODE NAME N`
+abbrev pub remove_form : List ℕ → List ℕ → List ℕ → Option Form
+remove_form n f i = option_map (λ p. asks.Remove p.0.0 p.0.1 p.1) (option_zip (feature_in n f) (natural i))
+
+-- `removevalue NODE NAME VALUE`
+abbrev pub removevalue_form : List ℕ → List ℕ → List ℕ → Option Form
+removevalue_form n f v = option_map (λ p. asks.RemoveValue p.0.0 p.0.1 p.1) (feature_value_in n f v)
+
+-- `move NODE NAME N N`: to, then from
+abbrev pub move_form : List ℕ → List ℕ → List ℕ → List ℕ → Option Form
+move_form n f to from = option_map (λ p. asks.Move p.0.0.0 p.0.0.1 p.0.1 p.1) (option_zip (option_zip (feature_in n f) (natural to)) (natural from))
 
 -- whether an adapter is deep: `flat` or `deep`
 abbrev pub depth_in : List ℕ → Option Bool
@@ -81,6 +102,16 @@ abbrev pub with_three : List ℕ → List ℕ → List ℕ → List ℕ → Opti
 with_three verb a b c =
     if bytes_eq verb (codes "set") then set_form a b c
     else if bytes_eq verb (codes "attach") then attach_form a b c
+    else if bytes_eq verb (codes "add") then add_form a b c None
+    else if bytes_eq verb (codes "remove") then remove_form a b c
+    else if bytes_eq verb (codes "removevalue") then removevalue_form a b c
+    else None
+
+-- the forms of a verb and four arguments
+abbrev pub with_four : List ℕ → List ℕ → List ℕ → List ℕ → List ℕ → Option Form
+with_four verb a b c d =
+    if bytes_eq verb (codes "add") then add_at_form a b c d
+    else if bytes_eq verb (codes "move") then move_form a b c d
     else None
 
 -- the form of a verb and its arguments
@@ -88,6 +119,7 @@ abbrev pub form_of : List (List ℕ) → Option Form
 form_of (verb ∷ a ∷ []) = with_one verb a
 form_of (verb ∷ a ∷ b ∷ []) = with_two verb a b
 form_of (verb ∷ a ∷ b ∷ c ∷ []) = with_three verb a b c
+form_of (verb ∷ a ∷ b ∷ c ∷ d ∷ []) = with_four verb a b c d
 form_of _ = None
 
 -- a line with words has a form or is bad

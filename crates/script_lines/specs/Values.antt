@@ -71,3 +71,7 @@ value_in w = if bytes_eq w (codes "null") then Some written.Null
     else if bytes_eq w (codes "true") then Some (written.Bool true)
     else if bytes_eq w (codes "false") then Some (written.Bool false)
     else other_value_in w
+
+-- `#3 pages 100`: a node, the name of one of its features, and a value for it
+abbrev pub feature_value_in : List ℕ → List ℕ → List ℕ → Option ((Node × List ℕ) × WrittenValue)
+feature_value_in n f v = option_zip (feature_in n f) (value_in v)

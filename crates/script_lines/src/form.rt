@@ -21,6 +21,32 @@ pub enum Form<'a> {
         node: Node,
         feature: Name<'a>,
     },
+    /// A value put into the list of a feature: at a place counted from 0, or at the end (EMF: EList.add).
+    Add {
+        node: Node,
+        feature: Name<'a>,
+        value: WrittenValue<'a>,
+        index: Option<u32>,
+    },
+    /// The value at a place of a list, counted from 0, taken out (EMF: EList.remove of an index).
+    Remove {
+        node: Node,
+        feature: Name<'a>,
+        index: u32,
+    },
+    /// The first occurrence of a value in a list taken out (EMF: EList.remove of an object).
+    RemoveValue {
+        node: Node,
+        feature: Name<'a>,
+        value: WrittenValue<'a>,
+    },
+    /// A value of a list moved to a place, from another; both are counted from 0 (EMF: EList.move).
+    Move {
+        node: Node,
+        feature: Name<'a>,
+        to: u32,
+        from: u32,
+    },
     /// An adapter attached to a node. A deep one is also notified of what happens below the node (EMF: Notifier.eAdapters().add).
     Attach {
         no: AdapterNo,

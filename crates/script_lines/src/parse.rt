@@ -1,12 +1,13 @@
 //! What a line asks for: its words, and the form that they fit.
 ghost use Rattle.std.specs.Prelude.{◌≡◌, IfOk, map};
-ghost use Rattle.script_lines.specs.Forms.{attach_form, class_form, container_form, contents_form, depth_in, detach_form, form, form_of as the_form_of, get_form, isset_form, line_of as the_line_of, new_form, seen_form, set_form, unset_form, with_one, with_three, with_two};
+ghost use Rattle.script_lines.specs.Forms.{add_at_form, add_form, attach_form, class_form, container_form, contents_form, depth_in, detach_form, form, form_of as the_form_of, get_form, isset_form, line_of as the_line_of, move_form, new_form, remove_form, removevalue_form, seen_form, set_form, unset_form, with_four, with_one, with_three, with_two};
 
 use crate::form::Form;
 use crate::line::Line;
 use crate::name::Name;
-use crate::values::{adapter_of, feature_of, node_of, object_of, value_of};
+use crate::values::{adapter_of, feature_of, feature_value_of, node_of, object_of};
 use crate::words::words_of;
+use mm_types::integers::natural_of;
 use std::alloc::{AllocError, Global};
 use std::str;
 
@@ -82,10 +83,7 @@ fn set_of<'a>(
 ) -> Result<Option<Form<'a>>, AllocError>
     ensures { IfOk result (λ o. o ≡ set_form node.now feature.now value.now) }
 {
-    let Some((node, feature)) = feature_of(node, feature) else {
-        return Ok(None);
-    };
-    let Some(value) = value_of(alloc, value)? else {
+    let Some(((node, feature), value)) = feature_value_of(alloc, node, feature, value)? else {
         return Ok(None);
     };
     Ok(Some(Form::Set {
@@ -93,6 +91,90 @@ fn set_of<'a>(
         feature,
         value,
     }))
+}
+
+/// `add NODE NAME VALUE`, and a place if there is one.
+fn add_of<'a>(
+    alloc: Global,
+    node: &str,
+    feature: &'a str,
+    value: &'a str,
+    index: Option<u32>,
+) -> Result<Option<Form<'a>>, AllocError>
+    ensures { IfOk result (λ o. o ≡ add_form node.now feature.now value.now index) }
+{
+    let Some(((node, feature), value)) = feature_value_of(alloc, node, feature, value)? else {
+        return Ok(None);
+    };
+    Ok(Some(Form::Add {
+        node,
+        feature,
+        value,
+        index,
+    }))
+}
+
+/// `add NODE NAME VALUE N`
+fn add_at_of<'a>(
+    alloc: Global,
+    node: &str,
+    feature: &'a str,
+    value: &'a str,
+    index: &str,
+) -> Result<Option<Form<'a>>, AllocError>
+    ensures { IfOk result (λ o. o ≡ add_at_form node.now feature.now value.now index.now) }
+{
+    let Some(index) = natural_of(index) else {
+        return Ok(None);
+    };
+    add_of(alloc, node, feature, value, Some(index))
+}
+
+/// `remove NODE NAME N`
+fn remove_of<'a>(node: &str, feature: &'a str, index: &str) -> Option<Form<'a>>
+    ensures { result ≡ remove_form node.now feature.now index.now }
+{
+    let (node, feature) = feature_of(node, feature)?;
+    let index = natural_of(index)?;
+    Some(Form::Remove {
+        node,
+        feature,
+        index,
+    })
+}
+
+/// `removevalue NODE NAME VALUE`
+fn removevalue_of<'a>(
+    alloc: Global,
+    node: &str,
+    feature: &'a str,
+    value: &'a str,
+) -> Result<Option<Form<'a>>, AllocError>
+    ensures { IfOk result (λ o. o ≡ removevalue_form node.now feature.now value.now) }
+{
+    let Some(((node, feature), value)) = feature_value_of(alloc, node, feature, value)? else {
+        return Ok(None);
+    };
+    Ok(Some(Form::RemoveValue {
+        node,
+        feature,
+        value,
+    }))
+}
+
+/// `move NODE NAME N N`: to, then from.
+fn move_of<'a>(node: &str, feature: &'a str, to: &str, from: &str) -> Option<Form<'a>>
+    ensures { result ≡ move_form node.now feature.now to.now from.now }
+{
+    let (node, feature) = feature_of(node, feature)?;
+    let to = natural_of(to)?;
+    let from = natural_of(from)?;
+    Some(Form::Move {
+        node,
+        feature,
+        to,
+        from,
+    })
 }
 
 /// Whether an adapter is deep, as a word says it: `flat` or `deep`.
@@ -168,6 +250,32 @@ fn with_three_of<'a>(
         set_of(alloc, a, b, c)
     } else if verb == "attach" {
         Ok(attach_of(a, b, c))
+    } else if verb == "add" {
+        add_of(alloc, a, b, c, None)
+    } else if verb == "remove" {
+        Ok(remove_of(a, b, c))
+    } else if verb == "removevalue" {
+        removevalue_of(alloc, a, b, c)
+    } else {
+        Ok(None)
+    }
+}
+
+/// The form of a verb and four arguments.
+fn with_four_of<'a>(
+    alloc: Global,
+    verb: &str,
+    a: &str,
+    b: &'a str,
+    c: &'a str,
+    d: &str,
+) -> Result<Option<Form<'a>>, AllocError>
+    ensures { IfOk result (λ o. o ≡ with_four verb.now a.now b.now c.now d.now) }
+{
+    if verb == "add" {
+        add_at_of(alloc, a, b, c, d)
+    } else if verb == "move" {
+        Ok(move_of(a, b, c, d))
     } else {
         Ok(None)
     }
@@ -183,6 +291,7 @@ fn form_of<'a>(alloc: Global, words: &[&'a str]) -> Result<Option<Form<'a>>, All
         [verb, a] => Ok(with_one_of(verb, a)),
         [verb, a, b] => Ok(with_two_of(verb, a, b)),
         [verb, a, b, c] => with_three_of(alloc, verb, a, b, c),
+        [verb, a, b, c, d] => with_four_of(alloc, verb, a, b, c, d),
         _ => Ok(None),
     }
 }

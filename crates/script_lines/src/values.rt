@@ -1,6 +1,6 @@
 //! Nodes, adapters, features and values, read from words.
 ghost use Rattle.std.specs.Prelude.{◌≡◌, ◌≢◌, ◌<◌, IfOk, length, option_map, slice_index};
-ghost use Rattle.script_lines.specs.Values.{adapter_in, feature_in, node_in, number_in, object_in, other_value_in, text_in, value_in};
+ghost use Rattle.script_lines.specs.Values.{adapter_in, feature_in, feature_value_in, node_in, number_in, object_in, other_value_in, text_in, value_in};
 ghost use Rattle.script_lines.specs.declared.written_value.WrittenValue.TheVariants as written;
 
 use crate::grammar::{ADAPTER_MARK, LITERAL_MARK, OBJECT_MARK, QUOTE, RESOURCE_MARK};
@@ -106,4 +106,22 @@ pub fn value_of(alloc: Global, word: &str) -> Result<Option<WrittenValue<'_>>, A
         return Ok(Some(WrittenValue::Bool(false)));
     }
     other_value_of(alloc, word)
+}
+
+/// The node, the name of one of its features, and the value for it, that three words give: `#3 pages 100`.
+pub fn feature_value_of<'a>(
+    alloc: Global,
+    node: &str,
+    name: &'a str,
+    value: &'a str,
+) -> Result<Option<((Node, Name<'a>), WrittenValue<'a>)>, AllocError>
+    ensures { IfOk result (λ o. o ≡ feature_value_in node.now name.now value.now) }
+{
+    let Some(feature) = feature_of(node, name) else {
+        return Ok(None);
+    };
+    let Some(value) = value_of(alloc, value)? else {
+        return Ok(None);
+    };
+    Ok(Some((feature, value)))
 }

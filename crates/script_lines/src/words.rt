@@ -80,7 +80,7 @@ pub fn after_byte(text: &str) -> &str
 }
 
 /// How many words of a line are looked at: one more than the longest form has, since a line of more words fits none.
-pub const MOST_WORDS: usize = 5;
+pub const MOST_WORDS: usize = 6;
 
 /// The first words of a line, as many as are looked at.
 pub fn words_of(line: &str) -> ArrayVec<&str, MOST_WORDS>

@@ -9,6 +9,7 @@ use Rattle.mm_types.specs.Resolved.{Metamodel}
 use Rattle.mm_types.specs.declared.document_fault.DocFault.{DocFault}
 use Rattle.mm_types.specs.declared.numbers.AdapterNo.{AdapterNo}
 use Rattle.mm_types.specs.declared.numbers.ClassNo.{ClassNo}
+use Rattle.mm_types.specs.declared.numbers.FeatureNo.{FeatureNo}
 use Rattle.mm_types.specs.declared.numbers.ObjectNo.{ObjectNo}
 use Rattle.mm_types.specs.declared.numbers.Node.{Node}
 use Rattle.mm_types.specs.declared.numbers.Node.TheVariants as node
@@ -16,7 +17,7 @@ use Rattle.mm_types.specs.declared.refused.Refused.{Refused}
 use Rattle.mm_types.specs.declared.value.Value.{Value}
 use Rattle.mm_types.specs.declared.value.Value.TheVariants as value
 use Rattle.script_lines.specs.declared.grammar.TheConstants.{ADAPTER_MARK, LITERAL_MARK, OBJECT_MARK, RESOURCE_MARK, SPACE}
-use Rattle.script_output.specs.Names.{class_name}
+use Rattle.script_output.specs.Names.{class_name, literal_name}
 
 -- a text as a JSON string
 abbrev pub json_text : List ℕ → List ℕ
@@ -42,6 +43,19 @@ value_text literal (value.Literal index) = LITERAL_MARK ∷ literal
 value_text literal (value.Object o) = OBJECT_MARK ∷ decimal o.0
 value_text literal (value.Proxy t) = codes "proxy " ++ json_text t
 value_text literal (value.Adapter a) = adapter_text a
+
+-- a value of a feature
+abbrev pub feature_value_text : Metamodel → FeatureNo → Value → List ℕ
+feature_value_text m f v = value_text (literal_name m f v) v
+
+-- values of a feature, each behind a space
+abbrev pub spaced_values : Metamodel → FeatureNo → List Value → List ℕ
+spaced_values m f vs = flat_map (λ v. SPACE ∷ feature_value_text m f v) vs
+
+-- as `["a" "b"]`
+abbrev pub list_text : Metamodel → FeatureNo → List Value → List ℕ
+list_text m f [] = codes "[]"
+list_text m f (v ∷ vs) = codes "[" ++ feature_value_text m f v ++ spaced_values m f vs ++ codes "]"
 
 -- objects, each behind a space
 abbrev pub spaced_objects : List ObjectNo → List ℕ

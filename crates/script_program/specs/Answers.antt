@@ -18,13 +18,17 @@ use Rattle.repository.specs.declared.reply.Answer.TheVariants as answer
 use Rattle.script_lines.specs.declared.grammar.TheConstants.{NEWLINE}
 use Rattle.script_output.specs.Names.{literal_name}
 use Rattle.script_output.specs.Notified.{notice_text, released_text}
-use Rattle.script_output.specs.Printed.{class_text, container_text, node_text, objects_text, refused_text, value_text}
+use Rattle.script_output.specs.Printed.{class_text, container_text, list_text, node_text, objects_text, refused_text, value_text}
 use Rattle.script_program.specs.declared.bind.TheConstants.{NOTHING}
 
 -- the feature that a command names; one of no metamodel where it names none
 abbrev pub feature_of : Command View → FeatureNo
 feature_of (command.Set n f v) = f
 feature_of (command.Unset n f) = f
+feature_of (command.Add n f v place) = f
+feature_of (command.Remove n f i) = f
+feature_of (command.RemoveValue n f v) = f
+feature_of (command.Move n f to from) = f
 feature_of (command.Get n f) = f
 feature_of (command.IsSet n f) = f
 feature_of (command.Create c) = record { 0 = NOTHING }
@@ -41,6 +45,7 @@ abbrev pub answer_text : Metamodel → FeatureNo → Answer → List ℕ
 answer_text m f answer.Done = codes "ok"
 answer_text m f (answer.Object o) = node_text (node.Object o)
 answer_text m f (answer.Value v) = value_text (literal_name m f v) v
+answer_text m f (answer.Values vs) = list_text m f vs
 answer_text m f (answer.Flag true) = codes "true"
 answer_text m f (answer.Flag false) = codes "false"
 answer_text m f (answer.Class c) = class_text m c

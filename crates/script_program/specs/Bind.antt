@@ -1,5 +1,5 @@
 -- What a form asks for: the names in it are looked up in the metamodel, and the box in the pool.
-use Rattle.std.specs.Prelude.{ℕ, Bool, List, option_and_then, unwrap_or, codes, Result, Ok, Err, if◌then◌else◌}
+use Rattle.std.specs.Prelude.{ℕ, Bool, List, Option, option_and_then, unwrap_or, codes, Result, Ok, Err, if◌then◌else◌}
 use Rattle.std.specs.Str.{bytes_eq}
 use Rattle.mm_types.specs.Lookups as lookups
 use Rattle.mm_types.specs.Resolved.{Metamodel}
@@ -48,8 +48,36 @@ value_in m f (written.Text t) = value.Text t
 value_in m f (written.Literal name) = value.Literal (literal_number m f name)
 value_in m f (written.Object o) = value.Object o
 
-abbrev pub set_command : {A : Type 0} → Metamodel → Node → FeatureNo → WrittenValue → Command A
-set_command m n f v = command.Set n f (value_in m f v)
+-- the value of the named feature of a node that is written so
+abbrev pub named_value : State → Node → List ℕ → WrittenValue → Value
+named_value s n name v = value_in s.model.metamodel (feature_number s n name) v
+
+abbrev pub create_command : {A : Type 0} → Metamodel → List ℕ → Command A
+create_command m name = command.Create (class_number m name)
+
+abbrev pub set_command : {A : Type 0} → State → Node → List ℕ → WrittenValue → Command A
+set_command s n name v = command.Set n (feature_number s n name) (named_value s n name v)
+
+abbrev pub unset_command : {A : Type 0} → State → Node → List ℕ → Command A
+unset_command s n name = command.Unset n (feature_number s n name)
+
+abbrev pub add_command : {A : Type 0} → State → Node → List ℕ → WrittenValue → Option ℕ → Command A
+add_command s n name v place = command.Add n (feature_number s n name) (named_value s n name v) place
+
+abbrev pub remove_command : {A : Type 0} → State → Node → List ℕ → ℕ → Command A
+remove_command s n name i = command.Remove n (feature_number s n name) i
+
+abbrev pub removevalue_command : {A : Type 0} → State → Node → List ℕ → WrittenValue → Command A
+removevalue_command s n name v = command.RemoveValue n (feature_number s n name) (named_value s n name v)
+
+abbrev pub move_command : {A : Type 0} → State → Node → List ℕ → ℕ → ℕ → Command A
+move_command s n name to from = command.Move n (feature_number s n name) to from
+
+abbrev pub get_command : {A : Type 0} → State → Node → List ℕ → Command A
+get_command s n name = command.Get n (feature_number s n name)
+
+abbrev pub isset_command : {A : Type 0} → State → Node → List ℕ → Command A
+isset_command s n name = command.IsSet n (feature_number s n name)
 
 -- an adapter of the pool is attached; where it can't be, the repository isn't asked
 abbrev pub attach_request : Result View Refused → AdapterNo → Node → Bool → Request View
@@ -57,13 +85,17 @@ attach_request (Ok v) number target deep = request.Execute (command.Attach numbe
 attach_request (Err r) number target deep = request.Refuse r
 
 abbrev pub bind : Session → Form → Request View
-bind s (asks.New class) = request.Execute (command.Create (class_number s.state.model.metamodel class))
-bind s (asks.Set n feature v) = request.Execute (set_command s.state.model.metamodel n (feature_number s.state n feature) v)
-bind s (asks.Unset n feature) = request.Execute (command.Unset n (feature_number s.state n feature))
+bind s (asks.New class) = request.Execute (create_command s.state.model.metamodel class)
+bind s (asks.Set n feature v) = request.Execute (set_command s.state n feature v)
+bind s (asks.Unset n feature) = request.Execute (unset_command s.state n feature)
+bind s (asks.Add n feature v place) = request.Execute (add_command s.state n feature v place)
+bind s (asks.Remove n feature i) = request.Execute (remove_command s.state n feature i)
+bind s (asks.RemoveValue n feature v) = request.Execute (removevalue_command s.state n feature v)
+bind s (asks.Move n feature to from) = request.Execute (move_command s.state n feature to from)
 bind s (asks.Attach number target deep) = attach_request (box_of s.pool number) number target deep
 bind s (asks.Detach number) = request.Execute (command.Detach number)
-bind s (asks.Get n feature) = request.Execute (command.Get n (feature_number s.state n feature))
-bind s (asks.IsSet n feature) = request.Execute (command.IsSet n (feature_number s.state n feature))
+bind s (asks.Get n feature) = request.Execute (get_command s.state n feature)
+bind s (asks.IsSet n feature) = request.Execute (isset_command s.state n feature)
 bind s (asks.Container o) = request.Execute (command.Container o)
 bind s (asks.Contents n) = request.Execute (command.Contents n)
 bind s (asks.Class o) = request.Execute (command.Class o)

@@ -23,6 +23,10 @@ pub(crate) fn feature_of<A>(command: &Command<A>) -> FeatureNo
     match command {
         Command::Set { feature, .. } => *feature,
         Command::Unset { feature, .. } => *feature,
+        Command::Add { feature, .. } => *feature,
+        Command::Remove { feature, .. } => *feature,
+        Command::RemoveValue { feature, .. } => *feature,
+        Command::Move { feature, .. } => *feature,
         Command::Get { feature, .. } => *feature,
         Command::IsSet { feature, .. } => *feature,
         _ => FeatureNo(NOTHING),
@@ -41,6 +45,7 @@ fn print_answer(
         Answer::Done => output.text("ok"),
         Answer::Object(object) => output.node(Node::Object(*object)),
         Answer::Value(value) => output.value(value, literal_name(meta, feature, value)),
+        Answer::Values(values) => output.values(meta, feature, values.as_slice()),
         Answer::Flag(true) => output.text("true"),
         Answer::Flag(false) => output.text("false"),
         Answer::Class(class) => output.class(meta, *class),

@@ -15,20 +15,26 @@ const EXPLAINED: &str = "\
 The metamodel is a JSON document of classes, their attributes and references. The script is read
 from standard input, and what each of its lines answers is printed on standard output:
 
-  new Book               makes an object of a class: its number, as #0
-  set #0 name \"Emma\"     sets a feature: ok
-  get #0 name            what a feature has: \"Emma\"
-  unset #0 name          takes a feature back to its default: ok
-  isset #0 name          whether a feature is set: false
-  class #0               the class of an object: class Book
-  container #0           the object that contains an object: #3, or null
-  contents #0            the objects that an object contains: [#1 #2]
-  attach A1 #0 flat      attaches an adapter, one of A1 to A8, which is notified of changes
-  detach A1              detaches it: a line for its last notice, and one for what it heard
-  seen A1                how many notices it was told and keeps: seen 3 kept 3
+  new Book                 makes an object of a class: its number, as #0
+  set #0 name \"Emma\"       sets a feature of one value: ok
+  get #0 name              what a feature has: \"Emma\", and of a list [\"a\" \"b\"]
+  unset #0 name            takes a feature back to its default, and empties a list: ok
+  isset #0 name            whether a feature is set: false
+  add #0 tags \"a\"          puts a value at the end of a list: true, or false where it is there already
+  add #0 tags \"b\" 0        puts a value at a place of a list: true
+  remove #0 tags 0         takes the value at a place out of a list: \"b\"
+  removevalue #0 tags \"a\"  takes a value out of a list: true, or false where it is not there
+  move #0 tags 0 2         moves a value of a list to the first place, from the second: \"c\"
+  class #0                 the class of an object: class Book
+  container #0             the object that contains an object: #3, or null
+  contents #0              the objects that an object contains: [#1 #2]
+  attach A1 #0 flat        attaches an adapter, one of A1 to A8, which is notified of changes
+  detach A1                detaches it: a line for its last notice, and one for what it heard
+  seen A1                  how many notices it was told and keeps: seen 3 kept 3
 
-Behind the answer of a line stands a line for each notice that an adapter was told. A value is null, true, false, a number, a JSON string, :LITERAL or #N. A line that can't be done
-prints why, as `refused 8 TYPE`, and changes nothing; a line that does not parse prints `bad line`.
+Behind the answer of a line stands a line for each notice that an adapter was told. A value is null, true, false,
+a number, a JSON string, :LITERAL or #N. A line that can't be done prints why, as `refused 8 TYPE`, and changes
+nothing; a line that does not parse prints `bad line`.
 
 Example:
   printf 'new Book\\nset #0 name \"Emma\"\\nget #0 name\\n' | mmrepo --meta library.json

@@ -11,7 +11,7 @@ use link_store::LinkStore;
 use mm_meta::Meta;
 use mm_types::{AdapterNo, ClassNo, FeatureNo, Node, Value};
 use repository::{Command, Repository};
-use script_lines::{Form, WrittenValue};
+use script_lines::{Form, Name, WrittenValue};
 use script_output::enum_of;
 
 /// A number that no class, no feature and no literal has.
@@ -29,32 +29,39 @@ pub(crate) fn bind<L: LinkStore, A: Adapter>(
     ensures pool { pool.new ≡ b.pool_of pool.old (b.request_view A.heard result) }
 {
     match form {
-        Form::New { class } => {
-            let class = class_number(repository.meta(), class.as_str());
-            Request::Execute(Command::Create(class))
-        }
+        Form::New { class } => Request::Execute(create_command(repository.meta(), class)),
         Form::Set {
             node,
             feature,
             value,
-        } => {
-            let feature = feature_number(repository, node, feature.as_str());
-            Request::Execute(set_command(repository.meta(), node, feature, value))
-        }
-        Form::Unset { node, feature } => {
-            let feature = feature_number(repository, node, feature.as_str());
-            Request::Execute(Command::Unset { node, feature })
-        }
+        } => Request::Execute(set_command(repository, node, feature, value)),
+        Form::Unset { node, feature } => Request::Execute(unset_command(repository, node, feature)),
+        Form::Add {
+            node,
+            feature,
+            value,
+            index,
+        } => Request::Execute(add_command(repository, node, feature, value, index)),
+        Form::Remove {
+            node,
+            feature,
+            index,
+        } => Request::Execute(remove_command(repository, node, feature, index)),
+        Form::RemoveValue {
+            node,
+            feature,
+            value,
+        } => Request::Execute(removevalue_command(repository, node, feature, value)),
+        Form::Move {
+            node,
+            feature,
+            to,
+            from,
+        } => Request::Execute(move_command(repository, node, feature, to, from)),
         Form::Attach { no, target, deep } => attach_request(pool, no, target, deep),
         Form::Detach(no) => Request::Execute(Command::Detach(no)),
-        Form::Get { node, feature } => {
-            let feature = feature_number(repository, node, feature.as_str());
-            Request::Execute(Command::Get { node, feature })
-        }
-        Form::IsSet { node, feature } => {
-            let feature = feature_number(repository, node, feature.as_str());
-            Request::Execute(Command::IsSet { node, feature })
-        }
+        Form::Get { node, feature } => Request::Execute(get_command(repository, node, feature)),
+        Form::IsSet { node, feature } => Request::Execute(isset_command(repository, node, feature)),
         Form::Container(object) => Request::Execute(Command::Container(object)),
         Form::Contents(node) => Request::Execute(Command::Contents(node)),
         Form::Class(object) => Request::Execute(Command::Class(object)),
@@ -82,19 +89,130 @@ fn attach_request<A: Adapter>(
     }
 }
 
-fn set_command<A>(
-    meta: &Meta,
+fn create_command<A>(meta: &Meta, class: Name<'_>) -> Command<A>
+    ensures { result ≡ b.create_command meta.now class.entry }
+{
+    Command::Create(class_number(meta, class.as_str()))
+}
+
+fn set_command<L: LinkStore, A: Adapter>(
+    repository: &Repository<L, A>,
     node: Node,
-    feature: FeatureNo,
+    name: Name<'_>,
     written: WrittenValue<'_>,
 ) -> Command<A>
-    ensures { result ≡ b.set_command meta.now node feature written.entry }
+    ensures { result ≡ b.set_command repository.now node name.entry written.entry }
 {
+    let feature = feature_number(repository, node, name.as_str());
+    let value = value_in(repository.meta(), feature, written);
     Command::Set {
         node,
         feature,
-        value: value_in(meta, feature, written),
+        value,
     }
+}
+
+fn unset_command<L: LinkStore, A: Adapter>(
+    repository: &Repository<L, A>,
+    node: Node,
+    name: Name<'_>,
+) -> Command<A>
+    ensures { result ≡ b.unset_command repository.now node name.entry }
+{
+    let feature = feature_number(repository, node, name.as_str());
+    Command::Unset { node, feature }
+}
+
+fn add_command<L: LinkStore, A: Adapter>(
+    repository: &Repository<L, A>,
+    node: Node,
+    name: Name<'_>,
+    written: WrittenValue<'_>,
+    index: Option<u32>,
+) -> Command<A>
+    ensures { result ≡ b.add_command repository.now node name.entry written.entry index }
+{
+    let feature = feature_number(repository, node, name.as_str());
+    let value = value_in(repository.meta(), feature, written);
+    Command::Add {
+        node,
+        feature,
+        value,
+        index,
+    }
+}
+
+fn remove_command<L: LinkStore, A: Adapter>(
+    repository: &Repository<L, A>,
+    node: Node,
+    name: Name<'_>,
+    index: u32,
+) -> Command<A>
+    ensures { result ≡ b.remove_command repository.now node name.entry index }
+{
+    let feature = feature_number(repository, node, name.as_str());
+    Command::Remove {
+        node,
+        feature,
+        index,
+    }
+}
+
+fn removevalue_command<L: LinkStore, A: Adapter>(
+    repository: &Repository<L, A>,
+    node: Node,
+    name: Name<'_>,
+    written: WrittenValue<'_>,
+) -> Command<A>
+    ensures { result ≡ b.removevalue_command repository.now node name.entry written.entry }
+{
+    let feature = feature_number(repository, node, name.as_str());
+    let value = value_in(repository.meta(), feature, written);
+    Command::RemoveValue {
+        node,
+        feature,
+        value,
+    }
+}
+
+fn move_command<L: LinkStore, A: Adapter>(
+    repository: &Repository<L, A>,
+    node: Node,
+    name: Name<'_>,
+    to: u32,
+    from: u32,
+) -> Command<A>
+    ensures { result ≡ b.move_command repository.now node name.entry to from }
+{
+    let feature = feature_number(repository, node, name.as_str());
+    Command::Move {
+        node,
+        feature,
+        to,
+        from,
+    }
+}
+
+fn get_command<L: LinkStore, A: Adapter>(
+    repository: &Repository<L, A>,
+    node: Node,
+    name: Name<'_>,
+) -> Command<A>
+    ensures { result ≡ b.get_command repository.now node name.entry }
+{
+    let feature = feature_number(repository, node, name.as_str());
+    Command::Get { node, feature }
+}
+
+fn isset_command<L: LinkStore, A: Adapter>(
+    repository: &Repository<L, A>,
+    node: Node,
+    name: Name<'_>,
+) -> Command<A>
+    ensures { result ≡ b.isset_command repository.now node name.entry }
+{
+    let feature = feature_number(repository, node, name.as_str());
+    Command::IsSet { node, feature }
 }
 
 fn class_number(meta: &Meta, name: &str) -> ClassNo

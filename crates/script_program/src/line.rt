@@ -1,5 +1,6 @@
 //! A line of a script is run.
-ghost use Rattle.std.specs.Prelude.{◌≡◌, [], IfOk};
+ghost use Rattle.std.specs.Prelude.{◌≡◌, [], true, IfOk};
+ghost use Rattle.mm_types.specs.Shapes.{shape};
 ghost use Rattle.notice_chain.specs.View.{View};
 ghost use Rattle.repository.specs.Views.{command_view, outcome_view};
 ghost use Rattle.repository.specs.declared.command.Command.TheVariants.{Get};
@@ -18,6 +19,7 @@ use crate::turn::Turn;
 use adapters::Adapter;
 use link_store::LinkStore;
 use mm_types::{AdapterNo, FeatureNo, Node, Refused};
+use models::is_single;
 use repository::{Command, Failure, Reply, Repository};
 use script_lines::{Line, parse_line};
 use script_output::Output;
@@ -49,14 +51,15 @@ fn number_of<A>(command: &Command<A>) -> Option<AdapterNo>
     }
 }
 
-/// Reads a feature and prints its value from where it is kept. Errs where memory is refused for what is printed.
+/// Reads a feature of one value and prints it from where it is kept. Errs where memory is refused for what is printed.
 fn run_get<L: LinkStore, A: Adapter>(
     repository: &Repository<L, A>,
     output: &mut Output,
     node: Node,
     feature: FeatureNo,
 ) -> Result<Turn, AllocError>
-    requires { output.old ≡ [] }
+    requires empty { output.old ≡ [] }
+    requires single { (shape repository.now.model.metamodel feature).is_single ≡ true }
     ensures { (pool : PoolView)
         → IfOk result (λ t. RunsCommand (session repository.now pool) (Get node feature) (printed output.new t) (session repository.now pool)) }
 {
@@ -129,9 +132,8 @@ fn run_request<L: LinkStore, A: Adapter>(
         (printed output.new t) (session repository.new pool.new)) }
 {
     match request {
-        Request::Execute(Command::Get { node, feature }) => {
-            run_get(repository, output, node, feature)
-        }
+        Request::Execute(Command::Get { node, feature }) if is_single(repository.meta(), feature) =>
+            { run_get(repository, output, node, feature) }
         Request::Execute(command) => run_command(repository, pool, output, command),
         Request::Seen(no) => run_seen(repository, output, no),
         Request::Refuse(refused) => {

@@ -1,17 +1,23 @@
 //! Changes of objects, their values and their links.
-ghost use Rattle.std.specs.Prelude.{◌≡◌};
-ghost use Rattle.repository.specs.Answers.{answer_of, made_answer};
+ghost use Rattle.std.specs.Prelude.{◌≡◌, List, IfOk, IfErr};
+ghost use Rattle.mm_types.specs.Ends.{value_in};
+ghost use Rattle.mm_types.specs.declared.refused.Refused.TheVariants.{Memory};
+ghost use Rattle.notice_chain.specs.Listed.{Listed};
+ghost use Rattle.models.specs.Model.{reading};
+ghost use Rattle.models.specs.Reading.{at_end};
+ghost use Rattle.repository.specs.Answers.{answer_of};
 ghost use Rattle.repository.specs.Run.{Executed, change_outcome};
-ghost use Rattle.repository.specs.State.{reads};
 ghost use Rattle.repository.specs.Views.{changed_view, command_of};
 ghost use Rattle.repository.specs.declared.command.Command.TheVariants.{Create, Set, Unset};
+ghost use Rattle.repository.specs.declared.reply.Answer.TheVariants as answer;
 
 use super::Repository;
 use crate::reply::{Answer, Reply};
 use adapters::Adapter;
 use handshake::{Change, early_refusal, plan};
 use link_store::LinkStore;
-use mm_types::{ClassNo, FeatureNo, Node, ObjectNo, Refused, Seq, Value};
+use mm_types::{ClassNo, End, FeatureNo, Node, ObjectNo, Refused, Seq, Value};
+use models::{ModelRef, copied};
 
 impl<L: LinkStore, A: Adapter> Repository<L, A> {
     /// Makes an object of a class, each of whose attributes has its default (EMF: EFactory.create). Notifies nobody.
@@ -29,8 +35,10 @@ impl<L: LinkStore, A: Adapter> Repository<L, A> {
     /// SET, also where the value is the one that it had.
     ///
     /// Refused, the first that applies: `NoObject` where the node or the value is an object that does not live,
-    /// `NoResource`, `NoFeature`, `WrongType`, `TextLength` above 65,535 bytes, `Recursive` where an object would contain itself,
-    /// through however many others, `AdapterFull` where an adapter can't count the notices and its last one, `Memory`.
+    /// `NoResource`, `NoFeature`, `NotSingle` where the feature has a list, `WrongType`, `TextLength` above 65,535 bytes, `Bound` where the
+    /// opposite list has as many values as its upper bound, `Recursive` where an object would contain itself, through
+    /// however many others, `Limit` where the opposite list has 1,000,000 values, `AdapterFull` where an adapter can't count the notices
+    /// and its last one, `Memory`.
     pub fn e_set(
         &mut self,
         node: Node,
@@ -46,8 +54,9 @@ impl<L: LinkStore, A: Adapter> Repository<L, A> {
         })
     }
 
-    /// Takes a single feature of an object back to its default (EMF: EObject.eUnset), a reference to null, and its opposite with it.
-    /// Notifies the adapters at the opposite with SET, and those at the feature with UNSET, whether it was set or not.
+    /// Takes a feature of an object back to its default (EMF: EObject.eUnset), a reference to null, and its opposite with it; a list is
+    /// emptied. Notifies the adapters at each opposite, and those at the feature with UNSET, whether it was set or not, or
+    /// with one REMOVE for each value of a list, from the last to the first.
     ///
     /// Refused, the first that applies: `NoObject`, `NoResource`, `NoFeature`, `AdapterFull`, `Memory`.
     pub fn e_unset(&mut self, node: Node, feature: FeatureNo) -> Result<Reply<A>, Refused>
@@ -57,7 +66,7 @@ impl<L: LinkStore, A: Adapter> Repository<L, A> {
     }
 
     // Every change goes these steps; after the third nothing can fail.
-    fn change(&mut self, change: Change) -> Result<Reply<A>, Refused>
+    pub(super) fn change(&mut self, change: Change) -> Result<Reply<A>, Refused>
         ensures { Executed self.old (command_of change) (change_outcome (changed_view A.heard result)) self.new }
     {
         // Conditions that need no memory.
@@ -65,8 +74,11 @@ impl<L: LinkStore, A: Adapter> Repository<L, A> {
         if let Some(refused) = early_refusal(&model, &change) {
             return Err(refused);
         }
-        // The plan with its notices, or the refusal that planning finds. Where no adapter is attached no notice is made.
-        let made = self.made(&change);
+        // The answer, and the plan with its notices, or the refusal that planning finds. Where no adapter is attached no notice is made.
+        let answer = match answered(&model, &change) {
+            Ok(answer) => answer,
+            Err(refused) => return Err(refused),
+        };
         let is_heard = self.adapters.len() > 0;
         let planned = match plan(self.alloc, &model, change, is_heard) {
             Ok(planned) => planned,
@@ -89,29 +101,61 @@ impl<L: LinkStore, A: Adapter> Repository<L, A> {
         // The notices.
         let told = self.adapters.deliver(round);
         Ok(Reply {
-            answer: answer(made),
+            answer,
             told: Seq::from_vec(told),
             released: Seq::new(self.alloc),
         })
     }
+}
 
-    /// The object that a change makes, if it makes one.
-    fn made(&self, change: &Change) -> Option<ObjectNo>
-        ensures { made_answer result ≡ answer_of (reads self.now) self.now.adapters (command_of change.now) }
-    {
-        match change {
-            Change::Create(_) => Some(ObjectNo(self.values.next() as u32)),
-            Change::Set { .. } | Change::Unset { .. } => None,
-        }
+/// What a change answers that is not refused. Errs only with `Memory`.
+fn answered<L: LinkStore>(model: &ModelRef<L>, change: &Change) -> Result<Answer, Refused>
+    ensures ok { IfOk result (λ a. (rs : List Listed) → a ≡ answer_of (reading model.now) rs (command_of change.now)) }
+    ensures memory { IfErr result (λ r. r ≡ Memory) }
+{
+    model.is_legal();
+    match change {
+        Change::Create(_) => Ok(Answer::Object(ObjectNo(model.next() as u32))),
+        Change::Set { .. } | Change::Unset { .. } => Ok(Answer::Done),
+        Change::Add {
+            node,
+            feature,
+            value,
+            ..
+        } => Ok(Answer::Flag(!model.is_repeat(at_end(node, feature), value))),
+        Change::RemoveValue {
+            node,
+            feature,
+            value,
+        } => Ok(Answer::Flag(model.has(at_end(node, feature), value))),
+        Change::Remove {
+            node,
+            feature,
+            index,
+        } => value_answer(model, at_end(node, feature), *index),
+        Change::Move {
+            node,
+            feature,
+            from,
+            ..
+        } => value_answer(model, at_end(node, feature), *from),
     }
 }
 
-/// What a change answers that makes this object, or none.
-fn answer(made: Option<ObjectNo>) -> Answer
-    ensures { result ≡ made_answer made }
+// The value at a place of a list, as an answer. Errs only with `Memory`.
+fn value_answer<L: LinkStore>(model: &ModelRef<L>, end: End, index: u32) -> Result<Answer, Refused>
+    ensures ok { IfOk result (λ a. a ≡ answer.Value (value_in ((reading model.now).values end) index)) }
+    ensures memory { IfErr result (λ r. r ≡ Memory) }
 {
-    match made {
-        Some(object) => Answer::Object(object),
-        None => Answer::Done,
+    let value = copied(model.value_in(end, index))?;
+    Ok(Answer::Value(value))
+}
+
+fn at_end(node: &Node, feature: &FeatureNo) -> End
+    ensures { result ≡ at_end node.now feature.now }
+{
+    End {
+        node: *node,
+        feature: *feature,
     }
 }

@@ -27,6 +27,28 @@ impl<L: LinkStore, A: Adapter> Repository<L, A> {
                 value,
             } => outcome(self.e_set(node, feature, value)),
             Command::Unset { node, feature } => outcome(self.e_unset(node, feature)),
+            Command::Add {
+                node,
+                feature,
+                value,
+                index,
+            } => outcome(self.add(node, feature, value, index)),
+            Command::Remove {
+                node,
+                feature,
+                index,
+            } => outcome(self.remove(node, feature, index)),
+            Command::RemoveValue {
+                node,
+                feature,
+                value,
+            } => outcome(self.remove_value(node, feature, value)),
+            Command::Move {
+                node,
+                feature,
+                to,
+                from,
+            } => outcome(self.move_to(node, feature, to, from)),
             Command::Attach {
                 no,
                 target,

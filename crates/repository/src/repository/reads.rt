@@ -1,54 +1,68 @@
 //! Reads of objects and their values.
-ghost use Rattle.std.specs.Prelude.{◌≡◌, false, unwrap_or, ok_or, option_map, Ok, Err, IfOk, IfErr};
+ghost use Rattle.std.specs.Prelude.{◌≡◌, false, unwrap_or, ok_or, option_map, Ok, IfOk, IfErr};
 ghost use Rattle.handshake.specs.Plans.{is_memory_refusal};
-ghost use Rattle.mm_types.specs.declared.refused.Refused.TheVariants.{NoObject};
+ghost use Rattle.mm_types.specs.declared.refused.Refused.TheVariants.{Memory, NoObject};
 ghost use Rattle.mm_types.specs.declared.value.Value.TheVariants.{Null};
 ghost use Rattle.models.specs.Found.{found_value};
+ghost use Rattle.models.specs.Model.{reading};
+ghost use Rattle.repository.specs.Answers.{got_answer};
+ghost use Rattle.repository.specs.Reads.{IsValueRefusal};
 ghost use Rattle.repository.specs.Run.{Executed, read_outcome};
 ghost use Rattle.repository.specs.State.{reads};
 ghost use Rattle.repository.specs.declared.command.Command.TheVariants.{Class, Container, Contents, Get, IsSet};
 ghost use Rattle.repository.specs.declared.reply.Answer.TheVariants as answer;
 
 use super::Repository;
+use crate::reply::FeatureValue;
 use adapters::Adapter;
 use containment::{container, contents};
 use handshake::{feature_refusal, node_refusal};
 use link_store::LinkStore;
 use mm_types::{ClassNo, End, FeatureNo, Node, ObjectNo, Refused, Seq, Value};
-use models::{Found, copied};
+use models::{Found, ModelRef, copied, is_single};
+use std::alloc::Global;
 
 impl<L: LinkStore, A: Adapter> Repository<L, A> {
-    /// The value of a single feature of an object: what was set, or the default, or the object of a reference (EMF: EObject.eGet).
+    /// What a feature of an object has (EMF: EObject.eGet): one value, which was set, or the default, or the object of a reference; or the
+    /// values of a list.
     ///
     /// Refused, the first that applies: `NoObject`, `NoResource`, `NoFeature`, `Memory`.
     #[tactic(auto, using(crate::proofs::QuietLemmas::get_done))]
-    pub fn e_get(&self, node: Node, feature: FeatureNo) -> Result<Value, Refused>
-        ensures { Executed self.now (Get node feature) (read_outcome answer.Value result) self.now }
+    pub fn e_get(&self, node: Node, feature: FeatureNo) -> Result<FeatureValue, Refused>
+        ensures { Executed self.now (Get node feature) (read_outcome got_answer result) self.now }
     {
         let model = self.model();
         if let Some(refused) = feature_refusal(&model, node, feature) {
             return Err(refused);
         }
-        copied(model.value_at(End { node, feature }))
+        let end = End { node, feature };
+        if is_single(model.meta(), feature) {
+            let value = copied(model.value_at(end))?;
+            return Ok(FeatureValue::One(value));
+        }
+        let values = list_at(self.alloc, &model, end)?;
+        Ok(FeatureValue::Many(values))
     }
 
-    /// The value that `e_get` answers, where it is kept; `None` stands for null. Takes no memory.
+    /// The value that `e_get` answers of a feature of one value, where it is kept; `None` stands for null. Takes no memory.
     ///
-    /// Refused, the first that applies: `NoObject`, `NoResource`, `NoFeature`.
+    /// Refused, the first that applies: `NoObject`, `NoResource`, `NoFeature`, `NotSingle` where the feature has a list.
     #[tactic(auto, using(crate::proofs::QuietLemmas::get_done))]
     pub fn value(&self, node: Node, feature: FeatureNo) -> Result<Option<Found<'_>>, Refused>
         ensures ok { IfOk result (λ v. Executed self.now (Get node feature) (read_outcome answer.Value (Ok (unwrap_or (option_map found_value v) Null))) self.now) }
-        ensures err { IfErr result (λ r. Executed self.now (Get node feature) (read_outcome answer.Value (Err r)) self.now) }
-        ensures kind { IfErr result (λ r. is_memory_refusal r ≡ false) }
+        ensures err { IfErr result (λ r. IsValueRefusal self.now node feature r) }
     {
         let model = self.model();
         if let Some(refused) = feature_refusal(&model, node, feature) {
             return Err(refused);
+        }
+        if !is_single(model.meta(), feature) {
+            return Err(Refused::NotSingle);
         }
         Ok(model.value_at(End { node, feature }))
     }
 
-    /// Whether a single feature of an object is set (EMF: EObject.eIsSet): an unsettable one where `e_set` was the
+    /// Whether a feature of an object is set (EMF: EObject.eIsSet): a list where it has values, an unsettable feature where `e_set` was the
     /// last to change it, another where its value differs from its default. Takes no memory.
     ///
     /// Refused, the first that applies: `NoObject`, `NoResource`, `NoFeature`.
@@ -107,4 +121,23 @@ impl<L: LinkStore, A: Adapter> Repository<L, A> {
             None => Err(Refused::NoObject),
         }
     }
+}
+
+// A copy of the values that stand at an end. Errs only with `Memory`.
+fn list_at<L: LinkStore>(
+    alloc: Global,
+    model: &ModelRef<L>,
+    end: End,
+) -> Result<Seq<Value>, Refused>
+    ensures ok { IfOk result (λ vs. vs ≡ (reading model.now).values end) }
+    ensures memory { IfErr result (λ r. r ≡ Memory) }
+{
+    let len = model.len(end);
+    let Ok(mut values) = Vec::with_capacity(alloc, len as usize) else {
+        return Err(Refused::Memory);
+    };
+    for index in 0..len {
+        values.push_reserved(copied(model.value_in(end, index))?);
+    }
+    Ok(Seq::from_vec(values))
 }

@@ -1,7 +1,5 @@
-use Rattle.std.proofs.Common.{subst, All}
 use Rattle.models.specs.Model.{reading}
-use Rattle.handshake.specs.Telling.{IsOfSingle, notice_at}
-use Rattle.std.proofs.lemmas.List.Elements.{All-tail}
+use Rattle.handshake.specs.Telling.{notice_at}
 use Rattle.handshake.proofs.TellingLemmas.{made-step}
 use Rattle.handshake.proofs.chain.notices.Goals as goal
 
@@ -12,6 +10,5 @@ loop-telling-preserved g c =
     let steps = c.in-Some.ensures.steps.0 in (
       tt,
       tt,
-      All-tail (IsOfSingle r.metamodel) c.in-Some.telling _ (subst (All (IsOfSingle r.metamodel)) steps c.loop-telling.invariant.2),
-      made-step (notice_at r) _ _ c.in-Some.telling _ _ _ steps c.in_ok-push_notice.ensures.ok c.loop-telling.invariant.3,
+      made-step (notice_at r) _ _ c.in-Some.telling _ _ _ steps c.in_ok-push_notice.ensures.ok c.loop-telling.invariant.2,
     )

@@ -20,4 +20,4 @@ returns-after-words c =
 pub returns-else-not-is_full : goal.returns-else-not-is_full
 returns-else-not-is_full c =
     first_found (map (λ w. w.now) c.words.found.items) c.words.rest.now _ c.words.invariant.0 (simp length-map c.words.invariant.1)
-    (λ low. let few : length c.words.found.items < 5 = rw length-map at low in search rules)
+    (λ low. let few : length c.words.found.items < 6 = rw length-map at low in search rules)

@@ -7,7 +7,7 @@ use Rattle.script_lines.proofs.words.words_of.Given as goal
 abbrev pub invariant-words : goal.invariant-words
 invariant-words l =
     (map (λ w. w.now) l.found.items ++ words_after 0 l.rest ≡ words_after 0 l.line)
-    × (length l.found.items ≤ 5)
+    × (length l.found.items ≤ 6)
     × shadow (Utf8 l.rest)
 
 abbrev pub decreases-words : goal.decreases-words

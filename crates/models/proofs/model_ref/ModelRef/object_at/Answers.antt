@@ -1,13 +1,6 @@
-use Rattle.std.proofs.Common.{rules, sym, subst, ◌≡◌, true, length, option_map, option_to_list, unwrap_or, ℕ, ◌+◌, ◌-◌, ◌*◌, ◌<◌, ◌≤◌, ◌/◌, ◌%◌, Bool, false, nat_eq, nat_lt, List, [], ◌∷◌, ◌++◌, slice_index_or, slice_set, bit_and, bit_or, Fits, w8, w32, w64, Bor, MutBor}
+use Rattle.std.proofs.Common.{sym, subst, ◌≡◌, true}
 use Rattle.mm_types.specs.Shapes.{shape}
-use Rattle.mm_types.specs.declared.value.Value.TheVariants as value
-use Rattle.mm_types.specs.declared.value.Value.TheVariants.{Null}
-use Rattle.mm_values.specs.Room.{values_of}
-use Rattle.link_store.specs.Holders.{HasNoCycle}
-use Rattle.link_store.specs.LegalSets.{IsLegalSet}
-use Rattle.models.specs.Legal.{IsLegal}
-use Rattle.models.specs.Model.{Model, model_of, reading}
-use Rattle.models.specs.Reading as r
+use Rattle.models.specs.Model.{Model}
 use Rattle.models.proofs.EndLemmas.{value_at-object, values-single}
 use Rattle.models.proofs.model_ref.ModelRef.object_at.Goals as goal
 

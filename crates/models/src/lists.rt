@@ -1,0 +1,191 @@
+//! What stands at the places of ends.
+ghost use Rattle.std.specs.Prelude.{◌≡◌, ◌&&◌, false, true, Some, length, option_map, option_copied, slice_get, unwrap_or};
+ghost use Rattle.mm_types.specs.Ends.{first_in, has_value};
+ghost use Rattle.mm_types.specs.Same.{is_nil};
+ghost use Rattle.mm_types.specs.Shapes.{shape};
+ghost use Rattle.mm_types.specs.declared.value.Value.TheVariants as value;
+ghost use Rattle.mm_values.specs.Room.{values_of};
+ghost use Rattle.models.specs.Found.{found_value};
+ghost use Rattle.models.specs.Model.{attribute_values, kept_values, reading};
+ghost use Rattle.models.specs.Reading as r;
+
+use crate::features::{is_reference, is_single, is_unique};
+use crate::model_ref::ModelRef;
+use crate::reads::{Found, found_kept, found_object, kept_at, kept_len};
+use link_store::LinkStore;
+use mm_meta::Meta;
+use mm_types::{End, FeatureNo, Node, ObjectNo, Value};
+use mm_values::Values;
+
+impl<'a, L: LinkStore> ModelRef<'a, L> {
+    /// How many values stand at an end.
+    pub fn len(&self, end: End) -> u32
+        ensures { result ≡ length ((reading self.now).values end) }
+    {
+        self.is_legal();
+        if is_reference(self.meta(), end.feature) {
+            return self.store().len(end) as u32;
+        }
+        attribute_len(self.meta(), self.values(), end) as u32
+    }
+
+    /// What stands at a place of an end; `None` past the last.
+    pub fn value_in(&self, end: End, index: u32) -> Option<Found<'a>>
+        ensures { option_map found_value result ≡ slice_get ((reading self.now).values end) index }
+    {
+        self.is_legal();
+        if is_reference(self.meta(), end.feature) {
+            return found_object(self.store().at(end, index));
+        }
+        let (meta, values) = (self.meta(), self.values());
+        found_kept(attribute_value_in(meta, values, end, index as usize))
+    }
+
+    /// The object at a place of a reference; `None` past the last.
+    pub fn object_in(&self, end: End, index: u32) -> Option<ObjectNo>
+        requires reference { (shape self.now.metamodel end.feature).is_reference ≡ true }
+        ensures { option_map value.Object result ≡ slice_get ((reading self.now).values end) index }
+    {
+        self.is_legal();
+        self.store().at(end, index)
+    }
+
+    /// Where a value first stands at an end; `None` where it does not.
+    pub fn position(&self, end: End, value: &Value) -> Option<u32>
+        ensures { result ≡ first_in ((reading self.now).values end) value.now }
+    {
+        self.is_legal();
+        if is_reference(self.meta(), end.feature) {
+            return match value {
+                Value::Object(object) => self.store().position(end, *object),
+                _ => None,
+            };
+        }
+        let index = attribute_position(self.meta(), self.values(), end, value)?;
+        Some(index as u32)
+    }
+
+    /// Whether a value stands at an end.
+    pub fn has(&self, end: End, value: &Value) -> bool
+        ensures { result ≡ has_value ((reading self.now).values end) value.now }
+    {
+        if is_reference(self.meta(), end.feature) {
+            return self.position(end, value).is_some();
+        }
+        attribute_has(self.meta(), self.values(), end, value)
+    }
+
+    /// Whether a value is one that a unique list has already.
+    pub fn is_repeat(&self, end: End, value: &Value) -> bool
+        ensures { result ≡ r.is_repeat (reading self.now) end value.now }
+    {
+        is_unique(self.meta(), end.feature) && self.has(end, value)
+    }
+
+    /// The place that is named at an end, and else the one behind the last value.
+    pub fn place_for(&self, end: End, index: Option<u32>) -> u32
+        ensures { result ≡ r.place_for (reading self.now) end index }
+    {
+        match index {
+            Some(index) => index,
+            None => self.len(end),
+        }
+    }
+}
+
+// Whether an attribute has its default: a single one that keeps nothing.
+fn has_default(meta: &Meta, values: &Values, end: End) -> bool
+    ensures { result ≡ (is_nil (kept_values (values_of values.now) end.node end.feature) && (shape meta.now end.feature).is_single) }
+{
+    kept_len(values, end) == 0 && is_single(meta, end.feature)
+}
+
+// The default of an attribute.
+fn default_of(meta: &Meta, feature: FeatureNo) -> Option<&Value>
+    requires attribute { (shape meta.now feature).is_reference ≡ false }
+    ensures { option_copied result ≡ Some (shape meta.now feature).default }
+{
+    meta.default(feature)
+}
+
+// How many values an attribute has.
+#[tactic(auto, using(crate::proofs::ReadLemmas::attribute_values_by))]
+fn attribute_len(meta: &Meta, values: &Values, end: End) -> usize
+    ensures { result ≡ length (attribute_values (shape meta.now end.feature) (kept_values (values_of values.now) end.node end.feature)) }
+{
+    if has_default(meta, values, end) {
+        return 1;
+    }
+    kept_len(values, end)
+}
+
+// What an attribute has at a place.
+#[tactic(auto, using(crate::proofs::ReadLemmas::attribute_values_by))]
+fn attribute_value_in<'a>(
+    meta: &'a Meta,
+    values: &'a Values,
+    end: End,
+    index: usize,
+) -> Option<&'a Value>
+    requires attribute { (shape meta.now end.feature).is_reference ≡ false }
+    ensures { option_copied result ≡ slice_get (attribute_values (shape meta.now end.feature) (kept_values (values_of values.now) end.node end.feature)) index }
+{
+    if has_default(meta, values, end) {
+        return match index {
+            0 => default_of(meta, end.feature),
+            _ => None,
+        };
+    }
+    kept_at(values, end, index)
+}
+
+// Where an attribute has a value first.
+#[tactic(auto, using(crate::proofs::ReadLemmas::attribute_values_by))]
+fn attribute_position(meta: &Meta, values: &Values, end: End, value: &Value) -> Option<usize>
+    requires attribute { (shape meta.now end.feature).is_reference ≡ false }
+    ensures { result ≡ first_in (attribute_values (shape meta.now end.feature) (kept_values (values_of values.now) end.node end.feature)) value.now }
+{
+    if has_default(meta, values, end) {
+        return match default_of(meta, end.feature) {
+            Some(default) if value == default => Some(0),
+            _ => None,
+        };
+    }
+    kept_position(values, end, value)
+}
+
+// Whether an attribute has a value.
+#[tactic(auto, using(crate::proofs::ReadLemmas::attribute_values_by))]
+fn attribute_has(meta: &Meta, values: &Values, end: End, value: &Value) -> bool
+    requires attribute { (shape meta.now end.feature).is_reference ≡ false }
+    ensures { result ≡ has_value (attribute_values (shape meta.now end.feature) (kept_values (values_of values.now) end.node end.feature)) value.now }
+{
+    if has_default(meta, values, end) {
+        return match default_of(meta, end.feature) {
+            Some(default) => value == default,
+            None => false,
+        };
+    }
+    kept_has(values, end, value)
+}
+
+// Where a node keeps a value first under an attribute.
+#[tactic(auto, using(crate::proofs::PlaceLemmas::first_in_position))]
+fn kept_position(values: &Values, end: End, value: &Value) -> Option<usize>
+    ensures { result ≡ first_in (kept_values (values_of values.now) end.node end.feature) value.now }
+{
+    match end.node {
+        Node::Object(object) => values.position(object, end.feature, value),
+        Node::Resource(_) => None,
+    }
+}
+
+// Whether a node keeps a value under an attribute.
+fn kept_has(values: &Values, end: End, value: &Value) -> bool
+    ensures { result ≡ has_value (kept_values (values_of values.now) end.node end.feature) value.now }
+{
+    match end.node {
+        Node::Object(object) => values.has(object, end.feature, value).unwrap_or(false),
+        Node::Resource(_) => false,
+    }
+}

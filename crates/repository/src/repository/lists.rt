@@ -1,0 +1,102 @@
+//! Changes of the lists of objects.
+ghost use Rattle.repository.specs.Run.{Executed, change_outcome};
+ghost use Rattle.repository.specs.Views.{changed_view};
+ghost use Rattle.repository.specs.declared.command.Command.TheVariants as command;
+
+use super::Repository;
+use crate::reply::Reply;
+use adapters::Adapter;
+use handshake::Change;
+use link_store::LinkStore;
+use mm_types::{FeatureNo, Node, Refused, Value};
+
+impl<L: LinkStore, A: Adapter> Repository<L, A> {
+    /// Adds a value to a list, before the one at an index, or at the end (EMF: EList.add). A reference's opposite follows, what the new
+    /// link displaces is cut at both ends, and an object that is put into a container leaves the one that it was in. Answers whether the
+    /// list changed: at the end a value that a unique list has already changes and tells nothing. Notifies as `e_set` does, at the
+    /// feature itself with ADD.
+    ///
+    /// Refused, the first that applies: `NoObject` where the node or the value is an object that does not live, `NoResource`,
+    /// `NoFeature`, `NotMany` where the feature has one value, `WrongType`, `TextLength` above 65,535 bytes, `Index` above the length,
+    /// `Duplicate` where a unique list has the value that is to stand at an index, `Bound` where the list, or the opposite one, has as many values
+    /// as its upper bound, `Recursive` where an object would contain itself, `Limit` where one of the two has 1,000,000 values,
+    /// `AdapterFull`, `Memory`.
+    pub fn add(
+        &mut self,
+        node: Node,
+        feature: FeatureNo,
+        value: Value,
+        index: Option<u32>,
+    ) -> Result<Reply<A>, Refused>
+        ensures { Executed self.old (command.Add node feature value index) (change_outcome (changed_view A.heard result)) self.new }
+    {
+        self.change(Change::Add {
+            node,
+            feature,
+            value,
+            index,
+        })
+    }
+
+    /// Takes the value at an index out of a list, and answers it (EMF: EList.remove). A link is cut at both ends. Notifies the adapters at
+    /// the opposite, and those at the list with REMOVE.
+    ///
+    /// Refused, the first that applies: `NoObject`, `NoResource`, `NoFeature`, `NotMany`, `Index` where nothing stands there,
+    /// `AdapterFull`, `Memory`.
+    pub fn remove(
+        &mut self,
+        node: Node,
+        feature: FeatureNo,
+        index: u32,
+    ) -> Result<Reply<A>, Refused>
+        ensures { Executed self.old (command.Remove node feature index) (change_outcome (changed_view A.heard result)) self.new }
+    {
+        self.change(Change::Remove {
+            node,
+            feature,
+            index,
+        })
+    }
+
+    /// Takes a value out of a list where it first stands, and answers whether it stood there (EMF: EList.remove). Where it did not, nothing
+    /// changes and nobody is notified. Notifies as `remove` does.
+    ///
+    /// Refused, the first that applies: `NoObject` where the node or the value is an object that does not live, `NoResource`,
+    /// `NoFeature`, `NotMany`, `WrongType`, `TextLength`, `AdapterFull`, `Memory`.
+    pub fn remove_value(
+        &mut self,
+        node: Node,
+        feature: FeatureNo,
+        value: Value,
+    ) -> Result<Reply<A>, Refused>
+        ensures { Executed self.old (command.RemoveValue node feature value) (change_outcome (changed_view A.heard result)) self.new }
+    {
+        self.change(Change::RemoveValue {
+            node,
+            feature,
+            value,
+        })
+    }
+
+    /// Moves the value at `from` of a list, so that it then stands at `to`, and answers it (EMF: EList.move). Notifies the adapters at the
+    /// list with MOVE, also where both places are the same; the opposite ends stay as they are.
+    ///
+    /// Refused, the first that applies: `NoObject`, `NoResource`, `NoFeature`, `NotMany`, `Index` where nothing stands at one of the
+    /// two places, `AdapterFull`, `Memory`.
+    pub fn move_to(
+        &mut self,
+        node: Node,
+        feature: FeatureNo,
+        to: u32,
+        from: u32,
+    ) -> Result<Reply<A>, Refused>
+        ensures { Executed self.old (command.Move node feature to from) (change_outcome (changed_view A.heard result)) self.new }
+    {
+        self.change(Change::Move {
+            node,
+            feature,
+            to,
+            from,
+        })
+    }
+}

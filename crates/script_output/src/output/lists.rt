@@ -1,0 +1,76 @@
+//! What is printed of the list of a feature.
+ghost use Rattle.std.specs.Prelude.{◌≡◌, ◌++◌, OnErr, OnOk};
+ghost use Rattle.std.specs.Io.{StartsWith};
+ghost use Rattle.script_output.specs.Printed.{feature_value_text, list_text, spaced_values};
+
+use super::Output;
+use crate::names::literal_name;
+use mm_meta::Meta;
+use mm_types::{FeatureNo, Value};
+use script_lines::grammar::SPACE;
+use std::alloc::AllocError;
+
+impl Output {
+    /// Adds the values of a feature: `["a" "b"]`, `[:NOVEL]`, `[#1 #2]`, or `[]` where there are none.
+    pub fn values(
+        &mut self,
+        meta: &Meta,
+        feature: FeatureNo,
+        values: &[Value],
+    ) -> Result<(), AllocError>
+        ensures ok { OnOk result (self.new ≡ self.old ++ list_text meta.now feature values.now) }
+        ensures err { OnErr result (self.new ≡ self.old) }
+    {
+        let start = self.bytes.len();
+        let added = self.list_parts(meta, feature, values);
+        self.whole(start, added)
+    }
+
+    fn list_parts(
+        &mut self,
+        meta: &Meta,
+        feature: FeatureNo,
+        values: &[Value],
+    ) -> Result<(), AllocError>
+        ensures ok { OnOk result (self.new ≡ self.old ++ list_text meta.now feature values.now) }
+        ensures err { OnErr result (StartsWith self.new self.old) }
+    {
+        match values {
+            [] => self.text("[]"),
+            [first, others @ ..] => {
+                self.text("[")?;
+                self.feature_value(meta, feature, first)?;
+                self.spaced_values(meta, feature, others)?;
+                self.text("]")
+            }
+        }
+    }
+
+    fn spaced_values(
+        &mut self,
+        meta: &Meta,
+        feature: FeatureNo,
+        values: &[Value],
+    ) -> Result<(), AllocError>
+        ensures ok { OnOk result (self.new ≡ self.old ++ spaced_values meta.now feature values.now) }
+        ensures err { OnErr result (StartsWith self.new self.old) }
+    {
+        for value in values {
+            self.byte(SPACE)?;
+            self.feature_value(meta, feature, value)?;
+        }
+        Ok(())
+    }
+
+    fn feature_value(
+        &mut self,
+        meta: &Meta,
+        feature: FeatureNo,
+        value: &Value,
+    ) -> Result<(), AllocError>
+        ensures ok { OnOk result (self.new ≡ self.old ++ feature_value_text meta.now feature value.now) }
+        ensures err { OnErr result (self.new ≡ self.old) }
+    {
+        self.value(value, literal_name(meta, feature, value))
+    }
+}
