@@ -9,16 +9,19 @@ use repository::Repository;
 use std::alloc::{AllocError, Global};
 use std::test::Fail;
 
-/// Books with a name and a number of pages.
+/// Books with a name, a number of pages, and tags, of which none is repeated.
 const BOOKS: &str = r#"{"classes":[{"name":"Book","features":[
 {"name":"name","kind":"attribute","type":"EString"},
-{"name":"pages","kind":"attribute","type":"EInt","default":"100"}]}]}"#;
+{"name":"pages","kind":"attribute","type":"EInt","default":"100"},
+{"name":"tags","kind":"attribute","type":"EString","upper":-1}]}]}"#;
 
 pub(crate) const BOOK: ClassNo = ClassNo(0);
 
 pub(crate) const NAME: FeatureNo = FeatureNo(0);
 
 pub(crate) const PAGES: FeatureNo = FeatureNo(1);
+
+pub(crate) const TAGS: FeatureNo = FeatureNo(2);
 
 /// A repository that keeps its links in rows.
 pub(crate) type RowRepository<A> = Repository<RowStore, A>;

@@ -11,6 +11,8 @@ mod attached;
 #[cfg(test)]
 mod books;
 #[cfg(test)]
+mod boxes;
+#[cfg(test)]
 mod caller;
 #[cfg(test)]
 mod calls;
@@ -25,6 +27,8 @@ mod latest;
 #[cfg(test)]
 mod links;
 #[cfg(test)]
+mod list_calls;
+#[cfg(test)]
 mod memory;
 #[cfg(test)]
 mod memory_adapters;
@@ -33,6 +37,10 @@ mod memory_links;
 #[cfg(test)]
 mod memory_lists;
 #[cfg(test)]
+mod memory_parts;
+#[cfg(test)]
+mod memory_values;
+#[cfg(test)]
 mod notices;
 #[cfg(test)]
 mod notified;
@@ -40,6 +48,8 @@ mod notified;
 mod poor;
 #[cfg(test)]
 mod refused_adapters;
+#[cfg(test)]
+mod refused_edits;
 #[cfg(test)]
 mod replies;
 #[cfg(test)]
@@ -50,3 +60,5 @@ mod stored_values;
 mod tally;
 #[cfg(test)]
 mod telling;
+#[cfg(test)]
+mod unique_lists;

@@ -2,11 +2,11 @@
 //!
 //! These tests are for runs in which the n-th allocation is refused, for every n, and pass in each of them: one is
 //! refused, so what finds no memory is asked for once more.
-use crate::books::{BOOK, NAME, PAGES, RowRepository, object, repository, text};
-use crate::replies::reply_text;
+use crate::books::{BOOK, NAME, PAGES, RowRepository, TAGS, object, repository, text};
+use crate::replies::{got, quiet, reply_text};
 use adapters::{Adapter, Counter};
-use mm_types::{AdapterNo, FeatureNo, MetaFault, ObjectNo, Refused, Seq, Value};
-use repository::{Answer, Command, Reply};
+use mm_types::{AdapterNo, FeatureNo, MetaFault, ObjectNo, Refused, Value};
+use repository::{Command, FeatureValue, Reply};
 use std::alloc::{AllocError, Global};
 use std::fmt::Debug;
 use std::process::Abort;
@@ -36,9 +36,12 @@ pub(crate) fn shown<T: Debug>(alloc: Global, value: &T) -> Result<String, AllocE
     }
 }
 
-fn read<A: Adapter>(repository: &RowRepository<A>, feature: FeatureNo) -> Result<Value, Refused> {
+fn read<A: Adapter>(
+    repository: &RowRepository<A>,
+    feature: FeatureNo,
+) -> Result<FeatureValue, Refused> {
     match repository.e_get(object(0), feature) {
-        Ok(value) => Ok(value),
+        Ok(found) => Ok(found),
         Err(_) => repository.e_get(object(0), feature),
     }
 }
@@ -51,18 +54,19 @@ fn counts<A: Adapter>(repository: &RowRepository<A>) -> [Option<u64>; 2] {
     ]
 }
 
-/// What reads say of the first object, its name, its pages and whether it is named, of the place of a second, and of what
-/// the adapter has heard.
+/// What reads say of the first object, its name, its pages, its tags and whether it is named, of the place of a second, and of
+/// what the adapter has heard.
 pub(crate) fn state<A: Adapter>(
     alloc: Global,
     repository: &RowRepository<A>,
 ) -> Result<String, AllocError> {
     let name = read(repository, NAME);
     let pages = read(repository, PAGES);
+    let tags = read(repository, TAGS);
     let is_named = repository.e_is_set(object(0), NAME);
     let next = repository.e_class(ObjectNo(1));
     let heard = counts(repository);
-    shown(alloc, &(name, pages, is_named, next, heard))
+    shown(alloc, &(name, pages, tags, is_named, next, heard))
 }
 
 /// Fails unless a call was refused memory and what is read after it is what was read before.
@@ -85,7 +89,7 @@ pub(crate) enum Call {
 }
 
 /// A command by its place in the list: an object is made, named, read, asked whether it is named, unset and asked for
-/// its class.
+/// its class; the later ones concern its tags.
 pub(crate) fn command<A: Adapter>(alloc: Global, at: u32) -> Result<Command<A>, AllocError> {
     let (node, feature) = (object(0), NAME);
     Ok(match at {
@@ -98,8 +102,46 @@ pub(crate) fn command<A: Adapter>(alloc: Global, at: u32) -> Result<Command<A>, 
         2 => Command::Get { node, feature },
         3 => Command::IsSet { node, feature },
         4 => Command::Unset { node, feature },
-        _ => Command::Class(ObjectNo(0)),
+        5 => Command::Class(ObjectNo(0)),
+        _ => tags_command(alloc, at)?,
     })
+}
+
+/// A command that concerns tags by its place in the list: Emma is added at the end, and Anna at the front; the tag at the end is
+/// moved to the front; the tags are read; the second is taken out; Emma is taken out; all are.
+fn tags_command<A: Adapter>(alloc: Global, at: u32) -> Result<Command<A>, AllocError> {
+    let (node, feature) = (object(0), TAGS);
+    Ok(match at {
+        6 => add_command(emma(alloc)?, None),
+        7 => add_command(text(alloc, "Anna")?, Some(0)),
+        8 => Command::Move {
+            node,
+            feature,
+            to: 0,
+            from: 1,
+        },
+        9 => Command::Get { node, feature },
+        10 => Command::Remove {
+            node,
+            feature,
+            index: 1,
+        },
+        11 => Command::RemoveValue {
+            node,
+            feature,
+            value: emma(alloc)?,
+        },
+        _ => Command::Unset { node, feature },
+    })
+}
+
+fn add_command<A: Adapter>(value: Value, index: Option<u32>) -> Command<A> {
+    Command::Add {
+        node: object(0),
+        feature: TAGS,
+        value,
+        index,
+    }
 }
 
 fn execute<A: Adapter>(
@@ -131,11 +173,7 @@ fn read_name<A: Adapter>(
     repository: &RowRepository<A>,
 ) -> Result<Reply<A>, Refused> {
     match repository.e_get(object(0), NAME) {
-        Ok(name) => Ok(Reply {
-            answer: Answer::Value(name),
-            told: Seq::new(alloc),
-            released: Seq::new(alloc),
-        }),
+        Ok(name) => Ok(quiet(alloc, got(name))),
         Err(refused) => Err(refused),
     }
 }
@@ -197,9 +235,11 @@ pub(crate) fn check_calls<A: Adapter>(
     Ok(())
 }
 
-const NAMED: &str = "(Ok(Text(\"Emma\")), Ok(Int(100)), Ok(true), Err(NoObject), [None, None])";
+const NAMED: &str =
+    "(Ok(One(Text(\"Emma\"))), Ok(One(Int(100))), Ok(Many(Seq { items: [] })), Ok(true), Err(NoObject), [None, None])";
 
-const UNNAMED: &str = "(Ok(Null), Ok(Int(100)), Ok(false), Err(NoObject), [None, None])";
+const UNNAMED: &str =
+    "(Ok(One(Null)), Ok(One(Int(100))), Ok(Many(Seq { items: [] })), Ok(false), Err(NoObject), [None, None])";
 
 const CALLS: [(Call, &str, &str); 4] = [
     (Call::Create, "Object(ObjectNo(0))", UNNAMED),
@@ -227,4 +267,39 @@ const COMMANDS: [(Call, &str, &str); 6] = [
 fn a_refused_command_changes_nothing(rt: HostRuntime) -> Result<(), Fail> {
     let mut repository: Box<RowRepository<Counter>> = books(rt.alloc())?;
     check_calls(&rt, rt.alloc(), &mut repository, COMMANDS.as_slice())
+}
+
+/// What is read where the one tag is Emma.
+const EMMA: &str =
+    "(Ok(One(Null)), Ok(One(Int(100))), Ok(Many(Seq { items: [Text(\"Emma\")] })), Ok(false), Err(NoObject), [None, None])";
+
+/// What is read where Anna stands before her.
+const ANNA_EMMA: &str =
+    "(Ok(One(Null)), Ok(One(Int(100))), Ok(Many(Seq { items: [Text(\"Anna\"), Text(\"Emma\")] })), Ok(false), Err(NoObject), [None, None])";
+
+/// What is read where Anna stands behind her.
+const EMMA_ANNA: &str =
+    "(Ok(One(Null)), Ok(One(Int(100))), Ok(Many(Seq { items: [Text(\"Emma\"), Text(\"Anna\")] })), Ok(false), Err(NoObject), [None, None])";
+
+const EDITS: [(Call, &str, &str); 10] = [
+    (Call::Create, "Object(ObjectNo(0))", UNNAMED),
+    (Call::Command(6), "Flag(true)", EMMA),
+    (Call::Command(7), "Flag(true)", ANNA_EMMA),
+    (Call::Command(8), "Value(Text(\"Emma\"))", EMMA_ANNA),
+    (
+        Call::Command(9),
+        "Values(Seq { items: [Text(\"Emma\"), Text(\"Anna\")] })",
+        EMMA_ANNA,
+    ),
+    (Call::Command(10), "Value(Text(\"Anna\"))", EMMA),
+    (Call::Command(6), "Flag(false)", EMMA),
+    (Call::Command(11), "Flag(true)", UNNAMED),
+    (Call::Command(11), "Flag(false)", UNNAMED),
+    (Call::Command(12), "Done", UNNAMED),
+];
+
+#[test]
+fn a_refused_edit_of_a_list_changes_nothing(rt: HostRuntime) -> Result<(), Fail> {
+    let mut repository: Box<RowRepository<Counter>> = books(rt.alloc())?;
+    check_calls(&rt, rt.alloc(), &mut repository, EDITS.as_slice())
 }

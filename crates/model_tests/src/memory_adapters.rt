@@ -54,21 +54,22 @@ fn attached<A: Adapter>(
 const MADE: (Call, &str, &str) = (
     Call::Create,
     "Object(ObjectNo(0))",
-    "(Ok(Null), Ok(Int(100)), Ok(false), Err(NoObject), [None, None])",
+    "(Ok(One(Null)), Ok(One(Int(100))), Ok(Many(Seq { items: [] })), Ok(false), Err(NoObject), [None, None])",
 );
 
-const ATTACHED: &str = "(Ok(Null), Ok(Int(100)), Ok(false), Err(NoObject), [Some(0), Some(0)])";
+const ATTACHED: &str =
+    "(Ok(One(Null)), Ok(One(Int(100))), Ok(Many(Seq { items: [] })), Ok(false), Err(NoObject), [Some(0), Some(0)])";
 
 const NAMED: (Call, &str, &str) = (
     Call::Set,
     "Done; A5 SET Null Text(\"Emma\") -1 false",
-    "(Ok(Text(\"Emma\")), Ok(Int(100)), Ok(true), Err(NoObject), [Some(1), Some(1)])",
+    "(Ok(One(Text(\"Emma\"))), Ok(One(Int(100))), Ok(Many(Seq { items: [] })), Ok(true), Err(NoObject), [Some(1), Some(1)])",
 );
 
 const DETACHED: (Call, &str, &str) = (
     Call::Detach,
     "Done; A5 REMOVING_ADAPTER Adapter(AdapterNo(5)) Null 0 false; A5 back, 2 told, SET -1, REMOVING_ADAPTER 0",
-    "(Ok(Text(\"Emma\")), Ok(Int(100)), Ok(true), Err(NoObject), [None, None])",
+    "(Ok(One(Text(\"Emma\"))), Ok(One(Int(100))), Ok(Many(Seq { items: [] })), Ok(true), Err(NoObject), [None, None])",
 );
 
 #[test]
@@ -81,4 +82,58 @@ fn a_refused_call_notifies_nobody(rt: HostRuntime) -> Result<(), Fail> {
     let found = state(alloc, &repository)?;
     assert_eq!(rt; found.as_str(), ATTACHED);
     check_calls(&rt, alloc, &mut repository, &[NAMED, DETACHED])
+}
+
+/// Edits of the tags, and what is read after each.
+const EDITS: [(Call, &str, &str); 8] = [
+    (
+        Call::Command(6),
+        "Flag(true); A5 ADD Null Text(\"Emma\") 0 false",
+        "(Ok(One(Null)), Ok(One(Int(100))), Ok(Many(Seq { items: [Text(\"Emma\")] })), Ok(false), Err(NoObject), [Some(1), Some(1)])",
+    ),
+    (
+        Call::Command(7),
+        "Flag(true); A5 ADD Null Text(\"Anna\") 0 true",
+        "(Ok(One(Null)), Ok(One(Int(100))), Ok(Many(Seq { items: [Text(\"Anna\"), Text(\"Emma\")] })), Ok(false), Err(NoObject), [Some(2), Some(2)])",
+    ),
+    (
+        Call::Command(8),
+        "Value(Text(\"Emma\")); A5 MOVE Int(1) Text(\"Emma\") 0 true",
+        "(Ok(One(Null)), Ok(One(Int(100))), Ok(Many(Seq { items: [Text(\"Emma\"), Text(\"Anna\")] })), Ok(false), Err(NoObject), [Some(3), Some(3)])",
+    ),
+    (
+        Call::Command(10),
+        "Value(Text(\"Anna\")); A5 REMOVE Text(\"Anna\") Null 1 true",
+        "(Ok(One(Null)), Ok(One(Int(100))), Ok(Many(Seq { items: [Text(\"Emma\")] })), Ok(false), Err(NoObject), [Some(4), Some(4)])",
+    ),
+    (
+        Call::Command(6),
+        "Flag(false)",
+        "(Ok(One(Null)), Ok(One(Int(100))), Ok(Many(Seq { items: [Text(\"Emma\")] })), Ok(false), Err(NoObject), [Some(4), Some(4)])",
+    ),
+    (
+        Call::Command(7),
+        "Flag(true); A5 ADD Null Text(\"Anna\") 0 true",
+        "(Ok(One(Null)), Ok(One(Int(100))), Ok(Many(Seq { items: [Text(\"Anna\"), Text(\"Emma\")] })), Ok(false), Err(NoObject), [Some(5), Some(5)])",
+    ),
+    (
+        Call::Command(11),
+        "Flag(true); A5 REMOVE Text(\"Emma\") Null 1 true",
+        "(Ok(One(Null)), Ok(One(Int(100))), Ok(Many(Seq { items: [Text(\"Anna\")] })), Ok(false), Err(NoObject), [Some(6), Some(6)])",
+    ),
+    (
+        Call::Command(12),
+        "Done; A5 REMOVE Text(\"Anna\") Null 0 true",
+        "(Ok(One(Null)), Ok(One(Int(100))), Ok(Many(Seq { items: [] })), Ok(false), Err(NoObject), [Some(7), Some(7)])",
+    ),
+];
+
+#[test]
+fn a_refused_edit_of_a_list_notifies_nobody(rt: HostRuntime) -> Result<(), Fail> {
+    let alloc = rt.alloc();
+    let mut repository: Box<RowRepository<Recorder>> = books(alloc)?;
+    check_calls(&rt, alloc, &mut repository, &[MADE])?;
+    let found = attached(alloc, &mut repository, Recorder::new(alloc))?;
+    assert_eq!(rt; found.as_str(), "Done");
+    check_calls(&rt, alloc, &mut repository, EDITS.as_slice())
 }

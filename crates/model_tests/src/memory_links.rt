@@ -6,9 +6,9 @@ use crate::books::{RowRepository, object};
 use crate::cups::{LID, ON, cups, put_lid};
 use crate::memory::{WATCHER, shown, unchanged};
 use crate::memory_adapters::{attach_again, attach_once};
-use crate::replies::reply_text;
+use crate::replies::{quiet, reply_text};
 use adapters::{Adapter, Recorder};
-use mm_types::{FeatureNo, ObjectNo, Refused, Seq};
+use mm_types::{FeatureNo, ObjectNo, Refused};
 use models::Found;
 use repository::{Answer, Reply};
 use std::alloc::{AllocError, Global};
@@ -88,11 +88,7 @@ enum Call {
 /// What the first cup contains, as a reply that notifies nobody.
 fn contents<A: Adapter>(alloc: Global, repository: &RowRepository<A>) -> Result<Reply<A>, Refused> {
     match repository.e_contents(object(0)) {
-        Ok(objects) => Ok(Reply {
-            answer: Answer::Objects(objects),
-            told: Seq::new(alloc),
-            released: Seq::new(alloc),
-        }),
+        Ok(objects) => Ok(quiet(alloc, Answer::Objects(objects))),
         Err(refused) => Err(refused),
     }
 }

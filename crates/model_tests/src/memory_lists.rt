@@ -63,7 +63,8 @@ fn commands_text<A: Adapter>(alloc: Global, commands: &[Command<A>]) -> Result<S
 }
 
 /// What reads say of an empty repository.
-const EMPTY: &str = "(Err(NoObject), Err(NoObject), Err(NoObject), Err(NoObject), [None, None])";
+const EMPTY: &str =
+    "(Err(NoObject), Err(NoObject), Err(NoObject), Err(NoObject), Err(NoObject), [None, None])";
 
 /// Fails unless a repository is empty and a list has the three commands.
 fn check_given_back<A: Adapter>(

@@ -26,9 +26,9 @@ fn state<A: Adapter>(alloc: Global, repository: &RowRepository<A>) -> Result<Str
 }
 
 /// The three adapters after no notice, and after one: the poor one keeps none.
-const BEFORE: &str = "(Ok((0, 0)), Ok((0, 0)), Ok((0, 0))) Ok(Null)";
+const BEFORE: &str = "(Ok((0, 0)), Ok((0, 0)), Ok((0, 0))) Ok(One(Null))";
 
-const AFTER: &str = "(Ok((1, 1)), Ok((1, 0)), Ok((1, 1))) Ok(Text(\"Emma\"))";
+const AFTER: &str = "(Ok((1, 1)), Ok((1, 0)), Ok((1, 1))) Ok(One(Text(\"Emma\")))";
 
 /// What the second call gives.
 const TOLD: &str =

@@ -1,10 +1,27 @@
 //! What a repository gives, as texts. Each is asked for once more where memory is refused.
 use adapters::Adapter;
-use mm_types::AdapterNo;
+use mm_types::{AdapterNo, Seq};
 use notice_chain::Notice;
-use repository::{Failure, Reply};
+use repository::{Answer, Failure, FeatureValue, Reply};
 use std::alloc::{AllocError, Global};
 use std::test::Fail;
+
+/// What a feature has, as an answer.
+pub(crate) fn got(found: FeatureValue) -> Answer {
+    match found {
+        FeatureValue::One(value) => Answer::Value(value),
+        FeatureValue::Many(values) => Answer::Values(values),
+    }
+}
+
+/// A reply that notifies nobody.
+pub(crate) fn quiet<A: Adapter>(alloc: Global, answer: Answer) -> Reply<A> {
+    Reply {
+        answer,
+        told: Seq::new(alloc),
+        released: Seq::new(alloc),
+    }
+}
 
 /// Who was notified of what, as `; A5 SET Null Int(3) -1 false`: the adapter, the kind, the value before and the value
 /// after, the position, and whether the feature was set.

@@ -4,7 +4,7 @@ use mm_values::{ValueEdit, ValuePlan, Values};
 use std::alloc::{AllocError, Global};
 use std::test::Fail;
 
-fn empty(alloc: Global) -> Result<Box<Values>, Fail> {
+pub(crate) fn empty(alloc: Global) -> Result<Box<Values>, Fail> {
     Ok(Box::new(alloc, Values::new(alloc))?)
 }
 
@@ -193,7 +193,7 @@ fn insert(object: u32, feature: u32, index: u32, number: i64) -> ValueEdit {
     }
 }
 
-fn remove(feature: u32, index: u32) -> ValueEdit {
+pub(crate) fn remove(feature: u32, index: u32) -> ValueEdit {
     ValueEdit::RemoveValue {
         object: ObjectNo(0),
         feature: FeatureNo(feature),
@@ -201,7 +201,7 @@ fn remove(feature: u32, index: u32) -> ValueEdit {
     }
 }
 
-fn shift(feature: u32, to: u32, from: u32) -> ValueEdit {
+pub(crate) fn shift(feature: u32, to: u32, from: u32) -> ValueEdit {
     ValueEdit::MoveValue {
         object: ObjectNo(0),
         feature: FeatureNo(feature),
@@ -243,7 +243,7 @@ fn lists_are_edited(rt: HostRuntime) -> Result<(), Fail> {
 }
 
 /// Puts the numbers from 0 on under feature 3 of object 0.
-fn put_many(alloc: Global, count: i64) -> Result<ValueEdit, AllocError> {
+pub(crate) fn put_many(alloc: Global, count: i64) -> Result<ValueEdit, AllocError> {
     let mut list = Seq::new(alloc);
     for number in 0..count {
         list.push(Value::Int(number))?;
