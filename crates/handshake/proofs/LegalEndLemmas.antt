@@ -9,7 +9,7 @@ use Rattle.std.proofs.lemmas.Option.{none-some, same_Some}
 use Rattle.mm_types.specs.Lookups as lookups
 use Rattle.mm_types.specs.Resolved.{Metamodel}
 use Rattle.mm_types.specs.Same.{node_value, same_end}
-use Rattle.mm_types.specs.Shapes.{Shape, contents_shape, is_full_list, shape, shape_of}
+use Rattle.mm_types.specs.Shapes.{Shape, contents_shape, is_bounded, is_full_list, shape, shape_of}
 use Rattle.mm_types.specs.declared.end.End.{End}
 use Rattle.mm_types.specs.declared.feature.Feature.{Feature}
 use Rattle.mm_types.specs.declared.feature.Kind.{Kind}
@@ -34,7 +34,7 @@ use Rattle.link_store.proofs.CutNamedLemmas.{end-without_all, without_all_legal}
 use Rattle.link_store.proofs.FilterLemmas.{length-filter_le}
 use Rattle.link_store.proofs.PutEndLemmas.{end-put}
 use Rattle.link_store.specs.LegalSets.{most}
-use Rattle.models.specs.Legal.{IsLegal, is_bounded, is_legal_end, is_legal_object, kinds_of}
+use Rattle.models.specs.Legal.{IsLegal, is_legal_end, is_legal_object, kinds_of}
 use Rattle.models.specs.Model.{Model, model_of, reading}
 use Rattle.models.specs.Reading.{Reading, has_feature, shape_at, takes}
 use Rattle.handshake.specs.Displaced.{yields}

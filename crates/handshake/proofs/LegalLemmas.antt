@@ -40,7 +40,7 @@ use Rattle.link_store.specs.Links.{Links, end, put, shift}
 use Rattle.link_store.proofs.CycleLemmas.{plan_makes_no_cycle}
 use Rattle.link_store.proofs.KindLemmas.{plan_keeps_kinds}
 use Rattle.link_store.proofs.LegalLemmas.{plan_keeps_legal}
-use Rattle.models.specs.Legal.{AreLegalLinks, IsLegal, IsLegalObject, IsLegalStored, IsUniqueList, is_concrete, is_legal_end, is_short, kinds_of}
+use Rattle.models.specs.Legal.{AreLegalLinks, IsLegal, IsLegalObject, IsLegalStored, IsUniqueList, is_legal_end, is_short, kinds_of}
 use Rattle.models.specs.Model.{Model, attribute_values, kept_values, reading}
 use Rattle.models.specs.Reading.{at_end, first_at, has_feature, is_repeat, place_for, takes}
 use Rattle.handshake.specs.declared.change.Change.{Change}
@@ -125,7 +125,7 @@ kept-legal m c f h legal =
     elim (is_nothing h) as (λ b. IsLegalStored m c f (unwrap_or (if b then None else Some h) nothing_stored)) [ true ↦ nothing-legal m c f | false ↦ legal ]
 
 -- a new object holds nothing
-created : (m : Metamodel) (c : ClassNo) → is_concrete m c ≡ true → IsLegalObject m (Some (record { class = c; stored = map.empty }))
+created : (m : Metamodel) (c : ClassNo) → lookups.is_concrete m c ≡ true → IsLegalObject m (Some (record { class = c; stored = map.empty }))
 created m c concrete = (concrete, λ f. subst (λ (h : Option Stored). IsLegalStored m c f (unwrap_or h nothing_stored)) (sym (map.get-empty nat_cmp f.0)) (nothing-legal m c f))
 
 -- an object after something was put under a feature

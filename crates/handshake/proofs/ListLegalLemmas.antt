@@ -9,7 +9,7 @@ use Rattle.mm_types.specs.Ends.{has_value}
 use Rattle.mm_types.specs.Lookups as lookups
 use Rattle.mm_types.specs.Resolved.{Metamodel}
 use Rattle.mm_types.specs.Same.{is_nil, same_value}
-use Rattle.mm_types.specs.Shapes.{Shape, is_full_list, shape}
+use Rattle.mm_types.specs.Shapes.{Shape, is_bounded, is_full_list, shape}
 use Rattle.mm_types.specs.declared.limits.TheConstants.{LIST_VALUES}
 use Rattle.mm_types.specs.declared.numbers.ClassNo.{ClassNo}
 use Rattle.mm_types.specs.declared.numbers.FeatureNo.{FeatureNo}
@@ -17,7 +17,7 @@ use Rattle.mm_types.specs.declared.value.Value.{Value}
 use Rattle.mm_values.specs.Stored.{Stored, list_changed}
 use Rattle.mm_types.specs.Lists.{put_back, shifted}
 use Rattle.link_store.specs.LegalSets.{most}
-use Rattle.models.specs.Legal.{IsLegalStored, IsUniqueList, is_bounded, is_legal_list, is_legal_value, is_short}
+use Rattle.models.specs.Legal.{IsLegalStored, IsUniqueList, is_legal_list, is_legal_value, is_short}
 use Rattle.handshake.proofs.CutTieLemmas.{same_value-symmetric}
 use Rattle.handshake.proofs.LegalEndLemmas.{bounded-less, bounded-more, length-put, list_all-insert, single-of, taken_out}
 

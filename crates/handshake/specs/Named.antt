@@ -12,13 +12,12 @@ use Rattle.mm_types.specs.declared.numbers.Node.{Node}
 use Rattle.mm_types.specs.declared.refused.Refused.{Refused}
 use Rattle.mm_types.specs.declared.refused.Refused.TheVariants.{NoObject, NoResource, NoClass, Abstract, NoFeature, NotSingle, NotMany}
 use Rattle.mm_types.specs.declared.value.Value.{Value}
-use Rattle.models.specs.Legal.{is_concrete}
 use Rattle.models.specs.Reading.{Reading, has_feature, is_live, is_node_live, is_resource_there, is_value_live}
 
 abbrev pub class_refusal : Metamodel → ClassNo → Option Refused
 class_refusal m c =
     NoClass unless is_some (lookups.class m c) else_by
-    Abstract unless is_concrete m c
+    Abstract unless lookups.is_concrete m c
 
 abbrev pub object_refusal : Reading → ObjectNo → Option Refused
 object_refusal r o = NoObject unless is_live r o

@@ -6,5 +6,5 @@
 mod members;
 mod read_fault;
 
-pub use members::{has_only_keys, is_word, members_of, only_members_of, take};
+pub use members::{find, has_only_keys, is_word, members_of, only_members_of, take};
 pub use read_fault::ReadFault;

@@ -59,7 +59,8 @@ pub fn take(members: &mut Map<String, Value>, key: &str) -> Option<Value>
     members.remove(key)
 }
 
-fn find<'v>(members: &'v Map<String, Value>, key: &str) -> Option<&'v Value>
+/// The value of a key, or nothing where the key is absent. Takes no memory.
+pub fn find<'v>(members: &'v Map<String, Value>, key: &str) -> Option<&'v Value>
     ensures { option_map (λ v. view v.now) result ≡ get_member key.now (members_view members.now.entries) }
 {
     members.get(key)

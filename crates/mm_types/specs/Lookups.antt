@@ -1,5 +1,5 @@
 -- What a resolved metamodel says of its classes, features and enumerations by number and by name.
-use Rattle.std.specs.Prelude.{ℕ, zero, suc, ◌<◌, ◌&&◌, ◌||◌, pos, neg_ℤ, ◌^◌, ◌-◌, Bool, true, false, List, [], length, map, position, slice_get, nat_lt, Option, None, option_map, option_and_then, nat_eq, int_le}
+use Rattle.std.specs.Prelude.{ℕ, zero, suc, ◌<◌, ◌&&◌, ◌||◌, pos, neg_ℤ, ◌^◌, ◌-◌, Bool, true, false, not, List, [], length, map, position, slice_get, nat_lt, Option, None, option_map, option_and_then, nat_eq, int_le}
 use Rattle.std.specs.List.{find, list_any}
 use Rattle.std.specs.Option.{option_map_or}
 use Rattle.std.specs.Ordering.{int_eq}
@@ -20,6 +20,10 @@ use Rattle.mm_types.specs.declared.numbers.ObjectNo.{ObjectNo}
 
 abbrev pub class : Metamodel → ClassNo → Option Class
 class m c = slice_get m.classes c.0
+
+-- a class is there, and is concrete
+abbrev pub is_concrete : Metamodel → ClassNo → Bool
+is_concrete m c = option_map_or (λ k. not k.is_abstract) (class m c) false
 
 abbrev pub feature : Metamodel → FeatureNo → Option Feature
 feature m f = slice_get m.features f.0

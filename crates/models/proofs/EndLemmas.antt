@@ -8,7 +8,7 @@ use Rattle.std.proofs.lemmas.Bool.Decides.{Decides-int_eq, nat_tests}
 use Rattle.std.specs.Option.{option_map_or}
 use Rattle.mm_types.specs.Lookups as lookups
 use Rattle.mm_types.specs.Resolved.{Metamodel}
-use Rattle.mm_types.specs.Shapes.{Shape, contents_shape, shape, shape_of}
+use Rattle.mm_types.specs.Shapes.{Shape, contents_shape, is_bounded, shape, shape_of}
 use Rattle.mm_types.specs.declared.feature.Feature.{Feature}
 use Rattle.mm_types.specs.declared.feature.Kind.{Kind}
 use Rattle.mm_types.specs.declared.feature.Kind.TheVariants.{Attribute, Reference}
@@ -18,7 +18,7 @@ use Rattle.mm_types.specs.declared.end.End.{End}
 use Rattle.mm_types.specs.declared.value.Value.{Value}
 use Rattle.mm_types.specs.declared.value.Value.TheVariants as value
 use Rattle.link_store.specs.Links.{end, object_at, object_of}
-use Rattle.models.specs.Legal.{IsLegal, is_bounded, is_legal_end}
+use Rattle.models.specs.Legal.{IsLegal, is_legal_end}
 use Rattle.models.specs.Model.{Model, reading}
 use Rattle.models.specs.Reading.{Reading, shape_at, value_at}
 

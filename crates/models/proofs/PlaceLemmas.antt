@@ -9,7 +9,7 @@ use Rattle.std.proofs.lemmas.Option.{none-some, same_Some}
 use Rattle.mm_types.specs.Ends.{first_in, has_value, index_in}
 use Rattle.mm_types.specs.Lookups.{is_object}
 use Rattle.mm_types.specs.Same.{same_value}
-use Rattle.mm_types.specs.Shapes.{Shape, shape}
+use Rattle.mm_types.specs.Shapes.{Shape, is_bounded, shape}
 use Rattle.mm_types.specs.declared.end.End.{End}
 use Rattle.mm_types.specs.declared.limits.TheConstants.{LIST_VALUES}
 use Rattle.mm_types.specs.declared.numbers.Node.{Node}
@@ -22,7 +22,7 @@ use Rattle.link_store.specs.Links as links
 use Rattle.link_store.specs.Links.{end}
 use Rattle.link_store.specs.Plans.{Lacks}
 use Rattle.mm_types.specs.SameValues.{same_value-self, same_value-true}
-use Rattle.models.specs.Legal.{IsLegal, IsLegalObject, is_bounded, is_legal_end, is_legal_list, is_legal_object}
+use Rattle.models.specs.Legal.{IsLegal, IsLegalObject, is_legal_end, is_legal_list, is_legal_object}
 use Rattle.models.specs.Model.{Model, attribute_values, kept_values, reading}
 use Rattle.models.specs.Reading.{Reading}
 

@@ -1,13 +1,12 @@
 -- The models that a repository can be in.
-use Rattle.std.specs.Prelude.{◌≡◌, ◌≤◌, ℕ, ◌&&◌, Bool, true, false, not, IsTrue, List, [], ◌∷◌, length, nat_le, int_le, pos, Option, Some, None, if◌then◌else◌}
+use Rattle.std.specs.Prelude.{◌≡◌, ◌≤◌, ◌&&◌, Bool, true, false, not, IsTrue, List, [], ◌∷◌, length, nat_le, Option, Some, None}
 use Rattle.std.specs.List.{All, list_all, IsDistinct}
-use Rattle.std.specs.Option.{option_map_or}
 use Rattle.mm_types.specs.Lookups as lookups
 use Rattle.mm_types.specs.OfDocument.{IsOfDocument}
 use Rattle.mm_types.specs.Resolved.{Metamodel}
 use Rattle.mm_types.specs.Same.{is_nil, same_value}
-use Rattle.mm_types.specs.Shapes.{Shape, shape}
-use Rattle.mm_types.specs.declared.limits.TheConstants.{LIST_VALUES, OBJECTS, TEXT_BYTES}
+use Rattle.mm_types.specs.Shapes.{is_bounded, shape}
+use Rattle.mm_types.specs.declared.limits.TheConstants.{OBJECTS, TEXT_BYTES}
 use Rattle.mm_types.specs.declared.numbers.ClassNo.{ClassNo}
 use Rattle.mm_types.specs.declared.numbers.FeatureNo.{FeatureNo}
 use Rattle.mm_types.specs.declared.end.End.{End}
@@ -25,14 +24,6 @@ use Rattle.models.specs.Model.{Model, reading}
 abbrev pub is_short : Value → Bool
 is_short (value.Text text) = nat_le (length text) TEXT_BYTES
 is_short _ = true
-
--- a class is there, and is concrete
-abbrev pub is_concrete : Metamodel → ClassNo → Bool
-is_concrete m c = option_map_or (λ k. not k.is_abstract) (lookups.class m c) false
-
--- a list of a feature has no more values than it may have
-abbrev pub is_bounded : Shape → ℕ → Bool
-is_bounded a n = nat_le n LIST_VALUES && (if int_le (pos 1) a.upper then int_le (pos n) a.upper else true)
 
 abbrev pub is_legal_value : Metamodel → FeatureNo → Value → Bool
 is_legal_value m f v = lookups.keeps m f v && is_short v
@@ -54,7 +45,7 @@ pub record IsLegalStored (m : Metamodel) (c : ClassNo) (f : FeatureNo) (h : Stor
 
 abbrev pub IsLegalObject : Metamodel → Option ObjectState → Type 0
 IsLegalObject m None = Unit {0}
-IsLegalObject m (Some o) = IsTrue (is_concrete m o.class) × ((f : FeatureNo) → IsLegalStored m o.class f (stored_under o f))
+IsLegalObject m (Some o) = IsTrue (lookups.is_concrete m o.class) × ((f : FeatureNo) → IsLegalStored m o.class f (stored_under o f))
 
 ---------------------------------------------------------------- links
 

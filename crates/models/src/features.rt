@@ -10,7 +10,7 @@ use mm_types::{ClassNo, DataType, FeatureNo, Kind, Value, limits};
 
 /// Whether a class is there and is concrete.
 pub fn is_concrete(meta: &Meta, class: ClassNo) -> bool
-    ensures { result ≡ l.is_concrete meta.now class }
+    ensures { result ≡ m.is_concrete meta.now class }
 {
     match meta.class(class) {
         Some(class) => !class.is_abstract,

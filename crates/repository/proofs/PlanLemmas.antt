@@ -20,7 +20,7 @@ use Rattle.notice_chain.specs.Listed.{Above, Listed, is_chain_full, tell_chain, 
 use Rattle.notice_chain.specs.Released.{Released, released}
 use Rattle.notice_chain.specs.declared.notice.Notice.{Notice}
 use Rattle.adapter_list.specs.Refusals.{IsChainRefusal}
-use Rattle.models.specs.Legal.{is_concrete, is_short}
+use Rattle.models.specs.Legal.{is_short}
 use Rattle.models.specs.Model.{Model}
 use Rattle.models.specs.Reading.{Reading, at_end, has_feature, is_node_live, is_repeat, is_resource_there, is_value_live, place_for, takes}
 use Rattle.handshake.specs.Named.{feature_refusal, many_refusal, node_refusal, value_refusal}
@@ -94,7 +94,7 @@ many-not-memory : (r : Reading) (f : FeatureNo) (o : Option Refused) → IsNot n
 many-not-memory r f o h = later-not no_memory _ _ h (where-not no_memory NotMany (shape r.metamodel f).is_single refl)
 
 early-not-memory : (r : Reading) (c : Change) → IsNot no_memory (early_refusal r c)
-early-not-memory r (Create c) = later-not no_memory _ _ (unless-not no_memory NoClass (is_some (lookups.class r.metamodel c)) refl) (unless-not no_memory Abstract (is_concrete r.metamodel c) refl)
+early-not-memory r (Create c) = later-not no_memory _ _ (unless-not no_memory NoClass (is_some (lookups.class r.metamodel c)) refl) (unless-not no_memory Abstract (lookups.is_concrete r.metamodel c) refl)
 early-not-memory r (Set n f v) = later-not no_memory _ _ (value-not-memory r n f v) (unless-not no_memory NotSingle (shape r.metamodel f).is_single refl)
 early-not-memory r (Unset n f) = feature-not-memory r n f
 early-not-memory r (Add n f v i) = many-not-memory r f (value_refusal r n f v) (value-not-memory r n f v)

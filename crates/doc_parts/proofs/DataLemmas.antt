@@ -1,0 +1,59 @@
+-- Lists of JSON values, and tests of what a list is mapped to.
+use Rattle.std.proofs.Common.{◌≡◌, ◌∙◌, Bool, List, [], ◌∷◌, Option, Some, None, ℕ, ap, map, refl, string_bytes, sym}
+use Rattle.std.specs.Prelude.{◌&&◌, ◌||◌, String, false, option_map, unwrap_or}
+use Rattle.std.specs.declared.alloc.Global.{Global}
+use Rattle.std.specs.List.{cons_option, filter_map, list_all, list_any}
+use Rattle.std.specs.Option.{option_map_or}
+use Rattle.serde_json.specs.Data.{Data, Members}
+use Rattle.serde_json.specs.View.{items_of, members_view}
+use Rattle.serde_json.specs.declared.value.Value.{Value}
+use Rattle.json_rows.specs.Rows.{keys_of}
+use Rattle.mm_types.specs.Lookups as lookups
+use Rattle.mm_types.specs.Resolved.{Metamodel}
+use Rattle.mm_types.specs.declared.numbers.ClassNo.{ClassNo}
+use Rattle.mm_types.specs.declared.numbers.FeatureNo.{FeatureNo}
+use Rattle.doc_parts.specs.Parts.{Entry, content_at, entries, entries_in, entry_at, known, list_of, new_entry}
+
+pub list_of-items_of : (ds : List Data) → list_of (items_of ds) ≡ ds
+list_of-items_of [] = refl
+list_of-items_of (d ∷ ds) = ap (λ xs. d ∷ xs) (list_of-items_of ds)
+
+pub list_all-map : {X Y : Type 0} (f : X → Y) (p : Y → Bool) (xs : List X) → list_all p (map f xs) ≡ list_all (λ x. p (f x)) xs
+list_all-map f p [] = refl
+list_all-map f p (x ∷ xs) = ap (λ b. p (f x) && b) (list_all-map f p xs)
+
+pub list_any-map : {X Y : Type 0} (f : X → Y) (p : Y → Bool) (xs : List X) → list_any p (map f xs) ≡ list_any (λ x. p (f x)) xs
+list_any-map f p [] = refl
+list_any-map f p (x ∷ xs) = ap (λ b. p (f x) || b) (list_any-map f p xs)
+
+any_at : {Y : Type 0} (p : Y → Bool) (o : Option Y) (ys : List Y) → list_any p (cons_option o ys) ≡ option_map_or p o false || list_any p ys
+any_at p None ys = refl
+any_at p (Some y) ys = refl
+
+pub list_any-filter_map : {X Y : Type 0} (h : X → Option Y) (p : Y → Bool) (xs : List X) → list_any p (filter_map h xs) ≡ list_any (λ x. option_map_or p (h x) false) xs
+list_any-filter_map h p [] = refl
+list_any-filter_map h p (x ∷ xs) = any_at p (h x) (filter_map h xs) ∙ ap (λ b. option_map_or p (h x) false || b) (list_any-filter_map h p xs)
+
+pub all_keys : (p : List ℕ → Bool) (es : List (String Global × Value)) → list_all (λ k. p (string_bytes k)) (map (λ e. e.0) es) ≡ list_all p (keys_of (members_view es))
+all_keys p [] = refl
+all_keys p (e ∷ es) = ap (λ b. p (string_bytes e.0) && b) (all_keys p es)
+
+---------------------------------------------------------------- what is written under the features of a class
+
+one_entry : (holds : Entry → Bool) (f : FeatureNo) (o : Option Data) (es : List Entry) → list_any holds (cons_option (option_map (new_entry f) o) es) ≡ option_map_or (λ d. holds (new_entry f d)) o false || list_any holds es
+one_entry holds f None es = refl
+one_entry holds f (Some d) es = refl
+
+pub any_entries : (m : Metamodel) (ms : Members) (holds : Entry → Bool) (fs : List FeatureNo) → list_any holds (filter_map (entry_at m ms) fs) ≡ list_any (λ f. option_map_or (λ d. holds (new_entry f d)) (content_at m ms f) false) fs
+any_entries m ms holds [] = refl
+any_entries m ms holds (f ∷ fs) =
+    one_entry holds f (content_at m ms f) (filter_map (entry_at m ms) fs)
+    ∙ ap (λ b. option_map_or (λ d. holds (new_entry f d)) (content_at m ms f) false || b) (any_entries m ms holds fs)
+
+-- of an object whose class is there
+pub any_of_known : (m : Metamodel) (d : Data) (holds : Entry → Bool) (c : ClassNo) (ms : Members) (fs : List FeatureNo) (b : Bool) → Some (c, ms) ≡ known m d → Some fs ≡ lookups.features m c
+    → b ≡ list_any (λ f. option_map_or (λ x. holds (new_entry f x)) (content_at m ms f) false) fs → b ≡ list_any holds (entries m d)
+any_of_known m d holds c ms fs b is features h =
+    h ∙ sym (any_entries m ms holds fs)
+    ∙ ap (λ o. list_any holds (filter_map (entry_at m ms) (unwrap_or o []))) features
+    ∙ ap (λ o. list_any holds (option_map_or (λ k. entries_in m k.0 k.1) o [])) is

@@ -1,0 +1,9 @@
+pub mod DataLemmas
+pub mod ContentLemmas
+pub mod PlaceLemmas
+pub mod WayLemmas
+pub mod FindLemmas
+pub mod KnowLemmas
+pub mod WalkLemmas
+pub mod PathLemmas
+pub mod DepthLemmas

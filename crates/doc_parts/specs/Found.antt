@@ -1,0 +1,65 @@
+-- What is known of the parts that were found: their levels, what stands there, and the first part of each path.
+use Rattle.std.specs.Prelude.{◌≡◌, ◌≤◌, ◌++◌, ℕ, suc, Bool, List, [], Option, Some, None, length, map, if◌then◌else◌}
+use Rattle.std.specs.List.{enumerate_from}
+use Rattle.std.specs.Option.{option_map_or}
+use Rattle.serde_json.specs.Data.{Data, Members}
+use Rattle.serde_json.specs.View.{view}
+use Rattle.mm_types.specs.Resolved.{Metamodel}
+use Rattle.mm_types.specs.declared.numbers.FeatureNo.{FeatureNo}
+use Rattle.web_uris.specs.Paths.{new_path, new_step, with_step}
+use Rattle.web_uris.specs.declared.path.Path.{Path}
+use Rattle.doc_parts.specs.Parts.{Part, content_at, level_of, new_entry, number_of, parts_from, parts_in}
+use Rattle.doc_parts.specs.Places.{Key, RootKey, UnderKey, number_at, way_of}
+use Rattle.doc_parts.specs.declared.found.Found.{Found}
+use Rattle.doc_parts.specs.declared.found.Numbers.{Numbers}
+use Rattle.doc_parts.specs.declared.found.Row.{Row}
+
+-- ways lead to the first part of each path, and to nothing below parts that are still to be found
+pub record Finds (t : Numbers) (ps : List Part) : Type 0 where
+  pub ways : (q : Path) → way_of (number_at t) q ≡ number_of ps q
+  pub below : (n : ℕ) (w : List ℕ) (i : Option ℕ) → length ps ≤ n → number_at t (UnderKey n w i) ≡ None
+
+-- the key of the place where a path ends, among parts
+abbrev pub IsPlaced : List Part → Key → Path → Type 0
+IsPlaced ps (RootKey i) path = path ≡ new_path i []
+IsPlaced ps (UnderKey n w i) path = (above : Path) × (number_of ps above ≡ Some n) × (path ≡ with_step above (new_step w i))
+
+pub record Seen : Type 0 where
+  pub level : ℕ
+  pub json : Data
+  pub number : Option ℕ
+
+-- a part among others: its number is that of the first of its path
+abbrev pub seen : List Part → Part → Seen
+seen ps p = record { level = level_of p; json = p.json; number = number_of ps p.path }
+
+abbrev pub row_seen : Row → Seen
+row_seen r = record { level = r.level; json = view r.json.now; number = Some r.number }
+
+pub record Knows (f : Found) (ps : List Part) : Type 0 where
+  pub rows : map row_seen f.rows.items ≡ map (seen ps) ps
+  pub finds : Finds f.numbers ps
+
+---------------------------------------------------------------- what stands below a part
+
+-- what stands under a name of what has a path
+abbrev pub parts_under : Path → List ℕ → Bool → List Data → List Part
+parts_under path name single ds =
+    map (λ v. record { path = with_step path (new_step name (if single then None else Some v.0)); json = v.1 }) (enumerate_from 0 ds)
+
+abbrev pub parts_at : Metamodel → Path → Members → FeatureNo → List Part
+parts_at m path ms f = option_map_or (λ d. parts_in m path (new_entry f d)) (content_at m ms f) []
+
+-- with what was found for some parts, more was found for a part among them
+abbrev pub FindsBelow : Found → Found → ℕ → ℕ → (Path → List Part) → Type 0
+FindsBelow old new number level more =
+    (ps : List Part) (p : Part) → Knows old ps → number_of ps p.path ≡ Some number → level ≡ suc (level_of p) → Knows new (ps ++ more p.path)
+
+-- a part that stands at a place was found, and all below it, for so many levels
+abbrev pub Walks : Metamodel → ℕ → Found → Found → Key → ℕ → Data → Type 0
+Walks m n old new k level d =
+    (ps : List Part) (p : Part) → Knows old ps → IsPlaced ps k p.path → level ≡ level_of p → d ≡ p.json → Knows new (ps ++ parts_from m n p)
+
+-- the roots of a document
+abbrev pub roots_from : List Data → List Part
+roots_from ds = map (λ v. record { path = new_path v.0 []; json = v.1 }) (enumerate_from 0 ds)

@@ -1,0 +1,6 @@
+pub mod Layout
+pub mod Parts
+pub mod Contents
+pub mod Faults
+pub mod Places
+pub mod Found

@@ -1,0 +1,96 @@
+-- What of a document is looked at: what stands where an object should, with its path, and under each object what its features hold.
+-- What stands in an object of an unknown class, under an unknown feature or under a container reference is not.
+use Rattle.std.specs.Prelude.{ℕ, zero, suc, length, List, [], ◌∷◌, filter_map, flat_map, map, position, Option, Some, None, option_map, unwrap_or, if◌then◌else◌}
+use Rattle.std.specs.List.{enumerate_from}
+use Rattle.std.specs.Option.{option_map_or}
+use Rattle.serde_json.specs.Data.{Data, Items, no_items, item, Members, depth}
+use Rattle.serde_json.specs.Find.{as_array, get_member}
+use Rattle.json_rows.specs.Rows.{◌>>=◌}
+use Rattle.mm_types.specs.Lookups as lookups
+use Rattle.mm_types.specs.Resolved.{Metamodel}
+use Rattle.mm_types.specs.Shapes.{is_containment, shape}
+use Rattle.mm_types.specs.declared.numbers.ClassNo.{ClassNo}
+use Rattle.mm_types.specs.declared.numbers.FeatureNo.{FeatureNo}
+use Rattle.web_uris.specs.Paths.{new_path, new_step, same_path, with_step}
+use Rattle.web_uris.specs.declared.path.Path.{Path}
+use Rattle.web_uris.specs.declared.path.Step.{Step}
+use Rattle.doc_parts.specs.Layout.{top, written}
+
+abbrev pub list_of : Items → List Data
+list_of no_items = []
+list_of (item d ds) = d ∷ list_of ds
+
+---------------------------------------------------------------- under an object
+
+-- the class that an object names
+abbrev pub class_of : Metamodel → Data → Option ClassNo
+class_of m d = written d >>= (λ w. lookups.class_by_name m w.class)
+
+-- what is written under a feature
+pub record Entry : Type 0 where
+  pub feature : FeatureNo
+  pub content : Data
+
+abbrev pub new_entry : FeatureNo → Data → Entry
+new_entry f d = record { feature = f; content = d }
+
+-- what is written under a feature, which may be no container reference
+abbrev pub content_at : Metamodel → Members → FeatureNo → Option Data
+content_at m ms f = if lookups.is_container m f then None else get_member (lookups.feature_name m f) ms
+
+abbrev pub entry_at : Metamodel → Members → FeatureNo → Option Entry
+entry_at m ms f = option_map (new_entry f) (content_at m ms f)
+
+abbrev pub entries_in : Metamodel → ClassNo → Members → List Entry
+entries_in m c ms = filter_map (entry_at m ms) (unwrap_or (lookups.features m c) [])
+
+-- the class and the members of an object whose class is there
+abbrev pub known : Metamodel → Data → Option (ClassNo × Members)
+known m d = written d >>= (λ w. option_map (λ c. (c, w.features)) (lookups.class_by_name m w.class))
+
+-- in all-features order
+abbrev pub entries : Metamodel → Data → List Entry
+entries m d = option_map_or (λ k. entries_in m k.0 k.1) (known m d) []
+
+-- its values: the items of an array under a many-valued feature; content that is no array has none
+abbrev pub values_of : Metamodel → Entry → List Data
+values_of m e =
+    if (shape m e.feature).is_single then e.content ∷ [] else option_map_or list_of (as_array e.content) []
+
+---------------------------------------------------------------- objects in objects
+
+-- what stands where an object should, and its path
+pub record Part : Type 0 where
+  pub path : Path
+  pub json : Data
+
+-- a root stands at level 1
+abbrev pub level_of : Part → ℕ
+level_of p = suc (length p.path.steps)
+
+-- the step to the value of a feature at a position
+abbrev pub step_to : Metamodel → FeatureNo → ℕ → Step
+step_to m f i = new_step (lookups.feature_name m f) (if (shape m f).is_single then None else Some i)
+
+abbrev pub parts_in : Metamodel → Path → Entry → List Part
+parts_in m p e =
+    if is_containment m e.feature
+    then map (λ v. record { path = with_step p (step_to m e.feature v.0); json = v.1 }) (enumerate_from 0 (values_of m e))
+    else []
+
+-- a part and all in it, each before what it contains, for so many levels
+abbrev pub parts_from : Metamodel → ℕ → Part → List Part
+parts_from m zero p = []
+parts_from m (suc n) p = p ∷ flat_map (parts_from m n) (flat_map (parts_in m p.path) (entries m p.json))
+
+abbrev pub root_parts : Data → List Part
+root_parts d =
+    option_map_or (λ t. map (λ v. record { path = new_path v.0 []; json = v.1 }) (enumerate_from 0 (list_of t.roots))) (top d) []
+
+-- in loading order; no part is deeper than the document
+unfoldable pub parts : Metamodel → Data → List Part
+parts m d = flat_map (parts_from m (depth d)) (root_parts d)
+
+-- the number of the part that has a path
+abbrev pub number_of : List Part → Path → Option ℕ
+number_of ps p = position (λ q. same_path p q.path) ps

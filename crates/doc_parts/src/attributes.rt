@@ -1,0 +1,88 @@
+//! The values of attributes are read.
+ghost use Rattle.std.specs.Prelude.{◌≡◌, IfOk, is_some};
+ghost use Rattle.serde_json.specs.View.{view};
+ghost use Rattle.doc_parts.specs.Contents.{attribute_value as value_meant, int_value as int_meant, text_value as text_meant};
+
+use mm_meta::Meta;
+use mm_types::{DataType, Text, Value, limits};
+use serde_json::Value as JsonValue;
+use std::alloc::{AllocError, Global};
+
+fn text_value(alloc: Global, is_single: bool, json: &JsonValue) -> Result<Option<Value>, AllocError>
+    ensures { IfOk result (λ v. v ≡ text_meant is_single (view json.now)) }
+{
+    if is_single && json.is_null() {
+        return Ok(Some(Value::Null));
+    }
+    match json.as_str() {
+        Some(text) if text.len() <= limits::TEXT_BYTES => Ok(Some(Value::Text(Text::from_str(
+            alloc, text,
+        )?))),
+        _ => Ok(None),
+    }
+}
+
+fn int_value(json: &JsonValue) -> Option<Value>
+    ensures { result ≡ int_meant (view json.now) }
+{
+    match json.as_i64() {
+        Some(n) if i64::from(i32::MIN) <= n && n <= i64::from(i32::MAX) => Some(Value::Int(n)),
+        _ => None,
+    }
+}
+
+/// The value of a data type, under a single attribute or not, or none where JSON writes none of that type. Errs only
+/// where memory is refused.
+pub fn attribute_value(
+    alloc: Global,
+    meta: &Meta,
+    is_single: bool,
+    data_type: DataType,
+    json: &JsonValue,
+) -> Result<Option<Value>, AllocError>
+    ensures { IfOk result (λ v. v ≡ value_meant meta.now is_single data_type (view json.now)) }
+{
+    match data_type {
+        DataType::EString => text_value(alloc, is_single, json),
+        DataType::EInt => Ok(int_value(json)),
+        DataType::ELong => Ok(json.as_i64().map(Value::Int)),
+        DataType::EBoolean => Ok(json.as_bool().map(Value::Bool)),
+        DataType::Enum(enumeration) => match json.as_str() {
+            Some(name) => Ok(meta.literal_by_name(enumeration, name).map(Value::Literal)),
+            None => Ok(None),
+        },
+    }
+}
+
+fn is_text(is_single: bool, json: &JsonValue) -> bool
+    ensures { result ≡ is_some (text_meant is_single (view json.now)) }
+{
+    if is_single && json.is_null() {
+        return true;
+    }
+    match json.as_str() {
+        Some(text) => text.len() <= limits::TEXT_BYTES,
+        None => false,
+    }
+}
+
+/// Whether JSON writes a value of a data type, under a single attribute or not. Takes no memory.
+pub(crate) fn is_attribute_value(
+    meta: &Meta,
+    is_single: bool,
+    data_type: DataType,
+    json: &JsonValue,
+) -> bool
+    ensures { result ≡ is_some (value_meant meta.now is_single data_type (view json.now)) }
+{
+    match data_type {
+        DataType::EString => is_text(is_single, json),
+        DataType::EInt => int_value(json).is_some(),
+        DataType::ELong => json.as_i64().is_some(),
+        DataType::EBoolean => json.is_boolean(),
+        DataType::Enum(enumeration) => match json.as_str() {
+            Some(name) => meta.literal_by_name(enumeration, name).is_some(),
+            None => false,
+        },
+    }
+}

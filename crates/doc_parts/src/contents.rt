@@ -1,0 +1,89 @@
+//! Whether what is written under a feature is of the feature's type.
+ghost use Rattle.std.specs.Prelude.{◌≡◌, ◌||◌, is_some, map};
+ghost use Rattle.std.specs.List.{list_all};
+ghost use Rattle.mm_types.specs.Shapes.{shape};
+ghost use Rattle.serde_json.specs.Find.{as_array};
+ghost use Rattle.serde_json.specs.View.{view};
+ghost use Rattle.doc_parts.specs.Contents.{attribute_value, conforms_to as conforms_meant, is_content as is_meant, is_value as is_value_meant, may_stand as may_be};
+ghost use Rattle.doc_parts.specs.Parts.{new_entry, values_of as values_meant};
+
+use crate::attributes::is_attribute_value;
+use crate::entries::{class_of, is_single, values_of};
+use mm_meta::Meta;
+use mm_types::{ClassNo, FeatureNo, Kind, limits};
+use serde_json::Value as JsonValue;
+
+/// Whether an object is of a class that conforms to another. Takes no memory.
+pub fn conforms_to(meta: &Meta, target: ClassNo, json: &JsonValue) -> bool
+    ensures { result ≡ conforms_meant meta.now target (view json.now) }
+{
+    match class_of(meta, json) {
+        Some(class) => meta.conforms(class, target),
+        None => false,
+    }
+}
+
+/// Whether a value may stand under a containment reference to a class: an object whose class conforms, where its class
+/// is there at all.
+fn may_stand(meta: &Meta, target: ClassNo, json: &JsonValue) -> bool
+    ensures { result ≡ may_be meta.now target (view json.now) }
+{
+    if !json.is_object() {
+        return false;
+    }
+    match class_of(meta, json) {
+        Some(class) => meta.conforms(class, target),
+        None => true,
+    }
+}
+
+fn is_value(meta: &Meta, is_single: bool, kind: &Kind, json: &JsonValue) -> bool
+    ensures { result ≡ is_value_meant meta.now is_single kind.now (view json.now) }
+{
+    match kind {
+        Kind::Attribute { value_type, .. } => is_attribute_value(
+            meta,
+            is_single,
+            *value_type,
+            json,
+        ),
+        Kind::Reference {
+            target,
+            containment: true,
+            ..
+        } => may_stand(meta, *target, json),
+        Kind::Reference { .. } => match json.as_str() {
+            Some(text) => text.len() <= limits::TEXT_BYTES,
+            None => false,
+        },
+    }
+}
+
+fn are_values(meta: &Meta, is_single: bool, kind: &Kind, values: &[JsonValue]) -> bool
+    ensures { result ≡ list_all (λ v. is_value_meant meta.now is_single kind.now (view v)) values.now }
+{
+    values
+        .iter()
+        .all(|value| is_value(meta, is_single, kind, value))
+}
+
+fn is_shaped(is_single: bool, content: &JsonValue) -> bool
+    ensures { result ≡ is_single || is_some (as_array (view content.now)) }
+{
+    is_single || content.is_array()
+}
+
+/// Whether what is written under a feature is an array where the feature is many-valued, and each of its values is one
+/// of the feature. Takes no memory.
+pub(crate) fn is_content(meta: &Meta, feature: FeatureNo, content: &JsonValue) -> bool
+    ensures { result ≡ is_meant meta.now (new_entry feature (view content.now)) }
+{
+    let single = is_single(meta, feature);
+    if !is_shaped(single, content) {
+        return false;
+    }
+    match meta.feature(feature) {
+        Some(found) => are_values(meta, single, &found.kind, values_of(meta, feature, content)),
+        None => false,
+    }
+}

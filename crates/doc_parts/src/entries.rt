@@ -1,0 +1,77 @@
+//! What is written in an object under the features of its class.
+ghost use Rattle.std.specs.Prelude.{◌≡◌, length, map, option_map};
+ghost use Rattle.mm_types.specs.Lookups as lookups;
+ghost use Rattle.mm_types.specs.Shapes.{shape};
+ghost use Rattle.serde_json.specs.View.{members_view, view};
+ghost use Rattle.doc_parts.specs.Parts.{class_of as class_meant, content_at as content_meant, known as known_meant, new_entry, values_of as values_meant};
+
+use crate::layout::written;
+use json_rows::find;
+use mm_meta::Meta;
+use mm_types::{ClassNo, FeatureNo};
+use serde_json::{Map, Value as JsonValue};
+use std::slice;
+
+/// The class that an object names. Takes no memory.
+pub fn class_of(meta: &Meta, json: &JsonValue) -> Option<ClassNo>
+    ensures { result ≡ class_meant meta.now (view json.now) }
+{
+    meta.class_by_name(written(json)?.class)
+}
+
+/// The class and the members of an object whose class is there. Takes no memory.
+pub fn known<'v>(meta: &Meta, json: &'v JsonValue) -> Option<(ClassNo, &'v Map<String, JsonValue>)>
+    ensures { option_map (λ k. (k.0, members_view k.1.now.entries)) result ≡ known_meant meta.now (view json.now) }
+{
+    let object = written(json)?;
+    let class = meta.class_by_name(object.class)?;
+    Some((class, object.features))
+}
+
+/// The name of a feature, or nothing where there is no such feature. Takes no memory.
+pub fn feature_name(meta: &Meta, feature: FeatureNo) -> &str
+    ensures { result.now ≡ lookups.feature_name meta.now feature }
+{
+    match meta.feature(feature) {
+        Some(found) => found.name.as_str(),
+        None => "",
+    }
+}
+
+/// Whether a feature has one value at most. Takes no memory.
+pub fn is_single(meta: &Meta, feature: FeatureNo) -> bool
+    ensures { result ≡ (shape meta.now feature).is_single }
+{
+    match meta.feature(feature) {
+        Some(found) => found.upper == 1,
+        None => false,
+    }
+}
+
+/// What is written under a feature, which may be no container reference. Takes no memory.
+pub fn content_at<'v>(
+    meta: &Meta,
+    members: &'v Map<String, JsonValue>,
+    feature: FeatureNo,
+) -> Option<&'v JsonValue>
+    ensures { option_map (λ v. view v.now) result ≡ content_meant meta.now (members_view members.now.entries) feature }
+{
+    if meta.is_container(feature) {
+        return None;
+    }
+    find(members, feature_name(meta, feature))
+}
+
+/// The values of what is written under a feature: the items of an array where the feature is many-valued. Takes no
+/// memory.
+pub fn values_of<'v>(meta: &Meta, feature: FeatureNo, content: &'v JsonValue) -> &'v [JsonValue]
+    ensures { map view result.now ≡ values_meant meta.now (new_entry feature (view content.now)) }
+{
+    if is_single(meta, feature) {
+        return slice::from_ref(content);
+    }
+    match content.as_array() {
+        Some(values) => values.as_slice(),
+        None => &[],
+    }
+}

@@ -1,0 +1,155 @@
+//! The parts of a document that are looked at, as they are found.
+ghost use Rattle.std.specs.Prelude.{◌≡◌, ◌++◌, ◌∷◌, [], IfOk, List, None, OnOk, Some, if◌then◌else◌, length};
+ghost use Rattle.std.specs.Option.{option_or};
+
+use indexmap::IndexMap;
+use serde_json::Value as JsonValue;
+use std::alloc::{AllocError, Global};
+use web_uris::{Path, Step};
+
+/// Where a part stands: at the position of a root, or under the first part of a path by a step.
+#[derive(Clone, Copy, PartialEq, Eq, Hash)]
+pub enum Place<'m> {
+    Root(u32),
+    Under {
+        part: u32,
+        name: &'m str,
+        index: Option<u32>,
+    },
+}
+
+/// The numbers of parts by their places.
+#[derive(Drop)]
+pub struct Numbers<'m> {
+    numbers: IndexMap<Place<'m>, u32>,
+}
+
+/// A part: its level, what stands there, and the number of the first part of its path.
+#[derive(Clone, Copy)]
+pub struct Row<'v> {
+    pub level: usize,
+    pub json: &'v JsonValue,
+    pub number: u32,
+}
+
+/// The parts that were found, in loading order.
+#[derive(Drop)]
+pub struct Found<'v, 'm> {
+    pub rows: Vec<Row<'v>>,
+    pub numbers: Numbers<'m>,
+}
+
+impl<'m> Numbers<'m> {
+    ghost use Rattle.doc_parts.specs.Found.{Finds, IsPlaced};
+    ghost use Rattle.doc_parts.specs.Parts.{Part, number_of};
+    ghost use Rattle.doc_parts.specs.Places.{Key, descend, is_at, key_of, number_at, way_of};
+
+    /// No numbers. Takes no memory.
+    pub fn new(alloc: Global) -> Self
+        ensures { (k : Key) → number_at result k ≡ None }
+    {
+        Numbers {
+            numbers: IndexMap::new(alloc),
+        }
+    }
+
+    /// The number of the part at a place. Takes no memory.
+    pub fn at(&self, place: Place) -> Option<u32>
+        ensures { result ≡ number_at self.now (key_of place.entry) }
+    {
+        self.numbers.get(&place).copied()
+    }
+
+    /// The number that steps lead to from a part.
+    fn descend(&self, from: u32, steps: &[Step]) -> Option<u32>
+        ensures { result ≡ descend (number_at self.now) (Some from) steps.now }
+    {
+        let mut part = from;
+        'steps: for step in steps {
+            let place = Place::Under {
+                part,
+                name: step.name.as_str(),
+                index: step.index,
+            };
+            match self.at(place) {
+                Some(next) => part = next,
+                None => return None,
+            }
+        }
+        Some(part)
+    }
+
+    /// The number that a path leads to, step by step. Takes no memory.
+    pub fn of_path(&self, path: &Path) -> Option<u32>
+        ensures { result ≡ way_of (number_at self.now) path.now }
+    {
+        match self.at(Place::Root(path.root)) {
+            Some(root) => self.descend(root, path.steps.as_slice()),
+            None => None,
+        }
+    }
+
+    /// Gives a number to a place that has none yet.
+    pub fn put(&mut self, place: Place<'m>, number: u32) -> Result<(), AllocError>
+        requires { number_at self.old (key_of place) ≡ None }
+        ensures { OnOk result ((k : Key) → number_at self.new k ≡ option_or (number_at self.old k) (if is_at k place.entry then Some number else None)) }
+    {
+        self.numbers.insert(place, number)?;
+        Ok(())
+    }
+
+    /// The number of the part at a place: `next`, where the place has no number yet.
+    pub fn number(&mut self, place: Place<'m>, next: u32) -> Result<u32, AllocError>
+        ensures { IfOk result (λ n. (ps : List Part) (p : Part) → next ≡ length ps → Finds self.old ps → IsPlaced ps (key_of place.entry) p.path
+            → Finds self.new (ps ++ p ∷ []) × (number_of (ps ++ p ∷ []) p.path ≡ Some n)) }
+    {
+        match self.at(place) {
+            Some(number) => Ok(number),
+            None => {
+                self.put(place, next)?;
+                Ok(next)
+            }
+        }
+    }
+}
+
+impl<'v, 'm> Found<'v, 'm> {
+    ghost use Rattle.serde_json.specs.View.{view};
+    ghost use Rattle.doc_parts.specs.Found.{IsPlaced, Knows};
+    ghost use Rattle.doc_parts.specs.Parts.{Part, level_of, number_of};
+    ghost use Rattle.doc_parts.specs.Places.{key_of};
+
+    /// No parts. Takes no memory.
+    pub fn new(alloc: Global) -> Self
+        ensures { Knows result [] }
+    {
+        Found {
+            rows: Vec::new(alloc),
+            numbers: Numbers::new(alloc),
+        }
+    }
+
+    /// Adds a part, and answers the number of the first part of its path. Where memory is refused, or where there are
+    /// 2^32 parts already, what was found may not be used.
+    pub fn add(
+        &mut self,
+        place: Place<'m>,
+        level: usize,
+        json: &'v JsonValue,
+    ) -> Result<u32, AllocError>
+        ensures { IfOk result (λ n. (ps : List Part) (p : Part) → Knows self.old ps → IsPlaced ps (key_of place.entry) p.path → level ≡ level_of p → view json.entry.now ≡ p.json
+            → Knows self.new (ps ++ p ∷ []) × (number_of (ps ++ p ∷ []) p.path ≡ Some n)) }
+    {
+        let count = self.rows.as_slice().len();
+        if count > u32::MAX as usize {
+            return Err(AllocError);
+        }
+        let number = self.numbers.number(place, count as u32)?;
+        self.rows.push(Row {
+            level,
+            json,
+            number,
+        })?;
+        Ok(number)
+    }
+}

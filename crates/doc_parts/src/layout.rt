@@ -1,0 +1,49 @@
+//! The layout of a document: the top, and an object.
+ghost use Rattle.std.specs.Prelude.{◌≡◌, option_map};
+ghost use Rattle.serde_json.specs.View.{items_view, members_view, view};
+ghost use Rattle.doc_parts.specs.Layout.{new_top, new_written, top as top_meant, written as written_meant};
+
+use json_rows::{find, has_only_keys};
+use serde_json::{Map, Value};
+
+/// What the top of a document says.
+#[derive(Clone, Copy)]
+pub struct TopMembers<'v> {
+    pub format: i64,
+    pub roots: &'v Vec<Value>,
+}
+
+/// What an object of a document says: the name of its class, and what its features hold, by their names.
+#[derive(Clone, Copy)]
+pub(crate) struct ObjectMembers<'v> {
+    pub class: &'v str,
+    pub features: &'v Map<String, Value>,
+}
+
+/// The top of a document, or nothing where the value is no such object. Takes no memory.
+#[tactic(auto, unfolding(crate::specs::Layout::top))]
+pub fn top(json: &Value) -> Option<TopMembers<'_>>
+    ensures { option_map (λ t. new_top t.format (items_view t.roots.now.items)) result ≡ top_meant (view json.now) }
+{
+    let members = json.as_object()?;
+    if !has_only_keys(members, &["format", "roots"]) {
+        return None;
+    }
+    let format = find(members, "format")?.as_i64()?;
+    let roots = find(members, "roots")?.as_array()?;
+    Some(TopMembers { format, roots })
+}
+
+/// What an object says, or nothing where the value is none. Takes no memory.
+#[tactic(auto, unfolding(crate::specs::Layout::written))]
+pub(crate) fn written(json: &Value) -> Option<ObjectMembers<'_>>
+    ensures { option_map (λ w. new_written w.class.now (members_view w.features.now.entries)) result ≡ written_meant (view json.now) }
+{
+    let members = json.as_object()?;
+    if !has_only_keys(members, &["class", "features"]) {
+        return None;
+    }
+    let class = find(members, "class")?.as_str()?;
+    let features = find(members, "features")?.as_object()?;
+    Some(ObjectMembers { class, features })
+}

@@ -1,0 +1,27 @@
+//! What of a document of a resource is looked at: what stands where an object should, with its path, and under each object
+//! what its features hold.
+//!
+//! `specs/Layout.antt` is the layout of a document, row by row, `specs/Parts.antt` says what of it is looked at,
+//! `specs/Contents.antt` whether what is written under a feature is of its type, and `specs/Faults.antt` what may be wrong
+//! with an object by itself.
+#![tactic(auto)]
+
+mod attributes;
+mod checks;
+mod contents;
+mod entries;
+mod found;
+mod layout;
+pub mod limits;
+mod objects;
+mod walk;
+
+pub use attributes::attribute_value;
+pub use checks::{
+    has_deep, has_long_list, has_misshapen, has_other_value, has_unknown_class, has_unknown_feature,
+};
+pub use contents::conforms_to;
+pub use entries::{class_of, content_at, feature_name, is_single, known, values_of};
+pub use found::{Found, Numbers, Place, Row};
+pub use layout::{TopMembers, top};
+pub use walk::find_parts;

@@ -1,0 +1,151 @@
+//! What may be wrong with one object of a document, by itself.
+ghost use Rattle.std.specs.Prelude.{◌≡◌, false, map, not, string_bytes};
+ghost use Rattle.std.specs.BTreeMap.{keys};
+ghost use Rattle.std.specs.List.{list_all, list_any};
+ghost use Rattle.std.specs.Option.{option_map_or};
+ghost use Rattle.serde_json.specs.View.{members_view, view};
+ghost use Rattle.json_rows.specs.Rows.{keys_of};
+ghost use Rattle.mm_types.specs.Lookups.{is_concrete as concrete};
+ghost use Rattle.mm_types.specs.Shapes.{is_bounded as bounded, shape};
+ghost use Rattle.doc_parts.specs.Faults.{has_no_class as no_class, has_other_key as other_key, is_long as long, is_readable as readable};
+ghost use Rattle.doc_parts.specs.Contents.{is_content as content_meant};
+ghost use Rattle.doc_parts.specs.Layout.{written as written_meant};
+ghost use Rattle.doc_parts.specs.Parts.{content_at as content_at_meant, entries, entries_in, known as known_meant, new_entry};
+
+use crate::contents::is_content;
+use crate::entries::{content_at, known, values_of};
+use crate::layout::written;
+use mm_meta::Meta;
+use mm_types::{ClassNo, FeatureNo, limits};
+use serde_json::{Map, Value as JsonValue};
+
+fn is_concrete(meta: &Meta, class: ClassNo) -> bool
+    ensures { result ≡ concrete meta.now class }
+{
+    match meta.class(class) {
+        Some(found) => !found.is_abstract,
+        None => false,
+    }
+}
+
+/// Whether an object names no class, or an abstract one. Takes no memory.
+pub(crate) fn has_no_class(meta: &Meta, json: &JsonValue) -> bool
+    ensures { result ≡ option_map_or (no_class meta.now) (written_meant (view json.now)) false }
+{
+    let Some(object) = written(json) else {
+        return false;
+    };
+    match meta.class_by_name(object.class) {
+        Some(class) => !is_concrete(meta, class),
+        None => true,
+    }
+}
+
+/// Whether a name is that of a feature of a class, and of no container reference.
+fn is_readable(meta: &Meta, class: ClassNo, name: &str) -> bool
+    ensures { result ≡ readable meta.now class name.now }
+{
+    match meta.feature_by_name(class, name) {
+        Some(feature) => !meta.is_container(feature),
+        None => false,
+    }
+}
+
+fn are_readable(meta: &Meta, class: ClassNo, members: &Map<String, JsonValue>) -> bool
+    ensures { result ≡ list_all (λ k. readable meta.now class (string_bytes k)) (keys members.now) }
+{
+    members
+        .keys()
+        .all(|key| is_readable(meta, class, key.as_str()))
+}
+
+fn has_only_features(meta: &Meta, class: ClassNo, members: &Map<String, JsonValue>) -> bool
+    ensures { result ≡ list_all (readable meta.now class) (keys_of (members_view members.now.entries)) }
+{
+    are_readable(meta, class, members)
+}
+
+/// Whether an object has a key that is no feature of its class, or a container reference. Takes no memory.
+pub(crate) fn has_other_key(meta: &Meta, json: &JsonValue) -> bool
+    ensures { result ≡ option_map_or (other_key meta.now) (written_meant (view json.now)) false }
+{
+    let Some(object) = written(json) else {
+        return false;
+    };
+    match meta.class_by_name(object.class) {
+        Some(class) => !has_only_features(meta, class, object.features),
+        None => false,
+    }
+}
+
+fn is_other_content(meta: &Meta, members: &Map<String, JsonValue>, feature: FeatureNo) -> bool
+    ensures { result ≡ option_map_or (λ d. not (content_meant meta.now (new_entry feature d))) (content_at_meant meta.now (members_view members.now.entries) feature) false }
+{
+    match content_at(meta, members, feature) {
+        Some(content) => !is_content(meta, feature, content),
+        None => false,
+    }
+}
+
+fn is_bounded(meta: &Meta, feature: FeatureNo, count: usize) -> bool
+    ensures { result ≡ bounded (shape meta.now feature) count }
+{
+    if count > limits::LIST_VALUES {
+        return false;
+    }
+    match meta.feature(feature) {
+        Some(found) => found.upper < 1 || count as i64 <= i64::from(found.upper),
+        None => true,
+    }
+}
+
+fn is_long_content(meta: &Meta, members: &Map<String, JsonValue>, feature: FeatureNo) -> bool
+    ensures { result ≡ option_map_or (λ d. long meta.now (new_entry feature d)) (content_at_meant meta.now (members_view members.now.entries) feature) false }
+{
+    match content_at(meta, members, feature) {
+        Some(content) => !is_bounded(meta, feature, values_of(meta, feature, content).len()),
+        None => false,
+    }
+}
+
+fn is_any_other(meta: &Meta, members: &Map<String, JsonValue>, features: &[FeatureNo]) -> bool
+    ensures { result ≡ list_any (λ f. option_map_or (λ d. not (content_meant meta.now (new_entry f d))) (content_at_meant meta.now (members_view members.now.entries) f) false) features.now }
+{
+    features
+        .iter()
+        .any(|feature| is_other_content(meta, members, *feature))
+}
+
+/// Whether what is written under a feature of an object is not of the feature's type. Takes no memory.
+pub(crate) fn has_other_content(meta: &Meta, json: &JsonValue) -> bool
+    ensures { result ≡ list_any (λ e. not (content_meant meta.now e)) (entries meta.now (view json.now)) }
+{
+    let Some((class, members)) = known(meta, json) else {
+        return false;
+    };
+    match meta.features(class) {
+        Some(features) => is_any_other(meta, members, features),
+        None => false,
+    }
+}
+
+fn is_any_long(meta: &Meta, members: &Map<String, JsonValue>, features: &[FeatureNo]) -> bool
+    ensures { result ≡ list_any (λ f. option_map_or (λ d. long meta.now (new_entry f d)) (content_at_meant meta.now (members_view members.now.entries) f) false) features.now }
+{
+    features
+        .iter()
+        .any(|feature| is_long_content(meta, members, *feature))
+}
+
+/// Whether a list of an object has more values than it may have. Takes no memory.
+pub(crate) fn has_long_content(meta: &Meta, json: &JsonValue) -> bool
+    ensures { result ≡ list_any (long meta.now) (entries meta.now (view json.now)) }
+{
+    let Some((class, members)) = known(meta, json) else {
+        return false;
+    };
+    match meta.features(class) {
+        Some(features) => is_any_long(meta, members, features),
+        None => false,
+    }
+}

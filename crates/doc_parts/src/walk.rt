@@ -1,0 +1,167 @@
+//! The parts of a document are found, each before what it contains.
+ghost use Rattle.std.specs.Prelude.{◌≡◌, ◌++◌, IfOk, List, None, OnOk, Some, flat_map, if◌then◌else◌, map};
+ghost use Rattle.serde_json.specs.View.{members_view, view};
+ghost use Rattle.doc_parts.specs.Found.{FindsBelow, Knows, Walks, parts_at, parts_under, roots_from};
+ghost use Rattle.doc_parts.specs.Parts.{Part, parts_from};
+ghost use Rattle.doc_parts.specs.Places.{UnderKey, key_of};
+
+use crate::entries::{content_at, feature_name, is_single, known, values_of};
+use crate::found::{Found, Place};
+use mm_meta::Meta;
+use mm_types::FeatureNo;
+use serde_json::{Map, Value as JsonValue};
+use std::alloc::{AllocError, Global};
+
+/// Finds a part that stands at a place, and what is below it, for so many levels.
+#[cycle(walk)]
+pub(crate) fn walk<'v, 'm>(
+    found: &mut Found<'v, 'm>,
+    meta: &'m Meta,
+    levels: usize,
+    place: Place<'m>,
+    level: usize,
+    json: &'v JsonValue,
+) -> Result<(), AllocError>
+    ensures { OnOk result (Walks meta.entry.now levels found.old found.new (key_of place.entry) level (view json.entry.now)) }
+{
+    if levels == 0 {
+        return Ok(());
+    }
+    let part = found.add(place, level, json)?;
+    let Some(below) = level.checked_add(1) else {
+        return Err(AllocError);
+    };
+    match known(meta, json) {
+        Some((class, members)) => match meta.features(class) {
+            Some(features) => walk_features(
+                found,
+                meta,
+                levels - 1,
+                part,
+                below,
+                members,
+                features,
+            ),
+            None => Ok(()),
+        },
+        None => Ok(()),
+    }
+}
+
+#[cycle(walk)]
+fn walk_features<'v, 'm>(
+    found: &mut Found<'v, 'm>,
+    meta: &'m Meta,
+    levels: usize,
+    part: u32,
+    level: usize,
+    members: &'v Map<String, JsonValue>,
+    features: &[FeatureNo],
+) -> Result<(), AllocError>
+    ensures { OnOk result (FindsBelow found.old found.new part level (λ path. flat_map (parts_from meta.entry.now levels) (flat_map (parts_at meta.entry.now path (members_view members.entry.now.entries)) features.now))) }
+{
+    'features: for feature in features {
+        walk_feature(found, meta, levels, part, level, members, *feature)?;
+    }
+    Ok(())
+}
+
+#[cycle(walk)]
+fn walk_feature<'v, 'm>(
+    found: &mut Found<'v, 'm>,
+    meta: &'m Meta,
+    levels: usize,
+    part: u32,
+    level: usize,
+    members: &'v Map<String, JsonValue>,
+    feature: FeatureNo,
+) -> Result<(), AllocError>
+    ensures { OnOk result (FindsBelow found.old found.new part level (λ path. flat_map (parts_from meta.entry.now levels) (parts_at meta.entry.now path (members_view members.entry.now.entries) feature))) }
+{
+    if !meta.is_containment(feature) {
+        return Ok(());
+    }
+    match content_at(meta, members, feature) {
+        Some(content) => {
+            let single = is_single(meta, feature);
+            walk_values(
+                found,
+                meta,
+                levels,
+                part,
+                level,
+                feature_name(meta, feature),
+                single,
+                values_of(meta, feature, content),
+            )
+        }
+        None => Ok(()),
+    }
+}
+
+fn index_at(is_single: bool, position: u32) -> Option<u32>
+    ensures { result ≡ (if is_single then None else Some position) }
+{
+    if is_single { None } else { Some(position) }
+}
+
+#[cycle(walk)]
+fn walk_values<'v, 'm>(
+    found: &mut Found<'v, 'm>,
+    meta: &'m Meta,
+    levels: usize,
+    part: u32,
+    level: usize,
+    name: &'m str,
+    is_single: bool,
+    values: &'v [JsonValue],
+) -> Result<(), AllocError>
+    ensures { OnOk result (FindsBelow found.old found.new part level (λ path. flat_map (parts_from meta.entry.now levels) (parts_under path name.entry.now is_single (map view values.entry.now)))) }
+{
+    'values: for (i, value) in values.iter().enumerate() {
+        if i > u32::MAX as usize {
+            return Err(AllocError);
+        }
+        let index = index_at(is_single, i as u32);
+        walk(
+            found,
+            meta,
+            levels,
+            Place::Under { part, name, index },
+            level,
+            value,
+        )?;
+    }
+    Ok(())
+}
+
+fn walk_roots<'v, 'm>(
+    found: &mut Found<'v, 'm>,
+    meta: &'m Meta,
+    levels: usize,
+    roots: &'v [JsonValue],
+) -> Result<(), AllocError>
+    ensures { OnOk result ((ps : List Part) → Knows found.old ps → Knows found.new (ps ++ flat_map (parts_from meta.entry.now levels) (roots_from (map view roots.entry.now)))) }
+{
+    'roots: for (i, root) in roots.iter().enumerate() {
+        if i > u32::MAX as usize {
+            return Err(AllocError);
+        }
+        walk(found, meta, levels, Place::Root(i as u32), 1, root)?;
+    }
+    Ok(())
+}
+
+/// Finds the parts of the roots of a document, for so many levels, in loading order.
+pub fn find_parts<'v, 'm>(
+    alloc: Global,
+    meta: &'m Meta,
+    levels: usize,
+    roots: &'v [JsonValue],
+) -> Result<Found<'v, 'm>, AllocError>
+    ensures { IfOk result (λ found. Knows found (flat_map (parts_from meta.entry.now levels) (roots_from (map view roots.entry.now)))) }
+{
+    let mut found = Found::new(alloc);
+    walk_roots(&mut found, meta, levels, roots)?;
+    Ok(found)
+}

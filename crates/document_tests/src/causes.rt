@@ -1,0 +1,238 @@
+//! Why documents are refused: each cause by documents to which it is the lowest that applies.
+use crate::library::{library, of_roots, told};
+use std::test::Fail;
+
+/// Whole documents, and their refusals.
+const WHOLE: [(&str, &str); 17] = [
+    ("", "18 DOCUMENT 1 SYNTAX"),
+    ("{\"format\":1,\"roots\":[]", "18 DOCUMENT 1 SYNTAX"),
+    ("{\"format\":1,\"roots\":[]} x", "18 DOCUMENT 1 SYNTAX"),
+    (
+        "{\"format\":1,\"roots\":[\"\\ud800\"]}",
+        "18 DOCUMENT 1 SYNTAX",
+    ),
+    ("[]", "18 DOCUMENT 2 LAYOUT"),
+    ("{}", "18 DOCUMENT 2 LAYOUT"),
+    ("{\"format\":1}", "18 DOCUMENT 2 LAYOUT"),
+    ("{\"roots\":[]}", "18 DOCUMENT 2 LAYOUT"),
+    (
+        "{\"format\":1,\"roots\":[],\"more\":1}",
+        "18 DOCUMENT 2 LAYOUT",
+    ),
+    ("{\"format\":1.0,\"roots\":[]}", "18 DOCUMENT 2 LAYOUT"),
+    ("{\"format\":\"1\",\"roots\":[]}", "18 DOCUMENT 2 LAYOUT"),
+    ("{\"format\":1,\"roots\":{}}", "18 DOCUMENT 2 LAYOUT"),
+    ("{\"format\":1,\"roots\":[7]}", "18 DOCUMENT 2 LAYOUT"),
+    // A fault of layout anywhere wins over another format.
+    ("{\"format\":3,\"roots\":[null]}", "18 DOCUMENT 2 LAYOUT"),
+    ("{\"format\":2,\"roots\":[]}", "18 DOCUMENT 3 FORMAT"),
+    ("{\"format\":-1,\"roots\":[]}", "18 DOCUMENT 3 FORMAT"),
+    (
+        "{\"format\":3,\"roots\":[{\"class\":\"Nope\",\"features\":{}}]}",
+        "18 DOCUMENT 3 FORMAT",
+    ),
+];
+
+/// Roots of documents of format 1, and their refusals.
+const ROOTS: [(&str, &str); 46] = [
+    (r#"{"class":"Book"}"#, "18 DOCUMENT 2 LAYOUT"),
+    (r#"{"class":7,"features":{}}"#, "18 DOCUMENT 2 LAYOUT"),
+    (r#"{"class":"Book","features":[]}"#, "18 DOCUMENT 2 LAYOUT"),
+    (
+        r#"{"class":"Book","features":{},"x":1}"#,
+        "18 DOCUMENT 2 LAYOUT",
+    ),
+    // A contained object is of the layout too.
+    (
+        r#"{"class":"Folder","features":{"subs":[{"class":"Folder"}]}}"#,
+        "18 DOCUMENT 2 LAYOUT",
+    ),
+    (
+        r#"{"class":"Nope","features":{"x":1}}"#,
+        "18 DOCUMENT 4 CLASS",
+    ),
+    (r#"{"class":"Named","features":{}}"#, "18 DOCUMENT 4 CLASS"),
+    (
+        r#"{"class":"Resource","features":{}}"#,
+        "18 DOCUMENT 4 CLASS",
+    ),
+    // What stands inside the features of an unknown class is not looked at.
+    (
+        r#"{"class":"Nope","features":{"subs":[{"class":7}]}}"#,
+        "18 DOCUMENT 4 CLASS",
+    ),
+    (
+        r#"{"class":"Book","features":{"x":1}}"#,
+        "18 DOCUMENT 5 FEATURE",
+    ),
+    (
+        r#"{"class":"Book","features":{"Name":"a"}}"#,
+        "18 DOCUMENT 5 FEATURE",
+    ),
+    (
+        r#"{"class":"Book","features":{"library":7}}"#,
+        "18 DOCUMENT 5 FEATURE",
+    ),
+    (
+        r#"{"class":"Folder","features":{"name":"a","pages":"x"}}"#,
+        "18 DOCUMENT 5 FEATURE",
+    ),
+    (
+        r#"{"class":"Book","features":{"name":7}}"#,
+        "18 DOCUMENT 6 VALUE",
+    ),
+    (
+        r#"{"class":"Book","features":{"tags":"a"}}"#,
+        "18 DOCUMENT 6 VALUE",
+    ),
+    (
+        r#"{"class":"Book","features":{"tags":[null]}}"#,
+        "18 DOCUMENT 6 VALUE",
+    ),
+    (
+        r#"{"class":"Book","features":{"pages":[1]}}"#,
+        "18 DOCUMENT 6 VALUE",
+    ),
+    (
+        r#"{"class":"Book","features":{"pages":null}}"#,
+        "18 DOCUMENT 6 VALUE",
+    ),
+    (
+        r#"{"class":"Book","features":{"pages":2147483648}}"#,
+        "18 DOCUMENT 6 VALUE",
+    ),
+    (
+        r#"{"class":"Book","features":{"pages":-2147483649}}"#,
+        "18 DOCUMENT 6 VALUE",
+    ),
+    (
+        r#"{"class":"Book","features":{"pages":1.0}}"#,
+        "18 DOCUMENT 6 VALUE",
+    ),
+    (
+        r#"{"class":"Book","features":{"big":9223372036854775808}}"#,
+        "18 DOCUMENT 6 VALUE",
+    ),
+    (
+        r#"{"class":"Book","features":{"lent":0}}"#,
+        "18 DOCUMENT 6 VALUE",
+    ),
+    (
+        r#"{"class":"Book","features":{"genre":"PLAY"}}"#,
+        "18 DOCUMENT 6 VALUE",
+    ),
+    // A value of a containment that is no object, or of another class.
+    (
+        r#"{"class":"Folder","features":{"subs":[7]}}"#,
+        "18 DOCUMENT 6 VALUE",
+    ),
+    (
+        r#"{"class":"Folder","features":{"subs":[{"class":"Book","features":{}}]}}"#,
+        "18 DOCUMENT 6 VALUE",
+    ),
+    (
+        r#"{"class":"Person","features":{"likes":[7]}}"#,
+        "18 DOCUMENT 6 VALUE",
+    ),
+    // A contained object of another class is looked into all the same.
+    (
+        r#"{"class":"Folder","features":{"subs":[{"class":"Book","features":{"x":1}}]}}"#,
+        "18 DOCUMENT 5 FEATURE",
+    ),
+    (
+        r#"{"class":"Person","features":{"likes":["/9"]}}"#,
+        "18 DOCUMENT 7 REFERENCE",
+    ),
+    (
+        r#"{"class":"Person","features":{"likes":["/"]}}"#,
+        "18 DOCUMENT 7 REFERENCE",
+    ),
+    (
+        r#"{"class":"Person","features":{"likes":[""]}}"#,
+        "18 DOCUMENT 7 REFERENCE",
+    ),
+    (
+        r#"{"class":"Person","features":{"likes":["http://m.example/b"]}}"#,
+        "18 DOCUMENT 7 REFERENCE",
+    ),
+    (
+        r#"{"class":"Person","features":{"likes":["b#0"]}}"#,
+        "18 DOCUMENT 7 REFERENCE",
+    ),
+    (
+        r#"{"class":"Person","features":{"likes":["ftp://m.example/b#/"]}}"#,
+        "18 DOCUMENT 7 REFERENCE",
+    ),
+    (
+        r#"{"class":"Book","features":{"next":"/00"}}"#,
+        "18 DOCUMENT 7 REFERENCE",
+    ),
+    // An index into a single feature, and none into a list.
+    (
+        r#"{"class":"Person","features":{"cover":{"class":"Folder","features":{"friends":["//@cover.0"]}}}}"#,
+        "18 DOCUMENT 7 REFERENCE",
+    ),
+    (
+        r#"{"class":"Folder","features":{"friends":["//@subs"],"subs":[{"class":"Folder","features":{}}]}}"#,
+        "18 DOCUMENT 7 REFERENCE",
+    ),
+    (
+        r#"{"class":"Book","features":{"tags":["a","b","a"]}}"#,
+        "18 DOCUMENT 8 DUPLICATE",
+    ),
+    // Two texts for one object, and one proxy twice.
+    (
+        r##"{"class":"Person","features":{"likes":["/1","#/1"]}},{"class":"Book","features":{}}"##,
+        "18 DOCUMENT 8 DUPLICATE",
+    ),
+    (
+        r#"{"class":"Person","features":{"likes":["b#/","http://m.example/b#/"]}}"#,
+        "18 DOCUMENT 8 DUPLICATE",
+    ),
+    (
+        r#"{"class":"Book","features":{"scores":[1,1,1,1]}}"#,
+        "18 DOCUMENT 9 BOUND",
+    ),
+    (
+        r#"{"class":"Library","features":{"staff":["/1"]}},{"class":"Person","features":{}}"#,
+        "18 DOCUMENT 10 ONE_SIDED",
+    ),
+    (
+        r#"{"class":"Book","features":{"next":"/1"}},{"class":"Book","features":{"prev":"/1"}}"#,
+        "18 DOCUMENT 10 ONE_SIDED",
+    ),
+    // A proxy at the other end names nobody of the document.
+    (
+        r#"{"class":"Library","features":{"staff":["/1"]}},{"class":"Person","features":{"job":"b#/"}}"#,
+        "18 DOCUMENT 10 ONE_SIDED",
+    ),
+    (
+        r#"{"class":"Person","features":{"job":"b#/"}}"#,
+        "18 DOCUMENT 11 CROSS",
+    ),
+    (
+        r#"{"class":"Folder","features":{"friends":["b#/"]}}"#,
+        "18 DOCUMENT 11 CROSS",
+    ),
+];
+
+#[test]
+fn whole_documents_are_refused(rt: HostRuntime) -> Result<(), Fail> {
+    let meta = library(rt.alloc())?;
+    for (document, wanted) in &WHOLE {
+        let answer = told(rt.alloc(), &meta, document.as_bytes())?;
+        assert_eq!(rt; answer.as_str(), *wanted, "at {document}");
+    }
+    Ok(())
+}
+
+#[test]
+fn roots_are_refused(rt: HostRuntime) -> Result<(), Fail> {
+    let meta = library(rt.alloc())?;
+    for (roots, wanted) in &ROOTS {
+        let document = of_roots(rt.alloc(), roots)?;
+        let answer = told(rt.alloc(), &meta, document.as_bytes())?;
+        assert_eq!(rt; answer.as_str(), *wanted, "at {roots}");
+    }
+    Ok(())
+}

@@ -1,0 +1,129 @@
+-- What bytes, a value and its parts are read as, by cases.
+use Rattle.std.proofs.Common.{◌≡◌, ◌∙◌, ◌≤◌, ◌++◌, Bool, true, false, List, [], ◌∷◌, Option, Some, None, ℕ, ℤ, IsUtf8, ap, arith, cond, length, map, refl, subst, sym}
+use Rattle.std.specs.Prelude.{Ok, Err, flat_map, filter_map, slice_get}
+use Rattle.std.specs.List.{All, enumerate_from}
+use Rattle.std.specs.Option.{option_map_or, option_or}
+use Rattle.std.specs.Str.{is_utf8}
+use Rattle.std.proofs.lemmas.List.{length-map}
+use Rattle.std.proofs.lemmas.List.FromFn.{length-enumerate_from}
+use Rattle.std.proofs.lemmas.List.Elements.{All-append, All-contains, All-get_or, All-head, All-nil, All-tail}
+use Rattle.std.proofs.lemmas.Option.{get_or_from_slice_get, slice_get_within}
+use Rattle.std.proofs.lemmas.Str.{IsUtf8-from_is_utf8, is_utf8-from_IsUtf8}
+use Rattle.serde_json.specs.Data.{Data, depth}
+use Rattle.serde_json.specs.Read.{read}
+use Rattle.serde_json.specs.View.{items_view, view}
+use Rattle.serde_json.specs.declared.value.Value as json
+use Rattle.mm_types.specs.Resolved.{Metamodel}
+use Rattle.mm_types.specs.Same.{same_feature}
+use Rattle.mm_types.specs.declared.document_fault.DocFault.{DocFault}
+use Rattle.mm_types.specs.declared.document_fault.DocFault.TheVariants as cause
+use Rattle.mm_types.specs.declared.numbers.FeatureNo.{FeatureNo}
+use Rattle.mm_types.specs.declared.numbers.ObjectNo.{ObjectNo}
+use Rattle.mm_types.specs.declared.value.Value.{Value}
+use Rattle.mm_types.specs.declared.value.Value.TheVariants as value
+use Rattle.web_uris.specs.Paths.{new_path}
+use Rattle.doc_parts.specs.Found.{Knows, roots_from}
+use Rattle.doc_parts.specs.Layout.{Top, new_top, top}
+use Rattle.doc_parts.specs.Parts.{Part, list_of, parts, parts_from, root_parts}
+use Rattle.doc_parts.specs.declared.found.Found.{Found}
+use Rattle.doc_parts.proofs.DataLemmas.{list_of-items_of}
+use Rattle.doc_parts.proofs.DepthLemmas.{parts_within}
+use Rattle.resource_docs.specs.Causes.{HasProxyTexts, cause_of, reads, reads_bytes, reads_if, sense_cause, shape_cause, unless_faulty}
+use Rattle.resource_docs.specs.Read.{doc_read, object_read, root_number, values_in, values_under}
+use Rattle.resource_docs.specs.Reading.{IsProxyContent, IsProxyObject, objects_so_far}
+use Rattle.resource_docs.specs.Texts.{Base, base_of}
+use Rattle.resource_docs.specs.Values.{IsProxyValue}
+use Rattle.resource_docs.specs.declared.doc.Content.{Content}
+use Rattle.resource_docs.specs.declared.doc.Doc.{Doc}
+use Rattle.resource_docs.specs.declared.doc.DocObject.{DocObject}
+use Rattle.resource_docs.specs.declared.objects.ReadObjects.{ReadObjects}
+
+---------------------------------------------------------------- proxies
+
+one_under : (b : Bool) (c : Content) (vs : List Value) → IsProxyContent c → All IsProxyValue vs → All IsProxyValue (cond b c.values [] ++ vs)
+one_under true c vs here rest = All-append IsProxyValue c.values vs here rest
+one_under false c vs here rest = rest
+
+under : (f : FeatureNo) (cs : List Content) → All IsProxyContent cs → All IsProxyValue (flat_map (λ c. cond (same_feature f c.feature) c.values []) cs)
+under f [] all = All-nil IsProxyValue
+under f (c ∷ cs) all =
+    one_under (same_feature f c.feature) c (flat_map (λ x. cond (same_feature f x.feature) x.values []) cs) (All-head IsProxyContent c cs all) (under f cs (All-tail IsProxyContent c cs all))
+
+values_at : (f : FeatureNo) (os : List DocObject) (n : ℕ) (o : Option DocObject) → slice_get os n ≡ o → All IsProxyObject os → All IsProxyValue (option_map_or (λ x. values_under x f) o [])
+values_at f os n None is all = All-nil IsProxyValue
+values_at f os n (Some x) is all =
+    under f x.contents (subst IsProxyObject (get_or_from_slice_get os n x x is) (All-get_or IsProxyObject os n x (slice_get_within os n x is) all))
+
+pub proxy_texts : (doc : Doc) → All IsProxyObject doc.objects → HasProxyTexts doc
+proxy_texts doc all o f t there = All-contains IsProxyValue (values_in doc o f) (value.Proxy t) (values_at f doc.objects o.0 (slice_get doc.objects o.0) refl all) there
+
+---------------------------------------------------------------- the document that is read
+
+new_doc : List DocObject → List ObjectNo → Doc
+new_doc os ns = record { objects = os; roots = ns }
+
+pub doc_is : (m : Metamodel) (b : Base) (d : Data) (rs : List Part) (r : ReadObjects) (ns : List ObjectNo) → r ≡ objects_so_far m b (parts m d) (parts m d)
+    → ns ≡ filter_map (λ p. root_number (parts m d) p.path) rs → root_parts d ≡ rs → record { objects = r.objects; roots = ns } ≡ doc_read m b d
+unfolding new_doc doc_read
+doc_is m b d rs r ns objects numbers roots =
+    ap (λ x. new_doc x.objects ns) objects
+    ∙ ap (new_doc (map (object_read m b (parts m d)) (parts m d))) (numbers ∙ ap (filter_map (λ p. root_number (parts m d) p.path)) (sym roots))
+
+pub no_fault : (doc wanted : Doc) (says : Doc → Option DocFault) → doc ≡ wanted → None ≡ says doc → unless_faulty (says wanted) wanted ≡ Ok doc
+no_fault doc wanted says is none = ap (λ x. unless_faulty (says x) x) (sym is) ∙ ap (λ o. unless_faulty o doc) (sym none)
+
+pub one_fault : (doc wanted : Doc) (says : Doc → Option DocFault) (f : DocFault) → doc ≡ wanted → Some f ≡ says doc → unless_faulty (says wanted) wanted ≡ Err f
+one_fault doc wanted says f is some = ap (λ o. unless_faulty o wanted) (ap says (sym is) ∙ sym some)
+
+---------------------------------------------------------------- shapes
+
+pub shape_faulty : (m : Metamodel) (b : Base) (d : Data) (t : Top) (f : DocFault) → top d ≡ Some t → Some f ≡ shape_cause m (Some t) (parts m d) → reads m b d ≡ Err f
+unfolding cause_of
+shape_faulty m b d t f here some =
+    ap (λ o. unless_faulty (option_or o (sense_cause m b d (parts m d) (doc_read m b d))) (doc_read m b d)) (ap (λ x. shape_cause m x (parts m d)) here ∙ sym some)
+
+pub shape_right : (m : Metamodel) (b : Base) (d : Data) (t : Top) → top d ≡ Some t → None ≡ shape_cause m (Some t) (parts m d)
+    → unless_faulty (sense_cause m b d (parts m d) (doc_read m b d)) (doc_read m b d) ≡ reads m b d
+unfolding cause_of
+shape_right m b d t here none =
+    sym (ap (λ o. unless_faulty (option_or o (sense_cause m b d (parts m d) (doc_read m b d))) (doc_read m b d)) (ap (λ x. shape_cause m x (parts m d)) here ∙ sym none))
+
+pub no_top : (m : Metamodel) (b : Base) (d : Data) → top d ≡ None → reads m b d ≡ Err cause.Layout
+unfolding cause_of
+no_top m b d none = ap (λ x. unless_faulty (option_or (shape_cause m x (parts m d)) (sense_cause m b d (parts m d) (doc_read m b d))) (doc_read m b d)) none
+
+root_of : ℕ × Data → Part
+root_of v = record { path = new_path v.0 []; json = v.1 }
+
+pub roots_are : (d : Data) (format : ℤ) (vs : List json.Value) → top d ≡ Some (new_top format (items_view vs)) → root_parts d ≡ roots_from (map view vs)
+roots_are d format vs here =
+    ap (λ o. option_map_or (λ t. roots_from (list_of t.roots)) o []) here ∙ ap roots_from (list_of-items_of (map view vs))
+
+pub count_roots : (vs : List json.Value) (rs : List Part) → rs ≡ roots_from (map view vs) → length vs ≡ length rs
+unfolding root_of
+count_roots vs rs are =
+    let a = ap length are in
+    let b = length-map (enumerate_from 0 (map view vs)) root_of in
+    let c = length-enumerate_from 0 (map view vs) in
+    let d = length-map vs view in
+    omega (arith, a, b, c, d)
+
+-- enough levels find the parts of a document
+pub found_parts : (m : Metamodel) (f : Found) (n : ℕ) (d : Data) (format : ℤ) (vs : List json.Value) → depth d ≤ n → top d ≡ Some (new_top format (items_view vs))
+    → Knows f (flat_map (parts_from m n) (roots_from (map view vs))) → Knows f (parts m d)
+found_parts m f n d format vs deep here known =
+    subst (Knows f) (sym (parts_within m n d deep ∙ ap (flat_map (parts_from m n)) (roots_are d format vs here))) known
+
+---------------------------------------------------------------- bytes
+
+chosen_else : {X : Type 0} (b : Bool) (x y : X) → (b ≡ true → x ≡ y) → cond b x y ≡ y
+chosen_else true x y h = h refl
+chosen_else false x y h = refl
+
+pub not_json : (m : Metamodel) (uri bytes : List ℕ) → (IsUtf8 bytes → read bytes ≡ None) → reads_bytes m uri bytes ≡ Err cause.Syntax
+unfolding reads_bytes
+not_json m uri bytes h = ap (reads_if m (base_of uri)) (chosen_else (is_utf8 bytes) (read bytes) None (λ e. h (IsUtf8-from_is_utf8 bytes e)))
+
+pub is_json : (m : Metamodel) (uri bytes : List ℕ) (d : Data) → IsUtf8 bytes → read bytes ≡ Some d → reads m (base_of uri) d ≡ reads_bytes m uri bytes
+unfolding reads_bytes
+is_json m uri bytes d utf8 is = let e = is_utf8-from_IsUtf8 bytes utf8 in sym (ap (λ b. reads_if m (base_of uri) (cond b (read bytes) None)) e ∙ ap (reads_if m (base_of uri)) is)

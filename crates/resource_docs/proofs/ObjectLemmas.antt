@@ -1,0 +1,46 @@
+-- One more content or object is read.
+use Rattle.std.proofs.Common.{◌≡◌, ◌∙◌, ◌+◌, ◌<◌, ◌++◌, List, [], ◌∷◌, ℕ, ap, arith, get_or, length, sym, take}
+use Rattle.std.specs.Prelude.{IfOk, Result, Ok, Err, option_to_list}
+use Rattle.std.specs.List.{filter_map}
+use Rattle.std.proofs.lemmas.List.{get_or-map, take_more}
+use Rattle.serde_json.specs.Data.{Members, null}
+use Rattle.mm_types.specs.Resolved.{Metamodel}
+use Rattle.mm_types.specs.declared.numbers.FeatureNo.{FeatureNo}
+use Rattle.web_uris.specs.Paths.{new_path}
+use Rattle.doc_parts.specs.Found.{Knows, row_seen, seen}
+use Rattle.doc_parts.specs.Parts.{Part, entry_at, known}
+use Rattle.doc_parts.specs.declared.found.Found.{Found}
+use Rattle.doc_parts.specs.declared.found.Row.{Row}
+use Rattle.doc_parts.proofs.KnowLemmas.{count_known}
+use Rattle.resource_docs.proofs.ReadingLemmas.{filter_map-push}
+
+pub if_ok : {X E : Type 0} (P Q : X → Type 0) (r : Result X E) → ((x : X) → P x → Q x) → IfOk r P → IfOk r Q
+if_ok P Q (Ok x) more h = more x h
+if_ok P Q (Err e) more h = tt
+
+---------------------------------------------------------------- contents
+
+pub entries_more : (m : Metamodel) (ms : Members) (fs : List FeatureNo) (i : ℕ) (d : FeatureNo) → i < length fs
+    → filter_map (entry_at m ms) (take i fs) ++ option_to_list (entry_at m ms (get_or fs i d)) ≡ filter_map (entry_at m ms) (take (i + 1) fs)
+entries_more m ms fs i d below = sym (ap (filter_map (entry_at m ms)) (take_more fs i d below) ∙ filter_map-push (entry_at m ms) (take i fs) (get_or fs i d))
+
+---------------------------------------------------------------- objects
+
+no_part : Part
+no_part = record { path = new_path 0 []; json = null }
+
+-- the part of a row
+pub part_at : List Part → ℕ → Part
+part_at ps i = get_or ps i no_part
+
+pub parts_more : (f : Found) (ps : List Part) (i : ℕ) → Knows f ps → i < length f.rows.items → take i ps ++ part_at ps i ∷ [] ≡ take (i + 1) ps
+unfolding part_at
+parts_more f ps i known below = let e = count_known ps f.rows.items known.rows in sym (take_more ps i no_part (omega (arith, below, e)))
+
+pub row_of_part : (f : Found) (ps : List Part) (i : ℕ) (r : Row) → Knows f ps → i < length f.rows.items → r ≡ get_or f.rows.items i r → row_seen r ≡ seen ps (part_at ps i)
+unfolding part_at
+row_of_part f ps i r known below is =
+    ap row_seen is
+    ∙ sym (get_or-map row_seen f.rows.items i r (row_seen r) below)
+    ∙ ap (λ ss. get_or ss i (row_seen r)) known.rows
+    ∙ (let e = count_known ps f.rows.items known.rows in get_or-map (seen ps) ps i no_part (row_seen r) (omega (arith, below, e)))

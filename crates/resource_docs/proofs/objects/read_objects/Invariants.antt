@@ -1,0 +1,14 @@
+use Rattle.std.proofs.Common.{◌≡◌, List, take}
+use Rattle.std.specs.List.{All}
+use Rattle.doc_parts.specs.Found.{Knows}
+use Rattle.doc_parts.specs.Parts.{Part}
+use Rattle.resource_docs.specs.Reading.{IsProxyObject, objects_so_far}
+use Rattle.resource_docs.specs.Texts.{base_of}
+use Rattle.resource_docs.proofs.objects.read_objects.Given as goal
+
+abbrev pub invariant-rows : goal.invariant-rows
+invariant-rows l =
+    record {
+      value : (ps : List Part) → Knows l.source.found.now ps → l.read ≡ objects_so_far l.source.meta.now (base_of l.source.uri.now) ps (take l.row-index ps);
+      proxy : All IsProxyObject l.read.objects;
+    }

@@ -1,0 +1,134 @@
+-- Why a document can't be read: the first cause that applies to anything that is looked at.
+use Rattle.std.specs.Prelude.{◌≡◌, ℕ, ◌&&◌, ◌||◌, pos, Bool, true, false, not, List, [], ◌∷◌, Contains, length, is_some, Option, Some, None, Result, Ok, Err, if◌then◌else◌}
+use Rattle.std.specs.List.{enumerate_from, list_any}
+use Rattle.std.specs.Option.{option_map_or}
+use Rattle.std.specs.Ordering.{int_eq}
+use Rattle.std.specs.Str.{is_utf8}
+use Rattle.serde_json.specs.Data.{Data}
+use Rattle.serde_json.specs.Read.{read}
+use Rattle.mm_types.specs.Conditions.{◌else_by◌, ◌where_so◌}
+use Rattle.mm_types.specs.Resolved.{Metamodel}
+use Rattle.mm_types.specs.Same.{same_value}
+use Rattle.mm_types.specs.Shapes.{contents_shape, is_bounded, is_containment, shape}
+use Rattle.mm_types.specs.declared.document_fault.DocFault.{DocFault}
+use Rattle.mm_types.specs.declared.document_fault.DocFault.TheVariants as cause
+use Rattle.mm_types.specs.declared.numbers.FeatureNo.{FeatureNo}
+use Rattle.mm_types.specs.declared.numbers.ObjectNo.{ObjectNo}
+use Rattle.mm_types.specs.declared.refused.Refused.{Refused}
+use Rattle.mm_types.specs.declared.refused.Refused.TheVariants.{Document, Memory}
+use Rattle.mm_types.specs.declared.value.Value.{Value}
+use Rattle.mm_types.specs.declared.value.Value.TheVariants as value
+use Rattle.web_uris.specs.Addresses.{IsProxyText}
+use Rattle.doc_parts.specs.Contents.{is_content}
+use Rattle.doc_parts.specs.Faults.{has_no_class, has_other_key, is_deep, is_long, is_misshapen, of_entry, of_written}
+use Rattle.doc_parts.specs.Layout.{Top, top}
+use Rattle.doc_parts.specs.Parts.{Part, parts, root_parts}
+use Rattle.resource_docs.specs.Read.{doc_read, values_in}
+use Rattle.resource_docs.specs.Texts.{Base, base_of}
+use Rattle.resource_docs.specs.Values.{has_lost}
+use Rattle.resource_docs.specs.declared.doc.Content.{Content}
+use Rattle.resource_docs.specs.declared.doc.Doc.{Doc}
+
+---------------------------------------------------------------- 3: the format
+
+abbrev pub has_other_format : Top → Bool
+has_other_format t = not (int_eq t.format (pos 1))  -- opposites across resources: another than 1 and 2
+
+---------------------------------------------------------------- 9: roots
+
+abbrev pub has_many_roots : Metamodel → Data → Bool
+has_many_roots m d = not (is_bounded (contents_shape m) (length (root_parts d)))
+
+---------------------------------------------------------------- 8, 10 and 11: ends
+
+abbrev pub repeats_value : List Value → Bool
+repeats_value [] = false
+repeats_value (v ∷ vs) = list_any (same_value v) vs || repeats_value vs
+
+abbrev pub has_repeat : Metamodel → Content → Bool
+has_repeat m c = (shape m c.feature).is_unique && repeats_value c.values
+
+-- an object that is named under a feature with opposite doesn't name the one that names it
+abbrev pub is_unanswered : Metamodel → Doc → ObjectNo → FeatureNo → Value → Bool
+is_unanswered m d o f (value.Object b) =
+    option_map_or (λ g. not (list_any (same_value (value.Object o)) (values_in d b g))) (shape m f).opposite false
+is_unanswered m d o f _ = false
+
+abbrev pub is_one_sided : Metamodel → Doc → ObjectNo → Content → Bool
+is_one_sided m d o c = not (is_containment m c.feature) && list_any (is_unanswered m d o c.feature) c.values
+
+abbrev pub is_proxy : Value → Bool
+is_proxy (value.Proxy t) = true
+is_proxy _ = false
+
+-- opposites across resources: only in a document of format 1
+abbrev pub has_cross : Metamodel → Content → Bool
+has_cross m c = is_some (shape m c.feature).opposite && list_any is_proxy c.values
+
+---------------------------------------------------------------- the causes in order
+
+-- something holds of a list of the document
+abbrev pub of_content : (ObjectNo → Content → Bool) → Doc → Bool
+of_content holds d = list_any (λ x. list_any (holds (record { 0 = x.0 })) x.1.contents) (enumerate_from 0 d.objects)
+
+-- the shape of what is written, its names and types
+abbrev pub shape_cause : Metamodel → Option Top → List Part → Option DocFault
+shape_cause m t ps =
+    cause.Layout where_so (not (is_some t) || list_any is_misshapen ps) else_by
+    cause.Format where_so option_map_or has_other_format t false else_by
+    cause.Class where_so of_written (has_no_class m) ps else_by
+    cause.Feature where_so of_written (has_other_key m) ps else_by
+    cause.Value where_so of_entry m (λ e. not (is_content m e)) ps
+
+-- what it leads to, how much there is of it, and how deep it lies
+abbrev pub sense_cause : Metamodel → Base → Data → List Part → Doc → Option DocFault
+sense_cause m b d ps doc =
+    cause.Reference where_so of_entry m (has_lost m b ps) ps else_by
+    cause.Duplicate where_so of_content (λ o c. has_repeat m c) doc else_by
+    cause.Bound where_so (has_many_roots m d || of_entry m (is_long m) ps) else_by
+    cause.OneSided where_so of_content (is_one_sided m doc) doc else_by
+    cause.Cross where_so of_content (λ o c. has_cross m c) doc else_by
+    cause.Depth where_so list_any is_deep ps
+
+unfoldable pub cause_of : Metamodel → Base → Data → Option DocFault
+cause_of m b d = let ps = parts m d in shape_cause m (top d) ps else_by sense_cause m b d ps (doc_read m b d)
+
+abbrev pub unless_faulty : Option DocFault → Doc → Result Doc DocFault
+unless_faulty None doc = Ok doc
+unless_faulty (Some f) doc = Err f
+
+-- what a JSON value is read as, in the resource of a base
+abbrev pub reads : Metamodel → Base → Data → Result Doc DocFault
+reads m b d = unless_faulty (cause_of m b d) (doc_read m b d)
+
+-- what bytes are read as: the first cause is that they are no JSON
+abbrev pub parsed : List ℕ → Option Data
+parsed bytes = if is_utf8 bytes then read bytes else None
+
+abbrev pub reads_if : Metamodel → Base → Option Data → Result Doc DocFault
+reads_if m b None = Err cause.Syntax
+reads_if m b (Some d) = reads m b d
+
+unfoldable pub reads_bytes : Metamodel → List ℕ → List ℕ → Result Doc DocFault
+reads_bytes m uri bytes = reads_if m (base_of uri) (parsed bytes)
+
+-- each proxy of a document has the text of one
+abbrev pub HasProxyTexts : Doc → Type 0
+HasProxyTexts doc = (o : ObjectNo) (f : FeatureNo) (t : List ℕ) → Contains (values_in doc o f) (value.Proxy t) → IsProxyText t
+
+-- a document as reading gives it for a metamodel, in a resource of a URI
+pub record IsRead (m : Metamodel) (uri : List ℕ) (doc : Doc) : Type 0 where
+  pub source : Data
+  pub gives : reads m (base_of uri) source ≡ Ok doc
+  pub proxies : HasProxyTexts doc
+
+-- what was answered is what is to be read, a document or its fault, unless memory was refused
+abbrev pub Answers : Result Doc Refused → Result Doc DocFault → Type 0
+Answers (Ok doc) wanted = (wanted ≡ Ok doc) × HasProxyTexts doc
+Answers (Err (Document f)) wanted = wanted ≡ Err f
+Answers (Err Memory) wanted = Unit {0}
+Answers (Err _) wanted = ⊥
+
+-- what reading gives: the document, its fault, or that memory was refused
+abbrev pub Reads : Result Doc Refused → Metamodel → List ℕ → List ℕ → Type 0
+Reads result m uri bytes = Answers result (reads_bytes m uri bytes)

@@ -1,0 +1,15 @@
+-- Values as a set keeps them.
+use Rattle.mm_types.specs.declared.value.Value.{Value}
+use Rattle.mm_types.specs.declared.value.Value.TheVariants as value
+use Rattle.resource_docs.specs.declared.repeats.Key.{Key}
+use Rattle.resource_docs.specs.declared.repeats.Key.TheVariants as key
+
+abbrev pub value_of_key : Key → Value
+value_of_key key.Null = value.Null
+value_of_key (key.Bool b) = value.Bool b
+value_of_key (key.Int n) = value.Int n
+value_of_key (key.Text t) = value.Text t.now
+value_of_key (key.Literal i) = value.Literal i
+value_of_key (key.Object o) = value.Object (record { 0 = o })
+value_of_key (key.Proxy t) = value.Proxy t.now
+value_of_key (key.Adapter a) = value.Adapter (record { 0 = a })

@@ -1,0 +1,62 @@
+-- What is read so far, and whether a reference in it is lost.
+use Rattle.std.specs.Prelude.{◌≡◌, ◌++◌, ◌||◌, ℕ, Bool, not, List, [], ◌∷◌, filter, filter_map, map, Some}
+use Rattle.std.specs.List.{All, enumerate_from, list_any}
+use Rattle.serde_json.specs.Data.{Data}
+use Rattle.mm_types.specs.Resolved.{Metamodel}
+use Rattle.mm_types.specs.Same.{is_nil}
+use Rattle.mm_types.specs.declared.feature.Kind.{Kind}
+use Rattle.mm_types.specs.declared.numbers.FeatureNo.{FeatureNo}
+use Rattle.mm_types.specs.declared.value.Value.{Value}
+use Rattle.web_uris.specs.declared.path.Path.{Path}
+use Rattle.doc_parts.specs.Faults.{of_entry}
+use Rattle.doc_parts.specs.Found.{Knows}
+use Rattle.doc_parts.specs.Parts.{Entry, Part, number_of}
+use Rattle.doc_parts.specs.declared.found.Found.{Found}
+use Rattle.resource_docs.specs.Read.{contents_read, object_read, values_read}
+use Rattle.resource_docs.specs.Texts.{Base}
+use Rattle.resource_docs.specs.Values.{IsProxyValue, has_lost, is_lost, value_of}
+use Rattle.resource_docs.specs.declared.doc.Content.{Content}
+use Rattle.resource_docs.specs.declared.doc.DocObject.{DocObject}
+use Rattle.resource_docs.specs.declared.objects.ReadContents.{ReadContents}
+use Rattle.resource_docs.specs.declared.objects.ReadObjects.{ReadObjects}
+use Rattle.resource_docs.specs.declared.values.ReadValues.{ReadValues}
+
+-- something holds of the path whose first part has a number, whatever the parts that were found
+abbrev pub Numbered : Found → ℕ → (List Part → Path → Type 0) → Type 0
+Numbered f n says = (ps : List Part) (path : Path) → Knows f ps → number_of ps path ≡ Some n → says ps path
+
+---------------------------------------------------------------- values under a feature
+
+abbrev pub new_values : List Value → Bool → ReadValues
+new_values vs lost = record { values = vs; is_lost = lost }
+
+-- the first values of a feature
+abbrev pub values_so_far : Metamodel → Base → List Part → Path → FeatureNo → Kind → List Data → ReadValues
+values_so_far m b ps path f k ds =
+    record { values = filter_map (value_of m b ps path f k) (enumerate_from 0 ds); is_lost = list_any (is_lost m b ps k) ds }
+
+-- all that is written under a feature
+abbrev pub entry_read : Metamodel → Base → List Part → Path → Entry → ReadValues
+entry_read m b ps path e = record { values = values_read m b ps path e; is_lost = has_lost m b ps e }
+
+---------------------------------------------------------------- objects
+
+abbrev pub contents_so_far : Metamodel → Base → List Part → Path → List Entry → ReadContents
+contents_so_far m b ps path es = record { contents = contents_read m b ps path es; is_lost = list_any (has_lost m b ps) es }
+
+-- with what was read under one more feature, unless that is nothing
+abbrev pub with_values : ReadContents → FeatureNo → ReadValues → ReadContents
+with_values r f v =
+    record { contents = r.contents ++ filter (λ c. not (is_nil c.values)) (record { feature = f; values = v.values } ∷ []); is_lost = r.is_lost || v.is_lost }
+
+abbrev pub objects_so_far : Metamodel → Base → List Part → List Part → ReadObjects
+objects_so_far m b ps qs = record { objects = map (object_read m b ps) qs; is_lost = of_entry m (has_lost m b ps) qs }
+
+---------------------------------------------------------------- proxies
+
+-- each proxy has the text of one
+abbrev pub IsProxyContent : Content → Type 0
+IsProxyContent c = All IsProxyValue c.values
+
+abbrev pub IsProxyObject : DocObject → Type 0
+IsProxyObject o = All IsProxyContent o.contents

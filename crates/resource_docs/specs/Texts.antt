@@ -1,0 +1,44 @@
+-- What the text of a reference leads to: an object of the document itself, or one of another resource.
+use Rattle.std.specs.Prelude.{◌≡◌, ℕ, List, [], ◌∷◌, Option, Some, option_map, if◌then◌else◌}
+use Rattle.std.specs.Str.{bytes_eq}
+use Rattle.json_rows.specs.Rows.{◌>>=◌}
+use Rattle.web_uris.specs.Addresses.{IsProxyText, address_text, fragment_part, has_mark, uri_part}
+use Rattle.web_uris.specs.Joined.{IsWebUri, joined}
+use Rattle.web_uris.specs.Paths.{parse}
+use Rattle.web_uris.specs.declared.path.Path.{Path}
+use Rattle.resource_docs.specs.declared.target.Target.{Target}
+use Rattle.resource_docs.specs.declared.target.Target.TheVariants.{Here, Elsewhere}
+
+-- a resource's URI, and how a reference joins with it
+pub record Base : Type 0 where
+  pub uri : List ℕ
+  pub join : List ℕ → Option (List ℕ)
+
+abbrev pub base_of : List ℕ → Base
+base_of uri = record { uri = uri; join = joined uri }
+
+-- an empty part is the resource's own URI
+abbrev pub uri_meant : Base → List ℕ → Option (List ℕ)
+uri_meant b [] = Some b.uri
+uri_meant b (c ∷ cs) = b.join (c ∷ cs)
+
+-- the resource's own URI is compared as a text
+abbrev pub target_in : Base → List ℕ → List ℕ → Path → Target
+target_in b rest uri p = if bytes_eq uri b.uri then Here p else Elsewhere (address_text uri rest)
+
+-- a URI, or an empty part, and a fragment behind it
+abbrev pub target_at : Base → List ℕ → List ℕ → Option Target
+target_at b part rest = parse rest >>= (λ p. option_map (λ u. target_in b rest u p) (uri_meant b part))
+
+-- without `#` a fragment of the document; with it a URI before the first one, and a fragment behind
+abbrev pub target : Base → List ℕ → Option Target
+target b t = if has_mark t then target_at b (uri_part t) (fragment_part t) else option_map Here (parse t)
+
+-- what stands for an object of another resource has the text of a proxy
+abbrev pub IsProxyTarget : Target → Type 0
+IsProxyTarget (Here p) = Unit {0}
+IsProxyTarget (Elsewhere t) = IsProxyText t
+
+-- a URI other than the resource's own is one as joining gives it
+abbrev pub IsWebElsewhere : List ℕ → List ℕ → Type 0
+IsWebElsewhere uri meant = (meant ≡ uri → ⊥) → IsWebUri meant

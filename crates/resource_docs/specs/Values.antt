@@ -1,0 +1,68 @@
+-- What the values under a feature are read as: values of attributes, objects of the document by their numbers, and proxies.
+use Rattle.std.specs.Prelude.{ℕ, Bool, true, false, not, List, slice_get, Option, Some, None, is_some, option_map, if◌then◌else◌}
+use Rattle.std.specs.List.{list_any}
+use Rattle.std.specs.Option.{option_map_or}
+use Rattle.serde_json.specs.Data.{Data}
+use Rattle.serde_json.specs.Find.{as_str}
+use Rattle.json_rows.specs.Rows.{◌>>=◌}
+use Rattle.mm_types.specs.Lookups as lookups
+use Rattle.mm_types.specs.Resolved.{Metamodel}
+use Rattle.mm_types.specs.Shapes.{shape}
+use Rattle.mm_types.specs.declared.feature.Kind.{Kind}
+use Rattle.mm_types.specs.declared.feature.Kind.TheVariants.{Attribute, Reference}
+use Rattle.mm_types.specs.declared.numbers.ClassNo.{ClassNo}
+use Rattle.mm_types.specs.declared.numbers.FeatureNo.{FeatureNo}
+use Rattle.mm_types.specs.declared.value.Value.{Value}
+use Rattle.mm_types.specs.declared.value.Value.TheVariants as value
+use Rattle.web_uris.specs.Addresses.{IsProxyText}
+use Rattle.web_uris.specs.Paths.{with_step}
+use Rattle.web_uris.specs.declared.path.Path.{Path}
+use Rattle.doc_parts.specs.Contents.{attribute_value, conforms_to}
+use Rattle.doc_parts.specs.Parts.{Entry, Part, number_of, step_to, values_of}
+use Rattle.resource_docs.specs.Texts.{Base, target}
+use Rattle.resource_docs.specs.declared.target.Target.{Target}
+use Rattle.resource_docs.specs.declared.target.Target.TheVariants.{Here, Elsewhere}
+
+---------------------------------------------------------------- references
+
+-- an object of the document, as a value
+abbrev pub object_of : ℕ → Value
+object_of n = value.Object (record { 0 = n })
+
+-- an object of the document that conforms, or a proxy
+abbrev pub led_to : Metamodel → List Part → ClassNo → Target → Option Value
+led_to m ps class (Here p) =
+    number_of ps p >>= (λ n. slice_get ps n >>= (λ q. if conforms_to m class q.json then Some (object_of n) else None))
+led_to m ps class (Elsewhere t) = Some (value.Proxy t)
+
+abbrev pub reference_value : Metamodel → Base → List Part → ClassNo → Data → Option Value
+reference_value m b ps class d = as_str d >>= target b >>= led_to m ps class
+
+-- a reference that holds no parts
+abbrev pub is_link : Kind → Bool
+is_link (Attribute t unique unsettable default) = false
+is_link (Reference class containment opposite) = not containment
+
+-- a text that leads nowhere, or to an object of another class
+abbrev pub is_lost : Metamodel → Base → List Part → Kind → Data → Bool
+is_lost m b ps (Attribute t unique unsettable default) d = false
+is_lost m b ps (Reference class true opposite) d = false
+is_lost m b ps (Reference class false opposite) d = not (is_some (reference_value m b ps class d))
+
+abbrev pub has_lost : Metamodel → Base → List Part → Entry → Bool
+has_lost m b ps e = option_map_or (λ g. list_any (is_lost m b ps g.kind) (values_of m e)) (lookups.feature m e.feature) false
+
+---------------------------------------------------------------- values
+
+-- the value that stands at a position under a feature of the object that has a path
+abbrev pub value_of : Metamodel → Base → List Part → Path → FeatureNo → Kind → ℕ × Data → Option Value
+value_of m b ps p f (Attribute t unique unsettable default) v = attribute_value m (shape m f).is_single t v.1
+value_of m b ps p f (Reference class true opposite) v = option_map object_of (number_of ps (with_step p (step_to m f v.0)))
+value_of m b ps p f (Reference class false opposite) v = reference_value m b ps class v.1
+
+---------------------------------------------------------------- proxies
+
+-- a proxy has the text of one
+abbrev pub IsProxyValue : Value → Type 0
+IsProxyValue (value.Proxy t) = IsProxyText t
+IsProxyValue _ = Unit {0}

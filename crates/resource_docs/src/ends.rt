@@ -1,0 +1,175 @@
+//! Which objects of a document name which, and whether those that are named name back.
+ghost use Rattle.std.specs.Prelude.{◌≡◌, ◌||◌, ◌∷◌, [], IfOk, OnOk, false};
+ghost use Rattle.resource_docs.specs.Causes.{is_one_sided, of_content};
+
+use crate::doc::{Content, Doc, DocObject};
+use indexmap::IndexSet;
+use mm_meta::Meta;
+use mm_types::{FeatureNo, Value};
+use std::alloc::{AllocError, Global};
+
+/// That an object of a document names another under a feature; each object by its number in the document.
+#[derive(Clone, Copy, PartialEq, Eq, Hash)]
+pub(crate) struct Naming {
+    pub object: usize,
+    pub feature: u32,
+    pub named: usize,
+}
+
+/// Which objects of a document name which.
+#[derive(Drop)]
+pub(crate) struct Ends {
+    namings: IndexSet<Naming>,
+}
+
+impl Ends {
+    ghost use Rattle.std.specs.List.{list_any};
+    ghost use Rattle.resource_docs.specs.Ends.{IsEndsOf, any_one_sided_by, by_contents, by_values, has, one_sided_by, same_naming, unanswered_by};
+    ghost use Rattle.resource_docs.specs.declared.ends.Naming.{Naming};
+
+    /// No object names any. Takes no memory.
+    fn new(alloc: Global) -> Self
+        ensures { (k : Naming) → has result k ≡ false }
+    {
+        Ends {
+            namings: IndexSet::new(alloc),
+        }
+    }
+
+    fn insert(&mut self, naming: Naming) -> Result<(), AllocError>
+        ensures { OnOk result ((k : Naming) → has self.new k ≡ has self.old k || same_naming k naming) }
+    {
+        self.namings.insert(naming)?;
+        Ok(())
+    }
+
+    /// Whether an object names another under a feature. Takes no memory.
+    fn contains(&self, naming: Naming) -> bool
+        ensures { result ≡ has self.now naming }
+    {
+        self.namings.contains(&naming)
+    }
+
+    /// Adds what one value names.
+    fn add_value(
+        &mut self,
+        object: usize,
+        feature: FeatureNo,
+        value: &Value,
+    ) -> Result<(), AllocError>
+        ensures { OnOk result ((k : Naming) → has self.new k ≡ has self.old k || by_values object feature.0 (value.now ∷ []) k) }
+    {
+        match value {
+            Value::Object(named) => self.insert(Naming {
+                object,
+                feature: feature.0,
+                named: named.0 as usize,
+            }),
+            _ => Ok(()),
+        }
+    }
+
+    /// Adds what values under a feature of an object name.
+    fn add_values(
+        &mut self,
+        object: usize,
+        feature: FeatureNo,
+        values: &[Value],
+    ) -> Result<(), AllocError>
+        ensures { OnOk result ((k : Naming) → has self.new k ≡ has self.old k || by_values object feature.0 values.now k) }
+    {
+        'values: for value in values {
+            self.add_value(object, feature, value)?;
+        }
+        Ok(())
+    }
+
+    /// Adds what an object names.
+    fn add_object(&mut self, object: usize, contents: &[Content]) -> Result<(), AllocError>
+        ensures { OnOk result ((k : Naming) → has self.new k ≡ has self.old k || by_contents object contents.now k) }
+    {
+        'contents: for content in contents {
+            self.add_values(object, content.feature, content.values.as_slice())?;
+        }
+        Ok(())
+    }
+
+    /// Which objects of a document name which. Errs only where memory is refused.
+    pub fn of(alloc: Global, objects: &[DocObject]) -> Result<Self, AllocError>
+        ensures { IfOk result (λ e. IsEndsOf e objects.now) }
+    {
+        let mut ends = Ends::new(alloc);
+        'objects: for (i, object) in objects.iter().enumerate() {
+            ends.add_object(i, object.contents.as_slice())?;
+        }
+        Ok(ends)
+    }
+
+    /// Whether a value names an object that does not name back. Takes no memory.
+    fn is_unanswered(&self, meta: &Meta, object: usize, feature: FeatureNo, value: &Value) -> bool
+        ensures { result ≡ unanswered_by meta.now self.now object feature value.now }
+    {
+        let Value::Object(named) = value else {
+            return false;
+        };
+        match meta.opposite(feature) {
+            Some(opposite) => !self.contains(Naming {
+                object: named.0 as usize,
+                feature: opposite.0,
+                named: object,
+            }),
+            None => false,
+        }
+    }
+
+    fn is_any_unanswered(
+        &self,
+        meta: &Meta,
+        object: usize,
+        feature: FeatureNo,
+        values: &[Value],
+    ) -> bool
+        ensures { result ≡ list_any (λ v. unanswered_by meta.now self.now object feature v) values.now }
+    {
+        values
+            .iter()
+            .any(|value| self.is_unanswered(meta, object, feature, value))
+    }
+
+    fn is_one_sided(&self, meta: &Meta, object: usize, content: &Content) -> bool
+        ensures { result ≡ one_sided_by meta.now self.now object content.now }
+    {
+        if meta.is_containment(content.feature) {
+            return false;
+        }
+        self.is_any_unanswered(meta, object, content.feature, content.values.as_slice())
+    }
+
+    fn is_any_one_sided(&self, meta: &Meta, object: usize, contents: &[Content]) -> bool
+        ensures { result ≡ list_any (λ c. one_sided_by meta.now self.now object c) contents.now }
+    {
+        contents
+            .iter()
+            .any(|content| self.is_one_sided(meta, object, content))
+    }
+
+    /// Whether an object names one, under a feature with opposite, that does not name back. Takes no memory.
+    fn has_one_sided(&self, meta: &Meta, objects: &[DocObject]) -> bool
+        ensures { result ≡ any_one_sided_by meta.now self.now objects.now }
+    {
+        objects.iter().enumerate().any(|(i, object)| self.is_any_one_sided(
+            meta,
+            i,
+            object.contents.as_slice(),
+        ))
+    }
+}
+
+/// Whether an object of a document names one, under a feature with opposite, that does not name back. Errs only where
+/// memory is refused.
+pub(crate) fn has_one_sided(alloc: Global, meta: &Meta, doc: &Doc) -> Result<bool, AllocError>
+    ensures { IfOk result (λ b. b ≡ of_content (is_one_sided meta.now doc.now) doc.now) }
+{
+    let ends = Ends::of(alloc, doc.objects.as_slice())?;
+    Ok(ends.has_one_sided(meta, doc.objects.as_slice()))
+}

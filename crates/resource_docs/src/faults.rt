@@ -1,0 +1,90 @@
+//! Why a document is refused: the first cause that applies.
+ghost use Rattle.std.specs.Prelude.{◌≡◌, IfOk, List, Some, length, not};
+ghost use Rattle.mm_types.specs.Shapes.{contents_shape, is_bounded};
+ghost use Rattle.serde_json.specs.Data.{Data};
+ghost use Rattle.serde_json.specs.View.{items_view};
+ghost use Rattle.doc_parts.specs.Faults.{of_entry};
+ghost use Rattle.doc_parts.specs.Found.{Knows};
+ghost use Rattle.doc_parts.specs.Layout.{new_top};
+ghost use Rattle.doc_parts.specs.Parts.{Part, root_parts};
+ghost use Rattle.resource_docs.specs.Causes.{sense_cause as sense_meant, shape_cause as shape_meant};
+ghost use Rattle.resource_docs.specs.Texts.{base_of};
+ghost use Rattle.resource_docs.specs.Values.{has_lost};
+
+use crate::cross::has_crosses;
+use crate::doc::Doc;
+use crate::ends::has_one_sided;
+use crate::repeats::has_repeats;
+use crate::source::Source;
+use doc_parts::{
+    Found, TopMembers, has_deep, has_long_list, has_misshapen, has_other_value, has_unknown_class,
+    has_unknown_feature,
+};
+use mm_meta::Meta;
+use mm_types::{DocFault, limits};
+use std::alloc::AllocError;
+
+/// The format that is read.
+const FORMAT: i64 = 1;
+
+/// What is wrong with the shape of what is written, or with its names and types. Takes no memory.
+pub(crate) fn shape_cause(meta: &Meta, top: TopMembers, found: &Found) -> Option<DocFault>
+    ensures { (ps : List Part) → Knows found.now ps → result ≡ shape_meant meta.now (Some (new_top top.entry.format (items_view top.entry.roots.now.items))) ps }
+{
+    if has_misshapen(found) {
+        return Some(DocFault::Layout);
+    }
+    if top.format != FORMAT {
+        return Some(DocFault::Format);
+    }
+    if has_unknown_class(meta, found) {
+        return Some(DocFault::Class);
+    }
+    if has_unknown_feature(meta, found) {
+        return Some(DocFault::Feature);
+    }
+    if has_other_value(meta, found) {
+        return Some(DocFault::Value);
+    }
+    None
+}
+
+/// Whether there are more roots than a resource may have.
+fn has_many_roots(meta: &Meta, count: usize) -> bool
+    ensures { result ≡ not (is_bounded (contents_shape meta.now) count) }
+{
+    count > limits::LIST_VALUES
+}
+
+/// What is wrong with what a document leads to, with how much there is of it, or with how deep it lies; its number of
+/// roots, and whether a reference is lost, are known. Errs only where memory is refused.
+pub(crate) fn sense_cause(
+    source: &Source,
+    root_count: usize,
+    is_lost: bool,
+    doc: &Doc,
+) -> Result<Option<DocFault>, AllocError>
+    ensures { IfOk result (λ o. (ps : List Part) (d : Data) → Knows source.now.found.now ps → root_count ≡ length (root_parts d)
+        → is_lost ≡ of_entry source.now.meta.now (has_lost source.now.meta.now (base_of source.now.uri.now) ps) ps
+        → o ≡ sense_meant source.now.meta.now (base_of source.now.uri.now) d ps doc.now) }
+{
+    if is_lost {
+        return Ok(Some(DocFault::Reference));
+    }
+    if has_repeats(source.alloc, source.meta, doc)? {
+        return Ok(Some(DocFault::Duplicate));
+    }
+    if has_many_roots(source.meta, root_count) || has_long_list(source.meta, source.found) {
+        return Ok(Some(DocFault::Bound));
+    }
+    if has_one_sided(source.alloc, source.meta, doc)? {
+        return Ok(Some(DocFault::OneSided));
+    }
+    if has_crosses(source.meta, doc) {
+        return Ok(Some(DocFault::Cross));
+    }
+    if has_deep(source.found) {
+        return Ok(Some(DocFault::Depth));
+    }
+    Ok(None)
+}

@@ -1,0 +1,140 @@
+//! The objects of a document are read.
+ghost use Rattle.std.specs.Prelude.{◌≡◌, ◌++◌, ◌∷◌, [], IfOk, List, OnOk, false, filter_map, option_to_list};
+ghost use Rattle.std.specs.List.{All};
+ghost use Rattle.serde_json.specs.View.{members_view};
+ghost use Rattle.doc_parts.specs.Found.{Knows, row_seen, seen};
+ghost use Rattle.doc_parts.specs.Parts.{Entry, Part, entries, entry_at};
+ghost use Rattle.resource_docs.specs.Reading.{IsProxyContent, IsProxyObject, Numbered, contents_so_far, objects_so_far, with_values};
+ghost use Rattle.resource_docs.specs.Texts.{base_of};
+ghost use Rattle.resource_docs.specs.Values.{IsProxyValue};
+
+use crate::doc::{Content, DocObject};
+use crate::source::Source;
+use crate::values::{ReadValues, read_content};
+use doc_parts::{Row, class_of, content_at, known};
+use mm_types::{ClassNo, FeatureNo, Seq};
+use serde_json::{Map, Value as JsonValue};
+use std::alloc::{AllocError, Global};
+
+/// What is read of an object: its contents, and whether a reference among them is lost.
+#[derive(Drop)]
+pub(crate) struct ReadContents {
+    pub contents: Seq<Content>,
+    pub is_lost: bool,
+}
+
+/// What is read of a document: its objects, and whether a reference among them is lost.
+#[derive(Drop)]
+pub(crate) struct ReadObjects {
+    pub objects: Seq<DocObject>,
+    pub is_lost: bool,
+}
+
+fn no_contents(alloc: Global) -> ReadContents
+    ensures { result ≡ record { contents = []; is_lost = false } }
+{
+    ReadContents {
+        contents: Seq::new(alloc),
+        is_lost: false,
+    }
+}
+
+/// Adds what was read under a feature, unless that is nothing.
+fn add_values(
+    read: &mut ReadContents,
+    feature: FeatureNo,
+    found: ReadValues,
+) -> Result<(), AllocError>
+    ensures value { OnOk result (read.new ≡ with_values read.old feature found) }
+    ensures proxy { OnOk result (All IsProxyValue found.values → All IsProxyContent read.old.contents → All IsProxyContent read.new.contents) }
+{
+    let ReadValues { values, is_lost } = found;
+    read.is_lost = read.is_lost || is_lost;
+    if !values.is_empty() {
+        read.contents.push(Content { feature, values })?;
+    }
+    Ok(())
+}
+
+/// Reads what is written under one more feature.
+fn add_feature(
+    read: &mut ReadContents,
+    source: &Source,
+    number: u32,
+    members: &Map<String, JsonValue>,
+    feature: FeatureNo,
+) -> Result<(), AllocError>
+    ensures value { OnOk result (Numbered source.now.found.now number (λ ps path. (es : List Entry)
+        → read.old ≡ contents_so_far source.now.meta.now (base_of source.now.uri.now) ps path es
+        → read.new ≡ contents_so_far source.now.meta.now (base_of source.now.uri.now) ps path (es ++ option_to_list (entry_at source.now.meta.now (members_view members.now.entries) feature)))) }
+    ensures proxy { OnOk result (All IsProxyContent read.old.contents → All IsProxyContent read.new.contents) }
+{
+    match content_at(source.meta, members, feature) {
+        Some(content) => {
+            let found = read_content(source, number, feature, content)?;
+            add_values(read, feature, found)
+        }
+        None => Ok(()),
+    }
+}
+
+fn read_features(
+    source: &Source,
+    number: u32,
+    members: &Map<String, JsonValue>,
+    features: &[FeatureNo],
+) -> Result<ReadContents, AllocError>
+    ensures value { IfOk result (λ r. Numbered source.now.found.now number (λ ps path. r ≡ contents_so_far source.now.meta.now (base_of source.now.uri.now) ps path (filter_map (entry_at source.now.meta.now (members_view members.now.entries)) features.now))) }
+    ensures proxy { IfOk result (λ r. All IsProxyContent r.contents) }
+{
+    let mut read = no_contents(source.alloc);
+    'features: for feature in features {
+        add_feature(&mut read, source, number, members, *feature)?;
+    }
+    Ok(read)
+}
+
+/// Reads what is written in the object of a part.
+fn read_contents(source: &Source, row: &Row) -> Result<ReadContents, AllocError>
+    ensures value { IfOk result (λ r. (ps : List Part) (p : Part) → Knows source.now.found.now ps → row_seen row.now ≡ seen ps p
+        → r ≡ contents_so_far source.now.meta.now (base_of source.now.uri.now) ps p.path (entries source.now.meta.now p.json)) }
+    ensures proxy { IfOk result (λ r. All IsProxyContent r.contents) }
+{
+    match known(source.meta, row.json) {
+        Some((class, members)) => match source.meta.features(class) {
+            Some(features) => read_features(source, row.number, members, features),
+            None => Ok(no_contents(source.alloc)),
+        },
+        None => Ok(no_contents(source.alloc)),
+    }
+}
+
+/// Reads the object of one more part.
+fn add_object(read: &mut ReadObjects, source: &Source, row: &Row) -> Result<(), AllocError>
+    ensures value { OnOk result ((ps qs : List Part) (p : Part) → Knows source.now.found.now ps → row_seen row.now ≡ seen ps p
+        → read.old ≡ objects_so_far source.now.meta.now (base_of source.now.uri.now) ps qs
+        → read.new ≡ objects_so_far source.now.meta.now (base_of source.now.uri.now) ps (qs ++ p ∷ [])) }
+    ensures proxy { OnOk result (All IsProxyObject read.old.objects → All IsProxyObject read.new.objects) }
+{
+    let ReadContents { contents, is_lost } = read_contents(source, row)?;
+    let class = class_of(source.meta, row.json).unwrap_or(ClassNo(0));
+    read.is_lost = read.is_lost || is_lost;
+    read.objects.push(DocObject { class, contents })?;
+    Ok(())
+}
+
+/// Reads the objects of the parts that were found, in loading order. Errs only where memory is refused, or where a list
+/// has more than 2^32 values.
+pub(crate) fn read_objects(source: &Source) -> Result<ReadObjects, AllocError>
+    ensures value { IfOk result (λ r. (ps : List Part) → Knows source.now.found.now ps → r ≡ objects_so_far source.now.meta.now (base_of source.now.uri.now) ps ps) }
+    ensures proxy { IfOk result (λ r. All IsProxyObject r.objects) }
+{
+    let mut read = ReadObjects {
+        objects: Seq::new(source.alloc),
+        is_lost: false,
+    };
+    'rows: for row in source.found.rows.as_slice() {
+        add_object(&mut read, source, row)?;
+    }
+    Ok(read)
+}

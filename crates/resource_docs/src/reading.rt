@@ -1,0 +1,120 @@
+//! The bytes of a document are read.
+ghost use Rattle.std.specs.Prelude.{◌≡◌, ◌≤◌, Some, map};
+ghost use Rattle.serde_json.specs.Data.{Data, depth};
+ghost use Rattle.serde_json.specs.View.{items_view, view};
+ghost use Rattle.doc_parts.specs.Found.{Knows, roots_from};
+ghost use Rattle.doc_parts.specs.Layout.{new_top, top as top_meant};
+ghost use Rattle.doc_parts.specs.Parts.{parts, root_parts};
+ghost use Rattle.resource_docs.specs.Causes.{Answers, Reads, reads, sense_cause as sense_meant, unless_faulty};
+ghost use Rattle.resource_docs.specs.Read.{doc_read};
+ghost use Rattle.resource_docs.specs.Texts.{base_of};
+
+use crate::doc::Doc;
+use crate::faults::{sense_cause, shape_cause};
+use crate::objects::read_objects;
+use crate::roots::read_roots;
+use crate::source::Source;
+use doc_parts::{TopMembers, find_parts, top};
+use mm_meta::Meta;
+use mm_types::{DocFault, Refused};
+use serde_json::Value as JsonValue;
+use std::alloc::Global;
+
+/// How deep arrays and objects nest at most in JSON that is read.
+const NESTING: usize = 127;
+
+/// Reads the document whose parts were found and have the right shape.
+fn read_found(source: &Source, roots: &[JsonValue]) -> Result<Doc, Refused>
+    ensures { (d : Data) → Knows source.now.found.now (parts source.now.meta.now d) → root_parts d ≡ roots_from (map view roots.now)
+        → Answers result (unless_faulty (sense_meant source.now.meta.now (base_of source.now.uri.now) d (parts source.now.meta.now d) (doc_read source.now.meta.now (base_of source.now.uri.now) d))
+        (doc_read source.now.meta.now (base_of source.now.uri.now) d)) }
+{
+    let read = match read_objects(source) {
+        Ok(read) => read,
+        Err(_) => return Err(Refused::Memory),
+    };
+    let is_lost = read.is_lost;
+    let numbers = match read_roots(source.alloc, source.found, roots) {
+        Ok(numbers) => numbers,
+        Err(_) => return Err(Refused::Memory),
+    };
+    let doc = Doc {
+        objects: read.objects,
+        roots: numbers,
+    };
+    match sense_cause(source, roots.len(), is_lost, &doc) {
+        Ok(None) => Ok(doc),
+        Ok(Some(fault)) => Err(Refused::Document(fault)),
+        Err(_) => Err(Refused::Memory),
+    }
+}
+
+/// Reads the document whose parts were found.
+fn read_parts(source: &Source, top: TopMembers) -> Result<Doc, Refused>
+    ensures { (d : Data) → Knows source.now.found.now (parts source.now.meta.now d) → top_meant d ≡ Some (new_top top.entry.format (items_view top.entry.roots.now.items))
+        → Answers result (reads source.now.meta.now (base_of source.now.uri.now) d) }
+{
+    match shape_cause(source.meta, top, source.found) {
+        Some(fault) => Err(Refused::Document(fault)),
+        None => read_found(source, top.roots.as_slice()),
+    }
+}
+
+/// Reads the document of a top.
+fn read_top(alloc: Global, meta: &Meta, uri: &str, top: TopMembers) -> Result<Doc, Refused>
+    ensures { (d : Data) → depth d ≤ NESTING → top_meant d ≡ Some (new_top top.entry.format (items_view top.entry.roots.now.items)) → Answers result (reads meta.now (base_of uri.now) d) }
+{
+    match find_parts(alloc, meta, NESTING, top.roots.as_slice()) {
+        Ok(found) => read_parts(
+            &Source {
+                alloc,
+                meta,
+                uri,
+                found: &found,
+            },
+            top,
+        ),
+        Err(_) => Err(Refused::Memory),
+    }
+}
+
+/// Reads a document that nests no deeper than JSON does that is read.
+fn read_value(alloc: Global, meta: &Meta, uri: &str, json: &JsonValue) -> Result<Doc, Refused>
+    requires { depth (view json.now) ≤ NESTING }
+    ensures { Answers result (reads meta.now (base_of uri.now) (view json.now)) }
+{
+    match top(json) {
+        Some(top) => read_top(alloc, meta, uri, top),
+        None => Err(Refused::Document(DocFault::Layout)),
+    }
+}
+
+/// What the bytes of a document are read as, in the resource of a URI: its objects and roots; else `Document` with the
+/// lowest cause that applies:
+///
+/// - `Syntax` where the bytes are no JSON, of at most 127 levels, in UTF-8;
+/// - `Layout` where the value has another shape than a document, or a key that is not listed;
+/// - `Format` where its format is not 1;
+/// - `Class` where an object names no class, or an abstract one;
+/// - `Feature` where a key is no feature of the object's class, or a container reference;
+/// - `Value` where what is written under a feature is none of its type, or a text has more than 65,535 bytes;
+/// - `Reference` where a text is no fragment and no URI with a fragment, or leads to no object of the document that
+///   conforms;
+/// - `Duplicate` where a list that has each value once has one twice;
+/// - `Bound` where a list has more values than its upper bound, or than 1,000,000;
+/// - `OneSided` where an object names another under a feature with opposite, and that one does not name it;
+/// - `Cross` where a reference with an opposite leads to another resource;
+/// - `Depth` where an object stands below level 40.
+///
+/// `Memory` where memory was refused, or where there are more than 2^32 objects or values, whatever else applies; no
+/// other refusal. References into other resources become proxies, by their joined URIs. The time is linear in the
+/// document, but for the logarithm that the keys of a large object cost.
+pub fn read_doc(alloc: Global, meta: &Meta, uri: &str, bytes: &[u8]) -> Result<Doc, Refused>
+    ensures { Reads result meta.now uri.now bytes.now }
+{
+    match JsonValue::from_slice(alloc, bytes) {
+        Ok(value) => read_value(alloc, meta, uri, &value),
+        Err(error) if error.is_memory() => Err(Refused::Memory),
+        Err(_) => Err(Refused::Document(DocFault::Syntax)),
+    }
+}

@@ -1,0 +1,70 @@
+//! What the text of a reference is read as, among the parts that were found.
+ghost use Rattle.std.specs.Prelude.{◌≡◌, IfOk, IfSome, List, None, Some, if◌then◌else◌, slice_get};
+ghost use Rattle.serde_json.specs.View.{view};
+ghost use Rattle.doc_parts.specs.Contents.{conforms_to as conforms_meant};
+ghost use Rattle.doc_parts.specs.Found.{Knows};
+ghost use Rattle.doc_parts.specs.Parts.{Part};
+ghost use Rattle.doc_parts.specs.declared.found.Row.{Row};
+ghost use Rattle.resource_docs.specs.Texts.{IsProxyTarget, base_of};
+ghost use Rattle.resource_docs.specs.Values.{IsProxyValue, led_to as led_meant, object_of, reference_value as value_meant};
+ghost use Rattle.resource_docs.specs.declared.target.Target.TheVariants.{Here};
+
+use crate::source::Source;
+use crate::target::{Target, target_of};
+use doc_parts::{Found, conforms_to};
+use mm_meta::Meta;
+use mm_types::{ClassNo, ObjectNo, Value};
+use serde_json::Value as JsonValue;
+use std::alloc::AllocError;
+use web_uris::Path;
+
+/// The object of a number, where it conforms to a class.
+fn object_of_number(meta: &Meta, found: &Found, class: ClassNo, number: u32) -> Option<Value>
+    ensures value { (r : Row) → slice_get found.now.rows.items number ≡ Some r → result ≡ (if conforms_meant meta.now class (view r.json.now) then Some (object_of number) else None) }
+    ensures proxy { IfSome result IsProxyValue }
+{
+    match found.rows.as_slice().get(number as usize).copied() {
+        Some(row) if conforms_to(meta, class, row.json) => Some(Value::Object(ObjectNo(number))),
+        _ => None,
+    }
+}
+
+/// The object that a path leads to, where it conforms to a class.
+fn object_at(meta: &Meta, found: &Found, class: ClassNo, path: &Path) -> Option<Value>
+    ensures value { (ps : List Part) → Knows found.now ps → result ≡ led_meant meta.now ps class (Here path.now) }
+    ensures proxy { IfSome result IsProxyValue }
+{
+    match found.numbers.of_path(path) {
+        Some(number) => object_of_number(meta, found, class, number),
+        None => None,
+    }
+}
+
+fn led_to(meta: &Meta, found: &Found, class: ClassNo, target: Target) -> Option<Value>
+    ensures value { (ps : List Part) → Knows found.now ps → result ≡ led_meant meta.now ps class target }
+    ensures proxy { IsProxyTarget target → IfSome result IsProxyValue }
+{
+    match target {
+        Target::Here(path) => object_at(meta, found, class, &path),
+        Target::Elsewhere(address) => Some(Value::Proxy(address)),
+    }
+}
+
+/// What a reference to a class is read as: an object of the document that conforms, or a proxy; nothing where the text
+/// leads nowhere, or to an object of another class. Errs only where memory is refused.
+pub(crate) fn reference_value(
+    source: &Source,
+    class: ClassNo,
+    json: &JsonValue,
+) -> Result<Option<Value>, AllocError>
+    ensures value { IfOk result (λ v. (ps : List Part) → Knows source.now.found.now ps → v ≡ value_meant source.now.meta.now (base_of source.now.uri.now) ps class (view json.now)) }
+    ensures proxy { IfOk result (λ v. IfSome v IsProxyValue) }
+{
+    let Some(text) = json.as_str() else {
+        return Ok(None);
+    };
+    match target_of(source.alloc, source.uri, text)? {
+        Some(target) => Ok(led_to(source.meta, source.found, class, target)),
+        None => Ok(None),
+    }
+}

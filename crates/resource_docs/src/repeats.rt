@@ -1,0 +1,107 @@
+//! Whether a list has a value twice.
+ghost use Rattle.std.specs.Prelude.{◌≡◌, IfOk};
+ghost use Rattle.std.specs.List.{list_any};
+ghost use Rattle.mm_types.specs.Shapes.{shape};
+ghost use Rattle.resource_docs.specs.Causes.{has_repeat as repeat_meant, of_content, repeats_value as repeats_meant};
+ghost use Rattle.resource_docs.specs.Keys.{value_of_key};
+
+use crate::doc::{Content, Doc, DocObject};
+use indexmap::IndexSet;
+use mm_meta::Meta;
+use mm_types::{Kind, Value};
+use std::alloc::{AllocError, Global};
+
+/// A value as a set keeps it.
+#[derive(Clone, Copy, PartialEq, Eq, Hash)]
+pub(crate) enum Key<'v> {
+    Null,
+    Bool(bool),
+    Int(i64),
+    Text(&'v str),
+    Literal(u32),
+    Object(u32),
+    Proxy(&'v str),
+    Adapter(u32),
+}
+
+fn key_of(value: &Value) -> Key<'_>
+    ensures { value_of_key result ≡ value.now }
+{
+    match value {
+        Value::Null => Key::Null,
+        Value::Bool(b) => Key::Bool(*b),
+        Value::Int(n) => Key::Int(*n),
+        Value::Text(text) => Key::Text(text.as_str()),
+        Value::Literal(index) => Key::Literal(*index),
+        Value::Object(object) => Key::Object(object.0),
+        Value::Proxy(text) => Key::Proxy(text.as_str()),
+        Value::Adapter(adapter) => Key::Adapter(adapter.0),
+    }
+}
+
+/// Whether a list has a value twice. Errs only where memory is refused.
+fn repeats_value(alloc: Global, values: &[Value]) -> Result<bool, AllocError>
+    ensures { IfOk result (λ b. b ≡ repeats_meant values.now) }
+{
+    if values.len() < 2 {
+        return Ok(false);
+    }
+    let mut keys: IndexSet<Key> = IndexSet::new(alloc);
+    'values: for value in values {
+        if !keys.insert(key_of(value))? {
+            return Ok(true);
+        }
+    }
+    Ok(false)
+}
+
+fn is_unique(meta: &Meta, content: &Content) -> bool
+    ensures { result ≡ (shape meta.now content.now.feature).is_unique }
+{
+    match meta.feature(content.feature) {
+        Some(found) => match &found.kind {
+            Kind::Attribute { unique, .. } => *unique,
+            Kind::Reference { .. } => true,
+        },
+        None => true,
+    }
+}
+
+/// Whether a list that has each value once has one twice. Errs only where memory is refused.
+fn has_repeat(alloc: Global, meta: &Meta, content: &Content) -> Result<bool, AllocError>
+    ensures { IfOk result (λ b. b ≡ repeat_meant meta.now content.now) }
+{
+    if !is_unique(meta, content) {
+        return Ok(false);
+    }
+    repeats_value(alloc, content.values.as_slice())
+}
+
+fn has_any_repeat(alloc: Global, meta: &Meta, contents: &[Content]) -> Result<bool, AllocError>
+    ensures { IfOk result (λ b. b ≡ list_any (repeat_meant meta.now) contents.now) }
+{
+    'contents: for content in contents {
+        if has_repeat(alloc, meta, content)? {
+            return Ok(true);
+        }
+    }
+    Ok(false)
+}
+
+fn is_any_repeated(alloc: Global, meta: &Meta, objects: &[DocObject]) -> Result<bool, AllocError>
+    ensures { IfOk result (λ b. b ≡ list_any (λ o. list_any (repeat_meant meta.now) o.contents) objects.now) }
+{
+    'objects: for object in objects {
+        if has_any_repeat(alloc, meta, object.contents.as_slice())? {
+            return Ok(true);
+        }
+    }
+    Ok(false)
+}
+
+/// Whether a list of a document that has each value once has one twice. Errs only where memory is refused.
+pub(crate) fn has_repeats(alloc: Global, meta: &Meta, doc: &Doc) -> Result<bool, AllocError>
+    ensures { IfOk result (λ b. b ≡ of_content (λ o c. repeat_meant meta.now c) doc.now) }
+{
+    is_any_repeated(alloc, meta, doc.objects.as_slice())
+}

@@ -1,0 +1,41 @@
+//! The roots of a document, among its objects.
+ghost use Rattle.std.specs.Prelude.{◌≡◌, ◌++◌, [], IfOk, List, OnOk, filter_map, map, option_map, option_to_list};
+ghost use Rattle.serde_json.specs.View.{view};
+ghost use Rattle.web_uris.specs.Paths.{new_path};
+ghost use Rattle.doc_parts.specs.Found.{Knows, roots_from};
+ghost use Rattle.doc_parts.specs.Parts.{Part};
+ghost use Rattle.resource_docs.specs.Read.{root_number};
+
+use doc_parts::{Found, Place};
+use mm_types::{ObjectNo, Seq};
+use serde_json::Value as JsonValue;
+use std::alloc::{AllocError, Global};
+
+/// Adds the number of the root at a position.
+fn add_root(roots: &mut Seq<ObjectNo>, found: &Found, position: usize) -> Result<(), AllocError>
+    ensures { OnOk result ((ps : List Part) → Knows found.now ps → roots.new ≡ roots.old ++ option_to_list (root_number ps (new_path position []))) }
+{
+    if position > u32::MAX as usize {
+        return Err(AllocError);
+    }
+    match found.numbers.at(Place::Root(position as u32)) {
+        Some(number) => roots.push(ObjectNo(number))?,
+        None => {}
+    }
+    Ok(())
+}
+
+/// The numbers of the roots. Errs only where memory is refused, or where there are more than 2^32 of them.
+pub(crate) fn read_roots(
+    alloc: Global,
+    found: &Found,
+    roots: &[JsonValue],
+) -> Result<Seq<ObjectNo>, AllocError>
+    ensures { IfOk result (λ r. (ps : List Part) → Knows found.now ps → r ≡ filter_map (λ p. root_number ps p.path) (roots_from (map view roots.now))) }
+{
+    let mut numbers = Seq::new(alloc);
+    'roots: for (i, _root) in roots.iter().enumerate() {
+        add_root(&mut numbers, found, i)?;
+    }
+    Ok(numbers)
+}

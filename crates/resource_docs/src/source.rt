@@ -1,0 +1,13 @@
+//! What a document is read with.
+use doc_parts::Found;
+use mm_meta::Meta;
+use std::alloc::Global;
+
+/// What values are read with: the metamodel, the URI of the document's resource, and the parts that were found in it.
+#[derive(Clone, Copy)]
+pub(crate) struct Source<'r, 'v, 'm> {
+    pub alloc: Global,
+    pub meta: &'r Meta,
+    pub uri: &'r str,
+    pub found: &'r Found<'v, 'm>,
+}

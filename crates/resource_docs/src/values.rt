@@ -1,0 +1,174 @@
+//! The values under a feature are read.
+ghost use Rattle.std.specs.Prelude.{◌≡◌, ◌++◌, ◌||◌, ◌∷◌, [], IfOk, IfSome, List, OnOk, Some, length, map, option_map};
+ghost use Rattle.std.specs.List.{All};
+ghost use Rattle.serde_json.specs.Data.{Data};
+ghost use Rattle.serde_json.specs.View.{view};
+ghost use Rattle.web_uris.specs.Paths.{new_step, with_step};
+ghost use Rattle.doc_parts.specs.Parts.{new_entry, number_of, step_to};
+ghost use Rattle.resource_docs.specs.Reading.{Numbered, entry_read, new_values, values_so_far};
+ghost use Rattle.resource_docs.specs.Texts.{base_of};
+ghost use Rattle.resource_docs.specs.Values.{IsProxyValue, is_link as link_meant, object_of, value_of as value_meant};
+
+use crate::references::reference_value;
+use crate::source::Source;
+use doc_parts::{Place, attribute_value, feature_name, is_single, values_of};
+use mm_types::{FeatureNo, Kind, ObjectNo, Seq, Value};
+use serde_json::Value as JsonValue;
+use std::alloc::AllocError;
+
+/// What is read under a feature: its values, and whether a reference among them is lost.
+#[derive(Drop)]
+pub(crate) struct ReadValues {
+    pub values: Seq<Value>,
+    pub is_lost: bool,
+}
+
+/// The object that stands by a step under the part of a number.
+fn part_at(source: &Source, number: u32, name: &str, index: Option<u32>) -> Option<Value>
+    ensures value { Numbered source.now.found.now number (λ ps path. result ≡ option_map object_of (number_of ps (with_step path (new_step name.now index)))) }
+    ensures proxy { IfSome result IsProxyValue }
+{
+    match source.found.numbers.at(Place::Under {
+        part: number,
+        name,
+        index,
+    }) {
+        Some(part) => Some(Value::Object(ObjectNo(part))),
+        None => None,
+    }
+}
+
+/// The object that stands at a position under a feature of the part of a number.
+fn part_of(source: &Source, number: u32, feature: FeatureNo, position: u32) -> Option<Value>
+    ensures value { Numbered source.now.found.now number (λ ps path. result ≡ option_map object_of (number_of ps (with_step path (step_to source.now.meta.now feature position)))) }
+    ensures proxy { IfSome result IsProxyValue }
+{
+    if is_single(source.meta, feature) {
+        return part_at(source, number, feature_name(source.meta, feature), None);
+    }
+    part_at(
+        source,
+        number,
+        feature_name(source.meta, feature),
+        Some(position),
+    )
+}
+
+/// What stands at a position under a feature of the part of a number is read as. Errs only where memory is refused.
+fn value_of(
+    source: &Source,
+    number: u32,
+    feature: FeatureNo,
+    kind: &Kind,
+    position: u32,
+    json: &JsonValue,
+) -> Result<Option<Value>, AllocError>
+    ensures value { IfOk result (λ v. Numbered source.now.found.now number (λ ps path. v ≡ value_meant source.now.meta.now (base_of source.now.uri.now) ps path feature kind.now (position, view json.now))) }
+    ensures proxy { IfOk result (λ v. IfSome v IsProxyValue) }
+{
+    match kind {
+        Kind::Attribute { value_type, .. } => attribute_value(
+            source.alloc,
+            source.meta,
+            is_single(source.meta, feature),
+            *value_type,
+            json,
+        ),
+        Kind::Reference {
+            containment: true,
+            ..
+        } => Ok(part_of(source, number, feature, position)),
+        Kind::Reference { target, .. } => reference_value(source, *target, json),
+    }
+}
+
+/// Whether a feature is a reference that holds no parts.
+fn is_link(kind: &Kind) -> bool
+    ensures { result ≡ link_meant kind.now }
+{
+    matches!(
+        kind,
+        Kind::Reference {
+            containment: false,
+            ..
+        }
+    )
+}
+
+fn note_lost(read: &mut ReadValues, is_lost: bool)
+    ensures { read.new ≡ new_values read.old.values (read.old.is_lost || is_lost) }
+{
+    read.is_lost = read.is_lost || is_lost;
+}
+
+/// Reads one more value.
+fn add_value(
+    read: &mut ReadValues,
+    source: &Source,
+    number: u32,
+    feature: FeatureNo,
+    kind: &Kind,
+    position: usize,
+    json: &JsonValue,
+) -> Result<(), AllocError>
+    ensures value { OnOk result (Numbered source.now.found.now number (λ ps path. (ds : List Data) → position ≡ length ds
+        → read.old ≡ values_so_far source.now.meta.now (base_of source.now.uri.now) ps path feature kind.now ds
+        → read.new ≡ values_so_far source.now.meta.now (base_of source.now.uri.now) ps path feature kind.now (ds ++ view json.now ∷ []))) }
+    ensures proxy { OnOk result (All IsProxyValue read.old.values → All IsProxyValue read.new.values) }
+{
+    if position > u32::MAX as usize {
+        return Err(AllocError);
+    }
+    match value_of(source, number, feature, kind, position as u32, json)? {
+        Some(value) => read.values.push(value)?,
+        None => note_lost(read, is_link(kind)),
+    }
+    Ok(())
+}
+
+/// Reads values under a feature. Errs only where memory is refused, or where there are more than 2^32 of them.
+fn read_values(
+    source: &Source,
+    number: u32,
+    feature: FeatureNo,
+    kind: &Kind,
+    values: &[JsonValue],
+) -> Result<ReadValues, AllocError>
+    ensures value { IfOk result (λ r. Numbered source.now.found.now number (λ ps path. r ≡ values_so_far source.now.meta.now (base_of source.now.uri.now) ps path feature kind.now (map view values.now))) }
+    ensures proxy { IfOk result (λ r. All IsProxyValue r.values) }
+{
+    let mut read = ReadValues {
+        values: Seq::new(source.alloc),
+        is_lost: false,
+    };
+    'values: for (i, json) in values.iter().enumerate() {
+        add_value(&mut read, source, number, feature, kind, i, json)?;
+    }
+    Ok(read)
+}
+
+/// Reads what is written under a feature of the part of a number. Errs only where memory is refused, or where there are
+/// more than 2^32 values.
+pub(crate) fn read_content(
+    source: &Source,
+    number: u32,
+    feature: FeatureNo,
+    content: &JsonValue,
+) -> Result<ReadValues, AllocError>
+    ensures value { IfOk result (λ r. Numbered source.now.found.now number (λ ps path. r ≡ entry_read source.now.meta.now (base_of source.now.uri.now) ps path (new_entry feature (view content.now)))) }
+    ensures proxy { IfOk result (λ r. All IsProxyValue r.values) }
+{
+    match source.meta.feature(feature) {
+        Some(found) => read_values(
+            source,
+            number,
+            feature,
+            &found.kind,
+            values_of(source.meta, feature, content),
+        ),
+        None => Ok(ReadValues {
+            values: Seq::new(source.alloc),
+            is_lost: false,
+        }),
+    }
+}

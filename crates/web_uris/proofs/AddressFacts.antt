@@ -1,0 +1,35 @@
+-- A URI as joining gives it, `#` and a fragment are the text of a proxy.
+use Rattle.std.proofs.Common.{◌≡◌, ◌∙◌, ◌++◌, ◌∷◌, Bool, true, false, cond, List, Option, Some, None, ℕ, ap, refl, subst, sym}
+use Rattle.std.specs.Prelude.{◌||◌, IsTrue, is_some}
+use Rattle.std.specs.List.{list_any}
+use Rattle.std.proofs.lemmas.List.Folds.{list_any-append}
+use Rattle.std.proofs.lemmas.Option.{option_and_then_some, same_Some}
+use Rattle.url.specs.Parser.{parse_url}
+use Rattle.url.specs.Parts.{serialize}
+use Rattle.web_uris.specs.Addresses.{IsProxyText, address_text, fragment_part, has_mark, uri_part}
+use Rattle.web_uris.specs.Joined.{IsWebUri, if_parsed, is_mark, is_web, web_text}
+use Rattle.web_uris.specs.Paths.{parse}
+use Rattle.web_uris.specs.declared.path.Path.{Path}
+use Rattle.web_uris.proofs.CutLemmas.{after_around, before_around}
+
+unmarked_text : (b c : Bool) (x t : List ℕ) → list_any is_mark x ≡ c → cond b (cond c None (Some x)) None ≡ Some t → list_any is_mark t ≡ false
+unmarked_text true true x t marks known = cc
+unmarked_text true false x t marks known = ap (list_any is_mark) (sym (same_Some x t known)) ∙ marks
+unmarked_text false c x t marks known = cc
+
+-- a URI as joining gives it has no `#`
+pub web_unmarked : (uri : List ℕ) → IsWebUri uri → has_mark uri ≡ false
+web_unmarked uri web = option_and_then_some web_text (if_parsed (parse_url None uri)) uri web (λ u parsed text. unmarked_text (is_web u) (list_any is_mark (serialize u)) (serialize u) uri refl text)
+
+either_true : (b c : Bool) → b || (true || c) ≡ true
+either_true true c = refl
+either_true false c = refl
+
+pub proxy_text : (uri rest : List ℕ) (p : Path) → IsWebUri uri → parse rest ≡ Some p → IsProxyText (address_text uri rest)
+proxy_text uri rest p web parsed =
+    let none = web_unmarked uri web in
+    let marked : has_mark (address_text uri rest) ≡ true = list_any-append is_mark uri (35 ∷ rest) ∙ either_true (list_any is_mark uri) (list_any is_mark rest) in
+    let before : uri_part (address_text uri rest) ≡ uri = before_around is_mark uri 35 rest none refl in
+    let after : fragment_part (address_text uri rest) ≡ rest = after_around is_mark uri 35 rest none refl in
+    let read : is_some (parse (fragment_part (address_text uri rest))) ≡ true = ap (λ t. is_some (parse t)) after ∙ ap is_some parsed in
+    record { mark = marked; uri = subst IsWebUri (sym before) web; fragment = read }
