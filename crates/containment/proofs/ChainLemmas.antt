@@ -1,9 +1,8 @@
--- A part and the nodes above it are no more than objects were made, since they are made and none is met twice.
-use Rattle.std.proofs.Common.{◌≡◌, ℕ, zero, suc, ◌<◌, ◌≤◌, Bool, true, false, ◌||◌, eqb, length, map, List, [], ◌∷◌, Option, Some, None, refl, sym, ap, ◌∙◌, subst, inl, inr, arith}
+-- A part and the objects above it are no more than were made, since they are made and none is met twice.
+use Rattle.std.proofs.Common.{◌≡◌, ℕ, zero, suc, ◌<◌, ◌≤◌, Bool, true, false, ◌||◌, eqb, length, List, [], ◌∷◌, Option, Some, None, refl, sym, ap, ◌∙◌, subst, inl, inr, arith}
 use Rattle.std.specs.List.{AllByRecursion, IsDistinct, list_any}
 use Rattle.std.specs.Option.{option_map_or}
 use Rattle.std.proofs.lemmas.Bool.{eqb-true, false≢true, or_cases}
-use Rattle.std.proofs.lemmas.List.{length-map}
 use Rattle.std.proofs.lemmas.Map.Steps.{length-le_from_distinct_below}
 use Rattle.mm_types.specs.Same.{node_value, same_node}
 use Rattle.mm_types.specs.declared.end.End.{End}
@@ -17,24 +16,18 @@ use Rattle.models.specs.Legal.{IsLegal}
 use Rattle.models.specs.Model.{Model}
 use Rattle.containment.proofs.PartLemmas.{IsMade, IsPart, end-made}
 
-number : Node → ℕ
-number (node.Object o) = o.0
-number (node.Resource k) = 0
+-- the numbers of the objects among nodes
+abbrev pub numbers : List Node → List ℕ
+numbers [] = []
+numbers (node.Object o ∷ ns) = o.0 ∷ numbers ns
+numbers (node.Resource k ∷ ns) = numbers ns
 
-same-number : (s : Model) (x y : Node) → IsMade s x → IsMade s y → eqb (number x) (number y) ≡ same_node x y
-unfolding number
-same-number s x y (o, p, _) (q, r, _) = (λ i. eqb (number (p i)) (number (r i))) ∙ sym (λ i. same_node (p i) (r i))
-
-number-made : (s : Model) (x : Node) → IsMade s x → number x < length s.values.objects
-unfolding number
-number-made s x (o, p, lt) = subst (λ (n : Node). number n < length s.values.objects) (sym p) lt
-
--- a node that is not among others has another number
-other-numbers : (s : Model) (x : Node) (ys : List Node) → IsMade s x → AllByRecursion (IsMade s) ys → list_any (same_node x) ys ≡ false → AllByRecursion (λ q. eqb (number x) q ≡ false) (map number ys)
-other-numbers s x [] made all h = tt
-other-numbers s x (y ∷ ys) made all h = (
-  same-number s x y made all.0 ∙ not_here (same_node x y) (list_any (same_node x) ys) h,
-  other-numbers s x ys made all.1 (not_later (same_node x y) (list_any (same_node x) ys) h),
+-- an object that is not among others has another number
+other-numbers : (o : ObjectNo) (ys : List Node) → list_any (same_node (node.Object o)) ys ≡ false → AllByRecursion (λ q. eqb o.0 q ≡ false) (numbers ys)
+other-numbers o [] h = tt
+other-numbers o (node.Object p ∷ ys) h = (
+  not_here (eqb o.0 p.0) (list_any (same_node (node.Object o)) ys) h,
+  other-numbers o ys (not_later (eqb o.0 p.0) (list_any (same_node (node.Object o)) ys) h),
 )
   where
     not_here : (a b : Bool) → (a || b) ≡ false → a ≡ false
@@ -44,24 +37,23 @@ other-numbers s x (y ∷ ys) made all h = (
     not_later : (a b : Bool) → (a || b) ≡ false → b ≡ false
     not_later true b q = absurd (false≢true (sym q))
     not_later false b q = q
+other-numbers o (node.Resource k ∷ ys) h = other-numbers o ys h
 
-numbers-below : (s : Model) (ys : List Node) → AllByRecursion (IsMade s) ys → (q : ℕ) → list_any (eqb q) (map number ys) ≡ true → q < length s.values.objects
+numbers-below : (s : Model) (ys : List Node) → AllByRecursion (IsMade s) ys → (q : ℕ) → list_any (eqb q) (numbers ys) ≡ true → q < length s.values.objects
 numbers-below s [] all q h = absurd (false≢true h)
-numbers-below s (y ∷ ys) all q h = elim (or_cases (eqb q (number y)) (list_any (eqb q) (map number ys)) h) [
-  | inl here ↦ subst (λ (k : ℕ). k < length s.values.objects) (sym (eqb-true q (number y) here)) (number-made s y all.0)
+numbers-below s (node.Object o ∷ ys) all q h = elim (or_cases (eqb q o.0) (list_any (eqb q) (numbers ys)) h) [
+  | inl here ↦ subst (λ (k : ℕ). k < length s.values.objects) (sym (eqb-true q o.0 here)) all.0
   | inr later ↦ numbers-below s ys all.1 q later
 ]
+numbers-below s (node.Resource k ∷ ys) all q h = numbers-below s ys all.1 q h
 
--- nodes that were made, none twice
+-- nodes of which the objects were made, none twice
 record IsChain (s : Model) (ns : List Node) : Type 0 where
   made : AllByRecursion (IsMade s) ns
-  apart : IsDistinct eqb (map number ns)
+  apart : IsDistinct eqb (numbers ns)
 
-chain-bounded : (s : Model) (ns : List Node) → IsChain s ns → length ns ≤ length s.values.objects
-chain-bounded s ns chain =
-    let few = length-le_from_distinct_below (map number ns) (length s.values.objects) chain.apart (numbers-below s ns chain.made) in
-    let same = length-map ns number in
-    omega (arith, few, same)
+chain-bounded : (s : Model) (ns : List Node) → IsChain s ns → length (numbers ns) ≤ length s.values.objects
+chain-bounded s ns chain = length-le_from_distinct_below (numbers ns) (length s.values.objects) chain.apart (numbers-below s ns chain.made)
 
 module _ (s : Model) (legal : IsLegal s) where
   holder-made : (n : Node) (e : End) → holder s.links n ≡ Some e → IsMade s e.node
@@ -72,10 +64,11 @@ module _ (s : Model) (legal : IsLegal s) where
 
   longer : (x : Node) → IsMade s x → IsChain s (above s.links x) → IsChain s (x ∷ above s.links x)
   unfolding IsDistinct
-  longer x made chain = record {
+  longer (node.Object o) made chain = record {
     made = (made, chain.made);
-    apart = (other-numbers s x (above s.links x) made chain.made (not_above_itself s.links legal.links.set legal.links.forest x), chain.apart);
+    apart = (other-numbers o (above s.links (node.Object o)) (not_above_itself s.links legal.links.set legal.links.forest (node.Object o)), chain.apart);
   }
+  longer (node.Resource k) made chain = record { made = (made, chain.made); apart = chain.apart }
 
   none-above : (x : Node) → holder s.links x ≡ None → IsChain s (above s.links x)
   unfolding IsDistinct
@@ -100,9 +93,9 @@ module _ (s : Model) (legal : IsLegal s) where
             subst (λ ns. IsChain s ns) (sym (above_held s.links legal.links.set legal.links.forest x e h)) (longer e.node (holder-made x e h) rest)
       ] refl
 
-  -- a part has fewer nodes above it than objects were made
-  pub part-depth : (n : Node) (c : ObjectNo) → IsPart s n c → length (above s.links (node.Object c)) < length s.values.objects
+  -- a part has fewer objects above it than were made
+  pub part-depth : (n : Node) (c : ObjectNo) → IsPart s n c → length (numbers (above s.links (node.Object c))) < length s.values.objects
   part-depth n c part =
       let x = node.Object c in
-      let few = chain-bounded s (x ∷ above s.links x) (longer x (c, refl, part.made) (above-chain (length (above s.links x)) x (omega arith))) in
+      let few = chain-bounded s (x ∷ above s.links x) (longer x part.made (above-chain (length (above s.links x)) x (omega arith))) in
       omega (arith, few)

@@ -29,7 +29,7 @@ use Rattle.link_store.specs.LegalSets as sets
 use Rattle.link_store.specs.Links.{end}
 use Rattle.models.specs.Legal.{IsLegal}
 use Rattle.models.specs.Model.{Model, reading, values_at}
-use Rattle.models.specs.Reading.{all_features_of, at_end, objects_of}
+use Rattle.models.specs.Reading.{all_features_of, at_end, has_resource, objects_of}
 use Rattle.containment.proofs.MemberLemmas.{all-among, flat_map-from, same-object}
 use Rattle.containment.proofs.PartLemmas.{IsPart, all-append, all-objects, contains-itself, contains-reference, contents-parts, holder-at, values-linked}
 use Rattle.containment.specs.Forest.{contents, subtree, tree}
@@ -141,7 +141,7 @@ document-classes m d = subst (λ (x : Metamodel). AllByRecursion (λ (k : Class)
 -- no node has a feature twice
 pub features-distinct : (s : Model) → IsLegal s → (n : Node) → IsDistinct same_feature (all_features_of (reading s) n)
 unfolding IsDistinct
-features-distinct s legal (node.Resource k) = tt
+features-distinct s legal (node.Resource k) = elim (has_resource (reading s) k) as (λ b. IsDistinct same_feature (if b then lookups.contents s.metamodel ∷ [] else [])) [ true ↦ (tt, tt) | false ↦ tt ]
 features-distinct s legal (node.Object o) = by ((reading s).class o)
   where
     by : (x : Option ClassNo) → IsDistinct same_feature (unwrap_or (option_and_then (lookups.features s.metamodel) x) [])

@@ -1,5 +1,5 @@
 -- A subtree has an object and all that is below it, and nothing else.
-use Rattle.std.proofs.Common.{◌≡◌, ℕ, zero, suc, ◌<◌, Bool, true, false, cond, length, List, [], ◌∷◌, filter, flat_map, Option, Some, None, unwrap_or, slice_get, nat_eq, eqb-true, eq-eqb, refl, sym, ap, ◌∙◌, subst, inl, inr}
+use Rattle.std.proofs.Common.{◌&&◌, if◌then◌else◌, ◌≡◌, ℕ, zero, suc, ◌<◌, Bool, true, false, cond, length, List, [], ◌∷◌, filter, flat_map, Option, Some, None, unwrap_or, slice_get, nat_eq, eqb-true, eq-eqb, refl, sym, ap, ◌∙◌, subst, inl, inr}
 use Rattle.std.specs.Prelude.{option_and_then}
 use Rattle.std.specs.List.{AllByRecursion, list_any}
 use Rattle.std.specs.Option.{option_map_or}
@@ -24,7 +24,7 @@ use Rattle.link_store.specs.Holders.{IsUnder, above, climb, holder}
 use Rattle.link_store.specs.Links.{Links, end}
 use Rattle.models.specs.Legal.{IsLegal, kinds_of}
 use Rattle.models.specs.Model.{Model, reading, values_at}
-use Rattle.models.specs.Reading.{Reading, all_features_of, at_end, has_feature, is_live, is_within, objects_of}
+use Rattle.models.specs.Reading.{Reading, all_features_of, at_end, has_feature, has_resource, is_live, is_within, objects_of}
 use Rattle.containment.proofs.HolderLemmas.{container_at, holding-feature}
 use Rattle.containment.proofs.PartLemmas.{IsPart, contains-reference, contents-parts, kinds-are, legal-at, values-linked}
 use Rattle.containment.proofs.TreeLemmas.{some-made, subtree-levels, subtree-parts}
@@ -99,7 +99,11 @@ turned (g ∷ gs) f h = elim (or_cases (nat_eq g.0 f.0) (list_any (λ (g : Featu
 
 -- a feature that a node has is among all its features
 own-feature : (r : Reading) (n : Node) (f : FeatureNo) → has_feature r n f ≡ true → list_any (same_feature f) (all_features_of r n) ≡ true
-own-feature r (node.Resource k) f h = absurd (false≢true h)
+own-feature r (node.Resource k) f h = by (has_resource r k) h
+  where
+    by : (b : Bool) → (b && same_feature f (lookups.contents r.metamodel)) ≡ true → list_any (same_feature f) (if b then lookups.contents r.metamodel ∷ [] else []) ≡ true
+    by true q = or_left _ _ q
+    by false q = absurd (false≢true q)
 own-feature r (node.Object o) f h = by (r.class o) h
   where
     listed : (x : Option (List FeatureNo)) → option_map_or (λ all. list_any (λ (g : FeatureNo). nat_eq g.0 f.0) all) x false ≡ true → list_any (same_feature f) (unwrap_or x []) ≡ true

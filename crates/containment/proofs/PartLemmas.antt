@@ -7,7 +7,6 @@ use Rattle.std.proofs.lemmas.Bool.{and_parts, eqb-true, false≢true, ltb-false,
 use Rattle.std.proofs.lemmas.List.{get_or_past}
 use Rattle.std.proofs.lemmas.Option.{none-some, same_Some}
 use Rattle.mm_meta.proofs.ShapeLemmas.{opposites_are_pairs}
-use Rattle.mm_meta.proofs.OwnerLemmas.{has_none}
 use Rattle.mm_types.specs.Lookups as lookups
 use Rattle.mm_types.specs.OfDocument.{IsOfDocument}
 use Rattle.mm_types.specs.Resolved.{Metamodel}
@@ -58,7 +57,8 @@ all-get p (w ∷ ws) (suc k) v h at = all-get p ws k v (and_parts _ _ h).1 at
 
 -- the node is an object that was made
 abbrev pub IsMade : Model → Node → Type 0
-IsMade s n = (o : ObjectNo) × (n ≡ node.Object o) × (o.0 < length s.values.objects)
+IsMade s (node.Object o) = o.0 < length s.values.objects
+IsMade s (node.Resource k) = Unit {0}
 
 pub live-made : (s : Model) (o : ObjectNo) → is_live (reading s) o ≡ true → o.0 < length s.values.objects
 live-made s o live =
@@ -74,8 +74,8 @@ some-of p None h = absurd (false≢true h)
 some-of p (Some c) h = refl
 
 has-made : (s : Model) (n : Node) (f : FeatureNo) → has_feature (reading s) n f ≡ true → IsMade s n
-has-made s (node.Object o) f h = (o, refl, live-made s o (some-of (λ c. lookups.has_feature s.metamodel c f) (class_of s.values o) h))
-has-made s (node.Resource k) f h = absurd (false≢true h)
+has-made s (node.Object o) f h = live-made s o (some-of (λ c. lookups.has_feature s.metamodel c f) (class_of s.values o) h)
+has-made s (node.Resource k) f h = tt
 
 pub legal-at : (r : Reading) (e : End) (vs : List Value) (k : ℕ) (v : Value) → IsTrue (is_legal_end r e vs) → slice_get vs k ≡ Some v → (has_feature r e.node e.feature ≡ true) × (is_legal_object r e.feature v ≡ true)
 legal-at r e [] k v h at = absurd (none-some v at)
@@ -92,26 +92,17 @@ object-typed m single ELong o = refl
 object-typed m single EBoolean o = refl
 object-typed m single (Enum e) o = refl
 
--- a node that has a feature is of a class that has it
-class-has : (r : Reading) (n : Node) (f : FeatureNo) → has_feature r n f ≡ true → (c : ClassNo) × (lookups.has_feature r.metamodel c f ≡ true)
-class-has r (node.Object o) f h = by (r.class o) h
-  where
-    by : (x : Option ClassNo) → option_map_or (λ c. lookups.has_feature r.metamodel c f) x false ≡ true → (c : ClassNo) × (lookups.has_feature r.metamodel c f ≡ true)
-    by None h = absurd (false≢true h)
-    by (Some c) h = (c, h)
-class-has r (node.Resource k) f h = absurd (false≢true h)
-
--- what a feature of a class takes lives
-taken-live : (m : Metamodel) → IsOfDocument m → (class : ObjectNo → Option ClassNo) (c : ClassNo) (f : FeatureNo) (o : ObjectNo) → lookups.has_feature m c f ≡ true → lookups.takes m class f (value.Object o) ≡ true → is_some (class o) ≡ true
-taken-live m accepted class c f o has = by (lookups.feature m f) refl
+-- what a feature takes lives
+taken-live : (m : Metamodel) (class : ObjectNo → Option ClassNo) (f : FeatureNo) (o : ObjectNo) → lookups.takes m class f (value.Object o) ≡ true → is_some (class o) ≡ true
+taken-live m class f o = by (lookups.feature m f)
   where
     by_kind : (single : Bool) (k : Kind) → lookups.is_of_kind m class single k (value.Object o) ≡ true → is_some (class o) ≡ true
     by_kind single (Attribute t unique unsettable default) h = absurd (false≢true (sym (object-typed m single t o) ∙ h))
     by_kind single (Reference target containment opposite) h = some-of (λ c. lookups.conforms m c target) (class o) h
 
-    by : (x : Option Feature) → lookups.feature m f ≡ x → option_map_or (λ g. lookups.is_of_kind m class (lookups.is_single g) g.kind (value.Object o)) x true ≡ true → is_some (class o) ≡ true
-    by None none h = absurd (false≢true (has_none m accepted c f none ∙ has))
-    by (Some g) _ h = by_kind (lookups.is_single g) g.kind h
+    by : (x : Option Feature) → option_map_or (λ g. lookups.is_of_kind m class (lookups.is_single g) g.kind (value.Object o)) x (is_some (class o)) ≡ true → is_some (class o) ≡ true
+    by None h = h
+    by (Some g) h = by_kind (lookups.is_single g) g.kind h
 
 ---------------------------------------------------------------- parts
 
@@ -167,10 +158,9 @@ module _ (s : Model) (legal : IsLegal s) (n : Node) where
   part-at f contains k c at =
       let e = at_end n f in
       let may = legal-at (reading s) e (end s.links e) k (value.Object c) (legal.links.ends e) (linked f contains k c at) in
-      let owner = class-has (reading s) n f may.0 in
       record {
         whole = has-made s n f may.0;
-        made = live-made s c (taken-live s.metamodel legal.metamodel (class_of s.values) owner.0 f c owner.1 (and_parts (lookups.is_object (value.Object c)) _ may.1).1);
+        made = live-made s c (taken-live s.metamodel (class_of s.values) f c (and_parts (lookups.is_object (value.Object c)) _ may.1).1);
         by = e;
         held = holder-at f contains k c at;
         here = refl;

@@ -11,7 +11,7 @@ use Rattle.link_store.specs.Holders.{above}
 use Rattle.models.specs.Legal.{IsLegal}
 use Rattle.models.specs.Model.{Model, reading}
 use Rattle.models.specs.Reading.{is_live}
-use Rattle.containment.proofs.ChainLemmas.{part-depth}
+use Rattle.containment.proofs.ChainLemmas.{numbers, part-depth}
 use Rattle.containment.proofs.PartLemmas.{IsPart, contents-parts, live-made}
 use Rattle.containment.specs.Forest.{contents, subtree, tree}
 
@@ -25,13 +25,13 @@ waiting-trees s os = flat_map (subtree (reading s)) (reverse os)
 
 module _ (s : Model) (legal : IsLegal s) where
   depth : ObjectNo → ℕ
-  depth o = length (above s.links (node.Object o))
+  depth o = length (numbers (above s.links (node.Object o)))
 
   part-deeper : (o c : ObjectNo) → IsPart s (node.Object o) c → depth c ≡ suc (depth o)
   unfolding depth
   part-deeper o c part =
-      ap length (above_held s.links legal.links.set legal.links.forest (node.Object c) part.by part.held)
-      ∙ ap (λ (n : Node). suc (length (above s.links n))) part.here
+      ap (λ (ns : List Node). length (numbers ns)) (above_held s.links legal.links.set legal.links.forest (node.Object c) part.by part.held)
+      ∙ ap (λ (n : Node). length (numbers (n ∷ above s.links n))) part.here
 
   part-shallow : (o c : ObjectNo) → IsPart s (node.Object o) c → depth c < length s.values.objects
   unfolding depth

@@ -39,7 +39,7 @@ use Rattle.handshake.specs.Laws.{AreApart, AreDifferent, takes_many}
 use Rattle.handshake.specs.Refusals.{early_refusal, late_refusal}
 use Rattle.handshake.specs.Telling.{changed, flagged, happened, happened_all, has_flag, notice_at, notice_of, telling, told}
 use Rattle.handshake.specs.Tellings.{all_lost, before_gain, chain, far_gain, far_loss, far_losses, gain_at, is_replaced, loss, losses, other_losses, taken_out, tellings, tellings_with}
-use Rattle.handshake.specs.declared.change.Change.TheVariants.{Create, Set, Unset, Add, Remove, RemoveValue, Move}
+use Rattle.handshake.specs.declared.change.Change.TheVariants.{Create, Set, Unset, Add, Remove, RemoveValue, Move, NewResource}
 use Rattle.handshake.specs.declared.change.Change.{Change}
 use Rattle.handshake.specs.declared.happening.Happening.TheVariants.{Gains, LosesAt, Moves, Unsets}
 use Rattle.handshake.specs.declared.happening.Happening.{Happening}
@@ -361,6 +361,7 @@ unset-apart s n f h legal =
 -- no end is told twice, but a list that is unset
 pub tellings-apart : (s : Model) (c : Change) → IsLegal s → early_refusal (reading s) c ≡ None → late_refusal (reading s) c ≡ None → takes_many (reading s) c ≡ false → AreApart (tellings (reading s) c)
 tellings-apart s (Create c) legal early late few = tt
+tellings-apart s (NewResource u) legal early late few = tt
 tellings-apart s (Set n f v) legal early late few =
     let r = reading s in
     let e = at_end n f in

@@ -42,7 +42,7 @@ use Rattle.handshake.specs.Refusals.{early_refusal, late_refusal}
 use Rattle.handshake.specs.Telling.{telling}
 use Rattle.handshake.specs.Tellings.{all_lost, before_gain, far_losses, gain_at, taken_out, tellings}
 use Rattle.handshake.specs.declared.change.Change.{Change}
-use Rattle.handshake.specs.declared.change.Change.TheVariants.{Create, Set, Unset, Add, Remove, RemoveValue, Move}
+use Rattle.handshake.specs.declared.change.Change.TheVariants.{Create, Set, Unset, Add, Remove, RemoveValue, Move, NewResource}
 use Rattle.handshake.specs.declared.happening.Happening.{Happening}
 use Rattle.handshake.specs.declared.happening.Happening.TheVariants.{Gains, LosesAt, Moves, Unsets}
 use Rattle.handshake.specs.declared.happening.Telling.{Telling}
@@ -55,7 +55,7 @@ use Rattle.mm_types.specs.Same.{same_end}
 use Rattle.mm_types.specs.Lists.{put_back, shifted}
 use Rattle.handshake.proofs.CutTieLemmas.{Stands, all_at, any_append_left, any_push, backwards-different, filter_none, is_named-same_link, pairs, plain-not, same_link-self, tie_in-different, tie_in-stand, ties_at-different, ties_at-stand, ties_backwards-stand, values-linked, without_ties-pairs}
 use Rattle.handshake.proofs.HappenedLemmas.{at-own, done, happened_all-at, happened_at}
-use Rattle.handshake.proofs.KnownLemmas.{add-named, add-taken, kinds-are, move-named, move-placed, object-reference, remove-named, remove-placed, set-named, set-taken, take-named, unset-there}
+use Rattle.handshake.proofs.KnownLemmas.{add-named, add-taken, kinds-are, move-named, move-placed, object-reference, remove-named, remove-placed, resource-keeps-none, set-named, set-taken, take-named, unset-there}
 use Rattle.handshake.proofs.LinkLemmas.{IsNewLink, near-empty, without_displaced}
 use Rattle.handshake.proofs.ListReplayLemmas.{all_lost-own, list-added, list-moved, list-taken, list-unset, lost-done, one-done, own-one, single-set, single-unset}
 use Rattle.handshake.proofs.LossLemmas.{gained-single, lost}
@@ -91,9 +91,9 @@ null-value m class single target value.Null h none = refl
 null-value m class single target (value.Object o) h none = absurd (none-some o (sym none))
 null-value m class single target _ h none = absurd (false≢true h)
 
-object-value : (v : Value) → lookups.is_object v ≡ true → object_of v ≡ None → v ≡ value.Null
-object-value (value.Object o) h none = absurd (none-some o (sym none))
-object-value _ h none = absurd (false≢true h)
+object-value : (class : ObjectNo → Option ClassNo) (v : Value) → lookups.is_live_object class v ≡ true → object_of v ≡ None → v ≡ value.Null
+object-value class (value.Object o) h none = absurd (none-some o (sym none))
+object-value class _ h none = absurd (false≢true h)
 
 null-of_kind : (m : Metamodel) (class : ObjectNo → Option ClassNo) (f : FeatureNo) (x : Feature) (k : Kind) (v : Value) → (shape_of m f x k).is_reference ≡ true
     → lookups.is_of_kind m class (lookups.is_single x) k v ≡ true → object_of v ≡ None → v ≡ value.Null
@@ -105,8 +105,8 @@ null-taken : (m : Metamodel) (class : ObjectNo → Option ClassNo) (f : FeatureN
 null-taken m class f v reference h none = by (lookups.feature m f) reference h
   where
     by : (x : Option Feature) → (option_map_or (λ g. shape_of m f g g.kind) x (contents_shape m)).is_reference ≡ true
-        → option_map_or (λ g. lookups.is_of_kind m class (lookups.is_single g) g.kind v) x (lookups.is_object v) ≡ true → v ≡ value.Null
-    by None reference h = object-value v h none
+        → option_map_or (λ g. lookups.is_of_kind m class (lookups.is_single g) g.kind v) x (lookups.is_live_object class v) ≡ true → v ≡ value.Null
+    by None reference h = object-value class v h none
     by (Some x) reference h = null-of_kind m class f x x.kind v reference h none
 
 -- the model with other links
@@ -209,10 +209,10 @@ module _ (s : Model) (legal : IsLegal s) (e : End) (reference : (shape s.metamod
 right-of : (a b : Bool) → a ≡ true → (not a || b) ≡ true → b ≡ true
 right-of a b is h = subst (λ (x : Bool). (not x || b) ≡ true) is h
 
--- a node that has a feature is an object
-by-object : (s : Model) (f : FeatureNo) (P : Node → Type 0) → ((o : ObjectNo) → has_feature (reading s) (node.Object o) f ≡ true → P (node.Object o)) → (n : Node) → has_feature (reading s) n f ≡ true → P n
-by-object s f P each (node.Object o) has = each o has
-by-object s f P each (node.Resource k) has = absurd (false≢true has)
+-- a node that has an attribute is an object
+by-object : (s : Model) (f : FeatureNo) (P : Node → Type 0) → (shape s.metamodel f).is_reference ≡ false → ((o : ObjectNo) → has_feature (reading s) (node.Object o) f ≡ true → P (node.Object o)) → (n : Node) → has_feature (reading s) n f ≡ true → P n
+by-object s f P attribute each (node.Object o) has = each o has
+by-object s f P attribute each (node.Resource k) has = absurd (resource-keeps-none (reading s) k f has attribute)
 
 ---------------------------------------------------------------- each change
 
@@ -224,7 +224,7 @@ plain-set s n f v legal has single plain =
     let a = shape s.metamodel f in
     elim a.is_reference as (λ b. a.is_reference ≡ b → Replays s (telling e (Gains v) ∷ []) (record s { values = applied s.values (if b then [] else put_values e (v ∷ []) a.is_unsettable) })) [
       | true ↦ λ reference. kept-replays s e legal reference single v (right-of a.is_reference (has_already (reading s) e v) reference plain)
-      | false ↦ λ attribute. by-object s f (λ n. Replays s (telling (at_end n f) (Gains v) ∷ []) (record s { values = applied s.values (put_values (at_end n f) (v ∷ []) a.is_unsettable) })) (λ o has. single-set s legal o f has attribute v single) n has
+      | false ↦ λ attribute. by-object s f (λ n. Replays s (telling (at_end n f) (Gains v) ∷ []) (record s { values = applied s.values (put_values (at_end n f) (v ∷ []) a.is_unsettable) })) attribute (λ o has. single-set s legal o f has attribute v single) n has
     ] refl
 
 -- nothing stands at a single end where its new link is put
@@ -289,8 +289,8 @@ unset-changes s n f legal has =
         | false ↦ λ many. many-unset_link s legal e reference many
       ] refl
       | false ↦ λ attribute. elim a.is_single as (λ c. a.is_single ≡ c → Replays s (own c) (record s { values = applied s.values (put_values e [] false) })) [
-        | true ↦ λ single. by-object s f (λ n. Replays s (telling (at_end n f) Unsets ∷ []) (record s { values = applied s.values (put_values (at_end n f) [] false) })) (λ o has. single-unset s legal o f has attribute single) n has
-        | false ↦ λ many. by-object s f (λ n. Replays s (all_lost (at_end n f) (length (r.values (at_end n f)))) (record s { values = applied s.values (put_values (at_end n f) [] false) })) (λ o has. list-unset s legal o f has attribute many) n has
+        | true ↦ λ single. by-object s f (λ n. Replays s (telling (at_end n f) Unsets ∷ []) (record s { values = applied s.values (put_values (at_end n f) [] false) })) attribute (λ o has. single-unset s legal o f has attribute single) n has
+        | false ↦ λ many. by-object s f (λ n. Replays s (all_lost (at_end n f) (length (r.values (at_end n f)))) (record s { values = applied s.values (put_values (at_end n f) [] false) })) attribute (λ o has. list-unset s legal o f has attribute many) n has
       ] refl
     ] refl
 
@@ -321,7 +321,7 @@ new-add s n f v i legal early late h =
     null-many m class f reference many h = by (lookups.feature m f) reference many h
       where
         by : (x : Option Feature) → (option_map_or (λ g. shape_of m f g g.kind) x (contents_shape m)).is_reference ≡ true → (option_map_or (λ g. shape_of m f g g.kind) x (contents_shape m)).is_single ≡ false
-            → option_map_or (λ g. lookups.is_of_kind m class (lookups.is_single g) g.kind value.Null) x (lookups.is_object value.Null) ≡ true → ⊥
+            → option_map_or (λ g. lookups.is_of_kind m class (lookups.is_single g) g.kind value.Null) x (lookups.is_live_object class value.Null) ≡ true → ⊥
         by None reference many h = false≢true h
         by (Some x) reference many h = null-kind m class f x x.kind reference many h
 
@@ -333,7 +333,7 @@ new-add s n f v i legal early late h =
 -- a value that is added to an attribute
 attribute-add : (s : Model) (n : Node) (f : FeatureNo) (v : Value) (i : Option ℕ) → IsLegal s → early_refusal (reading s) (Add n f v i) ≡ None → late_refusal (reading s) (Add n f v i) ≡ None → (shape s.metamodel f).is_reference ≡ false → is_repeat (reading s) (at_end n f) v ≡ false
     → Replays s (before_gain (reading s) (at_end n f) v [] ++ telling (at_end n f) (gain_at i v) ∷ []) (record s { values = applied s.values (add_value (reading s) (at_end n f) v i) })
-attribute-add s (node.Resource k) f v i legal early late attribute new = absurd (false≢true (add-named (reading s) (node.Resource k) f v i early).there)
+attribute-add s (node.Resource k) f v i legal early late attribute new = absurd (resource-keeps-none (reading s) k f (add-named (reading s) (node.Resource k) f v i early).there attribute)
 attribute-add s (node.Object o) f (value.Object p) i legal early late attribute new =
     absurd (false≢true (sym attribute ∙ object-reference s.metamodel (reading s).class f p (add-taken (reading s) (node.Object o) f (value.Object p) i late).takes))
 attribute-add s (node.Object o) f v i legal early late attribute new =
@@ -373,7 +373,7 @@ take-changes s n f i legal has many low =
     let e = at_end n f in
     elim (shape s.metamodel f).is_reference as (λ b. (shape s.metamodel f).is_reference ≡ b → Replays s (taken_out r e (if b then tie_in r e i else []) i) (record s { values = applied s.values (if b then [] else take_value e i); links = without_ties s.links (if b then tie_in r e i else []) })) [
       | true ↦ λ reference. take-link s legal e reference i many low
-      | false ↦ λ attribute. by-object s f (λ n. nat_lt i (length (r.values (at_end n f))) ≡ true → Replays s (telling (at_end n f) (LosesAt i) ∷ []) (record s { values = applied s.values (take_value (at_end n f) i) })) (λ o has low. list-taken s legal o f has attribute many i low) n has low
+      | false ↦ λ attribute. by-object s f (λ n. nat_lt i (length (r.values (at_end n f))) ≡ true → Replays s (telling (at_end n f) (LosesAt i) ∷ []) (record s { values = applied s.values (take_value (at_end n f) i) })) attribute (λ o has low. list-taken s legal o f has attribute many i low) n has low
     ] refl
 
 -- a value that first stands at a place is there
@@ -401,11 +401,12 @@ move-changes s n f to from legal has many late =
     elim (shape s.metamodel f).is_reference as (λ b. (shape s.metamodel f).is_reference ≡ b → Replays s (telling e (Moves to from) ∷ []) (record s { values = applied s.values (if b then [] else of_object n (λ o. MoveValue o f to from)); links = if b then shift s.links e to from else s.links })) [
       | true ↦ λ reference. move-link s legal e reference to from many placed.0 placed.1
       | false ↦ λ attribute. by-object s f (λ n. nat_lt to (length (r.values (at_end n f))) ≡ true → nat_lt from (length (r.values (at_end n f))) ≡ true → Replays s (telling (at_end n f) (Moves to from) ∷ []) (record s { values = applied s.values (of_object n (λ o. MoveValue o f to from)) }))
-          (λ o has low_to low_from. list-moved s legal o f has attribute many to from low_to low_from) n has placed.0 placed.1
+          attribute (λ o has low_to low_from. list-moved s legal o f has attribute many to from low_to low_from) n has placed.0 placed.1
     ] refl
 
 changes-replay : (s : Model) (c : Change) → IsLegal s → early_refusal (reading s) c ≡ None → late_refusal (reading s) c ≡ None → Replays s (tellings (reading s) c) (after s c)
 changes-replay s (Create k) legal early late = create-replays s k
+changes-replay s (NewResource u) legal early late = λ d. refl
 changes-replay s (Set n f v) legal early late = set-changes s n f v legal early late
 changes-replay s (Unset n f) legal early late = unset-changes s n f legal (unset-there (reading s) n f early)
 changes-replay s (Add n f v i) legal early late = add-changes s n f v i legal early late

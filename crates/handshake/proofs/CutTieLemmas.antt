@@ -30,7 +30,7 @@ use Rattle.models.specs.Model.{Model, reading}
 use Rattle.models.specs.Reading.{Reading, at_end, first_at, is_repeat}
 use Rattle.handshake.proofs.KnownLemmas.{far-reference, kinds-are, set-named}
 use Rattle.handshake.specs.declared.change.Change.{Change}
-use Rattle.handshake.specs.declared.change.Change.TheVariants.{Create, Set, Unset, Add, Remove, RemoveValue, Move}
+use Rattle.handshake.specs.declared.change.Change.TheVariants.{Create, Set, Unset, Add, Remove, RemoveValue, Move, NewResource}
 use Rattle.handshake.specs.declared.tie.Tie.{Tie}
 use Rattle.handshake.specs.Displaced.{cut_by_new, cut_by_set, cut_ties, is_plain_add, tie_in, ties_backwards, has_already, in_the_way, is_plain_set, once, opposite_end, holding_tie, other_side, same_link, same_tie, tie, ties_at, ties_if_single, with_tie, yields}
 use Rattle.handshake.specs.Effects.{without_ties}
@@ -303,6 +303,7 @@ tie_in-stand s e i reference =
 -- each link that a change cuts stands where its name says
 pub cuts-stand : (s : Model) (c : Change) → IsLegal s → AllByRecursion (Stands s.links) (cut_ties (reading s) c)
 cuts-stand s (Create c) legal = tt
+cuts-stand s (NewResource u) legal = tt
 cuts-stand s (Set n f v) legal = set-cuts (AllByRecursion (Stands s.links)) s n f tt v (λ reference _. cut_by_set-stand s (at_end n f) v legal reference)
 cuts-stand s (Unset n f) legal = unset-cuts (AllByRecursion (Stands s.links)) s n f tt (λ reference. ties_backwards-stand s (at_end n f) reference)
 cuts-stand s (Add n f v i) legal = add-cuts (AllByRecursion (Stands s.links)) s n f tt v i (λ reference _. cut_by_new-stand s (at_end n f) v legal reference)
@@ -385,6 +386,7 @@ cut_by_new-different r e _ = tt
 
 pub cuts-different : (s : Model) (c : Change) → IsLegal s → early_refusal (reading s) c ≡ None → AreDifferent (reading s) (cut_ties (reading s) c)
 cuts-different s (Create c) legal early = tt
+cuts-different s (NewResource u) legal early = tt
 cuts-different s (Set n f v) legal early =
     set-cuts (AreDifferent (reading s)) s n f tt v (λ reference _. cut_by_set-different s (at_end n f) v legal reference (set-named (reading s) n f v early).single)
 cuts-different s (Unset n f) legal early =

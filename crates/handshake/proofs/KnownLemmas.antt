@@ -1,15 +1,15 @@
 -- What follows where a change is not refused: the node lives and has the feature, the value is one of its type, and the end can gain
 -- it.
-use Rattle.std.proofs.Common.{◌≡◌, ℕ, nat_le, nat_lt, length, ◌&&◌, Bool, true, false, Option, Some, None, is_some, if◌then◌else◌, refl, sym, ◌∙◌, subst}
+use Rattle.std.proofs.Common.{◌≡◌, ℕ, nat_le, nat_lt, length, slice_get, ◌&&◌, Bool, true, false, Option, Some, None, is_some, if◌then◌else◌, refl, sym, ap, ◌∙◌, subst, arith, ◌<◌, List}
 use Rattle.std.specs.Option.{option_map_or}
-use Rattle.std.proofs.lemmas.Bool.{and_parts, false≢true}
-use Rattle.std.proofs.lemmas.Option.{none-some}
+use Rattle.std.proofs.lemmas.Bool.{and_parts, eqb-true, false≢true}
+use Rattle.std.proofs.lemmas.Option.{none-some, slice_get_past}
 use Rattle.mm_meta.proofs.ShapeLemmas.{opposites_are_pairs}
 use Rattle.mm_types.specs.Conditions.{◌unless◌, ◌where_so◌, ◌else_by◌}
 use Rattle.mm_types.specs.Lookups as lookups
 use Rattle.mm_types.specs.OfDocument.{IsOfDocument}
 use Rattle.mm_types.specs.Resolved.{Metamodel}
-use Rattle.mm_types.specs.Shapes.{contents_shape, shape, shape_of}
+use Rattle.mm_types.specs.Shapes.{Shape, contents_shape, shape, shape_of}
 use Rattle.mm_types.specs.declared.feature.DataType.{DataType}
 use Rattle.mm_types.specs.declared.feature.DataType.TheVariants.{EString, EInt, ELong, EBoolean, Enum}
 use Rattle.mm_types.specs.declared.feature.Feature.{Feature}
@@ -20,17 +20,20 @@ use Rattle.mm_types.specs.declared.numbers.FeatureNo.{FeatureNo}
 use Rattle.mm_types.specs.declared.numbers.Node.{Node}
 use Rattle.mm_types.specs.declared.numbers.Node.TheVariants as node
 use Rattle.mm_types.specs.declared.numbers.ObjectNo.{ObjectNo}
+use Rattle.mm_types.specs.declared.numbers.ResourceNo.{ResourceNo}
 use Rattle.mm_types.specs.declared.end.End.{End}
 use Rattle.mm_types.specs.declared.refused.Refused.{Refused}
-use Rattle.mm_types.specs.declared.refused.Refused.TheVariants.{NoObject, NoFeature, NotSingle, NotMany, WrongType, TextLength, Index, Duplicate, Bound, Recursive, Limit}
+use Rattle.mm_types.specs.declared.refused.Refused.TheVariants.{NoObject, NoFeature, NotSingle, NotMany, WrongType, TextLength, Index, Duplicate, Bound, Recursive, Limit, ResourceExists}
 use Rattle.mm_types.specs.declared.value.Value.{Value}
 use Rattle.mm_types.specs.declared.value.Value.TheVariants as value
 use Rattle.link_store.specs.LegalSets.{AreKinds}
-use Rattle.models.specs.Legal.{is_short, kinds_of}
-use Rattle.models.specs.Reading.{Reading, at_end, has_feature, is_node_live, is_repeat, is_value_live, place_for, takes}
+use Rattle.models.specs.Legal.{is_short, kinds_of, is_short_text}
+use Rattle.models.specs.Reading.{Reading, at_end, has_feature, is_node_live, is_repeat, is_value_live, place_for, takes, has_uri}
 use Rattle.handshake.specs.Named.{feature_refusal, many_refusal, node_refusal, single_refusal, value_refusal}
-use Rattle.handshake.specs.Refusals.{add_refusal, early_refusal, gain_refusal, is_at_limit, is_full_at, is_recursive, late_refusal, link_refusal, of_either, set_refusal, type_refusal}
+use Rattle.handshake.specs.Refusals.{add_refusal, early_refusal, gain_refusal, is_at_limit, is_full_at, is_recursive, late_refusal, link_refusal, of_either, set_refusal, type_refusal, uri_refusal}
 use Rattle.handshake.specs.declared.change.Change.TheVariants.{Set, Unset, Add, Remove, RemoveValue, Move}
+use Rattle.std.proofs.lemmas.Bool.Decides.{nat_tests}
+use Rattle.mm_types.specs.declared.limits.TheConstants.{RESOURCES}
 
 ---------------------------------------------------------------- the metamodel
 
@@ -65,7 +68,7 @@ object-of_kind m class f x (Reference target containment opposite) o h = refl
 pub object-reference : (m : Metamodel) (class : ObjectNo → Option ClassNo) (f : FeatureNo) (o : ObjectNo) → lookups.takes m class f (value.Object o) ≡ true → (shape m f).is_reference ≡ true
 object-reference m class f o h = by (lookups.feature m f) h
   where
-    by : (x : Option Feature) → option_map_or (λ g. lookups.is_of_kind m class (lookups.is_single g) g.kind (value.Object o)) x true ≡ true
+    by : (x : Option Feature) → option_map_or (λ g. lookups.is_of_kind m class (lookups.is_single g) g.kind (value.Object o)) x (lookups.is_live_object class (value.Object o)) ≡ true
         → (option_map_or (λ g. shape_of m f g g.kind) x (contents_shape m)).is_reference ≡ true
     by None h = refl
     by (Some x) h = object-of_kind m class f x x.kind o h
@@ -98,9 +101,25 @@ there-of : (r : Reading) (o : ObjectNo) (f : FeatureNo) (c : Option ClassNo) →
 there-of r o f None is h = absurd (false≢true h)
 there-of r o f (Some c) is h = record { object = o; class = c; node = refl; class_is = is; has = h }
 
-pub feature-there : (r : Reading) (n : Node) (f : FeatureNo) → has_feature r n f ≡ true → IsThere r n f
-feature-there r (node.Object o) f h = there-of r o f (r.class o) refl h
-feature-there r (node.Resource k) f h = absurd (false≢true h)
+-- what a resource has is `contents`
+resource-shape : (r : Reading) (k : ResourceNo) (f : FeatureNo) → has_feature r (node.Resource k) f ≡ true → shape r.metamodel f ≡ contents_shape r.metamodel
+resource-shape r k f h =
+    let m = r.metamodel in
+    let same = eqb-true f.0 (length m.features) (and_parts _ _ h).1 in
+    let past : slice_get m.features f.0 ≡ None = slice_get_past m.features f.0 (omega (arith, same)) in
+    ap (λ (q : Option Feature). option_map_or (λ g. shape_of m f g g.kind) q (contents_shape m)) past
+
+pub resource-keeps-none : (r : Reading) (k : ResourceNo) (f : FeatureNo) → has_feature r (node.Resource k) f ≡ true → (shape r.metamodel f).is_reference ≡ false → ⊥
+resource-keeps-none r k f h attribute = false≢true (sym attribute ∙ ap (λ (a : Shape). a.is_reference) (resource-shape r k f h))
+
+-- it has no opposite
+pub resource-alone : (r : Reading) (k : ResourceNo) (f g : FeatureNo) → has_feature r (node.Resource k) f ≡ true → (shape r.metamodel f).opposite ≡ Some g → ⊥
+resource-alone r k f g h opposite = none-some g (sym (ap (λ (a : Shape). a.opposite) (resource-shape r k f h)) ∙ opposite)
+
+-- a node that has a feature with an opposite is an object
+pub feature-there : (r : Reading) (n : Node) (f g : FeatureNo) → (shape r.metamodel f).opposite ≡ Some g → has_feature r n f ≡ true → IsThere r n f
+feature-there r (node.Object o) f g opposite h = there-of r o f (r.class o) refl h
+feature-there r (node.Resource k) f g opposite h = absurd (resource-alone r k f g h opposite)
 
 ---------------------------------------------------------------- early refusals
 
@@ -224,3 +243,22 @@ linkable r e o h =
 -- so an object is set under a reference
 pub set-reference : (r : Reading) (n : Node) (f : FeatureNo) (o : ObjectNo) → late_refusal r (Set n f (value.Object o)) ≡ None → (shape r.metamodel f).is_reference ≡ true
 set-reference r n f o h = object-reference r.metamodel r.class f o (set-taken r n f (value.Object o) h).takes
+
+---------------------------------------------------------------- resources
+
+-- what is known of the URI of a new resource
+pub record UriTaken (r : Reading) (u : List ℕ) : Type 0 where
+  pub short : is_short_text u ≡ true
+  pub room : length r.uris < RESOURCES
+  pub free : has_uri r u ≡ false
+
+pub uri-taken : (r : Reading) (u : List ℕ) → uri_refusal r u ≡ None → UriTaken r u
+uri-taken r u late =
+    let of_text = none-else_by (TextLength unless is_short_text u) _ late in
+    let of_count = none-else_by (Limit unless nat_lt (length r.uris) RESOURCES) (ResourceExists where_so has_uri r u) of_text.1 in
+    let room = none-unless Limit (nat_lt (length r.uris) RESOURCES) of_count.0 in
+    record {
+      short = none-unless TextLength (is_short_text u) of_text.0;
+      room = grind (arith, nat_tests);
+      free = none-where_so ResourceExists (has_uri r u) of_count.1;
+    }

@@ -1,5 +1,5 @@
 -- The ends of a legal model stay legal: once links are cut, where a link is made, and where objects come.
-use Rattle.std.proofs.Common.{◌≡◌, ℕ, zero, suc, ◌<◌, ◌≤◌, nat_le, pos, negsuc, ℤ, Bool, true, false, ◌&&◌, not, List, [], ◌∷◌, ◌++◌, filter, length, Option, Some, None, if◌then◌else◌, slice_get, remove, refl, sym, ap, ◌∙◌, subst, arith}
+use Rattle.std.proofs.Common.{◌≡◌, ℕ, zero, suc, ◌<◌, ◌≤◌, nat_le, pos, negsuc, ℤ, Bool, true, false, ◌&&◌, not, List, [], ◌∷◌, ◌++◌, filter, length, Option, Some, None, is_some, if◌then◌else◌, slice_get, remove, refl, sym, ap, ◌∙◌, subst, arith, nat_lt}
 use Rattle.std.specs.Prelude.{int_le, int_lt}
 use Rattle.std.specs.List.{insert, list_all}
 use Rattle.std.specs.Option.{option_map_or}
@@ -8,7 +8,7 @@ use Rattle.std.proofs.lemmas.Bool.Decides.{Decides-int_eq, nat_tests}
 use Rattle.std.proofs.lemmas.Option.{none-some, same_Some}
 use Rattle.mm_types.specs.Lookups as lookups
 use Rattle.mm_types.specs.Resolved.{Metamodel}
-use Rattle.mm_types.specs.Same.{node_value, same_end}
+use Rattle.mm_types.specs.Same.{node_value, same_end, same_feature}
 use Rattle.mm_types.specs.Shapes.{Shape, contents_shape, is_bounded, is_full_list, shape, shape_of}
 use Rattle.mm_types.specs.declared.end.End.{End}
 use Rattle.mm_types.specs.declared.feature.Feature.{Feature}
@@ -170,7 +170,7 @@ module _ (s : Model) (legal : IsLegal s) (e : End) (o : ObjectNo) (new : IsNewLi
 
   far-legal : (g : FeatureNo) → (shape s.metamodel e.feature).opposite ≡ Some g → (has_feature (reading s) (node.Object o) g ≡ true) × (is_legal_object (reading s) g (node_value e.node) ≡ true)
   far-legal g opposite =
-      let there = feature-there (reading s) e.node e.feature new.has in
+      let there = feature-there (reading s) e.node e.feature g opposite new.has in
       let near : meta.class_has s.metamodel (class_of s.values) there.object e.feature ≡ true = rw there.class_is there.has in
       let fit = far_types_fit s.metamodel legal.metamodel (class_of s.values) there.object o e.feature g opposite near taken in
       (fit.0, subst (λ (n : Node). is_legal_object (reading s) g (node_value n) ≡ true) (sym there.node) fit.1)
@@ -256,11 +256,19 @@ test-kept : (x y : Option ClassNo) (p : ClassNo → Bool) → ((c : ClassNo) →
 test-kept None y p kept h = absurd (false≢true h)
 test-kept (Some c) y p kept h = subst (λ (o : Option ClassNo). option_map_or p o false ≡ true) (sym (kept c refl)) h
 
+some-kept : (x y : Option ClassNo) → ((c : ClassNo) → x ≡ Some c → y ≡ Some c) → is_some x ≡ true → is_some y ≡ true
+some-kept None y kept h = absurd (false≢true h)
+some-kept (Some c) y kept h = ap is_some (kept c refl)
+
 reference-kept : (m : Metamodel) (x y : ObjectNo → Option ClassNo) → HaveClasses x y → (single : Bool) (target : ClassNo) (v : Value)
     → lookups.is_reference_value m x single target v ≡ true → lookups.is_reference_value m y single target v ≡ true
 reference-kept m x y kept single target value.Null h = h
 reference-kept m x y kept single target (value.Object o) h = test-kept (x o) (y o) (λ c. lookups.conforms m c target) (kept o) h
 reference-kept m x y kept single target _ h = h
+
+live-kept : (x y : ObjectNo → Option ClassNo) → HaveClasses x y → (v : Value) → lookups.is_live_object x v ≡ true → lookups.is_live_object y v ≡ true
+live-kept x y kept (value.Object o) h = some-kept (x o) (y o) (kept o) h
+live-kept x y kept _ h = absurd (false≢true h)
 
 kind-kept : (m : Metamodel) (x y : ObjectNo → Option ClassNo) → HaveClasses x y → (single : Bool) (k : Kind) (v : Value) → lookups.is_of_kind m x single k v ≡ true → lookups.is_of_kind m y single k v ≡ true
 kind-kept m x y kept single (Attribute t unique unsettable default) v h = h
@@ -269,22 +277,25 @@ kind-kept m x y kept single (Reference target containment opposite) v h = refere
 takes-kept : (m : Metamodel) (x y : ObjectNo → Option ClassNo) → HaveClasses x y → (f : FeatureNo) (v : Value) → lookups.takes m x f v ≡ true → lookups.takes m y f v ≡ true
 takes-kept m x y kept f v h = by (lookups.feature m f) h
   where
-    by : (q : Option Feature) → option_map_or (λ g. lookups.is_of_kind m x (lookups.is_single g) g.kind v) q (lookups.is_object v) ≡ true
-        → option_map_or (λ g. lookups.is_of_kind m y (lookups.is_single g) g.kind v) q (lookups.is_object v) ≡ true
-    by None h = h
+    by : (q : Option Feature) → option_map_or (λ g. lookups.is_of_kind m x (lookups.is_single g) g.kind v) q (lookups.is_live_object x v) ≡ true
+        → option_map_or (λ g. lookups.is_of_kind m y (lookups.is_single g) g.kind v) q (lookups.is_live_object y v) ≡ true
+    by None h = live-kept x y kept v h
     by (Some g) h = kind-kept m x y kept (lookups.is_single g) g.kind v h
 
-module _ (s : Model) (v : ValuesState) (l : Links) (kept : HaveClasses (class_of s.values) (class_of v)) where
+-- objects that keep their classes, and no fewer resources
+module _ (s : Model) (v : ValuesState) (l : Links) (kept : HaveClasses (class_of s.values) (class_of v)) (more : length s.values.uris ≤ length v.uris) where
   has-kept : (n : Node) (f : FeatureNo) → has_feature (reading s) n f ≡ true → has_feature (reading (model_of s.metamodel v l)) n f ≡ true
   has-kept (node.Object o) f h = test-kept (class_of s.values o) (class_of v o) (λ c. lookups.has_feature s.metamodel c f) (kept o) h
-  has-kept (node.Resource k) f h = h
+  has-kept (node.Resource k) f h =
+      let both = and_parts (nat_lt k.0 (length s.values.uris)) (same_feature f (lookups.contents s.metamodel)) h in
+      and_from _ _ (grind (arith, nat_tests)) both.1
 
   object-kept : (f : FeatureNo) (w : Value) → is_legal_object (reading s) f w ≡ true → is_legal_object (reading (model_of s.metamodel v l)) f w ≡ true
   object-kept f w h =
       let both = and_parts (lookups.is_object w) (takes (reading s) f w) h in
       and_from _ _ both.0 (takes-kept s.metamodel (class_of s.values) (class_of v) kept f w both.1)
 
-  -- a legal end stays legal where objects keep their classes
+  -- a legal end stays legal
   pub legal-end-kept : (e : End) (ws : List Value) → is_legal_end (reading s) e ws ≡ true → is_legal_end (reading (model_of s.metamodel v l)) e ws ≡ true
   legal-end-kept e [] h = refl
   legal-end-kept e (w ∷ ws) h =

@@ -1,6 +1,6 @@
 -- A change that nothing refuses keeps a legal model legal.
-use Rattle.std.proofs.Common.{◌≡◌, ℕ, zero, suc, ◌≤◌, nat_le, nat_lt, insert, remove, eqb, Bool, true, false, ◌&&◌, List, [], ◌∷◌, ◌++◌, length, slice_index_or, slice_set, Option, Some, None, unwrap_or, option_map, if◌then◌else◌, refl, sym, ap, ◌∙◌, subst, arith}
-use Rattle.std.specs.List.{All, IsDistinct}
+use Rattle.std.proofs.Common.{◌≡◌, ℕ, zero, suc, ◌≤◌, nat_le, nat_lt, insert, remove, eqb, Bool, true, false, ◌&&◌, List, [], ◌∷◌, ◌++◌, length, slice_index_or, slice_set, Option, Some, None, unwrap_or, option_map, if◌then◌else◌, refl, sym, ap, ◌∙◌, subst, arith, ◌<◌, IsTrue}
+use Rattle.std.specs.List.{All, IsDistinct, list_any}
 use Rattle.std.specs.Ordering.{nat_cmp}
 use Rattle.std.specs.FinMap as map
 use Rattle.std.specs.Option.{option_map_or}
@@ -17,7 +17,7 @@ use Rattle.mm_types.specs.Shapes.{contents_shape, is_full_list, shape, shape_of}
 use Rattle.mm_types.specs.declared.feature.Feature.{Feature}
 use Rattle.mm_types.specs.declared.feature.Kind.{Kind}
 use Rattle.mm_types.specs.declared.feature.Kind.TheVariants.{Attribute, Reference}
-use Rattle.mm_types.specs.declared.limits.TheConstants.{LIST_VALUES, OBJECTS}
+use Rattle.mm_types.specs.declared.limits.TheConstants.{LIST_VALUES, OBJECTS, RESOURCES}
 use Rattle.mm_types.specs.declared.end.End.{End}
 use Rattle.mm_types.specs.declared.numbers.ClassNo.{ClassNo}
 use Rattle.mm_types.specs.declared.numbers.FeatureNo.{FeatureNo}
@@ -28,7 +28,7 @@ use Rattle.mm_types.specs.declared.refused.Refused.TheVariants.{Abstract, Bound,
 use Rattle.mm_types.specs.declared.value.Value.{Value}
 use Rattle.mm_types.specs.declared.value.Value.TheVariants as value
 use Rattle.mm_values.specs.Stored.{Stored, is_nothing, list_changed, nothing_stored}
-use Rattle.mm_values.specs.Values.{ObjectState, Objects, ValuesState, applied, change_list, class_of, object_at, put_stored, stored_under, with_changed}
+use Rattle.mm_values.specs.Values.{ObjectState, Objects, ValuesState, applied, change_list, class_of, object_at, put_stored, stored_under, with_changed, with_uri}
 use Rattle.mm_types.specs.Lists.{shifted}
 use Rattle.mm_values.specs.declared.edit.ValueEdit.{ValueEdit}
 use Rattle.mm_values.specs.declared.edit.ValueEdit.TheVariants.{InsertValue}
@@ -40,22 +40,26 @@ use Rattle.link_store.specs.Links.{Links, end, put, shift}
 use Rattle.link_store.proofs.CycleLemmas.{plan_makes_no_cycle}
 use Rattle.link_store.proofs.KindLemmas.{plan_keeps_kinds}
 use Rattle.link_store.proofs.LegalLemmas.{plan_keeps_legal}
-use Rattle.models.specs.Legal.{AreLegalLinks, IsLegal, IsLegalObject, IsLegalStored, IsUniqueList, is_legal_end, is_short, kinds_of}
+use Rattle.models.specs.Legal.{AreLegalLinks, AreLegalUris, IsLegal, IsLegalObject, IsLegalStored, IsUniqueList, is_legal_end, is_short, is_short_text, kinds_of}
 use Rattle.models.specs.Model.{Model, attribute_values, kept_values, reading}
 use Rattle.models.specs.Reading.{at_end, first_at, has_feature, is_repeat, place_for, takes}
 use Rattle.handshake.specs.declared.change.Change.{Change}
-use Rattle.handshake.specs.declared.change.Change.TheVariants.{Create, Set, Unset, Add, Remove, RemoveValue, Move}
+use Rattle.handshake.specs.declared.change.Change.TheVariants.{Create, Set, Unset, Add, Remove, RemoveValue, Move, NewResource}
 use Rattle.handshake.specs.Displaced.{cut_by_new, cut_by_set, cut_ties, is_plain_add, is_plain_set}
 use Rattle.handshake.specs.Edits.{link_edits}
 use Rattle.handshake.specs.Effects.{add_value, after, links_after, put_by, put_under, take_value, value_edits, with_value}
-use Rattle.handshake.specs.Laws.{KeepsLegal}
+use Rattle.handshake.specs.Laws.{KeepsLegal, IsBrought}
 use Rattle.handshake.specs.Refusals.{early_refusal, gain_refusal, is_at_limit, is_full_at, late_refusal}
 use Rattle.handshake.proofs.CutTieLemmas.{pairs, values-linked, without_ties-pairs}
-use Rattle.handshake.proofs.KnownLemmas.{add-gains, add-named, add-taken, kinds-are, move-named, move-placed, none-else_by, none-unless, none-where_so, object-reference, remove-named, set-named, set-taken, set-there, take-named}
+use Rattle.handshake.proofs.KnownLemmas.{add-gains, add-named, add-taken, kinds-are, move-named, move-placed, none-else_by, none-unless, none-where_so, object-reference, remove-named, resource-keeps-none, set-named, set-taken, set-there, take-named, uri-taken}
 use Rattle.handshake.proofs.LegalEndLemmas.{HaveClasses, cut-end, legal-end-kept, one-bounded, put-end, shifted-end}
 use Rattle.handshake.proofs.LinkLemmas.{below-limit, near-empty, without_displaced}
 use Rattle.handshake.proofs.ListLegalLemmas.{insert-legal, move-legal, remove-legal}
 use Rattle.handshake.proofs.PlanLemmas.{add-new, add-place, below, plan-for, set-new}
+use Rattle.std.specs.Str.{bytes_eq}
+use Rattle.std.proofs.lemmas.Cmp.{nat_list_eq_equiv}
+use Rattle.std.proofs.lemmas.Map.Keys.{IsDistinct-push}
+use Rattle.web_uris.specs.Joined.{IsWebUri}
 
 ---------------------------------------------------------------- what an object keeps
 
@@ -104,7 +108,7 @@ keeps-taken : (m : Metamodel) (class : ObjectNo → Option ClassNo) (f : Feature
 keeps-taken m class f v attribute h = by (lookups.feature m f) attribute h
   where
     by : (q : Option Feature) → (option_map_or (λ g. shape_of m f g g.kind) q (contents_shape m)).is_reference ≡ false
-        → option_map_or (λ g. lookups.is_of_kind m class (lookups.is_single g) g.kind v) q (lookups.is_object v) ≡ true
+        → option_map_or (λ g. lookups.is_of_kind m class (lookups.is_single g) g.kind v) q (lookups.is_live_object class v) ≡ true
         → option_map_or (λ g. lookups.is_of_attribute m (lookups.is_single g) g.kind v) q false ≡ true
     by None attribute h = cc
     by (Some g) attribute h = kept-of_kind m class f g g.kind v attribute h
@@ -169,14 +173,19 @@ class-put f h (o ∷ os) zero (suc i) = refl
 class-put f h (o ∷ os) (suc k) zero = refl
 class-put f h (o ∷ os) (suc k) (suc i) = class-put f h os k i
 
--- legal objects, where each of before keeps its class
+-- legal objects and URIs, where each object of before keeps its class, and each resource is still there
 record AreLegalValues (s : Model) (v : ValuesState) : Type 0 where
   pub count : length v.objects ≤ OBJECTS
   pub objects : All (IsLegalObject s.metamodel) v.objects
   pub classes : HaveClasses (class_of s.values) (class_of v)
+  pub uris : AreLegalUris v.uris
+  pub more : length s.values.uris ≤ length v.uris
+
+not-fewer : (us : List (List ℕ)) → length us ≤ length us
+not-fewer us = omega arith
 
 same-values : (s : Model) → IsLegal s → AreLegalValues s s.values
-same-values s legal = record { count = legal.count; objects = legal.objects; classes = λ o c h. h }
+same-values s legal = record { count = legal.count; objects = legal.objects; classes = λ o c h. h; uris = legal.uris; more = not-fewer s.values.uris }
 
 -- a list that is put under a feature of an object
 put-values : (s : Model) (o : ObjectNo) (f : FeatureNo) (h : Stored) → IsLegal s → ((x : ObjectState) → object_at s.values.objects o ≡ Some x → IsLegalStored s.metamodel x.class f h)
@@ -187,6 +196,8 @@ put-values s o f h legal held =
       count = rw (length-set s.values.objects o.0 _) legal.count;
       objects = All-set P s.values.objects o.0 _ (put-at s.metamodel (object_at s.values.objects o) f h (legal-at P s.values.objects o.0 tt legal.objects) held) legal.objects;
       classes = λ p c is. class-put f h s.values.objects o.0 p.0 ∙ is;
+      uris = legal.uris;
+      more = not-fewer s.values.uris;
     }
 
 changed-at : (m : Metamodel) (o : Option ObjectState) (f : FeatureNo) (g : List Value → List Value) → IsLegalObject m o → ((x : ObjectState) → o ≡ Some x → IsLegalStored m x.class f (list_changed g (stored_under x f)))
@@ -216,6 +227,8 @@ changed-values s o f g legal held =
       count = rw (length-set s.values.objects o.0 _) legal.count;
       objects = All-set P s.values.objects o.0 _ (changed-at s.metamodel (object_at s.values.objects o) f g (legal-at P s.values.objects o.0 tt legal.objects) held) legal.objects;
       classes = λ p c is. class-changed f g s.values.objects o.0 p.0 ∙ is;
+      uris = legal.uris;
+      more = not-fewer s.values.uris;
     }
 
 -- of an attribute alone
@@ -267,15 +280,34 @@ module _ (s : Model) (legal : IsLegal s) (o : ObjectNo) (f : FeatureNo) (many : 
   moved-values : (to from : ℕ) → AreLegalValues s (record { objects = with_changed s.values.objects o f (λ vs. shifted vs to from); uris = s.values.uris })
   moved-values to from = changed-values s o f (λ vs. shifted vs to from) legal (λ x is. move-legal s.metamodel x.class f (stored_under x f) many (stored-has x is) (stored-legal x is) to from)
 
-values-after : (s : Model) (c : Change) → IsLegal s → early_refusal (reading s) c ≡ None → late_refusal (reading s) c ≡ None → AreLegalValues s (applied s.values (value_edits (reading s) c))
-values-after s (Create c) legal early late =
+-- one URI more, which no resource has
+with-new : (us : List (List ℕ)) (u : List ℕ) → AreLegalUris us → IsWebUri u → is_short_text u ≡ true → length us < RESOURCES → list_any (bytes_eq u) us ≡ false
+    → AreLegalUris (with_uri us u) × (length us ≤ length (with_uri us u))
+with-new us u legal web short room free =
+    let added : AreLegalUris (us ++ u ∷ []) = record {
+      count = rw (length-append us (u ∷ [])) (omega arith);
+      web = All-append IsWebUri us (u ∷ []) legal.web (All-cons IsWebUri u [] web (All-nil IsWebUri));
+      short = All-append (λ t. IsTrue (is_short_text t)) us (u ∷ []) legal.short (All-cons (λ t. IsTrue (is_short_text t)) u [] short (All-nil (λ t. IsTrue (is_short_text t))));
+      distinct = IsDistinct-push nat_list_eq_equiv us u legal.distinct free;
+    } in
+    let longer : length us ≤ length (us ++ u ∷ []) = rw (length-append us (u ∷ [])) (omega arith) in
+    subst (λ (b : Bool). let vs = if b then us else us ++ u ∷ [] in AreLegalUris vs × (length us ≤ length vs)) (sym free) (added, longer)
+
+values-after : (s : Model) (c : Change) → IsLegal s → early_refusal (reading s) c ≡ None → late_refusal (reading s) c ≡ None → IsBrought c → AreLegalValues s (applied s.values (value_edits (reading s) c))
+values-after s (Create c) legal early late brought =
     let P = IsLegalObject s.metamodel in
     record {
       count = rw (length-append s.values.objects _) (grind (arith, nat_tests, none-unless Limit _ late));
       objects = All-append P s.values.objects _ legal.objects (All-cons P _ [] (created s.metamodel c (none-unless Abstract _ (none-else_by _ _ early).1)) (All-nil P));
       classes = λ o k h. class-append s.values.objects _ o.0 k h;
+      uris = legal.uris;
+      more = not-fewer s.values.uris;
     }
-values-after s (Set (node.Object o) f v) legal early late =
+values-after s (NewResource u) legal early late web =
+    let uri = uri-taken (reading s) u late in
+    let us = with-new s.values.uris u legal.uris web uri.short uri.room uri.free in
+    record { count = legal.count; objects = legal.objects; classes = λ o c h. h; uris = us.0; more = us.1 }
+values-after s (Set (node.Object o) f v) legal early late brought =
     let m = s.metamodel in
     let ask = set-taken (reading s) (node.Object o) f v late in
     let h : Stored = record { list = v ∷ []; flag = (shape m f).is_unsettable } in
@@ -283,16 +315,16 @@ values-after s (Set (node.Object o) f v) legal early late =
       | true ↦ λ _. same-values s legal
       | false ↦ λ attribute. put-values s o f h legal (λ x e. one-legal m x.class f v (set-named (reading s) (node.Object o) f v early).single (has-of m _ f x e (set-there (reading s) (node.Object o) f v early)) (keeps-taken m (class_of s.values) f v attribute ask.takes) ask.short)
     ] refl
-values-after s (Set (node.Resource k) f v) legal early late =
+values-after s (Set (node.Resource k) f v) legal early late brought =
     elim (shape s.metamodel f).is_reference as (λ b. AreLegalValues s (applied s.values (if b then [] else []))) [ true ↦ same-values s legal | false ↦ same-values s legal ]
-values-after s (Unset (node.Object o) f) legal early late =
+values-after s (Unset (node.Object o) f) legal early late brought =
     elim (shape s.metamodel f).is_reference as (λ b. AreLegalValues s (applied s.values (if b then [] else put_under f [] false (node.Object o)))) [
       | true ↦ same-values s legal
       | false ↦ put-values s o f nothing_stored legal (λ x e. nothing-legal s.metamodel x.class f)
     ]
-values-after s (Unset (node.Resource k) f) legal early late =
+values-after s (Unset (node.Resource k) f) legal early late brought =
     elim (shape s.metamodel f).is_reference as (λ b. AreLegalValues s (applied s.values (if b then [] else []))) [ true ↦ same-values s legal | false ↦ same-values s legal ]
-values-after s (Add (node.Object o) f v i) legal early late =
+values-after s (Add (node.Object o) f v i) legal early late brought =
     let r = reading s in
     let e = at_end (node.Object o) f in
     let named = add-named r (node.Object o) f v i early in
@@ -301,12 +333,12 @@ values-after s (Add (node.Object o) f v i) legal early late =
       | true ↦ λ _. same-values s legal
       | false ↦ λ new. added-values s legal o f named.single named.there attribute v i late new
     ] refl)
-values-after s (Add (node.Resource k) f v i) legal early late = absurd (false≢true (add-named (reading s) (node.Resource k) f v i early).there)
-values-after s (Remove (node.Object o) f i) legal early late =
+values-after s (Add (node.Resource k) f v i) legal early late brought = of-attribute s f _ legal (λ attribute. absurd (resource-keeps-none (reading s) k f (add-named (reading s) (node.Resource k) f v i early).there attribute))
+values-after s (Remove (node.Object o) f i) legal early late brought =
     let named = remove-named (reading s) (node.Object o) f i early in
     of-attribute s f _ legal (λ attribute. taken-values s legal o f named.1 named.0 attribute i)
-values-after s (Remove (node.Resource k) f i) legal early late = absurd (false≢true (remove-named (reading s) (node.Resource k) f i early).0)
-values-after s (RemoveValue (node.Object o) f v) legal early late =
+values-after s (Remove (node.Resource k) f i) legal early late brought = of-attribute s f _ legal (λ attribute. absurd (resource-keeps-none (reading s) k f (remove-named (reading s) (node.Resource k) f i early).0 attribute))
+values-after s (RemoveValue (node.Object o) f v) legal early late brought =
     let r = reading s in
     let e = at_end (node.Object o) f in
     let named = take-named r (node.Object o) f v early in
@@ -315,11 +347,11 @@ values-after s (RemoveValue (node.Object o) f v) legal early late =
       | None ↦ same-values s legal
       | Some i ↦ taken-values s legal o f named.single named.there attribute i
     ])
-values-after s (RemoveValue (node.Resource k) f v) legal early late = absurd (false≢true (take-named (reading s) (node.Resource k) f v early).there)
-values-after s (Move (node.Object o) f to from) legal early late =
+values-after s (RemoveValue (node.Resource k) f v) legal early late brought = of-attribute s f _ legal (λ attribute. absurd (resource-keeps-none (reading s) k f (take-named (reading s) (node.Resource k) f v early).there attribute))
+values-after s (Move (node.Object o) f to from) legal early late brought =
     let named = move-named (reading s) (node.Object o) f to from early in
     of-attribute s f _ legal (λ attribute. moved-values s legal o f named.1 named.0 attribute to from)
-values-after s (Move (node.Resource k) f to from) legal early late = absurd (false≢true (move-named (reading s) (node.Resource k) f to from early).0)
+values-after s (Move (node.Resource k) f to from) legal early late brought = of-attribute s f _ legal (λ attribute. absurd (resource-keeps-none (reading s) k f (move-named (reading s) (node.Resource k) f to from early).0 attribute))
 
 ---------------------------------------------------------------- the links after a change
 
@@ -357,6 +389,7 @@ move-ends s n f to from legal late reference d =
 ends-by-pairs : (s : Model) (c : Change) → IsLegal s → early_refusal (reading s) c ≡ None → late_refusal (reading s) c ≡ None → (d : End)
     → is_legal_end (reading s) d (end (put_by (without_all s.links (pairs (cut_ties (reading s) c))) (reading s) c) d) ≡ true
 ends-by-pairs s (Create k) legal early late d = legal.links.ends d
+ends-by-pairs s (NewResource u) legal early late d = legal.links.ends d
 ends-by-pairs s (Unset n f) legal early late d = cut-end s (pairs (cut_ties (reading s) (Unset n f))) legal d
 ends-by-pairs s (Remove n f i) legal early late d = cut-end s (pairs (cut_ties (reading s) (Remove n f i))) legal d
 ends-by-pairs s (RemoveValue n f v) legal early late d = cut-end s (pairs (cut_ties (reading s) (RemoveValue n f v))) legal d
@@ -387,21 +420,22 @@ ends-after : (s : Model) (c : Change) → IsLegal s → early_refusal (reading s
 ends-after s c legal early late d =
     subst (λ (t : Links). is_legal_end (reading s) d (end (put_by t (reading s) c) d) ≡ true) (sym (without_ties-pairs s.links (cut_ties (reading s) c))) (ends-by-pairs s c legal early late d)
 
-links-after : (s : Model) (c : Change) → IsLegal s → early_refusal (reading s) c ≡ None → late_refusal (reading s) c ≡ None → AreLegalLinks (reading (after s c)) (links_after s.links (reading s) c)
-links-after s c legal early late =
+links-after : (s : Model) (c : Change) → IsLegal s → early_refusal (reading s) c ≡ None → late_refusal (reading s) c ≡ None → IsBrought c → AreLegalLinks (reading (after s c)) (links_after s.links (reading s) c)
+links-after s c legal early late brought =
     let m = kinds_of s.metamodel in
     let plan = link_edits (reading s) c in
     let p = plan-for s c legal early late in
+    let v = values-after s c legal early late brought in
     record {
       set = subst IsLegalSet p.makes (plan_keeps_legal s.links plan legal.links.set p.fits);
       kinds = subst (AreOfKind m) p.makes (plan_keeps_kinds m (kinds-are s.metamodel legal.metamodel) s.links plan legal.links.kinds p.of_kind);
       forest = subst HasNoCycle p.makes (plan_makes_no_cycle s.links plan legal.links.set p.fits p.no_cycle legal.links.forest);
-      ends = λ d. legal-end-kept s (after s c).values (after s c).links (values-after s c legal early late).classes d _ (ends-after s c legal early late d);
+      ends = λ d. legal-end-kept s (after s c).values (after s c).links v.classes v.more d _ (ends-after s c legal early late d);
     }
 
 ---------------------------------------------------------------- both
 
 pub change-keeps-legal : (s : Model) (c : Change) → KeepsLegal s c
-change-keeps-legal s c legal early late =
-    let v = values-after s c legal early late in
-    record { metamodel = legal.metamodel; count = v.count; objects = v.objects; links = links-after s c legal early late }
+change-keeps-legal s c legal early late brought =
+    let v = values-after s c legal early late brought in
+    record { metamodel = legal.metamodel; count = v.count; objects = v.objects; links = links-after s c legal early late brought; uris = v.uris }

@@ -40,13 +40,13 @@ use Rattle.models.specs.Reading.{Reading, has_feature, is_repeat, is_within, sha
 use Rattle.handshake.specs.Displaced.{has_already, opposite_end, yields}
 use Rattle.handshake.specs.Refusals.{is_at_limit, is_recursive_for, of_either}
 use Rattle.handshake.proofs.CutTieLemmas.{freed, near-emptied, pairs, values-linked}
-use Rattle.handshake.proofs.KnownLemmas.{IsLinkable, far-reference, kinds-are}
+use Rattle.handshake.proofs.KnownLemmas.{IsLinkable, far-reference, kinds-are, resource-alone}
 use Rattle.handshake.proofs.YieldLemmas.{near-kept}
 
--- a node that has a feature is an object
-pub object-has : (r : Reading) (n : Node) (f : FeatureNo) → has_feature r n f ≡ true → IsObject n
-object-has r (node.Object o) f h = tt
-object-has r (node.Resource k) f h = absurd (false≢true h)
+-- a node that has a feature with an opposite is an object
+pub object-has : (r : Reading) (n : Node) (f g : FeatureNo) → (shape r.metamodel f).opposite ≡ Some g → has_feature r n f ≡ true → IsObject n
+object-has r (node.Object o) f g opposite h = tt
+object-has r (node.Resource k) f g opposite h = absurd (resource-alone r k f g h opposite)
 
 ---------------------------------------------------------------- what an end lacks
 
@@ -179,7 +179,7 @@ module _ (s : Model) (legal : IsLegal s) (e : End) (o : ObjectNo) (new : IsNewLi
   far-fits (Some g) opposite =
       record {
         apart = (opposites_are_pairs s.metamodel legal.metamodel e.feature g opposite).apart;
-        object = object-has (reading s) e.node e.feature new.has;
+        object = object-has (reading s) e.node e.feature g opposite new.has;
         absent = lacks-left (far_end o g) (node_value e.node) (far-lacks g opposite);
         room = room-left (far_end o g) (far-reference s.metamodel legal.metamodel e.feature g opposite) (far-of (is_at_limit (reading s)) (reading s) e o g opposite new.linkable.few);
       }

@@ -20,7 +20,7 @@ use Rattle.models.specs.Legal.{IsLegal, kinds_of}
 use Rattle.models.specs.Model.{Model, reading}
 use Rattle.models.specs.Reading.{at_end, is_repeat, place_for, shape_at}
 use Rattle.handshake.specs.declared.change.Change.{Change}
-use Rattle.handshake.specs.declared.change.Change.TheVariants.{Create, Set, Unset, Add, Remove, RemoveValue, Move}
+use Rattle.handshake.specs.declared.change.Change.TheVariants.{Create, Set, Unset, Add, Remove, RemoveValue, Move, NewResource}
 use Rattle.handshake.specs.declared.planned.Planned.{Planned}
 use Rattle.handshake.specs.declared.tie.Tie.{Tie}
 use Rattle.handshake.specs.Tellings.{chain}
@@ -133,6 +133,7 @@ move-puts s n f to from late reference =
 are-puts : (s : Model) (c : Change) → IsLegal s → early_refusal (reading s) c ≡ None → late_refusal (reading s) c ≡ None
     → ArePuts s (without_all s.links (pairs (cut_ties (reading s) c))) (option_to_list (made_edit (reading s) c)) (put_by (without_all s.links (pairs (cut_ties (reading s) c))) (reading s) c)
 are-puts s (Create k) legal early late = no-puts s s.links
+are-puts s (NewResource u) legal early late = no-puts s s.links
 are-puts s (Unset n f) legal early late = no-puts s _
 are-puts s (Remove n f i) legal early late = no-puts s _
 are-puts s (RemoveValue n f v) legal early late = no-puts s _

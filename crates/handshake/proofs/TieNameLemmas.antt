@@ -25,7 +25,7 @@ use Rattle.models.specs.Legal.{IsLegal, is_legal_end, is_legal_object, kinds_of}
 use Rattle.models.specs.Model.{Model, reading}
 use Rattle.models.specs.Reading.{Reading, at_end, has_feature}
 use Rattle.handshake.proofs.CutTieLemmas.{Stands, same_tie-self, values-linked}
-use Rattle.handshake.proofs.KnownLemmas.{object-reference}
+use Rattle.handshake.proofs.KnownLemmas.{object-reference, resource-alone}
 use Rattle.handshake.proofs.YieldLemmas.{Origin, holder-contains}
 use Rattle.handshake.specs.Displaced.{other_side, same_link, same_tie, tie, turned}
 use Rattle.handshake.specs.declared.tie.Tie.{Tie}
@@ -99,7 +99,7 @@ module _ (s : Model) (legal : IsLegal s) where
       let back : turned (reading s) (tie (far_end o g) (value.Object p)) ≡ Some (tie (far_end p f) (value.Object o)) =
       ap (other_side (node.Object o) (value.Object p)) (opposites_are_pairs s.metamodel legal.metamodel f g opposite).back in
       subst (λ (x : Tie). turned (reading s) x ≡ Some (tie (far_end p f) (value.Object o))) (same_Some (tie (far_end o g) (value.Object p)) y is) back
-  turned_by-back (node.Resource k) f v q y opposite has is = absurd (false≢true has)
+  turned_by-back (node.Resource k) f (value.Object o) (Some g) y opposite has is = absurd (resource-alone (reading s) k f g has opposite)
   turned_by-back n f v q y opposite has is = absurd (none-some y is)
 
   -- what is turned twice is as it was

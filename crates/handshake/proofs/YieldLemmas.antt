@@ -3,7 +3,7 @@ use Rattle.std.proofs.Common.{◌≡◌, ℕ, zero, suc, ◌≤◌, eq-eqb, Bool
 use Rattle.std.specs.Prelude.{◌⊎◌, ◌||◌}
 use Rattle.std.specs.List.{AllByRecursion, list_any}
 use Rattle.std.specs.Option.{option_map_or}
-use Rattle.std.proofs.lemmas.Bool.{false≢true}
+use Rattle.std.proofs.lemmas.Bool.{and_parts, eqb-true, false≢true}
 use Rattle.std.proofs.lemmas.Option.{none-some, same_Some}
 use Rattle.mm_meta.proofs.OwnerLemmas.{has_none}
 use Rattle.mm_meta.proofs.ShapeLemmas.{containing_is_known, opposites_are_pairs}
@@ -12,6 +12,7 @@ use Rattle.mm_types.specs.Lookups as lookups
 use Rattle.mm_types.specs.Same.{node_value, same_end, same_feature, same_value}
 use Rattle.mm_types.specs.Shapes.{shape}
 use Rattle.mm_types.specs.declared.end.End.{End}
+use Rattle.mm_types.specs.declared.numbers.ClassNo.{ClassNo}
 use Rattle.mm_types.specs.declared.numbers.FeatureNo.{FeatureNo}
 use Rattle.mm_types.specs.declared.numbers.Node.{Node}
 use Rattle.mm_types.specs.declared.numbers.Node.TheVariants as node
@@ -31,7 +32,7 @@ use Rattle.models.specs.Model.{Model, reading}
 use Rattle.models.specs.Reading.{has_feature}
 use Rattle.containment.proofs.HolderLemmas.{container_at, holding-feature}
 use Rattle.handshake.proofs.CutTieLemmas.{all_append, all_once, all_weaker, is_named-same_link, pairs}
-use Rattle.handshake.proofs.KnownLemmas.{feature-there, kinds-are}
+use Rattle.handshake.proofs.KnownLemmas.{kinds-are}
 use Rattle.handshake.specs.Displaced.{holding_tie, in_the_way, opposite_end, other_side, same_link, same_tie, tie, ties_at, ties_if_single, yields}
 use Rattle.handshake.specs.declared.tie.Tie.{Tie}
 
@@ -100,12 +101,22 @@ get-within (y ∷ ys) (suc k) x h = let low = get-within ys k x h in omega (arit
 
 -- a feature that a node has is one of the metamodel's
 feature-in_range : (s : Model) (e : End) → IsLegal s → has_feature (reading s) e.node e.feature ≡ true → e.feature.0 ≤ length s.metamodel.features
-feature-in_range s e legal has =
-    let there = feature-there (reading s) e.node e.feature has in
-    elim (lookups.feature s.metamodel e.feature) as (λ q. lookups.feature s.metamodel e.feature ≡ q → e.feature.0 ≤ length s.metamodel.features) [
-      | None ↦ λ none. absurd (false≢true (has_none s.metamodel legal.metamodel there.class e.feature none ∙ there.has))
-      | Some x ↦ λ is. get-within s.metamodel.features e.feature.0 x is
-    ] refl
+feature-in_range s e legal has = by e.node has
+  where
+    of-class : (c : ClassNo) → lookups.has_feature s.metamodel c e.feature ≡ true → e.feature.0 ≤ length s.metamodel.features
+    of-class c h =
+        elim (lookups.feature s.metamodel e.feature) as (λ q. lookups.feature s.metamodel e.feature ≡ q → e.feature.0 ≤ length s.metamodel.features) [
+          | None ↦ λ none. absurd (false≢true (has_none s.metamodel legal.metamodel c e.feature none ∙ h))
+          | Some x ↦ λ is. get-within s.metamodel.features e.feature.0 x is
+        ] refl
+
+    of-object : (c : Option ClassNo) → option_map_or (λ c. lookups.has_feature s.metamodel c e.feature) c false ≡ true → e.feature.0 ≤ length s.metamodel.features
+    of-object None h = absurd (false≢true h)
+    of-object (Some c) h = of-class c h
+
+    by : (n : Node) → has_feature (reading s) n e.feature ≡ true → e.feature.0 ≤ length s.metamodel.features
+    by (node.Object o) h = of-object ((reading s).class o) h
+    by (node.Resource k) h = let same = eqb-true e.feature.0 (length s.metamodel.features) (and_parts _ _ h).1 in omega (arith, same)
 
 -- the feature of the end that contains a node is a containment
 pub holder-contains : (s : Model) (n : Node) (d : End) → IsLegal s → holder s.links n ≡ Some d → (shape s.metamodel d.feature).containing ≡ Some d.feature

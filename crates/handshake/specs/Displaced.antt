@@ -15,7 +15,7 @@ use Rattle.link_store.specs.Links.{far_end}
 use Rattle.link_store.specs.Holders.{contained}
 use Rattle.models.specs.Reading.{Reading, at_end, is_repeat, shape_at, first_at, value_at}
 use Rattle.handshake.specs.declared.change.Change.{Change}
-use Rattle.handshake.specs.declared.change.Change.TheVariants.{Create, Set, Unset, Add, Remove, RemoveValue, Move}
+use Rattle.handshake.specs.declared.change.Change.TheVariants.{Create, Set, Unset, Add, Remove, RemoveValue, Move, NewResource}
 
 abbrev pub tie : End → Value → Tie
 tie e v = record { end = e; value = v }
@@ -108,3 +108,4 @@ cut_ties r (Add n f v i) = let e = at_end n f in if is_plain_add r e v then [] e
 cut_ties r (Remove n f i) = let e = at_end n f in if (shape_at r e).is_reference then tie_in r e i else []
 cut_ties r (RemoveValue n f v) = let e = at_end n f in if (shape_at r e).is_reference then option_map_or (tie_in r e) (first_at r e v) [] else []
 cut_ties r (Move n f to from) = []
+cut_ties r (NewResource u) = []

@@ -10,12 +10,12 @@ use Rattle.mm_types.specs.declared.value.Value.{Value}
 use Rattle.mm_types.specs.declared.value.Value.TheVariants as value
 use Rattle.mm_values.specs.Values.{applied}
 use Rattle.mm_values.specs.declared.edit.ValueEdit.{ValueEdit}
-use Rattle.mm_values.specs.declared.edit.ValueEdit.TheVariants.{NewObject, PutList, InsertValue, RemoveValue as TakeValue, MoveValue}
+use Rattle.mm_values.specs.declared.edit.ValueEdit.TheVariants.{NewObject, PutList, InsertValue, RemoveValue as TakeValue, MoveValue, NewUri}
 use Rattle.link_store.specs.Links.{Links, cut_value, end, put, shift}
 use Rattle.models.specs.Reading.{Reading, at_end, first_at, is_repeat, place_for, shape_at}
 use Rattle.models.specs.Model.{Model, reading}
 use Rattle.handshake.specs.declared.change.Change.{Change}
-use Rattle.handshake.specs.declared.change.Change.TheVariants.{Create, Set, Unset, Add, Remove, RemoveValue, Move}
+use Rattle.handshake.specs.declared.change.Change.TheVariants.{Create, Set, Unset, Add, Remove, RemoveValue, Move, NewResource}
 use Rattle.handshake.specs.declared.tie.Tie.{Tie}
 use Rattle.handshake.specs.Displaced.{cut_ties, is_plain_add, is_plain_set}
 
@@ -56,6 +56,7 @@ value_edits r (Add n f v i) = let e = at_end n f in if_attribute r e (add_value 
 value_edits r (Remove n f i) = let e = at_end n f in if_attribute r e (take_value e i)
 value_edits r (RemoveValue n f v) = let e = at_end n f in if_attribute r e (take_first r e v)
 value_edits r (Move n f to from) = let e = at_end n f in if_attribute r e (of_object n (λ o. MoveValue o f to from))
+value_edits r (NewResource u) = NewUri u ∷ []
 
 ---------------------------------------------------------------- links
 
@@ -76,6 +77,7 @@ put_by s r (Add n f v i) = let e = at_end n f in if is_plain_add r e v then s el
 put_by s r (Remove n f i) = s
 put_by s r (RemoveValue n f v) = s
 put_by s r (Move n f to from) = let e = at_end n f in if (shape_at r e).is_reference then shift s e to from else s
+put_by s r (NewResource u) = s
 
 abbrev pub links_after : Links → Reading → Change → Links
 links_after s r c = put_by (without_ties s (cut_ties r c)) r c

@@ -4,12 +4,13 @@ use Rattle.std.specs.List.{AllByRecursion}
 use Rattle.mm_types.specs.declared.end.End.{End}
 use Rattle.mm_types.specs.declared.numbers.FeatureNo.{FeatureNo}
 use Rattle.mm_types.specs.declared.numbers.Node.{Node}
+use Rattle.web_uris.specs.Joined.{IsWebUri}
 use Rattle.models.specs.Legal.{IsLegal}
 use Rattle.models.specs.Model.{Model, reading}
 use Rattle.models.specs.Reading.{Reading, at_end, held_at, shape_at}
 use Rattle.notice_chain.specs.Replay.{replayed_all}
 use Rattle.handshake.specs.declared.change.Change.{Change}
-use Rattle.handshake.specs.declared.change.Change.TheVariants.{Unset}
+use Rattle.handshake.specs.declared.change.Change.TheVariants.{NewResource, Unset}
 use Rattle.handshake.specs.declared.happening.Happening.TheVariants.{Unsets}
 use Rattle.handshake.specs.declared.happening.Telling.{Telling}
 use Rattle.handshake.specs.declared.tie.Tie.{Tie}
@@ -23,9 +24,14 @@ use Rattle.handshake.specs.Tellings.{chain, far_losses, tellings}
 abbrev pub OfAllowed : (Model → Change → Type 0) → Model → Change → Type 0
 OfAllowed Holds s c = IsLegal s → early_refusal (reading s) c ≡ None → late_refusal (reading s) c ≡ None → Holds s c
 
+-- what a change brings is as it has to be: the URI of a new resource is as joining gives it
+abbrev pub IsBrought : Change → Type 0
+IsBrought (NewResource u) = IsWebUri u
+IsBrought _ = Unit {0}
+
 -- it leaves a legal model
 abbrev pub KeepsLegal : Model → Change → Type 0
-KeepsLegal = OfAllowed (λ s c. IsLegal (after s c))
+KeepsLegal = OfAllowed (λ s c. IsBrought c → IsLegal (after s c))
 
 -- its chain, replayed at each end, gives what the end holds after it
 abbrev pub ChainReplays : Model → Change → Type 0

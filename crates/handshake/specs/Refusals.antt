@@ -1,25 +1,25 @@
 -- Why a change is refused: by what it names, by a value's type or length, an index, a repeated value, a full end, a cycle of parts, or a
 -- limit. What is looked for after is the repository's.
-use Rattle.std.specs.Prelude.{ℕ, ◌&&◌, ◌||◌, Bool, false, length, nat_le, nat_lt, Option, None, is_some, if◌then◌else◌}
+use Rattle.std.specs.Prelude.{ℕ, ◌&&◌, ◌||◌, Bool, false, List, length, nat_le, nat_lt, Option, None, is_some, if◌then◌else◌}
 use Rattle.std.specs.Option.{option_map_or}
 use Rattle.mm_types.specs.Conditions.{◌unless◌, ◌where_so◌, ◌else_by◌}
 use Rattle.mm_types.specs.Same.{same_feature}
 use Rattle.mm_types.specs.Shapes.{is_full_list}
-use Rattle.mm_types.specs.declared.limits.TheConstants.{LIST_VALUES, OBJECTS}
+use Rattle.mm_types.specs.declared.limits.TheConstants.{LIST_VALUES, OBJECTS, RESOURCES}
 use Rattle.mm_types.specs.declared.numbers.FeatureNo.{FeatureNo}
 use Rattle.mm_types.specs.declared.numbers.ObjectNo.{ObjectNo}
 use Rattle.mm_types.specs.declared.numbers.Node.TheVariants as node
 use Rattle.mm_types.specs.declared.end.End.{End}
 use Rattle.mm_types.specs.declared.refused.Refused.{Refused}
-use Rattle.mm_types.specs.declared.refused.Refused.TheVariants.{WrongType, TextLength, Index, Duplicate, Bound, Recursive, Limit}
+use Rattle.mm_types.specs.declared.refused.Refused.TheVariants.{WrongType, TextLength, Index, Duplicate, Bound, Recursive, Limit, ResourceExists}
 use Rattle.mm_types.specs.declared.value.Value.{Value}
 use Rattle.mm_types.specs.declared.value.Value.TheVariants as value
-use Rattle.models.specs.Reading.{Reading, at_end, is_repeat, is_within, place_for, shape_at, takes}
-use Rattle.models.specs.Legal.{is_short}
+use Rattle.models.specs.Reading.{Reading, at_end, has_uri, is_repeat, is_within, place_for, shape_at, takes}
+use Rattle.models.specs.Legal.{is_short, is_short_text}
 use Rattle.handshake.specs.Named.{class_refusal, feature_refusal, many_refusal, single_refusal, value_refusal}
 use Rattle.handshake.specs.Displaced.{has_already, opposite_end}
 use Rattle.handshake.specs.declared.change.Change.{Change}
-use Rattle.handshake.specs.declared.change.Change.TheVariants.{Create, Set, Unset, Add, Remove, RemoveValue, Move}
+use Rattle.handshake.specs.declared.change.Change.TheVariants.{Create, Set, Unset, Add, Remove, RemoveValue, Move, NewResource}
 
 -- why a value is not one of a feature
 abbrev pub type_refusal : Reading → FeatureNo → Value → Option Refused
@@ -73,6 +73,13 @@ set_refusal r e v = None
 abbrev pub add_refusal : Reading → End → Value → Option ℕ → Option Refused
 add_refusal r e v i = if is_repeat r e v then (Duplicate where_so is_some i) else gain_refusal r e v
 
+-- why there can be no resource more of a URI
+abbrev pub uri_refusal : Reading → List ℕ → Option Refused
+uri_refusal r u =
+    TextLength unless is_short_text u else_by
+    Limit unless nat_lt (length r.uris) RESOURCES else_by
+    ResourceExists where_so has_uri r u
+
 -- why it is refused before anything is planned
 abbrev pub early_refusal : Reading → Change → Option Refused
 early_refusal r (Create c) = class_refusal r.metamodel c
@@ -82,6 +89,7 @@ early_refusal r (Add n f v i) = value_refusal r n f v else_by many_refusal r.met
 early_refusal r (Remove n f i) = feature_refusal r n f else_by many_refusal r.metamodel f
 early_refusal r (RemoveValue n f v) = value_refusal r n f v else_by many_refusal r.metamodel f
 early_refusal r (Move n f to from) = feature_refusal r n f else_by many_refusal r.metamodel f
+early_refusal r (NewResource u) = None
 
 -- why one that is not is refused when it is planned
 abbrev pub late_refusal : Reading → Change → Option Refused
@@ -97,3 +105,4 @@ late_refusal r (Add n f v i) =
 late_refusal r (Remove n f i) = Index unless nat_lt i (count_at r (at_end n f))
 late_refusal r (RemoveValue n f v) = type_refusal r f v
 late_refusal r (Move n f to from) = Index unless (nat_lt to (count_at r (at_end n f)) && nat_lt from (count_at r (at_end n f)))
+late_refusal r (NewResource u) = uri_refusal r u

@@ -10,7 +10,7 @@ use Rattle.mm_types.specs.declared.value.Value.TheVariants as value
 use Rattle.notice_chain.specs.declared.notice.Notice.{Notice}
 use Rattle.models.specs.Reading.{Reading, at_end, first_at, held_at, is_repeat, shape_at}
 use Rattle.handshake.specs.declared.change.Change.{Change}
-use Rattle.handshake.specs.declared.change.Change.TheVariants.{Create, Set, Unset, Add, Remove, RemoveValue, Move}
+use Rattle.handshake.specs.declared.change.Change.TheVariants.{Create, Set, Unset, Add, Remove, RemoveValue, Move, NewResource}
 use Rattle.handshake.specs.declared.happening.Happening.TheVariants.{Gains, GainsAt, Loses, LosesAt, Unsets, Moves}
 use Rattle.handshake.specs.declared.happening.Happening.{Happening}
 use Rattle.handshake.specs.declared.happening.Telling.{Telling}
@@ -91,6 +91,7 @@ tellings_with r (Add n f v i) ts = added r (at_end n f) v i ts
 tellings_with r (Remove n f i) ts = taken_out r (at_end n f) ts i
 tellings_with r (RemoveValue n f v) ts = value_taken_out r (at_end n f) ts v
 tellings_with r (Move n f to from) ts = telling (at_end n f) (Moves to from) ∷ []
+tellings_with r (NewResource u) ts = []
 
 abbrev pub tellings : Reading → Change → List Telling
 tellings r c = tellings_with r c (cut_ties r c)

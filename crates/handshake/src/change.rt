@@ -1,7 +1,7 @@
 //! Changes.
-use mm_types::{ClassNo, FeatureNo, Node, Value};
+use mm_types::{ClassNo, FeatureNo, Node, Text, Value};
 
-/// A change of objects or their values.
+/// A change of objects, their values and their links, or of resources.
 #[derive(Debug, Drop)]
 pub enum Change {
     /// Makes an object of a class (EMF: EFactory.create).
@@ -43,4 +43,6 @@ pub enum Change {
         to: u32,
         from: u32,
     },
+    /// Makes a resource of a URI, which is as joining gives it (EMF: ResourceSet.createResource).
+    NewResource(Text),
 }

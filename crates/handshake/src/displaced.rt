@@ -114,7 +114,7 @@ pub(crate) fn cut_ties<L: LinkStore>(
     ensures { IfOk result (λ ts. ts.items ≡ d.cut_ties (reading model.now) change.now) }
 {
     match change {
-        Change::Create(_) | Change::Move { .. } => Ok(Vec::new(alloc)),
+        Change::Create(_) | Change::Move { .. } | Change::NewResource(_) => Ok(Vec::new(alloc)),
         Change::Set {
             node,
             feature,

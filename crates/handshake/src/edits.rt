@@ -127,6 +127,7 @@ pub(crate) fn value_edits<L: LinkStore>(
 {
     match change {
         Change::Create(class) => Ok(ValuePlan::one(ValueEdit::NewObject(class))),
+        Change::NewResource(uri) => Ok(ValuePlan::one(ValueEdit::NewUri(uri))),
         Change::Set { feature, .. }
         | Change::Unset { feature, .. }
         | Change::Add { feature, .. }

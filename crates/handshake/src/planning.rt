@@ -19,8 +19,8 @@ use crate::recursion::is_recursive;
 use crate::telling::tellings;
 use crate::tie::{Tie, at_end, opposite_end};
 use link_store::LinkStore;
-use mm_types::{End, FeatureNo, ObjectNo, Refused, Value, limits};
-use models::{ModelRef, is_full, is_short};
+use mm_types::{End, FeatureNo, ObjectNo, Refused, Text, Value, limits};
+use models::{ModelRef, is_full, is_short, is_short_text};
 use notice_chain::Chain;
 use std::alloc::Global;
 
@@ -30,7 +30,8 @@ use std::alloc::Global;
 /// `WrongType` where the value is not one of the feature's type, `TextLength` above 65,535 bytes, `Index` where nothing stands at an
 /// index or a value would not stand behind the last, `Duplicate` where a unique list has the value that is added at an index, `Bound`
 /// where an end that has to gain is full, `Recursive` where an object would become a part of itself, `Limit` where 1,000,000 objects
-/// were made, or as many values stand at an end; `Memory` where none of these applies.
+/// or 100,000 resources were made, or 1,000,000 values stand at an end, `ResourceExists` where a resource has the URI; `Memory`
+/// where none of these applies.
 pub fn plan<L: LinkStore>(
     alloc: Global,
     model: &ModelRef<L>,
@@ -71,6 +72,7 @@ fn late_refusal<L: LinkStore>(model: &ModelRef<L>, change: &Change) -> Option<Re
     match change {
         Change::Create(_) if model.next() >= limits::OBJECTS => Some(Refused::Limit),
         Change::Create(_) | Change::Unset { .. } => None,
+        Change::NewResource(uri) => uri_refusal(model, uri),
         Change::Set {
             node,
             feature,
@@ -130,6 +132,22 @@ fn add_late_refusal<L: LinkStore>(
         Some(_) => Some(Refused::Duplicate),
         None => None,
     }
+}
+
+/// Why there can be no resource more of a URI: `TextLength`, `Limit` or `ResourceExists`.
+fn uri_refusal<L: LinkStore>(model: &ModelRef<L>, uri: &Text) -> Option<Refused>
+    ensures { result ≡ refusals.uri_refusal (reading model.now) uri.now }
+{
+    if !is_short_text(uri.as_str()) {
+        return Some(Refused::TextLength);
+    }
+    if model.resources() >= limits::RESOURCES {
+        return Some(Refused::Limit);
+    }
+    if model.has_uri(uri.as_str()) {
+        return Some(Refused::ResourceExists);
+    }
+    None
 }
 
 /// Why a value is not one of a feature: `WrongType` or `TextLength`.

@@ -28,7 +28,7 @@ pub(crate) fn tellings<L: LinkStore>(
 {
     let mut out = Vec::new(alloc);
     match change {
-        Change::Create(_) => {}
+        Change::Create(_) | Change::NewResource(_) => {}
         Change::Set {
             node,
             feature,

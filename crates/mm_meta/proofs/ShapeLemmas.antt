@@ -3,7 +3,7 @@ use Rattle.std.proofs.Common.{◌≡◌, ◌∙◌, ◌⊎◌, Bool, true, false
 use Rattle.std.specs.Prelude.{option_and_then}
 use Rattle.std.specs.Option.{option_map_or}
 use Rattle.std.proofs.lemmas.Option.{slice_get_cases, slice_get_within}
-use Rattle.mm_types.specs.Lookups.{conforms, contents, feature, has_feature, is_containment_kind, is_container, is_object, is_of_kind, is_single, kind_opposite, opposite, takes}
+use Rattle.mm_types.specs.Lookups.{conforms, contents, feature, has_feature, is_containment_kind, is_container, is_live_object, is_of_kind, is_single, kind_opposite, opposite, takes}
 use Rattle.mm_types.specs.OfDocument.{IsOfDocument}
 use Rattle.mm_types.specs.Resolved.{Metamodel}
 use Rattle.mm_types.specs.Shapes.{Shape, contents_shape, shape, shape_of}
@@ -136,7 +136,7 @@ takes_by_class m d g far here (Some c) = owner_tells m d c g far here
 takes_far : (m : Metamodel) → IsOfDocument m → (class_of : ObjectNo → Option ClassNo) (o : ObjectNo) (f g : FeatureNo) → AreOpposites m f g
     → takes m class_of f (Object o) ≡ class_has m class_of o g
 takes_far m d class_of o f g p =
-    ap (λ (x : Option Feature). option_map_or (λ x. is_of_kind m class_of (is_single x) x.kind (Object o)) x (is_object (Object o))) p.near_here
+    ap (λ (x : Option Feature). option_map_or (λ x. is_of_kind m class_of (is_single x) x.kind (Object o)) x (is_live_object class_of (Object o))) p.near_here
     ∙ (ap (λ (k : Kind). is_of_kind m class_of (is_single p.near) k (Object o)) p.near_kind ∙ takes_by_class m d g p.far p.far_here (class_of o))
 
 pub takes_what_has_the_opposite : (m : Metamodel) → IsOfDocument m → TakesWhatHasTheOpposite m

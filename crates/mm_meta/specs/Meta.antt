@@ -1,8 +1,8 @@
 -- What the tables of a metamodel hold.
-use Rattle.std.specs.Prelude.{◌≡◌, map}
+use Rattle.std.specs.Prelude.{◌≡◌, ◌∷◌, [], map}
 use Rattle.mm_types.specs.OfDocument.{IsOfDocument}
 use Rattle.mm_types.specs.Resolved.{Metamodel}
-use Rattle.mm_types.specs.Lookups.{feature_name, supertypes}
+use Rattle.mm_types.specs.Lookups.{contents, feature_name, supertypes}
 use Rattle.mm_types.specs.declared.value.Value.TheVariants.{Null}
 use Rattle.mm_graph.specs.ConformTable.{IsConformTable}
 use Rattle.mm_meta.specs.NameTable.{AreTablesOf, IsTableOf}
@@ -19,3 +19,4 @@ pub record IsMeta (m : Inside) : Type 0 where
   pub finds_literals : AreTablesOf m.literal_tables.items (map (λ e. e.literals) m.enums)
   pub finds_features : AreTablesOf m.feature_tables.items (map (λ c. map (feature_name (metamodel m)) c.all) m.classes)
   pub null : m.null ≡ Null
+  pub contents : m.contents ≡ contents (metamodel m) ∷ []

@@ -1,5 +1,5 @@
 //! A well-formed metamodel, and its look-ups.
-ghost use Rattle.std.specs.Prelude.{◌≡◌, IfOk};
+ghost use Rattle.std.specs.Prelude.{◌≡◌, ◌∷◌, [], IfOk};
 ghost use Rattle.std.specs.Option.{option_copied};
 ghost use Rattle.mm_types.specs.Lookups as m;
 ghost use Rattle.mm_types.specs.Resolved.{resolved};
@@ -30,6 +30,8 @@ pub struct Meta {
     feature_tables: Vec<NameTable>,
     /// The default of a reference.
     null: Value,
+    /// All features of a resource.
+    contents: [FeatureNo; 1],
 }
 
 impl Model for Meta {
@@ -62,6 +64,7 @@ impl Meta {
         let class_table = NameTable::of(alloc, classes.as_slice())?;
         let literal_tables = literal_tables(alloc, enums.as_slice())?;
         let feature_tables = feature_tables(alloc, classes.as_slice(), features.as_slice())?;
+        let contents = FeatureNo(features.len() as u32);
         Ok(Meta {
             enums,
             classes,
@@ -71,6 +74,7 @@ impl Meta {
             literal_tables,
             feature_tables,
             null: Value::Null,
+            contents: [contents],
         })
     }
 
@@ -235,7 +239,14 @@ impl Meta {
     pub fn contents(&self) -> FeatureNo
         ensures { result ≡ m.contents self.now }
     {
-        FeatureNo(self.features.len() as u32)
+        self.contents[0]
+    }
+
+    /// All features of a resource: `contents()`.
+    pub fn features_of_resources(&self) -> &[FeatureNo]
+        ensures { result.now ≡ m.contents self.now ∷ [] }
+    {
+        &self.contents
     }
 }
 

@@ -1,5 +1,5 @@
 -- What a resolved metamodel says of its classes, features and enumerations by number and by name.
-use Rattle.std.specs.Prelude.{ℕ, zero, suc, ◌<◌, ◌&&◌, ◌||◌, pos, neg_ℤ, ◌^◌, ◌-◌, Bool, true, false, not, List, [], length, map, position, slice_get, nat_lt, Option, None, option_map, option_and_then, nat_eq, int_le}
+use Rattle.std.specs.Prelude.{ℕ, zero, suc, ◌<◌, ◌&&◌, ◌||◌, pos, neg_ℤ, ◌^◌, ◌-◌, Bool, true, false, not, List, [], length, map, position, slice_get, nat_lt, Option, None, is_some, option_map, option_and_then, nat_eq, int_le}
 use Rattle.std.specs.List.{find, list_any}
 use Rattle.std.specs.Option.{option_map_or}
 use Rattle.std.specs.Ordering.{int_eq}
@@ -146,6 +146,11 @@ abbrev pub is_object : Value → Bool
 is_object (value.Object o) = true
 is_object _ = false
 
--- a value is one of a feature's type; `contents` takes any object
+-- an object that has a class, and so lives
+abbrev pub is_live_object : (ObjectNo → Option ClassNo) → Value → Bool
+is_live_object class_of (value.Object o) = is_some (class_of o)
+is_live_object class_of _ = false
+
+-- a value is one of a feature's type; `contents` takes any object that lives
 abbrev pub takes : Metamodel → (ObjectNo → Option ClassNo) → FeatureNo → Value → Bool
-takes m class_of f v = option_map_or (λ g. is_of_kind m class_of (is_single g) g.kind v) (feature m f) (is_object v)
+takes m class_of f v = option_map_or (λ g. is_of_kind m class_of (is_single g) g.kind v) (feature m f) (is_live_object class_of v)

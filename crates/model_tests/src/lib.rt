@@ -55,6 +55,8 @@ mod replies;
 #[cfg(test)]
 mod repositories;
 #[cfg(test)]
+mod resources;
+#[cfg(test)]
 mod stored_values;
 #[cfg(test)]
 mod tally;

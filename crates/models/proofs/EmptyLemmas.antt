@@ -1,6 +1,8 @@
 -- An empty model is legal.
-use Rattle.std.proofs.Common.{◌≡◌, List, [], ◌∷◌, slice_get, refl, sym, ap, ◌∙◌, arith}
+use Rattle.std.proofs.Common.{◌≡◌, List, [], ◌∷◌, slice_get, refl, sym, ap, ◌∙◌, arith, IsTrue}
 use Rattle.std.specs.FinSet as set
+use Rattle.std.specs.List.{IsDistinct}
+use Rattle.std.specs.Str.{bytes_eq}
 use Rattle.std.proofs.lemmas.Bool.{false≢true}
 use Rattle.std.proofs.lemmas.List.Elements.{All-nil}
 use Rattle.mm_types.specs.OfDocument.{IsOfDocument}
@@ -11,7 +13,8 @@ use Rattle.link_store.specs.Links.{end, no_links}
 use Rattle.link_store.specs.Order.{link_cmp}
 use Rattle.link_store.proofs.CycleLemmas.{none_no_cycle}
 use Rattle.link_store.proofs.LegalLemmas.{none_kinds, none_legal}
-use Rattle.models.specs.Legal.{IsLegal, IsLegalObject, kinds_of}
+use Rattle.web_uris.specs.Joined.{IsWebUri}
+use Rattle.models.specs.Legal.{IsLegal, IsLegalObject, is_short_text, kinds_of}
 use Rattle.models.specs.Model.{empty_model}
 
 -- no links leave no end anything
@@ -22,6 +25,10 @@ empty-end e = elim (end no_links e) as (λ vs. end no_links e ≡ vs → vs ≡ 
       let st = (none_legal.placed.ends e).only 0 v (ap (λ (xs : List Value). slice_get xs 0) h) in
       absurd (false≢true (sym (set.contains-empty link_cmp st.0) ∙ st.1))
 ] refl
+
+no-repeats : IsDistinct bytes_eq []
+unfolding IsDistinct
+no-repeats = tt
 
 pub empty-legal : (m : Metamodel) → IsOfDocument m → IsLegal (empty_model m)
 empty-legal m accepted =
@@ -35,4 +42,5 @@ empty-legal m accepted =
         forest = none_no_cycle;
         ends = λ e. rw (empty-end e) refl;
       };
+      uris = record { count = omega arith; web = All-nil IsWebUri; short = All-nil (λ u. IsTrue (is_short_text u)); distinct = no-repeats };
     }

@@ -1,10 +1,14 @@
 -- What stands at an end, by what is kept for it.
-use Rattle.std.proofs.Common.{◌≡◌, ◌&&◌, Bool, true, false, List, [], ◌∷◌, if◌then◌else◌, refl}
+use Rattle.std.proofs.Common.{◌≡◌, ◌&&◌, Bool, true, false, List, [], ◌∷◌, if◌then◌else◌, refl, ℕ, suc, ◌+◌, ◌||◌, not, cond, length, nat_lt, Some, None, option_map, is_some, ◌∙◌, arith}
 use Rattle.mm_types.specs.Shapes.{Shape}
 use Rattle.models.specs.Model.{attribute_values}
 use Rattle.mm_types.specs.Ends.{shown, value_in}
 use Rattle.mm_types.specs.Same.{is_nil}
 use Rattle.mm_types.specs.declared.value.Value.{Value}
+use Rattle.std.specs.List.{list_any, position_or_len}
+use Rattle.std.specs.Str.{bytes_eq}
+use Rattle.models.specs.Reading.{Reading, has_uri, resource_named}
+use Rattle.std.proofs.lemmas.Bool.Decides.{nat_tests}
 
 pub value_in_shown : (single : Bool) (v : Value) (vs : List Value) → value_in (shown single (v ∷ vs)) 0 ≡ v
 value_in_shown true v vs = refl
@@ -17,3 +21,24 @@ is_nil_shown vs = refl
 pub attribute_values_by : (a : Shape) (vs : List Value) → attribute_values a vs ≡ (if is_nil vs && a.is_single then a.default ∷ [] else vs)
 attribute_values_by a [] = refl
 attribute_values_by a (v ∷ vs) = refl
+
+---------------------------------------------------------------- the resource of a URI
+
+one-behind : (k n : ℕ) → nat_lt (1 + k) (suc n) ≡ nat_lt k n
+one-behind k n = grind (arith, nat_tests)
+
+zero-first : (n : ℕ) → nat_lt 0 (suc n) ≡ true
+zero-first n = grind (arith, nat_tests)
+
+first-below : {X : Type 0} (p : X → Bool) (xs : List X) → nat_lt (position_or_len p xs) (length xs) ≡ list_any p xs
+first-below p [] = refl
+first-below p (x ∷ xs) =
+    elim (p x) as (λ b. nat_lt (cond (not b) (1 + position_or_len p xs) 0) (suc (length xs)) ≡ (b || list_any p xs)) [ true ↦ zero-first (length xs) | false ↦ one-behind (position_or_len p xs) (length xs) ∙ first-below p xs ]
+
+some-test : {X : Type 0} (f : ℕ → X) (b : Bool) (k : ℕ) → is_some (option_map f (cond b (Some k) None)) ≡ b
+some-test f true k = refl
+some-test f false k = refl
+
+-- there is a resource of a URI just where one has it
+pub resource-there : (r : Reading) (u : List ℕ) → is_some (resource_named r u) ≡ has_uri r u
+resource-there r u = some-test (λ i. record { 0 = i }) (nat_lt (position_or_len (bytes_eq u) r.uris) (length r.uris)) (position_or_len (bytes_eq u) r.uris) ∙ first-below (bytes_eq u) r.uris

@@ -1,17 +1,19 @@
 -- The models that a repository can be in.
-use Rattle.std.specs.Prelude.{◌≡◌, ◌≤◌, ◌&&◌, Bool, true, false, not, IsTrue, List, [], ◌∷◌, length, nat_le, Option, Some, None}
+use Rattle.std.specs.Prelude.{◌≡◌, ◌≤◌, ℕ, ◌&&◌, Bool, true, false, not, IsTrue, List, [], ◌∷◌, length, nat_le, Option, Some, None}
 use Rattle.std.specs.List.{All, list_all, IsDistinct}
+use Rattle.std.specs.Str.{bytes_eq}
 use Rattle.mm_types.specs.Lookups as lookups
 use Rattle.mm_types.specs.OfDocument.{IsOfDocument}
 use Rattle.mm_types.specs.Resolved.{Metamodel}
 use Rattle.mm_types.specs.Same.{is_nil, same_value}
 use Rattle.mm_types.specs.Shapes.{is_bounded, shape}
-use Rattle.mm_types.specs.declared.limits.TheConstants.{OBJECTS, TEXT_BYTES}
+use Rattle.mm_types.specs.declared.limits.TheConstants.{OBJECTS, RESOURCES, TEXT_BYTES}
 use Rattle.mm_types.specs.declared.numbers.ClassNo.{ClassNo}
 use Rattle.mm_types.specs.declared.numbers.FeatureNo.{FeatureNo}
 use Rattle.mm_types.specs.declared.end.End.{End}
 use Rattle.mm_types.specs.declared.value.Value.{Value}
 use Rattle.mm_types.specs.declared.value.Value.TheVariants as value
+use Rattle.web_uris.specs.Joined.{IsWebUri}
 use Rattle.mm_values.specs.Stored.{Stored}
 use Rattle.mm_values.specs.Values.{ObjectState, stored_under}
 use Rattle.link_store.specs.Holders.{HasNoCycle}
@@ -21,8 +23,11 @@ use Rattle.models.specs.Reading.{Reading, has_feature, shape_at, takes}
 use Rattle.models.specs.Model.{Model, reading}
 
 -- a text is as short as texts must be
+abbrev pub is_short_text : List ℕ → Bool
+is_short_text text = nat_le (length text) TEXT_BYTES
+
 abbrev pub is_short : Value → Bool
-is_short (value.Text text) = nat_le (length text) TEXT_BYTES
+is_short (value.Text text) = is_short_text text
 is_short _ = true
 
 abbrev pub is_legal_value : Metamodel → FeatureNo → Value → Bool
@@ -70,11 +75,21 @@ pub record AreLegalLinks (r : Reading) (s : Links) : Type 0 where
   pub forest : HasNoCycle s
   pub ends : (e : End) → IsTrue (is_legal_end r e (end s e))
 
+---------------------------------------------------------------- resources
+
+-- the URIs of resources are as joining gives them, short, each another, and no more of them than there may be
+pub record AreLegalUris (us : List (List ℕ)) : Type 0 where
+  pub count : length us ≤ RESOURCES
+  pub web : All IsWebUri us
+  pub short : All (λ u. IsTrue (is_short_text u)) us
+  pub distinct : IsDistinct bytes_eq us
+
 ---------------------------------------------------------------- models
 
--- the metamodel is an accepted one, there are no more objects than there may be, and each is legal, as are the links
+-- the metamodel is an accepted one, there are no more objects than there may be, and each is legal, as are the links and the URIs
 pub record IsLegal (s : Model) : Type 0 where
   pub metamodel : IsOfDocument s.metamodel
   pub count : length s.values.objects ≤ OBJECTS
   pub objects : All (IsLegalObject s.metamodel) s.values.objects
   pub links : AreLegalLinks (reading s) s.links
+  pub uris : AreLegalUris s.values.uris

@@ -1,17 +1,19 @@
 -- What can be read of a model: its objects, what each end holds, and what contains each object. Commands are refused and answered
 -- by this alone, so two models that read the same are one to every caller.
-use Rattle.std.specs.Prelude.{ℕ, ◌&&◌, ◌||◌, Bool, true, false, List, [], length, nat_lt, Option, Some, None, is_some, option_and_then, unwrap_or}
+use Rattle.std.specs.Prelude.{ℕ, ◌&&◌, ◌||◌, Bool, true, false, List, [], ◌∷◌, length, nat_lt, Option, Some, None, is_some, option_and_then, option_map, position, unwrap_or, if◌then◌else◌}
 use Rattle.std.specs.List.{filter_map, list_any}
 use Rattle.std.specs.Option.{option_map_or}
+use Rattle.std.specs.Str.{bytes_eq}
 use Rattle.mm_types.specs.Lookups as lookups
 use Rattle.mm_types.specs.Resolved.{Metamodel}
-use Rattle.mm_types.specs.Same.{same_node}
+use Rattle.mm_types.specs.Same.{same_feature, same_node}
 use Rattle.mm_types.specs.Shapes.{Shape, shape}
 use Rattle.mm_types.specs.Ends.{Ends, first_in, has_value, shown}
 use Rattle.mm_types.specs.Ends as ends
 use Rattle.mm_types.specs.declared.numbers.ClassNo.{ClassNo}
 use Rattle.mm_types.specs.declared.numbers.FeatureNo.{FeatureNo}
 use Rattle.mm_types.specs.declared.numbers.ObjectNo.{ObjectNo}
+use Rattle.mm_types.specs.declared.numbers.ResourceNo.{ResourceNo}
 use Rattle.mm_types.specs.declared.numbers.Node.{Node}
 use Rattle.mm_types.specs.declared.numbers.Node.TheVariants as node
 use Rattle.mm_types.specs.declared.end.End.{End}
@@ -63,20 +65,31 @@ abbrev pub is_value_live : Reading → Value → Bool
 is_value_live r (value.Object o) = is_live r o
 is_value_live r _ = true
 
+abbrev pub has_resource : Reading → ResourceNo → Bool
+has_resource r k = nat_lt k.0 (length r.uris)
+
+-- the resource of a URI
+abbrev pub resource_named : Reading → List ℕ → Option ResourceNo
+resource_named r u = option_map (λ i. record { 0 = i }) (position (bytes_eq u) r.uris)
+
+-- a URI is one of a resource
+abbrev pub has_uri : Reading → List ℕ → Bool
+has_uri r u = list_any (bytes_eq u) r.uris
+
 -- a resource that is named as a node is there
 abbrev pub is_resource_there : Reading → Node → Bool
 is_resource_there r (node.Object o) = true
-is_resource_there r (node.Resource k) = nat_lt k.0 (length r.uris)
+is_resource_there r (node.Resource k) = has_resource r k
 
--- a node has a feature, own or inherited
+-- a node has a feature, own or inherited; a resource has the one that holds its roots
 abbrev pub has_feature : Reading → Node → FeatureNo → Bool
 has_feature r (node.Object o) f = option_map_or (λ c. lookups.has_feature r.metamodel c f) (r.class o) false
-has_feature r (node.Resource k) f = false
+has_feature r (node.Resource k) f = has_resource r k && same_feature f (lookups.contents r.metamodel)
 
 -- all features of a node
 abbrev pub all_features_of : Reading → Node → List FeatureNo
 all_features_of r (node.Object o) = unwrap_or (option_and_then (lookups.features r.metamodel) (r.class o)) []
-all_features_of r (node.Resource k) = []
+all_features_of r (node.Resource k) = if has_resource r k then lookups.contents r.metamodel ∷ [] else []
 
 -- where the first of a value stands at an end
 abbrev pub first_at : Reading → End → Value → Option ℕ

@@ -115,12 +115,19 @@ fn is_of_type(meta: &Meta, value_type: DataType, value: &Value) -> bool
     }
 }
 
-/// Whether a text is as short as texts must be.
+/// Whether a text is as short as texts and URIs must be: 65,535 bytes at most. Takes no memory.
+pub fn is_short_text(text: &str) -> bool
+    ensures { result ≡ l.is_short_text text.now }
+{
+    text.len() <= limits::TEXT_BYTES
+}
+
+/// Whether a text value is as short as texts must be; another value is. Takes no memory.
 pub fn is_short(value: &Value) -> bool
     ensures { result ≡ l.is_short value.now }
 {
     match value {
-        Value::Text(text) => text.as_str().len() <= limits::TEXT_BYTES,
+        Value::Text(text) => is_short_text(text.as_str()),
         _ => true,
     }
 }

@@ -10,7 +10,8 @@ mod model_ref;
 mod reads;
 
 pub use features::{
-    is_concrete, is_full, is_reference, is_short, is_single, is_unique, is_unsettable, opposite,
+    is_concrete, is_full, is_reference, is_short, is_short_text, is_single, is_unique,
+    is_unsettable, opposite,
 };
 pub use model_ref::ModelRef;
 pub use reads::{Found, copied, copy_of, is_same};

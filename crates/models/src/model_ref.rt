@@ -1,5 +1,5 @@
 //! A model in its parts.
-ghost use Rattle.std.specs.Prelude.{◌≡◌, true, length, option_map, option_to_list, unwrap_or};
+ghost use Rattle.std.specs.Prelude.{◌≡◌, true, length, option_copied, option_map, option_to_list, slice_get, unwrap_or};
 ghost use Rattle.mm_types.specs.Shapes.{shape};
 ghost use Rattle.mm_types.specs.declared.value.Value.TheVariants as value;
 ghost use Rattle.mm_types.specs.declared.value.Value.TheVariants.{Null};
@@ -12,7 +12,7 @@ ghost use Rattle.models.specs.Reading as r;
 
 use link_store::LinkStore;
 use mm_meta::Meta;
-use mm_types::{ClassNo, End, FeatureNo, Node, ObjectNo};
+use mm_types::{ClassNo, End, FeatureNo, Node, ObjectNo, ResourceNo};
 use mm_values::Values;
 use std::marker::Model;
 
@@ -108,8 +108,38 @@ impl<'a, L: LinkStore> ModelRef<'a, L> {
                 Some(class) => self.meta.has_feature(class, feature),
                 None => false,
             },
-            Node::Resource(_) => false,
+            Node::Resource(resource) => {
+                self.has_resource(resource) && feature == self.meta.contents()
+            }
         }
+    }
+
+    /// The URI of a resource (EMF: Resource.getURI); `None` where there is no such resource.
+    pub fn uri(&self, resource: ResourceNo) -> Option<&'a str>
+        ensures { option_copied result ≡ slice_get (reading self.now).uris resource.0 }
+    {
+        self.values.uri(resource)
+    }
+
+    /// The resource of a URI (EMF: ResourceSet.getResource); `None` where there is none.
+    pub fn resource_named(&self, uri: &str) -> Option<ResourceNo>
+        ensures { result ≡ r.resource_named (reading self.now) uri.now }
+    {
+        self.values.resource_of(uri)
+    }
+
+    /// Whether there is a resource of a URI.
+    pub fn has_uri(&self, uri: &str) -> bool
+        ensures { result ≡ r.has_uri (reading self.now) uri.now }
+    {
+        self.resource_named(uri).is_some()
+    }
+
+    /// Whether there is a resource of a number.
+    pub fn has_resource(&self, resource: ResourceNo) -> bool
+        ensures { result ≡ r.has_resource (reading self.now) resource }
+    {
+        (resource.0 as usize) < self.resources()
     }
 
     /// All features of a node, own and inherited (EMF: EClass.getEAllStructuralFeatures); none where it does not live.
@@ -121,6 +151,9 @@ impl<'a, L: LinkStore> ModelRef<'a, L> {
                 Some(class) => self.meta.features(class).unwrap_or(&[]),
                 None => &[],
             },
+            Node::Resource(resource) if self.has_resource(resource) => {
+                self.meta.features_of_resources()
+            }
             Node::Resource(_) => &[],
         }
     }

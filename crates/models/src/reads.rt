@@ -65,7 +65,7 @@ impl<'a, L: LinkStore> ModelRef<'a, L> {
                 }
             },
             None => match value {
-                Value::Object(_) => true,
+                Value::Object(object) => self.class(*object).is_some(),
                 _ => false,
             },
         }

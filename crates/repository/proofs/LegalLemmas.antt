@@ -17,7 +17,7 @@ use Rattle.mm_types.specs.declared.refused.Refused.TheVariants.{NoObject, NoReso
 use Rattle.mm_types.specs.Shapes.{shape}
 use Rattle.mm_types.specs.declared.end.End.{End}
 use Rattle.mm_types.specs.declared.value.Value.{Value}
-use Rattle.mm_values.specs.Values.{Objects, ObjectState, applied, change_list, put_stored}
+use Rattle.mm_values.specs.Values.{Objects, ObjectState, applied, change_list, put_stored, with_uri}
 use Rattle.mm_types.specs.Lists.{shifted}
 use Rattle.mm_values.specs.declared.edit.ValueEdit.{ValueEdit}
 use Rattle.mm_values.specs.declared.edit.ValueEdit.TheVariants.{InsertValue, RemoveValue as TakeValue, MoveValue}
@@ -37,17 +37,24 @@ use Rattle.handshake.specs.declared.change.Change.TheVariants as change
 use Rattle.handshake.proofs.KnownLemmas.{none-else_by, none-unless}
 use Rattle.handshake.proofs.LegalLemmas.{change-keeps-legal}
 use Rattle.repository.specs.declared.command.Command.{Command}
-use Rattle.repository.specs.declared.command.Command.TheVariants.{Create, Set, Unset, Add, Remove, RemoveValue, Move, Attach, Detach, Get, IsSet, Container, Contents, Class, AdapterTold, AdapterKept}
+use Rattle.repository.specs.declared.command.Command.TheVariants.{Create, Set, Unset, Add, Remove, RemoveValue, Move, Attach, Detach, Get, IsSet, Container, Contents, Class, AdapterTold, AdapterKept, CreateResource, Resource}
 use Rattle.repository.specs.State.{State, IsLegal, IsLegalAdapter, is_there, reads}
-use Rattle.repository.specs.Refusals.{chain, early_refusal, late_refusal}
+use Rattle.repository.specs.Refusals.{chain, early_refusal, late_refusal, resource_refusal}
 use Rattle.repository.specs.Run.{Executed, IsWanting, is_memory}
 use Rattle.repository.specs.Step.{Stepped, adapters_after, done, joins, leaves, model_after, refusal_of, releases, step, step_unless}
-use Rattle.repository.specs.Views.{Outcome}
+use Rattle.repository.specs.Views.{Outcome, command_of}
 use Rattle.repository.specs.declared.reply.Reply.{Reply}
-use Rattle.repository.specs.Laws.{KeepsLegal}
+use Rattle.repository.specs.Laws.{KeepsLegal, HasSteadyUri}
 use Rattle.notice_chain.specs.Released.{Released}
 use Rattle.repository.proofs.QuietLemmas.{releases-quiet}
 use Rattle.repository.proofs.OthersLemmas.{distinct-push, others-all, others-distinct, others-few}
+use Rattle.std.specs.Str.{bytes_eq}
+use Rattle.std.proofs.lemmas.Bool.Decides.{nat_tests}
+use Rattle.web_uris.specs.Joined.{IsWebUri, joined}
+use Rattle.repository.proofs.PlanLemmas.{uri-allowed}
+use Rattle.std.proofs.lemmas.Option.{same_Some}
+use Rattle.web_uris.proofs.JoinFacts.{joined-web}
+use Rattle.handshake.specs.Laws.{IsBrought}
 
 abbrev IsThere : Option Refused → Type 0
 IsThere None = ⊥
@@ -124,6 +131,14 @@ found-keeps : (s : Model) (n : Node) (e : End) (i : Option ℕ) → Keeps s n (o
 found-keeps s n e None = none-keeps s n
 found-keeps s n e (Some i) = remove-keeps s n e i
 
+-- with one URI more
+more-resources : (us : List (List ℕ)) (u : List ℕ) (k : ℕ) → IsTrue (nat_lt k (length us)) → IsTrue (nat_lt k (length (with_uri us u)))
+more-resources us u k h =
+    elim (list_any (bytes_eq u) us) as (λ b. IsTrue (nat_lt k (length (if b then us else us ++ u ∷ [])))) [
+      | true ↦ h
+      | false ↦ rw (length-append us (u ∷ [])) (grind (arith, nat_tests))
+    ]
+
 -- a node that is there is there after every change
 change-keeps-node : (s : Model) (c : Change) (n : Node) → IsTrue (is_there (reading s) n) → IsTrue (is_there (reading (effects.after s c)) n)
 change-keeps-node s (change.Create c) (node.Object o) h = both-true _ true (push-live s.values.objects _ o.0 (first-true _ true h)) refl
@@ -137,6 +152,13 @@ change-keeps-node s (change.Add m f v i) n h =
 change-keeps-node s (change.Remove m f i) n h = either-keeps s n (shape s.metamodel f).is_reference _ _ (none-keeps s n) (remove-keeps s n (at_end m f) i) h
 change-keeps-node s (change.RemoveValue m f v) n h = either-keeps s n (shape s.metamodel f).is_reference _ _ (none-keeps s n) (found-keeps s n (at_end m f) (first_at (reading s) (at_end m f) v)) h
 change-keeps-node s (change.Move m f to from) n h = either-keeps s n (shape s.metamodel f).is_reference _ _ (none-keeps s n) (move-keeps s n m f to from) h
+change-keeps-node s (change.NewResource u) (node.Object o) h = h
+change-keeps-node s (change.NewResource u) (node.Resource k) h = more-resources s.values.uris u k.0 h
+
+-- a new resource, if there is one
+resource-keeps-node : (s : Model) (u : Option (List ℕ)) (n : Node) → IsTrue (is_there (reading s) n) → IsTrue (is_there (reading (option_map_or (effects.after s) (option_map change.NewResource u) s)) n)
+resource-keeps-node s None n h = h
+resource-keeps-node s (Some u) n h = change-keeps-node s (change.NewResource u) n h
 
 keeps-node : (s : State) (c : Command View) (n : Node) → IsTrue (is_there (reads s) n) → IsTrue (is_there (reading (model_after s.model c)) n)
 keeps-node s (Create c) n h = change-keeps-node s.model (change.Create c) n h
@@ -146,11 +168,13 @@ keeps-node s (Add m f v i) n h = change-keeps-node s.model (change.Add m f v i) 
 keeps-node s (Remove m f i) n h = change-keeps-node s.model (change.Remove m f i) n h
 keeps-node s (RemoveValue m f v) n h = change-keeps-node s.model (change.RemoveValue m f v) n h
 keeps-node s (Move m f to from) n h = change-keeps-node s.model (change.Move m f to from) n h
+keeps-node s (CreateResource t) n h = resource-keeps-node s.model (joined [] t) n h
 keeps-node s (Attach number target deep view) n h = h
 keeps-node s (Detach number) n h = h
 keeps-node s (Get m f) n h = h
 keeps-node s (IsSet m f) n h = h
 keeps-node s (Container o) n h = h
+keeps-node s (Resource o) n h = h
 keeps-node s (Contents m) n h = h
 keeps-node s (Class o) n h = h
 keeps-node s (AdapterTold number) n h = h
@@ -158,23 +182,31 @@ keeps-node s (AdapterKept number) n h = h
 
 ---------------------------------------------------------------- the model
 
-model-legal : (s : State) (c : Command View) → models.IsLegal s.model → early_refusal (reads s) s.adapters c ≡ None → late_refusal (reads s) s.adapters c ≡ None → models.IsLegal (model_after s.model c)
-model-legal s (Create c) legal early late = change-keeps-legal s.model (change.Create c) legal early late
-model-legal s (Set n f v) legal early late = change-keeps-legal s.model (change.Set n f v) legal early late
-model-legal s (Unset n f) legal early late = change-keeps-legal s.model (change.Unset n f) legal early late
-model-legal s (Add n f v i) legal early late = change-keeps-legal s.model (change.Add n f v i) legal early late
-model-legal s (Remove n f i) legal early late = change-keeps-legal s.model (change.Remove n f i) legal early late
-model-legal s (RemoveValue n f v) legal early late = change-keeps-legal s.model (change.RemoveValue n f v) legal early late
-model-legal s (Move n f to from) legal early late = change-keeps-legal s.model (change.Move n f to from) legal early late
-model-legal s (Attach number target deep view) legal early late = legal
-model-legal s (Detach number) legal early late = legal
-model-legal s (Get n f) legal early late = legal
-model-legal s (IsSet n f) legal early late = legal
-model-legal s (Container o) legal early late = legal
-model-legal s (Contents n) legal early late = legal
-model-legal s (Class o) legal early late = legal
-model-legal s (AdapterTold number) legal early late = legal
-model-legal s (AdapterKept number) legal early late = legal
+resource-legal : (s : State) (t : List ℕ) (uri : Option (List ℕ)) → ((u : List ℕ) → uri ≡ Some u → IsWebUri u) → models.IsLegal s.model → resource_refusal (reads s) t uri ≡ None
+    → models.IsLegal (option_map_or (effects.after s.model) (option_map change.NewResource uri) s.model)
+resource-legal s t None web legal late = legal
+resource-legal s t (Some u) web legal late =
+    change-keeps-legal s.model (change.NewResource u) legal refl (uri-allowed (reads s) t u late) (web u refl)
+
+model-legal : (s : State) (c : Command View) → HasSteadyUri c → models.IsLegal s.model → early_refusal (reads s) s.adapters c ≡ None → late_refusal (reads s) s.adapters c ≡ None → models.IsLegal (model_after s.model c)
+model-legal s (Create c) steady legal early late = change-keeps-legal s.model (change.Create c) legal early late tt
+model-legal s (Set n f v) steady legal early late = change-keeps-legal s.model (change.Set n f v) legal early late tt
+model-legal s (Unset n f) steady legal early late = change-keeps-legal s.model (change.Unset n f) legal early late tt
+model-legal s (Add n f v i) steady legal early late = change-keeps-legal s.model (change.Add n f v i) legal early late tt
+model-legal s (Remove n f i) steady legal early late = change-keeps-legal s.model (change.Remove n f i) legal early late tt
+model-legal s (RemoveValue n f v) steady legal early late = change-keeps-legal s.model (change.RemoveValue n f v) legal early late tt
+model-legal s (Move n f to from) steady legal early late = change-keeps-legal s.model (change.Move n f to from) legal early late tt
+model-legal s (CreateResource t) steady legal early late = resource-legal s t (joined [] t) steady legal late
+model-legal s (Attach number target deep view) steady legal early late = legal
+model-legal s (Detach number) steady legal early late = legal
+model-legal s (Get n f) steady legal early late = legal
+model-legal s (IsSet n f) steady legal early late = legal
+model-legal s (Container o) steady legal early late = legal
+model-legal s (Resource o) steady legal early late = legal
+model-legal s (Contents n) steady legal early late = legal
+model-legal s (Class o) steady legal early late = legal
+model-legal s (AdapterTold number) steady legal early late = legal
+model-legal s (AdapterKept number) steady legal early late = legal
 
 ---------------------------------------------------------------- the adapters after a chain
 
@@ -219,11 +251,13 @@ attaches r rs (Add n f v i) = inl refl
 attaches r rs (Remove n f i) = inl refl
 attaches r rs (RemoveValue n f v) = inl refl
 attaches r rs (Move n f to from) = inl refl
+attaches r rs (CreateResource t) = inl refl
 attaches r rs (Attach number target deep view) = inr (record { one = record { no = number; target = target; deep = deep; view = view }; joins_one = refl; early = refl; late = refl; quiet = ap (λ (x : Released). x.others) (releases-quiet r.above rs) })
 attaches r rs (Detach number) = inl refl
 attaches r rs (Get n f) = inl refl
 attaches r rs (IsSet n f) = inl refl
 attaches r rs (Container o) = inl refl
+attaches r rs (Resource o) = inl refl
 attaches r rs (Contents n) = inl refl
 attaches r rs (Class o) = inl refl
 attaches r rs (AdapterTold number) = inl refl
@@ -268,8 +302,8 @@ joined-legal r t rs c stays early late legal = by (attaches r rs c)
           adapters = All-append (IsLegalAdapter t) rs (one ∷ []) before.adapters (All-cons (IsLegalAdapter t) one [] (record { target = stays one.target target; countable = view-countable one.view free.1 }) (All-nil (IsLegalAdapter t)));
         })
 
-done-legal : (s : State) (c : Command View) → IsLegal s → refusal_of s c ≡ None → IsLegal (done s c).after
-done-legal s c legal free =
+done-legal : (s : State) (c : Command View) → HasSteadyUri c → IsLegal s → refusal_of s c ≡ None → IsLegal (done s c).after
+done-legal s c steady legal free =
     let r = reads s in
     let t = reading (model_after s.model c) in
     let rs = s.adapters in
@@ -284,19 +318,30 @@ done-legal s c legal free =
       distinct = others-distinct [] told (leaves c) (rw (numbers-tell_chain up ns rs) legal.distinct);
       adapters = others-all (IsLegalAdapter t) [] told (leaves c) (All-nil (IsLegalAdapter t)) (told-legal up r t ns rs (keeps-node s c) (where-none AdapterFull _ later.1) legal.adapters);
     }) in
-    record { model = model-legal s c legal.model first.0 later.0; few = adapters.few; distinct = adapters.distinct; adapters = adapters.adapters }
+    record { model = model-legal s c steady legal.model first.0 later.0; few = adapters.few; distinct = adapters.distinct; adapters = adapters.adapters }
 
 pub step-legal : (s : State) (c : Command View) → KeepsLegal s c
-step-legal s c legal =
-    elim (refusal_of s c) as (λ r. refusal_of s c ≡ r → IsLegal (step_unless s c r).after) [ Some r ↦ λ e. legal | None ↦ λ e. done-legal s c legal e ] refl
+step-legal s c steady legal =
+    elim (refusal_of s c) as (λ r. refusal_of s c ≡ r → IsLegal (step_unless s c r).after) [ Some r ↦ λ e. legal | None ↦ λ e. done-legal s c steady legal e ] refl
 
 -- what was executed leaves a legal state too, where memory may be refused
-pub executed-legal : (s t : State) (c : Command View) (o : Outcome) → Executed s c o t → IsLegal s → IsLegal t
-executed-legal s t c o x legal =
+pub executed-legal : (s t : State) (c : Command View) (o : Outcome) → HasSteadyUri c → Executed s c o t → IsLegal s → IsLegal t
+executed-legal s t c o steady x legal =
     elim (is_memory o) as (λ b. MatchBool b (IsWanting s c o t) (step s c ≡ record { outcome = o; after = t }) → IsLegal t) [
       | true ↦ λ y. subst IsLegal (sym y.state) legal
-      | false ↦ λ e. subst IsLegal (ap (λ (q : Stepped). q.after) e) (step-legal s c legal)
+      | false ↦ λ e. subst IsLegal (ap (λ (q : Stepped). q.after) e) (step-legal s c steady legal)
     ] x
 
-pub stepped-legal : (s t : State) (c : Command View) (r : Reply View) → IsLegal s → step s c ≡ record { outcome = Ok r; after = t } → IsLegal t
-stepped-legal s t c r legal e = subst IsLegal (ap (λ (q : Stepped). q.after) e) (step-legal s c legal)
+pub stepped-legal : (s t : State) (c : Command View) (r : Reply View) → HasSteadyUri c → IsLegal s → step s c ≡ record { outcome = Ok r; after = t } → IsLegal t
+stepped-legal s t c r steady legal e = subst IsLegal (ap (λ (q : Stepped). q.after) e) (step-legal s c steady legal)
+
+-- a change that brings what it has to is asked for by such a command
+pub steady-of : (c : Change) → IsBrought c → HasSteadyUri (command_of c)
+steady-of (change.Create c) brought = tt
+steady-of (change.Set n f v) brought = tt
+steady-of (change.Unset n f) brought = tt
+steady-of (change.Add n f v i) brought = tt
+steady-of (change.Remove n f i) brought = tt
+steady-of (change.RemoveValue n f v) brought = tt
+steady-of (change.Move n f to from) brought = tt
+steady-of (change.NewResource u) web = λ v same. subst IsWebUri (same_Some u v (sym (joined-web [] u web) ∙ same)) web

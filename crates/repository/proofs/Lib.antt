@@ -4,5 +4,6 @@ pub mod QuietLemmas
 pub mod AttachLemmas
 pub mod PlanLemmas
 pub mod LegalLemmas
+pub mod ResourceLemmas
 pub mod ReadLemmas
 pub mod RunLemmas

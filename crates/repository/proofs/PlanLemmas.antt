@@ -1,12 +1,12 @@
 -- What a plan, or its refusal, makes of its command.
 use Rattle.std.proofs.Common.{◌≡◌, inl, inr, Bool, true, false, not, IsTrue, List, [], ◌++◌, Option, Some, None, Ok, Err, if◌then◌else◌, refl, ap, sym, subst, ◌∙◌}
-use Rattle.std.specs.Prelude.{◌&&◌, nat_le, nat_lt, is_some}
+use Rattle.std.specs.Prelude.{◌&&◌, nat_le, nat_lt, is_some, ℕ, length, option_map}
 use Rattle.std.specs.Option.{option_map_or}
 use Rattle.std.proofs.lemmas.List.{append-nil}
 use Rattle.mm_types.specs.Conditions.{◌else_by◌, ◌unless◌, ◌where_so◌}
-use Rattle.mm_types.specs.declared.limits.TheConstants.{OBJECTS}
+use Rattle.mm_types.specs.declared.limits.TheConstants.{OBJECTS, RESOURCES}
 use Rattle.mm_types.specs.declared.refused.Refused.{Refused}
-use Rattle.mm_types.specs.declared.refused.Refused.TheVariants.{NoObject, NoResource, NoClass, Abstract, NoFeature, NotSingle, NotMany, WrongType, TextLength, Index, Duplicate, Bound, Recursive, Limit, AdapterFull, Memory}
+use Rattle.mm_types.specs.declared.refused.Refused.TheVariants.{NoObject, NoResource, NoClass, Abstract, NoFeature, NotSingle, NotMany, WrongType, TextLength, Index, Duplicate, Bound, Recursive, Limit, AdapterFull, Memory, ResourceExists}
 use Rattle.mm_types.specs.declared.end.End.{End}
 use Rattle.mm_types.specs.declared.value.Value.{Value}
 use Rattle.mm_types.specs.declared.value.Value.TheVariants as value
@@ -20,17 +20,17 @@ use Rattle.notice_chain.specs.Listed.{Above, Listed, is_chain_full, tell_chain, 
 use Rattle.notice_chain.specs.Released.{Released, released}
 use Rattle.notice_chain.specs.declared.notice.Notice.{Notice}
 use Rattle.adapter_list.specs.Refusals.{IsChainRefusal}
-use Rattle.models.specs.Legal.{is_short}
+use Rattle.models.specs.Legal.{is_short, is_short_text}
 use Rattle.models.specs.Model.{Model}
-use Rattle.models.specs.Reading.{Reading, at_end, has_feature, is_node_live, is_repeat, is_resource_there, is_value_live, place_for, takes}
+use Rattle.models.specs.Reading.{Reading, at_end, has_feature, is_node_live, is_repeat, is_resource_there, is_value_live, place_for, takes, has_uri}
 use Rattle.handshake.specs.Named.{feature_refusal, many_refusal, node_refusal, value_refusal}
 use Rattle.handshake.specs.Effects as effects
 use Rattle.handshake.specs.Plans.{Plans, is_memory_refusal}
 use Rattle.handshake.specs.Displaced.{has_already}
-use Rattle.handshake.specs.Refusals.{count_at, early_refusal, gain_refusal, is_at_limit, is_full_at, is_recursive, late_refusal, link_refusal, of_either, set_refusal, type_refusal}
+use Rattle.handshake.specs.Refusals.{count_at, early_refusal, gain_refusal, is_at_limit, is_full_at, is_recursive, late_refusal, link_refusal, of_either, set_refusal, type_refusal, uri_refusal}
 use Rattle.handshake.specs.Tellings.{chain}
 use Rattle.handshake.specs.declared.change.Change.{Change}
-use Rattle.handshake.specs.declared.change.Change.TheVariants.{Create, Set, Unset, Add, Remove, RemoveValue, Move}
+use Rattle.handshake.specs.declared.change.Change.TheVariants.{Create, Set, Unset, Add, Remove, RemoveValue, Move, NewResource}
 use Rattle.repository.specs.Answers.{answer_of}
 use Rattle.repository.specs.declared.reply.Answer.{Answer}
 use Rattle.repository.specs.Run.{Executed, is_plain, may_want_memory}
@@ -38,6 +38,12 @@ use Rattle.repository.specs.State.{State, reads}
 use Rattle.repository.specs.Step.{Stepped, done, refusal_of, step, step_unless}
 use Rattle.repository.specs.Views.{command_of}
 use Rattle.repository.proofs.AdapterLemmas.{Heard, released-nobody}
+use Rattle.std.proofs.lemmas.Option.{none-some}
+use Rattle.web_uris.proofs.JoinFacts.{joined-web}
+use Rattle.handshake.specs.Laws.{IsBrought}
+use Rattle.repository.specs.Refusals.{resource_refusal}
+use Rattle.handshake.proofs.KnownLemmas.{none-else_by, none-unless}
+use Rattle.std.proofs.lemmas.Bool.{and_parts}
 
 -- no refusal of these
 abbrev pub IsNot : (Refused → Bool) → Option Refused → Type 0
@@ -48,27 +54,49 @@ full s c = AdapterFull where_so is_chain_full (reads s).above (chain (reads s) c
 
 ---------------------------------------------------------------- the refusal of a change
 
+both-same : (b : Bool) → (b && b) ≡ b
+both-same true = refl
+both-same false = refl
+
+-- a URI as joining gives it is refused as the text that it is
+uri-refused : (r : Reading) (u : List ℕ) → resource_refusal r u (Some u) ≡ uri_refusal r u
+uri-refused r u = rw (both-same (is_short_text u)) refl
+
+-- where a text's URI is not refused, it is not refused as a change
+pub uri-allowed : (r : Reading) (t u : List ℕ) → resource_refusal r t (Some u) ≡ None → uri_refusal r u ≡ None
+uri-allowed r t u late =
+    let of_text = none-else_by (TextLength unless (is_short_text t && is_short_text u)) _ late in
+    let short = and_parts (is_short_text t) (is_short_text u) (none-unless TextLength (is_short_text t && is_short_text u) of_text.0) in
+    rw (short.1) of_text.1
+
+-- what is asked of a resource of a URI that is as joining gives it, by its text
+module _ (s : State) (u : List ℕ) where
+  asked_of : Option (List ℕ) → Option Refused
+  asked_of uri = resource_refusal (reads s) u uri else_by (AdapterFull where_so is_chain_full (reads s).above (option_map_or (chain (reads s)) (option_map NewResource uri) []) s.adapters)
+
 -- where nothing is found before planning
-refusal-planned : (s : State) (c : Change) → early_refusal (reads s) c ≡ None → refusal_of s (command_of c) ≡ (late_refusal (reads s) c else_by full s c)
-unfolding full
-refusal-planned s (Create c) early = rw early refl
-refusal-planned s (Set n f v) early = rw early refl
-refusal-planned s (Unset n f) early = rw early refl
-refusal-planned s (Add n f v i) early = rw early refl
-refusal-planned s (Remove n f i) early = rw early refl
-refusal-planned s (RemoveValue n f v) early = rw early refl
-refusal-planned s (Move n f to from) early = rw early refl
+refusal-planned : (s : State) (c : Change) → IsBrought c → early_refusal (reads s) c ≡ None → refusal_of s (command_of c) ≡ (late_refusal (reads s) c else_by full s c)
+unfolding full asked_of
+refusal-planned s (Create c) brought early = rw early refl
+refusal-planned s (Set n f v) brought early = rw early refl
+refusal-planned s (Unset n f) brought early = rw early refl
+refusal-planned s (Add n f v i) brought early = rw early refl
+refusal-planned s (Remove n f i) brought early = rw early refl
+refusal-planned s (RemoveValue n f v) brought early = rw early refl
+refusal-planned s (Move n f to from) brought early = rw early refl
+refusal-planned s (NewResource u) web early =
+    ap (asked_of s u) (joined-web [] u web) ∙ ap (λ (o : Option Refused). o else_by full s (NewResource u)) (uri-refused (reads s) u)
 
 -- a condition that is none of these is none of them behind another that is none
-later-not : (q : Refused → Bool) (o p : Option Refused) → IsNot q o → IsNot q p → IsNot q (o else_by p)
+pub later-not : (q : Refused → Bool) (o p : Option Refused) → IsNot q o → IsNot q p → IsNot q (o else_by p)
 later-not q None p a b = b
 later-not q (Some r) p a b = a
 
-where-not : (q : Refused → Bool) (r : Refused) (b : Bool) → q r ≡ false → IsNot q (r where_so b)
+pub where-not : (q : Refused → Bool) (r : Refused) (b : Bool) → q r ≡ false → IsNot q (r where_so b)
 where-not q r true h = h
 where-not q r false h = refl
 
-unless-not : (q : Refused → Bool) (r : Refused) (b : Bool) → q r ≡ false → IsNot q (r unless b)
+pub unless-not : (q : Refused → Bool) (r : Refused) (b : Bool) → q r ≡ false → IsNot q (r unless b)
 unless-not q r true h = refl
 unless-not q r false h = h
 
@@ -101,6 +129,7 @@ early-not-memory r (Add n f v i) = many-not-memory r f (value_refusal r n f v) (
 early-not-memory r (Remove n f i) = many-not-memory r f (feature_refusal r n f) (feature-not-memory r n f)
 early-not-memory r (RemoveValue n f v) = many-not-memory r f (value_refusal r n f v) (value-not-memory r n f v)
 early-not-memory r (Move n f to from) = many-not-memory r f (feature_refusal r n f) (feature-not-memory r n f)
+early-not-memory r (NewResource u) = refl
 
 ---------------------------------------------------------------- what is found later is not plain
 
@@ -135,6 +164,11 @@ set-not-plain r e (value.Adapter a) = refl
 type-not-plain : (r : Reading) (f : FeatureNo) (v : Value) → IsNot is_plain (type_refusal r f v)
 type-not-plain r f v = later-not is_plain _ _ (unless-not is_plain WrongType (takes r f v) refl) (unless-not is_plain TextLength (is_short v) refl)
 
+uri-not-plain : (r : Reading) (u : List ℕ) → IsNot is_plain (uri_refusal r u)
+uri-not-plain r u =
+    later-not is_plain _ _ (unless-not is_plain TextLength (is_short_text u) refl)
+    (later-not is_plain _ _ (unless-not is_plain Limit (nat_lt (length r.uris) RESOURCES) refl) (where-not is_plain ResourceExists (has_uri r u) refl))
+
 late-not-plain : (r : Reading) (c : Change) → IsNot is_plain (late_refusal r c)
 late-not-plain r (Create c) = unless-not is_plain Limit (nat_lt r.next OBJECTS) refl
 late-not-plain r (Set n f v) = later-not is_plain _ _ (type-not-plain r f v) (set-not-plain r (at_end n f) v)
@@ -147,24 +181,26 @@ late-not-plain r (Add n f v i) =
 late-not-plain r (Remove n f i) = unless-not is_plain Index (nat_lt i (count_at r (at_end n f))) refl
 late-not-plain r (RemoveValue n f v) = type-not-plain r f v
 late-not-plain r (Move n f to from) = unless-not is_plain Index (nat_lt to (count_at r (at_end n f)) && nat_lt from (count_at r (at_end n f))) refl
+late-not-plain r (NewResource u) = uri-not-plain r u
 
 full-not-plain : (s : State) (c : Change) → IsNot is_plain (full s c)
 unfolding full
 full-not-plain s c = where-not is_plain AdapterFull (is_chain_full (reads s).above (chain (reads s) c) s.adapters) refl
 
-not-plain : (s : State) (c : Change) → early_refusal (reads s) c ≡ None → not (option_map_or is_plain (refusal_of s (command_of c)) false) ≡ true
-not-plain s c early =
-    ap (λ (o : Option Refused). not (option_map_or is_plain o false)) (refusal-planned s c early)
+not-plain : (s : State) (c : Change) → IsBrought c → early_refusal (reads s) c ≡ None → not (option_map_or is_plain (refusal_of s (command_of c)) false) ≡ true
+not-plain s c brought early =
+    ap (λ (o : Option Refused). not (option_map_or is_plain o false)) (refusal-planned s c brought early)
     ∙ ap not (later-not is_plain (late_refusal (reads s) c) (full s c) (late-not-plain (reads s) c) (full-not-plain s c))
 
-may-want : (s : State) (c : Change) → early_refusal (reads s) c ≡ None → IsTrue (may_want_memory s (command_of c))
-may-want s (Create c) early = not-plain s (Create c) early
-may-want s (Set n f v) early = not-plain s (Set n f v) early
-may-want s (Unset n f) early = not-plain s (Unset n f) early
-may-want s (Add n f v i) early = not-plain s (Add n f v i) early
-may-want s (Remove n f i) early = not-plain s (Remove n f i) early
-may-want s (RemoveValue n f v) early = not-plain s (RemoveValue n f v) early
-may-want s (Move n f to from) early = not-plain s (Move n f to from) early
+may-want : (s : State) (c : Change) → IsBrought c → early_refusal (reads s) c ≡ None → IsTrue (may_want_memory s (command_of c))
+may-want s (Create c) brought early = not-plain s (Create c) brought early
+may-want s (Set n f v) brought early = not-plain s (Set n f v) brought early
+may-want s (Unset n f) brought early = not-plain s (Unset n f) brought early
+may-want s (Add n f v i) brought early = not-plain s (Add n f v i) brought early
+may-want s (Remove n f i) brought early = not-plain s (Remove n f i) brought early
+may-want s (RemoveValue n f v) brought early = not-plain s (RemoveValue n f v) brought early
+may-want s (Move n f to from) brought early = not-plain s (Move n f to from) brought early
+may-want s (NewResource u) brought early = not-plain s (NewResource u) brought early
 
 ---------------------------------------------------------------- what is executed
 
@@ -176,6 +212,7 @@ refused_as s (Add n f v i) r other found = rw other (ap (step_unless s (command_
 refused_as s (Remove n f i) r other found = rw other (ap (step_unless s (command_of (Remove n f i))) found)
 refused_as s (RemoveValue n f v) r other found = rw other (ap (step_unless s (command_of (RemoveValue n f v))) found)
 refused_as s (Move n f to from) r other found = rw other (ap (step_unless s (command_of (Move n f to from))) found)
+refused_as s (NewResource u) r other found = rw other (ap (step_unless s (command_of (NewResource u))) found)
 
 -- what is found first
 found-first : (s : State) (c : Change) (r : Refused) → early_refusal (reads s) c ≡ Some r → refusal_of s (command_of c) ≡ Some r
@@ -186,30 +223,32 @@ found-first s (Add n f v i) r e = rw e refl
 found-first s (Remove n f i) r e = rw e refl
 found-first s (RemoveValue n f v) r e = rw e refl
 found-first s (Move n f to from) r e = rw e refl
+found-first s (NewResource u) r e = absurd (none-some r e)
 
 pub early_err : (s : State) (c : Change) (r : Refused) → early_refusal (reads s) c ≡ Some r → Executed s (command_of c) (Err (record { refused = r; given_back = None })) s
 early_err s c r e = refused_as s c r (subst (IsNot no_memory) e (early-not-memory (reads s) c)) (found-first s c r e)
 
-pub out_of_memory : (s : State) (c : Change) → early_refusal (reads s) c ≡ None → Executed s (command_of c) (Err (record { refused = Memory; given_back = None })) s
-out_of_memory s (Create c) early = record { may = may-want s (Create c) early; outcome = refl; state = refl }
-out_of_memory s (Set n f v) early = record { may = may-want s (Set n f v) early; outcome = refl; state = refl }
-out_of_memory s (Unset n f) early = record { may = may-want s (Unset n f) early; outcome = refl; state = refl }
-out_of_memory s (Add n f v i) early = record { may = may-want s (Add n f v i) early; outcome = refl; state = refl }
-out_of_memory s (Remove n f i) early = record { may = may-want s (Remove n f i) early; outcome = refl; state = refl }
-out_of_memory s (RemoveValue n f v) early = record { may = may-want s (RemoveValue n f v) early; outcome = refl; state = refl }
-out_of_memory s (Move n f to from) early = record { may = may-want s (Move n f to from) early; outcome = refl; state = refl }
+pub out_of_memory : (s : State) (c : Change) → IsBrought c → early_refusal (reads s) c ≡ None → Executed s (command_of c) (Err (record { refused = Memory; given_back = None })) s
+out_of_memory s (Create c) brought early = record { may = may-want s (Create c) brought early; outcome = refl; state = refl }
+out_of_memory s (Set n f v) brought early = record { may = may-want s (Set n f v) brought early; outcome = refl; state = refl }
+out_of_memory s (Unset n f) brought early = record { may = may-want s (Unset n f) brought early; outcome = refl; state = refl }
+out_of_memory s (Add n f v i) brought early = record { may = may-want s (Add n f v i) brought early; outcome = refl; state = refl }
+out_of_memory s (Remove n f i) brought early = record { may = may-want s (Remove n f i) brought early; outcome = refl; state = refl }
+out_of_memory s (RemoveValue n f v) brought early = record { may = may-want s (RemoveValue n f v) brought early; outcome = refl; state = refl }
+out_of_memory s (Move n f to from) brought early = record { may = may-want s (Move n f to from) brought early; outcome = refl; state = refl }
+out_of_memory s (NewResource u) brought early = record { may = may-want s (NewResource u) brought early; outcome = refl; state = refl }
 
 -- what planning refuses
-pub planned_err : (s : State) (c : Change) (b : Bool) (r : Refused) → early_refusal (reads s) c ≡ None → Plans b (Err r) s.model c → Executed s (command_of c) (Err (record { refused = r; given_back = None })) s
-planned_err s c b Memory early h = out_of_memory s c early
-planned_err s c b r early h = refused_as s c r refl (refusal-planned s c early ∙ ap (λ (o : Option Refused). o else_by full s c) h)
+pub planned_err : (s : State) (c : Change) (b : Bool) (r : Refused) → IsBrought c → early_refusal (reads s) c ≡ None → Plans b (Err r) s.model c → Executed s (command_of c) (Err (record { refused = r; given_back = None })) s
+planned_err s c b Memory brought early h = out_of_memory s c brought early
+planned_err s c b r brought early h = refused_as s c r refl (refusal-planned s c brought early ∙ ap (λ (o : Option Refused). o else_by full s c) h)
 
 -- what the adapters refuse
-pub chain_err : (s : State) (c : Change) (made : List Notice) (r : Refused) → early_refusal (reads s) c ≡ None → late_refusal (reads s) c ≡ None → Heard (reads s).above made (chain (reads s) c) s.adapters → IsChainRefusal (is_chain_full (reads s).above made s.adapters) r → Executed s (command_of c) (Err (record { refused = r; given_back = None })) s
+pub chain_err : (s : State) (c : Change) (made : List Notice) (r : Refused) → IsBrought c → early_refusal (reads s) c ≡ None → late_refusal (reads s) c ≡ None → Heard (reads s).above made (chain (reads s) c) s.adapters → IsChainRefusal (is_chain_full (reads s).above made s.adapters) r → Executed s (command_of c) (Err (record { refused = r; given_back = None })) s
 unfolding full
-chain_err s c made r early late heard (inl e) = rw e (out_of_memory s c early)
-chain_err s c made r early late heard (inr h) =
-    let found : refusal_of s (command_of c) ≡ Some AdapterFull = refusal-planned s c early ∙ ap (λ (o : Option Refused). o else_by full s c) late ∙ ap (λ b. AdapterFull where_so b) (sym heard.full ∙ h.1) in
+chain_err s c made r brought early late heard (inl e) = rw e (out_of_memory s c brought early)
+chain_err s c made r brought early late heard (inr h) =
+    let found : refusal_of s (command_of c) ≡ Some AdapterFull = refusal-planned s c brought early ∙ ap (λ (o : Option Refused). o else_by full s c) late ∙ ap (λ b. AdapterFull where_so b) (sym heard.full ∙ h.1) in
     rw (h.0) (refused_as s c AdapterFull refl found)
 
 -- what is done by a change that tells these notices
@@ -231,29 +270,42 @@ done_telling up m ns rs a =
       after = record { model = m; adapters = adapters };
     } in y) (append-nil (tell_chain up ns rs))
 
-done_change : (s : State) (c : Change) → done s (command_of c) ≡ record {
+done_of : (s : State) (u : List ℕ) → Option Change → Stepped
+done_of s u made =
+    let ns = option_map_or (chain (reads s)) made [] in
+    let x : Released = released (λ a. false) (tell_chain (reads s).above ns s.adapters) in
+    record {
+      outcome = Ok (record { answer = answer_of (reads s) s.adapters (command_of (NewResource u)); told = told_list (reads s).above ns s.adapters ++ x.told; released = x.views });
+      after = record { model = option_map_or (effects.after s.model) made s.model; adapters = x.others ++ [] };
+    }
+
+done_change : (s : State) (c : Change) → IsBrought c → done s (command_of c) ≡ record {
   outcome = Ok (record { answer = answer_of (reads s) s.adapters (command_of c); told = told_list (reads s).above (chain (reads s) c) s.adapters; released = [] });
   after = record { model = effects.after s.model c; adapters = tell_chain (reads s).above (chain (reads s) c) s.adapters };
 }
-done_change s (Create c) = done_telling (reads s).above (effects.after s.model (Create c)) [] s.adapters (answer_of (reads s) s.adapters (command_of (Create c)))
-done_change s (Set n f v) = done_telling (reads s).above (effects.after s.model (Set n f v)) (chain (reads s) (Set n f v)) s.adapters (answer_of (reads s) s.adapters (command_of (Set n f v)))
-done_change s (Unset n f) = done_telling (reads s).above (effects.after s.model (Unset n f)) (chain (reads s) (Unset n f)) s.adapters (answer_of (reads s) s.adapters (command_of (Unset n f)))
-done_change s (Add n f v i) = done_telling (reads s).above (effects.after s.model (Add n f v i)) (chain (reads s) (Add n f v i)) s.adapters (answer_of (reads s) s.adapters (command_of (Add n f v i)))
-done_change s (Remove n f i) = done_telling (reads s).above (effects.after s.model (Remove n f i)) (chain (reads s) (Remove n f i)) s.adapters (answer_of (reads s) s.adapters (command_of (Remove n f i)))
-done_change s (RemoveValue n f v) = done_telling (reads s).above (effects.after s.model (RemoveValue n f v)) (chain (reads s) (RemoveValue n f v)) s.adapters (answer_of (reads s) s.adapters (command_of (RemoveValue n f v)))
-done_change s (Move n f to from) = done_telling (reads s).above (effects.after s.model (Move n f to from)) (chain (reads s) (Move n f to from)) s.adapters (answer_of (reads s) s.adapters (command_of (Move n f to from)))
+unfolding done_of
+done_change s (Create c) brought = done_telling (reads s).above (effects.after s.model (Create c)) [] s.adapters (answer_of (reads s) s.adapters (command_of (Create c)))
+done_change s (Set n f v) brought = done_telling (reads s).above (effects.after s.model (Set n f v)) (chain (reads s) (Set n f v)) s.adapters (answer_of (reads s) s.adapters (command_of (Set n f v)))
+done_change s (Unset n f) brought = done_telling (reads s).above (effects.after s.model (Unset n f)) (chain (reads s) (Unset n f)) s.adapters (answer_of (reads s) s.adapters (command_of (Unset n f)))
+done_change s (Add n f v i) brought = done_telling (reads s).above (effects.after s.model (Add n f v i)) (chain (reads s) (Add n f v i)) s.adapters (answer_of (reads s) s.adapters (command_of (Add n f v i)))
+done_change s (Remove n f i) brought = done_telling (reads s).above (effects.after s.model (Remove n f i)) (chain (reads s) (Remove n f i)) s.adapters (answer_of (reads s) s.adapters (command_of (Remove n f i)))
+done_change s (RemoveValue n f v) brought = done_telling (reads s).above (effects.after s.model (RemoveValue n f v)) (chain (reads s) (RemoveValue n f v)) s.adapters (answer_of (reads s) s.adapters (command_of (RemoveValue n f v)))
+done_change s (Move n f to from) brought = done_telling (reads s).above (effects.after s.model (Move n f to from)) (chain (reads s) (Move n f to from)) s.adapters (answer_of (reads s) s.adapters (command_of (Move n f to from)))
+done_change s (NewResource u) web =
+    ap (λ (o : Option (List ℕ)). done_of s u (option_map NewResource o)) (joined-web [] u web)
+    ∙ done_telling (reads s).above (effects.after s.model (NewResource u)) (chain (reads s) (NewResource u)) s.adapters (answer_of (reads s) s.adapters (command_of (NewResource u)))
 
 -- a change that was made, with the notices that somebody may hear
-pub changed : (s : State) (c : Change) (made : List Notice) → early_refusal (reads s) c ≡ None → late_refusal (reads s) c ≡ None → Heard (reads s).above made (chain (reads s) c) s.adapters → is_chain_full (reads s).above made s.adapters ≡ false → Executed s (command_of c) (Ok (record { answer = answer_of (reads s) s.adapters (command_of c); told = told_list (reads s).above made s.adapters; released = [] })) (record { model = effects.after s.model c; adapters = tell_chain (reads s).above made s.adapters })
+pub changed : (s : State) (c : Change) (made : List Notice) → IsBrought c → early_refusal (reads s) c ≡ None → late_refusal (reads s) c ≡ None → Heard (reads s).above made (chain (reads s) c) s.adapters → is_chain_full (reads s).above made s.adapters ≡ false → Executed s (command_of c) (Ok (record { answer = answer_of (reads s) s.adapters (command_of c); told = told_list (reads s).above made s.adapters; released = [] })) (record { model = effects.after s.model c; adapters = tell_chain (reads s).above made s.adapters })
 unfolding full
-changed s c made early late heard free =
-    let found : refusal_of s (command_of c) ≡ None = refusal-planned s c early ∙ ap (λ (o : Option Refused). o else_by full s c) late ∙ ap (λ b. AdapterFull where_so b) (sym heard.full ∙ free) in
-    ap (step_unless s (command_of c)) found ∙ rw (heard.told, heard.adapters) (done_change s c)
+changed s c made brought early late heard free =
+    let found : refusal_of s (command_of c) ≡ None = refusal-planned s c brought early ∙ ap (λ (o : Option Refused). o else_by full s c) late ∙ ap (λ b. AdapterFull where_so b) (sym heard.full ∙ free) in
+    ap (step_unless s (command_of c)) found ∙ rw (heard.told, heard.adapters) (done_change s c brought)
 
 -- the same, for a reply and a state that are known by their parts
-pub changed_to : (s t : State) (c : Change) (made : List Notice) (a : Answer) (told : List (AdapterNo × Notice)) → early_refusal (reads s) c ≡ None → late_refusal (reads s) c ≡ None → Heard (reads s).above made (chain (reads s) c) s.adapters → is_chain_full (reads s).above made s.adapters ≡ false → a ≡ answer_of (reads s) s.adapters (command_of c) → told ≡ told_list (reads s).above made s.adapters → t.model ≡ effects.after s.model c → t.adapters ≡ tell_chain (reads s).above made s.adapters → step s (command_of c) ≡ record { outcome = Ok (record { answer = a; told = told; released = [] }); after = t }
-changed_to s t c made a told early late heard free answered told_is model adapters =
-    changed s c made early late heard free
+pub changed_to : (s t : State) (c : Change) (made : List Notice) (a : Answer) (told : List (AdapterNo × Notice)) → IsBrought c → early_refusal (reads s) c ≡ None → late_refusal (reads s) c ≡ None → Heard (reads s).above made (chain (reads s) c) s.adapters → is_chain_full (reads s).above made s.adapters ≡ false → a ≡ answer_of (reads s) s.adapters (command_of c) → told ≡ told_list (reads s).above made s.adapters → t.model ≡ effects.after s.model c → t.adapters ≡ tell_chain (reads s).above made s.adapters → step s (command_of c) ≡ record { outcome = Ok (record { answer = a; told = told; released = [] }); after = t }
+changed_to s t c made a told brought early late heard free answered told_is model adapters =
+    changed s c made brought early late heard free
     ∙ ap (λ (b : Answer). let y : Stepped = record { outcome = Ok (record { answer = b; told = told_list (reads s).above made s.adapters; released = [] }); after = record { model = effects.after s.model c; adapters = tell_chain (reads s).above made s.adapters } } in y) (sym answered)
     ∙ ap (λ (x : List (AdapterNo × Notice)). let y : Stepped = record { outcome = Ok (record { answer = a; told = x; released = [] }); after = record { model = effects.after s.model c; adapters = tell_chain (reads s).above made s.adapters } } in y) (sym told_is)
     ∙ ap (λ (m : Model). let y : Stepped = record { outcome = Ok (record { answer = a; told = told; released = [] }); after = record { model = m; adapters = tell_chain (reads s).above made s.adapters } } in y) (sym model)

@@ -18,7 +18,7 @@ use Rattle.repository.specs.Refusals.{adapter_refusal}
 use Rattle.repository.specs.State.{State, reads}
 use Rattle.repository.specs.Step.{Stepped, step, step_unless}
 use Rattle.repository.specs.declared.command.Command.{Command}
-use Rattle.repository.specs.declared.command.Command.TheVariants.{AdapterKept, AdapterTold, Class, Container, Contents, Get, IsSet}
+use Rattle.repository.specs.declared.command.Command.TheVariants.{AdapterKept, AdapterTold, Class, Container, Contents, Get, IsSet, Resource}
 use Rattle.repository.specs.declared.reply.Answer.{Answer}
 use Rattle.repository.proofs.AdapterLemmas.{is_chain_full-nil, released-nobody, tell_chain-nil}
 
@@ -67,6 +67,9 @@ is_set_done s n f none = ap (step_unless s (IsSet n f)) (refusal_quiet (reads s)
 
 pub container_done : (s : State) (o : ObjectNo) → object_refusal (reads s) o ≡ None → step s (Container o) ≡ answered s (Container o)
 container_done s o none = ap (step_unless s (Container o)) (refusal_quiet (reads s).above (object_refusal (reads s) o) s.adapters ∙ none) ∙ done_read s (answer_of (reads s) s.adapters (Container o))
+
+pub resource_done : (s : State) (o : ObjectNo) → object_refusal (reads s) o ≡ None → step s (Resource o) ≡ answered s (Resource o)
+resource_done s o none = ap (step_unless s (Resource o)) (refusal_quiet (reads s).above (object_refusal (reads s) o) s.adapters ∙ none) ∙ done_read s (answer_of (reads s) s.adapters (Resource o))
 
 pub contents_done : (s : State) (n : Node) → node_refusal (reads s) n ≡ None → step s (Contents n) ≡ answered s (Contents n)
 contents_done s n none = ap (step_unless s (Contents n)) (refusal_quiet (reads s).above (node_refusal (reads s) n) s.adapters ∙ none) ∙ done_read s (answer_of (reads s) s.adapters (Contents n))

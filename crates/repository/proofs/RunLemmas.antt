@@ -1,8 +1,8 @@
 -- A run, one command at a time.
-use Rattle.std.proofs.Common.{◌≡◌, Bool, true, false, List, [], ◌∷◌, ◌++◌, Option, Some, None, Ok, Err, refl, sym, ap, subst, ◌∙◌, if◌then◌else◌}
+use Rattle.std.proofs.Common.{◌≡◌, Bool, true, false, List, [], ◌∷◌, ◌++◌, Option, Some, None, Ok, Err, refl, sym, ap, subst, ◌∙◌, if◌then◌else◌, ℕ, option_map}
 use Rattle.std.specs.Prelude.{MatchBool}
 use Rattle.repository.specs.declared.command.Command.{Command}
-use Rattle.repository.specs.declared.command.Command.TheVariants.{Create, Set, Unset, Add, Remove, RemoveValue, Move, Attach, Detach, Get, IsSet, Container, Contents, Class, AdapterTold, AdapterKept}
+use Rattle.repository.specs.declared.command.Command.TheVariants.{Create, Set, Unset, Add, Remove, RemoveValue, Move, Attach, Detach, Get, IsSet, Container, Contents, Class, AdapterTold, AdapterKept, CreateResource, Resource}
 use Rattle.repository.specs.State.{State}
 use Rattle.notice_chain.specs.View.{View}
 use Rattle.repository.specs.Views.{Outcome, brought}
@@ -11,6 +11,10 @@ use Rattle.mm_types.specs.declared.refused.Refused.{Refused}
 use Rattle.handshake.specs.Plans.{is_memory_refusal}
 use Rattle.repository.specs.Step.{Stepped, done, refusal_of, step, step_unless}
 use Rattle.repository.specs.Run.{AllExecuted, Executed, IsRun, IsWanting, Ran, commands_kept, is_memory, outcomes_kept, run}
+use Rattle.handshake.specs.declared.change.Change.TheVariants.{NewResource}
+use Rattle.std.specs.Option.{option_map_or}
+use Rattle.web_uris.specs.Joined.{joined}
+use Rattle.handshake.specs.Effects as effects
 
 pub AllExecuted-push : (cs : List (Command View)) (os : List Outcome) (s t u : State) (c : Command View) (o : Outcome) → AllExecuted s cs os t → Executed t c o u → AllExecuted s (cs ++ (c ∷ [])) (os ++ (o ∷ [])) u
 AllExecuted-push [] [] s t u c o h x = (u, subst (λ (q : State). Executed q c o u) (sym h) x, refl)
@@ -42,6 +46,10 @@ run-executed (c ∷ cs) (o ∷ os) s t h =
     ] in
     go (is_memory o) refl
 
+resource-metamodel : (s : State) (uri : Option (List ℕ)) → (option_map_or (effects.after s.model) (option_map NewResource uri) s.model).metamodel ≡ s.model.metamodel
+resource-metamodel s None = refl
+resource-metamodel s (Some u) = refl
+
 -- no command changes the metamodel
 done-metamodel : (s : State) (c : Command View) → (done s c).after.model.metamodel ≡ s.model.metamodel
 done-metamodel s (Create c) = refl
@@ -51,11 +59,13 @@ done-metamodel s (Add n f v i) = refl
 done-metamodel s (Remove n f i) = refl
 done-metamodel s (RemoveValue n f v) = refl
 done-metamodel s (Move n f to from) = refl
+done-metamodel s (CreateResource t) = resource-metamodel s (joined [] t)
 done-metamodel s (Attach number target deep view) = refl
 done-metamodel s (Detach number) = refl
 done-metamodel s (Get n f) = refl
 done-metamodel s (IsSet n f) = refl
 done-metamodel s (Container o) = refl
+done-metamodel s (Resource o) = refl
 done-metamodel s (Contents n) = refl
 done-metamodel s (Class o) = refl
 done-metamodel s (AdapterTold number) = refl

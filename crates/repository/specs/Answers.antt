@@ -7,6 +7,7 @@ use Rattle.notice_chain.specs.Listed.{Listed, adapter}
 use Rattle.mm_types.specs.Ends.{has_value, value_in}
 use Rattle.mm_types.specs.declared.end.End.{End}
 use Rattle.models.specs.Reading.{Reading, at_end, is_repeat, is_set, shape_at, value_at}
+use Rattle.containment.specs.Above.{resource_of}
 use Rattle.containment.specs.Forest.{container, contents}
 use Rattle.repository.specs.declared.command.Command.{Command}
 use Rattle.repository.specs.declared.command.Command.TheVariants as command
@@ -36,11 +37,13 @@ answer_of r rs (command.Add n f v i) = answer.Flag (not (is_repeat r (at_end n f
 answer_of r rs (command.Remove n f i) = answer.Value (value_in (r.values (at_end n f)) i)
 answer_of r rs (command.RemoveValue n f v) = answer.Flag (has_value (r.values (at_end n f)) v)
 answer_of r rs (command.Move n f to from) = answer.Value (value_in (r.values (at_end n f)) from)
+answer_of r rs (command.CreateResource t) = answer.Resource (record { 0 = length r.uris })
 answer_of r rs (command.Attach number target deep view) = answer.Done
 answer_of r rs (command.Detach number) = answer.Done
 answer_of r rs (command.Get n f) = got_answer (got r (at_end n f))
 answer_of r rs (command.IsSet n f) = answer.Flag (is_set r (at_end n f))
 answer_of r rs (command.Container o) = answer.Container (container r o)
+answer_of r rs (command.Resource o) = answer.Within (resource_of r.above o)
 answer_of r rs (command.Contents n) = answer.Objects (contents r n)
 answer_of r rs (command.Class o) = answer.Class (unwrap_or (r.class o) (record { 0 = 0 }))
 answer_of r rs (command.AdapterTold number) = answer.Count (count_of rs number (λ v. v.told))

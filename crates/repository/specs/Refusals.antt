@@ -1,15 +1,15 @@
 -- Why a command is refused: the first condition that applies, in the order of their numbers.
-use Rattle.std.specs.Prelude.{List, [], Option, Some, None, is_some}
+use Rattle.std.specs.Prelude.{ℕ, ◌&&◌, true, false, nat_lt, length, List, [], Option, Some, None, is_some, option_map}
 use Rattle.std.specs.Option.{option_map_or}
 use Rattle.mm_types.specs.Conditions.{◌unless◌, ◌where_so◌, ◌else_by◌}
 use Rattle.mm_types.specs.declared.numbers.AdapterNo.{AdapterNo}
 use Rattle.mm_types.specs.declared.refused.Refused.{Refused}
-use Rattle.mm_types.specs.declared.refused.Refused.TheVariants.{NoAdapter, AdapterFull}
+use Rattle.mm_types.specs.declared.refused.Refused.TheVariants.{NoAdapter, AdapterFull, TextLength, Limit, BadUri, ResourceExists}
 use Rattle.notice_chain.specs.View.{View}
 use Rattle.notice_chain.specs.Listed.{Listed, adapter, is_chain_full}
 use Rattle.notice_chain.specs.declared.notice.Notice.{Notice}
 use Rattle.adapter_list.specs.Refusals.{attach_refusal}
-use Rattle.models.specs.Reading.{Reading}
+use Rattle.models.specs.Reading.{Reading, has_uri}
 use Rattle.handshake.specs.Named.{feature_refusal, node_refusal, object_refusal}
 use Rattle.handshake.specs.Refusals as planned
 use Rattle.handshake.specs.Tellings as planned_chain
@@ -17,6 +17,9 @@ use Rattle.handshake.specs.declared.change.Change.{Change}
 use Rattle.handshake.specs.declared.change.Change.TheVariants as change
 use Rattle.repository.specs.declared.command.Command.{Command}
 use Rattle.repository.specs.declared.command.Command.TheVariants as command
+use Rattle.mm_types.specs.declared.limits.TheConstants.{RESOURCES}
+use Rattle.web_uris.specs.Joined.{joined}
+use Rattle.models.specs.Legal.{is_short_text}
 
 -- the change that a command makes of the model, if it makes one
 abbrev pub change_of : Command View → Option Change
@@ -27,11 +30,13 @@ change_of (command.Add n f v i) = Some (change.Add n f v i)
 change_of (command.Remove n f i) = Some (change.Remove n f i)
 change_of (command.RemoveValue n f v) = Some (change.RemoveValue n f v)
 change_of (command.Move n f to from) = Some (change.Move n f to from)
+change_of (command.CreateResource t) = option_map change.NewResource (joined [] t)
 change_of (command.Attach number target deep view) = None
 change_of (command.Detach number) = None
 change_of (command.Get n f) = None
 change_of (command.IsSet n f) = None
 change_of (command.Container o) = None
+change_of (command.Resource o) = None
 change_of (command.Contents n) = None
 change_of (command.Class o) = None
 change_of (command.AdapterTold number) = None
@@ -54,17 +59,27 @@ early_refusal r rs (command.Add n f v i) = planned.early_refusal r (change.Add n
 early_refusal r rs (command.Remove n f i) = planned.early_refusal r (change.Remove n f i)
 early_refusal r rs (command.RemoveValue n f v) = planned.early_refusal r (change.RemoveValue n f v)
 early_refusal r rs (command.Move n f to from) = planned.early_refusal r (change.Move n f to from)
+early_refusal r rs (command.CreateResource t) = None
 early_refusal r rs (command.Attach number target deep view) = node_refusal r target
 early_refusal r rs (command.Detach number) = adapter_refusal rs number
 early_refusal r rs (command.Get n f) = feature_refusal r n f
 early_refusal r rs (command.IsSet n f) = feature_refusal r n f
 early_refusal r rs (command.Container o) = object_refusal r o
+early_refusal r rs (command.Resource o) = object_refusal r o
 early_refusal r rs (command.Contents n) = node_refusal r n
 early_refusal r rs (command.Class o) = object_refusal r o
 early_refusal r rs (command.AdapterTold number) = adapter_refusal rs number
 early_refusal r rs (command.AdapterKept number) = adapter_refusal rs number
 
 ---------------------------------------------------------------- what is found later
+
+-- why there can be no resource of a text, which gives this URI, if it gives one
+abbrev pub resource_refusal : Reading → List ℕ → Option (List ℕ) → Option Refused
+resource_refusal r t uri =
+    TextLength unless (is_short_text t && option_map_or is_short_text uri true) else_by
+    Limit unless nat_lt (length r.uris) RESOURCES else_by
+    BadUri unless is_some uri else_by
+    ResourceExists where_so option_map_or (has_uri r) uri false
 
 -- what planning finds, and what the list of adapters does
 abbrev pub late_refusal : Reading → List Listed → Command View → Option Refused
@@ -75,11 +90,13 @@ late_refusal r rs (command.Add n f v i) = planned.late_refusal r (change.Add n f
 late_refusal r rs (command.Remove n f i) = planned.late_refusal r (change.Remove n f i)
 late_refusal r rs (command.RemoveValue n f v) = planned.late_refusal r (change.RemoveValue n f v)
 late_refusal r rs (command.Move n f to from) = planned.late_refusal r (change.Move n f to from)
+late_refusal r rs (command.CreateResource t) = resource_refusal r t (joined [] t)
 late_refusal r rs (command.Attach number target deep view) = attach_refusal rs number view
 late_refusal r rs (command.Detach number) = None
 late_refusal r rs (command.Get n f) = None
 late_refusal r rs (command.IsSet n f) = None
 late_refusal r rs (command.Container o) = None
+late_refusal r rs (command.Resource o) = None
 late_refusal r rs (command.Contents n) = None
 late_refusal r rs (command.Class o) = None
 late_refusal r rs (command.AdapterTold number) = None

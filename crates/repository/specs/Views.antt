@@ -22,6 +22,7 @@ command_of (change.Add n f v i) = command.Add n f v i
 command_of (change.Remove n f i) = command.Remove n f i
 command_of (change.RemoveValue n f v) = command.RemoveValue n f v
 command_of (change.Move n f to from) = command.Move n f to from
+command_of (change.NewResource u) = command.CreateResource u
 
 -- the adapter that a command brings
 abbrev pub brought : {A : Type 0} → Command A → Option A
@@ -32,11 +33,13 @@ brought (command.Add n f v i) = None
 brought (command.Remove n f i) = None
 brought (command.RemoveValue n f v) = None
 brought (command.Move n f to from) = None
+brought (command.CreateResource t) = None
 brought (command.Attach number target deep adapter) = Some adapter
 brought (command.Detach number) = None
 brought (command.Get n f) = None
 brought (command.IsSet n f) = None
 brought (command.Container o) = None
+brought (command.Resource o) = None
 brought (command.Contents n) = None
 brought (command.Class o) = None
 brought (command.AdapterTold number) = None
@@ -51,11 +54,13 @@ module _ {A : Type 0} (heard : A → View) where
   command_view (command.Remove n f i) = command.Remove n f i
   command_view (command.RemoveValue n f v) = command.RemoveValue n f v
   command_view (command.Move n f to from) = command.Move n f to from
+  command_view (command.CreateResource t) = command.CreateResource t
   command_view (command.Attach number target deep adapter) = command.Attach number target deep (heard adapter)
   command_view (command.Detach number) = command.Detach number
   command_view (command.Get n f) = command.Get n f
   command_view (command.IsSet n f) = command.IsSet n f
   command_view (command.Container o) = command.Container o
+  command_view (command.Resource o) = command.Resource o
   command_view (command.Contents n) = command.Contents n
   command_view (command.Class o) = command.Class o
   command_view (command.AdapterTold number) = command.AdapterTold number

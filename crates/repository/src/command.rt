@@ -1,6 +1,6 @@
 //! The calls of a repository, as values.
 use adapters::Adapter;
-use mm_types::{AdapterNo, ClassNo, FeatureNo, Node, ObjectNo, Value};
+use mm_types::{AdapterNo, ClassNo, FeatureNo, Node, ObjectNo, Text, Value};
 
 /// A call of the repository, as a value.
 #[derive(Drop)]
@@ -44,6 +44,8 @@ pub enum Command<A = Box<dyn Adapter>> {
         to: u32,
         from: u32,
     },
+    /// Makes a resource of the URI that a text gives (EMF: ResourceSet.createResource).
+    CreateResource(Text),
     /// Attaches an adapter to a node, last in attach order (EMF: Notifier.eAdapters().add). A deep one is also notified of what
     /// happens below the node (EMF: EContentAdapter).
     Attach {
@@ -66,6 +68,8 @@ pub enum Command<A = Box<dyn Adapter>> {
     },
     /// Asks for the object that contains an object (EMF: EObject.eContainer; MOF 2.5.1: Reflection, Object.container).
     Container(ObjectNo),
+    /// Asks for the resource that an object is in, through however many objects (EMF: EObject.eResource).
+    Resource(ObjectNo),
     /// Asks for the objects that a node directly contains (EMF: EObject.eContents).
     Contents(Node),
     /// Asks for the class of an object (EMF: EObject.eClass; MOF 2.5.1: Reflection, Element.getMetaClass).

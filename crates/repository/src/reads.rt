@@ -7,7 +7,7 @@ ghost use Rattle.repository.specs.Views.{changed_view, outcome_view};
 ghost use Rattle.repository.specs.declared.reply.Answer.TheVariants as answer;
 
 use crate::reply::{Answer, Failure, FeatureValue, Reply};
-use mm_types::{ClassNo, ObjectNo, Refused, Seq};
+use mm_types::{ClassNo, ObjectNo, Refused, ResourceNo, Seq};
 use std::alloc::Global;
 
 /// An answer, as the reply of a command that notifies nobody. Takes no memory.
@@ -65,6 +65,17 @@ pub(crate) fn replied_container<A>(
 {
     let container = read?;
     Ok(reply(alloc, Answer::Container(container)))
+}
+
+/// The resource that an object is in, if it is in one, as a reply.
+pub(crate) fn replied_resource<A>(
+    alloc: Global,
+    read: Result<Option<ResourceNo>, Refused>,
+) -> Result<Reply<A>, Refused>
+    ensures { (heard : A → View) → change_outcome (changed_view heard result) ≡ read_outcome answer.Within read }
+{
+    let resource = read?;
+    Ok(reply(alloc, Answer::Within(resource)))
 }
 
 /// The objects that a node contains, as a reply.

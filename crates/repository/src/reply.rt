@@ -1,6 +1,6 @@
 //! What a command gives.
 use adapters::Adapter;
-use mm_types::{AdapterNo, ClassNo, ObjectNo, Refused, Seq, Value};
+use mm_types::{AdapterNo, ClassNo, ObjectNo, Refused, ResourceNo, Seq, Value};
 use notice_chain::Notice;
 
 /// What a command that is done answers.
@@ -10,6 +10,8 @@ pub enum Answer {
     Done,
     /// The object that was made.
     Object(ObjectNo),
+    /// The resource that was made.
+    Resource(ResourceNo),
     /// The value of a feature of one value, or the one that was taken out of a list or moved in it.
     Value(Value),
     /// The values of a feature of many, in order.
@@ -22,6 +24,8 @@ pub enum Answer {
     Count(u64),
     /// The object that contains another, if one does.
     Container(Option<ObjectNo>),
+    /// The resource that an object is in, if it is in one.
+    Within(Option<ResourceNo>),
     /// The objects that a node contains.
     Objects(Seq<ObjectNo>),
 }

@@ -7,6 +7,7 @@ mod changes;
 mod commands;
 mod lists;
 mod reads;
+mod resources;
 
 use adapter_list::AdapterList;
 use adapters::Adapter;

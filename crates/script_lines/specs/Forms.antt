@@ -4,7 +4,7 @@ use Rattle.std.specs.Option.{option_zip}
 use Rattle.std.specs.Str.{bytes_eq, is_utf8}
 use Rattle.script_lines.specs.Words.{words}
 use Rattle.mm_types.specs.Integers.{natural}
-use Rattle.script_lines.specs.Values.{adapter_in, feature_in, feature_value_in, name_in, node_in, object_in}
+use Rattle.script_lines.specs.Values.{adapter_in, feature_in, feature_value_in, name_in, node_in, object_in, string_in}
 use Rattle.script_lines.specs.declared.form.Form.{Form}
 use Rattle.script_lines.specs.declared.form.Form.TheVariants as asks
 use Rattle.script_lines.specs.declared.line.Line.{Line}
@@ -21,6 +21,14 @@ class_form o = option_map asks.Class (object_in o)
 -- `container OBJ`
 abbrev pub container_form : List ℕ → Option Form
 container_form o = option_map asks.Container (object_in o)
+
+-- `within OBJ`
+abbrev pub within_form : List ℕ → Option Form
+within_form o = option_map asks.Within (object_in o)
+
+-- `resource STR`
+abbrev pub resource_form : List ℕ → Option Form
+resource_form t = option_map asks.Resource (string_in t)
 
 -- `contents NODE`
 abbrev pub contents_form : List ℕ → Option Form
@@ -82,8 +90,10 @@ attach_form a n d = option_map (λ p. asks.Attach p.0.0 p.0.1 p.1) (option_zip (
 abbrev pub with_one : List ℕ → List ℕ → Option Form
 with_one verb a =
     if bytes_eq verb (codes "new") then new_form a
+    else if bytes_eq verb (codes "resource") then resource_form a
     else if bytes_eq verb (codes "class") then class_form a
     else if bytes_eq verb (codes "container") then container_form a
+    else if bytes_eq verb (codes "within") then within_form a
     else if bytes_eq verb (codes "contents") then contents_form a
     else if bytes_eq verb (codes "detach") then detach_form a
     else if bytes_eq verb (codes "seen") then seen_form a

@@ -1,7 +1,7 @@
 //! What a line asks for.
 use crate::name::Name;
 use crate::written_value::WrittenValue;
-use mm_types::{AdapterNo, Node, ObjectNo};
+use mm_types::{AdapterNo, Node, ObjectNo, Text};
 
 /// What a line asks for. Classes and features are given by the names that stand in the line.
 #[derive(Drop)]
@@ -47,6 +47,8 @@ pub enum Form<'a> {
         to: u32,
         from: u32,
     },
+    /// A new resource of the URI that a text gives (EMF: ResourceSet.createResource).
+    Resource(Text),
     /// An adapter attached to a node. A deep one is also notified of what happens below the node (EMF: Notifier.eAdapters().add).
     Attach {
         no: AdapterNo,
@@ -62,6 +64,8 @@ pub enum Form<'a> {
     },
     /// The object that contains an object (EMF: EObject.eContainer).
     Container(ObjectNo),
+    /// The resource that an object is in (EMF: EObject.eResource).
+    Within(ObjectNo),
     /// The objects that a node directly contains (EMF: EObject.eContents).
     Contents(Node),
     /// The class of an object (EMF: EObject.eClass).

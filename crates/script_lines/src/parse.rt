@@ -1,11 +1,11 @@
 //! What a line asks for: its words, and the form that they fit.
 ghost use Rattle.std.specs.Prelude.{◌≡◌, IfOk, map};
-ghost use Rattle.script_lines.specs.Forms.{add_at_form, add_form, attach_form, class_form, container_form, contents_form, depth_in, detach_form, form, form_of as the_form_of, get_form, isset_form, line_of as the_line_of, move_form, new_form, remove_form, removevalue_form, seen_form, set_form, unset_form, with_four, with_one, with_three, with_two};
+ghost use Rattle.script_lines.specs.Forms.{add_at_form, add_form, attach_form, class_form, container_form, contents_form, depth_in, detach_form, form, form_of as the_form_of, get_form, isset_form, line_of as the_line_of, move_form, new_form, remove_form, removevalue_form, resource_form, seen_form, set_form, unset_form, with_four, with_one, with_three, with_two, within_form};
 
 use crate::form::Form;
 use crate::line::Line;
 use crate::name::Name;
-use crate::values::{adapter_of, feature_of, feature_value_of, node_of, object_of};
+use crate::values::{adapter_of, feature_of, feature_value_of, node_of, object_of, string_of};
 use crate::words::words_of;
 use mm_types::integers::natural_of;
 use std::alloc::{AllocError, Global};
@@ -30,6 +30,23 @@ fn container_of(object: &str) -> Option<Form<'static>>
     ensures { result ≡ container_form object.now }
 {
     Some(Form::Container(object_of(object)?))
+}
+
+/// `within OBJ`
+fn within_of(object: &str) -> Option<Form<'static>>
+    ensures { result ≡ within_form object.now }
+{
+    Some(Form::Within(object_of(object)?))
+}
+
+/// `resource STR`
+fn resource_of(alloc: Global, text: &str) -> Result<Option<Form<'static>>, AllocError>
+    ensures { IfOk result (λ o. o ≡ resource_form text.now) }
+{
+    match string_of(alloc, text)? {
+        Some(text) => Ok(Some(Form::Resource(text))),
+        None => Ok(None),
+    }
 }
 
 /// `contents NODE`
@@ -201,23 +218,27 @@ fn attach_of(adapter: &str, target: &str, depth: &str) -> Option<Form<'static>>
 }
 
 /// The form of a verb and one argument.
-fn with_one_of<'a>(verb: &str, a: &'a str) -> Option<Form<'a>>
-    ensures { result ≡ with_one verb.now a.now }
+fn with_one_of<'a>(alloc: Global, verb: &str, a: &'a str) -> Result<Option<Form<'a>>, AllocError>
+    ensures { IfOk result (λ o. o ≡ with_one verb.now a.now) }
 {
     if verb == "new" {
-        new_of(a)
+        Ok(new_of(a))
+    } else if verb == "resource" {
+        resource_of(alloc, a)
     } else if verb == "class" {
-        class_of(a)
+        Ok(class_of(a))
     } else if verb == "container" {
-        container_of(a)
+        Ok(container_of(a))
+    } else if verb == "within" {
+        Ok(within_of(a))
     } else if verb == "contents" {
-        contents_of(a)
+        Ok(contents_of(a))
     } else if verb == "detach" {
-        detach_of(a)
+        Ok(detach_of(a))
     } else if verb == "seen" {
-        seen_of(a)
+        Ok(seen_of(a))
     } else {
-        None
+        Ok(None)
     }
 }
 
@@ -288,7 +309,7 @@ fn form_of<'a>(alloc: Global, words: &[&'a str]) -> Result<Option<Form<'a>>, All
     match words {
         [] => Ok(None),
         [_] => Ok(None),
-        [verb, a] => Ok(with_one_of(verb, a)),
+        [verb, a] => with_one_of(alloc, verb, a),
         [verb, a, b] => Ok(with_two_of(verb, a, b)),
         [verb, a, b, c] => with_three_of(alloc, verb, a, b, c),
         [verb, a, b, c, d] => with_four_of(alloc, verb, a, b, c, d),

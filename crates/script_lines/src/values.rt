@@ -1,6 +1,6 @@
 //! Nodes, adapters, features and values, read from words.
 ghost use Rattle.std.specs.Prelude.{◌≡◌, ◌≢◌, ◌<◌, IfOk, length, option_map, slice_index};
-ghost use Rattle.script_lines.specs.Values.{adapter_in, feature_in, feature_value_in, node_in, number_in, object_in, other_value_in, text_in, value_in};
+ghost use Rattle.script_lines.specs.Values.{adapter_in, feature_in, feature_value_in, node_in, number_in, object_in, other_value_in, string_in, text_in, value_in};
 ghost use Rattle.script_lines.specs.declared.written_value.WrittenValue.TheVariants as written;
 
 use crate::grammar::{ADAPTER_MARK, LITERAL_MARK, OBJECT_MARK, QUOTE, RESOURCE_MARK};
@@ -9,7 +9,7 @@ use crate::texts::text_of;
 use crate::words::after_byte;
 use crate::written_value::WrittenValue;
 use mm_types::integers::{integer_of, natural_of};
-use mm_types::{AdapterNo, Node, ObjectNo, ResourceNo};
+use mm_types::{AdapterNo, Node, ObjectNo, ResourceNo, Text};
 use std::alloc::{AllocError, Global};
 
 /// The number that a word has behind a mark.
@@ -54,6 +54,16 @@ pub fn feature_of<'a>(node: &str, name: &'a str) -> Option<(Node, Name<'a>)>
     ensures { result ≡ feature_in node.now name.now }
 {
     node_of(node).zip(Name::from_word(name))
+}
+
+/// The text that a word writes as a JSON string; another word writes none.
+pub fn string_of(alloc: Global, word: &str) -> Result<Option<Text>, AllocError>
+    ensures { IfOk result (λ o. o ≡ string_in word.now) }
+{
+    match word.as_bytes().first() {
+        Some(&QUOTE) => text_of(alloc, word),
+        _ => Ok(None),
+    }
 }
 
 /// The text that a word writes, as a value.

@@ -66,10 +66,10 @@ abbrev pub objects_text : List ObjectNo → List ℕ
 objects_text [] = codes "[]"
 objects_text (o ∷ os) = codes "[" ++ node_text (node.Object o) ++ spaced_objects os ++ codes "]"
 
--- as `#1`, or `null` where there is none
-abbrev pub container_text : Option ObjectNo → List ℕ
-container_text None = codes "null"
-container_text (Some o) = node_text (node.Object o)
+-- what contains an object, as `#1` or `r0`, or `null` where nothing does
+abbrev pub holder_text : Option Node → List ℕ
+holder_text None = codes "null"
+holder_text (Some n) = node_text n
 
 -- as `class Book`
 abbrev pub class_text : Metamodel → ClassNo → List ℕ

@@ -8,7 +8,7 @@ use Rattle.repository.specs.Run.{Executed}
 use Rattle.repository.specs.State.{State}
 use Rattle.repository.specs.Views.{Outcome, brought}
 use Rattle.repository.specs.declared.command.Command.{Command}
-use Rattle.repository.specs.declared.command.Command.TheVariants.{Create, Set, Unset, Add, Remove, RemoveValue, Move, Attach, Detach, Get, IsSet, Container, Contents, Class, AdapterTold, AdapterKept}
+use Rattle.repository.specs.declared.command.Command.TheVariants.{Create, Set, Unset, Add, Remove, RemoveValue, Move, Attach, Detach, Get, IsSet, Container, Contents, Class, AdapterTold, AdapterKept, CreateResource, Resource}
 use Rattle.repository.proofs.RunLemmas.{refused-nothing}
 use Rattle.script_lines.specs.declared.form.Form.{Form}
 use Rattle.script_lines.specs.declared.form.Form.TheVariants as asks
@@ -26,11 +26,13 @@ undone before (Add n f v place) h = refl
 undone before (Remove n f i) h = refl
 undone before (RemoveValue n f v) h = refl
 undone before (Move n f to from) h = refl
+undone before (CreateResource t) h = refl
 undone before (Attach number target deep view) h = put-back before number view (All-head (λ (a : Listed). box_of before a.no ≡ Ok a.view) (record { no = number; target = target; deep = deep; view = view }) [] h)
 undone before (Detach number) h = refl
 undone before (Get n f) h = refl
 undone before (IsSet n f) h = refl
 undone before (Container o) h = refl
+undone before (Resource o) h = refl
 undone before (Contents n) h = refl
 undone before (Class o) h = refl
 undone before (AdapterTold number) h = refl
@@ -50,6 +52,7 @@ bind-given s (asks.Add n feature v place) = All-nil (λ (a : Listed). box_of s.p
 bind-given s (asks.Remove n feature i) = All-nil (λ (a : Listed). box_of s.pool a.no ≡ Ok a.view)
 bind-given s (asks.RemoveValue n feature v) = All-nil (λ (a : Listed). box_of s.pool a.no ≡ Ok a.view)
 bind-given s (asks.Move n feature to from) = All-nil (λ (a : Listed). box_of s.pool a.no ≡ Ok a.view)
+bind-given s (asks.Resource t) = All-nil (λ (a : Listed). box_of s.pool a.no ≡ Ok a.view)
 bind-given s (asks.Attach number target deep) =
     elim (box_of s.pool number) as (λ r. box_of s.pool number ≡ r → IsGiven s.pool (attach_request r number target deep)) [
       | Ok v ↦ λ e. All-cons (λ (a : Listed). box_of s.pool a.no ≡ Ok a.view) _ [] e (All-nil (λ (a : Listed). box_of s.pool a.no ≡ Ok a.view))
@@ -59,6 +62,7 @@ bind-given s (asks.Detach number) = All-nil (λ (a : Listed). box_of s.pool a.no
 bind-given s (asks.Get n feature) = All-nil (λ (a : Listed). box_of s.pool a.no ≡ Ok a.view)
 bind-given s (asks.IsSet n feature) = All-nil (λ (a : Listed). box_of s.pool a.no ≡ Ok a.view)
 bind-given s (asks.Container o) = All-nil (λ (a : Listed). box_of s.pool a.no ≡ Ok a.view)
+bind-given s (asks.Within o) = All-nil (λ (a : Listed). box_of s.pool a.no ≡ Ok a.view)
 bind-given s (asks.Contents n) = All-nil (λ (a : Listed). box_of s.pool a.no ≡ Ok a.view)
 bind-given s (asks.Class o) = All-nil (λ (a : Listed). box_of s.pool a.no ≡ Ok a.view)
 bind-given s (asks.Seen number) = tt

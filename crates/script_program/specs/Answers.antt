@@ -1,5 +1,5 @@
 -- What is printed for a command.
-use Rattle.std.specs.Prelude.{ℕ, true, false, List, [], ◌∷◌, ◌++◌, length, codes, Ok, Err}
+use Rattle.std.specs.Prelude.{ℕ, true, false, List, [], ◌∷◌, ◌++◌, length, option_map, codes, Ok, Err}
 use Rattle.std.specs.Fmt.{decimal}
 use Rattle.std.specs.List.{flat_map}
 use Rattle.mm_types.specs.Resolved.{Metamodel}
@@ -18,7 +18,7 @@ use Rattle.repository.specs.declared.reply.Answer.TheVariants as answer
 use Rattle.script_lines.specs.declared.grammar.TheConstants.{NEWLINE}
 use Rattle.script_output.specs.Names.{literal_name}
 use Rattle.script_output.specs.Notified.{notice_text, released_text}
-use Rattle.script_output.specs.Printed.{class_text, container_text, list_text, node_text, objects_text, refused_text, value_text}
+use Rattle.script_output.specs.Printed.{class_text, holder_text, list_text, node_text, objects_text, refused_text, value_text}
 use Rattle.script_program.specs.declared.bind.TheConstants.{NOTHING}
 
 -- the feature that a command names; one of no metamodel where it names none
@@ -32,9 +32,11 @@ feature_of (command.Move n f to from) = f
 feature_of (command.Get n f) = f
 feature_of (command.IsSet n f) = f
 feature_of (command.Create c) = record { 0 = NOTHING }
+feature_of (command.CreateResource t) = record { 0 = NOTHING }
 feature_of (command.Attach number target deep view) = record { 0 = NOTHING }
 feature_of (command.Detach number) = record { 0 = NOTHING }
 feature_of (command.Container o) = record { 0 = NOTHING }
+feature_of (command.Resource o) = record { 0 = NOTHING }
 feature_of (command.Contents n) = record { 0 = NOTHING }
 feature_of (command.Class o) = record { 0 = NOTHING }
 feature_of (command.AdapterTold number) = record { 0 = NOTHING }
@@ -50,7 +52,9 @@ answer_text m f (answer.Flag true) = codes "true"
 answer_text m f (answer.Flag false) = codes "false"
 answer_text m f (answer.Class c) = class_text m c
 answer_text m f (answer.Count n) = decimal n
-answer_text m f (answer.Container o) = container_text o
+answer_text m f (answer.Resource k) = node_text (node.Resource k)
+answer_text m f (answer.Container o) = holder_text (option_map node.Object o)
+answer_text m f (answer.Within k) = holder_text (option_map node.Resource k)
 answer_text m f (answer.Objects os) = objects_text os
 
 abbrev pub answer_line : Metamodel → FeatureNo → Answer → List ℕ

@@ -50,7 +50,9 @@ fn print_answer(
         Answer::Flag(false) => output.text("false"),
         Answer::Class(class) => output.class(meta, *class),
         Answer::Count(count) => output.natural(*count),
-        Answer::Container(container) => output.container(*container),
+        Answer::Resource(resource) => output.node(Node::Resource(*resource)),
+        Answer::Container(object) => output.node_or_null(object.map(Node::Object)),
+        Answer::Within(resource) => output.node_or_null(resource.map(Node::Resource)),
         Answer::Objects(objects) => output.objects(objects.as_slice()),
     }
 }

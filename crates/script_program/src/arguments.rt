@@ -27,7 +27,11 @@ from standard input, and what each of its lines answers is printed on standard o
   move #0 tags 0 2         moves a value of a list to the first place, from the second: \"c\"
   class #0                 the class of an object: class Book
   container #0             the object that contains an object: #3, or null
-  contents #0              the objects that an object contains: [#1 #2]
+  resource \"http://m.example/a\"
+                           makes a resource of a URI: its number, as r0
+  add r0 contents #0       puts an object into a resource: true
+  within #0                the resource that an object is in: r0, or null
+  contents #0              the objects that an object, or a resource, contains: [#1 #2]
   attach A1 #0 flat        attaches an adapter, one of A1 to A8, which is notified of changes
   detach A1                detaches it: a line for its last notice, and one for what it heard
   seen A1                  how many notices it was told and keeps: seen 3 kept 3

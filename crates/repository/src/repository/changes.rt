@@ -10,13 +10,14 @@ ghost use Rattle.repository.specs.Run.{Executed, change_outcome};
 ghost use Rattle.repository.specs.Views.{changed_view, command_of};
 ghost use Rattle.repository.specs.declared.command.Command.TheVariants.{Create, Set, Unset};
 ghost use Rattle.repository.specs.declared.reply.Answer.TheVariants as answer;
+ghost use Rattle.handshake.specs.Laws.{IsBrought};
 
 use super::Repository;
 use crate::reply::{Answer, Reply};
 use adapters::Adapter;
 use handshake::{Change, early_refusal, plan};
 use link_store::LinkStore;
-use mm_types::{ClassNo, End, FeatureNo, Node, ObjectNo, Refused, Seq, Value};
+use mm_types::{ClassNo, End, FeatureNo, Node, ObjectNo, Refused, ResourceNo, Seq, Value};
 use models::{ModelRef, copied};
 
 impl<L: LinkStore, A: Adapter> Repository<L, A> {
@@ -67,6 +68,7 @@ impl<L: LinkStore, A: Adapter> Repository<L, A> {
 
     // Every change goes these steps; after the third nothing can fail.
     pub(super) fn change(&mut self, change: Change) -> Result<Reply<A>, Refused>
+        requires brought { IsBrought change }
         ensures { Executed self.old (command_of change) (change_outcome (changed_view A.heard result)) self.new }
     {
         // Conditions that need no memory.
@@ -116,6 +118,7 @@ fn answered<L: LinkStore>(model: &ModelRef<L>, change: &Change) -> Result<Answer
     model.is_legal();
     match change {
         Change::Create(_) => Ok(Answer::Object(ObjectNo(model.next() as u32))),
+        Change::NewResource(_) => Ok(Answer::Resource(ResourceNo(model.resources() as u32))),
         Change::Set { .. } | Change::Unset { .. } => Ok(Answer::Done),
         Change::Add {
             node,

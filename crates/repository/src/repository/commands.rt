@@ -7,7 +7,7 @@ use super::Repository;
 use crate::command::Command;
 use crate::reads::{
     outcome, replied, replied_class, replied_container, replied_count, replied_flag,
-    replied_objects,
+    replied_objects, replied_resource,
 };
 use crate::reply::{Failure, Reply};
 use adapters::Adapter;
@@ -49,6 +49,7 @@ impl<L: LinkStore, A: Adapter> Repository<L, A> {
                 to,
                 from,
             } => outcome(self.move_to(node, feature, to, from)),
+            Command::CreateResource(text) => outcome(self.create_resource(text.as_str())),
             Command::Attach {
                 no,
                 target,
@@ -63,6 +64,7 @@ impl<L: LinkStore, A: Adapter> Repository<L, A> {
             Command::Container(object) => {
                 outcome(replied_container(alloc, self.e_container(object)))
             }
+            Command::Resource(object) => outcome(replied_resource(alloc, self.e_resource(object))),
             Command::Contents(node) => outcome(replied_objects(alloc, self.e_contents(node))),
             Command::Class(object) => outcome(replied_class(alloc, self.e_class(object))),
             Command::AdapterTold(no) => outcome(replied_count(alloc, self.adapter_told(no))),

@@ -9,16 +9,16 @@ ghost use Rattle.repository.specs.Answers.{got_answer};
 ghost use Rattle.repository.specs.Reads.{IsValueRefusal};
 ghost use Rattle.repository.specs.Run.{Executed, read_outcome};
 ghost use Rattle.repository.specs.State.{reads};
-ghost use Rattle.repository.specs.declared.command.Command.TheVariants.{Class, Container, Contents, Get, IsSet};
+ghost use Rattle.repository.specs.declared.command.Command.TheVariants.{Class, Container, Contents, Get, IsSet, Resource};
 ghost use Rattle.repository.specs.declared.reply.Answer.TheVariants as answer;
 
 use super::Repository;
 use crate::reply::FeatureValue;
 use adapters::Adapter;
-use containment::{container, contents};
+use containment::{container, contents, holder_resource};
 use handshake::{feature_refusal, node_refusal};
 use link_store::LinkStore;
-use mm_types::{ClassNo, End, FeatureNo, Node, ObjectNo, Refused, Seq, Value};
+use mm_types::{ClassNo, End, FeatureNo, Node, ObjectNo, Refused, ResourceNo, Seq, Value};
 use models::{Found, ModelRef, copied, is_single};
 use std::alloc::Global;
 
@@ -90,6 +90,20 @@ impl<L: LinkStore, A: Adapter> Repository<L, A> {
             return Err(Refused::NoObject);
         }
         Ok(container(&model, object))
+    }
+
+    /// The resource that an object is in, through however many objects (EMF: EObject.eResource); `None` where it is in none. Takes no
+    /// memory. Refused with `NoObject` where none lives.
+    #[tactic(auto, using(crate::proofs::QuietLemmas::resource_done))]
+    pub fn e_resource(&self, object: ObjectNo) -> Result<Option<ResourceNo>, Refused>
+        ensures read { Executed self.now (Resource object) (read_outcome answer.Within result) self.now }
+        ensures kind { IfErr result (λ r. is_memory_refusal r ≡ false) }
+    {
+        let model = self.model();
+        if model.class(object).is_none() {
+            return Err(Refused::NoObject);
+        }
+        Ok(holder_resource(model.store(), object))
     }
 
     /// The objects that a node directly contains, by feature in the order of all features of its class, and then by position (EMF:

@@ -1,7 +1,7 @@
 //! What is printed of the objects that a command answers.
 ghost use Rattle.std.specs.Prelude.{◌≡◌, ◌++◌, OnErr, OnOk};
 ghost use Rattle.std.specs.Io.{StartsWith};
-ghost use Rattle.script_output.specs.Printed.{container_text, objects_text, spaced_objects};
+ghost use Rattle.script_output.specs.Printed.{holder_text, objects_text, spaced_objects};
 
 use super::Output;
 use mm_types::{Node, ObjectNo};
@@ -9,13 +9,13 @@ use script_lines::grammar::SPACE;
 use std::alloc::AllocError;
 
 impl Output {
-    /// Adds an object, or `null` where there is none.
-    pub fn container(&mut self, container: Option<ObjectNo>) -> Result<(), AllocError>
-        ensures ok { OnOk result (self.new ≡ self.old ++ container_text container) }
+    /// Adds an object or a resource, or `null` where there is none.
+    pub fn node_or_null(&mut self, node: Option<Node>) -> Result<(), AllocError>
+        ensures ok { OnOk result (self.new ≡ self.old ++ holder_text node) }
         ensures err { OnErr result (self.new ≡ self.old) }
     {
-        match container {
-            Some(object) => self.node(Node::Object(object)),
+        match node {
+            Some(node) => self.node(node),
             None => self.text("null"),
         }
     }

@@ -1,8 +1,9 @@
-use Rattle.std.proofs.Common.{◌∙◌, List, ℕ, map, refl, subst, sym, ap}
+use Rattle.std.proofs.Common.{◌∙◌, ◌≤◌, ◌∷◌, [], List, ℕ, map, length, arith, refl, subst, sym, ap}
+use Rattle.mm_types.specs.Resolved.{Metamodel, feature_no, resolved}
 use Rattle.mm_types.specs.declared.class.Class.{Class}
 use Rattle.mm_types.specs.declared.numbers.ClassNo.{ClassNo}
 use Rattle.mm_graph.specs.ConformTable.{IsConformTable}
-use Rattle.mm_meta.proofs.MetaLemmas.{resolved_is, supertypes_resolved}
+use Rattle.mm_meta.proofs.MetaLemmas.{few_features, resolved_is, supertypes_resolved}
 use Rattle.mm_meta.proofs.meta.Meta.new.Goals as goal
 
 pub invariant_of-result : goal.invariant_of-result
@@ -22,7 +23,15 @@ invariant_of-result c =
       finds_literals = rw c.as_slice-2.ensures at c.in_ok-literal_tables.ensures;
       finds_features = rw (c.as_slice-3.ensures, c.as_slice-4.ensures) at c.in_ok-feature_tables.ensures;
       null = refl;
+      contents = ap (λ n. feature_no n ∷ []) c.len.ensures;
     }
+
+pub overflow_cast-contents : goal.overflow_cast-contents
+overflow_cast-contents c =
+    let m = resolved c.args.raw in
+    let few : length m.features ≤ 256000 = few_features m (record { raw = c.args.raw; fits = c.into_parts-enums.ensures.fits; well_formed = c.requires.well_formed; is = refl }) in
+    let same = ap (λ (k : Metamodel). length k.features) (resolved_is c.args.raw _ c.into_parts-enums.ensures.enums c.requires.resolution.classes c.requires.resolution.features) in
+    omega (arith, few, same)
 
 pub returns : goal.returns
 returns c = resolved_is c.args.raw _ c.into_parts-enums.ensures.enums c.requires.resolution.classes c.requires.resolution.features

@@ -18,7 +18,7 @@ use Rattle.repository.specs.Repository.{state}
 use Rattle.repository.specs.State.{IsLegal, State, reads}
 use Rattle.repository.proofs.AdapterLemmas.{Heard, heard_where_attached}
 use Rattle.repository.proofs.PlanLemmas.{chain_err, changed_to, early_err, out_of_memory, planned_err}
-use Rattle.repository.proofs.LegalLemmas.{stepped-legal}
+use Rattle.repository.proofs.LegalLemmas.{stepped-legal, steady-of}
 use Rattle.repository.proofs.repository.Repository.change.Goals as goal
 
 pub returns-in-Some : goal.returns-in-Some
@@ -32,21 +32,28 @@ returns-in-Err g c =
     let s : State = state g.L.LinkStore.links c.self.inside in
     let is : c.model-model.result ≡ s.model = c.model-model.ensures ∙ ap (λ (t : State). t.model) (sym c.self.view_is) in
     let early : early_refusal (reads s) c.args.change ≡ None = ap (λ (m : Model). early_refusal (reading m) c.args.change) (sym is) ∙ sym c.early_refusal.ensures ∙ c.in_default.is in
-    rw (← c.self.view_is, c.in-Err.ensures.memory) (out_of_memory s c.args.change early)
+    rw (← c.self.view_is, c.in-Err.ensures.memory) (out_of_memory s c.args.change c.requires.brought early)
 
 pub returns-in-Err-plan : goal.returns-in-Err-plan
 returns-in-Err-plan g c =
     let s : State = state g.L.LinkStore.links c.self.inside in
     let is : c.model-model.result ≡ s.model = c.model-model.ensures ∙ ap (λ (t : State). t.model) (sym c.self.view_is) in
     let early : early_refusal (reads s) c.args.change ≡ None = ap (λ (m : Model). early_refusal (reading m) c.args.change) (sym is) ∙ sym c.early_refusal.ensures ∙ c.in_default.is in
-    rw (← c.self.view_is) (planned_err s c.args.change (nat_lt 0 c.len-is_heard.result) c.in-Err-plan.refused early (subst (λ (m : Model). Plans (nat_lt 0 c.len-is_heard.result) (Err c.in-Err-plan.refused) m c.args.change) is (rw c.in-Err-plan.is at c.plan.ensures)))
+    rw (← c.self.view_is) (planned_err s c.args.change (nat_lt 0 c.len-is_heard.result) c.in-Err-plan.refused c.requires.brought early (subst (λ (m : Model). Plans (nat_lt 0 c.len-is_heard.result) (Err c.in-Err-plan.refused) m c.args.change) is (rw c.in-Err-plan.is at c.plan.ensures)))
 
 pub returns-then-is_err : goal.returns-then-is_err
 returns-then-is_err g c =
     let s : State = state g.L.LinkStore.links c.self.inside in
     let is : c.model-model.result ≡ s.model = c.model-model.ensures ∙ ap (λ (t : State). t.model) (sym c.self.view_is) in
     let early : early_refusal (reads s) c.args.change ≡ None = ap (λ (m : Model). early_refusal (reading m) c.args.change) (sym is) ∙ sym c.early_refusal.ensures ∙ c.in_default.is in
-    rw (← c.self.view_is, c.reserve_for.ensures.links) (out_of_memory s c.args.change early)
+    rw (← c.self.view_is, c.reserve_for.ensures.links) (out_of_memory s c.args.change c.requires.brought early)
+
+pub returns-then-is_err-2 : goal.returns-then-is_err-2
+returns-then-is_err-2 g c =
+    let s : State = state g.L.LinkStore.links c.self.inside in
+    let is : c.model-model.result ≡ s.model = c.model-model.ensures ∙ ap (λ (t : State). t.model) (sym c.self.view_is) in
+    let early : early_refusal (reads s) c.args.change ≡ None = ap (λ (m : Model). early_refusal (reading m) c.args.change) (sym is) ∙ sym c.early_refusal.ensures ∙ c.in_default.is in
+    rw (← c.self.view_is, c.reserve_for.ensures.links, c.reserve_for-2.ensures.unchanged) (out_of_memory s c.args.change c.requires.brought early)
 
 pub reserve_all-requires-clause-no_cycle : goal.reserve_all-requires-clause-no_cycle
 reserve_all-requires-clause-no_cycle g c = subst HasNoCycle (sym c.reserve_for.ensures.links) c.self.invariant.legal.model.links.forest
@@ -60,7 +67,7 @@ returns-in-Err-reserve_all g c =
     let made : c.in-Ok-plan.planned.chain ≡ (if nat_lt 0 (length s.adapters) then chain (reads s) c.args.change else []) = plan.tells ∙ ap (λ (k : ℕ). if nat_lt 0 k then chain (reads s) c.args.change else []) c.len-is_heard.ensures in
     let heard : Heard (reads s).above c.in-Ok-plan.planned.chain (chain (reads s) c.args.change) s.adapters = heard_where_attached (reads s).above _ _ s.adapters made in
     rw (← c.self.view_is, c.reserve_for.ensures.links, c.reserve_for-2.ensures.unchanged, c.in-Err-reserve_all.ensures.kept)
-    (chain_err s c.args.change c.in-Ok-plan.planned.chain c.in-Err-reserve_all.refused early plan.allowed heard (rw (c.reserve_for.ensures.links) at c.in-Err-reserve_all.ensures.reason))
+    (chain_err s c.args.change c.in-Ok-plan.planned.chain c.in-Err-reserve_all.refused c.requires.brought early plan.allowed heard (rw (c.reserve_for.ensures.links) at c.in-Err-reserve_all.ensures.reason))
 
 pub returns : goal.returns
 returns g c =
@@ -80,7 +87,7 @@ returns g c =
     let adapters = c.deliver-told.ensures.heard ∙ ap (λ (r : RoundView). delivered r.copies c.reserve_all.new.self.0) reserved.round ∙ ap (delivered (round_copies up ns s.adapters)) reserved.kept ∙ delivered-round_copies up ns s.adapters in
     let t : State = record { model = model_of c.self.inside.meta (values_of c.apply-2.new.self) (g.L.LinkStore.links c.apply.new.self); adapters = c.deliver-told.new.self.0 } in
     rw (← c.self.view_is, c.new.ensures)
-    (changed_to s t c.args.change ns c.in-Ok.answer c.from_vec.result early plan.allowed heard reserved.counted answered told
+    (changed_to s t c.args.change ns c.in-Ok.answer c.from_vec.result c.requires.brought early plan.allowed heard reserved.counted answered told
     (λ i. model_of c.self.inside.meta (values i) (made_links i)) adapters)
 
 pub invariant_of-self-2 : goal.invariant_of-self-2
@@ -89,6 +96,6 @@ invariant_of-self-2 g c =
     let is : c.model-model.result ≡ s.model = c.model-model.ensures ∙ ap (λ (t : State). t.model) (sym c.self.view_is) in
     let of_kind = (subst (λ (m : Model). IsPlanOf (nat_lt 0 c.len-is_heard.result) m c.args.change c.in-Ok-plan.planned) is (rw c.in-Ok-plan.is at c.plan.ensures)).of_kind in
     record {
-      legal = stepped-legal _ _ _ _ (subst IsLegal c.self.view_is c.self.invariant.legal) (returns g c);
+      legal = stepped-legal _ _ (command_of c.args.change) _ (steady-of c.args.change c.requires.brought) (subst IsLegal c.self.view_is c.self.invariant.legal) (returns g c);
       kinds_are = c.apply.ensures.kinds (kinds_of c.self.inside.meta) (c.reserve_for.ensures.kinds (kinds_of c.self.inside.meta) c.self.invariant.kinds_are of_kind) of_kind;
     }

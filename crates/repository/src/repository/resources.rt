@@ -1,0 +1,38 @@
+//! Resources.
+ghost use Rattle.std.specs.Prelude.{◌≡◌};
+ghost use Rattle.repository.specs.Run.{Executed, change_outcome};
+ghost use Rattle.repository.specs.Views.{changed_view};
+ghost use Rattle.repository.specs.declared.command.Command.TheVariants.{CreateResource};
+
+use super::Repository;
+use crate::reply::Reply;
+use adapters::Adapter;
+use handshake::Change;
+use link_store::LinkStore;
+use mm_types::{Refused, Text, limits};
+use models::is_short_text;
+use web_uris::{UriFault, joined};
+
+impl<L: LinkStore, A: Adapter> Repository<L, A> {
+    /// Makes an empty resource (EMF: ResourceSet.createResource). Its URI is what the text is as a URI of http or https, written as the URL
+    /// Standard has it. Notifies nobody.
+    ///
+    /// Refused, the first that applies: `TextLength` where the text, or the URI that it gives, is above 65,535 bytes, `Limit` where 100,000
+    /// resources were made, `BadUri` where the text gives no http or https URI, or one with a fragment, `ResourceExists` where a resource
+    /// has the URI, `Memory`.
+    pub fn create_resource(&mut self, text: &str) -> Result<Reply<A>, Refused>
+        ensures { Executed self.old (CreateResource text.now) (change_outcome (changed_view A.heard result)) self.new }
+    {
+        if !is_short_text(text) {
+            return Err(Refused::TextLength);
+        }
+        match joined(self.alloc, "", text) {
+            Ok(uri) => self.change(Change::NewResource(Text::from_string(uri))),
+            Err(UriFault::Bad) if self.values.resources() >= limits::RESOURCES => Err(
+                Refused::Limit,
+            ),
+            Err(UriFault::Bad) => Err(Refused::BadUri),
+            Err(UriFault::Memory) => Err(Refused::Memory),
+        }
+    }
+}
