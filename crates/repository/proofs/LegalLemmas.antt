@@ -37,7 +37,7 @@ use Rattle.handshake.specs.declared.change.Change.TheVariants as change
 use Rattle.handshake.proofs.KnownLemmas.{none-else_by, none-unless}
 use Rattle.handshake.proofs.LegalLemmas.{change-keeps-legal}
 use Rattle.repository.specs.declared.command.Command.{Command}
-use Rattle.repository.specs.declared.command.Command.TheVariants.{Create, Set, Unset, Add, Remove, RemoveValue, Move, Attach, Detach, Get, IsSet, Container, Contents, Class, AdapterTold, AdapterKept, CreateResource, Resource}
+use Rattle.repository.specs.declared.command.Command.TheVariants.{Create, Set, Unset, Add, Remove, RemoveValue, Move, Attach, Detach, Get, IsSet, Container, Contents, Class, AdapterTold, AdapterKept, CreateResource, Resource, Validate}
 use Rattle.repository.specs.State.{State, IsLegal, IsLegalAdapter, is_there, reads}
 use Rattle.repository.specs.Refusals.{chain, early_refusal, late_refusal, resource_refusal}
 use Rattle.repository.specs.Run.{Executed, IsWanting, is_memory}
@@ -176,6 +176,7 @@ keeps-node s (IsSet m f) n h = h
 keeps-node s (Container o) n h = h
 keeps-node s (Resource o) n h = h
 keeps-node s (Contents m) n h = h
+keeps-node s (Validate o) n h = h
 keeps-node s (Class o) n h = h
 keeps-node s (AdapterTold number) n h = h
 keeps-node s (AdapterKept number) n h = h
@@ -204,6 +205,7 @@ model-legal s (IsSet n f) steady legal early late = legal
 model-legal s (Container o) steady legal early late = legal
 model-legal s (Resource o) steady legal early late = legal
 model-legal s (Contents n) steady legal early late = legal
+model-legal s (Validate o) steady legal early late = legal
 model-legal s (Class o) steady legal early late = legal
 model-legal s (AdapterTold number) steady legal early late = legal
 model-legal s (AdapterKept number) steady legal early late = legal
@@ -259,6 +261,7 @@ attaches r rs (IsSet n f) = inl refl
 attaches r rs (Container o) = inl refl
 attaches r rs (Resource o) = inl refl
 attaches r rs (Contents n) = inl refl
+attaches r rs (Validate o) = inl refl
 attaches r rs (Class o) = inl refl
 attaches r rs (AdapterTold number) = inl refl
 attaches r rs (AdapterKept number) = inl refl

@@ -18,7 +18,7 @@ use Rattle.repository.specs.Refusals.{adapter_refusal}
 use Rattle.repository.specs.State.{State, reads}
 use Rattle.repository.specs.Step.{Stepped, step, step_unless}
 use Rattle.repository.specs.declared.command.Command.{Command}
-use Rattle.repository.specs.declared.command.Command.TheVariants.{AdapterKept, AdapterTold, Class, Container, Contents, Get, IsSet, Resource}
+use Rattle.repository.specs.declared.command.Command.TheVariants.{AdapterKept, AdapterTold, Class, Container, Contents, Get, IsSet, Resource, Validate}
 use Rattle.repository.specs.declared.reply.Answer.{Answer}
 use Rattle.repository.proofs.AdapterLemmas.{is_chain_full-nil, released-nobody, tell_chain-nil}
 
@@ -73,6 +73,9 @@ resource_done s o none = ap (step_unless s (Resource o)) (refusal_quiet (reads s
 
 pub contents_done : (s : State) (n : Node) → node_refusal (reads s) n ≡ None → step s (Contents n) ≡ answered s (Contents n)
 contents_done s n none = ap (step_unless s (Contents n)) (refusal_quiet (reads s).above (node_refusal (reads s) n) s.adapters ∙ none) ∙ done_read s (answer_of (reads s) s.adapters (Contents n))
+
+pub validate_done : (s : State) (o : ObjectNo) → object_refusal (reads s) o ≡ None → step s (Validate o) ≡ answered s (Validate o)
+validate_done s o none = ap (step_unless s (Validate o)) (refusal_quiet (reads s).above (object_refusal (reads s) o) s.adapters ∙ none) ∙ done_read s (answer_of (reads s) s.adapters (Validate o))
 
 pub class_done : (s : State) (o : ObjectNo) → object_refusal (reads s) o ≡ None → step s (Class o) ≡ answered s (Class o)
 class_done s o none = ap (step_unless s (Class o)) (refusal_quiet (reads s).above (object_refusal (reads s) o) s.adapters ∙ none) ∙ done_read s (answer_of (reads s) s.adapters (Class o))

@@ -1,12 +1,14 @@
 -- What a command that is not refused answers.
-use Rattle.std.specs.Prelude.{ℕ, List, length, not, unwrap_or, if◌then◌else◌}
+use Rattle.std.specs.Prelude.{ℕ, ◌&&◌, ◌||◌, Bool, List, filter, length, not, pos, int_le, int_lt, unwrap_or, if◌then◌else◌}
 use Rattle.std.specs.Option.{option_map_or}
 use Rattle.mm_types.specs.declared.numbers.AdapterNo.{AdapterNo}
 use Rattle.notice_chain.specs.View.{View}
 use Rattle.notice_chain.specs.Listed.{Listed, adapter}
 use Rattle.mm_types.specs.Ends.{has_value, value_in}
 use Rattle.mm_types.specs.declared.end.End.{End}
-use Rattle.models.specs.Reading.{Reading, at_end, is_repeat, is_set, shape_at, value_at}
+use Rattle.mm_types.specs.declared.numbers.Node.TheVariants as node
+use Rattle.mm_types.specs.declared.value.Value.TheVariants as value
+use Rattle.models.specs.Reading.{Reading, at_end, is_repeat, is_set, shape_at, value_at, all_features_of}
 use Rattle.containment.specs.Above.{resource_of}
 use Rattle.containment.specs.Forest.{container, contents}
 use Rattle.repository.specs.declared.command.Command.{Command}
@@ -15,6 +17,9 @@ use Rattle.repository.specs.declared.reply.Answer.{Answer}
 use Rattle.repository.specs.declared.reply.Answer.TheVariants as answer
 use Rattle.repository.specs.declared.reply.FeatureValue.{FeatureValue}
 use Rattle.repository.specs.declared.reply.FeatureValue.TheVariants as feature_value
+use Rattle.mm_types.specs.Same.{same_value}
+use Rattle.mm_types.specs.declared.numbers.FeatureNo.{FeatureNo}
+use Rattle.mm_types.specs.declared.numbers.ObjectNo.{ObjectNo}
 
 -- what is counted of the adapter of a number
 abbrev pub count_of : List Listed → AdapterNo → (View → ℕ) → ℕ
@@ -27,6 +32,21 @@ got r e = if (shape_at r e).is_single then feature_value.One (value_at r e) else
 abbrev pub got_answer : FeatureValue → Answer
 got_answer (feature_value.One v) = answer.Value v
 got_answer (feature_value.Many vs) = answer.Values vs
+
+-- a single end is null, or unsettable and not set
+abbrev pub is_missing : Reading → End → Bool
+is_missing r e = same_value value.Null (value_at r e) || ((shape_at r e).is_unsettable && not (is_set r e))
+
+-- a list has fewer values than its lower bound, or the value of a single feature that should have one is missing
+abbrev pub is_too_few : Reading → End → Bool
+is_too_few r e =
+    let a = shape_at r e in
+    if a.is_single
+    then int_le (pos 1) a.lower && is_missing r e
+    else int_lt (pos (length (r.values e))) a.lower
+
+abbrev pub short_features : Reading → ObjectNo → List FeatureNo
+short_features r o = filter (λ f. is_too_few r (at_end (node.Object o) f)) (all_features_of r (node.Object o))
 
 -- an `add` answers whether the list changed, what takes a value out or moves it answers the value, and `remove_value` whether it was there
 abbrev pub answer_of : Reading → List Listed → Command View → Answer
@@ -45,6 +65,7 @@ answer_of r rs (command.IsSet n f) = answer.Flag (is_set r (at_end n f))
 answer_of r rs (command.Container o) = answer.Container (container r o)
 answer_of r rs (command.Resource o) = answer.Within (resource_of r.above o)
 answer_of r rs (command.Contents n) = answer.Objects (contents r n)
+answer_of r rs (command.Validate o) = answer.Features (short_features r o)
 answer_of r rs (command.Class o) = answer.Class (unwrap_or (r.class o) (record { 0 = 0 }))
 answer_of r rs (command.AdapterTold number) = answer.Count (count_of rs number (λ v. v.told))
 answer_of r rs (command.AdapterKept number) = answer.Count (count_of rs number (λ v. length v.kept))

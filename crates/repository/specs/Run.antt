@@ -48,6 +48,7 @@ takes_memory (command.IsSet n f) = false
 takes_memory (command.Container o) = false
 takes_memory (command.Resource o) = false
 takes_memory (command.Contents n) = true
+takes_memory (command.Validate o) = true
 takes_memory (command.Class o) = false
 takes_memory (command.AdapterTold number) = false
 takes_memory (command.AdapterKept number) = false

@@ -41,6 +41,7 @@ brought (command.IsSet n f) = None
 brought (command.Container o) = None
 brought (command.Resource o) = None
 brought (command.Contents n) = None
+brought (command.Validate o) = None
 brought (command.Class o) = None
 brought (command.AdapterTold number) = None
 brought (command.AdapterKept number) = None
@@ -62,6 +63,7 @@ module _ {A : Type 0} (heard : A → View) where
   command_view (command.Container o) = command.Container o
   command_view (command.Resource o) = command.Resource o
   command_view (command.Contents n) = command.Contents n
+  command_view (command.Validate o) = command.Validate o
   command_view (command.Class o) = command.Class o
   command_view (command.AdapterTold number) = command.AdapterTold number
   command_view (command.AdapterKept number) = command.AdapterKept number

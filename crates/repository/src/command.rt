@@ -72,6 +72,8 @@ pub enum Command<A = Box<dyn Adapter>> {
     Resource(ObjectNo),
     /// Asks for the objects that a node directly contains (EMF: EObject.eContents).
     Contents(Node),
+    /// Asks which features of an object have fewer values than they should (EMF: Diagnostician.validate, of multiplicities).
+    Validate(ObjectNo),
     /// Asks for the class of an object (EMF: EObject.eClass; MOF 2.5.1: Reflection, Element.getMetaClass).
     Class(ObjectNo),
     /// Asks how many notices an adapter was told.

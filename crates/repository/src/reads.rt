@@ -7,7 +7,7 @@ ghost use Rattle.repository.specs.Views.{changed_view, outcome_view};
 ghost use Rattle.repository.specs.declared.reply.Answer.TheVariants as answer;
 
 use crate::reply::{Answer, Failure, FeatureValue, Reply};
-use mm_types::{ClassNo, ObjectNo, Refused, ResourceNo, Seq};
+use mm_types::{ClassNo, FeatureNo, ObjectNo, Refused, ResourceNo, Seq};
 use std::alloc::Global;
 
 /// An answer, as the reply of a command that notifies nobody. Takes no memory.
@@ -87,6 +87,17 @@ pub(crate) fn replied_objects<A>(
 {
     let objects = read?;
     Ok(reply(alloc, Answer::Objects(objects)))
+}
+
+/// Features of an object, as a reply.
+pub(crate) fn replied_features<A>(
+    alloc: Global,
+    read: Result<Seq<FeatureNo>, Refused>,
+) -> Result<Reply<A>, Refused>
+    ensures { (heard : A → View) → change_outcome (changed_view heard result) ≡ read_outcome answer.Features read }
+{
+    let features = read?;
+    Ok(reply(alloc, Answer::Features(features)))
 }
 
 /// What is counted of an adapter, as a reply.

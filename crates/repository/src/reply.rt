@@ -1,6 +1,6 @@
 //! What a command gives.
 use adapters::Adapter;
-use mm_types::{AdapterNo, ClassNo, ObjectNo, Refused, ResourceNo, Seq, Value};
+use mm_types::{AdapterNo, ClassNo, FeatureNo, ObjectNo, Refused, ResourceNo, Seq, Value};
 use notice_chain::Notice;
 
 /// What a command that is done answers.
@@ -26,6 +26,8 @@ pub enum Answer {
     Container(Option<ObjectNo>),
     /// The resource that an object is in, if it is in one.
     Within(Option<ResourceNo>),
+    /// Features of an object, in the order of all features of its class.
+    Features(Seq<FeatureNo>),
     /// The objects that a node contains.
     Objects(Seq<ObjectNo>),
 }

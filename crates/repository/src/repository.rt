@@ -8,6 +8,7 @@ mod commands;
 mod lists;
 mod reads;
 mod resources;
+mod validation;
 
 use adapter_list::AdapterList;
 use adapters::Adapter;

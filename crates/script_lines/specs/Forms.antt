@@ -26,6 +26,10 @@ container_form o = option_map asks.Container (object_in o)
 abbrev pub within_form : List ℕ → Option Form
 within_form o = option_map asks.Within (object_in o)
 
+-- `validate OBJ`
+abbrev pub validate_form : List ℕ → Option Form
+validate_form o = option_map asks.Validate (object_in o)
+
 -- `resource STR`
 abbrev pub resource_form : List ℕ → Option Form
 resource_form t = option_map asks.Resource (string_in t)
@@ -94,6 +98,7 @@ with_one verb a =
     else if bytes_eq verb (codes "class") then class_form a
     else if bytes_eq verb (codes "container") then container_form a
     else if bytes_eq verb (codes "within") then within_form a
+    else if bytes_eq verb (codes "validate") then validate_form a
     else if bytes_eq verb (codes "contents") then contents_form a
     else if bytes_eq verb (codes "detach") then detach_form a
     else if bytes_eq verb (codes "seen") then seen_form a

@@ -68,6 +68,8 @@ pub enum Form<'a> {
     Within(ObjectNo),
     /// The objects that a node directly contains (EMF: EObject.eContents).
     Contents(Node),
+    /// The features of an object that have fewer values than they should (EMF: Diagnostician.validate, of multiplicities).
+    Validate(ObjectNo),
     /// The class of an object (EMF: EObject.eClass).
     Class(ObjectNo),
     /// What a feature holds (EMF: EObject.eGet).

@@ -17,7 +17,7 @@ use Rattle.mm_types.specs.declared.refused.Refused.{Refused}
 use Rattle.mm_types.specs.declared.value.Value.{Value}
 use Rattle.mm_types.specs.declared.value.Value.TheVariants as value
 use Rattle.script_lines.specs.declared.grammar.TheConstants.{ADAPTER_MARK, LITERAL_MARK, OBJECT_MARK, RESOURCE_MARK, SPACE}
-use Rattle.script_output.specs.Names.{class_name, literal_name}
+use Rattle.script_output.specs.Names.{class_name, feature_name, literal_name}
 
 -- a text as a JSON string
 abbrev pub json_text : List ℕ → List ℕ
@@ -65,6 +65,15 @@ spaced_objects os = flat_map (λ o. SPACE ∷ node_text (node.Object o)) os
 abbrev pub objects_text : List ObjectNo → List ℕ
 objects_text [] = codes "[]"
 objects_text (o ∷ os) = codes "[" ++ node_text (node.Object o) ++ spaced_objects os ++ codes "]"
+
+-- names of features, each behind a space
+abbrev pub spaced_features : Metamodel → List FeatureNo → List ℕ
+spaced_features m fs = flat_map (λ f. SPACE ∷ feature_name m f) fs
+
+-- as `[name favourite]`
+abbrev pub features_text : Metamodel → List FeatureNo → List ℕ
+features_text m [] = codes "[]"
+features_text m (f ∷ fs) = codes "[" ++ feature_name m f ++ spaced_features m fs ++ codes "]"
 
 -- what contains an object, as `#1` or `r0`, or `null` where nothing does
 abbrev pub holder_text : Option Node → List ℕ

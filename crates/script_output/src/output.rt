@@ -5,6 +5,7 @@ ghost use Rattle.std.specs.Fmt.{decimal, signed_decimal};
 ghost use Rattle.mm_types.specs.Refusals.{refusal_detail};
 ghost use Rattle.script_output.specs.Printed.{adapter_text, cause_detail, class_text, json_text, node_text, refused_text, value_text};
 
+mod features;
 mod lists;
 mod objects;
 mod told;

@@ -53,6 +53,7 @@ fn print_answer(
         Answer::Resource(resource) => output.node(Node::Resource(*resource)),
         Answer::Container(object) => output.node_or_null(object.map(Node::Object)),
         Answer::Within(resource) => output.node_or_null(resource.map(Node::Resource)),
+        Answer::Features(features) => output.features(meta, features.as_slice()),
         Answer::Objects(objects) => output.objects(objects.as_slice()),
     }
 }

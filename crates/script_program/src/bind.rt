@@ -66,6 +66,7 @@ pub(crate) fn bind<L: LinkStore, A: Adapter>(
         Form::Container(object) => Request::Execute(Command::Container(object)),
         Form::Within(object) => Request::Execute(Command::Resource(object)),
         Form::Contents(node) => Request::Execute(Command::Contents(node)),
+        Form::Validate(object) => Request::Execute(Command::Validate(object)),
         Form::Class(object) => Request::Execute(Command::Class(object)),
         Form::Seen(no) => Request::Seen(no),
     }

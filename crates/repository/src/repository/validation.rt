@@ -1,0 +1,101 @@
+//! Which features have too few values.
+ghost use Rattle.std.specs.Prelude.{◌≡◌, IfOk, option_map, unwrap_or};
+ghost use Rattle.mm_types.specs.Same.{same_value};
+ghost use Rattle.mm_types.specs.Shapes.{shape};
+ghost use Rattle.mm_types.specs.declared.value.Value.TheVariants.{Null};
+ghost use Rattle.models.specs.Found.{found_value};
+ghost use Rattle.models.specs.Model.{reading};
+ghost use Rattle.repository.specs.Answers as a;
+ghost use Rattle.repository.specs.Run.{Executed, read_outcome};
+ghost use Rattle.repository.specs.declared.command.Command.TheVariants.{Validate};
+ghost use Rattle.repository.specs.declared.reply.Answer.TheVariants as answer;
+
+use super::Repository;
+use adapters::Adapter;
+use link_store::LinkStore;
+use mm_meta::Meta;
+use mm_types::{End, FeatureNo, Node, ObjectNo, Refused, Seq, Value};
+use models::{Found, ModelRef, is_same, is_single, is_unsettable};
+use std::alloc::{AllocError, Global};
+
+impl<L: LinkStore, A: Adapter> Repository<L, A> {
+    /// The features of an object that have fewer values than their lower bounds, in the order of all features of its class (EMF:
+    /// Diagnostician.validate, of multiplicities; MOF 2.5.1: MultiplicityElement.lower). A feature of one value whose lower bound is 1 has too few
+    /// where its value is null, or where it is unsettable and not set.
+    ///
+    /// Refused, the first that applies: `NoObject` where none lives, `Memory`.
+    #[tactic(auto, using(crate::proofs::QuietLemmas::validate_done))]
+    pub fn validate(&self, object: ObjectNo) -> Result<Seq<FeatureNo>, Refused>
+        ensures { Executed self.now (Validate object) (read_outcome answer.Features result) self.now }
+    {
+        let model = self.model();
+        if model.class(object).is_none() {
+            return Err(Refused::NoObject);
+        }
+        match short_features(self.alloc, &model, object) {
+            Ok(features) => Ok(Seq::from_vec(features)),
+            Err(_) => Err(Refused::Memory),
+        }
+    }
+}
+
+/// The features of an object that have too few values, in the order of all features. Errs only when out of memory.
+fn short_features<L: LinkStore>(
+    alloc: Global,
+    model: &ModelRef<L>,
+    object: ObjectNo,
+) -> Result<Vec<FeatureNo>, AllocError>
+    ensures { IfOk result (λ fs. fs.items ≡ a.short_features (reading model.now) object) }
+{
+    let mut out = Vec::new(alloc);
+    let node = Node::Object(object);
+    let features = model.all_features(node);
+    for feature in features {
+        let end = End {
+            node,
+            feature: *feature,
+        };
+        if is_too_few(model, end) {
+            out.push(*feature)?;
+        }
+    }
+    Ok(out)
+}
+
+/// Whether an end has too few values.
+fn is_too_few<L: LinkStore>(model: &ModelRef<L>, end: End) -> bool
+    ensures { result ≡ a.is_too_few (reading model.now) end }
+{
+    let lower = lower_bound(model.meta(), end.feature);
+    if is_single(model.meta(), end.feature) {
+        return lower >= 1 && is_missing(model, end);
+    }
+    i64::from(model.len(end)) < i64::from(lower)
+}
+
+/// How many values a feature should have at least.
+fn lower_bound(meta: &Meta, feature: FeatureNo) -> i32
+    ensures { result ≡ (shape meta.now feature).lower }
+{
+    match meta.feature(feature) {
+        Some(feature) => feature.lower,
+        None => 0,
+    }
+}
+
+/// Whether a single end is null, or unsettable and not set.
+fn is_missing<L: LinkStore>(model: &ModelRef<L>, end: End) -> bool
+    ensures { result ≡ a.is_missing (reading model.now) end }
+{
+    is_null(model.value_at(end)) || is_unsettable(model.meta(), end.feature) && !model.is_set(end)
+}
+
+fn is_null(found: Option<Found<'_>>) -> bool
+    ensures { result ≡ same_value Null (unwrap_or (option_map found_value found.entry) Null) }
+{
+    match found {
+        Some(Found::Kept(value)) => is_same(&Value::Null, value),
+        Some(Found::Object(_)) => false,
+        None => true,
+    }
+}

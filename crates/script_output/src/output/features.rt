@@ -1,0 +1,49 @@
+//! What is printed of the features that a command answers.
+ghost use Rattle.std.specs.Prelude.{◌≡◌, ◌++◌, OnErr, OnOk};
+ghost use Rattle.std.specs.Io.{StartsWith};
+ghost use Rattle.script_output.specs.Printed.{features_text, spaced_features};
+
+use super::Output;
+use crate::names::feature_name;
+use mm_meta::Meta;
+use mm_types::FeatureNo;
+use script_lines::grammar::SPACE;
+use std::alloc::AllocError;
+
+impl Output {
+    /// Adds a list of features by their names: `[name favourite]`.
+    pub fn features(&mut self, meta: &Meta, features: &[FeatureNo]) -> Result<(), AllocError>
+        ensures ok { OnOk result (self.new ≡ self.old ++ features_text meta.now features.now) }
+        ensures err { OnErr result (self.new ≡ self.old) }
+    {
+        let start = self.bytes.len();
+        let added = self.features_parts(meta, features);
+        self.whole(start, added)
+    }
+
+    fn features_parts(&mut self, meta: &Meta, features: &[FeatureNo]) -> Result<(), AllocError>
+        ensures ok { OnOk result (self.new ≡ self.old ++ features_text meta.now features.now) }
+        ensures err { OnErr result (StartsWith self.new self.old) }
+    {
+        match features {
+            [] => self.text("[]"),
+            [first, others @ ..] => {
+                self.text("[")?;
+                self.text(feature_name(meta, *first))?;
+                self.spaced_features(meta, others)?;
+                self.text("]")
+            }
+        }
+    }
+
+    fn spaced_features(&mut self, meta: &Meta, features: &[FeatureNo]) -> Result<(), AllocError>
+        ensures ok { OnOk result (self.new ≡ self.old ++ spaced_features meta.now features.now) }
+        ensures err { OnErr result (StartsWith self.new self.old) }
+    {
+        for feature in features {
+            self.byte(SPACE)?;
+            self.text(feature_name(meta, *feature))?;
+        }
+        Ok(())
+    }
+}
