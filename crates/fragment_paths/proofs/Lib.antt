@@ -1,0 +1,7 @@
+pub mod ObjectLemmas
+pub mod UpLemmas
+pub mod DeclaredLemmas
+pub mod NameLemmas
+pub mod HeldLemmas
+pub mod FoundLemmas
+pub mod AddressLemmas

@@ -1,0 +1,14 @@
+use Rattle.std.proofs.Common.{◌≡◌, length, option_map}
+use Rattle.mm_types.specs.declared.numbers.Node.TheVariants as node
+use Rattle.link_store.specs.Holders.{above}
+use Rattle.models.specs.Model.{reading}
+use Rattle.fragment_paths.specs.Located.{located}
+use Rattle.fragment_paths.proofs.UpLemmas.{further}
+use Rattle.fragment_paths.proofs.paths.locate.Given as goal
+
+-- the way so far, from where the object now reached stands
+abbrev pub invariant-up : goal.invariant-up
+invariant-up g l = option_map (further l.steps.items) (located (reading l.model) l.at) ≡ located (reading l.model) l.fn.object
+
+abbrev pub decreases-up : goal.decreases-up
+decreases-up g l = length (above l.model.links (node.Object l.at))

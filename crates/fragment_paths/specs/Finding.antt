@@ -1,0 +1,53 @@
+-- What a fragment finds in a resource (EMF: Resource.getEObject), and what an address finds (ResourceSet.getEObject).
+use Rattle.std.specs.Prelude.{ℕ, ◌&&◌, Bool, not, List, [], ◌∷◌, slice_get, Option, Some, None, is_some, option_and_then, unwrap_or, if◌then◌else◌}
+use Rattle.mm_types.specs.Lookups as lookups
+use Rattle.mm_types.specs.Shapes.{is_containment, shape}
+use Rattle.mm_types.specs.declared.numbers.FeatureNo.{FeatureNo}
+use Rattle.mm_types.specs.declared.numbers.ObjectNo.{ObjectNo}
+use Rattle.mm_types.specs.declared.numbers.ResourceNo.{ResourceNo}
+use Rattle.mm_types.specs.declared.numbers.Node.TheVariants as node
+use Rattle.models.specs.Reading.{Reading, at_end, objects_of, resource_named}
+use Rattle.fragment_paths.specs.Fragments.{roots_end}
+use Rattle.web_uris.specs.Addresses.{fragment_part, has_mark, uri_part}
+use Rattle.web_uris.specs.Paths.{parse}
+use Rattle.web_uris.specs.declared.path.Path.{Path}
+use Rattle.web_uris.specs.declared.path.Step.{Step}
+
+-- the objects that a resource holds directly
+abbrev pub roots : Reading → ResourceNo → List ObjectNo
+roots r k = objects_of (r.values (roots_end r k))
+
+-- a step goes by a containment reference, with an index where that is many-valued and without one where it is single
+abbrev pub goes_by : Reading → Step → FeatureNo → Bool
+goes_by r s f = is_containment r.metamodel f && (if (shape r.metamodel f).is_single then not (is_some s.index) else is_some s.index)
+
+-- the feature, if a step goes by it
+abbrev pub if_goes_by : Reading → Step → FeatureNo → Option FeatureNo
+if_goes_by r s f = if goes_by r s f then Some f else None
+
+-- the feature by which a step goes from an object
+abbrev pub feature_of : Reading → ObjectNo → Step → Option FeatureNo
+feature_of r o s =
+    option_and_then (λ c. option_and_then (if_goes_by r s) (lookups.feature_by_name r.metamodel c s.name)) (r.class o)
+
+-- the object to which a step leads from another
+abbrev pub stepped : Reading → ObjectNo → Step → Option ObjectNo
+stepped r o s =
+    option_and_then (λ f. slice_get (objects_of (r.values (at_end (node.Object o) f))) (unwrap_or s.index 0)) (feature_of r o s)
+
+abbrev pub walked : Reading → List Step → ObjectNo → Option ObjectNo
+walked r [] o = Some o
+walked r (s ∷ ss) o = option_and_then (walked r ss) (stepped r o s)
+
+-- a root, and then step by step
+abbrev pub find : Reading → ResourceNo → Path → Option ObjectNo
+find r k p = option_and_then (walked r p.steps) (slice_get (roots r k) p.root)
+
+-- what a fragment finds in a resource
+abbrev pub found_by : Reading → ResourceNo → List ℕ → Option ObjectNo
+found_by r k t = option_and_then (find r k) (parse t)
+
+-- what the fragment behind the first `#` finds in the resource whose URI stands before it
+abbrev pub at : Reading → List ℕ → Option ObjectNo
+at r t =
+    if has_mark t then option_and_then (λ k. found_by r k (fragment_part t)) (resource_named r (uri_part t)) else None

@@ -1,0 +1,66 @@
+-- The fragment of an object in its resource (EMF: Resource.getURIFragment), and its address (EcoreUtil.getURI).
+use Rattle.std.specs.Prelude.{ℕ, Bool, false, List, [], ◌∷◌, length, nat_eq, slice_get, Option, Some, None, option_and_then, option_map, unwrap_or, if◌then◌else◌}
+use Rattle.std.specs.Option.{option_map_or}
+use Rattle.mm_types.specs.Lookups as lookups
+use Rattle.mm_types.specs.declared.numbers.ObjectNo.{ObjectNo}
+use Rattle.mm_types.specs.declared.numbers.ResourceNo.{ResourceNo}
+use Rattle.mm_types.specs.declared.numbers.Node.{Node}
+use Rattle.mm_types.specs.declared.numbers.Node.TheVariants as node
+use Rattle.mm_types.specs.declared.end.End.{End}
+use Rattle.mm_types.specs.declared.value.Value.TheVariants as value
+use Rattle.models.specs.Reading.{Reading, at_end, first_at, shape_at}
+use Rattle.containment.specs.Above.{resource_of}
+use Rattle.web_uris.specs.Addresses.{address_text}
+use Rattle.web_uris.specs.Paths.{new_path, new_step, path_text, with_step}
+use Rattle.web_uris.specs.declared.path.Path.{Path}
+use Rattle.web_uris.specs.declared.path.Step.{Step}
+
+-- the end of a resource that holds its roots
+abbrev pub roots_end : Reading → ResourceNo → End
+roots_end r k = at_end (node.Resource k) (lookups.contents r.metamodel)
+
+-- where an object stands in the end that holds it
+abbrev pub place_in : Reading → End → ObjectNo → ℕ
+place_in r e o = unwrap_or (first_at r e (value.Object o)) 0
+
+-- the name of an end's feature
+abbrev pub end_name : Reading → End → List ℕ
+end_name r e = lookups.feature_name r.metamodel e.feature
+
+-- the step that leads from an end into an object: the feature's name, and the position where the feature is many-valued
+abbrev pub step_into : Reading → End → ObjectNo → Step
+step_into r e o =
+    new_step (end_name r e) (if (shape_at r e).is_single then None else Some (place_in r e o))
+
+-- the path of an object that has these nodes above it, the nearest first; none where the topmost is an object
+abbrev pub path_under : Reading → List Node → ObjectNo → Option Path
+path_under r [] o = None
+path_under r (node.Resource k ∷ ns) o = option_map (λ e. new_path (place_in r e o) []) (r.holder (node.Object o))
+path_under r (node.Object h ∷ ns) o =
+    option_and_then (λ e. option_map (λ p. with_step p (step_into r e o)) (path_under r ns h)) (r.holder (node.Object o))
+
+abbrev pub path_of : Reading → ObjectNo → Option Path
+path_of r o = path_under r (r.above (node.Object o)) o
+
+-- a resource has one root
+abbrev pub has_one_root : Reading → ResourceNo → Bool
+has_one_root r k = nat_eq (length (r.values (roots_end r k))) 1
+
+-- none, where an object is in no resource; the root's segment is empty where the resource has one root
+abbrev pub fragment : Reading → ObjectNo → Option (List ℕ)
+fragment r o = option_and_then (λ k. option_map (path_text (has_one_root r k)) (path_of r o)) (resource_of r.above o)
+
+-- the resource's URI, `#`, and the fragment
+abbrev pub address : Reading → ObjectNo → Option (List ℕ)
+address r o =
+    option_and_then
+    (λ (k : ResourceNo). option_and_then (λ u. option_map (address_text u) (fragment r o)) (slice_get r.uris k.0))
+    (resource_of r.above o)
+
+-- an object is in a resource
+abbrev pub is_in : Reading → ResourceNo → ObjectNo → Bool
+is_in r k o = option_map_or (λ j. nat_eq j.0 k.0) (resource_of r.above o) false
+
+-- how a resource refers to an object: by its fragment where the object is in that resource too, and else by its address
+abbrev pub reference : Reading → ResourceNo → ObjectNo → Option (List ℕ)
+reference r k o = if is_in r k o then fragment r o else address r o

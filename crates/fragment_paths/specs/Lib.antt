@@ -1,0 +1,4 @@
+pub mod Fragments
+pub mod Finding
+pub mod Located
+pub mod Laws

@@ -1,0 +1,27 @@
+-- An object's resource together with its path, as one walk up finds them.
+use Rattle.std.specs.Prelude.{ℕ, List, reverse, slice_get, Option, option_and_then, option_map}
+use Rattle.mm_types.specs.declared.numbers.ObjectNo.{ObjectNo}
+use Rattle.mm_types.specs.declared.end.End.{End}
+use Rattle.models.specs.Reading.{Reading}
+use Rattle.containment.specs.Above.{resource_of}
+use Rattle.web_uris.specs.Addresses.{address_text}
+use Rattle.web_uris.specs.Paths.{new_path, path_text}
+use Rattle.web_uris.specs.declared.path.Path.{Path}
+use Rattle.web_uris.specs.declared.path.Step.{Step}
+use Rattle.fragment_paths.specs.Fragments.{has_one_root, path_of, place_in}
+use Rattle.fragment_paths.specs.declared.paths.Located.{Located}
+
+-- the path from a root on, by steps of which the last comes first
+abbrev pub path_by : Reading → End → ObjectNo → List Step → Path
+path_by r e o steps = new_path (place_in r e o) (reverse steps)
+
+abbrev pub located : Reading → ObjectNo → Option Located
+located r o = option_and_then (λ k. option_map (λ p. record { resource = k; path = p }) (path_of r o)) (resource_of r.above o)
+
+-- the text of the path, as it is written in that resource
+abbrev pub located_text : Reading → Located → List ℕ
+located_text r x = path_text (has_one_root r x.resource) x.path
+
+-- behind the URI of that resource
+abbrev pub located_address : Reading → Located → Option (List ℕ)
+located_address r x = option_map (λ u. address_text u (located_text r x)) (slice_get r.uris x.resource.0)

@@ -1,0 +1,16 @@
+//! Fragments: the address of an object in its resource, and the object that an address leads to.
+//!
+//! `specs/Fragments.antt` says what the fragment of an object is, `specs/Finding.antt` what a fragment and an address find, and
+//! `specs/Laws.antt` that each object is found at its own path, fragment and address.
+#![tactic(auto)]
+
+mod ends;
+mod finding;
+mod fragments;
+pub mod laws;
+mod paths;
+
+pub use ends::roots_end;
+pub use finding::{find, object_at};
+pub use fragments::{address, reference, write};
+pub use web_uris::{Path, Step, parse};

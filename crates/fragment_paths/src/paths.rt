@@ -1,0 +1,95 @@
+//! The paths of objects.
+ghost use Rattle.std.specs.Prelude.{◌≡◌, IfOk};
+ghost use Rattle.models.specs.Model.{reading};
+ghost use Rattle.fragment_paths.specs.Fragments as fragments;
+ghost use Rattle.fragment_paths.specs.Located.{located as located_in, path_by as path_meant};
+
+use link_store::LinkStore;
+use mm_types::{End, Node, ObjectNo, ResourceNo, Seq, Text, Value};
+use models::{ModelRef, is_single};
+use std::alloc::{AllocError, Global};
+use web_uris::{Path, Step};
+
+/// An object's resource, and the way to it from there.
+#[derive(Drop)]
+pub(crate) struct Located {
+    pub resource: ResourceNo,
+    pub path: Path,
+}
+
+/// Where an object stands in the end that holds it.
+fn place_in<L: LinkStore>(model: &ModelRef<L>, end: End, object: ObjectNo) -> u32
+    ensures { result ≡ fragments.place_in (reading model.now) end object }
+{
+    model.position(end, &Value::Object(object)).unwrap_or(0)
+}
+
+/// The name of a feature.
+fn name_of<L: LinkStore>(alloc: Global, model: &ModelRef<L>, end: End) -> Result<Text, AllocError>
+    ensures { IfOk result (λ t. t ≡ fragments.end_name (reading model.now) end) }
+{
+    match model.meta().feature(end.feature) {
+        Some(feature) => feature.name.clone(),
+        None => Text::from_str(alloc, ""),
+    }
+}
+
+/// The step that leads from an end into an object.
+fn step_into<L: LinkStore>(
+    alloc: Global,
+    model: &ModelRef<L>,
+    end: End,
+    object: ObjectNo,
+) -> Result<Step, AllocError>
+    ensures { IfOk result (λ s. s ≡ fragments.step_into (reading model.now) end object) }
+{
+    let name = name_of(alloc, model, end)?;
+    let index = if is_single(model.meta(), end.feature) {
+        None
+    } else {
+        Some(place_in(model, end, object))
+    };
+    Ok(Step { name, index })
+}
+
+/// The path to a root, and from there by steps, of which the last comes first.
+fn path_by<L: LinkStore>(
+    model: &ModelRef<L>,
+    end: End,
+    root: ObjectNo,
+    mut steps: Vec<Step>,
+) -> Path
+    ensures { result ≡ path_meant (reading model.now) end root steps.items }
+{
+    steps.reverse();
+    Path {
+        root: place_in(model, end, root),
+        steps: Seq::from_vec(steps),
+    }
+}
+
+/// The resource and the path of an object; `None` where it is in no resource. Errs only where memory is refused.
+pub(crate) fn locate<L: LinkStore>(
+    alloc: Global,
+    model: &ModelRef<L>,
+    object: ObjectNo,
+) -> Result<Option<Located>, AllocError>
+    ensures { IfOk result (λ x. x ≡ located_in (reading model.now) object) }
+{
+    model.is_legal();
+    let mut steps = Vec::new(alloc);
+    let mut at = object;
+    'up: while let Some(end) = model.holder(Node::Object(at)) {
+        match end.node {
+            Node::Resource(resource) => {
+                let path = path_by(model, end, at, steps);
+                return Ok(Some(Located { resource, path }));
+            }
+            Node::Object(above) => {
+                steps.push(step_into(alloc, model, end, at)?)?;
+                at = above;
+            }
+        }
+    }
+    Ok(None)
+}

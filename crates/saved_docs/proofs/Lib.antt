@@ -1,0 +1,7 @@
+pub mod ListLemmas
+pub mod LevelLemmas
+pub mod RootLemmas
+pub mod JsonLemmas
+pub mod FloatLemmas
+mod Library
+mod Examples

@@ -1,0 +1,92 @@
+-- The roots of a resource are its objects in order, and live.
+use Rattle.std.proofs.Common.{◌≡◌, ℕ, zero, suc, ◌<◌, Bool, true, false, List, [], ◌∷◌, ◌++◌, length, slice_get, slice_index_or, Option, Some, None, option_map, option_to_list, arith, refl, sym, ap, ◌∙◌}
+use Rattle.std.specs.Prelude.{IsTrue, is_some, option_and_then}
+use Rattle.std.specs.List.{list_all}
+use Rattle.std.specs.Option.{option_map_or}
+use Rattle.std.proofs.lemmas.Bool.{and_parts, false≢true}
+use Rattle.std.proofs.lemmas.Option.{slice_get_past}
+use Rattle.mm_types.specs.Lookups as lookups
+use Rattle.mm_types.specs.Resolved.{Metamodel}
+use Rattle.mm_types.specs.Shapes.{contents_shape, shape, shape_of}
+use Rattle.mm_types.specs.declared.feature.DataType.{DataType}
+use Rattle.mm_types.specs.declared.feature.DataType.TheVariants.{EString, EInt, ELong, EBoolean, Enum}
+use Rattle.mm_types.specs.declared.feature.Feature.{Feature}
+use Rattle.mm_types.specs.declared.feature.Kind.{Kind}
+use Rattle.mm_types.specs.declared.feature.Kind.TheVariants.{Attribute, Reference}
+use Rattle.mm_types.specs.declared.numbers.ClassNo.{ClassNo}
+use Rattle.mm_types.specs.declared.numbers.FeatureNo.{FeatureNo}
+use Rattle.mm_types.specs.declared.end.End.{End}
+use Rattle.mm_types.specs.declared.numbers.ObjectNo.{ObjectNo}
+use Rattle.mm_types.specs.declared.value.Value.{Value}
+use Rattle.mm_types.specs.declared.value.Value.TheVariants as value
+use Rattle.mm_values.specs.Values.{class_of}
+use Rattle.link_store.specs.Links as links
+use Rattle.link_store.specs.Links.{end}
+use Rattle.models.specs.Legal.{IsLegal, is_legal_end, is_legal_object}
+use Rattle.models.specs.Model.{Model, reading, values_at}
+use Rattle.models.specs.Reading.{Reading, is_live, objects_of}
+use Rattle.mm_types.specs.declared.numbers.ResourceNo.{ResourceNo}
+use Rattle.fragment_paths.specs.Finding.{roots}
+use Rattle.fragment_paths.specs.Fragments.{roots_end}
+use Rattle.containment.proofs.PartLemmas.{values-linked}
+
+given-back : (x : Option ObjectNo) → option_and_then links.object_of (option_map value.Object x) ≡ x
+given-back None = refl
+given-back (Some o) = refl
+
+-- an object that is pushed is the one at its place
+pub pushed-at : (vs : List Value) (k : ℕ) (x : Option ObjectNo) (out new : List ObjectNo) → option_map value.Object x ≡ slice_get vs k → new ≡ out ++ option_to_list x → new ≡ out ++ option_to_list (option_and_then links.object_of (slice_get vs k))
+pushed-at vs k x out new at made = made ∙ ap (λ (y : Option ObjectNo). out ++ option_to_list y) (sym (given-back x) ∙ ap (option_and_then links.object_of) at)
+
+---------------------------------------------------------------- who lives
+
+object-typed : (m : Metamodel) (single : Bool) (t : DataType) (o : ObjectNo) → lookups.is_attribute_value m single t (value.Object o) ≡ false
+object-typed m single EString o = refl
+object-typed m single EInt o = refl
+object-typed m single ELong o = refl
+object-typed m single EBoolean o = refl
+object-typed m single (Enum e) o = refl
+
+some-of : (p : ClassNo → Bool) (x : Option ClassNo) → option_map_or p x false ≡ true → is_some x ≡ true
+some-of p None h = absurd (false≢true h)
+some-of p (Some c) h = refl
+
+-- what a feature takes lives
+taken-live : (m : Metamodel) (class : ObjectNo → Option ClassNo) (f : FeatureNo) (o : ObjectNo) → lookups.takes m class f (value.Object o) ≡ true → is_some (class o) ≡ true
+taken-live m class f o = by (lookups.feature m f)
+  where
+    by_kind : (single : Bool) (k : Kind) → lookups.is_of_kind m class single k (value.Object o) ≡ true → is_some (class o) ≡ true
+    by_kind single (Attribute t unique unsettable default) h = absurd (false≢true (sym (object-typed m single t o) ∙ h))
+    by_kind single (Reference target containment opposite) h = some-of (λ c. lookups.conforms m c target) (class o) h
+
+    by : (x : Option Feature) → option_map_or (λ g. lookups.is_of_kind m class (lookups.is_single g) g.kind (value.Object o)) x (is_some (class o)) ≡ true → is_some (class o) ≡ true
+    by None h = h
+    by (Some g) h = by_kind (lookups.is_single g) g.kind h
+
+live-objects : (m : Model) (e : End) (vs : List Value) → list_all (is_legal_object (reading m) e.feature) vs ≡ true → list_all (is_live (reading m)) (objects_of vs) ≡ true
+live-objects m e [] h = refl
+live-objects m e (value.Object o ∷ vs) h =
+    let both = and_parts (is_legal_object (reading m) e.feature (value.Object o)) (list_all (is_legal_object (reading m) e.feature) vs) h in
+    rw (taken-live m.metamodel (class_of m.values) e.feature o (and_parts (lookups.is_object (value.Object o)) _ both.0).1) (live-objects m e vs both.1)
+live-objects m e (v ∷ vs) h = live-objects m e vs (and_parts (is_legal_object (reading m) e.feature v) _ h).1
+
+live-end : (m : Model) (e : End) (vs : List Value) → IsTrue (is_legal_end (reading m) e vs) → list_all (is_live (reading m)) (objects_of vs) ≡ true
+live-end m e [] h = refl
+live-end m e (v ∷ vs) h = live-objects m e (v ∷ vs) (and_parts _ _ (and_parts _ _ h).1).0
+
+-- what stands at an end of a reference lives
+pub all-live : (s : Model) (e : End) → IsLegal s → (shape s.metamodel e.feature).is_reference ≡ true → list_all (is_live (reading s)) (objects_of (values_at s e)) ≡ true
+all-live s e legal reference = ap (λ (vs : List Value). list_all (is_live (reading s)) (objects_of vs)) (values-linked s e reference) ∙ live-end s e (end s.links e) (legal.links.ends e)
+
+contents-refers : (m : Metamodel) → (shape m (lookups.contents m)).is_reference ≡ true
+contents-refers m = ap (λ (x : Option Feature). (option_map_or (λ g. shape_of m (lookups.contents m) g g.kind) x (contents_shape m)).is_reference) (slice_get_past m.features (length m.features) (omega arith))
+
+-- so do the roots of a resource
+pub roots-live : (s : Model) (k : ResourceNo) → IsLegal s → list_all (is_live (reading s)) (roots (reading s) k) ≡ true
+roots-live s k legal = all-live s (roots_end (reading s) k) legal (contents-refers s.metamodel)
+
+-- each of a list of live objects does
+pub live-at : (r : Reading) (os : List ObjectNo) (k : ℕ) (d : ObjectNo) → k < length os → list_all (is_live r) os ≡ true → is_live r (slice_index_or os k d) ≡ true
+live-at r [] k d low all = absurd (omega (arith, low))
+live-at r (o ∷ os) zero d low all = (and_parts (is_live r o) _ all).0
+live-at r (o ∷ os) (suc k) d low all = live-at r os k d (omega (arith, low)) (and_parts (is_live r o) _ all).1

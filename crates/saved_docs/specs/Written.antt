@@ -1,0 +1,25 @@
+-- What of a resource is written: its objects in loading order, and of each the features that are set.
+use Rattle.std.specs.Prelude.{ℕ, ◌&&◌, Bool, not, List, filter, flat_map, length}
+use Rattle.mm_types.specs.Lookups as lookups
+use Rattle.mm_types.specs.declared.numbers.FeatureNo.{FeatureNo}
+use Rattle.mm_types.specs.declared.numbers.ObjectNo.{ObjectNo}
+use Rattle.mm_types.specs.declared.numbers.ResourceNo.{ResourceNo}
+use Rattle.mm_types.specs.declared.numbers.Node.TheVariants as node
+use Rattle.models.specs.Reading.{Reading, all_features_of, at_end, is_set}
+use Rattle.containment.specs.Forest.{subtree}
+use Rattle.fragment_paths.specs.Finding.{roots}
+
+-- root by root, each object before what it contains, by feature in the order of all features, then by position
+abbrev pub objects_in : Reading → ResourceNo → List ObjectNo
+objects_in r k = flat_map (subtree r) (roots r k)
+
+-- a feature of an object that is set, and is no container reference
+abbrev pub is_written : Reading → ObjectNo → FeatureNo → Bool
+is_written r o f = is_set r (at_end (node.Object o) f) && not (lookups.is_container r.metamodel f)
+
+abbrev pub written_features : Reading → ObjectNo → List FeatureNo
+written_features r o = filter (is_written r o) (all_features_of r (node.Object o))
+
+-- a root is on level 1
+abbrev pub level : Reading → ObjectNo → ℕ
+level r o = length (r.above (node.Object o))

@@ -1,0 +1,34 @@
+//! How deep objects stand in their resources.
+ghost use Rattle.std.specs.Prelude.{◌≡◌};
+ghost use Rattle.std.specs.List.{list_any};
+ghost use Rattle.models.specs.Model.{reading};
+ghost use Rattle.saved_docs.specs.Saved as saved;
+
+use link_store::LinkStore;
+use mm_types::{Node, ObjectNo};
+use models::ModelRef;
+
+/// How many levels of objects a document has at most: a root stands at level 1.
+pub const LEVELS: usize = 40;
+
+/// Whether an object stands deeper than a document goes. Takes no memory.
+pub(crate) fn is_too_deep<L: LinkStore>(model: &ModelRef<L>, object: ObjectNo) -> bool
+    ensures { result ≡ saved.is_too_deep (reading model.now) object }
+{
+    model.is_legal();
+    let mut at = Node::Object(object);
+    'up: for step in 0..LEVELS {
+        match model.holder(at) {
+            Some(end) => at = end.node,
+            None => return false,
+        }
+    }
+    model.holder(at).is_some()
+}
+
+/// Whether any of some objects stands deeper than a document goes. Takes no memory.
+pub(crate) fn any_too_deep<L: LinkStore>(model: &ModelRef<L>, objects: &[ObjectNo]) -> bool
+    ensures { result ≡ list_any (saved.is_too_deep (reading model.now)) objects.now }
+{
+    objects.iter().any(|object| is_too_deep(model, *object))
+}

@@ -1,0 +1,17 @@
+//! Resources are saved: the text of a resource's document, or why it can't be written (EMF: XMLResource.save, as JSON).
+//!
+//! `specs/Written.antt` says which objects and features are written, `specs/Document.antt` which JSON value they make, and
+//! `specs/Saved.antt` which resources can't be saved.
+#![tactic(auto)]
+
+mod document;
+mod levels;
+mod names;
+mod objects;
+mod refusals;
+mod targets;
+mod values;
+mod writing;
+mod written;
+
+pub use writing::write_doc;
