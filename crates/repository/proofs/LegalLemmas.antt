@@ -37,7 +37,7 @@ use Rattle.handshake.specs.declared.change.Change.TheVariants as change
 use Rattle.handshake.proofs.KnownLemmas.{none-else_by, none-unless}
 use Rattle.handshake.proofs.LegalLemmas.{change-keeps-legal}
 use Rattle.repository.specs.declared.command.Command.{Command}
-use Rattle.repository.specs.declared.command.Command.TheVariants.{Create, Set, Unset, Add, Remove, RemoveValue, Move, Attach, Detach, Get, IsSet, Container, Contents, Class, AdapterTold, AdapterKept, CreateResource, Resource, Validate}
+use Rattle.repository.specs.declared.command.Command.TheVariants.{Create, Set, Unset, Add, Remove, RemoveValue, Move, Attach, Detach, Get, IsSet, Container, Contents, Class, AdapterTold, AdapterKept, CreateResource, Resource, Validate, Fragment, ObjectAt, Save}
 use Rattle.repository.specs.State.{State, IsLegal, IsLegalAdapter, is_there, reads}
 use Rattle.repository.specs.Refusals.{chain, early_refusal, late_refusal, resource_refusal}
 use Rattle.repository.specs.Run.{Executed, IsWanting, is_memory}
@@ -177,6 +177,9 @@ keeps-node s (Container o) n h = h
 keeps-node s (Resource o) n h = h
 keeps-node s (Contents m) n h = h
 keeps-node s (Validate o) n h = h
+keeps-node s (Fragment o) n h = h
+keeps-node s (ObjectAt t) n h = h
+keeps-node s (Save k) n h = h
 keeps-node s (Class o) n h = h
 keeps-node s (AdapterTold number) n h = h
 keeps-node s (AdapterKept number) n h = h
@@ -206,6 +209,9 @@ model-legal s (Container o) steady legal early late = legal
 model-legal s (Resource o) steady legal early late = legal
 model-legal s (Contents n) steady legal early late = legal
 model-legal s (Validate o) steady legal early late = legal
+model-legal s (Fragment o) steady legal early late = legal
+model-legal s (ObjectAt t) steady legal early late = legal
+model-legal s (Save k) steady legal early late = legal
 model-legal s (Class o) steady legal early late = legal
 model-legal s (AdapterTold number) steady legal early late = legal
 model-legal s (AdapterKept number) steady legal early late = legal
@@ -262,6 +268,9 @@ attaches r rs (Container o) = inl refl
 attaches r rs (Resource o) = inl refl
 attaches r rs (Contents n) = inl refl
 attaches r rs (Validate o) = inl refl
+attaches r rs (Fragment o) = inl refl
+attaches r rs (ObjectAt t) = inl refl
+attaches r rs (Save k) = inl refl
 attaches r rs (Class o) = inl refl
 attaches r rs (AdapterTold number) = inl refl
 attaches r rs (AdapterKept number) = inl refl

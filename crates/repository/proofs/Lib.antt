@@ -5,5 +5,6 @@ pub mod AttachLemmas
 pub mod PlanLemmas
 pub mod LegalLemmas
 pub mod ResourceLemmas
+pub mod DocumentLemmas
 pub mod ReadLemmas
 pub mod RunLemmas

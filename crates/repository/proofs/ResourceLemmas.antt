@@ -19,7 +19,7 @@ use Rattle.handshake.specs.declared.change.Change.TheVariants.{NewResource}
 use Rattle.repository.specs.Answers.{answer_of}
 use Rattle.repository.specs.Run.{Executed, IsWanting, is_memory, is_plain, may_want_memory}
 use Rattle.repository.specs.State.{State, reads}
-use Rattle.repository.specs.Step.{Stepped, done, refusal_of, refused, step, step_unless}
+use Rattle.repository.specs.Step.{Stepped, refusal_of, refused, step, step_unless}
 use Rattle.repository.specs.Views.{Outcome}
 use Rattle.repository.specs.declared.command.Command.TheVariants.{CreateResource}
 use Rattle.repository.proofs.PlanLemmas.{IsNot, later-not, unless-not, where-not}

@@ -2,7 +2,7 @@
 use Rattle.std.proofs.Common.{◌≡◌, Bool, true, false, List, [], ◌∷◌, ◌++◌, Option, Some, None, Ok, Err, refl, sym, ap, subst, ◌∙◌, if◌then◌else◌, ℕ, option_map}
 use Rattle.std.specs.Prelude.{MatchBool}
 use Rattle.repository.specs.declared.command.Command.{Command}
-use Rattle.repository.specs.declared.command.Command.TheVariants.{Create, Set, Unset, Add, Remove, RemoveValue, Move, Attach, Detach, Get, IsSet, Container, Contents, Class, AdapterTold, AdapterKept, CreateResource, Resource, Validate}
+use Rattle.repository.specs.declared.command.Command.TheVariants.{Create, Set, Unset, Add, Remove, RemoveValue, Move, Attach, Detach, Get, IsSet, Container, Contents, Class, AdapterTold, AdapterKept, CreateResource, Resource, Validate, Fragment, ObjectAt, Save}
 use Rattle.repository.specs.State.{State}
 use Rattle.notice_chain.specs.View.{View}
 use Rattle.repository.specs.Views.{Outcome, brought}
@@ -68,6 +68,9 @@ done-metamodel s (Container o) = refl
 done-metamodel s (Resource o) = refl
 done-metamodel s (Contents n) = refl
 done-metamodel s (Validate o) = refl
+done-metamodel s (Fragment o) = refl
+done-metamodel s (ObjectAt t) = refl
+done-metamodel s (Save k) = refl
 done-metamodel s (Class o) = refl
 done-metamodel s (AdapterTold number) = refl
 done-metamodel s (AdapterKept number) = refl

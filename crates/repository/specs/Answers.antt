@@ -1,5 +1,5 @@
 -- What a command that is not refused answers.
-use Rattle.std.specs.Prelude.{ℕ, ◌&&◌, ◌||◌, Bool, List, filter, length, not, pos, int_le, int_lt, unwrap_or, if◌then◌else◌}
+use Rattle.std.specs.Prelude.{ℕ, ◌&&◌, ◌||◌, Bool, List, filter, length, not, pos, int_le, int_lt, unwrap_or, if◌then◌else◌, []}
 use Rattle.std.specs.Option.{option_map_or}
 use Rattle.mm_types.specs.declared.numbers.AdapterNo.{AdapterNo}
 use Rattle.notice_chain.specs.View.{View}
@@ -20,6 +20,9 @@ use Rattle.repository.specs.declared.reply.FeatureValue.TheVariants as feature_v
 use Rattle.mm_types.specs.Same.{same_value}
 use Rattle.mm_types.specs.declared.numbers.FeatureNo.{FeatureNo}
 use Rattle.mm_types.specs.declared.numbers.ObjectNo.{ObjectNo}
+use Rattle.fragment_paths.specs.Fragments.{fragment}
+use Rattle.fragment_paths.specs.Finding.{at}
+use Rattle.saved_docs.specs.Document.{saved}
 
 -- what is counted of the adapter of a number
 abbrev pub count_of : List Listed → AdapterNo → (View → ℕ) → ℕ
@@ -66,6 +69,9 @@ answer_of r rs (command.Container o) = answer.Container (container r o)
 answer_of r rs (command.Resource o) = answer.Within (resource_of r.above o)
 answer_of r rs (command.Contents n) = answer.Objects (contents r n)
 answer_of r rs (command.Validate o) = answer.Features (short_features r o)
+answer_of r rs (command.Fragment o) = answer.Fragment (unwrap_or (fragment r o) [])
+answer_of r rs (command.ObjectAt t) = answer.Found (at r t)
+answer_of r rs (command.Save k) = answer.Document (saved r k)
 answer_of r rs (command.Class o) = answer.Class (unwrap_or (r.class o) (record { 0 = 0 }))
 answer_of r rs (command.AdapterTold number) = answer.Count (count_of rs number (λ v. v.told))
 answer_of r rs (command.AdapterKept number) = answer.Count (count_of rs number (λ v. length v.kept))

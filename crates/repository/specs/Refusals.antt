@@ -4,7 +4,8 @@ use Rattle.std.specs.Option.{option_map_or}
 use Rattle.mm_types.specs.Conditions.{◌unless◌, ◌where_so◌, ◌else_by◌}
 use Rattle.mm_types.specs.declared.numbers.AdapterNo.{AdapterNo}
 use Rattle.mm_types.specs.declared.refused.Refused.{Refused}
-use Rattle.mm_types.specs.declared.refused.Refused.TheVariants.{NoAdapter, AdapterFull, TextLength, Limit, BadUri, ResourceExists}
+use Rattle.mm_types.specs.declared.refused.Refused.TheVariants.{NoAdapter, AdapterFull, TextLength, Limit, BadUri, ResourceExists, Dangling}
+use Rattle.mm_types.specs.declared.numbers.Node.TheVariants as node
 use Rattle.notice_chain.specs.View.{View}
 use Rattle.notice_chain.specs.Listed.{Listed, adapter, is_chain_full}
 use Rattle.notice_chain.specs.declared.notice.Notice.{Notice}
@@ -20,6 +21,9 @@ use Rattle.repository.specs.declared.command.Command.TheVariants as command
 use Rattle.mm_types.specs.declared.limits.TheConstants.{RESOURCES}
 use Rattle.web_uris.specs.Joined.{joined}
 use Rattle.models.specs.Legal.{is_short_text}
+use Rattle.web_uris.specs.Addresses.{has_mark}
+use Rattle.fragment_paths.specs.Fragments.{fragment}
+use Rattle.saved_docs.specs.Saved.{save_refusal}
 
 -- the change that a command makes of the model, if it makes one
 abbrev pub change_of : Command View → Option Change
@@ -39,6 +43,9 @@ change_of (command.Container o) = None
 change_of (command.Resource o) = None
 change_of (command.Contents n) = None
 change_of (command.Validate o) = None
+change_of (command.Fragment o) = None
+change_of (command.ObjectAt t) = None
+change_of (command.Save k) = None
 change_of (command.Class o) = None
 change_of (command.AdapterTold number) = None
 change_of (command.AdapterKept number) = None
@@ -69,6 +76,9 @@ early_refusal r rs (command.Container o) = object_refusal r o
 early_refusal r rs (command.Resource o) = object_refusal r o
 early_refusal r rs (command.Contents n) = node_refusal r n
 early_refusal r rs (command.Validate o) = object_refusal r o
+early_refusal r rs (command.Fragment o) = object_refusal r o
+early_refusal r rs (command.ObjectAt t) = None
+early_refusal r rs (command.Save k) = node_refusal r (node.Resource k)
 early_refusal r rs (command.Class o) = object_refusal r o
 early_refusal r rs (command.AdapterTold number) = adapter_refusal rs number
 early_refusal r rs (command.AdapterKept number) = adapter_refusal rs number
@@ -101,6 +111,9 @@ late_refusal r rs (command.Container o) = None
 late_refusal r rs (command.Resource o) = None
 late_refusal r rs (command.Contents n) = None
 late_refusal r rs (command.Validate o) = None
+late_refusal r rs (command.Fragment o) = Dangling unless is_some (fragment r o)
+late_refusal r rs (command.ObjectAt t) = TextLength unless is_short_text t else_by BadUri unless has_mark t
+late_refusal r rs (command.Save k) = save_refusal r k
 late_refusal r rs (command.Class o) = None
 late_refusal r rs (command.AdapterTold number) = None
 late_refusal r rs (command.AdapterKept number) = None

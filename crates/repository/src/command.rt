@@ -1,6 +1,6 @@
 //! The calls of a repository, as values.
 use adapters::Adapter;
-use mm_types::{AdapterNo, ClassNo, FeatureNo, Node, ObjectNo, Text, Value};
+use mm_types::{AdapterNo, ClassNo, FeatureNo, Node, ObjectNo, ResourceNo, Text, Value};
 
 /// A call of the repository, as a value.
 #[derive(Drop)]
@@ -74,6 +74,12 @@ pub enum Command<A = Box<dyn Adapter>> {
     Contents(Node),
     /// Asks which features of an object have fewer values than they should (EMF: Diagnostician.validate, of multiplicities).
     Validate(ObjectNo),
+    /// Asks for the fragment of an object in its resource (EMF: Resource.getURIFragment).
+    Fragment(ObjectNo),
+    /// Asks for the object at an address (EMF: ResourceSet.getEObject, without loading).
+    ObjectAt(Text),
+    /// Asks for the text of a resource (EMF: Resource.save).
+    Save(ResourceNo),
     /// Asks for the class of an object (EMF: EObject.eClass; MOF 2.5.1: Reflection, Element.getMetaClass).
     Class(ObjectNo),
     /// Asks how many notices an adapter was told.

@@ -7,7 +7,7 @@ ghost use Rattle.repository.specs.Views.{changed_view, outcome_view};
 ghost use Rattle.repository.specs.declared.reply.Answer.TheVariants as answer;
 
 use crate::reply::{Answer, Failure, FeatureValue, Reply};
-use mm_types::{ClassNo, FeatureNo, ObjectNo, Refused, ResourceNo, Seq};
+use mm_types::{ClassNo, FeatureNo, ObjectNo, Refused, ResourceNo, Seq, Text};
 use std::alloc::Global;
 
 /// An answer, as the reply of a command that notifies nobody. Takes no memory.
@@ -98,6 +98,39 @@ pub(crate) fn replied_features<A>(
 {
     let features = read?;
     Ok(reply(alloc, Answer::Features(features)))
+}
+
+/// A fragment, as a reply.
+pub(crate) fn replied_fragment<A>(
+    alloc: Global,
+    read: Result<Text, Refused>,
+) -> Result<Reply<A>, Refused>
+    ensures { (heard : A → View) → change_outcome (changed_view heard result) ≡ read_outcome answer.Fragment read }
+{
+    let fragment = read?;
+    Ok(reply(alloc, Answer::Fragment(fragment)))
+}
+
+/// The object at an address, if one is there, as a reply.
+pub(crate) fn replied_found<A>(
+    alloc: Global,
+    read: Result<Option<ObjectNo>, Refused>,
+) -> Result<Reply<A>, Refused>
+    ensures { (heard : A → View) → change_outcome (changed_view heard result) ≡ read_outcome answer.Found read }
+{
+    let object = read?;
+    Ok(reply(alloc, Answer::Found(object)))
+}
+
+/// The document of a resource, as a reply.
+pub(crate) fn replied_document<A>(
+    alloc: Global,
+    read: Result<Text, Refused>,
+) -> Result<Reply<A>, Refused>
+    ensures { (heard : A → View) → change_outcome (changed_view heard result) ≡ read_outcome answer.Document read }
+{
+    let text = read?;
+    Ok(reply(alloc, Answer::Document(text)))
 }
 
 /// What is counted of an adapter, as a reply.

@@ -1,6 +1,6 @@
 //! What a command gives.
 use adapters::Adapter;
-use mm_types::{AdapterNo, ClassNo, FeatureNo, ObjectNo, Refused, ResourceNo, Seq, Value};
+use mm_types::{AdapterNo, ClassNo, FeatureNo, ObjectNo, Refused, ResourceNo, Seq, Text, Value};
 use notice_chain::Notice;
 
 /// What a command that is done answers.
@@ -28,6 +28,12 @@ pub enum Answer {
     Within(Option<ResourceNo>),
     /// Features of an object, in the order of all features of its class.
     Features(Seq<FeatureNo>),
+    /// The object at an address, if one is there.
+    Found(Option<ObjectNo>),
+    /// A fragment.
+    Fragment(Text),
+    /// The document of a resource.
+    Document(Text),
     /// The objects that a node contains.
     Objects(Seq<ObjectNo>),
 }

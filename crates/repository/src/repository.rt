@@ -5,6 +5,7 @@ ghost use Rattle.repository.specs.State as s;
 mod attaching;
 mod changes;
 mod commands;
+mod documents;
 mod lists;
 mod reads;
 mod resources;

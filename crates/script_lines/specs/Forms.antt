@@ -4,7 +4,7 @@ use Rattle.std.specs.Option.{option_zip}
 use Rattle.std.specs.Str.{bytes_eq, is_utf8}
 use Rattle.script_lines.specs.Words.{words}
 use Rattle.mm_types.specs.Integers.{natural}
-use Rattle.script_lines.specs.Values.{adapter_in, feature_in, feature_value_in, name_in, node_in, object_in, string_in}
+use Rattle.script_lines.specs.Values.{adapter_in, feature_in, feature_value_in, name_in, node_in, object_in, resource_in, string_in}
 use Rattle.script_lines.specs.declared.form.Form.{Form}
 use Rattle.script_lines.specs.declared.form.Form.TheVariants as asks
 use Rattle.script_lines.specs.declared.line.Line.{Line}
@@ -29,6 +29,18 @@ within_form o = option_map asks.Within (object_in o)
 -- `validate OBJ`
 abbrev pub validate_form : List ℕ → Option Form
 validate_form o = option_map asks.Validate (object_in o)
+
+-- `fragment OBJ`
+abbrev pub fragment_form : List ℕ → Option Form
+fragment_form o = option_map asks.Fragment (object_in o)
+
+-- `at STR`
+abbrev pub at_form : List ℕ → Option Form
+at_form t = option_map asks.At (string_in t)
+
+-- `save RES`
+abbrev pub save_form : List ℕ → Option Form
+save_form k = option_map asks.Save (resource_in k)
 
 -- `resource STR`
 abbrev pub resource_form : List ℕ → Option Form
@@ -99,6 +111,9 @@ with_one verb a =
     else if bytes_eq verb (codes "container") then container_form a
     else if bytes_eq verb (codes "within") then within_form a
     else if bytes_eq verb (codes "validate") then validate_form a
+    else if bytes_eq verb (codes "fragment") then fragment_form a
+    else if bytes_eq verb (codes "at") then at_form a
+    else if bytes_eq verb (codes "save") then save_form a
     else if bytes_eq verb (codes "contents") then contents_form a
     else if bytes_eq verb (codes "detach") then detach_form a
     else if bytes_eq verb (codes "seen") then seen_form a

@@ -53,6 +53,10 @@ object_in w = option_map object (number_in OBJECT_MARK w)
 abbrev pub adapter_in : List ℕ → Option AdapterNo
 adapter_in w = option_map adapter (number_in ADAPTER_MARK w)
 
+-- `r0`
+abbrev pub resource_in : List ℕ → Option ResourceNo
+resource_in w = option_map resource (number_in RESOURCE_MARK w)
+
 -- `#3`, an object, or `r0`, a resource
 abbrev pub node_in : List ℕ → Option Node
 node_in [] = None

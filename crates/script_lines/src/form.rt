@@ -1,7 +1,7 @@
 //! What a line asks for.
 use crate::name::Name;
 use crate::written_value::WrittenValue;
-use mm_types::{AdapterNo, Node, ObjectNo, Text};
+use mm_types::{AdapterNo, Node, ObjectNo, ResourceNo, Text};
 
 /// What a line asks for. Classes and features are given by the names that stand in the line.
 #[derive(Drop)]
@@ -70,6 +70,12 @@ pub enum Form<'a> {
     Contents(Node),
     /// The features of an object that have fewer values than they should (EMF: Diagnostician.validate, of multiplicities).
     Validate(ObjectNo),
+    /// The fragment of an object in its resource (EMF: Resource.getURIFragment).
+    Fragment(ObjectNo),
+    /// The object at an address (EMF: ResourceSet.getEObject).
+    At(Text),
+    /// The document of a resource (EMF: Resource.save).
+    Save(ResourceNo),
     /// The class of an object (EMF: EObject.eClass).
     Class(ObjectNo),
     /// What a feature holds (EMF: EObject.eGet).

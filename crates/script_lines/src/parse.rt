@@ -1,11 +1,13 @@
 //! What a line asks for: its words, and the form that they fit.
 ghost use Rattle.std.specs.Prelude.{◌≡◌, IfOk, map};
-ghost use Rattle.script_lines.specs.Forms.{add_at_form, add_form, attach_form, class_form, container_form, contents_form, depth_in, detach_form, form, form_of as the_form_of, get_form, isset_form, line_of as the_line_of, move_form, new_form, remove_form, removevalue_form, resource_form, seen_form, set_form, unset_form, validate_form, with_four, with_one, with_three, with_two, within_form};
+ghost use Rattle.script_lines.specs.Forms.{add_at_form, add_form, at_form, attach_form, class_form, container_form, contents_form, depth_in, detach_form, form, form_of as the_form_of, fragment_form, get_form, isset_form, line_of as the_line_of, move_form, new_form, remove_form, removevalue_form, resource_form, save_form, seen_form, set_form, unset_form, validate_form, with_four, with_one, with_three, with_two, within_form};
 
 use crate::form::Form;
 use crate::line::Line;
 use crate::name::Name;
-use crate::values::{adapter_of, feature_of, feature_value_of, node_of, object_of, string_of};
+use crate::values::{
+    adapter_of, feature_of, feature_value_of, node_of, object_of, resource_no_of, string_of,
+};
 use crate::words::words_of;
 use mm_types::integers::natural_of;
 use std::alloc::{AllocError, Global};
@@ -54,6 +56,30 @@ fn validate_of(object: &str) -> Option<Form<'static>>
     ensures { result ≡ validate_form object.now }
 {
     Some(Form::Validate(object_of(object)?))
+}
+
+/// `fragment OBJ`
+fn fragment_of(object: &str) -> Option<Form<'static>>
+    ensures { result ≡ fragment_form object.now }
+{
+    Some(Form::Fragment(object_of(object)?))
+}
+
+/// `at STR`
+fn at_of(alloc: Global, text: &str) -> Result<Option<Form<'static>>, AllocError>
+    ensures { IfOk result (λ o. o ≡ at_form text.now) }
+{
+    match string_of(alloc, text)? {
+        Some(text) => Ok(Some(Form::At(text))),
+        None => Ok(None),
+    }
+}
+
+/// `save RES`
+fn save_of(resource: &str) -> Option<Form<'static>>
+    ensures { result ≡ save_form resource.now }
+{
+    Some(Form::Save(resource_no_of(resource)?))
 }
 
 /// `contents NODE`
@@ -240,6 +266,12 @@ fn with_one_of<'a>(alloc: Global, verb: &str, a: &'a str) -> Result<Option<Form<
         Ok(within_of(a))
     } else if verb == "validate" {
         Ok(validate_of(a))
+    } else if verb == "fragment" {
+        Ok(fragment_of(a))
+    } else if verb == "at" {
+        at_of(alloc, a)
+    } else if verb == "save" {
+        Ok(save_of(a))
     } else if verb == "contents" {
         Ok(contents_of(a))
     } else if verb == "detach" {

@@ -1,6 +1,6 @@
 //! Nodes, adapters, features and values, read from words.
 ghost use Rattle.std.specs.Prelude.{◌≡◌, ◌≢◌, ◌<◌, IfOk, length, option_map, slice_index};
-ghost use Rattle.script_lines.specs.Values.{adapter_in, feature_in, feature_value_in, node_in, number_in, object_in, other_value_in, string_in, text_in, value_in};
+ghost use Rattle.script_lines.specs.Values.{adapter_in, feature_in, feature_value_in, node_in, number_in, object_in, other_value_in, resource_in, string_in, text_in, value_in};
 ghost use Rattle.script_lines.specs.declared.written_value.WrittenValue.TheVariants as written;
 
 use crate::grammar::{ADAPTER_MARK, LITERAL_MARK, OBJECT_MARK, QUOTE, RESOURCE_MARK};
@@ -36,6 +36,13 @@ pub fn adapter_of(word: &str) -> Option<AdapterNo>
     ensures { result ≡ adapter_in word.now }
 {
     number_of(ADAPTER_MARK, word).map(AdapterNo)
+}
+
+/// The resource that a word names: `r0`.
+pub fn resource_no_of(word: &str) -> Option<ResourceNo>
+    ensures { result ≡ resource_in word.now }
+{
+    number_of(RESOURCE_MARK, word).map(ResourceNo)
 }
 
 /// The node that a word names: `#3` or `r0`.

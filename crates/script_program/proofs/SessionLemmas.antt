@@ -8,7 +8,7 @@ use Rattle.repository.specs.Run.{Executed}
 use Rattle.repository.specs.State.{State}
 use Rattle.repository.specs.Views.{Outcome, brought}
 use Rattle.repository.specs.declared.command.Command.{Command}
-use Rattle.repository.specs.declared.command.Command.TheVariants.{Create, Set, Unset, Add, Remove, RemoveValue, Move, Attach, Detach, Get, IsSet, Container, Contents, Class, AdapterTold, AdapterKept, CreateResource, Resource, Validate}
+use Rattle.repository.specs.declared.command.Command.TheVariants.{Create, Set, Unset, Add, Remove, RemoveValue, Move, Attach, Detach, Get, IsSet, Container, Contents, Class, AdapterTold, AdapterKept, CreateResource, Resource, Validate, Fragment, ObjectAt, Save}
 use Rattle.repository.proofs.RunLemmas.{refused-nothing}
 use Rattle.script_lines.specs.declared.form.Form.{Form}
 use Rattle.script_lines.specs.declared.form.Form.TheVariants as asks
@@ -35,6 +35,9 @@ undone before (Container o) h = refl
 undone before (Resource o) h = refl
 undone before (Contents n) h = refl
 undone before (Validate o) h = refl
+undone before (Fragment o) h = refl
+undone before (ObjectAt t) h = refl
+undone before (Save k) h = refl
 undone before (Class o) h = refl
 undone before (AdapterTold number) h = refl
 undone before (AdapterKept number) h = refl
@@ -66,5 +69,8 @@ bind-given s (asks.Container o) = All-nil (λ (a : Listed). box_of s.pool a.no �
 bind-given s (asks.Within o) = All-nil (λ (a : Listed). box_of s.pool a.no ≡ Ok a.view)
 bind-given s (asks.Contents n) = All-nil (λ (a : Listed). box_of s.pool a.no ≡ Ok a.view)
 bind-given s (asks.Validate o) = All-nil (λ (a : Listed). box_of s.pool a.no ≡ Ok a.view)
+bind-given s (asks.Fragment o) = All-nil (λ (a : Listed). box_of s.pool a.no ≡ Ok a.view)
+bind-given s (asks.At t) = All-nil (λ (a : Listed). box_of s.pool a.no ≡ Ok a.view)
+bind-given s (asks.Save k) = All-nil (λ (a : Listed). box_of s.pool a.no ≡ Ok a.view)
 bind-given s (asks.Class o) = All-nil (λ (a : Listed). box_of s.pool a.no ≡ Ok a.view)
 bind-given s (asks.Seen number) = tt

@@ -18,7 +18,7 @@ use Rattle.repository.specs.declared.reply.Answer.TheVariants as answer
 use Rattle.script_lines.specs.declared.grammar.TheConstants.{NEWLINE}
 use Rattle.script_output.specs.Names.{literal_name}
 use Rattle.script_output.specs.Notified.{notice_text, released_text}
-use Rattle.script_output.specs.Printed.{class_text, features_text, holder_text, list_text, node_text, objects_text, refused_text, value_text}
+use Rattle.script_output.specs.Printed.{class_text, features_text, holder_text, json_text, list_text, node_text, objects_text, refused_text, value_text}
 use Rattle.script_program.specs.declared.bind.TheConstants.{NOTHING}
 
 -- the feature that a command names; one of no metamodel where it names none
@@ -39,6 +39,9 @@ feature_of (command.Container o) = record { 0 = NOTHING }
 feature_of (command.Resource o) = record { 0 = NOTHING }
 feature_of (command.Contents n) = record { 0 = NOTHING }
 feature_of (command.Validate o) = record { 0 = NOTHING }
+feature_of (command.Fragment o) = record { 0 = NOTHING }
+feature_of (command.ObjectAt t) = record { 0 = NOTHING }
+feature_of (command.Save k) = record { 0 = NOTHING }
 feature_of (command.Class o) = record { 0 = NOTHING }
 feature_of (command.AdapterTold number) = record { 0 = NOTHING }
 feature_of (command.AdapterKept number) = record { 0 = NOTHING }
@@ -56,6 +59,9 @@ answer_text m f (answer.Count n) = decimal n
 answer_text m f (answer.Resource k) = node_text (node.Resource k)
 answer_text m f (answer.Container o) = holder_text (option_map node.Object o)
 answer_text m f (answer.Features fs) = features_text m fs
+answer_text m f (answer.Found o) = holder_text (option_map node.Object o)
+answer_text m f (answer.Fragment t) = json_text t
+answer_text m f (answer.Document t) = t
 answer_text m f (answer.Within k) = holder_text (option_map node.Resource k)
 answer_text m f (answer.Objects os) = objects_text os
 

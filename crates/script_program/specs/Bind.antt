@@ -101,6 +101,9 @@ bind s (asks.Container o) = request.Execute (command.Container o)
 bind s (asks.Within o) = request.Execute (command.Resource o)
 bind s (asks.Contents n) = request.Execute (command.Contents n)
 bind s (asks.Validate o) = request.Execute (command.Validate o)
+bind s (asks.Fragment o) = request.Execute (command.Fragment o)
+bind s (asks.At t) = request.Execute (command.ObjectAt t)
+bind s (asks.Save k) = request.Execute (command.Save k)
 bind s (asks.Class o) = request.Execute (command.Class o)
 bind s (asks.Seen number) = request.Seen number
 

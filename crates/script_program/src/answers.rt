@@ -54,6 +54,9 @@ fn print_answer(
         Answer::Container(object) => output.node_or_null(object.map(Node::Object)),
         Answer::Within(resource) => output.node_or_null(resource.map(Node::Resource)),
         Answer::Features(features) => output.features(meta, features.as_slice()),
+        Answer::Found(object) => output.node_or_null(object.map(Node::Object)),
+        Answer::Fragment(fragment) => output.json(fragment.as_str()),
+        Answer::Document(text) => output.text(text.as_str()),
         Answer::Objects(objects) => output.objects(objects.as_slice()),
     }
 }

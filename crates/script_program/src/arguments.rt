@@ -32,6 +32,10 @@ from standard input, and what each of its lines answers is printed on standard o
   add r0 contents #0       puts an object into a resource: true
   within #0                the resource that an object is in: r0, or null
   contents #0              the objects that an object, or a resource, contains: [#1 #2]
+  fragment #0              the fragment of an object in its resource: \"//@books.0\"
+  at \"http://m.example/a#/\"
+                           the object at an address: #0, or null
+  save r0                  the document of a resource
   validate #0              the features that have fewer values than they should: [favourite]
   attach A1 #0 flat        attaches an adapter, one of A1 to A8, which is notified of changes
   detach A1                detaches it: a line for its last notice, and one for what it heard

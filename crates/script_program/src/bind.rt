@@ -67,6 +67,9 @@ pub(crate) fn bind<L: LinkStore, A: Adapter>(
         Form::Within(object) => Request::Execute(Command::Resource(object)),
         Form::Contents(node) => Request::Execute(Command::Contents(node)),
         Form::Validate(object) => Request::Execute(Command::Validate(object)),
+        Form::Fragment(object) => Request::Execute(Command::Fragment(object)),
+        Form::At(text) => Request::Execute(Command::ObjectAt(text)),
+        Form::Save(resource) => Request::Execute(Command::Save(resource)),
         Form::Class(object) => Request::Execute(Command::Class(object)),
         Form::Seen(no) => Request::Seen(no),
     }

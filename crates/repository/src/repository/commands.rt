@@ -6,8 +6,9 @@ ghost use Rattle.repository.specs.Views.{command_view, outcome_view};
 use super::Repository;
 use crate::command::Command;
 use crate::reads::{
-    outcome, replied, replied_class, replied_container, replied_count, replied_features,
-    replied_flag, replied_objects, replied_resource,
+    outcome, replied, replied_class, replied_container, replied_count, replied_document,
+    replied_features, replied_flag, replied_found, replied_fragment, replied_objects,
+    replied_resource,
 };
 use crate::reply::{Failure, Reply};
 use adapters::Adapter;
@@ -67,6 +68,11 @@ impl<L: LinkStore, A: Adapter> Repository<L, A> {
             Command::Resource(object) => outcome(replied_resource(alloc, self.e_resource(object))),
             Command::Contents(node) => outcome(replied_objects(alloc, self.e_contents(node))),
             Command::Validate(object) => outcome(replied_features(alloc, self.validate(object))),
+            Command::Fragment(object) => outcome(replied_fragment(alloc, self.fragment(object))),
+            Command::ObjectAt(text) => {
+                outcome(replied_found(alloc, self.object_at(text.as_str())))
+            }
+            Command::Save(resource) => outcome(replied_document(alloc, self.save(resource))),
             Command::Class(object) => outcome(replied_class(alloc, self.e_class(object))),
             Command::AdapterTold(no) => outcome(replied_count(alloc, self.adapter_told(no))),
             Command::AdapterKept(no) => outcome(replied_count(alloc, self.adapter_kept(no))),

@@ -1,0 +1,75 @@
+//! Fragments, addresses and the texts of resources.
+ghost use Rattle.std.specs.Prelude.{◌≡◌};
+ghost use Rattle.repository.specs.Run.{Executed, read_outcome};
+ghost use Rattle.repository.specs.declared.command.Command.TheVariants.{Fragment, ObjectAt, Save};
+ghost use Rattle.repository.specs.declared.reply.Answer.TheVariants as answer;
+
+use super::Repository;
+use adapters::Adapter;
+use fragment_paths::{object_at, write};
+use handshake::node_refusal;
+use link_store::LinkStore;
+use mm_types::{Node, ObjectNo, Refused, ResourceNo, Text};
+use models::is_short_text;
+use saved_docs::write_doc;
+use web_uris::split_address;
+
+impl<L: LinkStore, A: Adapter> Repository<L, A> {
+    /// The fragment of an object in its resource (EMF: Resource.getURIFragment), as `//@books.0`: the way to it from a root, whose position is
+    /// left out where the resource has one root.
+    ///
+    /// Refused, the first that applies: `NoObject` where none lives, `Dangling` where the object is in no resource, `Memory`.
+    #[tactic(auto, using(crate::proofs::DocumentLemmas::fragment_read))]
+    pub fn fragment(&self, object: ObjectNo) -> Result<Text, Refused>
+        ensures { Executed self.now (Fragment object) (read_outcome answer.Fragment result) self.now }
+    {
+        let model = self.model();
+        if model.class(object).is_none() {
+            return Err(Refused::NoObject);
+        }
+        match write(self.alloc, &model, object) {
+            Ok(Some(fragment)) => Ok(fragment),
+            Ok(None) => Err(Refused::Dangling),
+            Err(_) => Err(Refused::Memory),
+        }
+    }
+
+    /// The object at an address, the URI of a resource, `#` and a fragment (EMF: ResourceSet.getEObject, without loading); `None` where no resource
+    /// has the URI, or nothing stands there.
+    ///
+    /// Refused, the first that applies: `TextLength` above 65,535 bytes, `BadUri` where the text has no `#`, `Memory`.
+    #[tactic(auto, using(crate::proofs::DocumentLemmas::object_found))]
+    pub fn object_at(&self, address: &str) -> Result<Option<ObjectNo>, Refused>
+        ensures { Executed self.now (ObjectAt address.now) (read_outcome answer.Found result) self.now }
+    {
+        if !is_short_text(address) {
+            return Err(Refused::TextLength);
+        }
+        if split_address(address).is_none() {
+            return Err(Refused::BadUri);
+        }
+        match object_at(self.alloc, &self.model(), address) {
+            Ok(object) => Ok(object),
+            Err(_) => Err(Refused::Memory),
+        }
+    }
+
+    /// The document of a resource (EMF: Resource.save), as JSON without spaces: its roots with all that they contain, each with the features
+    /// that are set, container references left out.
+    ///
+    /// Refused, the first that applies: `NoResource`, `Dangling` where an object that is referred to is in no resource, `CrossOpposite` where a
+    /// reference with an opposite leads to another resource, `TooDeep` where objects are nested more than 40 deep, `Memory`.
+    #[tactic(auto, using(crate::proofs::DocumentLemmas::resource_saved))]
+    pub fn save(&self, resource: ResourceNo) -> Result<Text, Refused>
+        ensures { Executed self.now (Save resource) (read_outcome answer.Document result) self.now }
+    {
+        let model = self.model();
+        if let Some(refused) = node_refusal(&model, Node::Resource(resource)) {
+            return Err(refused);
+        }
+        match write_doc(self.alloc, &model, resource) {
+            Ok(text) => Ok(Text::from_string(text)),
+            Err(refused) => Err(refused),
+        }
+    }
+}
