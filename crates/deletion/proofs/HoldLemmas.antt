@@ -1,0 +1,221 @@
+-- The ends that are found are those that hold something that goes.
+use Rattle.std.proofs.Common.{◌≡◌, ℕ, zero, suc, ◌+◌, ◌<◌, length, slice_get, slice_index_or, take, nat_eq, eqb-true, eq-eqb, Bool, true, false, not, ◌&&◌, ◌||◌, List, [], ◌∷◌, ◌++◌, map, Option, Some, None, refl, sym, ap, ◌∙◌, subst, inl, inr, arith}
+use Rattle.std.specs.BTreeSet.{BTreeSet}
+use Rattle.std.specs.List.{Contains, list_any}
+use Rattle.std.specs.List.Sorted.{IsStrictlySortedBy}
+use Rattle.std.specs.Option.{option_map_or}
+use Rattle.std.specs.Ordering.{eq_by_cmp, is_eq}
+use Rattle.std.specs.declared.cmp.Ordering.TheVariants.{Equal, Less}
+use Rattle.std.proofs.lemmas.Bool.{false≢true, or_cases, or_left, or_right}
+use Rattle.std.proofs.lemmas.Cmp.{eq_by_cmp_equiv}
+use Rattle.std.proofs.lemmas.List.Folds.{list_any_more}
+use Rattle.std.proofs.lemmas.Map.Lookups.{btree_set_from_contains}
+use Rattle.std.proofs.lemmas.Option.{none-some, same_Some}
+use Rattle.mm_types.proofs.SameLemmas.{same_end-self, same_end-true}
+use Rattle.mm_types.specs.Ends.{has_value}
+use Rattle.mm_types.specs.Lookups as lookups
+use Rattle.mm_types.specs.Resolved.{Metamodel}
+use Rattle.mm_types.specs.Same.{same_end, same_object, same_value}
+use Rattle.mm_types.specs.SameValues.{same_value-true}
+use Rattle.mm_types.specs.Shapes.{contents_shape, shape, shape_of}
+use Rattle.mm_types.specs.declared.end.End.{End}
+use Rattle.mm_types.specs.declared.feature.DataType.{DataType}
+use Rattle.mm_types.specs.declared.feature.DataType.TheVariants.{EString, EInt, ELong, EBoolean, Enum}
+use Rattle.mm_types.specs.declared.feature.Feature.{Feature}
+use Rattle.mm_types.specs.declared.feature.Kind.{Kind}
+use Rattle.mm_types.specs.declared.feature.Kind.TheVariants.{Attribute, Reference}
+use Rattle.mm_types.specs.declared.numbers.ClassNo.{ClassNo}
+use Rattle.mm_types.specs.declared.numbers.FeatureNo.{FeatureNo}
+use Rattle.mm_types.specs.declared.numbers.Node.{Node}
+use Rattle.mm_types.specs.declared.numbers.ObjectNo.{ObjectNo}
+use Rattle.mm_types.specs.declared.value.Value.{Value}
+use Rattle.mm_types.specs.declared.value.Value.TheVariants as value
+use Rattle.link_store.specs.Laws.{goes}
+use Rattle.link_store.specs.Links.{Links, end}
+use Rattle.link_store.specs.Plans.{ArePlacesOf, has_end, incoming_end, is_before}
+use Rattle.link_store.specs.declared.incoming.Incoming.{Incoming}
+use Rattle.models.specs.Legal.{IsLegal, is_legal_object}
+use Rattle.models.specs.Model.{Model, reading}
+use Rattle.models.specs.Reading.{Reading, is_live}
+use Rattle.containment.proofs.PartLemmas.{legal-at, values-linked}
+use Rattle.containment.specs.Forest.{is_node_among, subtree}
+use Rattle.deletion.proofs.OuterLemmas.{IsSorted, all_weaker, has_end-append, has_end-filter, touched-all, touched-sorted}
+use Rattle.deletion.proofs.RankLemmas.{before-less, rank_cmp-total, same-tests, ties-same}
+use Rattle.deletion.specs.Outer.{gone, holds_some, touched_ends}
+use Rattle.deletion.specs.Ranks.{HasGone, holds, is_in, rank_cmp, staying}
+
+---------------------------------------------------------------- values
+
+-- the value of a list that passes a test, and its place
+pub passes-at : (p : Value → Bool) (vs : List Value) → list_any p vs ≡ true → (k : ℕ) × (v : Value) × (slice_get vs k ≡ Some v) × (p v ≡ true)
+passes-at p [] h = absurd (false≢true h)
+passes-at p (v ∷ vs) h = elim (or_cases (p v) (list_any p vs) h) [
+  | inl here ↦ (zero, v, refl, here)
+  | inr later ↦ let at = passes-at p vs later in (suc at.0, at.1, at.2, at.3)
+]
+
+at-passes : (p : Value → Bool) (vs : List Value) (k : ℕ) (v : Value) → slice_get vs k ≡ Some v → p v ≡ true → list_any p vs ≡ true
+at-passes p [] k v h passes = absurd (none-some v h)
+at-passes p (w ∷ ws) zero v h passes = or_left _ _ (ap p (same_Some w v h) ∙ passes)
+at-passes p (w ∷ ws) (suc k) v h passes = or_right _ _ (at-passes p ws k v h passes)
+
+---------------------------------------------------------------- one object
+
+find-place : (is : List Incoming) (e : End) → has_end (map incoming_end is) e ≡ true → (i : Incoming) × Contains is i × (incoming_end i ≡ e)
+find-place [] e h = absurd (false≢true h)
+find-place (i ∷ is) e h = elim (or_cases (same_end (incoming_end i) e) (has_end (map incoming_end is) e) h) [
+  | inl here ↦ (i, (zero, omega arith, refl), same_end-true (incoming_end i) e here)
+  | inr later ↦ let at = find-place is e later in (at.0, (suc at.1.0, (let low = at.1.1 in omega (arith, low)), at.1.2), at.2)
+]
+
+place-found : (is : List Incoming) (i : Incoming) (k : ℕ) → k < length is → slice_index_or is k i ≡ i → has_end (map incoming_end is) (incoming_end i) ≡ true
+place-found [] i k low h = absurd (omega (arith, low))
+place-found (j ∷ js) i zero low h = or_left _ _ (subst (λ (x : Incoming). same_end (incoming_end j) (incoming_end x) ≡ true) h (same_end-self (incoming_end j)))
+place-found (j ∷ js) i (suc k) low h = or_right _ _ (place-found js i k (omega (arith, low)) h)
+
+same-self : (x : ObjectNo) → same_value (value.Object x) (value.Object x) ≡ true
+same-self x = eq-eqb x.0 x.0 refl
+
+-- the ends of the places of an object are those that hold it
+places-hold : (s : Links) (x : ObjectNo) (is : List Incoming) → ArePlacesOf s x is → (e : End) → has_end (map incoming_end is) e ≡ holds s e x
+places-hold s x is are e =
+    same-tests (has_end (map incoming_end is) e) (holds s e x)
+    (λ h.
+    let at = find-place is e h in
+    let there = subst (λ (d : End). slice_get (end s d) at.0.position ≡ Some (value.Object x)) at.2 ((are at.0).0 at.1) in
+    at-passes (same_value (value.Object x)) (end s e) at.0.position (value.Object x) there (same-self x))
+    (λ h.
+    let at = passes-at (same_value (value.Object x)) (end s e) h in
+    let i : Incoming = record { feature = e.feature; node = e.node; position = at.0 } in
+    let among = (are i).1 (at.2 ∙ ap Some (sym (same_value-true (value.Object x) at.1 at.3))) in
+    place-found is i among.0 among.1 among.2)
+
+-- what one object adds
+pub holding-step : (s : Links) (x : ObjectNo) (is : List Incoming) (numbers : BTreeSet ℕ) (old new : List End) → ArePlacesOf s x is → new ≡ old ++ staying numbers is
+    → (e : End) → has_end new e ≡ (has_end old e || (not (is_in numbers e.node) && holds s e x))
+holding-step s x is numbers old new are made e =
+    ap (λ (es : List End). has_end es e) made
+    ∙ has_end-append old (staying numbers is) e
+    ∙ ap (λ (b : Bool). has_end old e || b) (has_end-filter (λ (d : End). not (is_in numbers d.node)) (map incoming_end is) e ∙ ap (λ (b : Bool). not (is_in numbers e.node) && b) (places-hold s x is are e))
+
+-- one object further
+pub objects-step : (stays : Bool) (p : ObjectNo → Bool) (os : List ObjectNo) (i : ℕ) (d : ObjectNo) (old new : Bool) → i < length os → new ≡ (old || (stays && p (slice_index_or os i d))) → old ≡ (stays && list_any p (take i os))
+    → new ≡ (stays && list_any p (take (i + 1) os))
+objects-step stays p os i d old new low made was =
+    made ∙ ap (λ (b : Bool). b || (stays && p (slice_index_or os i d))) was ∙ turn stays (list_any p (take i os)) (p (slice_index_or os i d)) ∙ ap (λ (b : Bool). stays && b) (sym (list_any_more p os i d low))
+  where
+    turn : (a b c : Bool) → ((a && b) || (a && c)) ≡ (a && (b || c))
+    turn true b c = refl
+    turn false b c = refl
+
+---------------------------------------------------------------- what goes
+
+-- no attribute takes an object
+object-typed : (m : Metamodel) (single : Bool) (t : DataType) (o : ObjectNo) → lookups.is_attribute_value m single t (value.Object o) ≡ false
+object-typed m single EString o = refl
+object-typed m single EInt o = refl
+object-typed m single ELong o = refl
+object-typed m single EBoolean o = refl
+object-typed m single (Enum e) o = refl
+
+object-reference : (m : Metamodel) (class : ObjectNo → Option ClassNo) (f : FeatureNo) (o : ObjectNo) → lookups.takes m class f (value.Object o) ≡ true → (shape m f).is_reference ≡ true
+object-reference m class f o h = by (lookups.feature m f) h
+  where
+    by_kind : (x : Feature) (k : Kind) → lookups.is_of_kind m class (lookups.is_single x) k (value.Object o) ≡ true → (shape_of m f x k).is_reference ≡ true
+    by_kind x (Attribute t unique unsettable default) q = absurd (false≢true (sym (object-typed m (lookups.is_single x) t o) ∙ q))
+    by_kind x (Reference target containment opposite) q = refl
+
+    by : (x : Option Feature) → option_map_or (λ g. lookups.is_of_kind m class (lookups.is_single g) g.kind (value.Object o)) x (lookups.is_live_object class (value.Object o)) ≡ true
+        → (option_map_or (λ g. shape_of m f g g.kind) x (contents_shape m)).is_reference ≡ true
+    by None q = refl
+    by (Some x) q = by_kind x x.kind q
+
+-- a feature with legal links is a reference
+pub legal-reference : (r : Reading) (f : FeatureNo) (v : Value) → is_legal_object r f v ≡ true → (shape r.metamodel f).is_reference ≡ true
+legal-reference r f (value.Object o) h = object-reference r.metamodel r.class f o h
+legal-reference r f _ h = absurd (false≢true h)
+
+any-or : (p q : ObjectNo → Bool) (os : List ObjectNo) → list_any (λ x. p x || q x) os ≡ (list_any p os || list_any q os)
+any-or p q [] = refl
+any-or p q (o ∷ os) = ap (λ (b : Bool). (p o || q o) || b) (any-or p q os) ∙ turn (p o) (q o) (list_any p os) (list_any q os)
+  where
+    turn : (a b c d : Bool) → ((a || b) || (c || d)) ≡ ((a || c) || (b || d))
+    turn true b c d = refl
+    turn false true true d = refl
+    turn false true false d = refl
+    turn false false c d = refl
+
+any-none : (os : List ObjectNo) → list_any (λ (x : ObjectNo). false) os ≡ false
+any-none [] = refl
+any-none (o ∷ os) = any-none os
+
+pub nat_eq-turn : (a b : ℕ) → nat_eq a b ≡ nat_eq b a
+nat_eq-turn a b = same-tests (nat_eq a b) (nat_eq b a) (λ h. eq-eqb b a (sym (eqb-true a b h))) (λ h. eq-eqb a b (sym (eqb-true b a h)))
+
+among-turn : (y : ObjectNo) (os : List ObjectNo) → list_any (same_object y) os ≡ list_any (λ x. same_object x y) os
+among-turn y [] = refl
+among-turn y (o ∷ os) = λ i. nat_eq-turn y.0 o.0 i || among-turn y os i
+
+-- a value goes where it is one of the objects
+goes-among : (os : List ObjectNo) (v : Value) → goes (is_node_among os) v ≡ list_any (λ x. same_value (value.Object x) v) os
+goes-among os (value.Object y) = among-turn y os
+goes-among os _ = sym (any-none os)
+
+-- some value goes where some of the objects is among the values
+any-turn : (os : List ObjectNo) (vs : List Value) → list_any (goes (is_node_among os)) vs ≡ list_any (λ x. has_value vs (value.Object x)) os
+any-turn os [] = sym (any-none os)
+any-turn os (v ∷ vs) =
+    (λ i. goes-among os v i || any-turn os vs i)
+    ∙ sym (any-or (λ x. same_value (value.Object x) v) (λ x. has_value vs (value.Object x)) os)
+
+module _ (s : Model) (legal : IsLegal s) (g : Node → Bool) (e : End) where
+  -- only a reference holds an object
+  linked-goes : (shape s.metamodel e.feature).is_reference ≡ false → list_any (goes g) (end s.links e) ≡ false
+  linked-goes other =
+      elim (list_any (goes g) (end s.links e)) as (λ b. list_any (goes g) (end s.links e) ≡ b → b ≡ false) [
+        | true ↦ λ h.
+            let at = passes-at (goes g) (end s.links e) h in
+            let known = legal-at (reading s) e (end s.links e) at.0 at.1 (legal.links.ends e) at.2 in
+            absurd (false≢true (sym other ∙ legal-reference (reading s) e.feature at.1 known.1))
+        | false ↦ λ _. refl
+      ] refl
+
+  linked-some : holds_some (reading s) g e ≡ list_any (goes g) (end s.links e)
+  linked-some =
+      elim (shape s.metamodel e.feature).is_reference as (λ b. (shape s.metamodel e.feature).is_reference ≡ b → (b && list_any (goes g) ((reading s).values e)) ≡ list_any (goes g) (end s.links e)) [
+        | true ↦ λ is. ap (list_any (goes g)) (values-linked s e is)
+        | false ↦ λ other. sym (linked-goes other)
+      ] refl
+
+---------------------------------------------------------------- the ends that are found
+
+any-end : (es : List End) (q : End) → list_any (λ (k : End). eq_by_cmp rank_cmp q k) es ≡ has_end es q
+any-end [] q = refl
+any-end (e ∷ es) q = λ i. ((eq_by_cmp_equiv rank_cmp-total).symm q e ∙ ties-same e q) i || any-end es q i
+
+strictly-sorted : (es : List End) → IsSorted is_before es → IsStrictlySortedBy rank_cmp es
+unfolding IsStrictlySortedBy
+strictly-sorted [] sorted = tt
+strictly-sorted (e ∷ es) sorted = (all_weaker (λ (d : End). is_before e d ≡ true) (λ (d : End). rank_cmp e d ≡ Less) es (before-less e) sorted.0, strictly-sorted es sorted.1)
+
+tie-same : (d e : End) → rank_cmp d e ≡ Equal → d ≡ e
+tie-same d e h = same_end-true d e (sym (ties-same d e) ∙ ap is_eq h)
+
+-- ends in order are told by what is among them
+same-ends : (xs ys : List End) → IsStrictlySortedBy rank_cmp xs → IsStrictlySortedBy rank_cmp ys → ((e : End) → has_end xs e ≡ has_end ys e) → xs ≡ ys
+same-ends xs ys a b same =
+    let s : BTreeSet End = record { keys = xs } in
+    let t : BTreeSet End = record { keys = ys } in
+    btree_set_from_contains rank_cmp-total s t a b (λ q. any-end xs q ∙ same q ∙ sym (any-end ys q)) tie-same
+
+-- the ends that are found, in order, are the touched ones
+pub touched-found : (s : Model) → IsLegal s → (o : ObjectNo) → is_live (reading s) o ≡ true → (os : List ObjectNo) (numbers : BTreeSet ℕ) (found es : List End)
+    → os ≡ subtree (reading s) o → HasGone (reading s) o numbers
+    → ((e : End) → has_end found e ≡ (not (is_in numbers e.node) && list_any (holds s.links e) os))
+    → IsStrictlySortedBy rank_cmp es → ((e : End) → has_end es e ≡ has_end found e) → es ≡ touched_ends (reading s) o
+touched-found s legal o live os numbers found es all has held sorted same =
+    let r = reading s in
+    let g = gone r o in
+    same-ends es (touched_ends r o) sorted (strictly-sorted (touched_ends r o) (touched-sorted s o)) (λ e.
+    let some : list_any (holds s.links e) os ≡ holds_some r g e = ap (list_any (holds s.links e)) all ∙ sym (any-turn (subtree r o) (end s.links e)) ∙ sym (linked-some s legal g e) in
+    same e ∙ held e ∙ (λ i. not (has e.node i) && some i) ∙ sym (touched-all s legal o live e))

@@ -1,0 +1,5 @@
+pub mod OuterLemmas
+pub mod OrderLemmas
+pub mod RankLemmas
+pub mod HoldLemmas
+pub mod LossLemmas

@@ -1,0 +1,188 @@
+-- What an end loses, place by place, and where the object itself stands then.
+use Rattle.std.proofs.Common.{◌≡◌, ℕ, zero, suc, ◌+◌, ◌<◌, ◌≤◌, length, drop, slice_get, slice_index_or, eq-eqb, Bool, true, false, not, ◌&&◌, cond, List, [], ◌∷◌, ◌++◌, filter, flat_map, Option, Some, None, option_map, append_assoc, add-one, refl, sym, ap, ◌∙◌, arith}
+use Rattle.std.specs.BTreeSet.{BTreeSet}
+use Rattle.std.specs.Option.{option_map_or}
+use Rattle.std.proofs.lemmas.Bool.{and_parts}
+use Rattle.std.proofs.lemmas.List.{append-nil, drop_all, drop_more}
+use Rattle.std.proofs.lemmas.List.Elements.{All-get_or, filter_passes}
+use Rattle.std.proofs.lemmas.Option.{none-some, same_Some}
+use Rattle.mm_types.proofs.SameLemmas.{same_end-self}
+use Rattle.mm_types.specs.Ends.{index_in}
+use Rattle.mm_types.specs.Same.{node_value, same_end, same_value}
+use Rattle.mm_types.specs.Shapes.{shape}
+use Rattle.mm_types.specs.declared.end.End.{End}
+use Rattle.mm_types.specs.declared.numbers.Node.TheVariants as node
+use Rattle.mm_types.specs.declared.numbers.ObjectNo.{ObjectNo}
+use Rattle.mm_types.specs.declared.value.Value.{Value}
+use Rattle.mm_types.specs.declared.value.Value.TheVariants as value
+use Rattle.link_store.proofs.HolderLemmas.{holder-some, place_held}
+use Rattle.link_store.specs.Laws.{goes}
+use Rattle.link_store.specs.Links.{end}
+use Rattle.models.specs.Legal.{IsLegal}
+use Rattle.models.specs.Model.{Model, reading}
+use Rattle.models.specs.Reading.{Reading}
+use Rattle.containment.proofs.PartLemmas.{legal-at}
+use Rattle.deletion.proofs.HoldLemmas.{legal-reference}
+use Rattle.deletion.specs.Losses.{is_held_by, is_lost, loss, lost_from}
+use Rattle.deletion.specs.Outer.{gone, holds_some, outer_ends, touched_ends}
+use Rattle.deletion.specs.Ranks.{HasGone, is_in}
+use Rattle.deletion.specs.declared.loss.Loss.{Loss}
+
+---------------------------------------------------------------- places
+
+get-at : (vs : List Value) (i : ℕ) (v : Value) → slice_get vs i ≡ Some v → (i < length vs) × (slice_index_or vs i v ≡ v)
+get-at [] i v at = absurd (none-some v at)
+get-at (w ∷ ws) zero v at = (omega arith, same_Some w v at)
+get-at (w ∷ ws) (suc i) v at = let r = get-at ws i v at in ((let low = r.0 in omega (arith, low)), r.1)
+
+-- from a place on, the value there comes first
+drop-at : (vs : List Value) (i : ℕ) (v : Value) → slice_get vs i ≡ Some v → drop i vs ≡ v ∷ drop (i + 1) vs
+drop-at vs i v at = let r = get-at vs i v at in drop_more vs i v r.0 ∙ ap (λ (w : Value). w ∷ drop (i + 1) vs) r.1
+
+drop-none : (vs : List Value) (i : ℕ) → slice_get vs i ≡ None → drop i vs ≡ []
+drop-none [] zero none = refl
+drop-none [] (suc i) none = refl
+drop-none (v ∷ vs) zero none = absurd (none-some v (sym none))
+drop-none (v ∷ vs) (suc i) none = drop-none vs i none
+
+-- what is read of a reference at a place
+some-at : (vs : List Value) (i : ℕ) (q : Option ObjectNo) (x : ObjectNo) → option_map value.Object q ≡ slice_get vs i → q ≡ Some x → slice_get vs i ≡ Some (value.Object x)
+some-at vs i q x read is = sym read ∙ ap (λ (o : Option ObjectNo). option_map value.Object o) is
+
+none-at : (vs : List Value) (i : ℕ) (q : Option ObjectNo) → option_map value.Object q ≡ slice_get vs i → q ≡ None → slice_get vs i ≡ None
+none-at vs i q read is = sym read ∙ ap (λ (o : Option ObjectNo). option_map value.Object o) is
+
+---------------------------------------------------------------- one end
+
+-- a value is lost where the numbers and the holder say so
+pub lost-is : (r : Reading) (o : ObjectNo) (e : End) (x : ObjectNo) (numbers : BTreeSet ℕ) (held answer : Bool) → HasGone r o numbers → held ≡ is_held_by r o e
+    → answer ≡ (is_in numbers (node.Object x) && not (held && same_value (value.Object x) (value.Object o))) → answer ≡ is_lost r o e (value.Object x)
+lost-is r o e x numbers held answer has holds told = told ∙ (λ i. has (node.Object x) i && not (holds i && same_value (value.Object x) (value.Object o)))
+
+module _ (e : End) (p : Value → Bool) where
+  lost-yes : (v : Value) (vs : List Value) (k : ℕ) → p v ≡ true → lost_from p e (v ∷ vs) k ≡ loss e v k ∷ lost_from p e vs k
+  lost-yes v vs k h = ap (λ (b : Bool). cond b (loss e v k ∷ lost_from p e vs k) (lost_from p e vs (suc k))) h
+
+  lost-no : (v : Value) (vs : List Value) (k : ℕ) → p v ≡ false → lost_from p e (v ∷ vs) k ≡ lost_from p e vs (suc k)
+  lost-no v vs k h = ap (λ (b : Bool). cond b (loss e v k ∷ lost_from p e vs k) (lost_from p e vs (suc k))) h
+
+  -- one place further, where the value is lost
+  pub lost-step : (vs : List Value) (i k : ℕ) (q : Option ObjectNo) (x : ObjectNo) (out new all : List Loss) → option_map value.Object q ≡ slice_get vs i → q ≡ Some x → p (value.Object x) ≡ true
+      → new ≡ out ++ loss e (value.Object x) k ∷ [] → out ++ lost_from p e (drop i vs) k ≡ all → new ++ lost_from p e (drop (i + 1) vs) k ≡ all
+  lost-step vs i k q x out new all read is h made whole =
+      let v = value.Object x in
+      let rest = drop (i + 1) vs in
+      ap (λ (ls : List Loss). ls ++ lost_from p e rest k) made
+      ∙ append_assoc out (loss e v k ∷ []) (lost_from p e rest k)
+      ∙ ap (λ (ls : List Loss). out ++ ls) (sym (lost-yes v rest k h) ∙ ap (λ (ws : List Value). lost_from p e ws k) (sym (drop-at vs i v (some-at vs i q x read is))))
+      ∙ whole
+
+  -- one place further, where it stays
+  pub kept-step : (vs : List Value) (i k : ℕ) (q : Option ObjectNo) (x : ObjectNo) (out all : List Loss) → option_map value.Object q ≡ slice_get vs i → q ≡ Some x → p (value.Object x) ≡ false
+      → out ++ lost_from p e (drop i vs) k ≡ all → out ++ lost_from p e (drop (i + 1) vs) (k + 1) ≡ all
+  kept-step vs i k q x out all read is h whole =
+      let v = value.Object x in
+      let rest = drop (i + 1) vs in
+      ap (λ (n : ℕ). out ++ lost_from p e rest n) (add-one k)
+      ∙ ap (λ (ls : List Loss). out ++ ls) (sym (lost-no v rest k h) ∙ ap (λ (ws : List Value). lost_from p e ws k) (sym (drop-at vs i v (some-at vs i q x read is))))
+      ∙ whole
+
+  lost-done : (ws : List Value) (k : ℕ) (out all : List Loss) → ws ≡ [] → out ++ lost_from p e ws k ≡ all → out ≡ all
+  lost-done ws k out all none whole = sym (ap (λ (vs : List Value). out ++ lost_from p e vs k) none ∙ append-nil out) ∙ whole
+
+  -- past the last place
+  pub lost-end : (vs : List Value) (i k : ℕ) (out all : List Loss) → length vs ≤ i → out ++ lost_from p e (drop i vs) k ≡ all → out ≡ all
+  lost-end vs i k out all past = lost-done (drop i vs) k out all (drop_all i vs past)
+
+  pub lost-none : (vs : List Value) (i k : ℕ) (q : Option ObjectNo) (out all : List Loss) → option_map value.Object q ≡ slice_get vs i → q ≡ None → out ++ lost_from p e (drop i vs) k ≡ all → out ≡ all
+  lost-none vs i k q out all read is = lost-done (drop i vs) k out all (drop-none vs i (none-at vs i q read is))
+
+---------------------------------------------------------------- the object itself
+
+module _ (p : Value → Bool) (o : ObjectNo) where
+  -- where the object stands among the values that are not lost
+  abbrev pub place_left : List Value → ℕ
+  place_left vs = index_in (filter (λ v. not (p v)) vs) (value.Object o)
+
+  left-none : (vs : List Value) → vs ≡ [] → place_left vs ≡ 0
+  left-none vs none = ap place_left none
+
+  left-lost : (v : Value) (vs : List Value) → p v ≡ true → place_left (v ∷ vs) ≡ place_left vs
+  left-lost v vs h = ap (λ (b : Bool). index_in (cond (not b) (v ∷ filter (λ w. not (p w)) vs) (filter (λ w. not (p w)) vs)) (value.Object o)) h
+
+  left-kept : (v : Value) (vs : List Value) → p v ≡ false → place_left (v ∷ vs) ≡ cond (same_value (value.Object o) v) 0 (suc (place_left vs))
+  left-kept v vs h = ap (λ (b : Bool). index_in (cond (not b) (v ∷ filter (λ w. not (p w)) vs) (filter (λ w. not (p w)) vs)) (value.Object o)) h
+
+  left-here : (vs : List Value) (i : ℕ) (v : Value) → slice_get vs i ≡ Some v → place_left (drop i vs) ≡ place_left (v ∷ drop (i + 1) vs)
+  left-here vs i v at = ap place_left (drop-at vs i v at)
+
+  -- one place further
+  pub left-lost_step : (vs : List Value) (i k all : ℕ) (q : Option ObjectNo) (x : ObjectNo) → option_map value.Object q ≡ slice_get vs i → q ≡ Some x → p (value.Object x) ≡ true
+      → k + place_left (drop i vs) ≡ all → k + place_left (drop (i + 1) vs) ≡ all
+  left-lost_step vs i k all q x read is h whole =
+      ap (λ (n : ℕ). k + n) (sym (left-here vs i (value.Object x) (some-at vs i q x read is) ∙ left-lost (value.Object x) (drop (i + 1) vs) h)) ∙ whole
+
+  pub left-kept_step : (vs : List Value) (i k all : ℕ) (q : Option ObjectNo) (x : ObjectNo) → option_map value.Object q ≡ slice_get vs i → q ≡ Some x → p (value.Object x) ≡ false
+      → same_value (value.Object o) (value.Object x) ≡ false → k + place_left (drop i vs) ≡ all → k + 1 + place_left (drop (i + 1) vs) ≡ all
+  left-kept_step vs i k all q x read is h other whole =
+      let rest = drop (i + 1) vs in
+      let one : place_left (drop i vs) ≡ suc (place_left rest) = left-here vs i (value.Object x) (some-at vs i q x read is) ∙ left-kept (value.Object x) rest h ∙ ap (λ (b : Bool). cond b 0 (suc (place_left rest))) other in
+      omega (arith, one, whole)
+
+  -- at the object itself
+  pub left-found : (vs : List Value) (i k all : ℕ) (q : Option ObjectNo) → option_map value.Object q ≡ slice_get vs i → q ≡ Some o → p (value.Object o) ≡ false
+      → k + place_left (drop i vs) ≡ all → k ≡ all
+  left-found vs i k all q read is h whole =
+      let rest = drop (i + 1) vs in
+      let none : place_left (drop i vs) ≡ 0 = left-here vs i (value.Object o) (some-at vs i q o read is) ∙ left-kept (value.Object o) rest h ∙ ap (λ (b : Bool). cond b 0 (suc (place_left rest))) (eq-eqb o.0 o.0 refl) in
+      omega (arith, none, whole)
+
+  pub left-end : (vs : List Value) (i k all : ℕ) → length vs ≤ i → k + place_left (drop i vs) ≡ all → k ≡ all
+  left-end vs i k all past whole = let none : place_left (drop i vs) ≡ 0 = left-none (drop i vs) (drop_all i vs past) in omega (arith, none, whole)
+
+  pub left-past : (vs : List Value) (i k all : ℕ) (q : Option ObjectNo) → option_map value.Object q ≡ slice_get vs i → q ≡ None → k + place_left (drop i vs) ≡ all → k ≡ all
+  left-past vs i k all q read is whole = let none : place_left (drop i vs) ≡ 0 = left-none (drop i vs) (drop-none vs i (none-at vs i q read is)) in omega (arith, none, whole)
+
+-- the end that contains the object does not lose it before the end
+pub held-by : (r : Reading) (o : ObjectNo) (e : End) → r.holder (node.Object o) ≡ Some e → true ≡ is_held_by r o e
+held-by r o e held = sym (ap (λ (h : Option End). option_map_or (same_end e) h false) held ∙ same_end-self e)
+
+pub itself-stays : (r : Reading) (o : ObjectNo) (e : End) → r.holder (node.Object o) ≡ Some e → is_lost r o e (value.Object o) ≡ false
+itself-stays r o e held =
+    ap (λ (b : Bool). goes (gone r o) (value.Object o) && not (b && same_value (value.Object o) (value.Object o))) (sym (held-by r o e held))
+    ∙ ap (λ (b : Bool). goes (gone r o) (value.Object o) && not b) (eq-eqb o.0 o.0 refl) ∙ and-false (goes (gone r o) (value.Object o))
+  where
+    and-false : (b : Bool) → (b && false) ≡ false
+    and-false true = refl
+    and-false false = refl
+
+-- the end that contains the object is one of a reference
+pub holder-reference : (s : Model) → IsLegal s → (o : ObjectNo) (e : End) → (reading s).holder (node.Object o) ≡ Some e → (shape s.metamodel e.feature).is_reference ≡ true
+holder-reference s legal o e held =
+    let n = node.Object o in
+    let l = holder-some s.links n e held in
+    let at = place_held l.0 n e (legal.links.set.placed.sides l.0 l.1) l.2 in
+    let there = (legal.links.set.placed.ends e).has at.0 (node_value n) (l.0, l.1, at.1) in
+    legal-reference (reading s) e.feature (value.Object o) (legal-at (reading s) e (end s.links e) at.0 (value.Object o) (legal.links.ends e) there).1
+
+---------------------------------------------------------------- all ends
+
+-- a touched end is one of a reference
+pub touched-reference : (r : Reading) (o : ObjectNo) (es : List End) (k : ℕ) (d : End) → es ≡ touched_ends r o → k < length es → (shape r.metamodel (slice_index_or es k d).feature).is_reference ≡ true
+touched-reference r o es k d is low =
+    let some : End → Bool = holds_some r (gone r o) in
+    let lower : k < length (touched_ends r o) = omega (arith, low, ap length is) in
+    ap (λ (xs : List End). (shape r.metamodel (slice_index_or xs k d).feature).is_reference) is
+    ∙ (and_parts _ _ (All-get_or (λ e. some e ≡ true) (touched_ends r o) k d lower (filter_passes some (outer_ends r (gone r o))))).0
+
+module _ {X Y : Type 0} (f : X → List Y) where
+  -- what one more gives
+  pub flat-step : (xs : List X) (i : ℕ) (d : X) (out new all : List Y) → i < length xs → new ≡ out ++ f (slice_index_or xs i d) → out ++ flat_map f (drop i xs) ≡ all → new ++ flat_map f (drop (i + 1) xs) ≡ all
+  flat-step xs i d out new all low made whole =
+      ap (λ ys. ys ++ flat_map f (drop (i + 1) xs)) made
+      ∙ append_assoc out (f (slice_index_or xs i d)) (flat_map f (drop (i + 1) xs))
+      ∙ ap (λ zs. out ++ flat_map f zs) (sym (drop_more xs i d low))
+      ∙ whole
+
+  pub flat-end : (xs : List X) (i : ℕ) (out all : List Y) → length xs ≤ i → out ++ flat_map f (drop i xs) ≡ all → out ≡ all
+  flat-end xs i out all past whole = sym (ap (λ zs. out ++ flat_map f zs) (drop_all i xs past) ∙ append-nil out) ∙ whole

@@ -1,0 +1,3 @@
+pub mod Outer
+pub mod Ranks
+pub mod Losses

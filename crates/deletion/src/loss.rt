@@ -1,0 +1,148 @@
+//! What ends lose.
+ghost use Rattle.std.specs.Prelude.{◌≡◌, ◌&&◌, ◌++◌, not, true, IfOk, OnOk, Some};
+ghost use Rattle.mm_types.specs.Ends.{index_in};
+ghost use Rattle.mm_types.specs.Same.{same_value};
+ghost use Rattle.mm_types.specs.Shapes.{shape};
+ghost use Rattle.mm_types.specs.declared.numbers.Node.TheVariants as node;
+ghost use Rattle.mm_types.specs.declared.value.Value.TheVariants as value;
+ghost use Rattle.models.specs.Model.{reading};
+ghost use Rattle.models.specs.Reading.{is_live};
+ghost use Rattle.deletion.specs.Losses as l;
+ghost use Rattle.deletion.specs.Ranks as ranks;
+
+use crate::ends::ends_touched_by;
+use crate::numbers::{is_in, numbers_of};
+use containment::subtree;
+use link_store::LinkStore;
+use mm_types::{End, Node, ObjectNo, Value};
+use models::ModelRef;
+use std::alloc::{AllocError, Global};
+use std::collections::BTreeSet;
+
+/// A value that an end loses.
+#[derive(Debug, Drop)]
+pub struct Loss {
+    pub end: End,
+    pub value: Value,
+    /// The position that it has once the losses before this one are made, from 0.
+    pub position: u32,
+}
+
+/// What ends of other nodes lose when an object and all that is below it are destroyed, by feature number, then by node, then by
+/// position; the loss of the object itself, at the end that contains it, comes last. Errs only when out of memory.
+pub fn losses<L: LinkStore>(
+    alloc: Global,
+    model: &ModelRef<L>,
+    object: ObjectNo,
+) -> Result<Vec<Loss>, AllocError>
+    requires live { is_live (reading model.now) object ≡ true }
+    ensures { IfOk result (λ ls. ls.items ≡ l.losses (reading model.now) object) }
+{
+    let objects = subtree(alloc, model, object)?;
+    let numbers = numbers_of(alloc, &objects)?;
+    let ends = ends_touched_by(alloc, model, object, &objects, &numbers)?;
+    let mut out = Vec::new(alloc);
+    for end in &ends {
+        push_lost(model, object, &numbers, *end, &mut out)?;
+    }
+    push_last(model, object, &numbers, &mut out)?;
+    Ok(out)
+}
+
+/// Adds what one end loses before the object itself is taken out of the end that contains it.
+fn push_lost<L: LinkStore>(
+    model: &ModelRef<L>,
+    object: ObjectNo,
+    numbers: &BTreeSet<u32>,
+    end: End,
+    out: &mut Vec<Loss>,
+) -> Result<(), AllocError>
+    requires reference { (shape model.now.metamodel end.feature).is_reference ≡ true }
+    requires numbers { ranks.HasGone (reading model.now) object numbers.now }
+    ensures { OnOk result (out.new.items ≡ out.old.items ++ l.lost_at (reading model.now) object end) }
+{
+    let is_holder = is_held_by(model, object, end);
+    let mut kept = 0;
+    for index in 0..model.len(end) {
+        let Some(found) = model.object_in(end, index) else {
+            return Ok(());
+        };
+        if is_lost(object, numbers, is_holder, found) {
+            let value = Value::Object(found);
+            out.push(Loss {
+                end,
+                value,
+                position: kept,
+            })?;
+        } else {
+            kept += 1;
+        }
+    }
+    Ok(())
+}
+
+/// Adds the loss of the object itself, at the end that contains it.
+fn push_last<L: LinkStore>(
+    model: &ModelRef<L>,
+    object: ObjectNo,
+    numbers: &BTreeSet<u32>,
+    out: &mut Vec<Loss>,
+) -> Result<(), AllocError>
+    requires numbers { ranks.HasGone (reading model.now) object numbers.now }
+    ensures { OnOk result (out.new.items ≡ out.old.items ++ l.last_loss (reading model.now) object) }
+{
+    if let Some(end) = model.holder(Node::Object(object)) {
+        let value = Value::Object(object);
+        let position = last_position(model, object, numbers, end);
+        out.push(Loss {
+            end,
+            value,
+            position,
+        })?;
+    }
+    Ok(())
+}
+
+/// The position of the object itself in the end that contains it, once that end has lost all else that goes.
+fn last_position<L: LinkStore>(
+    model: &ModelRef<L>,
+    object: ObjectNo,
+    numbers: &BTreeSet<u32>,
+    end: End,
+) -> u32
+    requires held { (reading model.now).holder (node.Object object) ≡ Some end }
+    requires numbers { ranks.HasGone (reading model.now) object numbers.now }
+    ensures { result ≡ index_in (l.kept_at (reading model.now) object end) (value.Object object) }
+{
+    model.is_legal();
+    let mut kept = 0;
+    for index in 0..model.len(end) {
+        let Some(found) = model.object_in(end, index) else {
+            return kept;
+        };
+        if found == object {
+            return kept;
+        }
+        if !is_lost(object, numbers, true, found) {
+            kept += 1;
+        }
+    }
+    kept
+}
+
+/// Whether an object that stands in an end goes before the object itself is taken out of the end that contains it.
+fn is_lost(object: ObjectNo, numbers: &BTreeSet<u32>, is_holder: bool, found: ObjectNo) -> bool
+    ensures { result ≡ (ranks.is_in numbers.now (node.Object found) && not (is_holder && same_value (value.Object found) (value.Object object))) }
+{
+    is_in(numbers, Node::Object(found)) && !(is_holder && found == object)
+}
+
+/// Whether an end contains an object.
+fn is_held_by<L: LinkStore>(model: &ModelRef<L>, object: ObjectNo, end: End) -> bool
+    ensures { result ≡ l.is_held_by (reading model.now) object end }
+{
+    match model.holder(Node::Object(object)) {
+        Some(holder) => end == holder,
+        None => false,
+    }
+}

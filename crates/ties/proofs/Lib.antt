@@ -1,0 +1,7 @@
+pub mod PushLemmas
+pub mod ListLemmas
+pub mod OrderLemmas
+pub mod EndLemmas
+pub mod TieLemmas
+pub mod NameLemmas
+pub mod TreeLemmas

@@ -1,0 +1,2 @@
+pub mod TreeTies
+pub mod Laws

@@ -1,0 +1,9 @@
+//! Names of links.
+use mm_types::{End, Value};
+
+/// A link or a proxy, named by an end in which it stands and its value there: no edit of another link changes that name.
+#[derive(Debug, Drop)]
+pub struct Tie {
+    pub end: End,
+    pub value: Value,
+}
