@@ -3,3 +3,4 @@ pub mod NumberLemmas
 pub mod ReserveLemmas
 pub mod DeliveryLemmas
 pub mod RoundLemmas
+pub mod ReleaseLemmas

@@ -5,6 +5,7 @@ ghost use Rattle.adapter_list.specs.Attached.{listed_one, HasReserve};
 
 mod attach;
 mod release;
+mod release_gone;
 mod tell;
 
 use crate::attached::Attached;

@@ -1,5 +1,5 @@
 //! A chain that is ready to be delivered.
-ghost use Rattle.std.specs.Prelude.{◌≡◌, ◌∷◌, ◌++◌, [], OnOk};
+ghost use Rattle.std.specs.Prelude.{◌≡◌, ◌∷◌, ◌++◌, [], length, OnOk};
 
 use mm_types::AdapterNo;
 use notice_chain::Notice;
@@ -46,6 +46,13 @@ impl Round {
         self.copies.push((place, notice.clone()?))?;
         self.told.push((no, notice.clone()?))?;
         Ok(())
+    }
+
+    /// How many times an adapter is notified in it. Takes no memory.
+    pub fn told_len(&self) -> usize
+        ensures { result ≡ length self.now.told }
+    {
+        self.told.len()
     }
 
     /// The copies with the places of their adapters, and the list of who is notified of what.

@@ -58,7 +58,7 @@ impl<A: Adapter> AdapterList<A> {
 }
 
 /// The last notice of an adapter, with its index among the adapters attached to its target.
-fn last_notice(no: AdapterNo, target: Node, index: usize) -> Notice
+pub(super) fn last_notice(no: AdapterNo, target: Node, index: usize) -> Notice
     requires { index ≤ ADAPTERS }
     ensures { result ≡ removing no target index }
 {
