@@ -34,17 +34,18 @@ use Rattle.handshake.proofs.PlanLemmas.{add-new, set-new}
 use Rattle.handshake.proofs.YieldLemmas.{Origin, yields-origin}
 use Rattle.handshake.proofs.ReplayLemmas.{replayed_all-told}
 use Rattle.handshake.proofs.TieNameLemmas.{IsNameOf, IsYielded, name-stands, names-apart, turned-apart, yielded, yielded-agree, yielded-far, yielded-near}
-use Rattle.handshake.specs.Displaced.{cut_by_new, cut_by_set, cut_ties, has_already, is_plain_add, is_plain_set, other_side, same_link, tie, tie_in, ties_at, ties_backwards, turned, yields}
+use Rattle.handshake.specs.Displaced.{cut_by_new, cut_by_set, cut_ties, has_already, is_plain_add, is_plain_set, other_side, same_link, tie_in, ties_at, ties_backwards, turned, yields}
+use Rattle.ties.specs.TreeTies.{tie}
 use Rattle.handshake.specs.Laws.{AreApart, AreDifferent, takes_many}
 use Rattle.handshake.specs.Refusals.{early_refusal, late_refusal}
 use Rattle.handshake.specs.Telling.{changed, flagged, happened, happened_all, has_flag, notice_at, notice_of, telling, told}
-use Rattle.handshake.specs.Tellings.{all_lost, before_gain, chain, far_gain, far_loss, far_losses, gain_at, is_replaced, loss, losses, other_losses, taken_out, tellings, tellings_with}
-use Rattle.handshake.specs.declared.change.Change.TheVariants.{Create, Set, Unset, Add, Remove, RemoveValue, Move, NewResource}
+use Rattle.handshake.specs.Tellings.{all_lost, before_gain, chain, destroyed_by, far_gain, far_loss, far_losses, gain_at, is_replaced, loss, losses, other_losses, taken_out, tellings, tellings_with}
+use Rattle.handshake.specs.declared.change.Change.TheVariants.{Create, Set, Unset, Add, Remove, RemoveValue, Move, Delete, NewResource}
 use Rattle.handshake.specs.declared.change.Change.{Change}
 use Rattle.handshake.specs.declared.happening.Happening.TheVariants.{Gains, LosesAt, Moves, Unsets}
 use Rattle.handshake.specs.declared.happening.Happening.{Happening}
 use Rattle.handshake.specs.declared.happening.Telling.{Telling}
-use Rattle.handshake.specs.declared.tie.Tie.{Tie}
+use Rattle.ties.specs.declared.tie.Tie.{Tie}
 
 ---------------------------------------------------------------- lists
 
@@ -362,6 +363,7 @@ unset-apart s n f h legal =
 pub tellings-apart : (s : Model) (c : Change) → IsLegal s → early_refusal (reading s) c ≡ None → late_refusal (reading s) c ≡ None → takes_many (reading s) c ≡ false → AreApart (tellings (reading s) c)
 tellings-apart s (Create c) legal early late few = tt
 tellings-apart s (NewResource u) legal early late few = tt
+tellings-apart s (Delete o) legal early late few = absurd (false≢true (sym few))
 tellings-apart s (Set n f v) legal early late few =
     let r = reading s in
     let e = at_end n f in
@@ -425,7 +427,7 @@ take-removed vs n low =
     let below : nat_lt n (length (take (suc n) vs)) ≡ true = rw long (grind (arith, nat_tests)) in
     rw below (take-remove vs n low)
 
-not-nil : (vs : List Value) (n : ℕ) → n < length vs → not (is_nil vs) ≡ true
+pub not-nil : (vs : List Value) (n : ℕ) → n < length vs → not (is_nil vs) ≡ true
 not-nil [] n low = absurd (omega (arith, low))
 not-nil (v ∷ vs) n low = refl
 
@@ -458,7 +460,7 @@ happened-away m e (t ∷ ts) x away =
     happened-away m (happened m e t) ts x away.1
     ∙ with_held-other e t.at x (record { values = changed (shape m t.at.feature) t.does (e t.at).values; flag = flagged (shape m t.at.feature) t.does (e t.at).flag }) away.0
 
-told-append : (m : Metamodel) (e : Ends) (ts us : List Telling) → told m e (ts ++ us) ≡ told m e ts ++ told m (happened_all m e ts) us
+pub told-append : (m : Metamodel) (e : Ends) (ts us : List Telling) → told m e (ts ++ us) ≡ told m e ts ++ told m (happened_all m e ts) us
 told-append m e [] us = refl
 told-append m e (t ∷ ts) us =
     let n = read_in m e t in
@@ -503,11 +505,11 @@ unset-read s n f legal many =
     within : (r : Reading) (e : End) → (held_at r e).values ≡ r.values e → length (r.values e) ≤ length (held_at r e).values
     within r e is = subst (λ (vs : List Value). length (r.values e) ≤ length vs) (sym is) (omega arith)
 
--- the chain is the notices that are read in the model as it is
-pub chain-read : (s : Model) (c : Change) → IsLegal s → early_refusal (reading s) c ≡ None → late_refusal (reading s) c ≡ None → chain (reading s) c ≡ map (notice_at (reading s)) (tellings (reading s) c)
-chain-read s c legal early late =
+-- the chain of a change that destroys nothing is the notices that are read in the model as it is
+pub chain-read : (s : Model) (c : Change) → IsLegal s → destroyed_by c ≡ None → early_refusal (reading s) c ≡ None → late_refusal (reading s) c ≡ None → chain (reading s) c ≡ map (notice_at (reading s)) (tellings (reading s) c)
+chain-read s c legal none early late =
     elim (takes_many (reading s) c) as (λ b. takes_many (reading s) c ≡ b → chain (reading s) c ≡ map (notice_at (reading s)) (tellings (reading s) c)) [
-      | true ↦ λ many. by c many
+      | true ↦ λ many. by c none many
       | false ↦ λ few. told-apart s.metamodel (held_at (reading s)) (tellings (reading s) c) (tellings-apart s c legal early late few)
     ] refl
   where
@@ -515,14 +517,15 @@ chain-read s c legal early late =
     not-true true h = absurd (false≢true h)
     not-true false h = refl
 
-    by : (c : Change) → takes_many (reading s) c ≡ true → chain (reading s) c ≡ map (notice_at (reading s)) (tellings (reading s) c)
-    by (Unset n f) many = unset-read s n f legal (not-true (shape s.metamodel f).is_single many)
-    by _ many = absurd (false≢true many)
+    by : (c : Change) → destroyed_by c ≡ None → takes_many (reading s) c ≡ true → chain (reading s) c ≡ map (notice_at (reading s)) (tellings (reading s) c)
+    by (Delete o) none many = absurd (none-some o (sym none))
+    by (Unset n f) none many = unset-read s n f legal (not-true (shape s.metamodel f).is_single many)
+    by _ none many = absurd (false≢true many)
 
 ---------------------------------------------------------------- tellings that are made
 
 -- the notices of the tellings that are made are the chain
-pub made-chain : (s : Model) (c : Change) (cut : List Tie) (ts : List Telling) → IsLegal s → early_refusal (reading s) c ≡ None → late_refusal (reading s) c ≡ None → cut ≡ cut_ties (reading s) c → ts ≡ tellings_with (reading s) c cut
+pub made-chain : (s : Model) (c : Change) (cut : List Tie) (ts : List Telling) → IsLegal s → destroyed_by c ≡ None → early_refusal (reading s) c ≡ None → late_refusal (reading s) c ≡ None → cut ≡ cut_ties (reading s) c → ts ≡ tellings_with (reading s) c cut
     → (heard : Bool) → heard ≡ true → map (notice_at (reading s)) ts ≡ (if heard then chain (reading s) c else [])
-made-chain s c cut ts legal early late is_cut made heard is =
-    ap (map (notice_at (reading s))) (made ∙ ap (tellings_with (reading s) c) is_cut) ∙ sym (chain-read s c legal early late) ∙ ap (λ (b : Bool). if b then chain (reading s) c else []) (sym is)
+made-chain s c cut ts legal none early late is_cut made heard is =
+    ap (map (notice_at (reading s))) (made ∙ ap (tellings_with (reading s) c) is_cut) ∙ sym (chain-read s c legal none early late) ∙ ap (λ (b : Bool). if b then chain (reading s) c else []) (sym is)

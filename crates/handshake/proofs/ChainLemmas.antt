@@ -35,27 +35,30 @@ use Rattle.models.specs.Model.{Model, kept_flag, reading}
 use Rattle.models.specs.Reading.{Reading, at_end, first_at, has_feature, held_at, is_repeat, object_of, place_for}
 use Rattle.notice_chain.specs.Replay as replay
 use Rattle.notice_chain.specs.Replay.{moved}
-use Rattle.handshake.specs.Displaced.{cut_by_new, cut_by_set, has_already, is_plain_add, is_plain_set, same_link, tie, tie_in, ties_at, ties_backwards, yields}
+use Rattle.handshake.specs.Displaced.{cut_by_new, cut_by_set, has_already, is_plain_add, is_plain_set, same_link, tie_in, ties_at, ties_backwards, yields}
+use Rattle.ties.specs.TreeTies.{tie}
 use Rattle.handshake.specs.Effects.{add_value, after, of_object, put_values, take_value, value_edits, with_value, without_ties}
-use Rattle.handshake.specs.Laws.{AreDifferent, ChainReplays}
+use Rattle.handshake.specs.Laws.{AreDifferent, ChainReplays, goes_with}
 use Rattle.handshake.specs.Refusals.{early_refusal, late_refusal}
 use Rattle.handshake.specs.Telling.{telling}
 use Rattle.handshake.specs.Tellings.{all_lost, before_gain, far_losses, gain_at, taken_out, tellings}
 use Rattle.handshake.specs.declared.change.Change.{Change}
-use Rattle.handshake.specs.declared.change.Change.TheVariants.{Create, Set, Unset, Add, Remove, RemoveValue, Move, NewResource}
+use Rattle.handshake.specs.declared.change.Change.TheVariants.{Create, Set, Unset, Add, Remove, RemoveValue, Move, Delete, NewResource}
 use Rattle.handshake.specs.declared.happening.Happening.{Happening}
 use Rattle.handshake.specs.declared.happening.Happening.TheVariants.{Gains, LosesAt, Moves, Unsets}
 use Rattle.handshake.specs.declared.happening.Telling.{Telling}
-use Rattle.handshake.specs.declared.tie.Tie.{Tie}
+use Rattle.ties.specs.declared.tie.Tie.{Tie}
 use Rattle.handshake.proofs.ApartLemmas.{backwards-here, tie_in-here, ties_at-here}
 use Rattle.handshake.proofs.AttributeLemmas.{Replays, create-replays}
 use Rattle.handshake.proofs.CutEndLemmas.{held-none, reference-plain, same-held}
 use Rattle.handshake.proofs.CutHeldLemmas.{all-left, held_in, near-gives}
 use Rattle.mm_types.specs.Same.{same_end}
 use Rattle.mm_types.specs.Lists.{put_back, shifted}
-use Rattle.handshake.proofs.CutTieLemmas.{Stands, all_at, any_append_left, any_push, backwards-different, filter_none, is_named-same_link, pairs, plain-not, same_link-self, tie_in-different, tie_in-stand, ties_at-different, ties_at-stand, ties_backwards-stand, values-linked, without_ties-pairs}
+use Rattle.handshake.proofs.CutTieLemmas.{Stands, all_at, any_append_left, any_push, backwards-different, filter_none, is_named-same_link, plain-not, same_link-self, tie_in-different, tie_in-stand, ties_at-different, ties_at-stand, ties_backwards-stand, values-linked, without_ties-names_of}
+use Rattle.ties.specs.Laws.{names_of}
+use Rattle.handshake.proofs.DestroyLemmas.{destroyed-replays}
 use Rattle.handshake.proofs.HappenedLemmas.{at-own, done, happened_all-at, happened_at}
-use Rattle.handshake.proofs.KnownLemmas.{add-named, add-taken, kinds-are, move-named, move-placed, object-reference, remove-named, remove-placed, resource-keeps-none, set-named, set-taken, take-named, unset-there}
+use Rattle.handshake.proofs.KnownLemmas.{add-named, add-taken, delete-named, kinds-are, move-named, move-placed, object-reference, remove-named, remove-placed, resource-keeps-none, set-named, set-taken, take-named, unset-there}
 use Rattle.handshake.proofs.LinkLemmas.{IsNewLink, near-empty, without_displaced}
 use Rattle.handshake.proofs.ListReplayLemmas.{all_lost-own, list-added, list-moved, list-taken, list-unset, lost-done, one-done, own-one, single-set, single-unset}
 use Rattle.handshake.proofs.LossLemmas.{gained-single, lost}
@@ -67,11 +70,11 @@ use Rattle.handshake.proofs.TellingLemmas.{get-place}
 ---------------------------------------------------------------- ends that are emptied
 
 -- an end whose links are all named is empty once they are cut
-all-named : (s : Model) (e : End) (ts : List Tie) → IsLegal s → ((k : ℕ) (w : Value) → slice_get (end s.links e) k ≡ Some w → list_any (same_link (reading s) (tie e w)) ts ≡ true) → end (without_all s.links (pairs ts)) e ≡ []
+all-named : (s : Model) (e : End) (ts : List Tie) → IsLegal s → ((k : ℕ) (w : Value) → slice_get (end s.links e) k ≡ Some w → list_any (same_link (reading s) (tie e w)) ts ≡ true) → end (without_all s.links (names_of ts)) e ≡ []
 all-named s e ts legal each =
     let m = kinds_of s.metamodel in
-    end-without_all m (kinds-are s.metamodel legal.metamodel) s.links (pairs ts) legal.links.set legal.links.kinds e
-    ∙ filter_none (is_named m (pairs ts) e) (end s.links e) (all_at _ (end s.links e) (λ k w at. is_named-same_link (reading s) ts (tie e w) ∙ each k w at))
+    end-without_all m (kinds-are s.metamodel legal.metamodel) s.links (names_of ts) legal.links.set legal.links.kinds e
+    ∙ filter_none (is_named m (names_of ts) e) (end s.links e) (all_at _ (end s.links e) (λ k w at. is_named-same_link (reading s) ts (tie e w) ∙ each k w at))
 
 backwards-named : (r : Reading) (e : End) (vs : List Value) (k : ℕ) (w : Value) → slice_get vs k ≡ Some w → list_any (same_link r (tie e w)) (ties_backwards e vs) ≡ true
 backwards-named r e [] k w at = absurd (none-some w at)
@@ -125,19 +128,19 @@ module _ (s : Model) (legal : IsLegal s) (e : End) (reference : (shape s.metamod
 
   -- what the far ends of cut links lose, and then the end itself
   cut-tells : (ts : List Tie) → AllByRecursion (λ (t : Tie). t.end ≡ e) ts → AreDifferent r ts → AllByRecursion (Stands s.links) ts → (own : List Telling) → AllByRecursion (λ (t : Telling). t.at ≡ e) own
-      → happened_at s.metamodel own e (held_at r e) ≡ held_in s (without_all s.links (pairs ts)) e → Replays s (far_losses r ts ++ own) (relinked s (without_ties s.links ts))
+      → happened_at s.metamodel own e (held_at r e) ≡ held_in s (without_all s.links (names_of ts)) e → Replays s (far_losses r ts ++ own) (relinked s (without_ties s.links ts))
   cut-tells ts here different stand own own_here makes =
-      relinked-by s (far_losses r ts ++ own) (without_all s.links (pairs ts)) (without_ties s.links ts) (sym (without_ties-pairs s.links ts)) (cut-replays s legal e ts here different stand own own_here makes)
+      relinked-by s (far_losses r ts ++ own) (without_all s.links (names_of ts)) (without_ties s.links ts) (sym (without_ties-names_of s.links ts)) (cut-replays s legal e ts here different stand own own_here makes)
 
   -- a single end is emptied
   null-replays : a.is_single ≡ true → (x : Happening) → ((k : Held) → done a x k ≡ lost a) → Replays s (far_losses r (ties_at r e) ++ telling e x ∷ []) (relinked s (without_ties s.links (ties_at r e)))
   null-replays single x does =
       let ts = ties_at r e in
-      let none : end (without_all s.links (pairs ts)) e ≡ [] = all-named s e ts legal (λ k w at. map-named r e (r.values e) k w (subst (λ (vs : List Value). slice_get vs k ≡ Some w) (sym (values-linked s e reference)) at)) in
+      let none : end (without_all s.links (names_of ts)) e ≡ [] = all-named s e ts legal (λ k w at. map-named r e (r.values e) k w (subst (λ (vs : List Value). slice_get vs k ≡ Some w) (sym (values-linked s e reference)) at)) in
       cut-tells ts (ties_at-here r e) (ties_at-different s e legal reference single) (ties_at-stand s e reference) (telling e x ∷ []) (own-one e x)
-      (one-done s.metamodel e x (held_at r e) ∙ does (held_at r e) ∙ held-none s (without_all s.links (pairs ts)) e legal reference single none)
+      (one-done s.metamodel e x (held_at r e) ∙ does (held_at r e) ∙ held-none s (without_all s.links (names_of ts)) e legal reference single none)
 
-  all-gone : end (without_all s.links (pairs (ties_backwards e (r.values e)))) e ≡ []
+  all-gone : end (without_all s.links (names_of (ties_backwards e (r.values e)))) e ≡ []
   all-gone = all-named s e (ties_backwards e (r.values e)) legal (λ k w at. backwards-named r e (r.values e) k w (subst (λ (vs : List Value). slice_get vs k ≡ Some w) (sym (values-linked s e reference)) at))
 
   backwards-apart : AreDifferent r (ties_backwards e (r.values e))
@@ -150,7 +153,7 @@ module _ (s : Model) (legal : IsLegal s) (e : End) (reference : (shape s.metamod
       let plain = reference-plain s.metamodel e.feature reference in
       let lost-so : (k : Held) → done a Unsets k ≡ lost a = λ k i. record { values = plain.1 i ∷ []; flag = sym plain.0 i } in
       cut-tells ts (backwards-here e (r.values e)) backwards-apart (ties_backwards-stand s e reference) (telling e Unsets ∷ []) (own-one e Unsets)
-      (one-done s.metamodel e Unsets (held_at r e) ∙ lost-so (held_at r e) ∙ held-none s (without_all s.links (pairs ts)) e legal reference single all-gone)
+      (one-done s.metamodel e Unsets (held_at r e) ∙ lost-so (held_at r e) ∙ held-none s (without_all s.links (names_of ts)) e legal reference single all-gone)
 
   -- a list that is unset loses each value
   many-unset_link : a.is_single ≡ false → Replays s (far_losses r (ties_backwards e (r.values e)) ++ all_lost e (length (r.values e))) (relinked s (without_ties s.links (ties_backwards e (r.values e))))
@@ -161,7 +164,7 @@ module _ (s : Model) (legal : IsLegal s) (e : End) (reference : (shape s.metamod
       cut-tells ts (backwards-here e (r.values e)) backwards-apart (ties_backwards-stand s e reference) (all_lost e n) (all_lost-own e n)
       (ap (happened_at s.metamodel (all_lost e n) e) (list-held s s.links e reference many)
       ∙ lost-done s.metamodel e n (end s.links e) b many (sym (ap (λ (vs : List Value). length vs) (values-linked s e reference)))
-      ∙ sym (list-held s (without_all s.links (pairs ts)) e reference many ∙ ap (λ (vs : List Value). record { values = vs; flag = b }) all-gone))
+      ∙ sym (list-held s (without_all s.links (names_of ts)) e reference many ∙ ap (λ (vs : List Value). record { values = vs; flag = b }) all-gone))
 
   -- one value is taken out of a list
   take-link : (i : ℕ) → a.is_single ≡ false → nat_lt i (length (r.values e)) ≡ true → Replays s (taken_out r e (tie_in r e i) i) (relinked s (without_ties s.links (tie_in r e i)))
@@ -172,13 +175,13 @@ module _ (s : Model) (legal : IsLegal s) (e : End) (reference : (shape s.metamod
       let v = slice_index_or vs i value.Null in
       let at = get-place vs i value.Null (below i (length vs) below_links) in
       let one : tie_in r e i ≡ tie e v ∷ [] = ap (λ (ws : List Value). option_to_list (option_map (tie e) (slice_get ws i))) (values-linked s e reference) ∙ ap (λ (q : Option Value). option_to_list (option_map (tie e) q)) at in
-      let cut : end (without_all s.links (pairs (tie_in r e i))) e ≡ remove vs i =
-      ap (λ (ts : List Tie). end (without_all s.links (pairs ts)) e) one ∙ near-gives s legal s.links e v (all-left s legal) (i, at) ∙ sym (remove-filter vs i v (legal.links.set.placed.distinct e) at) in
+      let cut : end (without_all s.links (names_of (tie_in r e i))) e ≡ remove vs i =
+      ap (λ (ts : List Tie). end (without_all s.links (names_of ts)) e) one ∙ near-gives s legal s.links e v (all-left s legal) (i, at) ∙ sym (remove-filter vs i v (legal.links.set.placed.distinct e) at) in
       cut-tells (tie_in r e i) (tie_in-here r e i) (tie_in-different r e i) (tie_in-stand s e i reference) (telling e (LosesAt i) ∷ []) (own-one e (LosesAt i))
       (one-done s.metamodel e (LosesAt i) (held_at r e)
       ∙ ap (done a (LosesAt i)) (list-held s s.links e reference many)
       ∙ ap (λ (x : Bool). record { values = if x then remove vs i else vs; flag = b }) below_links
-      ∙ sym (list-held s (without_all s.links (pairs (tie_in r e i))) e reference many ∙ ap (λ (ws : List Value). record { values = ws; flag = b }) cut))
+      ∙ sym (list-held s (without_all s.links (names_of (tie_in r e i))) e reference many ∙ ap (λ (ws : List Value). record { values = ws; flag = b }) cut))
 
   -- and one is moved
   move-link : (to from : ℕ) → a.is_single ≡ false → nat_lt to (length (r.values e)) ≡ true → nat_lt from (length (r.values e)) ≡ true → Replays s (telling e (Moves to from) ∷ []) (relinked s (shift s.links e to from))
@@ -234,7 +237,7 @@ new-put_set s legal e o new single =
     let t = without_displaced s e o in
     let a = shape s.metamodel e.feature in
     ap (λ (vs : List Value). put t e (length vs) o a.opposite a.containing) (sym (near-empty s legal e o new single))
-    ∙ ap (λ (t : Links). with_value t (reading s) e None (value.Object o)) (sym (without_ties-pairs s.links (yields (reading s) e o)))
+    ∙ ap (λ (t : Links). with_value t (reading s) e None (value.Object o)) (sym (without_ties-names_of s.links (yields (reading s) e o)))
 
 -- a set that is not
 new-set : (s : Model) (n : Node) (f : FeatureNo) (v : Value) → IsLegal s → early_refusal (reading s) (Set n f v) ≡ None → late_refusal (reading s) (Set n f v) ≡ None → is_plain_set (reading s) (at_end n f) v ≡ false
@@ -307,7 +310,7 @@ new-add s n f (value.Object o) i legal early late h =
     let k = place_for r e i in
     relinked-by s (before_gain r e (value.Object o) (yields r e o) ++ telling e (gain_at i (value.Object o)) ∷ []) (put (without_displaced s e o) e k o a.opposite a.containing)
     (with_value (without_ties s.links (yields r e o)) r e i (value.Object o))
-    (ap (λ (x : ℕ). put (without_displaced s e o) e x o a.opposite a.containing) at.1 ∙ ap (λ (t : Links). with_value t r e i (value.Object o)) (sym (without_ties-pairs s.links (yields r e o))))
+    (ap (λ (x : ℕ). put (without_displaced s e o) e x o a.opposite a.containing) at.1 ∙ ap (λ (t : Links). with_value t r e i (value.Object o)) (sym (without_ties-names_of s.links (yields r e o))))
     (add-replays s legal e o new i k many at.0 at.1)
 new-add s n f v i legal early late h =
     let both = plain-not (shape s.metamodel f).is_reference (is_repeat (reading s) (at_end n f) v) h in
@@ -404,20 +407,30 @@ move-changes s n f to from legal has many late =
           attribute (λ o has low_to low_from. list-moved s legal o f has attribute many to from low_to low_from) n has placed.0 placed.1
     ] refl
 
-changes-replay : (s : Model) (c : Change) → IsLegal s → early_refusal (reading s) c ≡ None → late_refusal (reading s) c ≡ None → Replays s (tellings (reading s) c) (after s c)
-changes-replay s (Create k) legal early late = create-replays s k
-changes-replay s (NewResource u) legal early late = λ d. refl
-changes-replay s (Set n f v) legal early late = set-changes s n f v legal early late
-changes-replay s (Unset n f) legal early late = unset-changes s n f legal (unset-there (reading s) n f early)
-changes-replay s (Add n f v i) legal early late = add-changes s n f v i legal early late
+-- a change that destroys nothing replays at every end
+everywhere : (s : Model) (c : Change) → Replays s (tellings (reading s) c) (after s c) → (d : End) → goes_with (reading s) c d.node ≡ false → happened_at s.metamodel (tellings (reading s) c) d (held_at (reading s) d) ≡ held_at (reading (after s c)) d
+everywhere s c replays d stays = replays d
+
+changes-replay : (s : Model) (c : Change) → IsLegal s → early_refusal (reading s) c ≡ None → late_refusal (reading s) c ≡ None
+    → (d : End) → goes_with (reading s) c d.node ≡ false → happened_at s.metamodel (tellings (reading s) c) d (held_at (reading s) d) ≡ held_at (reading (after s c)) d
+changes-replay s (Create k) legal early late = everywhere s (Create k) (create-replays s k)
+changes-replay s (NewResource u) legal early late = everywhere s (NewResource u) (λ d. refl)
+changes-replay s (Delete o) legal early late = destroyed-replays s legal o (delete-named (reading s) o early)
+changes-replay s (Set n f v) legal early late = everywhere s (Set n f v) (set-changes s n f v legal early late)
+changes-replay s (Unset n f) legal early late = everywhere s (Unset n f) (unset-changes s n f legal (unset-there (reading s) n f early))
+changes-replay s (Add n f v i) legal early late = everywhere s (Add n f v i) (add-changes s n f v i legal early late)
 changes-replay s (Remove n f i) legal early late =
     let named = remove-named (reading s) n f i early in
-    take-changes s n f i legal named.0 named.1 (remove-placed (reading s) n f i late)
-changes-replay s (RemoveValue n f v) legal early late = let named = take-named (reading s) n f v early in take-value_changes s n f v legal named.there named.single
-changes-replay s (Move n f to from) legal early late = let named = move-named (reading s) n f to from early in move-changes s n f to from legal named.0 named.1 late
+    everywhere s (Remove n f i) (take-changes s n f i legal named.0 named.1 (remove-placed (reading s) n f i late))
+changes-replay s (RemoveValue n f v) legal early late =
+    let named = take-named (reading s) n f v early in
+    everywhere s (RemoveValue n f v) (take-value_changes s n f v legal named.there named.single)
+changes-replay s (Move n f to from) legal early late =
+    let named = move-named (reading s) n f to from early in
+    everywhere s (Move n f to from) (move-changes s n f to from legal named.0 named.1 late)
 
 pub chain-replays : (s : Model) (c : Change) → ChainReplays s c
-chain-replays s c legal early late d =
+chain-replays s c legal early late d stays =
     let m = s.metamodel in
     let r = reading s in
-    ap (λ (y : Ends). y d) (replayed_all-told m (held_at r) (tellings r c)) ∙ happened_all-at m (held_at r) (tellings r c) d ∙ changes-replay s c legal early late d
+    ap (λ (y : Ends). y d) (replayed_all-told m (held_at r) (tellings r c)) ∙ happened_all-at m (held_at r) (tellings r c) d ∙ changes-replay s c legal early late d stays

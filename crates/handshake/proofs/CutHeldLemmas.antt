@@ -27,17 +27,19 @@ use Rattle.link_store.specs.Plans.{Has}
 use Rattle.models.specs.Legal.{IsLegal, kinds_of}
 use Rattle.models.specs.Model.{Model, kept_flag, reading}
 use Rattle.models.specs.Reading.{held_at}
-use Rattle.handshake.proofs.CutTieLemmas.{once-of_different, pairs, same_end-symmetric, values-linked}
+use Rattle.handshake.proofs.CutTieLemmas.{once-of_different, same_end-symmetric, values-linked}
+use Rattle.ties.specs.Laws.{names_of}
 use Rattle.handshake.proofs.HappenedLemmas.{done, done-other, done_at, happened_at, happened_at-append}
 use Rattle.handshake.proofs.KnownLemmas.{kinds-are}
 use Rattle.handshake.proofs.TieNameLemmas.{open-of}
-use Rattle.handshake.specs.Displaced.{other_side, tie}
+use Rattle.handshake.specs.Displaced.{other_side}
+use Rattle.ties.specs.TreeTies.{tie}
 use Rattle.handshake.specs.Laws.{AreDifferent}
 use Rattle.handshake.specs.Telling.{without}
 use Rattle.handshake.specs.Tellings.{loss, losses}
 use Rattle.handshake.specs.declared.happening.Happening.TheVariants.{Loses}
 use Rattle.handshake.specs.declared.happening.Telling.{Telling}
-use Rattle.handshake.specs.declared.tie.Tie.{Tie}
+use Rattle.ties.specs.declared.tie.Tie.{Tie}
 use Rattle.handshake.proofs.CutEndLemmas.{reference-flag, reference-plain, same-held}
 
 ---------------------------------------------------------------- lists
@@ -269,12 +271,12 @@ module _ (s : Model) (legal : IsLegal s) where
   ---------------------------------------------------------------- several cuts
 
   -- the losses of links that are there, each once, give what is held without them
-  losses-left : (l : Links) (ts : List Tie) → AreLeft s l → AreThere l (pairs ts) → AreOnce m (pairs ts) → (d : End) → happened_at s.metamodel (flat_map (losses (reading s)) ts) d (held_in s l d) ≡ held_in s (without_all l (pairs ts)) d
+  losses-left : (l : Links) (ts : List Tie) → AreLeft s l → AreThere l (names_of ts) → AreOnce m (names_of ts) → (d : End) → happened_at s.metamodel (flat_map (losses (reading s)) ts) d (held_in s l d) ≡ held_in s (without_all l (names_of ts)) d
   losses-left l [] left there once d = refl
   losses-left l (t ∷ ts) left there once d =
       happened_at-append s.metamodel (losses (reading s) t) (flat_map (losses (reading s)) ts) d (held_in s l d)
       ∙ ap (happened_at s.metamodel (flat_map (losses (reading s)) ts) d) (losses-held l t.end t.value left there.0 d)
-      ∙ losses-left (cut_value l t.end t.value) ts (left-cut l t.end t.value left) (there_after m ok l left.set left.kinds (t.end, t.value) (pairs ts) once.0 there.1) once.1 d
+      ∙ losses-left (cut_value l t.end t.value) ts (left-cut l t.end t.value left) (there_after m ok l left.set left.kinds (t.end, t.value) (names_of ts) once.0 there.1) once.1 d
 
-  pub losses-cut : (ts : List Tie) → AreThere s.links (pairs ts) → AreDifferent (reading s) ts → (d : End) → happened_at s.metamodel (flat_map (losses (reading s)) ts) d (held_at (reading s) d) ≡ held_in s (without_all s.links (pairs ts)) d
+  pub losses-cut : (ts : List Tie) → AreThere s.links (names_of ts) → AreDifferent (reading s) ts → (d : End) → happened_at s.metamodel (flat_map (losses (reading s)) ts) d (held_at (reading s) d) ≡ held_in s (without_all s.links (names_of ts)) d
   losses-cut ts there different d = losses-left s.links ts (all-left s legal) there (once-of_different (reading s) ts different) d

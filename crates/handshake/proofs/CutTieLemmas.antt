@@ -24,25 +24,27 @@ use Rattle.link_store.specs.Laws.{AreOnce, AreThere, is_named, kept_holder, name
 use Rattle.link_store.specs.LegalSets.{IsDistinct, IsLegalSet}
 use Rattle.link_store.specs.Links.{Links, cut_value, end, far_end, object_at}
 use Rattle.link_store.specs.Plans.{Has}
+use Rattle.link_store.proofs.GoneLemmas.{without_all-nodes}
 use Rattle.models.proofs.EndLemmas.{values-single}
 use Rattle.models.specs.Legal.{IsLegal, kinds_of}
 use Rattle.models.specs.Model.{Model, reading}
 use Rattle.models.specs.Reading.{Reading, at_end, first_at, is_repeat}
-use Rattle.handshake.proofs.KnownLemmas.{far-reference, kinds-are, set-named}
+use Rattle.handshake.proofs.KnownLemmas.{delete-named, far-reference, kinds-are, set-named}
 use Rattle.handshake.specs.declared.change.Change.{Change}
-use Rattle.handshake.specs.declared.change.Change.TheVariants.{Create, Set, Unset, Add, Remove, RemoveValue, Move, NewResource}
-use Rattle.handshake.specs.declared.tie.Tie.{Tie}
-use Rattle.handshake.specs.Displaced.{cut_by_new, cut_by_set, cut_ties, is_plain_add, tie_in, ties_backwards, has_already, in_the_way, is_plain_set, once, opposite_end, holding_tie, other_side, same_link, same_tie, tie, ties_at, ties_if_single, with_tie, yields}
-use Rattle.handshake.specs.Effects.{without_ties}
+use Rattle.handshake.specs.declared.change.Change.TheVariants.{Create, Set, Unset, Add, Remove, RemoveValue, Move, Delete, NewResource}
+use Rattle.ties.specs.declared.tie.Tie.{Tie}
+use Rattle.handshake.specs.Displaced.{cut_by_new, cut_by_set, cut_ties, is_plain_add, tie_in, ties_backwards, has_already, in_the_way, is_plain_set, once, opposite_end, holding_tie, other_side, same_link, same_tie, ties_at, ties_if_single, with_tie, yields}
+use Rattle.ties.specs.TreeTies.{tie, tree_ties}
+use Rattle.ties.specs.Laws.{names_of}
+use Rattle.deletion.specs.Outer.{gone}
+use Rattle.ties.proofs.TreeLemmas.{tree-named}
+use Rattle.handshake.specs.Effects.{links_left, without_ties}
 use Rattle.handshake.specs.Laws.{AreDifferent}
 use Rattle.handshake.specs.Refusals.{early_refusal, late_refusal}
 
-abbrev pub pairs : List Tie → List (End × Value)
-pairs ts = map (λ t. (t.end, t.value)) ts
-
-pub without_ties-pairs : (s : Links) (ts : List Tie) → without_ties s ts ≡ without_all s (pairs ts)
-without_ties-pairs s [] = refl
-without_ties-pairs s (t ∷ ts) = without_ties-pairs (cut_value s t.end t.value) ts
+pub without_ties-names_of : (s : Links) (ts : List Tie) → without_ties s ts ≡ without_all s (names_of ts)
+without_ties-names_of s [] = refl
+without_ties-names_of s (t ∷ ts) = without_ties-names_of (cut_value s t.end t.value) ts
 
 ---------------------------------------------------------------- lists
 
@@ -120,11 +122,11 @@ names_far-other e _ _ t = refl
 pub names-same_link : (r : Reading) (t u : Tie) → names (kinds_of r.metamodel) u.end u.value t.end t.value ≡ same_link r t u
 names-same_link r t u = λ i. same_tie-symmetric u t i || names_far-other u.end u.value (shape r.metamodel u.end.feature).opposite t i
 
-pub is_named-same_link : (r : Reading) (ts : List Tie) (t : Tie) → is_named (kinds_of r.metamodel) (pairs ts) t.end t.value ≡ list_any (same_link r t) ts
+pub is_named-same_link : (r : Reading) (ts : List Tie) (t : Tie) → is_named (kinds_of r.metamodel) (names_of ts) t.end t.value ≡ list_any (same_link r t) ts
 is_named-same_link r [] t = refl
 is_named-same_link r (u ∷ us) t = λ i. names-same_link r t u i || is_named-same_link r us t i
 
-pub once-of_different : (r : Reading) (ts : List Tie) → AreDifferent r ts → AreOnce (kinds_of r.metamodel) (pairs ts)
+pub once-of_different : (r : Reading) (ts : List Tie) → AreDifferent r ts → AreOnce (kinds_of r.metamodel) (names_of ts)
 once-of_different r [] different = tt
 once-of_different r (t ∷ ts) different =
     let other : (u : Tie) → same_link r u t ≡ false → names (kinds_of r.metamodel) t.end t.value u.end u.value ≡ false = λ u h. names-same_link r u t ∙ h in (
@@ -196,7 +198,7 @@ abbrev pub Stands : Links → Tie → Type 0
 Stands s t = Has s t.end t.value
 
 -- what is held stands where it is held
-held_stands : (s : Links) → IsLegalSet s → (n : Node) (d : End) → holder s n ≡ Some d → Has s d (node_value n)
+pub held_stands : (s : Links) → IsLegalSet s → (n : Node) (d : End) → holder s n ≡ Some d → Has s d (node_value n)
 held_stands s legal n d h =
     let l = holder-some s n d h in
     let at = place_held l.0 n d (legal.placed.sides l.0 l.1) l.2 in
@@ -300,19 +302,46 @@ tie_in-stand s e i reference =
     subst (λ (vs : List Value). AllByRecursion (Stands s.links) (option_to_list (option_map (tie e) (slice_get vs i)))) (sym (values-linked s e reference))
     (elim (slice_get (end s.links e) i) as (λ q. slice_get (end s.links e) i ≡ q → AllByRecursion (Stands s.links) (option_to_list (option_map (tie e) q))) [ None ↦ λ _. tt | Some v ↦ λ at. ((i, at), tt) ] refl)
 
--- each link that a change cuts stands where its name says
-pub cuts-stand : (s : Model) (c : Change) → IsLegal s → AllByRecursion (Stands s.links) (cut_ties (reading s) c)
-cuts-stand s (Create c) legal = tt
-cuts-stand s (NewResource u) legal = tt
-cuts-stand s (Set n f v) legal = set-cuts (AllByRecursion (Stands s.links)) s n f tt v (λ reference _. cut_by_set-stand s (at_end n f) v legal reference)
-cuts-stand s (Unset n f) legal = unset-cuts (AllByRecursion (Stands s.links)) s n f tt (λ reference. ties_backwards-stand s (at_end n f) reference)
-cuts-stand s (Add n f v i) legal = add-cuts (AllByRecursion (Stands s.links)) s n f tt v i (λ reference _. cut_by_new-stand s (at_end n f) v legal reference)
-cuts-stand s (Remove n f i) legal = reference-cuts (AllByRecursion (Stands s.links)) s n f tt (tie_in (reading s) (at_end n f) i) (λ reference. tie_in-stand s (at_end n f) i reference)
-cuts-stand s (RemoveValue n f v) legal = take-cuts (AllByRecursion (Stands s.links)) s n f tt v (λ reference i. tie_in-stand s (at_end n f) i reference)
-cuts-stand s (Move n f to from) legal = tt
+---------------------------------------------------------------- the links of what is destroyed
 
-pub cuts-there : (s : Model) (c : Change) → IsLegal s → early_refusal (reading s) c ≡ None → late_refusal (reading s) c ≡ None → AreThere s.links (pairs (cut_ties (reading s) c))
-cuts-there s c legal early late = all_map (λ (t : End × Value). Has s.links t.0 t.1) (λ (t : Tie). (t.end, t.value)) (cut_ties (reading s) c) (cuts-stand s c legal)
+different-of_once : (r : Reading) (ts : List Tie) → AreOnce (kinds_of r.metamodel) (names_of ts) → AreDifferent r ts
+different-of_once r [] once = tt
+different-of_once r (t ∷ ts) once =
+    let m = kinds_of r.metamodel in
+    let other : (u : Tie) → names m t.end t.value u.end u.value ≡ false → same_link r u t ≡ false = λ u h. sym (names-same_link r u t) ∙ h in (
+      all_weaker _ _ ts other (all_from_map (λ (x : End × Value). names m t.end t.value x.0 x.1 ≡ false) (λ (u : Tie). (u.end, u.value)) ts once.0),
+      different-of_once r ts once.1,
+    )
+
+-- the links that a change leaves, by the names of those that it cuts
+pub left-cuts : (s : Model) (c : Change) → IsLegal s → early_refusal (reading s) c ≡ None → links_left s.links (reading s) c ≡ without_all s.links (names_of (cut_ties (reading s) c))
+left-cuts s (Create c) legal early = refl
+left-cuts s (NewResource u) legal early = refl
+left-cuts s (Set n f v) legal early = without_ties-names_of s.links (cut_ties (reading s) (Set n f v))
+left-cuts s (Unset n f) legal early = without_ties-names_of s.links (cut_ties (reading s) (Unset n f))
+left-cuts s (Add n f v i) legal early = without_ties-names_of s.links (cut_ties (reading s) (Add n f v i))
+left-cuts s (Remove n f i) legal early = without_ties-names_of s.links (cut_ties (reading s) (Remove n f i))
+left-cuts s (RemoveValue n f v) legal early = without_ties-names_of s.links (cut_ties (reading s) (RemoveValue n f v))
+left-cuts s (Move n f to from) legal early = refl
+left-cuts s (Delete o) legal early =
+    let r = reading s in
+    let m = kinds_of s.metamodel in
+    sym (without_all-nodes m (kinds-are s.metamodel legal.metamodel) s.links (gone r o) (names_of (tree_ties r o)) legal.links.set legal.links.kinds (tree-named s legal o (delete-named r o early)).all)
+
+-- each link that a change cuts stands where its name says
+pub cuts-stand : (s : Model) (c : Change) → IsLegal s → early_refusal (reading s) c ≡ None → AllByRecursion (Stands s.links) (cut_ties (reading s) c)
+cuts-stand s (Create c) legal early = tt
+cuts-stand s (NewResource u) legal early = tt
+cuts-stand s (Delete o) legal early = all_from_map (λ (t : End × Value). Has s.links t.0 t.1) (λ (t : Tie). (t.end, t.value)) (tree_ties (reading s) o) (tree-named s legal o (delete-named (reading s) o early)).there
+cuts-stand s (Set n f v) legal early = set-cuts (AllByRecursion (Stands s.links)) s n f tt v (λ reference _. cut_by_set-stand s (at_end n f) v legal reference)
+cuts-stand s (Unset n f) legal early = unset-cuts (AllByRecursion (Stands s.links)) s n f tt (λ reference. ties_backwards-stand s (at_end n f) reference)
+cuts-stand s (Add n f v i) legal early = add-cuts (AllByRecursion (Stands s.links)) s n f tt v i (λ reference _. cut_by_new-stand s (at_end n f) v legal reference)
+cuts-stand s (Remove n f i) legal early = reference-cuts (AllByRecursion (Stands s.links)) s n f tt (tie_in (reading s) (at_end n f) i) (λ reference. tie_in-stand s (at_end n f) i reference)
+cuts-stand s (RemoveValue n f v) legal early = take-cuts (AllByRecursion (Stands s.links)) s n f tt v (λ reference i. tie_in-stand s (at_end n f) i reference)
+cuts-stand s (Move n f to from) legal early = tt
+
+pub cuts-there : (s : Model) (c : Change) → IsLegal s → early_refusal (reading s) c ≡ None → late_refusal (reading s) c ≡ None → AreThere s.links (names_of (cut_ties (reading s) c))
+cuts-there s c legal early late = all_map (λ (t : End × Value). Has s.links t.0 t.1) (λ (t : Tie). (t.end, t.value)) (cut_ties (reading s) c) (cuts-stand s c legal early)
 
 -- a single end has one link at most
 pub ties_at-different : (s : Model) (e : End) → IsLegal s → (shape s.metamodel e.feature).is_reference ≡ true → (shape s.metamodel e.feature).is_single ≡ true → AreDifferent (reading s) (ties_at (reading s) e)
@@ -387,6 +416,7 @@ cut_by_new-different r e _ = tt
 pub cuts-different : (s : Model) (c : Change) → IsLegal s → early_refusal (reading s) c ≡ None → AreDifferent (reading s) (cut_ties (reading s) c)
 cuts-different s (Create c) legal early = tt
 cuts-different s (NewResource u) legal early = tt
+cuts-different s (Delete o) legal early = different-of_once (reading s) (tree_ties (reading s) o) (tree-named s legal o (delete-named (reading s) o early)).once
 cuts-different s (Set n f v) legal early =
     set-cuts (AreDifferent (reading s)) s n f tt v (λ reference _. cut_by_set-different s (at_end n f) v legal reference (set-named (reading s) n f v early).single)
 cuts-different s (Unset n f) legal early =
@@ -398,7 +428,7 @@ cuts-different s (Remove n f i) legal early = reference-cuts (AreDifferent (read
 cuts-different s (RemoveValue n f v) legal early = take-cuts (AreDifferent (reading s)) s n f tt v (λ reference i. tie_in-different (reading s) (at_end n f) i)
 cuts-different s (Move n f to from) legal early = tt
 
-pub cuts-once : (s : Model) (c : Change) → IsLegal s → early_refusal (reading s) c ≡ None → late_refusal (reading s) c ≡ None → AreOnce (kinds_of s.metamodel) (pairs (cut_ties (reading s) c))
+pub cuts-once : (s : Model) (c : Change) → IsLegal s → early_refusal (reading s) c ≡ None → late_refusal (reading s) c ≡ None → AreOnce (kinds_of s.metamodel) (names_of (cut_ties (reading s) c))
 cuts-once s c legal early late = once-of_different (reading s) (cut_ties (reading s) c) (cuts-different s c legal early)
 
 ---------------------------------------------------------------- room for a new link
@@ -409,25 +439,25 @@ IsDisplaced s e o t = list_any (same_link (reading s) t) (yields (reading s) e o
 
 -- an end whose links are all displaced is empty once they are cut
 emptied : (s : Model) (e : End) (o : ObjectNo) (d : End) → IsLegal s → (shape s.metamodel d.feature).is_reference ≡ true → (shape s.metamodel d.feature).is_single ≡ true
-    → AllByRecursion (IsDisplaced s e o) (ties_if_single (reading s) d) → end (without_all s.links (pairs (yields (reading s) e o))) d ≡ []
+    → AllByRecursion (IsDisplaced s e o) (ties_if_single (reading s) d) → end (without_all s.links (names_of (yields (reading s) e o))) d ≡ []
 emptied s e o d legal reference single all =
     let ts : List Tie = yields (reading s) e o in
     let m = kinds_of s.metamodel in
     let at_d = subst (λ (b : Bool). AllByRecursion (IsDisplaced s e o) (if b then ties_at (reading s) d else [])) single all in
     let linked = subst (λ (vs : List Value). AllByRecursion (IsDisplaced s e o) (map (tie d) vs)) (values-linked s d reference) at_d in
-    let named : (v : Value) → IsDisplaced s e o (tie d v) → is_named m (pairs ts) d v ≡ true = λ v h. is_named-same_link (reading s) ts (tie d v) ∙ h in
-    end-without_all m (kinds-are s.metamodel legal.metamodel) s.links (pairs ts) legal.links.set legal.links.kinds d
-    ∙ filter_none (is_named m (pairs ts) d) (end s.links d) (all_weaker _ _ (end s.links d) named (all_from_map (IsDisplaced s e o) (tie d) (end s.links d) linked))
+    let named : (v : Value) → IsDisplaced s e o (tie d v) → is_named m (names_of ts) d v ≡ true = λ v h. is_named-same_link (reading s) ts (tie d v) ∙ h in
+    end-without_all m (kinds-are s.metamodel legal.metamodel) s.links (names_of ts) legal.links.set legal.links.kinds d
+    ∙ filter_none (is_named m (names_of ts) d) (end s.links d) (all_weaker _ _ (end s.links d) named (all_from_map (IsDisplaced s e o) (tie d) (end s.links d) linked))
 
 -- a single near end is empty once what a new link displaces is cut
 pub near-emptied : (s : Model) (e : End) (o : ObjectNo) → IsLegal s → (shape s.metamodel e.feature).is_reference ≡ true → (shape s.metamodel e.feature).is_single ≡ true
-    → end (without_all s.links (pairs (yields (reading s) e o))) e ≡ []
+    → end (without_all s.links (names_of (yields (reading s) e o))) e ≡ []
 near-emptied s e o legal reference single =
     emptied s e o e legal reference single (all_front (IsDisplaced s e o) (ties_if_single (reading s) e) _ (once-names (reading s) (in_the_way (reading s) e o)))
 
 -- so is a single far end
 pub far-emptied : (s : Model) (e : End) (o : ObjectNo) (g : FeatureNo) → IsLegal s → (shape s.metamodel e.feature).opposite ≡ Some g → (shape s.metamodel g).is_single ≡ true
-    → end (without_all s.links (pairs (yields (reading s) e o))) (far_end o g) ≡ []
+    → end (without_all s.links (names_of (yields (reading s) e o))) (far_end o g) ≡ []
 far-emptied s e o g legal opposite single =
     let P : Tie → Type 0 = IsDisplaced s e o in
     let rest = all_back P (ties_if_single (reading s) e) _ (once-names (reading s) (in_the_way (reading s) e o)) in
@@ -437,7 +467,7 @@ far-emptied s e o g legal opposite single =
 
 -- and what becomes contained is contained by nothing
 pub freed : (s : Model) (e : End) (o : ObjectNo) (x : Node) → IsLegal s → contained e o (shape s.metamodel e.feature).containing ≡ Some x
-    → holder (without_all s.links (pairs (yields (reading s) e o))) x ≡ None
+    → holder (without_all s.links (names_of (yields (reading s) e o))) x ≡ None
 freed s e o x legal part =
     let P : Tie → Type 0 = IsDisplaced s e o in
     let ts : List Tie = yields (reading s) e o in
@@ -445,8 +475,8 @@ freed s e o x legal part =
     let rest = all_back P (ties_if_single (reading s) e) _ (once-names (reading s) (in_the_way (reading s) e o)) in
     let parts = all_back P (option_map_or (ties_if_single (reading s)) (opposite_end (reading s) e o) []) _ rest in
     let held = subst (λ (q : Option Node). AllByRecursion P (option_map_or (λ n. option_to_list (holding_tie (reading s) n)) q [])) part parts in
-    holder-without_all m (kinds-are s.metamodel legal.metamodel) s.links (pairs ts) legal.links.set legal.links.kinds x
-    ∙ elim (holder s.links x) as (λ q. AllByRecursion P (option_to_list (option_map (λ (d : End). tie d (node_value x)) q)) → kept_holder m (pairs ts) x q ≡ None) [
+    holder-without_all m (kinds-are s.metamodel legal.metamodel) s.links (names_of ts) legal.links.set legal.links.kinds x
+    ∙ elim (holder s.links x) as (λ q. AllByRecursion P (option_to_list (option_map (λ (d : End). tie d (node_value x)) q)) → kept_holder m (names_of ts) x q ≡ None) [
       | None ↦ λ _. refl
       | Some d ↦ λ h. ap (λ (b : Bool). if b then None else Some d) (is_named-same_link (reading s) ts (tie d (node_value x)) ∙ h.0)
     ] held

@@ -23,15 +23,15 @@ use Rattle.mm_types.specs.declared.numbers.ObjectNo.{ObjectNo}
 use Rattle.mm_types.specs.declared.numbers.ResourceNo.{ResourceNo}
 use Rattle.mm_types.specs.declared.end.End.{End}
 use Rattle.mm_types.specs.declared.refused.Refused.{Refused}
-use Rattle.mm_types.specs.declared.refused.Refused.TheVariants.{NoObject, NoFeature, NotSingle, NotMany, WrongType, TextLength, Index, Duplicate, Bound, Recursive, Limit, ResourceExists}
+use Rattle.mm_types.specs.declared.refused.Refused.TheVariants.{NoObject, NoResource, NoFeature, NotSingle, NotMany, WrongType, TextLength, Index, Duplicate, Bound, Recursive, Limit, ResourceExists}
 use Rattle.mm_types.specs.declared.value.Value.{Value}
 use Rattle.mm_types.specs.declared.value.Value.TheVariants as value
 use Rattle.link_store.specs.LegalSets.{AreKinds}
 use Rattle.models.specs.Legal.{is_short, kinds_of, is_short_text}
-use Rattle.models.specs.Reading.{Reading, at_end, has_feature, is_node_live, is_repeat, is_value_live, place_for, takes, has_uri}
+use Rattle.models.specs.Reading.{Reading, at_end, has_feature, is_live, is_node_live, is_repeat, is_value_live, place_for, takes, has_uri}
 use Rattle.handshake.specs.Named.{feature_refusal, many_refusal, node_refusal, single_refusal, value_refusal}
 use Rattle.handshake.specs.Refusals.{add_refusal, early_refusal, gain_refusal, is_at_limit, is_full_at, is_recursive, late_refusal, link_refusal, of_either, set_refusal, type_refusal, uri_refusal}
-use Rattle.handshake.specs.declared.change.Change.TheVariants.{Set, Unset, Add, Remove, RemoveValue, Move}
+use Rattle.handshake.specs.declared.change.Change.TheVariants.{Set, Unset, Add, Remove, RemoveValue, Move, Delete}
 use Rattle.std.proofs.lemmas.Bool.Decides.{nat_tests}
 use Rattle.mm_types.specs.declared.limits.TheConstants.{RESOURCES}
 
@@ -157,6 +157,9 @@ list-named r n f h =
     (feature-named r n f both.0, none-where_so NotMany (shape r.metamodel f).is_single both.1)
 
 -- an early refusal of None, of each change
+pub delete-named : (r : Reading) (o : ObjectNo) → early_refusal r (Delete o) ≡ None → is_live r o ≡ true
+delete-named r o h = none-unless NoObject (is_live r o) (none-else_by (NoObject unless is_live r o) (NoResource unless true) h).0
+
 pub set-named : (r : Reading) (n : Node) (f : FeatureNo) (v : Value) → early_refusal r (Set n f v) ≡ None → IsNamed true r n f v
 set-named r n f v h = single-named r n f v h
 

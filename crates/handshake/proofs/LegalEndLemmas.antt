@@ -1,7 +1,7 @@
 -- The ends of a legal model stay legal: once links are cut, where a link is made, and where objects come.
 use Rattle.std.proofs.Common.{◌≡◌, ℕ, zero, suc, ◌<◌, ◌≤◌, nat_le, pos, negsuc, ℤ, Bool, true, false, ◌&&◌, not, List, [], ◌∷◌, ◌++◌, filter, length, Option, Some, None, is_some, if◌then◌else◌, slice_get, remove, refl, sym, ap, ◌∙◌, subst, arith, nat_lt}
 use Rattle.std.specs.Prelude.{int_le, int_lt}
-use Rattle.std.specs.List.{insert, list_all}
+use Rattle.std.specs.List.{AllByRecursion, insert, list_all}
 use Rattle.std.specs.Option.{option_map_or}
 use Rattle.std.proofs.lemmas.Bool.{and_from, and_parts, false≢true, true≢false}
 use Rattle.std.proofs.lemmas.Bool.Decides.{Decides-int_eq, nat_tests}
@@ -26,7 +26,7 @@ use Rattle.mm_types.proofs.SameLemmas.{same_end-self, same_end-true}
 use Rattle.mm_meta.specs.Laws as meta
 use Rattle.mm_meta.proofs.ShapeLemmas.{far_types_fit}
 use Rattle.mm_values.specs.Values.{ValuesState, class_of}
-use Rattle.link_store.specs.Laws.{is_far, is_named, put_end, without_all}
+use Rattle.link_store.specs.Laws.{goes, is_far, is_named, put_end, without_all}
 use Rattle.link_store.specs.Links.{Links, end, far_end, put, shift}
 use Rattle.mm_types.specs.Lists.{put_back, shifted}
 use Rattle.link_store.proofs.CutLemmas.{end-shift_near, end-shift_other}
@@ -39,7 +39,8 @@ use Rattle.models.specs.Model.{Model, model_of, reading}
 use Rattle.models.specs.Reading.{Reading, has_feature, shape_at, takes}
 use Rattle.handshake.specs.Displaced.{yields}
 use Rattle.handshake.specs.Refusals.{is_at_limit, is_full_at}
-use Rattle.handshake.proofs.CutTieLemmas.{far-emptied, pairs, values-linked}
+use Rattle.handshake.proofs.CutTieLemmas.{far-emptied, values-linked}
+use Rattle.ties.specs.Laws.{names_of}
 use Rattle.handshake.proofs.KnownLemmas.{far-reference, feature-there, kinds-are}
 use Rattle.handshake.proofs.LinkLemmas.{IsNewLink, below-limit, far-of, fewer-left, near-empty, near-of, new-fits, without_displaced}
 
@@ -51,10 +52,6 @@ list_all-filter q p (x ∷ xs) h =
     let both = and_parts (q x) (list_all q xs) h in
     let rest = list_all-filter q p xs both.1 in
     elim (p x) as (λ b. list_all q (if b then x ∷ filter p xs else filter p xs) ≡ true) [ true ↦ and_from (q x) (list_all q (filter p xs)) both.0 rest | false ↦ rest ]
-
-list_all-more : {X : Type 0} (p q : X → Bool) → ((x : X) → p x ≡ true → q x ≡ true) → (xs : List X) → list_all p xs ≡ true → list_all q xs ≡ true
-list_all-more p q more [] h = refl
-list_all-more p q more (x ∷ xs) h = let both = and_parts (p x) (list_all p xs) h in and_from (q x) (list_all q xs) (more x both.0) (list_all-more p q more xs both.1)
 
 int-less : (u : ℤ) (m n : ℕ) → m ≤ n → int_le (pos n) u ≡ true → int_le (pos m) u ≡ true
 int-less (pos k) m n le h = grind (arith, nat_tests)
@@ -154,7 +151,7 @@ module _ (s : Model) (legal : IsLegal s) (e : End) (o : ObjectNo) (new : IsNewLi
   left = without_displaced s e o
 
   left-all : (d : End) → list_all (is_legal_object (reading s) d.feature) (end left d) ≡ true
-  left-all d = end-all (reading s) d (end left d) (cut-end s (pairs (yields (reading s) e o)) legal d)
+  left-all d = end-all (reading s) d (end left d) (cut-end s (names_of (yields (reading s) e o)) legal d)
 
   linked-length : (d : End) → (shape s.metamodel d.feature).is_reference ≡ true → length ((reading s).values d) ≡ length (end s.links d)
   linked-length d reference = ap (λ (vs : List Value). length vs) (values-linked s d reference)
@@ -197,7 +194,7 @@ module _ (s : Model) (legal : IsLegal s) (e : End) (o : ObjectNo) (new : IsNewLi
   put-legal : (i : ℕ) (d : End) → is_legal_end (reading s) d (put_end left e i o (shape s.metamodel e.feature).opposite d) ≡ true
   put-legal i d =
       let q = (shape s.metamodel e.feature).opposite in
-      let other = cut-end s (pairs (yields (reading s) e o)) legal d in
+      let other = cut-end s (names_of (yields (reading s) e o)) legal d in
       let by_far : (b : Bool) → is_far o q d ≡ b → is_legal_end (reading s) d (if b then end left d ++ node_value e.node ∷ [] else end left d) ≡ true = λ b. elim b as (λ b. is_far o q d ≡ b → is_legal_end (reading s) d (if b then end left d ++ node_value e.node ∷ [] else end left d) ≡ true) [
         | true ↦ λ h. far-put d q refl h
         | false ↦ λ _. other
@@ -209,7 +206,7 @@ module _ (s : Model) (legal : IsLegal s) (e : End) (o : ObjectNo) (new : IsNewLi
 
   pub put-end : (i : ℕ) → i ≤ length (end left e) → (d : End) → is_legal_end (reading s) d (end (put left e i o (shape s.metamodel e.feature).opposite (shape s.metamodel e.feature).containing) d) ≡ true
   put-end i placed d =
-      let gives = end-put left e i o (shape s.metamodel e.feature).opposite (shape s.metamodel e.feature).containing (without_all_legal s.links (pairs (yields (reading s) e o)) legal.links.set) (new-fits s legal e o new i placed) d in
+      let gives = end-put left e i o (shape s.metamodel e.feature).opposite (shape s.metamodel e.feature).containing (without_all_legal s.links (names_of (yields (reading s) e o)) legal.links.set) (new-fits s legal e o new i placed) d in
       rw gives (put-legal i d)
 
 ---------------------------------------------------------------- a move
@@ -248,9 +245,24 @@ shifted-end s e to from legal low_from low_to d =
 
 ---------------------------------------------------------------- classes
 
--- each object that has a class in the one still has it in the other
-abbrev pub HaveClasses : (ObjectNo → Option ClassNo) → (ObjectNo → Option ClassNo) → Type 0
-HaveClasses x y = (o : ObjectNo) (c : ClassNo) → x o ≡ Some c → y o ≡ Some c
+-- each object that stays and has a class in the one still has it in the other
+abbrev pub HaveClasses : (Node → Bool) → (ObjectNo → Option ClassNo) → (ObjectNo → Option ClassNo) → Type 0
+HaveClasses goes x y = (o : ObjectNo) → goes (node.Object o) ≡ false → (c : ClassNo) → x o ≡ Some c → y o ≡ Some c
+
+-- a value that is an object still has its class
+abbrev HasClass : (ObjectNo → Option ClassNo) → (ObjectNo → Option ClassNo) → Value → Type 0
+HasClass x y (value.Object o) = (c : ClassNo) → x o ≡ Some c → y o ≡ Some c
+HasClass x y _ = Unit {0}
+
+has-class : (g : Node → Bool) (x y : ObjectNo → Option ClassNo) → HaveClasses g x y → (v : Value) → goes g v ≡ false → HasClass x y v
+has-class g x y kept (value.Object o) stays = kept o stays
+has-class g x y kept value.Null stays = tt
+has-class g x y kept (value.Bool b) stays = tt
+has-class g x y kept (value.Int i) stays = tt
+has-class g x y kept (value.Text t) stays = tt
+has-class g x y kept (value.Literal i) stays = tt
+has-class g x y kept (value.Proxy t) stays = tt
+has-class g x y kept (value.Adapter a) stays = tt
 
 test-kept : (x y : Option ClassNo) (p : ClassNo → Bool) → ((c : ClassNo) → x ≡ Some c → y ≡ Some c) → option_map_or p x false ≡ true → option_map_or p y false ≡ true
 test-kept None y p kept h = absurd (false≢true h)
@@ -260,46 +272,55 @@ some-kept : (x y : Option ClassNo) → ((c : ClassNo) → x ≡ Some c → y ≡
 some-kept None y kept h = absurd (false≢true h)
 some-kept (Some c) y kept h = ap is_some (kept c refl)
 
-reference-kept : (m : Metamodel) (x y : ObjectNo → Option ClassNo) → HaveClasses x y → (single : Bool) (target : ClassNo) (v : Value)
+reference-kept : (m : Metamodel) (x y : ObjectNo → Option ClassNo) (single : Bool) (target : ClassNo) (v : Value) → HasClass x y v
     → lookups.is_reference_value m x single target v ≡ true → lookups.is_reference_value m y single target v ≡ true
-reference-kept m x y kept single target value.Null h = h
-reference-kept m x y kept single target (value.Object o) h = test-kept (x o) (y o) (λ c. lookups.conforms m c target) (kept o) h
-reference-kept m x y kept single target _ h = h
+reference-kept m x y single target value.Null kept h = h
+reference-kept m x y single target (value.Object o) kept h = test-kept (x o) (y o) (λ c. lookups.conforms m c target) kept h
+reference-kept m x y single target _ kept h = h
 
-live-kept : (x y : ObjectNo → Option ClassNo) → HaveClasses x y → (v : Value) → lookups.is_live_object x v ≡ true → lookups.is_live_object y v ≡ true
-live-kept x y kept (value.Object o) h = some-kept (x o) (y o) (kept o) h
-live-kept x y kept _ h = absurd (false≢true h)
+live-kept : (x y : ObjectNo → Option ClassNo) (v : Value) → HasClass x y v → lookups.is_live_object x v ≡ true → lookups.is_live_object y v ≡ true
+live-kept x y (value.Object o) kept h = some-kept (x o) (y o) kept h
+live-kept x y _ kept h = absurd (false≢true h)
 
-kind-kept : (m : Metamodel) (x y : ObjectNo → Option ClassNo) → HaveClasses x y → (single : Bool) (k : Kind) (v : Value) → lookups.is_of_kind m x single k v ≡ true → lookups.is_of_kind m y single k v ≡ true
-kind-kept m x y kept single (Attribute t unique unsettable default) v h = h
-kind-kept m x y kept single (Reference target containment opposite) v h = reference-kept m x y kept single target v h
+kind-kept : (m : Metamodel) (x y : ObjectNo → Option ClassNo) (single : Bool) (k : Kind) (v : Value) → HasClass x y v → lookups.is_of_kind m x single k v ≡ true → lookups.is_of_kind m y single k v ≡ true
+kind-kept m x y single (Attribute t unique unsettable default) v kept h = h
+kind-kept m x y single (Reference target containment opposite) v kept h = reference-kept m x y single target v kept h
 
-takes-kept : (m : Metamodel) (x y : ObjectNo → Option ClassNo) → HaveClasses x y → (f : FeatureNo) (v : Value) → lookups.takes m x f v ≡ true → lookups.takes m y f v ≡ true
-takes-kept m x y kept f v h = by (lookups.feature m f) h
+takes-kept : (m : Metamodel) (x y : ObjectNo → Option ClassNo) (f : FeatureNo) (v : Value) → HasClass x y v → lookups.takes m x f v ≡ true → lookups.takes m y f v ≡ true
+takes-kept m x y f v kept h = by (lookups.feature m f) h
   where
     by : (q : Option Feature) → option_map_or (λ g. lookups.is_of_kind m x (lookups.is_single g) g.kind v) q (lookups.is_live_object x v) ≡ true
         → option_map_or (λ g. lookups.is_of_kind m y (lookups.is_single g) g.kind v) q (lookups.is_live_object y v) ≡ true
-    by None h = live-kept x y kept v h
-    by (Some g) h = kind-kept m x y kept (lookups.is_single g) g.kind v h
+    by None h = live-kept x y v kept h
+    by (Some g) h = kind-kept m x y (lookups.is_single g) g.kind v kept h
 
--- objects that keep their classes, and no fewer resources
-module _ (s : Model) (v : ValuesState) (l : Links) (kept : HaveClasses (class_of s.values) (class_of v)) (more : length s.values.uris ≤ length v.uris) where
-  has-kept : (n : Node) (f : FeatureNo) → has_feature (reading s) n f ≡ true → has_feature (reading (model_of s.metamodel v l)) n f ≡ true
-  has-kept (node.Object o) f h = test-kept (class_of s.values o) (class_of v o) (λ c. lookups.has_feature s.metamodel c f) (kept o) h
-  has-kept (node.Resource k) f h =
+-- neither the node of an end that holds something goes, nor anything that it holds
+abbrev pub IsUntouched : (Node → Bool) → End → List Value → Type 0
+IsUntouched g e [] = Unit {0}
+IsUntouched g e (v ∷ vs) = (g e.node ≡ false) × AllByRecursion (λ (w : Value). goes g w ≡ false) (v ∷ vs)
+
+list_all-kept : (p q : Value → Bool) (g : Node → Bool) → ((w : Value) → goes g w ≡ false → p w ≡ true → q w ≡ true) → (ws : List Value) → AllByRecursion (λ (w : Value). goes g w ≡ false) ws → list_all p ws ≡ true → list_all q ws ≡ true
+list_all-kept p q g kept [] stay h = refl
+list_all-kept p q g kept (w ∷ ws) stay h = let both = and_parts (p w) (list_all p ws) h in and_from (q w) (list_all q ws) (kept w stay.0 both.0) (list_all-kept p q g kept ws stay.1 both.1)
+
+-- objects that keep their classes, but for those that go, and no fewer resources
+module _ (g : Node → Bool) (s : Model) (v : ValuesState) (l : Links) (kept : HaveClasses g (class_of s.values) (class_of v)) (more : length s.values.uris ≤ length v.uris) where
+  has-kept : (n : Node) (f : FeatureNo) → g n ≡ false → has_feature (reading s) n f ≡ true → has_feature (reading (model_of s.metamodel v l)) n f ≡ true
+  has-kept (node.Object o) f stays h = test-kept (class_of s.values o) (class_of v o) (λ c. lookups.has_feature s.metamodel c f) (kept o stays) h
+  has-kept (node.Resource k) f stays h =
       let both = and_parts (nat_lt k.0 (length s.values.uris)) (same_feature f (lookups.contents s.metamodel)) h in
       and_from _ _ (grind (arith, nat_tests)) both.1
 
-  object-kept : (f : FeatureNo) (w : Value) → is_legal_object (reading s) f w ≡ true → is_legal_object (reading (model_of s.metamodel v l)) f w ≡ true
-  object-kept f w h =
+  object-kept : (f : FeatureNo) (w : Value) → goes g w ≡ false → is_legal_object (reading s) f w ≡ true → is_legal_object (reading (model_of s.metamodel v l)) f w ≡ true
+  object-kept f w stays h =
       let both = and_parts (lookups.is_object w) (takes (reading s) f w) h in
-      and_from _ _ both.0 (takes-kept s.metamodel (class_of s.values) (class_of v) kept f w both.1)
+      and_from _ _ both.0 (takes-kept s.metamodel (class_of s.values) (class_of v) f w (has-class g (class_of s.values) (class_of v) kept w stays) both.1)
 
   -- a legal end stays legal
-  pub legal-end-kept : (e : End) (ws : List Value) → is_legal_end (reading s) e ws ≡ true → is_legal_end (reading (model_of s.metamodel v l)) e ws ≡ true
-  legal-end-kept e [] h = refl
-  legal-end-kept e (w ∷ ws) h =
+  pub legal-end-kept : (e : End) (ws : List Value) → IsUntouched g e ws → is_legal_end (reading s) e ws ≡ true → is_legal_end (reading (model_of s.metamodel v l)) e ws ≡ true
+  legal-end-kept e [] stays h = refl
+  legal-end-kept e (w ∷ ws) stays h =
       let has = and_parts _ _ h in
       let held = and_parts _ _ has.1 in
-      and_from _ _ (has-kept e.node e.feature has.0)
-      (and_from _ _ (list_all-more (is_legal_object (reading s) e.feature) (is_legal_object (reading (model_of s.metamodel v l)) e.feature) (object-kept e.feature) (w ∷ ws) held.0) held.1)
+      and_from _ _ (has-kept e.node e.feature stays.0 has.0)
+      (and_from _ _ (list_all-kept (is_legal_object (reading s) e.feature) (is_legal_object (reading (model_of s.metamodel v l)) e.feature) g (object-kept e.feature) (w ∷ ws) stays.1 held.0) held.1)

@@ -1,6 +1,6 @@
 -- A change that nothing refuses keeps a legal model legal.
-use Rattle.std.proofs.Common.{◌≡◌, ℕ, zero, suc, ◌≤◌, nat_le, nat_lt, insert, remove, eqb, Bool, true, false, ◌&&◌, List, [], ◌∷◌, ◌++◌, length, slice_index_or, slice_set, Option, Some, None, unwrap_or, option_map, if◌then◌else◌, refl, sym, ap, ◌∙◌, subst, arith, ◌<◌, IsTrue}
-use Rattle.std.specs.List.{All, IsDistinct, list_any}
+use Rattle.std.proofs.Common.{◌≡◌, ℕ, zero, suc, ◌≤◌, nat_le, nat_lt, insert, remove, eqb, nat_eq, Bool, true, false, ◌&&◌, ◌||◌, not, List, [], ◌∷◌, ◌++◌, filter, map, length, slice_index_or, slice_set, Option, Some, None, unwrap_or, option_map, if◌then◌else◌, refl, sym, ap, ◌∙◌, subst, arith, ◌<◌, IsTrue}
+use Rattle.std.specs.List.{All, AllByRecursion, IsDistinct, list_any}
 use Rattle.std.specs.Ordering.{nat_cmp}
 use Rattle.std.specs.FinMap as map
 use Rattle.std.specs.Option.{option_map_or}
@@ -28,31 +28,36 @@ use Rattle.mm_types.specs.declared.refused.Refused.TheVariants.{Abstract, Bound,
 use Rattle.mm_types.specs.declared.value.Value.{Value}
 use Rattle.mm_types.specs.declared.value.Value.TheVariants as value
 use Rattle.mm_values.specs.Stored.{Stored, is_nothing, list_changed, nothing_stored}
-use Rattle.mm_values.specs.Values.{ObjectState, Objects, ValuesState, applied, change_list, class_of, object_at, put_stored, stored_under, with_changed, with_uri}
+use Rattle.mm_values.specs.Values.{ObjectState, Objects, ValuesState, applied, change_list, class_of, object_at, put_stored, stored_under, with_changed, with_uri, without_object}
 use Rattle.mm_types.specs.Lists.{shifted}
+use Rattle.mm_types.specs.Same.{same_object}
+use Rattle.containment.specs.Forest.{is_node_among, subtree}
+use Rattle.deletion.specs.Outer.{gone}
 use Rattle.mm_values.specs.declared.edit.ValueEdit.{ValueEdit}
-use Rattle.mm_values.specs.declared.edit.ValueEdit.TheVariants.{InsertValue}
+use Rattle.mm_values.specs.declared.edit.ValueEdit.TheVariants.{DropObject, InsertValue}
 use Rattle.mm_values.proofs.StoredIn.{get-with_stored, kept}
 use Rattle.link_store.specs.Holders.{HasNoCycle}
-use Rattle.link_store.specs.Laws.{without_all}
+use Rattle.link_store.specs.Laws.{goes, without_all}
 use Rattle.link_store.specs.LegalSets.{AreOfKind, IsLegalSet}
 use Rattle.link_store.specs.Links.{Links, end, put, shift}
 use Rattle.link_store.proofs.CycleLemmas.{plan_makes_no_cycle}
+use Rattle.link_store.proofs.GoneLemmas.{end-without_nodes}
 use Rattle.link_store.proofs.KindLemmas.{plan_keeps_kinds}
 use Rattle.link_store.proofs.LegalLemmas.{plan_keeps_legal}
 use Rattle.models.specs.Legal.{AreLegalLinks, AreLegalUris, IsLegal, IsLegalObject, IsLegalStored, IsUniqueList, is_legal_end, is_short, is_short_text, kinds_of}
 use Rattle.models.specs.Model.{Model, attribute_values, kept_values, reading}
 use Rattle.models.specs.Reading.{at_end, first_at, has_feature, is_repeat, place_for, takes}
 use Rattle.handshake.specs.declared.change.Change.{Change}
-use Rattle.handshake.specs.declared.change.Change.TheVariants.{Create, Set, Unset, Add, Remove, RemoveValue, Move, NewResource}
+use Rattle.handshake.specs.declared.change.Change.TheVariants.{Create, Set, Unset, Add, Remove, RemoveValue, Move, Delete, NewResource}
 use Rattle.handshake.specs.Displaced.{cut_by_new, cut_by_set, cut_ties, is_plain_add, is_plain_set}
 use Rattle.handshake.specs.Edits.{link_edits}
 use Rattle.handshake.specs.Effects.{add_value, after, links_after, put_by, put_under, take_value, value_edits, with_value}
-use Rattle.handshake.specs.Laws.{KeepsLegal, IsBrought}
+use Rattle.handshake.specs.Laws.{KeepsLegal, IsBrought, goes_with}
 use Rattle.handshake.specs.Refusals.{early_refusal, gain_refusal, is_at_limit, is_full_at, late_refusal}
-use Rattle.handshake.proofs.CutTieLemmas.{pairs, values-linked, without_ties-pairs}
+use Rattle.handshake.proofs.CutTieLemmas.{left-cuts, values-linked}
+use Rattle.ties.specs.Laws.{names_of}
 use Rattle.handshake.proofs.KnownLemmas.{add-gains, add-named, add-taken, kinds-are, move-named, move-placed, none-else_by, none-unless, none-where_so, object-reference, remove-named, resource-keeps-none, set-named, set-taken, set-there, take-named, uri-taken}
-use Rattle.handshake.proofs.LegalEndLemmas.{HaveClasses, cut-end, legal-end-kept, one-bounded, put-end, shifted-end}
+use Rattle.handshake.proofs.LegalEndLemmas.{HaveClasses, IsUntouched, cut-end, legal-end-kept, one-bounded, put-end, shifted-end}
 use Rattle.handshake.proofs.LinkLemmas.{below-limit, near-empty, without_displaced}
 use Rattle.handshake.proofs.ListLegalLemmas.{insert-legal, move-legal, remove-legal}
 use Rattle.handshake.proofs.PlanLemmas.{add-new, add-place, below, plan-for, set-new}
@@ -173,29 +178,32 @@ class-put f h (o ∷ os) zero (suc i) = refl
 class-put f h (o ∷ os) (suc k) zero = refl
 class-put f h (o ∷ os) (suc k) (suc i) = class-put f h os k i
 
--- legal objects and URIs, where each object of before keeps its class, and each resource is still there
-record AreLegalValues (s : Model) (v : ValuesState) : Type 0 where
+abbrev none_goes : Node → Bool
+none_goes n = false
+
+-- legal objects and URIs, where each object of before that stays keeps its class, and each resource is still there
+record AreLegalValues (s : Model) (g : Node → Bool) (v : ValuesState) : Type 0 where
   pub count : length v.objects ≤ OBJECTS
   pub objects : All (IsLegalObject s.metamodel) v.objects
-  pub classes : HaveClasses (class_of s.values) (class_of v)
+  pub classes : HaveClasses g (class_of s.values) (class_of v)
   pub uris : AreLegalUris v.uris
   pub more : length s.values.uris ≤ length v.uris
 
 not-fewer : (us : List (List ℕ)) → length us ≤ length us
 not-fewer us = omega arith
 
-same-values : (s : Model) → IsLegal s → AreLegalValues s s.values
-same-values s legal = record { count = legal.count; objects = legal.objects; classes = λ o c h. h; uris = legal.uris; more = not-fewer s.values.uris }
+same-values : (s : Model) → IsLegal s → AreLegalValues s none_goes s.values
+same-values s legal = record { count = legal.count; objects = legal.objects; classes = λ o stays c h. h; uris = legal.uris; more = not-fewer s.values.uris }
 
 -- a list that is put under a feature of an object
 put-values : (s : Model) (o : ObjectNo) (f : FeatureNo) (h : Stored) → IsLegal s → ((x : ObjectState) → object_at s.values.objects o ≡ Some x → IsLegalStored s.metamodel x.class f h)
-    → AreLegalValues s (applied s.values (put_under f h.list h.flag (node.Object o)))
+    → AreLegalValues s none_goes (applied s.values (put_under f h.list h.flag (node.Object o)))
 put-values s o f h legal held =
     let P = IsLegalObject s.metamodel in
     record {
       count = rw (length-set s.values.objects o.0 _) legal.count;
       objects = All-set P s.values.objects o.0 _ (put-at s.metamodel (object_at s.values.objects o) f h (legal-at P s.values.objects o.0 tt legal.objects) held) legal.objects;
-      classes = λ p c is. class-put f h s.values.objects o.0 p.0 ∙ is;
+      classes = λ p stays c is. class-put f h s.values.objects o.0 p.0 ∙ is;
       uris = legal.uris;
       more = not-fewer s.values.uris;
     }
@@ -220,21 +228,21 @@ class-changed f g (o ∷ os) (suc k) (suc i) = class-changed f g os k i
 -- a list under a feature of an object is changed
 changed-values : (s : Model) (o : ObjectNo) (f : FeatureNo) (g : List Value → List Value) → IsLegal s
     → ((x : ObjectState) → object_at s.values.objects o ≡ Some x → IsLegalStored s.metamodel x.class f (list_changed g (stored_under x f)))
-    → AreLegalValues s (record { objects = with_changed s.values.objects o f g; uris = s.values.uris })
+    → AreLegalValues s none_goes (record { objects = with_changed s.values.objects o f g; uris = s.values.uris })
 changed-values s o f g legal held =
     let P = IsLegalObject s.metamodel in
     record {
       count = rw (length-set s.values.objects o.0 _) legal.count;
       objects = All-set P s.values.objects o.0 _ (changed-at s.metamodel (object_at s.values.objects o) f g (legal-at P s.values.objects o.0 tt legal.objects) held) legal.objects;
-      classes = λ p c is. class-changed f g s.values.objects o.0 p.0 ∙ is;
+      classes = λ p stays c is. class-changed f g s.values.objects o.0 p.0 ∙ is;
       uris = legal.uris;
       more = not-fewer s.values.uris;
     }
 
 -- of an attribute alone
-of-attribute : (s : Model) (f : FeatureNo) (es : List ValueEdit) → IsLegal s → ((shape s.metamodel f).is_reference ≡ false → AreLegalValues s (applied s.values es)) → AreLegalValues s (applied s.values (if (shape s.metamodel f).is_reference then [] else es))
+of-attribute : (s : Model) (f : FeatureNo) (es : List ValueEdit) → IsLegal s → ((shape s.metamodel f).is_reference ≡ false → AreLegalValues s none_goes (applied s.values es)) → AreLegalValues s none_goes (applied s.values (if (shape s.metamodel f).is_reference then [] else es))
 of-attribute s f es legal of =
-    elim (shape s.metamodel f).is_reference as (λ b. (shape s.metamodel f).is_reference ≡ b → AreLegalValues s (applied s.values (if b then [] else es))) [ true ↦ λ _. same-values s legal | false ↦ of ] refl
+    elim (shape s.metamodel f).is_reference as (λ b. (shape s.metamodel f).is_reference ≡ b → AreLegalValues s none_goes (applied s.values (if b then [] else es))) [ true ↦ λ _. same-values s legal | false ↦ of ] refl
 
 -- what an attribute's list has is what its object stores
 module _ (s : Model) (legal : IsLegal s) (o : ObjectNo) (f : FeatureNo) (many : (shape s.metamodel f).is_single ≡ false) (has : has_feature (reading s) (node.Object o) f ≡ true) (attribute : (shape s.metamodel f).is_reference ≡ false) where
@@ -263,7 +271,7 @@ module _ (s : Model) (legal : IsLegal s) (o : ObjectNo) (f : FeatureNo) (many : 
   plain-room _ takes h = let both = none-else_by (Bound where_so is_full_at (reading s) e) (Limit where_so is_at_limit (reading s) e) h in (none-where_so Bound _ both.0, none-where_so Limit _ both.1)
 
   added-values : (v : Value) (i : Option ℕ) → late_refusal (reading s) (Add (node.Object o) f v i) ≡ None → is_repeat (reading s) e v ≡ false
-      → AreLegalValues s (record { objects = with_changed s.values.objects o f (λ vs. insert vs (place_for (reading s) e i) v); uris = s.values.uris })
+      → AreLegalValues s none_goes (record { objects = with_changed s.values.objects o f (λ vs. insert vs (place_for (reading s) e i) v); uris = s.values.uris })
   added-values v i late new =
       let m = s.metamodel in
       let ask = add-taken (reading s) (node.Object o) f v i late in
@@ -274,10 +282,10 @@ module _ (s : Model) (legal : IsLegal s) (o : ObjectNo) (f : FeatureNo) (many : 
       (subst (λ (vs : List Value). is_full_list (shape m f) (length vs) ≡ false) list room.0) (below-limit _ (subst (λ (vs : List Value). nat_le LIST_VALUES (length vs) ≡ false) list room.1))
       (subst (λ (vs : List Value). ((shape m f).is_unique && has_value vs v) ≡ false) list new))
 
-  taken-values : (i : ℕ) → AreLegalValues s (record { objects = with_changed s.values.objects o f (λ vs. remove vs i); uris = s.values.uris })
+  taken-values : (i : ℕ) → AreLegalValues s none_goes (record { objects = with_changed s.values.objects o f (λ vs. remove vs i); uris = s.values.uris })
   taken-values i = changed-values s o f (λ vs. remove vs i) legal (λ x is. remove-legal s.metamodel x.class f (stored_under x f) many (stored-has x is) (stored-legal x is) i)
 
-  moved-values : (to from : ℕ) → AreLegalValues s (record { objects = with_changed s.values.objects o f (λ vs. shifted vs to from); uris = s.values.uris })
+  moved-values : (to from : ℕ) → AreLegalValues s none_goes (record { objects = with_changed s.values.objects o f (λ vs. shifted vs to from); uris = s.values.uris })
   moved-values to from = changed-values s o f (λ vs. shifted vs to from) legal (λ x is. move-legal s.metamodel x.class f (stored_under x f) many (stored-has x is) (stored-legal x is) to from)
 
 -- one URI more, which no resource has
@@ -293,43 +301,85 @@ with-new us u legal web short room free =
     let longer : length us ≤ length (us ++ u ∷ []) = rw (length-append us (u ∷ [])) (omega arith) in
     subst (λ (b : Bool). let vs = if b then us else us ++ u ∷ [] in AreLegalUris vs × (length us ≤ length vs)) (sym free) (added, longer)
 
-values-after : (s : Model) (c : Change) → IsLegal s → early_refusal (reading s) c ≡ None → late_refusal (reading s) c ≡ None → IsBrought c → AreLegalValues s (applied s.values (value_edits (reading s) c))
+class-dropped : (os : Objects) (k i : ℕ) → nat_eq i k ≡ false → slice_index_or (slice_set os k None) i None ≡ slice_index_or os i None
+class-dropped [] k i other = refl
+class-dropped (o ∷ os) zero zero other = absurd (false≢true (sym other))
+class-dropped (o ∷ os) zero (suc i) other = refl
+class-dropped (o ∷ os) (suc k) zero other = refl
+class-dropped (o ∷ os) (suc k) (suc i) other = class-dropped os k i (grind (arith, nat_tests))
+
+-- objects that are not dropped are as they were
+pub left-object : (v : ValuesState) (os : List ObjectNo) (p : ObjectNo) → list_any (same_object p) os ≡ false → object_at (applied v (map DropObject os)).objects p ≡ object_at v.objects p
+left-object v [] p stays = refl
+left-object v (o ∷ os) p stays =
+    let both = or_false (same_object p o) (list_any (same_object p) os) stays in
+    left-object (record v { objects = without_object v.objects o }) os p both.1 ∙ class-dropped v.objects o.0 p.0 both.0
+  where
+    or_false : (a b : Bool) → (a || b) ≡ false → (a ≡ false) × (b ≡ false)
+    or_false true b h = absurd (false≢true (sym h))
+    or_false false b h = (refl, h)
+
+left-legal : (P : Option ObjectState → Type 0) (v : ValuesState) (os : List ObjectNo) → P None → All P v.objects → All P (applied v (map DropObject os)).objects
+left-legal P v [] none all = all
+left-legal P v (o ∷ os) none all = left-legal P (record v { objects = without_object v.objects o }) os none (All-set P v.objects o.0 None none all)
+
+left-length : (v : ValuesState) (os : List ObjectNo) → length (applied v (map DropObject os)).objects ≡ length v.objects
+left-length v [] = refl
+left-length v (o ∷ os) = left-length (record v { objects = without_object v.objects o }) os ∙ length-set v.objects o.0 None
+
+pub left-uris : (v : ValuesState) (os : List ObjectNo) → (applied v (map DropObject os)).uris ≡ v.uris
+left-uris v [] = refl
+left-uris v (o ∷ os) = left-uris (record v { objects = without_object v.objects o }) os
+
+left-values : (s : Model) → IsLegal s → (os : List ObjectNo) → AreLegalValues s (is_node_among os) (applied s.values (map DropObject os))
+left-values s legal os =
+    let uris = left-uris s.values os in
+    record {
+      count = rw (left-length s.values os) legal.count;
+      objects = left-legal (IsLegalObject s.metamodel) s.values os tt legal.objects;
+      classes = λ p stays c is. ap (option_map (λ (x : ObjectState). x.class)) (left-object s.values os p stays) ∙ is;
+      uris = subst AreLegalUris (sym uris) legal.uris;
+      more = subst (λ (us : List (List ℕ)). length s.values.uris ≤ length us) (sym uris) (not-fewer s.values.uris);
+    }
+
+values-after : (s : Model) (c : Change) → IsLegal s → early_refusal (reading s) c ≡ None → late_refusal (reading s) c ≡ None → IsBrought c → AreLegalValues s (goes_with (reading s) c) (applied s.values (value_edits (reading s) c))
 values-after s (Create c) legal early late brought =
     let P = IsLegalObject s.metamodel in
     record {
       count = rw (length-append s.values.objects _) (grind (arith, nat_tests, none-unless Limit _ late));
       objects = All-append P s.values.objects _ legal.objects (All-cons P _ [] (created s.metamodel c (none-unless Abstract _ (none-else_by _ _ early).1)) (All-nil P));
-      classes = λ o k h. class-append s.values.objects _ o.0 k h;
+      classes = λ o stays k h. class-append s.values.objects _ o.0 k h;
       uris = legal.uris;
       more = not-fewer s.values.uris;
     }
+values-after s (Delete o) legal early late brought = left-values s legal (subtree (reading s) o)
 values-after s (NewResource u) legal early late web =
     let uri = uri-taken (reading s) u late in
     let us = with-new s.values.uris u legal.uris web uri.short uri.room uri.free in
-    record { count = legal.count; objects = legal.objects; classes = λ o c h. h; uris = us.0; more = us.1 }
+    record { count = legal.count; objects = legal.objects; classes = λ o stays c h. h; uris = us.0; more = us.1 }
 values-after s (Set (node.Object o) f v) legal early late brought =
     let m = s.metamodel in
     let ask = set-taken (reading s) (node.Object o) f v late in
     let h : Stored = record { list = v ∷ []; flag = (shape m f).is_unsettable } in
-    elim (shape m f).is_reference as (λ b. (shape m f).is_reference ≡ b → AreLegalValues s (applied s.values (if b then [] else put_under f h.list h.flag (node.Object o)))) [
+    elim (shape m f).is_reference as (λ b. (shape m f).is_reference ≡ b → AreLegalValues s none_goes (applied s.values (if b then [] else put_under f h.list h.flag (node.Object o)))) [
       | true ↦ λ _. same-values s legal
       | false ↦ λ attribute. put-values s o f h legal (λ x e. one-legal m x.class f v (set-named (reading s) (node.Object o) f v early).single (has-of m _ f x e (set-there (reading s) (node.Object o) f v early)) (keeps-taken m (class_of s.values) f v attribute ask.takes) ask.short)
     ] refl
 values-after s (Set (node.Resource k) f v) legal early late brought =
-    elim (shape s.metamodel f).is_reference as (λ b. AreLegalValues s (applied s.values (if b then [] else []))) [ true ↦ same-values s legal | false ↦ same-values s legal ]
+    elim (shape s.metamodel f).is_reference as (λ b. AreLegalValues s none_goes (applied s.values (if b then [] else []))) [ true ↦ same-values s legal | false ↦ same-values s legal ]
 values-after s (Unset (node.Object o) f) legal early late brought =
-    elim (shape s.metamodel f).is_reference as (λ b. AreLegalValues s (applied s.values (if b then [] else put_under f [] false (node.Object o)))) [
+    elim (shape s.metamodel f).is_reference as (λ b. AreLegalValues s none_goes (applied s.values (if b then [] else put_under f [] false (node.Object o)))) [
       | true ↦ same-values s legal
       | false ↦ put-values s o f nothing_stored legal (λ x e. nothing-legal s.metamodel x.class f)
     ]
 values-after s (Unset (node.Resource k) f) legal early late brought =
-    elim (shape s.metamodel f).is_reference as (λ b. AreLegalValues s (applied s.values (if b then [] else []))) [ true ↦ same-values s legal | false ↦ same-values s legal ]
+    elim (shape s.metamodel f).is_reference as (λ b. AreLegalValues s none_goes (applied s.values (if b then [] else []))) [ true ↦ same-values s legal | false ↦ same-values s legal ]
 values-after s (Add (node.Object o) f v i) legal early late brought =
     let r = reading s in
     let e = at_end (node.Object o) f in
     let named = add-named r (node.Object o) f v i early in
     of-attribute s f (add_value r e v i) legal (λ attribute.
-    elim (is_repeat r e v) as (λ b. is_repeat r e v ≡ b → AreLegalValues s (applied s.values (if b then [] else InsertValue o f (place_for r e i) v (shape s.metamodel f).is_unique ∷ []))) [
+    elim (is_repeat r e v) as (λ b. is_repeat r e v ≡ b → AreLegalValues s none_goes (applied s.values (if b then [] else InsertValue o f (place_for r e i) v (shape s.metamodel f).is_unique ∷ []))) [
       | true ↦ λ _. same-values s legal
       | false ↦ λ new. added-values s legal o f named.single named.there attribute v i late new
     ] refl)
@@ -343,7 +393,7 @@ values-after s (RemoveValue (node.Object o) f v) legal early late brought =
     let e = at_end (node.Object o) f in
     let named = take-named r (node.Object o) f v early in
     of-attribute s f _ legal (λ attribute.
-    elim (first_at r e v) as (λ q. AreLegalValues s (applied s.values (option_map_or (take_value e) q []))) [
+    elim (first_at r e v) as (λ q. AreLegalValues s none_goes (applied s.values (option_map_or (take_value e) q []))) [
       | None ↦ same-values s legal
       | Some i ↦ taken-values s legal o f named.single named.there attribute i
     ])
@@ -357,7 +407,7 @@ values-after s (Move (node.Resource k) f to from) legal early late brought = of-
 
 -- of a set and an addition that are not plain
 set-ends : (s : Model) (n : Node) (f : FeatureNo) (v : Value) → IsLegal s → early_refusal (reading s) (Set n f v) ≡ None → late_refusal (reading s) (Set n f v) ≡ None → is_plain_set (reading s) (at_end n f) v ≡ false → (d : End)
-    → is_legal_end (reading s) d (end (with_value (without_all s.links (pairs (cut_by_set (reading s) (at_end n f) v))) (reading s) (at_end n f) None v) d) ≡ true
+    → is_legal_end (reading s) d (end (with_value (without_all s.links (names_of (cut_by_set (reading s) (at_end n f) v))) (reading s) (at_end n f) None v) d) ≡ true
 set-ends s n f (value.Object o) legal early late h d =
     let e = at_end n f in
     let a = shape s.metamodel f in
@@ -366,10 +416,10 @@ set-ends s n f (value.Object o) legal early late h d =
     let empty = near-empty s legal e o new (set-named (reading s) n f (value.Object o) early).single in
     subst (λ (vs : List Value). is_legal_end (reading s) d (end (put t e (length vs) o a.opposite a.containing) d) ≡ true) (sym empty)
     (put-end s legal e o new (set-taken (reading s) n f (value.Object o) late).takes 0 (omega arith) d)
-set-ends s n f v legal early late h d = cut-end s (pairs (cut_by_set (reading s) (at_end n f) v)) legal d
+set-ends s n f v legal early late h d = cut-end s (names_of (cut_by_set (reading s) (at_end n f) v)) legal d
 
 add-ends : (s : Model) (n : Node) (f : FeatureNo) (v : Value) (i : Option ℕ) → IsLegal s → early_refusal (reading s) (Add n f v i) ≡ None → late_refusal (reading s) (Add n f v i) ≡ None → is_plain_add (reading s) (at_end n f) v ≡ false → (d : End)
-    → is_legal_end (reading s) d (end (with_value (without_all s.links (pairs (cut_by_new (reading s) (at_end n f) v))) (reading s) (at_end n f) i v) d) ≡ true
+    → is_legal_end (reading s) d (end (with_value (without_all s.links (names_of (cut_by_new (reading s) (at_end n f) v))) (reading s) (at_end n f) i v) d) ≡ true
 add-ends s n f (value.Object o) i legal early late h d =
     let e = at_end n f in
     let a = shape s.metamodel f in
@@ -377,7 +427,7 @@ add-ends s n f (value.Object o) i legal early late h d =
     let at = add-place s n f o i legal early late h in
     subst (λ (k : ℕ). is_legal_end (reading s) d (end (put t e k o a.opposite a.containing) d) ≡ true) at.1
     (put-end s legal e o (add-new s n f o i early late h) (add-taken (reading s) n f (value.Object o) i late).takes (place_for (reading s) e i) at.0 d)
-add-ends s n f v i legal early late h d = cut-end s (pairs (cut_by_new (reading s) (at_end n f) v)) legal d
+add-ends s n f v i legal early late h d = cut-end s (names_of (cut_by_new (reading s) (at_end n f) v)) legal d
 
 move-ends : (s : Model) (n : Node) (f : FeatureNo) (to from : ℕ) → IsLegal s → late_refusal (reading s) (Move n f to from) ≡ None → (shape s.metamodel f).is_reference ≡ true → (d : End) → is_legal_end (reading s) d (end (shift s.links (at_end n f) to from) d) ≡ true
 move-ends s n f to from legal late reference d =
@@ -387,16 +437,17 @@ move-ends s n f to from legal late reference d =
     shifted-end s e to from legal (below from _ (subst (λ (vs : List Value). nat_lt from (length vs) ≡ true) linked placed.1)) (below to _ (subst (λ (vs : List Value). nat_lt to (length vs) ≡ true) linked placed.0)) d
 
 ends-by-pairs : (s : Model) (c : Change) → IsLegal s → early_refusal (reading s) c ≡ None → late_refusal (reading s) c ≡ None → (d : End)
-    → is_legal_end (reading s) d (end (put_by (without_all s.links (pairs (cut_ties (reading s) c))) (reading s) c) d) ≡ true
+    → is_legal_end (reading s) d (end (put_by (without_all s.links (names_of (cut_ties (reading s) c))) (reading s) c) d) ≡ true
 ends-by-pairs s (Create k) legal early late d = legal.links.ends d
 ends-by-pairs s (NewResource u) legal early late d = legal.links.ends d
-ends-by-pairs s (Unset n f) legal early late d = cut-end s (pairs (cut_ties (reading s) (Unset n f))) legal d
-ends-by-pairs s (Remove n f i) legal early late d = cut-end s (pairs (cut_ties (reading s) (Remove n f i))) legal d
-ends-by-pairs s (RemoveValue n f v) legal early late d = cut-end s (pairs (cut_ties (reading s) (RemoveValue n f v))) legal d
+ends-by-pairs s (Delete o) legal early late d = cut-end s (names_of (cut_ties (reading s) (Delete o))) legal d
+ends-by-pairs s (Unset n f) legal early late d = cut-end s (names_of (cut_ties (reading s) (Unset n f))) legal d
+ends-by-pairs s (Remove n f i) legal early late d = cut-end s (names_of (cut_ties (reading s) (Remove n f i))) legal d
+ends-by-pairs s (RemoveValue n f v) legal early late d = cut-end s (names_of (cut_ties (reading s) (RemoveValue n f v))) legal d
 ends-by-pairs s (Set n f v) legal early late d =
     let r = reading s in
     let e = at_end n f in
-    let t : Bool → Links = λ b. without_all s.links (pairs (if b then [] else cut_by_set r e v)) in
+    let t : Bool → Links = λ b. without_all s.links (names_of (if b then [] else cut_by_set r e v)) in
     elim (is_plain_set r e v) as (λ b. is_plain_set r e v ≡ b → is_legal_end r d (end (if b then t b else with_value (t b) r e None v) d) ≡ true) [
       | true ↦ λ _. legal.links.ends d
       | false ↦ λ new. set-ends s n f v legal early late new d
@@ -404,7 +455,7 @@ ends-by-pairs s (Set n f v) legal early late d =
 ends-by-pairs s (Add n f v i) legal early late d =
     let r = reading s in
     let e = at_end n f in
-    let t : Bool → Links = λ b. without_all s.links (pairs (if b then [] else cut_by_new r e v)) in
+    let t : Bool → Links = λ b. without_all s.links (names_of (if b then [] else cut_by_new r e v)) in
     elim (is_plain_add r e v) as (λ b. is_plain_add r e v ≡ b → is_legal_end r d (end (if b then t b else with_value (t b) r e i v) d) ≡ true) [
       | true ↦ λ _. legal.links.ends d
       | false ↦ λ new. add-ends s n f v i legal early late new d
@@ -418,7 +469,57 @@ ends-by-pairs s (Move n f to from) legal early late d =
 ends-after : (s : Model) (c : Change) → IsLegal s → early_refusal (reading s) c ≡ None → late_refusal (reading s) c ≡ None → (d : End)
     → is_legal_end (reading s) d (end (links_after s.links (reading s) c) d) ≡ true
 ends-after s c legal early late d =
-    subst (λ (t : Links). is_legal_end (reading s) d (end (put_by t (reading s) c) d) ≡ true) (sym (without_ties-pairs s.links (cut_ties (reading s) c))) (ends-by-pairs s c legal early late d)
+    subst (λ (t : Links). is_legal_end (reading s) d (end (put_by t (reading s) c) d) ≡ true) (sym (left-cuts s c legal early)) (ends-by-pairs s c legal early late d)
+
+none-gone : (v : Value) → goes none_goes v ≡ false
+none-gone value.Null = refl
+none-gone (value.Bool b) = refl
+none-gone (value.Int i) = refl
+none-gone (value.Text t) = refl
+none-gone (value.Literal i) = refl
+none-gone (value.Object o) = refl
+none-gone (value.Proxy t) = refl
+none-gone (value.Adapter a) = refl
+
+all-stay : (vs : List Value) → AllByRecursion (λ (w : Value). goes none_goes w ≡ false) vs
+all-stay [] = tt
+all-stay (v ∷ vs) = (none-gone v, all-stay vs)
+
+untouched-end : (e : End) (vs : List Value) → IsUntouched none_goes e vs
+untouched-end e [] = tt
+untouched-end e (v ∷ vs) = (refl, all-stay (v ∷ vs))
+
+-- what is left of an end does not go
+left-stays : (g : Node → Bool) (vs : List Value) → AllByRecursion (λ (w : Value). goes g w ≡ false) (filter (λ w. not (goes g w)) vs)
+left-stays g [] = tt
+left-stays g (v ∷ vs) =
+    elim (goes g v) as (λ b. goes g v ≡ b → AllByRecursion (λ (w : Value). goes g w ≡ false) (if not b then v ∷ filter (λ w. not (goes g w)) vs else filter (λ w. not (goes g w)) vs)) [
+      | true ↦ λ _. left-stays g vs
+      | false ↦ λ stays. (stays, left-stays g vs)
+    ] refl
+
+untouched-left : (g : Node → Bool) (e : End) (vs : List Value) → g e.node ≡ false → AllByRecursion (λ (w : Value). goes g w ≡ false) vs → IsUntouched g e vs
+untouched-left g e [] stays all = tt
+untouched-left g e (v ∷ vs) stays all = (stays, all)
+
+-- no end that is left names what goes
+untouched-after : (s : Model) (c : Change) → IsLegal s → (e : End) → IsUntouched (goes_with (reading s) c) e (end (links_after s.links (reading s) c) e)
+untouched-after s (Delete o) legal e =
+    let g = gone (reading s) o in
+    let vs = filter (λ w. not (goes g w)) (end s.links e) in
+    subst (IsUntouched g e) (sym (end-without_nodes s.links g legal.links.set e))
+    (elim (g e.node) as (λ b. g e.node ≡ b → IsUntouched g e (if b then [] else vs)) [
+      | true ↦ λ _. tt
+      | false ↦ λ stays. untouched-left g e vs stays (left-stays g (end s.links e))
+    ] refl)
+untouched-after s (Create k) legal e = untouched-end e _
+untouched-after s (NewResource u) legal e = untouched-end e _
+untouched-after s (Set n f v) legal e = untouched-end e _
+untouched-after s (Unset n f) legal e = untouched-end e _
+untouched-after s (Add n f v i) legal e = untouched-end e _
+untouched-after s (Remove n f i) legal e = untouched-end e _
+untouched-after s (RemoveValue n f v) legal e = untouched-end e _
+untouched-after s (Move n f to from) legal e = untouched-end e _
 
 links-after : (s : Model) (c : Change) → IsLegal s → early_refusal (reading s) c ≡ None → late_refusal (reading s) c ≡ None → IsBrought c → AreLegalLinks (reading (after s c)) (links_after s.links (reading s) c)
 links-after s c legal early late brought =
@@ -430,7 +531,7 @@ links-after s c legal early late brought =
       set = subst IsLegalSet p.makes (plan_keeps_legal s.links plan legal.links.set p.fits);
       kinds = subst (AreOfKind m) p.makes (plan_keeps_kinds m (kinds-are s.metamodel legal.metamodel) s.links plan legal.links.kinds p.of_kind);
       forest = subst HasNoCycle p.makes (plan_makes_no_cycle s.links plan legal.links.set p.fits p.no_cycle legal.links.forest);
-      ends = λ d. legal-end-kept s (after s c).values (after s c).links v.classes v.more d _ (ends-after s c legal early late d);
+      ends = λ d. legal-end-kept (goes_with (reading s) c) s (after s c).values (after s c).links v.classes v.more d _ (untouched-after s c legal d) (ends-after s c legal early late d);
     }
 
 ---------------------------------------------------------------- both

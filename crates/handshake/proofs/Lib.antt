@@ -12,6 +12,8 @@ pub mod LegalLemmas
 mod LinkLemmas
 mod ListLegalLemmas
 mod ListReplayLemmas
+mod LostLemmas
+mod DestroyLemmas
 pub mod LossLemmas
 pub mod PlanLemmas
 pub mod RelinkLemmas

@@ -39,7 +39,8 @@ use Rattle.models.specs.Model.{Model, reading}
 use Rattle.models.specs.Reading.{Reading, has_feature, is_repeat, is_within, shape_at}
 use Rattle.handshake.specs.Displaced.{has_already, opposite_end, yields}
 use Rattle.handshake.specs.Refusals.{is_at_limit, is_recursive_for, of_either}
-use Rattle.handshake.proofs.CutTieLemmas.{freed, near-emptied, pairs, values-linked}
+use Rattle.handshake.proofs.CutTieLemmas.{freed, near-emptied, values-linked}
+use Rattle.ties.specs.Laws.{names_of}
 use Rattle.handshake.proofs.KnownLemmas.{IsLinkable, far-reference, kinds-are, resource-alone}
 use Rattle.handshake.proofs.YieldLemmas.{near-kept}
 
@@ -93,7 +94,7 @@ pub record IsNewLink (s : Model) (e : End) (o : ObjectNo) : Type 0 where
 
 -- the links, but those that a new link of o at e displaces
 abbrev pub without_displaced : Model → End → ObjectNo → Links
-without_displaced s e o = without_all s.links (pairs (yields (reading s) e o))
+without_displaced s e o = without_all s.links (names_of (yields (reading s) e o))
 
 abbrev pub new_edit : Model → End → ℕ → ObjectNo → Edit
 new_edit s e i o = edit.Put e i o (shape s.metamodel e.feature).opposite (shape s.metamodel e.feature).containing
@@ -156,10 +157,10 @@ module _ (s : Model) (legal : IsLegal s) (e : End) (o : ObjectNo) (new : IsNewLi
   left = without_displaced s e o
 
   lacks-left : (d : End) (w : Value) → Lacks s.links d w → Lacks left d w
-  lacks-left d w lacks = let m = kinds_of s.metamodel in lacks-without_all m (kinds-are s.metamodel legal.metamodel) s.links (pairs (yields (reading s) e o)) legal.links.set legal.links.kinds d w lacks
+  lacks-left d w lacks = let m = kinds_of s.metamodel in lacks-without_all m (kinds-are s.metamodel legal.metamodel) s.links (names_of (yields (reading s) e o)) legal.links.set legal.links.kinds d w lacks
 
   pub fewer-left : (d : End) → length (end left d) ≤ length (end s.links d)
-  fewer-left d = let m = kinds_of s.metamodel in length-without_all m (kinds-are s.metamodel legal.metamodel) s.links (pairs (yields (reading s) e o)) legal.links.set legal.links.kinds d
+  fewer-left d = let m = kinds_of s.metamodel in length-without_all m (kinds-are s.metamodel legal.metamodel) s.links (names_of (yields (reading s) e o)) legal.links.set legal.links.kinds d
 
   room-left : (d : End) → (shape s.metamodel d.feature).is_reference ≡ true → is_at_limit (reading s) d ≡ false → length (end left d) < most
   room-left d reference few =
@@ -193,7 +194,7 @@ module _ (s : Model) (legal : IsLegal s) (e : End) (o : ObjectNo) (new : IsNewLi
 
   pub new-outside : (i : ℕ) → i ≤ length (end left e) → MakesNoCycle left (new_edit s e i o)
   new-outside i placed =
-      let ts = pairs (yields (reading s) e o) in
+      let ts = names_of (yields (reading s) e o) in
       let q = (shape s.metamodel e.feature).containing in
       put_outside left e i o (shape s.metamodel e.feature).opposite q (without_all_legal s.links ts legal.links.set) (new-fits i placed) (without_all_no_cycle s.links ts legal.links.set legal.links.forest)
       (λ x d at_x at_d. clear-cut s ts legal x d.node (clear-of s e o q new.linkable.clear x d at_x at_d))

@@ -1,4 +1,4 @@
--- The edits of links that make a change: they fit, are of the metamodel's pairs, make no cycle, and make what the change makes of links.
+-- The edits of links that make a change: they fit, are of the metamodel's names_of, make no cycle, and make what the change makes of links.
 use Rattle.std.proofs.Common.{◌≡◌, ℕ, ◌<◌, ◌≤◌, nat_lt, unwrap_or, option_to_list, Bool, true, false, List, [], ◌∷◌, ◌++◌, length, map, Option, Some, None, if◌then◌else◌, refl, sym, ap, ◌∙◌, subst, arith}
 use Rattle.std.proofs.lemmas.Bool.Decides.{nat_tests}
 use Rattle.mm_types.specs.Shapes.{shape}
@@ -20,9 +20,9 @@ use Rattle.models.specs.Legal.{IsLegal, kinds_of}
 use Rattle.models.specs.Model.{Model, reading}
 use Rattle.models.specs.Reading.{at_end, is_repeat, place_for, shape_at}
 use Rattle.handshake.specs.declared.change.Change.{Change}
-use Rattle.handshake.specs.declared.change.Change.TheVariants.{Create, Set, Unset, Add, Remove, RemoveValue, Move, NewResource}
+use Rattle.handshake.specs.declared.change.Change.TheVariants.{Create, Set, Unset, Add, Remove, RemoveValue, Move, Delete, NewResource}
 use Rattle.handshake.specs.declared.planned.Planned.{Planned}
-use Rattle.handshake.specs.declared.tie.Tie.{Tie}
+use Rattle.ties.specs.declared.tie.Tie.{Tie}
 use Rattle.handshake.specs.Tellings.{chain}
 use Rattle.handshake.specs.Displaced.{cut_by_new, cut_by_set, cut_ties, has_already, is_plain_add, is_plain_set}
 use Rattle.handshake.specs.Edits.{cut_of, link_edits, made_edit, new_put}
@@ -31,7 +31,8 @@ use Rattle.handshake.specs.Plans.{IsPlanOf}
 use Rattle.handshake.specs.Refusals.{early_refusal, late_refusal, link_refusal}
 use Rattle.handshake.proofs.KnownLemmas.{add-gains, add-named, add-taken, kinds-are, linkable, move-placed, set-named, set-taken}
 use Rattle.handshake.proofs.LinkLemmas.{IsNewLink, many-lacks, near-empty, near-same, new-fits, new-outside, new_edit, single-lacks, without_displaced}
-use Rattle.handshake.proofs.CutTieLemmas.{cuts-once, cuts-there, pairs, plain-not, values-linked, without_ties-pairs}
+use Rattle.handshake.proofs.CutTieLemmas.{cuts-once, cuts-there, left-cuts, plain-not, values-linked}
+use Rattle.ties.specs.Laws.{names_of}
 
 ---------------------------------------------------------------- new links
 
@@ -81,7 +82,7 @@ one-put s legal e o new i u placed makes = record { fits = (new-fits s legal e o
 
 -- of a set of an end that is not plain
 set-puts : (s : Model) (n : Node) (f : FeatureNo) (v : Value) → IsLegal s → early_refusal (reading s) (Set n f v) ≡ None → late_refusal (reading s) (Set n f v) ≡ None → is_plain_set (reading s) (at_end n f) v ≡ false
-    → (let t = without_all s.links (pairs (cut_by_set (reading s) (at_end n f) v)) in ArePuts s t (option_to_list (new_put (reading s) (at_end n f) 0 v)) (with_value t (reading s) (at_end n f) None v))
+    → (let t = without_all s.links (names_of (cut_by_set (reading s) (at_end n f) v)) in ArePuts s t (option_to_list (new_put (reading s) (at_end n f) 0 v)) (with_value t (reading s) (at_end n f) None v))
 set-puts s n f (value.Object o) legal early late h =
     let e = at_end n f in
     let a = shape s.metamodel f in
@@ -106,7 +107,7 @@ add-place s n f o i legal early late h =
     (subst (λ (vs : List Value). place_for r e i ≤ length vs) is low, ap (λ (vs : List Value). unwrap_or i (length vs)) is, same)
 
 add-puts : (s : Model) (n : Node) (f : FeatureNo) (v : Value) (i : Option ℕ) → IsLegal s → early_refusal (reading s) (Add n f v i) ≡ None → late_refusal (reading s) (Add n f v i) ≡ None → is_plain_add (reading s) (at_end n f) v ≡ false
-    → (let t = without_all s.links (pairs (cut_by_new (reading s) (at_end n f) v)) in ArePuts s t (option_to_list (new_put (reading s) (at_end n f) (place_for (reading s) (at_end n f) i) v)) (with_value t (reading s) (at_end n f) i v))
+    → (let t = without_all s.links (names_of (cut_by_new (reading s) (at_end n f) v)) in ArePuts s t (option_to_list (new_put (reading s) (at_end n f) (place_for (reading s) (at_end n f) i) v)) (with_value t (reading s) (at_end n f) i v))
 add-puts s n f (value.Object o) i legal early late h =
     let r = reading s in
     let e = at_end n f in
@@ -131,16 +132,17 @@ move-puts s n f to from late reference =
     record { fits = ((below from _ low_from, below to _ low_to), tt); of_kind = (tt, tt); no_cycle = (tt, tt); makes = refl }
 
 are-puts : (s : Model) (c : Change) → IsLegal s → early_refusal (reading s) c ≡ None → late_refusal (reading s) c ≡ None
-    → ArePuts s (without_all s.links (pairs (cut_ties (reading s) c))) (option_to_list (made_edit (reading s) c)) (put_by (without_all s.links (pairs (cut_ties (reading s) c))) (reading s) c)
+    → ArePuts s (without_all s.links (names_of (cut_ties (reading s) c))) (option_to_list (made_edit (reading s) c)) (put_by (without_all s.links (names_of (cut_ties (reading s) c))) (reading s) c)
 are-puts s (Create k) legal early late = no-puts s s.links
 are-puts s (NewResource u) legal early late = no-puts s s.links
+are-puts s (Delete o) legal early late = no-puts s _
 are-puts s (Unset n f) legal early late = no-puts s _
 are-puts s (Remove n f i) legal early late = no-puts s _
 are-puts s (RemoveValue n f v) legal early late = no-puts s _
 are-puts s (Set n f v) legal early late =
     let r = reading s in
     let e = at_end n f in
-    let t : Bool → Links = λ b. without_all s.links (pairs (if b then [] else cut_by_set r e v)) in
+    let t : Bool → Links = λ b. without_all s.links (names_of (if b then [] else cut_by_set r e v)) in
     elim (is_plain_set r e v) as (λ b. is_plain_set r e v ≡ b → ArePuts s (t b) (option_to_list (if b then None else new_put r e 0 v)) (if b then t b else with_value (t b) r e None v)) [
       | true ↦ λ plain. no-puts s s.links
       | false ↦ λ new. set-puts s n f v legal early late new
@@ -148,7 +150,7 @@ are-puts s (Set n f v) legal early late =
 are-puts s (Add n f v i) legal early late =
     let r = reading s in
     let e = at_end n f in
-    let t : Bool → Links = λ b. without_all s.links (pairs (if b then [] else cut_by_new r e v)) in
+    let t : Bool → Links = λ b. without_all s.links (names_of (if b then [] else cut_by_new r e v)) in
     elim (is_plain_add r e v) as (λ b. is_plain_add r e v ≡ b → ArePuts s (t b) (option_to_list (if b then None else new_put r e (place_for r e i) v)) (if b then t b else with_value (t b) r e i v)) [
       | true ↦ λ plain. no-puts s s.links
       | false ↦ λ new. add-puts s n f v i legal early late new
@@ -162,7 +164,7 @@ are-puts s (Move n f to from) legal early late =
 
 ---------------------------------------------------------------- the whole plan
 
-cut_edits-pairs : (ts : List Tie) → map cut_of ts ≡ cut_edits (pairs ts)
+cut_edits-pairs : (ts : List Tie) → map cut_of ts ≡ cut_edits (names_of ts)
 cut_edits-pairs [] = refl
 cut_edits-pairs (t ∷ ts) = ap (λ (xs : List Edit). cut_of t ∷ xs) (cut_edits-pairs ts)
 
@@ -175,7 +177,7 @@ pub record IsPlanFor (s : Model) (c : Change) (xs : List Edit) : Type 0 where
 
 module _ (s : Model) (c : Change) (legal : IsLegal s) (early : early_refusal (reading s) c ≡ None) (late : late_refusal (reading s) c ≡ None) where
   ts : List (End × Value)
-  ts = pairs (cut_ties (reading s) c)
+  ts = names_of (cut_ties (reading s) c)
 
   pub plan-for : IsPlanFor s c (link_edits (reading s) c)
   unfolding ts
@@ -193,7 +195,7 @@ module _ (s : Model) (c : Change) (legal : IsLegal s) (early : early_refusal (re
         no_cycle = PlanMakesNoCycle-append s.links (cut_edits ts) xs (cuts_without_cycle s.links ts) (subst (λ (t : Links). PlanMakesNoCycle t xs) (sym cut) last.no_cycle);
         makes =
             applied-append s.links (cut_edits ts) xs ∙ ap (λ (t : Links). applied t xs) cut ∙ last.makes
-            ∙ ap (λ (t : Links). put_by t (reading s) c) (sym (without_ties-pairs s.links (cut_ties (reading s) c)));
+            ∙ ap (λ (t : Links). put_by t (reading s) c) (sym (left-cuts s c legal early));
       } in
       subst (λ (ys : List Edit). IsPlanFor s c (ys ++ xs)) (sym (cut_edits-pairs (cut_ties (reading s) c))) whole
 

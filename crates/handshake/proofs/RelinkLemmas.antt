@@ -33,12 +33,13 @@ use Rattle.handshake.specs.Tellings.{far_gain, far_loss, far_losses, gain_at, is
 use Rattle.handshake.specs.declared.happening.Happening.{Happening}
 use Rattle.handshake.specs.declared.happening.Happening.TheVariants.{Gains}
 use Rattle.handshake.specs.declared.happening.Telling.{Telling}
-use Rattle.handshake.specs.declared.tie.Tie.{Tie}
+use Rattle.ties.specs.declared.tie.Tie.{Tie}
 use Rattle.handshake.proofs.AttributeLemmas.{Replays}
 use Rattle.handshake.proofs.ApartLemmas.{far_losses-away}
 use Rattle.handshake.proofs.CutEndLemmas.{held-one, reference-flag, reference-plain, same-held}
 use Rattle.handshake.proofs.CutHeldLemmas.{held_in, losses-cut}
-use Rattle.handshake.proofs.CutTieLemmas.{Stands, all_map, far-emptied, pairs, same_end-symmetric, yields-different, yields-stand}
+use Rattle.handshake.proofs.CutTieLemmas.{Stands, all_map, far-emptied, same_end-symmetric, yields-different, yields-stand}
+use Rattle.ties.specs.Laws.{names_of}
 use Rattle.handshake.proofs.HappenedLemmas.{at-others, at-own, done, done-here, done-other, done_at, happened_at, happened_at-append}
 use Rattle.handshake.proofs.KnownLemmas.{far-reference}
 use Rattle.handshake.proofs.LossLemmas.{gained, gained-single, happened_at-far_loss, happened_at-other_losses}
@@ -48,7 +49,7 @@ use Rattle.handshake.proofs.LinkLemmas.{IsNewLink, near-empty, new-fits, without
 pub at-each : (P : End → Type 0) (e d : End) → P e → (same_end e d ≡ false → P d) → P d
 at-each P e d here other = elim (same_end e d) as (λ b. same_end e d ≡ b → P d) [ true ↦ λ same. subst P (same_end-true e d same) here | false ↦ other ] refl
 
-stand-there : (s : Links) (ts : List Tie) → AllByRecursion (Stands s) ts → AreThere s (pairs ts)
+stand-there : (s : Links) (ts : List Tie) → AllByRecursion (Stands s) ts → AreThere s (names_of ts)
 stand-there s ts stand = all_map (λ (x : End × Value). Has s x.0 x.1) (λ (t : Tie). (t.end, t.value)) ts stand
 
 ---------------------------------------------------------------- the value that is there
@@ -94,13 +95,13 @@ far_losses-all r e (t ∷ ts) d h here other =
 
 module _ (s : Model) (legal : IsLegal s) (e : End) (ts : List Tie) (here : AllByRecursion (λ (t : Tie). t.end ≡ e) ts) (different : AreDifferent (reading s) ts) (stand : AllByRecursion (Stands s.links) ts) where
   -- the far ends' losses, and then the end's own tellings, where they make of it what the cuts do
-  pub cut-replays : (own : List Telling) → AllByRecursion (λ (t : Telling). t.at ≡ e) own → happened_at s.metamodel own e (held_at (reading s) e) ≡ held_in s (without_all s.links (pairs ts)) e
-      → Replays s (far_losses (reading s) ts ++ own) (record s { links = without_all s.links (pairs ts) })
+  pub cut-replays : (own : List Telling) → AllByRecursion (λ (t : Telling). t.at ≡ e) own → happened_at s.metamodel own e (held_at (reading s) e) ≡ held_in s (without_all s.links (names_of ts)) e
+      → Replays s (far_losses (reading s) ts ++ own) (record s { links = without_all s.links (names_of ts) })
   cut-replays own own_here makes d =
       let m = s.metamodel in
       let r = reading s in
       let xs = far_losses r ts in
-      at-each (λ y. happened_at m (xs ++ own) y (held_at r y) ≡ held_in s (without_all s.links (pairs ts)) y) e d
+      at-each (λ y. happened_at m (xs ++ own) y (held_at r y) ≡ held_in s (without_all s.links (names_of ts)) y) e d
       (happened_at-append m xs own e (held_at r e) ∙ ap (happened_at m own e) (at-others m e xs (held_at r e) (far_losses-away s legal e ts here)) ∙ makes)
       (λ other.
       happened_at-append m xs own d (held_at r d)
@@ -141,7 +142,7 @@ module _ (s : Model) (legal : IsLegal s) (e : End) (o : ObjectNo) (new : IsNewLi
   end-joined : (d : End) → end joined d ≡ put_end left e i o (shape s.metamodel e.feature).opposite d
   end-joined d =
       end-put left e i o (shape s.metamodel e.feature).opposite (shape s.metamodel e.feature).containing
-      (without_all_legal s.links (pairs (yields (reading s) e o)) legal.links.set) (new-fits s legal e o new i placed) d
+      (without_all_legal s.links (names_of (yields (reading s) e o)) legal.links.set) (new-fits s legal e o new i placed) d
 
   -- what put_end gives, where the tests answer so
   abbrev end_if : Bool → Bool → End → List Value
@@ -156,7 +157,7 @@ module _ (s : Model) (legal : IsLegal s) (e : End) (o : ObjectNo) (new : IsNewLi
   far-joined : (g : FeatureNo) → (shape s.metamodel e.feature).opposite ≡ Some g → same_end e (far_end o g) ≡ false → end joined (far_end o g) ≡ end left (far_end o g) ++ node_value e.node ∷ []
   far-joined g is other = end-joined_if (far_end o g) false true other (ap (λ (q : Option FeatureNo). is_far o q (far_end o g)) is ∙ same_end-self (far_end o g))
 
-  there : AreThere s.links (pairs (yields (reading s) e o))
+  there : AreThere s.links (names_of (yields (reading s) e o))
   there = stand-there s.links (yields (reading s) e o) (yields-stand s e o legal new.reference)
 
   -- what the displaced links tell, and what is told before the end itself gains

@@ -38,7 +38,7 @@ cons-if true v xs ys = refl
 cons-if false v xs ys = refl
 
 -- what is removed where a value stands is the list without it
-removed-index : (vs : List Value) (v : Value) → removed vs (pos (index_in vs v)) ≡ without vs v
+pub removed-index : (vs : List Value) (v : Value) → removed vs (pos (index_in vs v)) ≡ without vs v
 removed-index [] v = refl
 removed-index (w ∷ ws) v =
     elim (same_value v w) as (λ b. (let k = (if b then 0 else suc (index_in ws v)) in if nat_lt k (suc (length ws)) then remove (w ∷ ws) k else w ∷ ws) ≡ (if b then ws else w ∷ without ws v)) [

@@ -27,8 +27,9 @@ use Rattle.models.specs.Reading.{Reading, at_end, has_feature}
 use Rattle.handshake.proofs.CutTieLemmas.{Stands, same_tie-self, values-linked}
 use Rattle.handshake.proofs.KnownLemmas.{object-reference, resource-alone}
 use Rattle.handshake.proofs.YieldLemmas.{Origin, holder-contains}
-use Rattle.handshake.specs.Displaced.{other_side, same_link, same_tie, tie, turned}
-use Rattle.handshake.specs.declared.tie.Tie.{Tie}
+use Rattle.handshake.specs.Displaced.{other_side, same_link, same_tie, turned}
+use Rattle.ties.specs.TreeTies.{tie}
+use Rattle.ties.specs.declared.tie.Tie.{Tie}
 
 ---------------------------------------------------------------- what stands in legal ends
 

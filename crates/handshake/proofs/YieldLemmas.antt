@@ -31,10 +31,12 @@ use Rattle.models.specs.Legal.{IsLegal, kinds_of}
 use Rattle.models.specs.Model.{Model, reading}
 use Rattle.models.specs.Reading.{has_feature}
 use Rattle.containment.proofs.HolderLemmas.{container_at, holding-feature}
-use Rattle.handshake.proofs.CutTieLemmas.{all_append, all_once, all_weaker, is_named-same_link, pairs}
+use Rattle.handshake.proofs.CutTieLemmas.{all_append, all_once, all_weaker, is_named-same_link}
+use Rattle.ties.specs.Laws.{names_of}
 use Rattle.handshake.proofs.KnownLemmas.{kinds-are}
-use Rattle.handshake.specs.Displaced.{holding_tie, in_the_way, opposite_end, other_side, same_link, same_tie, tie, ties_at, ties_if_single, yields}
-use Rattle.handshake.specs.declared.tie.Tie.{Tie}
+use Rattle.handshake.specs.Displaced.{holding_tie, in_the_way, opposite_end, other_side, same_link, same_tie, ties_at, ties_if_single, yields}
+use Rattle.ties.specs.TreeTies.{tie}
+use Rattle.ties.specs.declared.tie.Tie.{Tie}
 
 ---------------------------------------------------------------- where they come from
 
@@ -199,11 +201,11 @@ module _ (s : Model) (legal : IsLegal s) (e : End) (o : ObjectNo) (has : has_fea
   none-any p (t ∷ ts) all = rw all.0 (none-any p ts all.1)
 
   -- a list that lacks an object keeps all its values when what a new link of the object displaces is cut
-  pub near-kept : Lacks s.links e (value.Object o) → end (without_all s.links (pairs (yields (reading s) e o))) e ≡ end s.links e
+  pub near-kept : Lacks s.links e (value.Object o) → end (without_all s.links (names_of (yields (reading s) e o))) e ≡ end s.links e
   near-kept lacks =
       let m = kinds_of s.metamodel in
       let ts = yields (reading s) e o in
-      end-without_all m (kinds-are s.metamodel legal.metamodel) s.links (pairs ts) legal.links.set legal.links.kinds e
-      ∙ filter_all (is_named m (pairs ts) e) (end s.links e) (λ k w at.
+      end-without_all m (kinds-are s.metamodel legal.metamodel) s.links (names_of ts) legal.links.set legal.links.kinds e
+      ∙ filter_all (is_named m (names_of ts) e) (end s.links e) (λ k w at.
       is_named-same_link (reading s) ts (tie e w)
       ∙ none-any (same_link (reading s) (tie e w)) ts (all_weaker _ _ ts (not-displaced w (λ same. lacks k (subst (λ (x : Value). slice_get (end s.links e) k ≡ Some x) same at))) (yields-origin s e o)))

@@ -10,15 +10,13 @@ use Rattle.mm_types.specs.declared.numbers.Node.{Node}
 use Rattle.mm_types.specs.declared.end.End.{End}
 use Rattle.mm_types.specs.declared.value.Value.{Value}
 use Rattle.mm_types.specs.declared.value.Value.TheVariants as value
-use Rattle.handshake.specs.declared.tie.Tie.{Tie}
+use Rattle.ties.specs.declared.tie.Tie.{Tie}
 use Rattle.link_store.specs.Links.{far_end}
 use Rattle.link_store.specs.Holders.{contained}
 use Rattle.models.specs.Reading.{Reading, at_end, is_repeat, shape_at, first_at, value_at}
+use Rattle.ties.specs.TreeTies.{tie, tree_ties}
 use Rattle.handshake.specs.declared.change.Change.{Change}
-use Rattle.handshake.specs.declared.change.Change.TheVariants.{Create, Set, Unset, Add, Remove, RemoveValue, Move, NewResource}
-
-abbrev pub tie : End → Value → Tie
-tie e v = record { end = e; value = v }
+use Rattle.handshake.specs.declared.change.Change.TheVariants.{Create, Set, Unset, Add, Remove, RemoveValue, Move, Delete, NewResource}
 
 -- the same link by its other end, if it has one
 abbrev pub other_side : Node → Value → Option FeatureNo → Option Tie
@@ -108,4 +106,5 @@ cut_ties r (Add n f v i) = let e = at_end n f in if is_plain_add r e v then [] e
 cut_ties r (Remove n f i) = let e = at_end n f in if (shape_at r e).is_reference then tie_in r e i else []
 cut_ties r (RemoveValue n f v) = let e = at_end n f in if (shape_at r e).is_reference then option_map_or (tie_in r e) (first_at r e v) [] else []
 cut_ties r (Move n f to from) = []
+cut_ties r (Delete o) = tree_ties r o
 cut_ties r (NewResource u) = []

@@ -8,8 +8,8 @@ use Rattle.link_store.specs.declared.plan.Edit.TheVariants.{Put, Shift}
 use Rattle.link_store.specs.Laws.{cut_edit}
 use Rattle.models.specs.Reading.{Reading, at_end, place_for, shape_at}
 use Rattle.handshake.specs.declared.change.Change.{Change}
-use Rattle.handshake.specs.declared.change.Change.TheVariants.{Create, Set, Unset, Add, Remove, RemoveValue, Move, NewResource}
-use Rattle.handshake.specs.declared.tie.Tie.{Tie}
+use Rattle.handshake.specs.declared.change.Change.TheVariants.{Create, Set, Unset, Add, Remove, RemoveValue, Move, Delete, NewResource}
+use Rattle.ties.specs.declared.tie.Tie.{Tie}
 use Rattle.handshake.specs.Displaced.{cut_ties, is_plain_add, is_plain_set}
 
 abbrev pub cut_of : Tie → Edit
@@ -29,6 +29,7 @@ made_edit r (Add n f v i) = let e = at_end n f in if is_plain_add r e v then Non
 made_edit r (Remove n f i) = None
 made_edit r (RemoveValue n f v) = None
 made_edit r (Move n f to from) = let e = at_end n f in if (shape_at r e).is_reference then Some (Shift e to from) else None
+made_edit r (Delete o) = None
 made_edit r (NewResource u) = None
 
 abbrev pub link_edits : Reading → Change → List Edit

@@ -1,5 +1,5 @@
 -- What a change makes of values and of links.
-use Rattle.std.specs.Prelude.{ℕ, Bool, false, List, [], ◌∷◌, fold, length, Option, None, unwrap_or, if◌then◌else◌}
+use Rattle.std.specs.Prelude.{ℕ, Bool, false, List, [], ◌∷◌, fold, length, map, Option, None, unwrap_or, if◌then◌else◌}
 use Rattle.std.specs.Option.{option_map_or}
 use Rattle.mm_types.specs.declared.numbers.FeatureNo.{FeatureNo}
 use Rattle.mm_types.specs.declared.numbers.ObjectNo.{ObjectNo}
@@ -10,13 +10,15 @@ use Rattle.mm_types.specs.declared.value.Value.{Value}
 use Rattle.mm_types.specs.declared.value.Value.TheVariants as value
 use Rattle.mm_values.specs.Values.{applied}
 use Rattle.mm_values.specs.declared.edit.ValueEdit.{ValueEdit}
-use Rattle.mm_values.specs.declared.edit.ValueEdit.TheVariants.{NewObject, PutList, InsertValue, RemoveValue as TakeValue, MoveValue, NewUri}
-use Rattle.link_store.specs.Links.{Links, cut_value, end, put, shift}
+use Rattle.mm_values.specs.declared.edit.ValueEdit.TheVariants.{NewObject, DropObject, PutList, InsertValue, RemoveValue as TakeValue, MoveValue, NewUri}
+use Rattle.link_store.specs.Links.{Links, cut_value, end, put, shift, without_nodes}
 use Rattle.models.specs.Reading.{Reading, at_end, first_at, is_repeat, place_for, shape_at}
 use Rattle.models.specs.Model.{Model, reading}
+use Rattle.containment.specs.Forest.{subtree}
+use Rattle.deletion.specs.Outer.{gone}
 use Rattle.handshake.specs.declared.change.Change.{Change}
-use Rattle.handshake.specs.declared.change.Change.TheVariants.{Create, Set, Unset, Add, Remove, RemoveValue, Move, NewResource}
-use Rattle.handshake.specs.declared.tie.Tie.{Tie}
+use Rattle.handshake.specs.declared.change.Change.TheVariants.{Create, Set, Unset, Add, Remove, RemoveValue, Move, Delete, NewResource}
+use Rattle.ties.specs.declared.tie.Tie.{Tie}
 use Rattle.handshake.specs.Displaced.{cut_ties, is_plain_add, is_plain_set}
 
 ---------------------------------------------------------------- values
@@ -56,6 +58,7 @@ value_edits r (Add n f v i) = let e = at_end n f in if_attribute r e (add_value 
 value_edits r (Remove n f i) = let e = at_end n f in if_attribute r e (take_value e i)
 value_edits r (RemoveValue n f v) = let e = at_end n f in if_attribute r e (take_first r e v)
 value_edits r (Move n f to from) = let e = at_end n f in if_attribute r e (of_object n (λ o. MoveValue o f to from))
+value_edits r (Delete o) = map DropObject (subtree r o)
 value_edits r (NewResource u) = NewUri u ∷ []
 
 ---------------------------------------------------------------- links
@@ -77,10 +80,16 @@ put_by s r (Add n f v i) = let e = at_end n f in if is_plain_add r e v then s el
 put_by s r (Remove n f i) = s
 put_by s r (RemoveValue n f v) = s
 put_by s r (Move n f to from) = let e = at_end n f in if (shape_at r e).is_reference then shift s e to from else s
+put_by s r (Delete o) = s
 put_by s r (NewResource u) = s
 
+-- the links that a change leaves: all but those that name an object that is destroyed, or but those that it cuts
+abbrev pub links_left : Links → Reading → Change → Links
+links_left s r (Delete o) = without_nodes s (gone r o)
+links_left s r c = without_ties s (cut_ties r c)
+
 abbrev pub links_after : Links → Reading → Change → Links
-links_after s r c = put_by (without_ties s (cut_ties r c)) r c
+links_after s r c = put_by (links_left s r c) r c
 
 ---------------------------------------------------------------- both
 

@@ -16,10 +16,10 @@ use Rattle.mm_types.specs.declared.value.Value.{Value}
 use Rattle.mm_types.specs.declared.value.Value.TheVariants as value
 use Rattle.models.specs.Reading.{Reading, at_end, has_uri, is_repeat, is_within, place_for, shape_at, takes}
 use Rattle.models.specs.Legal.{is_short, is_short_text}
-use Rattle.handshake.specs.Named.{class_refusal, feature_refusal, many_refusal, single_refusal, value_refusal}
+use Rattle.handshake.specs.Named.{class_refusal, feature_refusal, many_refusal, node_refusal, single_refusal, value_refusal}
 use Rattle.handshake.specs.Displaced.{has_already, opposite_end}
 use Rattle.handshake.specs.declared.change.Change.{Change}
-use Rattle.handshake.specs.declared.change.Change.TheVariants.{Create, Set, Unset, Add, Remove, RemoveValue, Move, NewResource}
+use Rattle.handshake.specs.declared.change.Change.TheVariants.{Create, Set, Unset, Add, Remove, RemoveValue, Move, Delete, NewResource}
 
 -- why a value is not one of a feature
 abbrev pub type_refusal : Reading → FeatureNo → Value → Option Refused
@@ -89,6 +89,7 @@ early_refusal r (Add n f v i) = value_refusal r n f v else_by many_refusal r.met
 early_refusal r (Remove n f i) = feature_refusal r n f else_by many_refusal r.metamodel f
 early_refusal r (RemoveValue n f v) = value_refusal r n f v else_by many_refusal r.metamodel f
 early_refusal r (Move n f to from) = feature_refusal r n f else_by many_refusal r.metamodel f
+early_refusal r (Delete o) = node_refusal r (node.Object o)
 early_refusal r (NewResource u) = None
 
 -- why one that is not is refused when it is planned
@@ -105,4 +106,5 @@ late_refusal r (Add n f v i) =
 late_refusal r (Remove n f i) = Index unless nat_lt i (count_at r (at_end n f))
 late_refusal r (RemoveValue n f v) = type_refusal r f v
 late_refusal r (Move n f to from) = Index unless (nat_lt to (count_at r (at_end n f)) && nat_lt from (count_at r (at_end n f)))
+late_refusal r (Delete o) = None
 late_refusal r (NewResource u) = uri_refusal r u

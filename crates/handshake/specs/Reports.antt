@@ -1,10 +1,22 @@
 -- What is reported of an end, as a notice.
+use Rattle.std.specs.Prelude.{pos, if◌then◌else◌}
 use Rattle.mm_types.specs.declared.end.End.{End}
+use Rattle.mm_types.specs.declared.value.Value.TheVariants as value
+use Rattle.notice_chain.specs.Kinds.{no_index}
+use Rattle.notice_chain.specs.declared.kind.NoticeKind.TheVariants as kind
 use Rattle.notice_chain.specs.declared.notice.Notice.{Notice}
 use Rattle.models.specs.Reading.{Reading, held_at, shape_at}
+use Rattle.deletion.specs.declared.loss.Loss.{Loss}
 use Rattle.handshake.specs.declared.chain.Report.{Report}
 use Rattle.handshake.specs.Telling.{notice}
 
 -- the notice of a report that is read in a model
 abbrev pub reported : Reading → End → Report → Notice
 reported r e p = notice (shape_at r e) e (held_at r e) p.kind p.old_value p.new_value p.position
+
+-- the notice of a loss at its position, read in a model in which the end still has the value: SET to null at a single end
+abbrev pub lost_notice : Reading → Loss → Notice
+lost_notice r l =
+    if (shape_at r l.end).is_single
+    then notice (shape_at r l.end) l.end (held_at r l.end) kind.Set l.value value.Null no_index
+    else notice (shape_at r l.end) l.end (held_at r l.end) kind.Remove l.value value.Null (pos l.position)

@@ -1,20 +1,23 @@
 -- What a change makes happen, end by end in the order of the rules, and its chain of notices.
-use Rattle.std.specs.Prelude.{ℕ, zero, suc, ◌&&◌, ◌||◌, Bool, false, not, List, [], ◌∷◌, ◌++◌, filter, flat_map, length, Option, Some, None, if◌then◌else◌}
+use Rattle.std.specs.Prelude.{ℕ, zero, suc, ◌&&◌, ◌||◌, Bool, false, not, List, [], ◌∷◌, ◌++◌, filter, flat_map, length, map, Option, Some, None, option_to_list, if◌then◌else◌}
 use Rattle.std.specs.Option.{option_map_or}
 use Rattle.mm_types.specs.Same.{node_value, same_end}
 use Rattle.mm_types.specs.Shapes.{is_containment}
+use Rattle.mm_types.specs.declared.numbers.Node.TheVariants as node
 use Rattle.mm_types.specs.declared.numbers.ObjectNo.{ObjectNo}
 use Rattle.mm_types.specs.declared.end.End.{End}
 use Rattle.mm_types.specs.declared.value.Value.{Value}
 use Rattle.mm_types.specs.declared.value.Value.TheVariants as value
 use Rattle.notice_chain.specs.declared.notice.Notice.{Notice}
 use Rattle.models.specs.Reading.{Reading, at_end, first_at, held_at, is_repeat, shape_at}
+use Rattle.deletion.specs.Losses.{is_lost}
+use Rattle.deletion.specs.Outer.{touched_ends}
 use Rattle.handshake.specs.declared.change.Change.{Change}
-use Rattle.handshake.specs.declared.change.Change.TheVariants.{Create, Set, Unset, Add, Remove, RemoveValue, Move, NewResource}
+use Rattle.handshake.specs.declared.change.Change.TheVariants.{Create, Set, Unset, Add, Remove, RemoveValue, Move, Delete, NewResource}
 use Rattle.handshake.specs.declared.happening.Happening.TheVariants.{Gains, GainsAt, Loses, LosesAt, Unsets, Moves}
 use Rattle.handshake.specs.declared.happening.Happening.{Happening}
 use Rattle.handshake.specs.declared.happening.Telling.{Telling}
-use Rattle.handshake.specs.declared.tie.Tie.{Tie}
+use Rattle.ties.specs.declared.tie.Tie.{Tie}
 use Rattle.handshake.specs.Displaced.{cut_ties, is_plain_set, opposite_end, turned}
 use Rattle.handshake.specs.Telling.{telling, told}
 
@@ -82,6 +85,21 @@ set_to r e v ts = (if is_plain_set r e v then [] else before_gain r e v ts) ++ t
 abbrev pub added : Reading → End → Value → Option ℕ → List Tie → List Telling
 added r e v i ts = if is_repeat r e v then [] else before_gain r e v ts ++ telling e (gain_at i v) ∷ []
 
+-- the object that a change destroys, with all that is below it
+abbrev pub destroyed_by : Change → Option ObjectNo
+destroyed_by (Delete o) = Some o
+destroyed_by _ = None
+
+-- what an end of another node loses with an object and all that is below it, in order
+abbrev pub lost_with : Reading → ObjectNo → End → List Telling
+lost_with r o d = map (λ v. telling d (Loses v)) (filter (is_lost r o d) (r.values d))
+
+-- each such end in order, and last the end that contains the object
+abbrev pub destroyed : Reading → ObjectNo → List Telling
+destroyed r o =
+    flat_map (lost_with r o) (touched_ends r o)
+    ++ map (λ d. telling d (Loses (value.Object o))) (option_to_list (r.holder (node.Object o)))
+
 -- a change that cuts these links
 abbrev pub tellings_with : Reading → Change → List Tie → List Telling
 tellings_with r (Create c) ts = []
@@ -91,6 +109,7 @@ tellings_with r (Add n f v i) ts = added r (at_end n f) v i ts
 tellings_with r (Remove n f i) ts = taken_out r (at_end n f) ts i
 tellings_with r (RemoveValue n f v) ts = value_taken_out r (at_end n f) ts v
 tellings_with r (Move n f to from) ts = telling (at_end n f) (Moves to from) ∷ []
+tellings_with r (Delete o) ts = destroyed r o
 tellings_with r (NewResource u) ts = []
 
 abbrev pub tellings : Reading → Change → List Telling

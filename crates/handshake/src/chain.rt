@@ -1,17 +1,20 @@
 //! The notices of what happens to ends.
-ghost use Rattle.std.specs.Prelude.{◌≡◌, ◌∷◌, ◌++◌, [], map, IfOk, IfErr, OnOk};
+ghost use Rattle.std.specs.Prelude.{◌≡◌, ◌∷◌, ◌++◌, [], true, map, IfOk, IfErr, OnOk};
 ghost use Rattle.mm_types.specs.Ends.{index_in};
 ghost use Rattle.mm_types.specs.Shapes.{shape};
 ghost use Rattle.mm_types.specs.declared.refused.Refused.TheVariants.{Memory};
 ghost use Rattle.models.specs.Model.{reading};
-ghost use Rattle.handshake.specs.Reports.{reported};
+ghost use Rattle.deletion.specs.Losses.{losses as losses_of};
+ghost use Rattle.models.specs.Reading.{is_live};
+ghost use Rattle.handshake.specs.Reports.{lost_notice as lost_notice_of, reported};
 ghost use Rattle.handshake.specs.Telling.{notice_at, telling};
 ghost use Rattle.handshake.specs.declared.happening.Happening.TheVariants.{Gains, Loses, Unsets};
 
 use crate::happening::{Happening, Telling};
+use deletion::{Loss, losses};
 use link_store::LinkStore;
 use mm_meta::Meta;
-use mm_types::{End, FeatureNo, Refused, Value};
+use mm_types::{End, FeatureNo, ObjectNo, Refused, Value};
 use models::{ModelRef, copied, copy_of, is_single};
 use notice_chain::{Chain, NO_INDEX, Notice, NoticeKind};
 use std::alloc::Global;
@@ -41,10 +44,72 @@ fn push_notice<L: LinkStore>(
     ensures ok { OnOk result (chain.new ≡ chain.old ++ notice_at (reading model.now) telling ∷ []) }
     ensures err { IfErr result (λ r. r ≡ Memory) }
 {
-    let notice = notice(model, telling)?;
+    push(notice(model, telling)?, chain)
+}
+
+fn push(notice: Notice, chain: &mut Chain) -> Result<(), Refused>
+    ensures ok { OnOk result (chain.new ≡ chain.old ++ notice ∷ []) }
+    ensures err { IfErr result (λ r. r ≡ Memory) }
+{
     match chain.push(notice) {
         Ok(()) => Ok(()),
         Err(_) => Err(Refused::Memory),
+    }
+}
+
+/// The notices of what is lost with an object and all that is below it.
+pub(crate) fn lost_notices<L: LinkStore>(
+    alloc: Global,
+    model: &ModelRef<L>,
+    object: ObjectNo,
+) -> Result<Chain, Refused>
+    requires live { is_live (reading model.now) object ≡ true }
+    ensures ok { IfOk result (λ c. c ≡ map (lost_notice_of (reading model.now)) (losses_of (reading model.now) object)) }
+    ensures err { IfErr result (λ r. r ≡ Memory) }
+{
+    match losses(alloc, model, object) {
+        Ok(losses) => each_lost(alloc, model, losses),
+        Err(_) => Err(Refused::Memory),
+    }
+}
+
+fn each_lost<L: LinkStore>(
+    alloc: Global,
+    model: &ModelRef<L>,
+    losses: Vec<Loss>,
+) -> Result<Chain, Refused>
+    ensures ok { IfOk result (λ c. c ≡ map (lost_notice_of (reading model.now)) losses.items) }
+    ensures err { IfErr result (λ r. r ≡ Memory) }
+{
+    let mut chain = Chain::new(alloc);
+    for loss in losses {
+        push(lost_notice(model, loss), &mut chain)?;
+    }
+    Ok(chain)
+}
+
+/// The notice of a loss: SET to null at a single end, and else REMOVE at the loss's position.
+fn lost_notice<L: LinkStore>(model: &ModelRef<L>, loss: Loss) -> Notice
+    ensures { result ≡ lost_notice_of (reading model.now) loss }
+{
+    let Loss {
+        end,
+        value,
+        position,
+    } = loss;
+    let (kind, position) = if is_single(model.meta(), end.feature) {
+        (NoticeKind::Set, NO_INDEX)
+    } else {
+        (NoticeKind::Remove, i64::from(position))
+    };
+    Notice {
+        notifier: end.node,
+        feature: Some(end.feature),
+        kind,
+        old_value: value,
+        new_value: Value::Null,
+        position,
+        was_set: model.is_set(end),
     }
 }
 

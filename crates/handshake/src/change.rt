@@ -1,5 +1,5 @@
 //! Changes.
-use mm_types::{ClassNo, FeatureNo, Node, Text, Value};
+use mm_types::{ClassNo, FeatureNo, Node, ObjectNo, Text, Value};
 
 /// A change of objects, their values and their links, or of resources.
 #[derive(Debug, Drop)]
@@ -43,6 +43,9 @@ pub enum Change {
         to: u32,
         from: u32,
     },
+    /// Destroys an object and all that is below it, and takes them out of every end that holds them (EMF: EcoreUtil.delete,
+    /// recursively).
+    Delete(ObjectNo),
     /// Makes a resource of a URI, which is as joining gives it (EMF: ResourceSet.createResource).
     NewResource(Text),
 }

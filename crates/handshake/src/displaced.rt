@@ -1,19 +1,22 @@
 //! Which links a change cuts.
-ghost use Rattle.std.specs.Prelude.{◌≡◌, ◌++◌, [], true, fold, OnOk, IfOk, option_map, option_to_list, if◌then◌else◌};
+ghost use Rattle.std.specs.Prelude.{◌≡◌, ◌++◌, [], true, None, fold, OnOk, IfOk, option_map, option_to_list, if◌then◌else◌};
 ghost use Rattle.std.specs.Option.{option_map_or};
 ghost use Rattle.mm_types.specs.Shapes.{shape};
 ghost use Rattle.mm_types.specs.declared.value.Value.TheVariants as value;
 ghost use Rattle.link_store.specs.Holders as h;
 ghost use Rattle.models.specs.Model.{reading};
+ghost use Rattle.ties.specs.TreeTies.{tie};
 ghost use Rattle.handshake.specs.Displaced as d;
+ghost use Rattle.handshake.specs.Refusals as refusals;
 
 use crate::change::Change;
-use crate::tie::{Tie, at_end, is_among, node_value, opposite_end};
+use crate::tie::{at_end, is_among, node_value, opposite_end};
 use link_store::LinkStore;
 use mm_meta::Meta;
 use mm_types::{End, Node, ObjectNo, Value};
 use models::{ModelRef, is_reference, is_single};
 use std::alloc::{AllocError, Global};
+use ties::{Tie, tree_ties};
 
 /// What a new link of an object at an end displaces, each link once.
 pub(crate) fn yields<L: LinkStore>(
@@ -111,6 +114,7 @@ pub(crate) fn cut_ties<L: LinkStore>(
     model: &ModelRef<L>,
     change: &Change,
 ) -> Result<Vec<Tie>, AllocError>
+    requires asked { refusals.early_refusal (reading model.now) change.now ≡ None }
     ensures { IfOk result (λ ts. ts.items ≡ d.cut_ties (reading model.now) change.now) }
 {
     match change {
@@ -140,6 +144,7 @@ pub(crate) fn cut_ties<L: LinkStore>(
             let end = at_end(node, feature);
             tie_in(alloc, model, end, model.position(end, value))
         }
+        Change::Delete(object) => tree_ties(alloc, model, *object),
     }
 }
 
@@ -232,7 +237,7 @@ fn tie_in<L: LinkStore>(
 
 /// Adds the link of an object of an end.
 fn push_tie(end: End, object: Option<ObjectNo>, ties: &mut Vec<Tie>) -> Result<(), AllocError>
-    ensures { OnOk result (ties.new.items ≡ ties.old.items ++ option_to_list (option_map (d.tie end) (option_map value.Object object))) }
+    ensures { OnOk result (ties.new.items ≡ ties.old.items ++ option_to_list (option_map (tie end) (option_map value.Object object))) }
 {
     if let Some(object) = object {
         ties.push(Tie {

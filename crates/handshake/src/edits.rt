@@ -1,22 +1,26 @@
 //! The edits of a change.
-ghost use Rattle.std.specs.Prelude.{◌≡◌, ◌∷◌, ◌++◌, [], map, option_to_list, IfOk, IfErr};
+ghost use Rattle.std.specs.Prelude.{◌≡◌, ◌∷◌, ◌++◌, [], true, None, map, option_to_list, IfOk, IfErr};
 ghost use Rattle.mm_types.specs.Shapes.{shape};
 ghost use Rattle.mm_types.specs.declared.refused.Refused.TheVariants.{Memory};
 ghost use Rattle.models.specs.Model.{reading};
-ghost use Rattle.models.specs.Reading.{at_end};
+ghost use Rattle.models.specs.Reading.{at_end, is_live};
+ghost use Rattle.containment.specs.Forest.{subtree as subtree_of};
+ghost use Rattle.handshake.specs.Refusals as refusals;
 ghost use Rattle.handshake.specs.Edits as e;
-ghost use Rattle.mm_values.specs.declared.edit.ValueEdit.TheVariants.{MoveValue};
+ghost use Rattle.mm_values.specs.declared.edit.ValueEdit.TheVariants.{DropObject, MoveValue};
 ghost use Rattle.handshake.specs.Effects as effects;
 ghost use Rattle.handshake.specs.Effects.{put_values, value_edits as value_edits_of};
 
 use crate::change::Change;
 use crate::displaced::{is_plain_add, is_plain_set};
-use crate::tie::{Tie, at_end};
+use crate::tie::at_end;
+use containment::subtree;
 use link_store::{Edit, LinkStore, Plan};
-use mm_types::{End, FeatureNo, Node, Refused, Seq, Text, Value};
+use mm_types::{End, FeatureNo, Node, ObjectNo, Refused, Seq, Text, Value};
 use mm_values::{ValueEdit, ValuePlan};
 use models::{ModelRef, is_reference, is_unique, is_unsettable, opposite};
 use std::alloc::{AllocError, Global};
+use ties::Tie;
 
 /// The edits that cut links, and then the one behind them, if there is one.
 pub(crate) fn link_edits(
@@ -122,11 +126,13 @@ pub(crate) fn value_edits<L: LinkStore>(
     model: &ModelRef<L>,
     change: Change,
 ) -> Result<ValuePlan, Refused>
+    requires asked { refusals.early_refusal (reading model.now) change ≡ None }
     ensures ok { IfOk result (λ p. p ≡ value_edits_of (reading model.now) change) }
     ensures err { IfErr result (λ r. r ≡ Memory) }
 {
     match change {
         Change::Create(class) => Ok(ValuePlan::one(ValueEdit::NewObject(class))),
+        Change::Delete(object) => drop_edits(alloc, model, object),
         Change::NewResource(uri) => Ok(ValuePlan::one(ValueEdit::NewUri(uri))),
         Change::Set { feature, .. }
         | Change::Unset { feature, .. }
@@ -166,6 +172,35 @@ pub(crate) fn value_edits<L: LinkStore>(
             from,
         } => Ok(move_value(alloc, node, feature, to, from)),
     }
+}
+
+/// The edits that destroy an object and all that is below it.
+fn drop_edits<L: LinkStore>(
+    alloc: Global,
+    model: &ModelRef<L>,
+    object: ObjectNo,
+) -> Result<ValuePlan, Refused>
+    requires live { is_live (reading model.now) object ≡ true }
+    ensures ok { IfOk result (λ p. p ≡ map DropObject (subtree_of (reading model.now) object)) }
+    ensures err { IfErr result (λ r. r ≡ Memory) }
+{
+    let Ok(objects) = subtree(alloc, model, object) else {
+        return Err(Refused::Memory);
+    };
+    match drop_each(alloc, objects) {
+        Ok(edits) => Ok(ValuePlan::from_seq(Seq::from_vec(edits))),
+        Err(_) => Err(Refused::Memory),
+    }
+}
+
+fn drop_each(alloc: Global, objects: Vec<ObjectNo>) -> Result<Vec<ValueEdit>, AllocError>
+    ensures { IfOk result (λ es. es.items ≡ map DropObject objects.items) }
+{
+    let mut edits = Vec::new(alloc);
+    for object in objects {
+        edits.push(ValueEdit::DropObject(object))?;
+    }
+    Ok(edits)
 }
 
 /// The edit that adds a value to an attribute's list, unless the list repeats nothing and has it.

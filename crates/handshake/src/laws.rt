@@ -24,13 +24,13 @@ pub fn the_notices_of_tellings_replay_them()
 {}
 
 /// The chain of a change, where nothing refuses it, replays it: from what the ends of a legal model hold it makes what they hold
-/// after the change.
+/// after the change, at every node that the change does not destroy.
 pub fn the_chain_of_a_change_replays_it()
     ensures { (s : Model) (c : Change) → ChainReplays s c }
 {}
 
-/// A chain tells no end twice, but a list that is unset, which loses its values one by one. No far end is told twice then, and none
-/// of them is the list.
+/// A chain tells no end twice, but a list that is unset, which loses its values one by one, and the lists that hold what a change
+/// destroys. Where a list is unset no far end is told twice, and none of them is the list.
 pub fn a_chain_tells_no_end_twice()
     ensures ends { (s : Model) (c : Change) → TellsNoEndTwice s c }
     ensures far_ends { (s : Model) (n : Node) (f : FeatureNo) → FarEndsAreApart s n f }

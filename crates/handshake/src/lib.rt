@@ -22,4 +22,3 @@ pub use happening::{Happening, Telling};
 pub use named::{early_refusal, feature_refusal, node_refusal};
 pub use planned::Planned;
 pub use planning::plan;
-pub use tie::Tie;

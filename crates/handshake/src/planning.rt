@@ -10,19 +10,20 @@ ghost use Rattle.handshake.specs.Refusals as refusals;
 ghost use Rattle.handshake.specs.Tellings as t;
 ghost use Rattle.handshake.specs.declared.change.Change.TheVariants.{Add};
 
-use crate::chain::notices;
+use crate::chain::{lost_notices, notices};
 use crate::change::Change;
 use crate::displaced::{cut_ties, has_already};
 use crate::edits::{link_edits, made_edit, value_edits};
 use crate::planned::Planned;
 use crate::recursion::is_recursive;
 use crate::telling::tellings;
-use crate::tie::{Tie, at_end, opposite_end};
+use crate::tie::{at_end, opposite_end};
 use link_store::LinkStore;
 use mm_types::{End, FeatureNo, ObjectNo, Refused, Text, Value, limits};
 use models::{ModelRef, is_full, is_short, is_short_text};
 use notice_chain::Chain;
 use std::alloc::Global;
+use ties::Tie;
 
 /// The plan of a change whose class, nodes and features are there, or the first refusal that planning finds. The notices are
 /// made only where somebody may hear them.
@@ -71,7 +72,7 @@ fn late_refusal<L: LinkStore>(model: &ModelRef<L>, change: &Change) -> Option<Re
 {
     match change {
         Change::Create(_) if model.next() >= limits::OBJECTS => Some(Refused::Limit),
-        Change::Create(_) | Change::Unset { .. } => None,
+        Change::Create(_) | Change::Unset { .. } | Change::Delete(_) => None,
         Change::NewResource(uri) => uri_refusal(model, uri),
         Change::Set {
             node,
@@ -254,6 +255,16 @@ fn is_at_limit<L: LinkStore>(model: &ModelRef<L>, end: End) -> bool
     model.len(end) as usize >= limits::LIST_VALUES
 }
 
+/// The object that a change destroys, with all that is below it.
+fn destroyed_by(change: &Change) -> Option<ObjectNo>
+    ensures { result ≡ t.destroyed_by change.now }
+{
+    match change {
+        Change::Delete(object) => Some(*object),
+        _ => None,
+    }
+}
+
 /// The notices that a change tells that cuts these links; none where nobody may hear them.
 fn heard_chain<L: LinkStore>(
     alloc: Global,
@@ -272,6 +283,9 @@ fn heard_chain<L: LinkStore>(
         return Ok(Chain::new(alloc));
     }
     model.is_legal();
+    if let Some(object) = destroyed_by(change) {
+        return lost_notices(alloc, model, object);
+    }
     let tellings = match tellings(alloc, model, change, ties) {
         Ok(tellings) => tellings,
         Err(refused) => return Err(refused),

@@ -1,20 +1,12 @@
 //! Whether an object would become a part of itself.
 ghost use Rattle.std.specs.Prelude.{◌≡◌};
 ghost use Rattle.models.specs.Model.{reading};
-ghost use Rattle.models.specs.Reading as r;
 ghost use Rattle.handshake.specs.Refusals as refusals;
 
-use containment::is_under;
+use deletion::is_within;
 use link_store::LinkStore;
 use mm_types::{End, Node, ObjectNo};
 use models::ModelRef;
-
-/// Whether a node is another, or is below it.
-fn is_within<L: LinkStore>(model: &ModelRef<L>, above: Node, node: Node) -> bool
-    ensures { result ≡ r.is_within (reading model.now) above node }
-{
-    above == node || is_under(model.store(), node, above)
-}
 
 /// Whether a link of an object at an end would put an object below itself. Takes no memory.
 pub(crate) fn is_recursive<L: LinkStore>(model: &ModelRef<L>, end: End, object: ObjectNo) -> bool

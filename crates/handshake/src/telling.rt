@@ -1,34 +1,38 @@
 //! What a change makes happen, end by end.
-ghost use Rattle.std.specs.Prelude.{◌≡◌, ◌∷◌, ◌++◌, [], not, flat_map, filter, IfOk, IfErr, OnOk, OnErr};
+ghost use Rattle.std.specs.Prelude.{◌≡◌, ◌∷◌, ◌++◌, [], None, not, flat_map, filter, IfOk, IfErr, OnOk, OnErr};
 ghost use Rattle.mm_types.specs.Shapes.{is_containment};
 ghost use Rattle.mm_types.specs.declared.refused.Refused.TheVariants.{Memory};
 ghost use Rattle.mm_types.specs.declared.value.Value.TheVariants as value;
 ghost use Rattle.models.specs.Model.{reading};
 ghost use Rattle.models.specs.Reading.{at_end};
 ghost use Rattle.handshake.specs.Tellings as t;
+ghost use Rattle.handshake.specs.Tellings.{destroyed_by};
 
 use crate::change::Change;
 use crate::displaced::is_plain_set;
 use crate::happening::{Happening, Telling};
-use crate::tie::{Tie, at_end, node_value, opposite_end, turned};
+use crate::tie::{at_end, node_value, opposite_end, turned};
 use link_store::LinkStore;
 use mm_types::{End, ObjectNo, Refused, Value};
 use models::{ModelRef, copy_of, is_single};
 use std::alloc::Global;
+use ties::Tie;
 
-/// What a change that cuts these links makes happen, in the order in which it is told.
+/// What a change that cuts these links and destroys nothing makes happen, in the order in which it is told.
 pub(crate) fn tellings<L: LinkStore>(
     alloc: Global,
     model: &ModelRef<L>,
     change: &Change,
     ties: &[Tie],
 ) -> Result<Vec<Telling>, Refused>
+    requires destroys_nothing { destroyed_by change.now ≡ None }
     ensures ok { IfOk result (λ ts. ts.items ≡ t.tellings_with (reading model.now) change.now ties.now) }
     ensures err { IfErr result (λ r. r ≡ Memory) }
 {
     let mut out = Vec::new(alloc);
     match change {
-        Change::Create(_) | Change::NewResource(_) => {}
+        // `chain` makes the notices of a delete
+        Change::Create(_) | Change::NewResource(_) | Change::Delete(_) => {}
         Change::Set {
             node,
             feature,

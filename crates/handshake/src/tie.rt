@@ -10,13 +10,7 @@ ghost use Rattle.handshake.specs.Displaced as d;
 use link_store::LinkStore;
 use mm_types::{End, FeatureNo, Node, ObjectNo, Value};
 use models::{ModelRef, is_same, opposite};
-
-/// A link or a proxy, named by an end in which it stands and its value there: no edit of another link changes that name.
-#[derive(Debug, Drop)]
-pub struct Tie {
-    pub end: End,
-    pub value: Value,
-}
+use ties::Tie;
 
 /// An object as a value; a resource is the value of no end.
 pub(crate) fn node_value(node: Node) -> Value

@@ -17,7 +17,7 @@ const BOXES: &str = r#"{"classes":[{"name":"Box","features":[
 {"name":"likes","kind":"reference","type":"Box","upper":2,"opposite":"fans"},
 {"name":"fans","kind":"reference","type":"Box","upper":-1,"opposite":"likes"}]}]}"#;
 
-const BOX: ClassNo = ClassNo(0);
+pub(crate) const BOX: ClassNo = ClassNo(0);
 
 pub(crate) const MARKS: FeatureNo = FeatureNo(0);
 

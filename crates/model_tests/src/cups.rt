@@ -8,7 +8,7 @@ use std::test::Fail;
 
 /// Cups with a label, each with a cup as its lid, which it contains; the lid is on the cup.
 pub(crate) const CUPS: &str = r#"{"classes":[{"name":"Cup","features":[
-{"name":"label","kind":"attribute","type":"EString"},
+{"name":"label","kind":"attribute","type":"EString","lower":1},
 {"name":"lid","kind":"reference","type":"Cup","containment":true,"opposite":"on"},
 {"name":"on","kind":"reference","type":"Cup","opposite":"lid"}]}]}"#;
 

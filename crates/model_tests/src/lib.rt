@@ -21,6 +21,8 @@ mod closing;
 #[cfg(test)]
 mod cups;
 #[cfg(test)]
+mod deletions;
+#[cfg(test)]
 mod drops;
 #[cfg(test)]
 mod latest;
@@ -32,6 +34,8 @@ mod list_calls;
 mod memory;
 #[cfg(test)]
 mod memory_adapters;
+#[cfg(test)]
+mod memory_deletions;
 #[cfg(test)]
 mod memory_links;
 #[cfg(test)]

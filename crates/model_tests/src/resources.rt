@@ -1,13 +1,13 @@
-//! Resources by calls: they are made, they hold roots, and a call that is refused memory has changed nothing.
+//! Resources by calls: they are made, hold roots, are asked for objects and are saved; a call that is refused memory has changed nothing.
 //!
 //! These tests are for the same runs as those of `memory`.
 use crate::books::RowRepository;
-use crate::cups::cups;
+use crate::cups::{cups, put_lid};
 use crate::memory::{shown, unchanged};
-use crate::replies::reply_text;
+use crate::replies::{quiet, reply_text};
 use adapters::{Adapter, Counter};
 use mm_types::{Node, ObjectNo, Refused, ResourceNo, Value};
-use repository::Reply;
+use repository::{Answer, Reply};
 use std::alloc::{AllocError, Global};
 use std::process::Abort;
 use std::test::Fail;
@@ -38,9 +38,44 @@ enum Call<'a> {
     Make(&'a str),
     /// A cup is put into a resource.
     Put(Node, u32),
+    /// The second cup is made the lid of the first.
+    PutLid,
+    Read(Read<'a>),
+}
+
+/// A call that changes nothing.
+#[derive(Clone, Copy)]
+enum Read<'a> {
+    /// The fragment of a cup.
+    Fragment(u32),
+    /// The object at an address.
+    At(&'a str),
+    /// The document of a resource.
+    Save(u32),
+    /// The features of a cup with too few values.
+    Validate(u32),
+}
+
+fn answer<A: Adapter>(repository: &RowRepository<A>, asked: Read<'_>) -> Result<Answer, Refused> {
+    match asked {
+        Read::Fragment(cup) => Ok(Answer::Fragment(repository.fragment(ObjectNo(cup))?)),
+        Read::At(address) => Ok(Answer::Found(repository.object_at(address)?)),
+        Read::Save(resource) => Ok(Answer::Document(repository.save(ResourceNo(resource))?)),
+        Read::Validate(cup) => Ok(Answer::Features(repository.validate(ObjectNo(cup))?)),
+    }
+}
+
+/// What is read, as a reply that notifies nobody.
+fn reply<A: Adapter>(
+    alloc: Global,
+    repository: &RowRepository<A>,
+    asked: Read<'_>,
+) -> Result<Reply<A>, Refused> {
+    Ok(quiet(alloc, answer(repository, asked)?))
 }
 
 fn called<A: Adapter>(
+    alloc: Global,
     repository: &mut RowRepository<A>,
     call: Call<'_>,
 ) -> Result<Reply<A>, Refused> {
@@ -50,6 +85,8 @@ fn called<A: Adapter>(
         Call::Put(node, cup) => {
             repository.add(node, contents, Value::Object(ObjectNo(cup)), None)
         }
+        Call::PutLid => put_lid(repository, 0, 1),
+        Call::Read(asked) => reply(alloc, repository, asked),
     }
 }
 
@@ -62,7 +99,7 @@ fn called_again<A: Adapter>(
     refused: Refused,
 ) -> Result<Reply<A>, Fail> {
     unchanged(refused, before, state(alloc, repository)?.as_str())?;
-    Ok(called(repository, call)?)
+    Ok(called(alloc, repository, call)?)
 }
 
 /// What a call gives, which is made again where it is refused memory.
@@ -72,7 +109,7 @@ fn done<A: Adapter>(
     call: Call<'_>,
 ) -> Result<String, Fail> {
     let before = state(alloc, repository)?;
-    let reply = match called(repository, call) {
+    let reply = match called(alloc, repository, call) {
         Ok(reply) => reply,
         Err(refused) => called_again(alloc, repository, call, before.as_str(), refused)?,
     };
@@ -80,7 +117,7 @@ fn done<A: Adapter>(
 }
 
 /// What each call gives, and what is read after it.
-const CALLS: [(Call<'static>, &str, &str); 4] = [
+const CALLS: [(Call<'static>, &str, &str); 9] = [
     (
         Call::Make("HTTP://M.example/a"),
         "Resource(ResourceNo(0))",
@@ -101,7 +138,32 @@ const CALLS: [(Call<'static>, &str, &str); 4] = [
         "Flag(true)",
         "([Ok(Some(ResourceNo(0))), Ok(None), Err(NoObject)], [Ok(true), Ok(false)])",
     ),
+    (Call::PutLid, "Done", WITH_LID),
+    (
+        Call::Read(Read::Fragment(1)),
+        "Fragment(\"//@lid\")",
+        WITH_LID,
+    ),
+    (
+        Call::Read(Read::At("http://m.example/a#//@lid")),
+        "Found(Some(ObjectNo(1)))",
+        WITH_LID,
+    ),
+    (
+        Call::Read(Read::Save(0)),
+        r#"Document("{\"format\":1,\"roots\":[{\"class\":\"Cup\",\"features\":{\"lid\":{\"class\":\"Cup\",\"features\":{}}}}]}")"#,
+        WITH_LID,
+    ),
+    (
+        Call::Read(Read::Validate(1)),
+        "Features(Seq { items: [FeatureNo(0)] })",
+        WITH_LID,
+    ),
 ];
+
+/// What is read where the second cup is the lid of the first, which is in the first resource.
+const WITH_LID: &str =
+    "([Ok(Some(ResourceNo(0))), Ok(Some(ResourceNo(0))), Err(NoObject)], [Ok(true), Ok(false)])";
 
 fn check_calls<A: Adapter>(
     rt: &impl Abort,

@@ -22,7 +22,7 @@ use Rattle.mm_types.specs.Lists.{shifted}
 use Rattle.mm_values.specs.declared.edit.ValueEdit.{ValueEdit}
 use Rattle.mm_values.specs.declared.edit.ValueEdit.TheVariants.{InsertValue, RemoveValue as TakeValue, MoveValue}
 use Rattle.notice_chain.specs.View.{View}
-use Rattle.notice_chain.specs.Listed.{Above, HasDistinctNumbers, Listed, has_no, heard_of, is_chain_full, is_full, tell_chain}
+use Rattle.notice_chain.specs.Listed.{Above, HasDistinctNumbers, Listed, has_no, heard_of, is_chain_full, is_full, tell_chain, told_all}
 use Rattle.notice_chain.specs.declared.notice.Notice.{Notice}
 use Rattle.notice_chain.proofs.ViewLemmas.{told-hear_all}
 use Rattle.adapter_list.specs.Refusals.{attach_refusal, list_refusal, view_refusal}
@@ -35,9 +35,9 @@ use Rattle.handshake.specs.Named.{node_refusal}
 use Rattle.handshake.specs.declared.change.Change.{Change}
 use Rattle.handshake.specs.declared.change.Change.TheVariants as change
 use Rattle.handshake.proofs.KnownLemmas.{none-else_by, none-unless}
-use Rattle.handshake.proofs.LegalLemmas.{change-keeps-legal}
+use Rattle.handshake.proofs.LegalLemmas.{change-keeps-legal, left-object, left-uris}
 use Rattle.repository.specs.declared.command.Command.{Command}
-use Rattle.repository.specs.declared.command.Command.TheVariants.{Create, Set, Unset, Add, Remove, RemoveValue, Move, Attach, Detach, Get, IsSet, Container, Contents, Class, AdapterTold, AdapterKept, CreateResource, Resource, Validate, Fragment, ObjectAt, Save}
+use Rattle.repository.specs.declared.command.Command.TheVariants.{Create, Set, Unset, Add, Remove, RemoveValue, Move, Delete, Attach, Detach, Get, IsSet, Container, Contents, Class, AdapterTold, AdapterKept, CreateResource, Resource, Validate, Fragment, ObjectAt, Save}
 use Rattle.repository.specs.State.{State, IsLegal, IsLegalAdapter, is_there, reads}
 use Rattle.repository.specs.Refusals.{chain, early_refusal, late_refusal, resource_refusal}
 use Rattle.repository.specs.Run.{Executed, IsWanting, is_memory}
@@ -54,7 +54,8 @@ use Rattle.web_uris.specs.Joined.{IsWebUri, joined}
 use Rattle.repository.proofs.PlanLemmas.{uri-allowed}
 use Rattle.std.proofs.lemmas.Option.{same_Some}
 use Rattle.web_uris.proofs.JoinFacts.{joined-web}
-use Rattle.handshake.specs.Laws.{IsBrought}
+use Rattle.handshake.specs.Laws.{IsBrought, goes_with}
+use Rattle.containment.specs.Forest.{subtree}
 
 abbrev IsThere : Option Refused → Type 0
 IsThere None = ⊥
@@ -139,50 +140,54 @@ more-resources us u k h =
       | false ↦ rw (length-append us (u ∷ [])) (grind (arith, nat_tests))
     ]
 
--- a node that is there is there after every change
-change-keeps-node : (s : Model) (c : Change) (n : Node) → IsTrue (is_there (reading s) n) → IsTrue (is_there (reading (effects.after s c)) n)
-change-keeps-node s (change.Create c) (node.Object o) h = both-true _ true (push-live s.values.objects _ o.0 (first-true _ true h)) refl
-change-keeps-node s (change.Create c) (node.Resource r) h = h
-change-keeps-node s (change.Set m f v) n h = either-keeps s n (shape s.metamodel f).is_reference _ _ (none-keeps s n) (put-keeps s n m f (v ∷ []) (shape s.metamodel f).is_unsettable) h
-change-keeps-node s (change.Unset m f) n h = either-keeps s n (shape s.metamodel f).is_reference _ _ (none-keeps s n) (put-keeps s n m f [] false) h
-change-keeps-node s (change.Add m f v i) n h =
+-- a node that is there is there after every change that does not destroy it
+change-keeps-node : (s : Model) (c : Change) (n : Node) → goes_with (reading s) c n ≡ false → IsTrue (is_there (reading s) n) → IsTrue (is_there (reading (effects.after s c)) n)
+change-keeps-node s (change.Delete o) (node.Object p) stays h =
+    ap (λ (q : Option ObjectState). is_object q && true) (left-object s.values (subtree (reading s) o) p stays) ∙ h
+change-keeps-node s (change.Delete o) (node.Resource k) stays h = subst (λ (us : List (List ℕ)). IsTrue (nat_lt k.0 (length us))) (sym (left-uris s.values (subtree (reading s) o))) h
+change-keeps-node s (change.Create c) (node.Object o) stays h = both-true _ true (push-live s.values.objects _ o.0 (first-true _ true h)) refl
+change-keeps-node s (change.Create c) (node.Resource r) stays h = h
+change-keeps-node s (change.Set m f v) n stays h = either-keeps s n (shape s.metamodel f).is_reference _ _ (none-keeps s n) (put-keeps s n m f (v ∷ []) (shape s.metamodel f).is_unsettable) h
+change-keeps-node s (change.Unset m f) n stays h = either-keeps s n (shape s.metamodel f).is_reference _ _ (none-keeps s n) (put-keeps s n m f [] false) h
+change-keeps-node s (change.Add m f v i) n stays h =
     let r = reading s in
     let e = at_end m f in
     either-keeps s n (shape s.metamodel f).is_reference _ _ (none-keeps s n) (either-keeps s n (is_repeat r e v) _ _ (none-keeps s n) (insert-keeps s n m f (place_for r e i) v (shape s.metamodel f).is_unique)) h
-change-keeps-node s (change.Remove m f i) n h = either-keeps s n (shape s.metamodel f).is_reference _ _ (none-keeps s n) (remove-keeps s n (at_end m f) i) h
-change-keeps-node s (change.RemoveValue m f v) n h = either-keeps s n (shape s.metamodel f).is_reference _ _ (none-keeps s n) (found-keeps s n (at_end m f) (first_at (reading s) (at_end m f) v)) h
-change-keeps-node s (change.Move m f to from) n h = either-keeps s n (shape s.metamodel f).is_reference _ _ (none-keeps s n) (move-keeps s n m f to from) h
-change-keeps-node s (change.NewResource u) (node.Object o) h = h
-change-keeps-node s (change.NewResource u) (node.Resource k) h = more-resources s.values.uris u k.0 h
+change-keeps-node s (change.Remove m f i) n stays h = either-keeps s n (shape s.metamodel f).is_reference _ _ (none-keeps s n) (remove-keeps s n (at_end m f) i) h
+change-keeps-node s (change.RemoveValue m f v) n stays h = either-keeps s n (shape s.metamodel f).is_reference _ _ (none-keeps s n) (found-keeps s n (at_end m f) (first_at (reading s) (at_end m f) v)) h
+change-keeps-node s (change.Move m f to from) n stays h = either-keeps s n (shape s.metamodel f).is_reference _ _ (none-keeps s n) (move-keeps s n m f to from) h
+change-keeps-node s (change.NewResource u) (node.Object o) stays h = h
+change-keeps-node s (change.NewResource u) (node.Resource k) stays h = more-resources s.values.uris u k.0 h
 
 -- a new resource, if there is one
 resource-keeps-node : (s : Model) (u : Option (List ℕ)) (n : Node) → IsTrue (is_there (reading s) n) → IsTrue (is_there (reading (option_map_or (effects.after s) (option_map change.NewResource u) s)) n)
 resource-keeps-node s None n h = h
-resource-keeps-node s (Some u) n h = change-keeps-node s (change.NewResource u) n h
+resource-keeps-node s (Some u) n h = change-keeps-node s (change.NewResource u) n refl h
 
-keeps-node : (s : State) (c : Command View) (n : Node) → IsTrue (is_there (reads s) n) → IsTrue (is_there (reading (model_after s.model c)) n)
-keeps-node s (Create c) n h = change-keeps-node s.model (change.Create c) n h
-keeps-node s (Set m f v) n h = change-keeps-node s.model (change.Set m f v) n h
-keeps-node s (Unset m f) n h = change-keeps-node s.model (change.Unset m f) n h
-keeps-node s (Add m f v i) n h = change-keeps-node s.model (change.Add m f v i) n h
-keeps-node s (Remove m f i) n h = change-keeps-node s.model (change.Remove m f i) n h
-keeps-node s (RemoveValue m f v) n h = change-keeps-node s.model (change.RemoveValue m f v) n h
-keeps-node s (Move m f to from) n h = change-keeps-node s.model (change.Move m f to from) n h
-keeps-node s (CreateResource t) n h = resource-keeps-node s.model (joined [] t) n h
-keeps-node s (Attach number target deep view) n h = h
-keeps-node s (Detach number) n h = h
-keeps-node s (Get m f) n h = h
-keeps-node s (IsSet m f) n h = h
-keeps-node s (Container o) n h = h
-keeps-node s (Resource o) n h = h
-keeps-node s (Contents m) n h = h
-keeps-node s (Validate o) n h = h
-keeps-node s (Fragment o) n h = h
-keeps-node s (ObjectAt t) n h = h
-keeps-node s (Save k) n h = h
-keeps-node s (Class o) n h = h
-keeps-node s (AdapterTold number) n h = h
-keeps-node s (AdapterKept number) n h = h
+keeps-node : (s : State) (c : Command View) (a : Listed) → leaves (reads s) c a ≡ false → IsTrue (is_there (reads s) a.target) → IsTrue (is_there (reading (model_after s.model c)) a.target)
+keeps-node s (Create c) a stays h = change-keeps-node s.model (change.Create c) a.target refl h
+keeps-node s (Set m f v) a stays h = change-keeps-node s.model (change.Set m f v) a.target refl h
+keeps-node s (Unset m f) a stays h = change-keeps-node s.model (change.Unset m f) a.target refl h
+keeps-node s (Add m f v i) a stays h = change-keeps-node s.model (change.Add m f v i) a.target refl h
+keeps-node s (Remove m f i) a stays h = change-keeps-node s.model (change.Remove m f i) a.target refl h
+keeps-node s (RemoveValue m f v) a stays h = change-keeps-node s.model (change.RemoveValue m f v) a.target refl h
+keeps-node s (Move m f to from) a stays h = change-keeps-node s.model (change.Move m f to from) a.target refl h
+keeps-node s (Delete o) a stays h = change-keeps-node s.model (change.Delete o) a.target stays h
+keeps-node s (CreateResource t) a stays h = resource-keeps-node s.model (joined [] t) a.target h
+keeps-node s (Attach number target deep view) a stays h = h
+keeps-node s (Detach number) a stays h = h
+keeps-node s (Get m f) a stays h = h
+keeps-node s (IsSet m f) a stays h = h
+keeps-node s (Container o) a stays h = h
+keeps-node s (Resource o) a stays h = h
+keeps-node s (Contents m) a stays h = h
+keeps-node s (Validate o) a stays h = h
+keeps-node s (Fragment o) a stays h = h
+keeps-node s (ObjectAt t) a stays h = h
+keeps-node s (Save k) a stays h = h
+keeps-node s (Class o) a stays h = h
+keeps-node s (AdapterTold number) a stays h = h
+keeps-node s (AdapterKept number) a stays h = h
 
 ---------------------------------------------------------------- the model
 
@@ -200,6 +205,7 @@ model-legal s (Add n f v i) steady legal early late = change-keeps-legal s.model
 model-legal s (Remove n f i) steady legal early late = change-keeps-legal s.model (change.Remove n f i) legal early late tt
 model-legal s (RemoveValue n f v) steady legal early late = change-keeps-legal s.model (change.RemoveValue n f v) legal early late tt
 model-legal s (Move n f to from) steady legal early late = change-keeps-legal s.model (change.Move n f to from) legal early late tt
+model-legal s (Delete o) steady legal early late = change-keeps-legal s.model (change.Delete o) legal early late tt
 model-legal s (CreateResource t) steady legal early late = resource-legal s t (joined [] t) steady legal late
 model-legal s (Attach number target deep view) steady legal early late = legal
 model-legal s (Detach number) steady legal early late = legal
@@ -229,17 +235,19 @@ count-on t k free last =
       | false ↦ λ e f. omega (arith, ltb-false _ _ e, last)
     ] refl free
 
-told-legal : (up : Above) (r t : Reading) (ns : List Notice) (rs : List Listed) → ((n : Node) → IsTrue (is_there r n) → IsTrue (is_there t n)) → is_chain_full up ns rs ≡ false → All (IsLegalAdapter r) rs → All (IsLegalAdapter t) (tell_chain up ns rs)
-told-legal up r t ns [] stays free legal = All-nil (IsLegalAdapter t)
-told-legal up r t ns (a ∷ rs) stays free legal =
+-- where those that stay keep their targets
+told-legal : (up : Above) (r t : Reading) (ns : List Notice) (rs : List Listed) (goes : Listed → Bool) → ((a : Listed) → goes a ≡ false → IsTrue (is_there r a.target) → IsTrue (is_there t a.target)) → is_chain_full up ns rs ≡ false → All (IsLegalAdapter r) rs
+    → All (λ a. goes a ≡ false → IsLegalAdapter t a) (tell_chain up ns rs)
+told-legal up r t ns [] goes keeps free legal = All-nil (λ a. goes a ≡ false → IsLegalAdapter t a)
+told-legal up r t ns (a ∷ rs) goes keeps free legal =
     let both = or_parts (is_full (length (heard_of up ns a)) a.view) (is_chain_full up ns rs) free in
     let one = All-head (IsLegalAdapter r) a rs legal in
-    All-cons (IsLegalAdapter t) _ _
-    (record {
-      target = stays a.target one.target;
+    All-cons (λ b. goes b ≡ false → IsLegalAdapter t b) _ _
+    (λ stays. record {
+      target = keeps (told_all a (heard_of up ns a)) stays one.target;
       countable = rw (told-hear_all a.view (heard_of up ns a)) (count-on a.view.told (length (heard_of up ns a)) both.0 one.countable);
     })
-    (told-legal up r t ns rs stays both.1 (All-tail (IsLegalAdapter r) a rs legal))
+    (told-legal up r t ns rs goes keeps both.1 (All-tail (IsLegalAdapter r) a rs legal))
 
 ---------------------------------------------------------------- one more adapter
 
@@ -247,6 +255,7 @@ told-legal up r t ns (a ∷ rs) stays free legal =
 record Joins (r : Reading) (rs : List Listed) (c : Command View) : Type 0 where
   pub one : Listed
   pub joins_one : joins c ≡ one ∷ []
+  pub stays : leaves r c one ≡ false
   pub early : early_refusal r rs c ≡ node_refusal r one.target
   pub late : late_refusal r rs c ≡ attach_refusal rs one.no one.view
   pub quiet : (releases r rs c).others ≡ rs
@@ -259,8 +268,9 @@ attaches r rs (Add n f v i) = inl refl
 attaches r rs (Remove n f i) = inl refl
 attaches r rs (RemoveValue n f v) = inl refl
 attaches r rs (Move n f to from) = inl refl
+attaches r rs (Delete o) = inl refl
 attaches r rs (CreateResource t) = inl refl
-attaches r rs (Attach number target deep view) = inr (record { one = record { no = number; target = target; deep = deep; view = view }; joins_one = refl; early = refl; late = refl; quiet = ap (λ (x : Released). x.others) (releases-quiet r.above rs) })
+attaches r rs (Attach number target deep view) = inr (record { one = record { no = number; target = target; deep = deep; view = view }; joins_one = refl; stays = refl; early = refl; late = refl; quiet = ap (λ (x : Released). x.others) (releases-quiet r.above rs) })
 attaches r rs (Detach number) = inl refl
 attaches r rs (Get n f) = inl refl
 attaches r rs (IsSet n f) = inl refl
@@ -297,8 +307,8 @@ record AreLegal (r : Reading) (rs : List Listed) : Type 0 where
   pub distinct : HasDistinctNumbers rs
   pub adapters : All (IsLegalAdapter r) rs
 
-joined-legal : (r t : Reading) (rs : List Listed) (c : Command View) → ((n : Node) → IsTrue (is_there r n) → IsTrue (is_there t n)) → early_refusal r rs c ≡ None → late_refusal r rs c ≡ None → AreLegal t (releases r rs c).others → AreLegal t (adapters_after r rs c)
-joined-legal r t rs c stays early late legal = by (attaches r rs c)
+joined-legal : (r t : Reading) (rs : List Listed) (c : Command View) → ((a : Listed) → leaves r c a ≡ false → IsTrue (is_there r a.target) → IsTrue (is_there t a.target)) → early_refusal r rs c ≡ None → late_refusal r rs c ≡ None → AreLegal t (releases r rs c).others → AreLegal t (adapters_after r rs c)
+joined-legal r t rs c keeps early late legal = by (attaches r rs c)
   where
     by : (joins c ≡ []) ⊎ Joins r rs c → AreLegal t ((releases r rs c).others ++ joins c)
     by (inl none) = rw none (subst (AreLegal t) (sym (append-nil _)) legal)
@@ -311,7 +321,7 @@ joined-legal r t rs c stays early late legal = by (attaches r rs c)
         rw (j.joins_one, j.quiet) (record {
           few = omega (arith, length-append rs (one ∷ []), room.0);
           distinct = distinct-push rs one before.distinct room.1;
-          adapters = All-append (IsLegalAdapter t) rs (one ∷ []) before.adapters (All-cons (IsLegalAdapter t) one [] (record { target = stays one.target target; countable = view-countable one.view free.1 }) (All-nil (IsLegalAdapter t)));
+          adapters = All-append (IsLegalAdapter t) rs (one ∷ []) before.adapters (All-cons (IsLegalAdapter t) one [] (record { target = keeps one j.stays target; countable = view-countable one.view free.1 }) (All-nil (IsLegalAdapter t)));
         })
 
 done-legal : (s : State) (c : Command View) → HasSteadyUri c → IsLegal s → refusal_of s c ≡ None → IsLegal (done s c).after
@@ -326,9 +336,9 @@ done-legal s c steady legal free =
     let told = tell_chain up ns rs in
     let as_many : length told ≡ length rs = length-map rs _ in
     let adapters = joined-legal r t rs c (keeps-node s c) first.0 later.0 (record {
-      few = omega (arith, others-few [] told (leaves c), as_many, legal.few);
-      distinct = others-distinct [] told (leaves c) (rw (numbers-tell_chain up ns rs) legal.distinct);
-      adapters = others-all (IsLegalAdapter t) [] told (leaves c) (All-nil (IsLegalAdapter t)) (told-legal up r t ns rs (keeps-node s c) (where-none AdapterFull _ later.1) legal.adapters);
+      few = omega (arith, others-few [] told (leaves r c), as_many, legal.few);
+      distinct = others-distinct [] told (leaves r c) (rw (numbers-tell_chain up ns rs) legal.distinct);
+      adapters = others-all (IsLegalAdapter t) [] told (leaves r c) (All-nil (IsLegalAdapter t)) (told-legal up r t ns rs (leaves r c) (keeps-node s c) (where-none AdapterFull _ later.1) legal.adapters);
     }) in
     record { model = model-legal s c steady legal.model first.0 later.0; few = adapters.few; distinct = adapters.distinct; adapters = adapters.adapters }
 
@@ -356,4 +366,5 @@ steady-of (change.Add n f v i) brought = tt
 steady-of (change.Remove n f i) brought = tt
 steady-of (change.RemoveValue n f v) brought = tt
 steady-of (change.Move n f to from) brought = tt
+steady-of (change.Delete o) brought = tt
 steady-of (change.NewResource u) web = λ v same. subst IsWebUri (same_Some u v (sym (joined-web [] u web) ∙ same)) web

@@ -2,6 +2,7 @@ pub mod AdapterLemmas
 pub mod OthersLemmas
 pub mod QuietLemmas
 pub mod AttachLemmas
+pub mod LeavingLemmas
 pub mod PlanLemmas
 pub mod LegalLemmas
 pub mod ResourceLemmas

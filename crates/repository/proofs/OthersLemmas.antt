@@ -1,5 +1,5 @@
 -- What holds of the adapters when some are released, and when one more is attached.
-use Rattle.std.proofs.Common.{◌≡◌, ◌≤◌, ◌+◌, ℕ, Bool, true, false, nat_eq, List, [], ◌∷◌, ◌++◌, map, length, if◌then◌else◌, sym, subst, arith, append_assoc, length-append}
+use Rattle.std.proofs.Common.{refl, ◌≡◌, ◌≤◌, ◌+◌, ℕ, Bool, true, false, nat_eq, List, [], ◌∷◌, ◌++◌, map, length, if◌then◌else◌, sym, subst, arith, append_assoc, length-append}
 use Rattle.std.specs.List.{All, AllByRecursion, IsDistinct, list_any}
 use Rattle.std.proofs.lemmas.Bool.{or_parts}
 use Rattle.std.proofs.lemmas.Bool.Decides.{nat_tests}
@@ -21,12 +21,15 @@ others-few stay (r ∷ rs) goes = elim (goes r) as (λ b. length (if b then with
   | false ↦ omega (arith, others-few (stay ++ r ∷ []) rs goes, length-append stay (r ∷ []))
 ]
 
-pub others-all : (P : Listed → Type 0) (stay rs : List Listed) (goes : Listed → Bool) → All P stay → All P rs → All P (released_after stay goes rs).others
+-- what holds of each that stays
+pub others-all : (P : Listed → Type 0) (stay rs : List Listed) (goes : Listed → Bool) → All P stay → All (λ r. goes r ≡ false → P r) rs → All P (released_after stay goes rs).others
 others-all P stay [] goes s a = s
-others-all P stay (r ∷ rs) goes s a = elim (goes r) as (λ b. All P (if b then with_released r (last_notice stay r) (released_after stay goes rs) else released_after (stay ++ r ∷ []) goes rs).others) [
-  | true ↦ others-all P stay rs goes s (All-tail P r rs a)
-  | false ↦ others-all P (stay ++ r ∷ []) rs goes (All-append P stay (r ∷ []) s (All-cons P r [] (All-head P r rs a) (All-nil P))) (All-tail P r rs a)
-]
+others-all P stay (r ∷ rs) goes s a =
+    let Q : Listed → Type 0 = λ r. goes r ≡ false → P r in
+    elim (goes r) as (λ b. goes r ≡ b → All P (if b then with_released r (last_notice stay r) (released_after stay goes rs) else released_after (stay ++ r ∷ []) goes rs).others) [
+      | true ↦ λ _. others-all P stay rs goes s (All-tail Q r rs a)
+      | false ↦ λ stays. others-all P (stay ++ r ∷ []) rs goes (All-append P stay (r ∷ []) s (All-cons P r [] (All-head Q r rs a stays) (All-nil P))) (All-tail Q r rs a)
+    ] refl
 
 apart-less : (number : AdapterNo) (stay rs : List Listed) (r : Listed) → AllByRecursion (λ y. same_no number y ≡ false) (numbers (stay ++ r ∷ rs)) → AllByRecursion (λ y. same_no number y ≡ false) (numbers (stay ++ rs))
 unfolding numbers

@@ -1,6 +1,7 @@
 -- What a plan, or its refusal, makes of its command.
-use Rattle.std.proofs.Common.{◌≡◌, inl, inr, Bool, true, false, not, IsTrue, List, [], ◌++◌, Option, Some, None, Ok, Err, if◌then◌else◌, refl, ap, sym, subst, ◌∙◌}
-use Rattle.std.specs.Prelude.{◌&&◌, nat_le, nat_lt, is_some, ℕ, length, option_map}
+use Rattle.std.proofs.Common.{◌≡◌, inl, inr, Bool, true, false, not, IsTrue, List, [], ◌∷◌, ◌++◌, map, Option, Some, None, Ok, Err, if◌then◌else◌, refl, ap, sym, subst, ◌∙◌}
+use Rattle.std.proofs.lemmas.Bool.{false≢true}
+use Rattle.std.specs.Prelude.{Result, OnOk, is_err, ◌&&◌, nat_le, nat_lt, is_some, ℕ, length, option_map}
 use Rattle.std.specs.Option.{option_map_or}
 use Rattle.std.proofs.lemmas.List.{append-nil}
 use Rattle.mm_types.specs.Conditions.{◌else_by◌, ◌unless◌, ◌where_so◌}
@@ -13,11 +14,13 @@ use Rattle.mm_types.specs.declared.value.Value.TheVariants as value
 use Rattle.mm_types.specs.declared.numbers.AdapterNo.{AdapterNo}
 use Rattle.mm_types.specs.declared.numbers.FeatureNo.{FeatureNo}
 use Rattle.mm_types.specs.declared.numbers.Node.{Node}
+use Rattle.mm_types.specs.declared.numbers.Node.TheVariants as node
 use Rattle.mm_types.specs.declared.numbers.ObjectNo.{ObjectNo}
 use Rattle.mm_types.specs.Lookups as lookups
 use Rattle.mm_types.specs.Shapes.{shape}
 use Rattle.notice_chain.specs.Listed.{Above, Listed, is_chain_full, tell_chain, told_list}
 use Rattle.notice_chain.specs.Released.{Released, released}
+use Rattle.notice_chain.specs.View.{View}
 use Rattle.notice_chain.specs.declared.notice.Notice.{Notice}
 use Rattle.adapter_list.specs.Refusals.{IsChainRefusal}
 use Rattle.models.specs.Legal.{is_short, is_short_text}
@@ -28,9 +31,9 @@ use Rattle.handshake.specs.Effects as effects
 use Rattle.handshake.specs.Plans.{Plans, is_memory_refusal}
 use Rattle.handshake.specs.Displaced.{has_already}
 use Rattle.handshake.specs.Refusals.{count_at, early_refusal, gain_refusal, is_at_limit, is_full_at, is_recursive, late_refusal, link_refusal, of_either, set_refusal, type_refusal, uri_refusal}
-use Rattle.handshake.specs.Tellings.{chain}
+use Rattle.handshake.specs.Tellings.{chain, destroyed_by}
 use Rattle.handshake.specs.declared.change.Change.{Change}
-use Rattle.handshake.specs.declared.change.Change.TheVariants.{Create, Set, Unset, Add, Remove, RemoveValue, Move, NewResource}
+use Rattle.handshake.specs.declared.change.Change.TheVariants.{Create, Set, Unset, Add, Remove, RemoveValue, Move, Delete, NewResource}
 use Rattle.repository.specs.Answers.{answer_of}
 use Rattle.repository.specs.declared.reply.Answer.{Answer}
 use Rattle.repository.specs.Run.{Executed, is_plain, may_want_memory}
@@ -40,7 +43,7 @@ use Rattle.repository.specs.Views.{command_of}
 use Rattle.repository.proofs.AdapterLemmas.{Heard, released-nobody}
 use Rattle.std.proofs.lemmas.Option.{none-some}
 use Rattle.web_uris.proofs.JoinFacts.{joined-web}
-use Rattle.handshake.specs.Laws.{IsBrought}
+use Rattle.handshake.specs.Laws.{IsBrought, goes_with}
 use Rattle.repository.specs.Refusals.{resource_refusal}
 use Rattle.handshake.proofs.KnownLemmas.{none-else_by, none-unless}
 use Rattle.std.proofs.lemmas.Bool.{and_parts}
@@ -84,6 +87,7 @@ refusal-planned s (Add n f v i) brought early = rw early refl
 refusal-planned s (Remove n f i) brought early = rw early refl
 refusal-planned s (RemoveValue n f v) brought early = rw early refl
 refusal-planned s (Move n f to from) brought early = rw early refl
+refusal-planned s (Delete o) brought early = rw early refl
 refusal-planned s (NewResource u) web early =
     ap (asked_of s u) (joined-web [] u web) ∙ ap (λ (o : Option Refused). o else_by full s (NewResource u)) (uri-refused (reads s) u)
 
@@ -129,6 +133,7 @@ early-not-memory r (Add n f v i) = many-not-memory r f (value_refusal r n f v) (
 early-not-memory r (Remove n f i) = many-not-memory r f (feature_refusal r n f) (feature-not-memory r n f)
 early-not-memory r (RemoveValue n f v) = many-not-memory r f (value_refusal r n f v) (value-not-memory r n f v)
 early-not-memory r (Move n f to from) = many-not-memory r f (feature_refusal r n f) (feature-not-memory r n f)
+early-not-memory r (Delete o) = node-not-memory r (node.Object o)
 early-not-memory r (NewResource u) = refl
 
 ---------------------------------------------------------------- what is found later is not plain
@@ -181,6 +186,7 @@ late-not-plain r (Add n f v i) =
 late-not-plain r (Remove n f i) = unless-not is_plain Index (nat_lt i (count_at r (at_end n f))) refl
 late-not-plain r (RemoveValue n f v) = type-not-plain r f v
 late-not-plain r (Move n f to from) = unless-not is_plain Index (nat_lt to (count_at r (at_end n f)) && nat_lt from (count_at r (at_end n f))) refl
+late-not-plain r (Delete o) = refl
 late-not-plain r (NewResource u) = uri-not-plain r u
 
 full-not-plain : (s : State) (c : Change) → IsNot is_plain (full s c)
@@ -200,6 +206,7 @@ may-want s (Add n f v i) brought early = not-plain s (Add n f v i) brought early
 may-want s (Remove n f i) brought early = not-plain s (Remove n f i) brought early
 may-want s (RemoveValue n f v) brought early = not-plain s (RemoveValue n f v) brought early
 may-want s (Move n f to from) brought early = not-plain s (Move n f to from) brought early
+may-want s (Delete o) brought early = not-plain s (Delete o) brought early
 may-want s (NewResource u) brought early = not-plain s (NewResource u) brought early
 
 ---------------------------------------------------------------- what is executed
@@ -212,6 +219,7 @@ refused_as s (Add n f v i) r other found = rw other (ap (step_unless s (command_
 refused_as s (Remove n f i) r other found = rw other (ap (step_unless s (command_of (Remove n f i))) found)
 refused_as s (RemoveValue n f v) r other found = rw other (ap (step_unless s (command_of (RemoveValue n f v))) found)
 refused_as s (Move n f to from) r other found = rw other (ap (step_unless s (command_of (Move n f to from))) found)
+refused_as s (Delete o) r other found = rw other (ap (step_unless s (command_of (Delete o))) found)
 refused_as s (NewResource u) r other found = rw other (ap (step_unless s (command_of (NewResource u))) found)
 
 -- what is found first
@@ -223,6 +231,7 @@ found-first s (Add n f v i) r e = rw e refl
 found-first s (Remove n f i) r e = rw e refl
 found-first s (RemoveValue n f v) r e = rw e refl
 found-first s (Move n f to from) r e = rw e refl
+found-first s (Delete o) r e = rw e refl
 found-first s (NewResource u) r e = absurd (none-some r e)
 
 pub early_err : (s : State) (c : Change) (r : Refused) → early_refusal (reads s) c ≡ Some r → Executed s (command_of c) (Err (record { refused = r; given_back = None })) s
@@ -236,6 +245,7 @@ out_of_memory s (Add n f v i) brought early = record { may = may-want s (Add n f
 out_of_memory s (Remove n f i) brought early = record { may = may-want s (Remove n f i) brought early; outcome = refl; state = refl }
 out_of_memory s (RemoveValue n f v) brought early = record { may = may-want s (RemoveValue n f v) brought early; outcome = refl; state = refl }
 out_of_memory s (Move n f to from) brought early = record { may = may-want s (Move n f to from) brought early; outcome = refl; state = refl }
+out_of_memory s (Delete o) brought early = record { may = may-want s (Delete o) brought early; outcome = refl; state = refl }
 out_of_memory s (NewResource u) brought early = record { may = may-want s (NewResource u) brought early; outcome = refl; state = refl }
 
 -- what planning refuses
@@ -251,24 +261,22 @@ chain_err s c made r brought early late heard (inr h) =
     let found : refusal_of s (command_of c) ≡ Some AdapterFull = refusal-planned s c brought early ∙ ap (λ (o : Option Refused). o else_by full s c) late ∙ ap (λ b. AdapterFull where_so b) (sym heard.full ∙ h.1) in
     rw (h.0) (refused_as s c AdapterFull refl found)
 
--- what is done by a change that tells these notices
-done_telling : (up : Above) (m : Model) (ns : List Notice) (rs : List Listed) (a : Answer) → (let x : Released = released (λ a. false) (tell_chain up ns rs) in let y : Stepped = record {
-  outcome = Ok (record { answer = a; told = told_list up ns rs ++ x.told; released = x.views });
+-- the reply and the state that a change gives, where these adapters leave
+abbrev replied : State → Change → List Notice → Model → Answer → Released → Stepped
+replied s c ns m a x = record {
+  outcome = Ok (record { answer = a; told = told_list (reads s).above ns s.adapters ++ x.told; released = x.views });
+  after = record { model = m; adapters = x.others };
+}
+
+no_more : (s : State) (c : Change) (ns : List Notice) (m : Model) (a : Answer) (x : Released) → (let y : Stepped = record {
+  outcome = Ok (record { answer = a; told = told_list (reads s).above ns s.adapters ++ x.told; released = x.views });
   after = record { model = m; adapters = x.others ++ [] };
-} in y) ≡ record { outcome = Ok (record { answer = a; told = told_list up ns rs; released = [] }); after = record { model = m; adapters = tell_chain up ns rs } }
-done_telling up m ns rs a =
-    ap (λ (x : Released). let y : Stepped = record {
-      outcome = Ok (record { answer = a; told = told_list up ns rs ++ x.told; released = x.views });
-      after = record { model = m; adapters = x.others ++ [] };
-    } in y) (released-nobody (tell_chain up ns rs))
-    ∙ ap (λ (told : List (AdapterNo × Notice)). let y : Stepped = record {
-      outcome = Ok (record { answer = a; told = told; released = [] });
-      after = record { model = m; adapters = tell_chain up ns rs ++ [] };
-    } in y) (append-nil (told_list up ns rs))
-    ∙ ap (λ (adapters : List Listed). let y : Stepped = record {
-      outcome = Ok (record { answer = a; told = told_list up ns rs; released = [] });
-      after = record { model = m; adapters = adapters };
-    } in y) (append-nil (tell_chain up ns rs))
+} in y) ≡ replied s c ns m a x
+no_more s c ns m a x =
+    ap (λ (rs : List Listed). let y : Stepped = record {
+      outcome = Ok (record { answer = a; told = told_list (reads s).above ns s.adapters ++ x.told; released = x.views });
+      after = record { model = m; adapters = rs };
+    } in y) (append-nil x.others)
 
 done_of : (s : State) (u : List ℕ) → Option Change → Stepped
 done_of s u made =
@@ -279,34 +287,56 @@ done_of s u made =
       after = record { model = option_map_or (effects.after s.model) made s.model; adapters = x.others ++ [] };
     }
 
-done_change : (s : State) (c : Change) → IsBrought c → done s (command_of c) ≡ record {
-  outcome = Ok (record { answer = answer_of (reads s) s.adapters (command_of c); told = told_list (reads s).above (chain (reads s) c) s.adapters; released = [] });
-  after = record { model = effects.after s.model c; adapters = tell_chain (reads s).above (chain (reads s) c) s.adapters };
-}
+-- who is released by a change that tells these notices
+abbrev pub releases_of : State → Change → List Notice → Released
+releases_of s c ns = released (λ a. goes_with (reads s) c a.target) (tell_chain (reads s).above ns s.adapters)
+
+done_change : (s : State) (c : Change) → IsBrought c → done s (command_of c) ≡ replied s c (chain (reads s) c) (effects.after s.model c) (answer_of (reads s) s.adapters (command_of c)) (releases_of s c (chain (reads s) c))
 unfolding done_of
-done_change s (Create c) brought = done_telling (reads s).above (effects.after s.model (Create c)) [] s.adapters (answer_of (reads s) s.adapters (command_of (Create c)))
-done_change s (Set n f v) brought = done_telling (reads s).above (effects.after s.model (Set n f v)) (chain (reads s) (Set n f v)) s.adapters (answer_of (reads s) s.adapters (command_of (Set n f v)))
-done_change s (Unset n f) brought = done_telling (reads s).above (effects.after s.model (Unset n f)) (chain (reads s) (Unset n f)) s.adapters (answer_of (reads s) s.adapters (command_of (Unset n f)))
-done_change s (Add n f v i) brought = done_telling (reads s).above (effects.after s.model (Add n f v i)) (chain (reads s) (Add n f v i)) s.adapters (answer_of (reads s) s.adapters (command_of (Add n f v i)))
-done_change s (Remove n f i) brought = done_telling (reads s).above (effects.after s.model (Remove n f i)) (chain (reads s) (Remove n f i)) s.adapters (answer_of (reads s) s.adapters (command_of (Remove n f i)))
-done_change s (RemoveValue n f v) brought = done_telling (reads s).above (effects.after s.model (RemoveValue n f v)) (chain (reads s) (RemoveValue n f v)) s.adapters (answer_of (reads s) s.adapters (command_of (RemoveValue n f v)))
-done_change s (Move n f to from) brought = done_telling (reads s).above (effects.after s.model (Move n f to from)) (chain (reads s) (Move n f to from)) s.adapters (answer_of (reads s) s.adapters (command_of (Move n f to from)))
+done_change s (Create k) brought = let c = Create k in no_more s c (chain (reads s) c) (effects.after s.model c) (answer_of (reads s) s.adapters (command_of c)) (releases_of s c (chain (reads s) c))
+done_change s (Set n f v) brought = let c = Set n f v in no_more s c (chain (reads s) c) (effects.after s.model c) (answer_of (reads s) s.adapters (command_of c)) (releases_of s c (chain (reads s) c))
+done_change s (Unset n f) brought = let c = Unset n f in no_more s c (chain (reads s) c) (effects.after s.model c) (answer_of (reads s) s.adapters (command_of c)) (releases_of s c (chain (reads s) c))
+done_change s (Add n f v i) brought = let c = Add n f v i in no_more s c (chain (reads s) c) (effects.after s.model c) (answer_of (reads s) s.adapters (command_of c)) (releases_of s c (chain (reads s) c))
+done_change s (Remove n f i) brought = let c = Remove n f i in no_more s c (chain (reads s) c) (effects.after s.model c) (answer_of (reads s) s.adapters (command_of c)) (releases_of s c (chain (reads s) c))
+done_change s (RemoveValue n f v) brought = let c = RemoveValue n f v in no_more s c (chain (reads s) c) (effects.after s.model c) (answer_of (reads s) s.adapters (command_of c)) (releases_of s c (chain (reads s) c))
+done_change s (Move n f to from) brought = let c = Move n f to from in no_more s c (chain (reads s) c) (effects.after s.model c) (answer_of (reads s) s.adapters (command_of c)) (releases_of s c (chain (reads s) c))
+done_change s (Delete o) brought = let c = Delete o in no_more s c (chain (reads s) c) (effects.after s.model c) (answer_of (reads s) s.adapters (command_of c)) (releases_of s c (chain (reads s) c))
 done_change s (NewResource u) web =
+    let c = NewResource u in
     ap (λ (o : Option (List ℕ)). done_of s u (option_map NewResource o)) (joined-web [] u web)
-    ∙ done_telling (reads s).above (effects.after s.model (NewResource u)) (chain (reads s) (NewResource u)) s.adapters (answer_of (reads s) s.adapters (command_of (NewResource u)))
+    ∙ no_more s c (chain (reads s) c) (effects.after s.model c) (answer_of (reads s) s.adapters (command_of c)) (releases_of s c (chain (reads s) c))
 
 -- a change that was made, with the notices that somebody may hear
-pub changed : (s : State) (c : Change) (made : List Notice) → IsBrought c → early_refusal (reads s) c ≡ None → late_refusal (reads s) c ≡ None → Heard (reads s).above made (chain (reads s) c) s.adapters → is_chain_full (reads s).above made s.adapters ≡ false → Executed s (command_of c) (Ok (record { answer = answer_of (reads s) s.adapters (command_of c); told = told_list (reads s).above made s.adapters; released = [] })) (record { model = effects.after s.model c; adapters = tell_chain (reads s).above made s.adapters })
+pub changed : (s : State) (c : Change) (made : List Notice) → IsBrought c → early_refusal (reads s) c ≡ None → late_refusal (reads s) c ≡ None → Heard (reads s).above made (chain (reads s) c) s.adapters → is_chain_full (reads s).above made s.adapters ≡ false
+    → step s (command_of c) ≡ replied s c made (effects.after s.model c) (answer_of (reads s) s.adapters (command_of c)) (releases_of s c made)
 unfolding full
 changed s c made brought early late heard free =
     let found : refusal_of s (command_of c) ≡ None = refusal-planned s c brought early ∙ ap (λ (o : Option Refused). o else_by full s c) late ∙ ap (λ b. AdapterFull where_so b) (sym heard.full ∙ free) in
     ap (step_unless s (command_of c)) found ∙ rw (heard.told, heard.adapters) (done_change s c brought)
 
 -- the same, for a reply and a state that are known by their parts
-pub changed_to : (s t : State) (c : Change) (made : List Notice) (a : Answer) (told : List (AdapterNo × Notice)) → IsBrought c → early_refusal (reads s) c ≡ None → late_refusal (reads s) c ≡ None → Heard (reads s).above made (chain (reads s) c) s.adapters → is_chain_full (reads s).above made s.adapters ≡ false → a ≡ answer_of (reads s) s.adapters (command_of c) → told ≡ told_list (reads s).above made s.adapters → t.model ≡ effects.after s.model c → t.adapters ≡ tell_chain (reads s).above made s.adapters → step s (command_of c) ≡ record { outcome = Ok (record { answer = a; told = told; released = [] }); after = t }
-changed_to s t c made a told brought early late heard free answered told_is model adapters =
+pub changed_to : (s t : State) (c : Change) (made : List Notice) (a : Answer) (told : List (AdapterNo × Notice)) (views : List (AdapterNo × View)) → IsBrought c → early_refusal (reads s) c ≡ None → late_refusal (reads s) c ≡ None → Heard (reads s).above made (chain (reads s) c) s.adapters → is_chain_full (reads s).above made s.adapters ≡ false
+    → a ≡ answer_of (reads s) s.adapters (command_of c) → told ≡ told_list (reads s).above made s.adapters ++ (releases_of s c made).told → views ≡ (releases_of s c made).views → t.model ≡ effects.after s.model c → t.adapters ≡ (releases_of s c made).others
+    → step s (command_of c) ≡ record { outcome = Ok (record { answer = a; told = told; released = views }); after = t }
+changed_to s t c made a told views brought early late heard free answered told_is views_are model adapters =
     changed s c made brought early late heard free
-    ∙ ap (λ (b : Answer). let y : Stepped = record { outcome = Ok (record { answer = b; told = told_list (reads s).above made s.adapters; released = [] }); after = record { model = effects.after s.model c; adapters = tell_chain (reads s).above made s.adapters } } in y) (sym answered)
-    ∙ ap (λ (x : List (AdapterNo × Notice)). let y : Stepped = record { outcome = Ok (record { answer = a; told = x; released = [] }); after = record { model = effects.after s.model c; adapters = tell_chain (reads s).above made s.adapters } } in y) (sym told_is)
-    ∙ ap (λ (m : Model). let y : Stepped = record { outcome = Ok (record { answer = a; told = told; released = [] }); after = record { model = m; adapters = tell_chain (reads s).above made s.adapters } } in y) (sym model)
-    ∙ ap (λ (rs : List Listed). let y : Stepped = record { outcome = Ok (record { answer = a; told = told; released = [] }); after = record { model = t.model; adapters = rs } } in y) (sym adapters)
+    ∙ sym (λ i. record { outcome = Ok (record { answer = answered i; told = told_is i; released = views_are i }); after = record { model = model i; adapters = adapters i } })
+
+---------------------------------------------------------------- who leaves
+
+-- a change that destroys nothing releases nobody
+pub nobody-leaves : (s : State) (c : Change) (ns : List Notice) → destroyed_by c ≡ None → releases_of s c ns ≡ record { told = []; views = []; others = tell_chain (reads s).above ns s.adapters }
+nobody-leaves s (Delete o) ns none = absurd (none-some o (sym none))
+nobody-leaves s _ ns none = released-nobody (tell_chain (reads s).above ns s.adapters)
+
+-- to be notified changes no target
+pub targets-tell_chain : (up : Above) (ns : List Notice) (rs : List Listed) (p : Node → Bool) → map (λ r. p r.target) (tell_chain up ns rs) ≡ map (λ r. p r.target) rs
+targets-tell_chain up ns [] p = refl
+targets-tell_chain up ns (r ∷ rs) p = ap (λ (bs : List Bool). p r.target ∷ bs) (targets-tell_chain up ns rs p)
+
+---------------------------------------------------------------- what was reserved
+
+-- what holds where a call is done, of a call that didn't err
+pub where_done : {T E P : Type 0} (r : Result T E) → is_err r ≡ false → OnOk r P → P
+where_done (Ok x) done holds = holds
+where_done (Err x) done holds = absurd (false≢true (sym done))

@@ -2,7 +2,7 @@
 use Rattle.std.proofs.Common.{◌≡◌, Bool, true, false, List, [], ◌∷◌, ◌++◌, Option, Some, None, Ok, Err, refl, sym, ap, subst, ◌∙◌, if◌then◌else◌, ℕ, option_map}
 use Rattle.std.specs.Prelude.{MatchBool}
 use Rattle.repository.specs.declared.command.Command.{Command}
-use Rattle.repository.specs.declared.command.Command.TheVariants.{Create, Set, Unset, Add, Remove, RemoveValue, Move, Attach, Detach, Get, IsSet, Container, Contents, Class, AdapterTold, AdapterKept, CreateResource, Resource, Validate, Fragment, ObjectAt, Save}
+use Rattle.repository.specs.declared.command.Command.TheVariants.{Create, Set, Unset, Add, Remove, RemoveValue, Move, Delete, Attach, Detach, Get, IsSet, Container, Contents, Class, AdapterTold, AdapterKept, CreateResource, Resource, Validate, Fragment, ObjectAt, Save}
 use Rattle.repository.specs.State.{State}
 use Rattle.notice_chain.specs.View.{View}
 use Rattle.repository.specs.Views.{Outcome, brought}
@@ -59,6 +59,7 @@ done-metamodel s (Add n f v i) = refl
 done-metamodel s (Remove n f i) = refl
 done-metamodel s (RemoveValue n f v) = refl
 done-metamodel s (Move n f to from) = refl
+done-metamodel s (Delete o) = refl
 done-metamodel s (CreateResource t) = resource-metamodel s (joined [] t)
 done-metamodel s (Attach number target deep view) = refl
 done-metamodel s (Detach number) = refl

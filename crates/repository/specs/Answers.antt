@@ -10,7 +10,7 @@ use Rattle.mm_types.specs.declared.numbers.Node.TheVariants as node
 use Rattle.mm_types.specs.declared.value.Value.TheVariants as value
 use Rattle.models.specs.Reading.{Reading, at_end, is_repeat, is_set, shape_at, value_at, all_features_of}
 use Rattle.containment.specs.Above.{resource_of}
-use Rattle.containment.specs.Forest.{container, contents}
+use Rattle.containment.specs.Forest.{container, contents, subtree}
 use Rattle.repository.specs.declared.command.Command.{Command}
 use Rattle.repository.specs.declared.command.Command.TheVariants as command
 use Rattle.repository.specs.declared.reply.Answer.{Answer}
@@ -51,7 +51,8 @@ is_too_few r e =
 abbrev pub short_features : Reading → ObjectNo → List FeatureNo
 short_features r o = filter (λ f. is_too_few r (at_end (node.Object o) f)) (all_features_of r (node.Object o))
 
--- an `add` answers whether the list changed, what takes a value out or moves it answers the value, and `remove_value` whether it was there
+-- an `add` answers whether the list changed, what takes a value out or moves it answers the value, `remove_value` whether it was there,
+-- and `delete` how many objects it destroyed
 abbrev pub answer_of : Reading → List Listed → Command View → Answer
 answer_of r rs (command.Create c) = answer.Object (record { 0 = r.next })
 answer_of r rs (command.Set n f v) = answer.Done
@@ -60,6 +61,7 @@ answer_of r rs (command.Add n f v i) = answer.Flag (not (is_repeat r (at_end n f
 answer_of r rs (command.Remove n f i) = answer.Value (value_in (r.values (at_end n f)) i)
 answer_of r rs (command.RemoveValue n f v) = answer.Flag (has_value (r.values (at_end n f)) v)
 answer_of r rs (command.Move n f to from) = answer.Value (value_in (r.values (at_end n f)) from)
+answer_of r rs (command.Delete o) = answer.Destroyed (length (subtree r o))
 answer_of r rs (command.CreateResource t) = answer.Resource (record { 0 = length r.uris })
 answer_of r rs (command.Attach number target deep view) = answer.Done
 answer_of r rs (command.Detach number) = answer.Done

@@ -6,4 +6,5 @@ pub mod Step
 pub mod Run
 pub mod Reads
 pub mod Laws
+pub mod Leaving
 pub mod Repository

@@ -40,6 +40,7 @@ takes_memory (command.Add n f v i) = true
 takes_memory (command.Remove n f i) = true
 takes_memory (command.RemoveValue n f v) = true
 takes_memory (command.Move n f to from) = true
+takes_memory (command.Delete o) = true
 takes_memory (command.CreateResource t) = true
 takes_memory (command.Attach number target deep view) = true
 takes_memory (command.Detach number) = true

@@ -8,6 +8,7 @@ use Rattle.notice_chain.specs.Listed.{Listed, has_no, tell_chain, told_list}
 use Rattle.notice_chain.specs.Released.{Released, released}
 use Rattle.models.specs.Model.{Model}
 use Rattle.models.specs.Reading.{Reading}
+use Rattle.deletion.specs.Outer.{gone}
 use Rattle.handshake.specs.Effects as effects
 use Rattle.repository.specs.declared.command.Command.{Command}
 use Rattle.repository.specs.declared.command.Command.TheVariants as command
@@ -30,30 +31,31 @@ failure c r = record { refused = r; given_back = brought c }
 abbrev pub refused : State → Command View → Refused → Stepped
 refused s c r = record { outcome = Err (failure c r); after = s }
 
--- whether a command releases an adapter
-abbrev pub leaves : Command View → Listed → Bool
-leaves (command.Create c) a = false
-leaves (command.Set n f v) a = false
-leaves (command.Unset n f) a = false
-leaves (command.Add n f v i) a = false
-leaves (command.Remove n f i) a = false
-leaves (command.RemoveValue n f v) a = false
-leaves (command.Move n f to from) a = false
-leaves (command.CreateResource t) a = false
-leaves (command.Attach number target deep view) a = false
-leaves (command.Detach number) a = has_no number a
-leaves (command.Get n f) a = false
-leaves (command.IsSet n f) a = false
-leaves (command.Container o) a = false
-leaves (command.Resource o) a = false
-leaves (command.Contents n) a = false
-leaves (command.Validate o) a = false
-leaves (command.Fragment o) a = false
-leaves (command.ObjectAt t) a = false
-leaves (command.Save k) a = false
-leaves (command.Class o) a = false
-leaves (command.AdapterTold number) a = false
-leaves (command.AdapterKept number) a = false
+-- whether a command releases an adapter: the one that it names, or one whose target it destroys
+abbrev pub leaves : Reading → Command View → Listed → Bool
+leaves r (command.Create c) a = false
+leaves r (command.Set n f v) a = false
+leaves r (command.Unset n f) a = false
+leaves r (command.Add n f v i) a = false
+leaves r (command.Remove n f i) a = false
+leaves r (command.RemoveValue n f v) a = false
+leaves r (command.Move n f to from) a = false
+leaves r (command.Delete o) a = gone r o a.target
+leaves r (command.CreateResource t) a = false
+leaves r (command.Attach number target deep view) a = false
+leaves r (command.Detach number) a = has_no number a
+leaves r (command.Get n f) a = false
+leaves r (command.IsSet n f) a = false
+leaves r (command.Container o) a = false
+leaves r (command.Resource o) a = false
+leaves r (command.Contents n) a = false
+leaves r (command.Validate o) a = false
+leaves r (command.Fragment o) a = false
+leaves r (command.ObjectAt t) a = false
+leaves r (command.Save k) a = false
+leaves r (command.Class o) a = false
+leaves r (command.AdapterTold number) a = false
+leaves r (command.AdapterKept number) a = false
 
 -- the adapter that it attaches
 abbrev pub joins : Command View → List Listed
@@ -64,6 +66,7 @@ joins (command.Add n f v i) = []
 joins (command.Remove n f i) = []
 joins (command.RemoveValue n f v) = []
 joins (command.Move n f to from) = []
+joins (command.Delete o) = []
 joins (command.CreateResource t) = []
 joins (command.Attach number target deep view) = record { no = number; target = target; deep = deep; view = view } ∷ []
 joins (command.Detach number) = []
@@ -82,7 +85,7 @@ joins (command.AdapterKept number) = []
 
 -- the chain is told to those that hear it by what is above the notifiers before the command, and then those that leave are told their last notice
 abbrev pub releases : Reading → List Listed → Command View → Released
-releases r rs c = released (leaves c) (tell_chain r.above (chain r c) rs)
+releases r rs c = released (leaves r c) (tell_chain r.above (chain r c) rs)
 
 abbrev pub reply : Reading → List Listed → Command View → Reply View
 reply r rs c =

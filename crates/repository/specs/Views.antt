@@ -22,6 +22,7 @@ command_of (change.Add n f v i) = command.Add n f v i
 command_of (change.Remove n f i) = command.Remove n f i
 command_of (change.RemoveValue n f v) = command.RemoveValue n f v
 command_of (change.Move n f to from) = command.Move n f to from
+command_of (change.Delete o) = command.Delete o
 command_of (change.NewResource u) = command.CreateResource u
 
 -- the adapter that a command brings
@@ -33,6 +34,7 @@ brought (command.Add n f v i) = None
 brought (command.Remove n f i) = None
 brought (command.RemoveValue n f v) = None
 brought (command.Move n f to from) = None
+brought (command.Delete o) = None
 brought (command.CreateResource t) = None
 brought (command.Attach number target deep adapter) = Some adapter
 brought (command.Detach number) = None
@@ -58,6 +60,7 @@ module _ {A : Type 0} (heard : A → View) where
   command_view (command.Remove n f i) = command.Remove n f i
   command_view (command.RemoveValue n f v) = command.RemoveValue n f v
   command_view (command.Move n f to from) = command.Move n f to from
+  command_view (command.Delete o) = command.Delete o
   command_view (command.CreateResource t) = command.CreateResource t
   command_view (command.Attach number target deep adapter) = command.Attach number target deep (heard adapter)
   command_view (command.Detach number) = command.Detach number

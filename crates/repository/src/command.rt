@@ -44,6 +44,9 @@ pub enum Command<A = Box<dyn Adapter>> {
         to: u32,
         from: u32,
     },
+    /// Destroys an object and all that is below it, and takes them out of every end that holds them (EMF: EcoreUtil.delete, recursively;
+    /// MOF 2.5.1: Reflection, Object.delete).
+    Delete(ObjectNo),
     /// Makes a resource of the URI that a text gives (EMF: ResourceSet.createResource).
     CreateResource(Text),
     /// Attaches an adapter to a node, last in attach order (EMF: Notifier.eAdapters().add). A deep one is also notified of what

@@ -5,6 +5,7 @@
 
 mod command;
 pub mod laws;
+mod leaving;
 mod reads;
 mod reply;
 mod repository;

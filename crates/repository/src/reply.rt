@@ -22,6 +22,8 @@ pub enum Answer {
     Class(ClassNo),
     /// How many notices an adapter was told, or keeps.
     Count(u64),
+    /// How many objects were destroyed.
+    Destroyed(u64),
     /// The object that contains another, if one does.
     Container(Option<ObjectNo>),
     /// The resource that an object is in, if it is in one.

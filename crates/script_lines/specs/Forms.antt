@@ -26,6 +26,10 @@ container_form o = option_map asks.Container (object_in o)
 abbrev pub within_form : List ℕ → Option Form
 within_form o = option_map asks.Within (object_in o)
 
+-- `delete OBJ`
+abbrev pub delete_form : List ℕ → Option Form
+delete_form o = option_map asks.Delete (object_in o)
+
 -- `validate OBJ`
 abbrev pub validate_form : List ℕ → Option Form
 validate_form o = option_map asks.Validate (object_in o)
@@ -110,6 +114,7 @@ with_one verb a =
     else if bytes_eq verb (codes "class") then class_form a
     else if bytes_eq verb (codes "container") then container_form a
     else if bytes_eq verb (codes "within") then within_form a
+    else if bytes_eq verb (codes "delete") then delete_form a
     else if bytes_eq verb (codes "validate") then validate_form a
     else if bytes_eq verb (codes "fragment") then fragment_form a
     else if bytes_eq verb (codes "at") then at_form a

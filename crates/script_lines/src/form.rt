@@ -68,6 +68,8 @@ pub enum Form<'a> {
     Within(ObjectNo),
     /// The objects that a node directly contains (EMF: EObject.eContents).
     Contents(Node),
+    /// Destroys an object and all that is below it (EMF: EcoreUtil.delete, recursively).
+    Delete(ObjectNo),
     /// The features of an object that have fewer values than they should (EMF: Diagnostician.validate, of multiplicities).
     Validate(ObjectNo),
     /// The fragment of an object in its resource (EMF: Resource.getURIFragment).

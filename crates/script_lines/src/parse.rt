@@ -1,6 +1,6 @@
 //! What a line asks for: its words, and the form that they fit.
 ghost use Rattle.std.specs.Prelude.{◌≡◌, IfOk, map};
-ghost use Rattle.script_lines.specs.Forms.{add_at_form, add_form, at_form, attach_form, class_form, container_form, contents_form, depth_in, detach_form, form, form_of as the_form_of, fragment_form, get_form, isset_form, line_of as the_line_of, move_form, new_form, remove_form, removevalue_form, resource_form, save_form, seen_form, set_form, unset_form, validate_form, with_four, with_one, with_three, with_two, within_form};
+ghost use Rattle.script_lines.specs.Forms.{add_at_form, add_form, at_form, attach_form, class_form, container_form, contents_form, delete_form, depth_in, detach_form, form, form_of as the_form_of, fragment_form, get_form, isset_form, line_of as the_line_of, move_form, new_form, remove_form, removevalue_form, resource_form, save_form, seen_form, set_form, unset_form, validate_form, with_four, with_one, with_three, with_two, within_form};
 
 use crate::form::Form;
 use crate::line::Line;
@@ -49,6 +49,13 @@ fn resource_of(alloc: Global, text: &str) -> Result<Option<Form<'static>>, Alloc
         Some(text) => Ok(Some(Form::Resource(text))),
         None => Ok(None),
     }
+}
+
+/// `delete OBJ`
+fn delete_of(object: &str) -> Option<Form<'static>>
+    ensures { result ≡ delete_form object.now }
+{
+    Some(Form::Delete(object_of(object)?))
 }
 
 /// `validate OBJ`
@@ -264,6 +271,8 @@ fn with_one_of<'a>(alloc: Global, verb: &str, a: &'a str) -> Result<Option<Form<
         Ok(container_of(a))
     } else if verb == "within" {
         Ok(within_of(a))
+    } else if verb == "delete" {
+        Ok(delete_of(a))
     } else if verb == "validate" {
         Ok(validate_of(a))
     } else if verb == "fragment" {

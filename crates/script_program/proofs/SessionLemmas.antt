@@ -8,7 +8,7 @@ use Rattle.repository.specs.Run.{Executed}
 use Rattle.repository.specs.State.{State}
 use Rattle.repository.specs.Views.{Outcome, brought}
 use Rattle.repository.specs.declared.command.Command.{Command}
-use Rattle.repository.specs.declared.command.Command.TheVariants.{Create, Set, Unset, Add, Remove, RemoveValue, Move, Attach, Detach, Get, IsSet, Container, Contents, Class, AdapterTold, AdapterKept, CreateResource, Resource, Validate, Fragment, ObjectAt, Save}
+use Rattle.repository.specs.declared.command.Command.TheVariants.{Create, Set, Unset, Add, Remove, RemoveValue, Move, Delete, Attach, Detach, Get, IsSet, Container, Contents, Class, AdapterTold, AdapterKept, CreateResource, Resource, Validate, Fragment, ObjectAt, Save}
 use Rattle.repository.proofs.RunLemmas.{refused-nothing}
 use Rattle.script_lines.specs.declared.form.Form.{Form}
 use Rattle.script_lines.specs.declared.form.Form.TheVariants as asks
@@ -34,6 +34,7 @@ undone before (IsSet n f) h = refl
 undone before (Container o) h = refl
 undone before (Resource o) h = refl
 undone before (Contents n) h = refl
+undone before (Delete o) h = refl
 undone before (Validate o) h = refl
 undone before (Fragment o) h = refl
 undone before (ObjectAt t) h = refl
@@ -68,6 +69,7 @@ bind-given s (asks.IsSet n feature) = All-nil (λ (a : Listed). box_of s.pool a.
 bind-given s (asks.Container o) = All-nil (λ (a : Listed). box_of s.pool a.no ≡ Ok a.view)
 bind-given s (asks.Within o) = All-nil (λ (a : Listed). box_of s.pool a.no ≡ Ok a.view)
 bind-given s (asks.Contents n) = All-nil (λ (a : Listed). box_of s.pool a.no ≡ Ok a.view)
+bind-given s (asks.Delete o) = All-nil (λ (a : Listed). box_of s.pool a.no ≡ Ok a.view)
 bind-given s (asks.Validate o) = All-nil (λ (a : Listed). box_of s.pool a.no ≡ Ok a.view)
 bind-given s (asks.Fragment o) = All-nil (λ (a : Listed). box_of s.pool a.no ≡ Ok a.view)
 bind-given s (asks.At t) = All-nil (λ (a : Listed). box_of s.pool a.no ≡ Ok a.view)

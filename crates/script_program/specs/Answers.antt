@@ -38,6 +38,7 @@ feature_of (command.Detach number) = record { 0 = NOTHING }
 feature_of (command.Container o) = record { 0 = NOTHING }
 feature_of (command.Resource o) = record { 0 = NOTHING }
 feature_of (command.Contents n) = record { 0 = NOTHING }
+feature_of (command.Delete o) = record { 0 = NOTHING }
 feature_of (command.Validate o) = record { 0 = NOTHING }
 feature_of (command.Fragment o) = record { 0 = NOTHING }
 feature_of (command.ObjectAt t) = record { 0 = NOTHING }
@@ -56,6 +57,7 @@ answer_text m f (answer.Flag true) = codes "true"
 answer_text m f (answer.Flag false) = codes "false"
 answer_text m f (answer.Class c) = class_text m c
 answer_text m f (answer.Count n) = decimal n
+answer_text m f (answer.Destroyed n) = codes "deleted " ++ decimal n
 answer_text m f (answer.Resource k) = node_text (node.Resource k)
 answer_text m f (answer.Container o) = holder_text (option_map node.Object o)
 answer_text m f (answer.Features fs) = features_text m fs

@@ -100,6 +100,7 @@ bind s (asks.IsSet n feature) = request.Execute (isset_command s.state n feature
 bind s (asks.Container o) = request.Execute (command.Container o)
 bind s (asks.Within o) = request.Execute (command.Resource o)
 bind s (asks.Contents n) = request.Execute (command.Contents n)
+bind s (asks.Delete o) = request.Execute (command.Delete o)
 bind s (asks.Validate o) = request.Execute (command.Validate o)
 bind s (asks.Fragment o) = request.Execute (command.Fragment o)
 bind s (asks.At t) = request.Execute (command.ObjectAt t)

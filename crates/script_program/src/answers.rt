@@ -50,6 +50,10 @@ fn print_answer(
         Answer::Flag(false) => output.text("false"),
         Answer::Class(class) => output.class(meta, *class),
         Answer::Count(count) => output.natural(*count),
+        Answer::Destroyed(count) => {
+            output.text("deleted ")?;
+            output.natural(*count)
+        }
         Answer::Resource(resource) => output.node(Node::Resource(*resource)),
         Answer::Container(object) => output.node_or_null(object.map(Node::Object)),
         Answer::Within(resource) => output.node_or_null(resource.map(Node::Resource)),

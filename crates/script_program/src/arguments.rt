@@ -36,6 +36,7 @@ from standard input, and what each of its lines answers is printed on standard o
   at \"http://m.example/a#/\"
                            the object at an address: #0, or null
   save r0                  the document of a resource
+  delete #0                destroys an object and all that is below it: deleted 1
   validate #0              the features that have fewer values than they should: [favourite]
   attach A1 #0 flat        attaches an adapter, one of A1 to A8, which is notified of changes
   detach A1                detaches it: a line for its last notice, and one for what it heard

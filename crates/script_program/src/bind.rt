@@ -66,6 +66,7 @@ pub(crate) fn bind<L: LinkStore, A: Adapter>(
         Form::Container(object) => Request::Execute(Command::Container(object)),
         Form::Within(object) => Request::Execute(Command::Resource(object)),
         Form::Contents(node) => Request::Execute(Command::Contents(node)),
+        Form::Delete(object) => Request::Execute(Command::Delete(object)),
         Form::Validate(object) => Request::Execute(Command::Validate(object)),
         Form::Fragment(object) => Request::Execute(Command::Fragment(object)),
         Form::At(text) => Request::Execute(Command::ObjectAt(text)),

@@ -1,24 +1,30 @@
 //! Changes of objects, their values and their links.
-ghost use Rattle.std.specs.Prelude.{◌≡◌, List, IfOk, IfErr};
+ghost use Rattle.std.specs.Prelude.{◌≡◌, List, true, None, length, IfOk, IfErr};
 ghost use Rattle.mm_types.specs.Ends.{value_in};
 ghost use Rattle.mm_types.specs.declared.refused.Refused.TheVariants.{Memory};
 ghost use Rattle.notice_chain.specs.Listed.{Listed};
 ghost use Rattle.models.specs.Model.{reading};
-ghost use Rattle.models.specs.Reading.{at_end};
+ghost use Rattle.models.specs.Reading.{at_end, is_live};
+ghost use Rattle.containment.specs.Forest.{subtree as subtree_of};
+ghost use Rattle.handshake.specs.Refusals.{early_refusal as early_refusal_of};
 ghost use Rattle.repository.specs.Answers.{answer_of};
 ghost use Rattle.repository.specs.Run.{Executed, change_outcome};
+ghost use Rattle.repository.specs.State.{reads};
 ghost use Rattle.repository.specs.Views.{changed_view, command_of};
-ghost use Rattle.repository.specs.declared.command.Command.TheVariants.{Create, Set, Unset};
+ghost use Rattle.repository.specs.declared.command.Command.TheVariants.{Create, Delete, Set, Unset};
 ghost use Rattle.repository.specs.declared.reply.Answer.TheVariants as answer;
 ghost use Rattle.handshake.specs.Laws.{IsBrought};
 
 use super::Repository;
+use crate::leaving::{notify, places_of, room_for};
 use crate::reply::{Answer, Reply};
 use adapters::Adapter;
+use containment::subtree;
 use handshake::{Change, early_refusal, plan};
 use link_store::LinkStore;
 use mm_types::{ClassNo, End, FeatureNo, Node, ObjectNo, Refused, ResourceNo, Seq, Value};
 use models::{ModelRef, copied};
+use std::alloc::Global;
 
 impl<L: LinkStore, A: Adapter> Repository<L, A> {
     /// Makes an object of a class, each of whose attributes has its default (EMF: EFactory.create). Notifies nobody.
@@ -66,20 +72,44 @@ impl<L: LinkStore, A: Adapter> Repository<L, A> {
         self.change(Change::Unset { node, feature })
     }
 
-    // Every change goes these steps; after the third nothing can fail.
+    /// Destroys an object and all that is below it, and takes them out of every end that holds them (EMF: EcoreUtil.delete,
+    /// recursively). Their numbers are given to no other object. Notifies the adapters at each end of another node that loses something, by
+    /// feature number, then by node, then by position, and last at the end that contained the object. Then the adapters at what is
+    /// destroyed are released, each with its last notice, and handed out. Answers how many objects were destroyed.
+    ///
+    /// Refused, the first that applies: `NoObject`, `AdapterFull`, `Memory`.
+    pub fn delete(&mut self, object: ObjectNo) -> Result<Reply<A>, Refused>
+        ensures { Executed self.old (Delete object) (change_outcome (changed_view A.heard result)) self.new }
+    {
+        self.change(Change::Delete(object))
+    }
+
+    // A change that no condition refuses which needs no memory is carried out.
     pub(super) fn change(&mut self, change: Change) -> Result<Reply<A>, Refused>
         requires brought { IsBrought change }
         ensures { Executed self.old (command_of change) (change_outcome (changed_view A.heard result)) self.new }
     {
-        // Conditions that need no memory.
-        let model = self.model();
-        if let Some(refused) = early_refusal(&model, &change) {
+        if let Some(refused) = early_refusal(&self.model(), &change) {
             return Err(refused);
         }
-        // The answer, and the plan with its notices, or the refusal that planning finds. Where no adapter is attached no notice is made.
-        let answer = match answered(&model, &change) {
+        self.carry_out(change)
+    }
+
+    // Every change goes these steps; after the second nothing can fail.
+    fn carry_out(&mut self, change: Change) -> Result<Reply<A>, Refused>
+        requires brought { IsBrought change }
+        requires asked { early_refusal_of (reads self.old) change ≡ None }
+        ensures { Executed self.old (command_of change) (change_outcome (changed_view A.heard result)) self.new }
+    {
+        // The answer, who leaves, and the plan with its notices, or the refusal that planning finds. Where no adapter is attached no
+        // notice is made.
+        let model = self.model();
+        let answer = match answered(self.alloc, &model, &change) {
             Ok(answer) => answer,
             Err(refused) => return Err(refused),
+        };
+        let Ok(places) = places_of(self.alloc, &model, &self.adapters, &change) else {
+            return Err(Refused::Memory);
         };
         let is_heard = self.adapters.len() > 0;
         let planned = match plan(self.alloc, &model, change, is_heard) {
@@ -97,21 +127,29 @@ impl<L: LinkStore, A: Adapter> Repository<L, A> {
             Ok(round) => round,
             Err(refused) => return Err(refused),
         };
+        let Ok(leaving) = room_for(self.alloc, places, round.told_len()) else {
+            return Err(Refused::Memory);
+        };
         // The edits.
         self.store.apply(planned.edits);
         self.values.apply(planned.values);
-        // The notices.
-        let told = self.adapters.deliver(round);
+        // The notices, and then the last ones of the adapters that leave.
+        let (told, released) = notify(self.alloc, &mut self.adapters, round, leaving);
         Ok(Reply {
             answer,
             told: Seq::from_vec(told),
-            released: Seq::new(self.alloc),
+            released: Seq::from_vec(released),
         })
     }
 }
 
 /// What a change answers that is not refused. Errs only with `Memory`.
-fn answered<L: LinkStore>(model: &ModelRef<L>, change: &Change) -> Result<Answer, Refused>
+fn answered<L: LinkStore>(
+    alloc: Global,
+    model: &ModelRef<L>,
+    change: &Change,
+) -> Result<Answer, Refused>
+    requires asked { early_refusal_of (reading model.now) change.now ≡ None }
     ensures ok { IfOk result (λ a. (rs : List Listed) → a ≡ answer_of (reading model.now) rs (command_of change.now)) }
     ensures memory { IfErr result (λ r. r ≡ Memory) }
 {
@@ -119,6 +157,7 @@ fn answered<L: LinkStore>(model: &ModelRef<L>, change: &Change) -> Result<Answer
     match change {
         Change::Create(_) => Ok(Answer::Object(ObjectNo(model.next() as u32))),
         Change::NewResource(_) => Ok(Answer::Resource(ResourceNo(model.resources() as u32))),
+        Change::Delete(object) => destroyed_answer(alloc, model, *object),
         Change::Set { .. } | Change::Unset { .. } => Ok(Answer::Done),
         Change::Add {
             node,
@@ -142,6 +181,22 @@ fn answered<L: LinkStore>(model: &ModelRef<L>, change: &Change) -> Result<Answer
             from,
             ..
         } => value_answer(model, at_end(node, feature), *from),
+    }
+}
+
+// How many objects go with one, as an answer. Errs only with `Memory`.
+fn destroyed_answer<L: LinkStore>(
+    alloc: Global,
+    model: &ModelRef<L>,
+    object: ObjectNo,
+) -> Result<Answer, Refused>
+    requires live { is_live (reading model.now) object ≡ true }
+    ensures ok { IfOk result (λ a. a ≡ answer.Destroyed (length (subtree_of (reading model.now) object))) }
+    ensures memory { IfErr result (λ r. r ≡ Memory) }
+{
+    match subtree(alloc, model, object) {
+        Ok(objects) => Ok(Answer::Destroyed(objects.len() as u64)),
+        Err(_) => Err(Refused::Memory),
     }
 }
 

@@ -50,6 +50,7 @@ impl<L: LinkStore, A: Adapter> Repository<L, A> {
                 to,
                 from,
             } => outcome(self.move_to(node, feature, to, from)),
+            Command::Delete(object) => outcome(self.delete(object)),
             Command::CreateResource(text) => outcome(self.create_resource(text.as_str())),
             Command::Attach {
                 no,

@@ -1,101 +1,10 @@
-use Rattle.std.proofs.Common.{◌≡◌, ◌∙◌, ℕ, List, [], None, Err, nat_lt, length, if◌then◌else◌, sym, ap, subst}
-use Rattle.mm_values.specs.Values.{ValuesState, applied}
-use Rattle.mm_values.specs.Room.{values_of}
-use Rattle.notice_chain.specs.declared.notice.Notice.{Notice}
-use Rattle.adapter_list.specs.Rounds.{RoundView, delivered, round_copies}
-use Rattle.adapter_list.proofs.RoundLemmas.{delivered-round_copies}
-use Rattle.link_store.specs.Holders.{HasNoCycle}
-use Rattle.link_store.specs.Links.{Links}
-use Rattle.link_store.specs.Plans as links
-use Rattle.models.specs.Legal.{kinds_of}
-use Rattle.models.specs.Model.{Model, model_of, reading}
-use Rattle.handshake.specs.Plans.{IsPlanOf, Plans}
+use Rattle.std.proofs.Common.{◌∙◌, sym, ap}
+use Rattle.models.specs.Model.{Model, reading}
 use Rattle.handshake.specs.Refusals.{early_refusal}
-use Rattle.handshake.specs.Tellings.{chain}
-use Rattle.repository.specs.Answers.{answer_of}
-use Rattle.repository.specs.Views.{command_of}
-use Rattle.repository.specs.Repository.{state}
-use Rattle.repository.specs.State.{IsLegal, State, reads}
-use Rattle.repository.proofs.AdapterLemmas.{Heard, heard_where_attached}
-use Rattle.repository.proofs.PlanLemmas.{chain_err, changed_to, early_err, out_of_memory, planned_err}
-use Rattle.repository.proofs.LegalLemmas.{stepped-legal, steady-of}
+use Rattle.repository.proofs.PlanLemmas.{early_err}
 use Rattle.repository.proofs.repository.Repository.change.Goals as goal
 
 pub returns-in-Some : goal.returns-in-Some
 returns-in-Some g c =
-    let s : State = state g.L.LinkStore.links c.self.inside in
-    let is : c.model-model.result ≡ s.model = c.model-model.ensures ∙ ap (λ (t : State). t.model) (sym c.self.view_is) in
-    rw (← c.self.view_is) (early_err s c.args.change c.in-Some.refused (ap (λ (m : Model). early_refusal (reading m) c.args.change) (sym is) ∙ sym c.early_refusal.ensures ∙ c.in-Some.is))
-
-pub returns-in-Err : goal.returns-in-Err
-returns-in-Err g c =
-    let s : State = state g.L.LinkStore.links c.self.inside in
-    let is : c.model-model.result ≡ s.model = c.model-model.ensures ∙ ap (λ (t : State). t.model) (sym c.self.view_is) in
-    let early : early_refusal (reads s) c.args.change ≡ None = ap (λ (m : Model). early_refusal (reading m) c.args.change) (sym is) ∙ sym c.early_refusal.ensures ∙ c.in_default.is in
-    rw (← c.self.view_is, c.in-Err.ensures.memory) (out_of_memory s c.args.change c.requires.brought early)
-
-pub returns-in-Err-plan : goal.returns-in-Err-plan
-returns-in-Err-plan g c =
-    let s : State = state g.L.LinkStore.links c.self.inside in
-    let is : c.model-model.result ≡ s.model = c.model-model.ensures ∙ ap (λ (t : State). t.model) (sym c.self.view_is) in
-    let early : early_refusal (reads s) c.args.change ≡ None = ap (λ (m : Model). early_refusal (reading m) c.args.change) (sym is) ∙ sym c.early_refusal.ensures ∙ c.in_default.is in
-    rw (← c.self.view_is) (planned_err s c.args.change (nat_lt 0 c.len-is_heard.result) c.in-Err-plan.refused c.requires.brought early (subst (λ (m : Model). Plans (nat_lt 0 c.len-is_heard.result) (Err c.in-Err-plan.refused) m c.args.change) is (rw c.in-Err-plan.is at c.plan.ensures)))
-
-pub returns-then-is_err : goal.returns-then-is_err
-returns-then-is_err g c =
-    let s : State = state g.L.LinkStore.links c.self.inside in
-    let is : c.model-model.result ≡ s.model = c.model-model.ensures ∙ ap (λ (t : State). t.model) (sym c.self.view_is) in
-    let early : early_refusal (reads s) c.args.change ≡ None = ap (λ (m : Model). early_refusal (reading m) c.args.change) (sym is) ∙ sym c.early_refusal.ensures ∙ c.in_default.is in
-    rw (← c.self.view_is, c.reserve_for.ensures.links) (out_of_memory s c.args.change c.requires.brought early)
-
-pub returns-then-is_err-2 : goal.returns-then-is_err-2
-returns-then-is_err-2 g c =
-    let s : State = state g.L.LinkStore.links c.self.inside in
-    let is : c.model-model.result ≡ s.model = c.model-model.ensures ∙ ap (λ (t : State). t.model) (sym c.self.view_is) in
-    let early : early_refusal (reads s) c.args.change ≡ None = ap (λ (m : Model). early_refusal (reading m) c.args.change) (sym is) ∙ sym c.early_refusal.ensures ∙ c.in_default.is in
-    rw (← c.self.view_is, c.reserve_for.ensures.links, c.reserve_for-2.ensures.unchanged) (out_of_memory s c.args.change c.requires.brought early)
-
-pub reserve_all-requires-clause-no_cycle : goal.reserve_all-requires-clause-no_cycle
-reserve_all-requires-clause-no_cycle g c = subst HasNoCycle (sym c.reserve_for.ensures.links) c.self.invariant.legal.model.links.forest
-
-pub returns-in-Err-reserve_all : goal.returns-in-Err-reserve_all
-returns-in-Err-reserve_all g c =
-    let s : State = state g.L.LinkStore.links c.self.inside in
-    let is : c.model-model.result ≡ s.model = c.model-model.ensures ∙ ap (λ (t : State). t.model) (sym c.self.view_is) in
-    let early : early_refusal (reads s) c.args.change ≡ None = ap (λ (m : Model). early_refusal (reading m) c.args.change) (sym is) ∙ sym c.early_refusal.ensures ∙ c.in_default.is in
-    let plan = subst (λ (m : Model). IsPlanOf (nat_lt 0 c.len-is_heard.result) m c.args.change c.in-Ok-plan.planned) is (rw c.in-Ok-plan.is at c.plan.ensures) in
-    let made : c.in-Ok-plan.planned.chain ≡ (if nat_lt 0 (length s.adapters) then chain (reads s) c.args.change else []) = plan.tells ∙ ap (λ (k : ℕ). if nat_lt 0 k then chain (reads s) c.args.change else []) c.len-is_heard.ensures in
-    let heard : Heard (reads s).above c.in-Ok-plan.planned.chain (chain (reads s) c.args.change) s.adapters = heard_where_attached (reads s).above _ _ s.adapters made in
-    rw (← c.self.view_is, c.reserve_for.ensures.links, c.reserve_for-2.ensures.unchanged, c.in-Err-reserve_all.ensures.kept)
-    (chain_err s c.args.change c.in-Ok-plan.planned.chain c.in-Err-reserve_all.refused c.requires.brought early plan.allowed heard (rw (c.reserve_for.ensures.links) at c.in-Err-reserve_all.ensures.reason))
-
-pub returns : goal.returns
-returns g c =
-    let s : State = state g.L.LinkStore.links c.self.inside in
-    let is : c.model-model.result ≡ s.model = c.model-model.ensures ∙ ap (λ (t : State). t.model) (sym c.self.view_is) in
-    let early : early_refusal (reads s) c.args.change ≡ None = ap (λ (m : Model). early_refusal (reading m) c.args.change) (sym is) ∙ sym c.early_refusal.ensures ∙ c.in_default.is in
-    let plan = subst (λ (m : Model). IsPlanOf (nat_lt 0 c.len-is_heard.result) m c.args.change c.in-Ok-plan.planned) is (rw c.in-Ok-plan.is at c.plan.ensures) in
-    let up = (reads s).above in
-    let ns : List Notice = c.in-Ok-plan.planned.chain in
-    let made : ns ≡ (if nat_lt 0 (length s.adapters) then chain (reads s) c.args.change else []) = plan.tells ∙ ap (λ (k : ℕ). if nat_lt 0 k then chain (reads s) c.args.change else []) c.len-is_heard.ensures in
-    let heard : Heard up ns (chain (reads s) c.args.change) s.adapters = heard_where_attached up _ _ s.adapters made in
-    let reserved = (rw (c.reserve_for.ensures.links) at c.in-Ok-reserve_all.ensures) in
-    let values = c.apply-2.ensures ∙ ap (λ (v : ValuesState). applied v c.in-Ok-plan.planned.values) c.reserve_for-2.ensures.unchanged ∙ plan.values_made in
-    let made_links = c.apply.ensures.links ∙ ap (λ (l : Links). links.applied l c.in-Ok-plan.planned.edits) c.reserve_for.ensures.links ∙ plan.links_made in
-    let told = c.from_vec.ensures ∙ c.deliver-told.ensures.told ∙ ap (λ (r : RoundView). r.told) reserved.round in
-    let answered = subst (λ (m : Model). c.in-Ok.answer ≡ answer_of (reading m) s.adapters (command_of c.args.change)) is (c.in-Ok.ensures.ok s.adapters) in
-    let adapters = c.deliver-told.ensures.heard ∙ ap (λ (r : RoundView). delivered r.copies c.reserve_all.new.self.0) reserved.round ∙ ap (delivered (round_copies up ns s.adapters)) reserved.kept ∙ delivered-round_copies up ns s.adapters in
-    let t : State = record { model = model_of c.self.inside.meta (values_of c.apply-2.new.self) (g.L.LinkStore.links c.apply.new.self); adapters = c.deliver-told.new.self.0 } in
-    rw (← c.self.view_is, c.new.ensures)
-    (changed_to s t c.args.change ns c.in-Ok.answer c.from_vec.result c.requires.brought early plan.allowed heard reserved.counted answered told
-    (λ i. model_of c.self.inside.meta (values i) (made_links i)) adapters)
-
-pub invariant_of-self-2 : goal.invariant_of-self-2
-invariant_of-self-2 g c =
-    let s : State = state g.L.LinkStore.links c.self.inside in
-    let is : c.model-model.result ≡ s.model = c.model-model.ensures ∙ ap (λ (t : State). t.model) (sym c.self.view_is) in
-    let of_kind = (subst (λ (m : Model). IsPlanOf (nat_lt 0 c.len-is_heard.result) m c.args.change c.in-Ok-plan.planned) is (rw c.in-Ok-plan.is at c.plan.ensures)).of_kind in
-    record {
-      legal = stepped-legal _ _ (command_of c.args.change) _ (steady-of c.args.change c.requires.brought) (subst IsLegal c.self.view_is c.self.invariant.legal) (returns g c);
-      kinds_are = c.apply.ensures.kinds (kinds_of c.self.inside.meta) (c.reserve_for.ensures.kinds (kinds_of c.self.inside.meta) c.self.invariant.kinds_are of_kind) of_kind;
-    }
+    early_err c.args.self.now c.args.change c.in-Some.refused
+    (ap (λ (m : Model). early_refusal (reading m) c.args.change) (sym c.model.ensures) ∙ sym c.early_refusal.ensures ∙ c.in-Some.is)

@@ -1,0 +1,122 @@
+//! An object that is destroyed where memory is refused: nothing has changed, nobody was notified or released, and the same call
+//! again is done.
+//!
+//! These tests are for the same runs as those of `memory`.
+use crate::books::{RowRepository, object};
+use crate::boxes::{Edit, LIKES, PARTS, boxes, called};
+use crate::memory::{WATCHER, shown, unchanged};
+use crate::memory_adapters::{attach_again, attach_once};
+use crate::replies::{fail, reply_text};
+use adapters::{Adapter, Recorder};
+use mm_types::{AdapterNo, ObjectNo, Refused};
+use repository::{Failure, Reply};
+use std::alloc::{AllocError, Global};
+use std::test::Fail;
+
+/// The adapter at what is destroyed.
+const INSIDE: AdapterNo = AdapterNo(6);
+
+/// Box 0 contains box 3 and then box 1, which contains box 2; box 3 likes the last two.
+const PLACED: [(u32, Edit); 5] = [
+    (0, Edit::Add(PARTS, 3, None)),
+    (0, Edit::Add(PARTS, 1, None)),
+    (1, Edit::Add(PARTS, 2, None)),
+    (3, Edit::Add(LIKES, 2, None)),
+    (3, Edit::Add(LIKES, 1, None)),
+];
+
+fn place<A: Adapter>(alloc: Global, repository: &mut RowRepository<A>) -> Result<(), Refused> {
+    for (at, edit) in &PLACED {
+        if called(alloc, repository, *at, *edit).is_err() {
+            called(alloc, repository, *at, *edit)?;
+        }
+    }
+    Ok(())
+}
+
+/// Attaches an adapter to box 2; where memory is refused, it is attached once more.
+fn attach_inside<A: Adapter>(
+    repository: &mut RowRepository<A>,
+    adapter: A,
+) -> Result<Reply<A>, Fail> {
+    match repository.attach(INSIDE, object(2), false, adapter) {
+        Ok(reply) => Ok(reply),
+        Err(failure) => attach_inside_again(repository, failure),
+    }
+}
+
+fn attach_inside_again<A: Adapter>(
+    repository: &mut RowRepository<A>,
+    failure: Failure<A>,
+) -> Result<Reply<A>, Fail> {
+    let Some(adapter) = failure.given_back else {
+        return Err(Fail::new("the adapter is not given back"));
+    };
+    repository
+        .attach(INSIDE, object(2), false, adapter)
+        .map_err(fail)
+}
+
+/// The boxes, with a deep adapter at box 0 and one at box 2.
+fn placed<A: Adapter>(alloc: Global, above: A, inside: A) -> Result<Box<RowRepository<A>>, Fail> {
+    let mut repository = boxes(alloc, 4)?;
+    place(alloc, &mut repository)?;
+    if let Err(failure) = attach_once(&mut repository, true, above) {
+        attach_again(&mut repository, true, failure)?;
+    }
+    attach_inside(&mut repository, inside)?;
+    Ok(repository)
+}
+
+/// What reads say of the four boxes, and what the two adapters were told.
+fn state<A: Adapter>(alloc: Global, repository: &RowRepository<A>) -> Result<String, AllocError> {
+    let classes = [
+        repository.e_class(ObjectNo(1)),
+        repository.e_class(ObjectNo(2)),
+    ];
+    let filled = [
+        repository.e_is_set(object(0), PARTS),
+        repository.e_is_set(object(3), LIKES),
+    ];
+    let told = [
+        repository.adapter_told(WATCHER),
+        repository.adapter_told(INSIDE),
+    ];
+    shown(alloc, &(classes, filled, told))
+}
+
+/// What it gives to destroy box 1, which is asked for again where it is refused memory.
+fn deleted<A: Adapter>(alloc: Global, repository: &mut RowRepository<A>) -> Result<String, Fail> {
+    let before = state(alloc, repository)?;
+    let reply = match repository.delete(ObjectNo(1)) {
+        Ok(reply) => reply,
+        Err(refused) => {
+            let after = state(alloc, repository)?;
+            unchanged(refused, before.as_str(), after.as_str())?;
+            repository.delete(ObjectNo(1))?
+        }
+    };
+    Ok(reply_text(alloc, &reply)?)
+}
+
+const BEFORE: &str = "([Ok(ClassNo(0)), Ok(ClassNo(0))], [Ok(true), Ok(true)], [Ok(0), Ok(0)])";
+
+const DELETED: &str = "Destroyed(2)\
+; A5 REMOVE Object(ObjectNo(2)) Null 0 true; A5 REMOVE Object(ObjectNo(1)) Null 0 true; A5 REMOVE Object(ObjectNo(1)) Null 1 true\
+; A6 REMOVING_ADAPTER Adapter(AdapterNo(6)) Null 0 false; A6 back, 1 told, REMOVING_ADAPTER 0";
+
+const AFTER: &str =
+    "([Err(NoObject), Err(NoObject)], [Ok(true), Ok(false)], [Ok(3), Err(NoAdapter)])";
+
+#[test]
+fn a_refused_deletion_destroys_nothing(rt: HostRuntime) -> Result<(), Fail> {
+    let (above, inside) = (Recorder::new(rt.alloc()), Recorder::new(rt.alloc()));
+    let mut repository: Box<RowRepository<Recorder>> = placed(rt.alloc(), above, inside)?;
+    let found = state(rt.alloc(), &repository)?;
+    assert_eq!(rt; found.as_str(), BEFORE);
+    let found = deleted(rt.alloc(), &mut repository)?;
+    assert_eq!(rt; found.as_str(), DELETED);
+    let found = state(rt.alloc(), &repository)?;
+    assert_eq!(rt; found.as_str(), AFTER);
+    Ok(())
+}

@@ -1,0 +1,63 @@
+-- Who leaves with what a change destroys.
+use Rattle.std.proofs.Common.{◌≡◌, ℕ, zero, suc, ◌+◌, ◌<◌, Bool, false, List, [], ◌∷◌, ◌++◌, length, map, drop, slice_get, Option, None, Some, option_map, append_assoc, refl, ap, sym, subst, ◌∙◌, arith}
+use Rattle.std.proofs.lemmas.Option.{none-some, same_Some}
+use Rattle.mm_types.specs.declared.numbers.AdapterNo.{AdapterNo}
+use Rattle.mm_types.specs.declared.numbers.Node.{Node}
+use Rattle.notice_chain.specs.Listed.{Listed}
+use Rattle.notice_chain.specs.Released.{released}
+use Rattle.notice_chain.specs.declared.notice.Notice.{Notice}
+use Rattle.adapter_list.specs.Rounds.{delivered, delivered_from}
+use Rattle.models.specs.Model.{Model, reading}
+use Rattle.handshake.specs.Laws.{goes_with}
+use Rattle.handshake.specs.declared.change.Change.{Change}
+use Rattle.repository.specs.Leaving.{LeaversAre}
+use Rattle.repository.proofs.AdapterLemmas.{released-nobody}
+
+-- where nobody's target is gone, nobody is released
+pub nobody-gone : (gone : Node → Bool) (rs : List Listed) → ((n : Node) → gone n ≡ false) → released (λ r. gone r.target) rs ≡ record { told = []; views = []; others = rs }
+nobody-gone gone rs stays = ap (λ (goes : Listed → Bool). released goes rs) (λ i r. stays r.target i) ∙ released-nobody rs
+
+module _ (gone : Node → Bool) where
+  by_place : List Listed → List Bool
+  by_place rs = map (λ r. gone r.target) rs
+
+  -- from a place on, the adapter there comes first
+  place-at : (rs : List Listed) (i : ℕ) (number : AdapterNo) (n : Node) → option_map {U = AdapterNo × Node} (λ r. (r.no, r.target)) (slice_get rs i) ≡ Some (number, n) → by_place (drop i rs) ≡ gone n ∷ by_place (drop (suc i) rs)
+  unfolding by_place
+  place-at [] i number n at = absurd (none-some _ at)
+  place-at (r ∷ rs) zero number n at = ap (λ (q : AdapterNo × Node). gone q.1 ∷ by_place rs) (same_Some _ _ at)
+  place-at (r ∷ rs) (suc i) number n at = place-at rs i number n at
+
+  -- one more place
+  pub one_more_place : (rs : List Listed) (i : ℕ) (number : AdapterNo) (n : Node) (out : List Bool) → option_map {U = AdapterNo × Node} (λ r. (r.no, r.target)) (slice_get rs i) ≡ Some (number, n)
+      → out ++ map (λ r. gone r.target) (drop i rs) ≡ map (λ r. gone r.target) rs → (out ++ gone n ∷ []) ++ map (λ r. gone r.target) (drop (i + 1) rs) ≡ map (λ r. gone r.target) rs
+  unfolding by_place
+  one_more_place rs i number n out at whole =
+      let on : i + 1 ≡ suc i = omega arith in
+      ap (λ (k : ℕ). (out ++ gone n ∷ []) ++ by_place (drop k rs)) on
+      ∙ append_assoc out (gone n ∷ []) (by_place (drop (suc i) rs))
+      ∙ ap (λ (bs : List Bool). out ++ bs) (sym (place-at rs i number n at))
+      ∙ whole
+
+  -- what is delivered changes no target
+  targets_from : (k : ℕ) (cs : List (ℕ × Notice)) (rs : List Listed) → by_place (delivered_from k cs rs) ≡ by_place rs
+  unfolding by_place
+  targets_from k cs [] = refl
+  targets_from k cs (r ∷ rs) = ap (λ (bs : List Bool). gone r.target ∷ bs) (targets_from (suc k) cs rs)
+
+  pub targets-delivered : (cs : List (ℕ × Notice)) (rs : List Listed) → map (λ r. gone r.target) (delivered cs rs) ≡ map (λ r. gone r.target) rs
+  unfolding by_place
+  targets-delivered cs rs = targets_from 0 cs rs
+
+-- an adapter stands at each place below their number
+pub someone-at : (rs : List Listed) (i : ℕ) → i < length rs → option_map {U = AdapterNo × Node} (λ r. (r.no, r.target)) (slice_get rs i) ≡ None → ⊥
+someone-at [] i low none = omega (arith, low)
+someone-at (r ∷ rs) zero low none = none-some _ (sym none)
+someone-at (r ∷ rs) (suc i) low none = someone-at rs i (omega (arith, low)) none
+
+-- who leaves with a change, as it was found in the model and then kept with the room
+pub leavers_known : (s m : Model) (c : Change) (rs old : List Listed) (kept found : Option (List Bool)) → m ≡ s → rs ≡ old → LeaversAre (goes_with (reading m) c) old found → kept ≡ found → LeaversAre (goes_with (reading s) c) rs kept
+leavers_known s m c rs old kept found is same are as_found =
+    subst (λ (q : Option (List Bool)). LeaversAre (goes_with (reading s) c) rs q) (sym as_found)
+    (subst (λ (xs : List Listed). LeaversAre (goes_with (reading s) c) xs found) (sym same)
+    (subst (λ (n : Model). LeaversAre (goes_with (reading n) c) old found) is are))

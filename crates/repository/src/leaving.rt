@@ -1,0 +1,164 @@
+//! The adapters that leave with what a change destroys.
+ghost use Rattle.std.specs.Prelude.{◌≡◌, ◌+◌, ◌≤◌, ◌++◌, Bool, true, None, count_by, length, map, option_map, vec_capacity, vec_len, IfOk, IfSome, MatchOption};
+ghost use Rattle.handshake.specs.Laws.{goes_with};
+ghost use Rattle.handshake.specs.Refusals.{early_refusal};
+ghost use Rattle.mm_types.specs.declared.numbers.Node.{Node};
+ghost use Rattle.adapter_list.specs.Attached.{views_of};
+ghost use Rattle.adapter_list.specs.Rounds.{RoundFits};
+ghost use Rattle.notice_chain.specs.Released.{released as released_of};
+ghost use Rattle.deletion.specs.Outer as outer;
+ghost use Rattle.models.specs.Model.{reading};
+ghost use Rattle.models.specs.Reading.{is_live};
+ghost use Rattle.repository.specs.Leaving.{HasRoom, LeaversAre, leavers};
+
+use adapter_list::{AdapterList, Round};
+use adapters::Adapter;
+use deletion::is_gone;
+use handshake::Change;
+use link_store::LinkStore;
+use mm_types::{AdapterNo, ObjectNo};
+use models::ModelRef;
+use notice_chain::Notice;
+use std::alloc::{AllocError, Global};
+
+/// Which adapters leave with what a change destroys, by their places in attach order; `None` where it destroys nothing.
+pub(crate) fn places_of<L: LinkStore, A: Adapter>(
+    alloc: Global,
+    model: &ModelRef<L>,
+    adapters: &AdapterList<A>,
+    change: &Change,
+) -> Result<Option<Vec<bool>>, AllocError>
+    requires asked { early_refusal (reading model.now) change.now ≡ None }
+    ensures { IfOk result (λ q. LeaversAre (goes_with (reading model.now) change.now) adapters.now.0 (option_map (λ bs. bs.items) q)) }
+{
+    match change {
+        Change::Delete(object) => Ok(Some(places(alloc, model, adapters, *object)?)),
+        _ => Ok(None),
+    }
+}
+
+/// Which adapters leave with an object: those whose targets go with it.
+fn places<L: LinkStore, A: Adapter>(
+    alloc: Global,
+    model: &ModelRef<L>,
+    adapters: &AdapterList<A>,
+    object: ObjectNo,
+) -> Result<Vec<bool>, AllocError>
+    requires live { is_live (reading model.now) object ≡ true }
+    ensures { IfOk result (λ bs. bs.items ≡ map (λ r. outer.gone (reading model.now) object r.target) adapters.now.0) }
+{
+    let mut leaves = Vec::new(alloc);
+    for place in 0..adapters.len() {
+        if let Some((_, target)) = adapters.at(place) {
+            leaves.push(is_gone(model, object, target))?;
+        }
+    }
+    Ok(leaves)
+}
+
+/// Who leaves, and room for all that is told and for those that are handed out: made before anything changes.
+#[derive(Drop)]
+pub(crate) struct Leaving<A> {
+    /// Who leaves, by places in attach order.
+    pub places: Vec<bool>,
+    pub told: Vec<(AdapterNo, Notice)>,
+    pub released: Vec<(AdapterNo, A)>,
+}
+
+impl<A: Adapter> Leaving<A> {
+    /// Room for so many notices of a chain, and then for the last notices of those that leave.
+    pub(crate) fn reserve(
+        alloc: Global,
+        places: Vec<bool>,
+        chain_told: usize,
+    ) -> Result<Self, AllocError>
+        ensures places { IfOk result (λ x. x.places.items ≡ places.items) }
+        ensures room { IfOk result (HasRoom chain_told) }
+    {
+        let count = count(&places);
+        let told_len = chain_told.checked_add(count).ok_or(AllocError)?;
+        let told = Vec::with_capacity(alloc, told_len)?;
+        let released = Vec::with_capacity(alloc, count)?;
+        Ok(Leaving {
+            places,
+            told,
+            released,
+        })
+    }
+}
+
+/// How many leave.
+fn count(places: &[bool]) -> usize
+    ensures { result ≡ count_by (λ b. b) places.now }
+{
+    places.iter().filter(|leaves| **leaves).count()
+}
+
+/// Room for those that leave, if a change destroys anything.
+pub(crate) fn room_for<A: Adapter>(
+    alloc: Global,
+    leaves: Option<Vec<bool>>,
+    chain_told: usize,
+) -> Result<Option<Leaving<A>>, AllocError>
+    ensures places { IfOk result (λ q. option_map (λ x. x.places.items) q ≡ option_map (λ bs. bs.items) leaves) }
+    ensures room { IfOk result (λ q. IfSome q (HasRoom chain_told)) }
+{
+    match leaves {
+        Some(places) => Ok(Some(Leaving::reserve(alloc, places, chain_told)?)),
+        None => Ok(None),
+    }
+}
+
+/// Delivers a round, and then releases the adapters that leave. Gives who was notified of what, and the released.
+pub(crate) fn notify<A: Adapter>(
+    alloc: Global,
+    adapters: &mut AdapterList<A>,
+    round: Round,
+    leaving: Option<Leaving<A>>,
+) -> (Vec<(AdapterNo, Notice)>, Vec<(AdapterNo, A)>)
+    requires reserved { RoundFits adapters.old.0 adapters.old.1 round }
+    requires leavers { (gone : Node → Bool) × LeaversAre gone adapters.old.0 (option_map (λ x. x.places.items) leaving) }
+    requires room { IfSome leaving (HasRoom (length round.told)) }
+    ensures others { (gone : Node → Bool) → LeaversAre gone adapters.old.0 (option_map (λ x. x.places.items) leaving) → adapters.new.0 ≡ (leavers gone round.copies adapters.old.0).others }
+    ensures told { (gone : Node → Bool) → LeaversAre gone adapters.old.0 (option_map (λ x. x.places.items) leaving) → result.0.items ≡ round.told ++ (leavers gone round.copies adapters.old.0).told }
+    ensures released { (gone : Node → Bool) → LeaversAre gone adapters.old.0 (option_map (λ x. x.places.items) leaving) → views_of A.heard result.1.items ≡ (leavers gone round.copies adapters.old.0).views }
+{
+    let told = adapters.deliver(round);
+    match leaving {
+        Some(leaving) => let_go(adapters, leaving, told),
+        None => (told, Vec::new(alloc)),
+    }
+}
+
+/// Releases the adapters that leave: their last notices are told behind those of a chain.
+fn let_go<A: Adapter>(
+    adapters: &mut AdapterList<A>,
+    leaving: Leaving<A>,
+    chain_told: Vec<(AdapterNo, Notice)>,
+) -> (Vec<(AdapterNo, Notice)>, Vec<(AdapterNo, A)>)
+    requires gone { (gone : Node → Bool) × (leaving.places.items ≡ map (λ r. gone r.target) adapters.old.0) }
+    requires room { HasRoom (length chain_told.items) leaving }
+    ensures others { (gone : Node → Bool) → leaving.places.items ≡ map (λ r. gone r.target) adapters.old.0 → adapters.new.0 ≡ (released_of (λ r. gone r.target) adapters.old.0).others }
+    ensures told { (gone : Node → Bool) → leaving.places.items ≡ map (λ r. gone r.target) adapters.old.0 → result.0.items ≡ chain_told.items ++ (released_of (λ r. gone r.target) adapters.old.0).told }
+    ensures released { (gone : Node → Bool) → leaving.places.items ≡ map (λ r. gone r.target) adapters.old.0 → views_of A.heard result.1.items ≡ (released_of (λ r. gone r.target) adapters.old.0).views }
+{
+    let Leaving {
+        places,
+        mut told,
+        mut released,
+    } = leaving;
+    move_all(chain_told, &mut told);
+    adapters.release(&places, &mut told, &mut released);
+    (told, released)
+}
+
+/// Moves all that was told into a list that has room for it.
+fn move_all(from: Vec<(AdapterNo, Notice)>, into: &mut Vec<(AdapterNo, Notice)>)
+    requires room { vec_len into.old + length from.items ≤ vec_capacity into.old }
+    ensures items { into.new.items ≡ into.old.items ++ from.items }
+    ensures room { (vec_len into.new ≡ vec_len into.old + length from.items) × (vec_capacity into.new ≡ vec_capacity into.old) }
+{
+    for one in from {
+        into.push_reserved(one);
+    }
+}
