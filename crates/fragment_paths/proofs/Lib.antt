@@ -1,4 +1,5 @@
 pub mod ObjectLemmas
+pub mod PlaceLemmas
 pub mod UpLemmas
 pub mod DeclaredLemmas
 pub mod NameLemmas

@@ -1,4 +1,5 @@
 pub mod Fragments
 pub mod Finding
+pub mod Known
 pub mod Located
 pub mod Laws

@@ -9,8 +9,10 @@ mod finding;
 mod fragments;
 pub mod laws;
 mod paths;
+mod places;
 
 pub use ends::roots_end;
 pub use finding::{find, object_at};
 pub use fragments::{address, reference, write};
+pub use places::Places;
 pub use web_uris::{Path, Step, parse};

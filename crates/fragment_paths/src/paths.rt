@@ -4,8 +4,9 @@ ghost use Rattle.models.specs.Model.{reading};
 ghost use Rattle.fragment_paths.specs.Fragments as fragments;
 ghost use Rattle.fragment_paths.specs.Located.{located as located_in, path_by as path_meant};
 
+use crate::places::Places;
 use link_store::LinkStore;
-use mm_types::{End, Node, ObjectNo, ResourceNo, Seq, Text, Value};
+use mm_types::{End, Node, ObjectNo, ResourceNo, Seq, Text};
 use models::{ModelRef, is_single};
 use std::alloc::{AllocError, Global};
 use web_uris::{Path, Step};
@@ -15,13 +16,6 @@ use web_uris::{Path, Step};
 pub(crate) struct Located {
     pub resource: ResourceNo,
     pub path: Path,
-}
-
-/// Where an object stands in the end that holds it.
-fn place_in<L: LinkStore>(model: &ModelRef<L>, end: End, object: ObjectNo) -> u32
-    ensures { result ≡ fragments.place_in (reading model.now) end object }
-{
-    model.position(end, &Value::Object(object)).unwrap_or(0)
 }
 
 /// The name of a feature.
@@ -37,33 +31,29 @@ fn name_of<L: LinkStore>(alloc: Global, model: &ModelRef<L>, end: End) -> Result
 /// The step that leads from an end into an object.
 fn step_into<L: LinkStore>(
     alloc: Global,
-    model: &ModelRef<L>,
+    places: &Places<L>,
     end: End,
     object: ObjectNo,
 ) -> Result<Step, AllocError>
-    ensures { IfOk result (λ s. s ≡ fragments.step_into (reading model.now) end object) }
+    ensures { IfOk result (λ s. s ≡ fragments.step_into (reading places.now) end object) }
 {
+    let model = places.model();
     let name = name_of(alloc, model, end)?;
     let index = if is_single(model.meta(), end.feature) {
         None
     } else {
-        Some(place_in(model, end, object))
+        Some(places.place_in(end, object))
     };
     Ok(Step { name, index })
 }
 
 /// The path to a root, and from there by steps, of which the last comes first.
-fn path_by<L: LinkStore>(
-    model: &ModelRef<L>,
-    end: End,
-    root: ObjectNo,
-    mut steps: Vec<Step>,
-) -> Path
-    ensures { result ≡ path_meant (reading model.now) end root steps.items }
+fn path_by<L: LinkStore>(places: &Places<L>, end: End, root: ObjectNo, mut steps: Vec<Step>) -> Path
+    ensures { result ≡ path_meant (reading places.now) end root steps.items }
 {
     steps.reverse();
     Path {
-        root: place_in(model, end, root),
+        root: places.place_in(end, root),
         steps: Seq::from_vec(steps),
     }
 }
@@ -71,22 +61,22 @@ fn path_by<L: LinkStore>(
 /// The resource and the path of an object; `None` where it is in no resource. Errs only where memory is refused.
 pub(crate) fn locate<L: LinkStore>(
     alloc: Global,
-    model: &ModelRef<L>,
+    places: &Places<L>,
     object: ObjectNo,
 ) -> Result<Option<Located>, AllocError>
-    ensures { IfOk result (λ x. x ≡ located_in (reading model.now) object) }
+    ensures { IfOk result (λ x. x ≡ located_in (reading places.now) object) }
 {
-    model.is_legal();
+    places.is_legal();
     let mut steps = Vec::new(alloc);
     let mut at = object;
-    'up: while let Some(end) = model.holder(Node::Object(at)) {
+    'up: while let Some(end) = places.holder(at) {
         match end.node {
             Node::Resource(resource) => {
-                let path = path_by(model, end, at, steps);
+                let path = path_by(places, end, at, steps);
                 return Ok(Some(Located { resource, path }));
             }
             Node::Object(above) => {
-                steps.push(step_into(alloc, model, end, at)?)?;
+                steps.push(step_into(alloc, places, end, at)?)?;
                 at = above;
             }
         }

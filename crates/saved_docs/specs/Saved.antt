@@ -68,8 +68,3 @@ is_memory _ = false
 abbrev pub Writes : Result (String Global) Refused → Reading → ResourceNo → Type 0
 Writes (Ok text) r k = (save_refusal r k ≡ None) × (string_bytes text ≡ saved r k)
 Writes (Err e) r k = MatchBool (is_memory e) (Unit {0}) (save_refusal r k ≡ Some e)
-
--- what looking a resource over gives: nothing, the refusal, or that memory was refused
-abbrev pub Allows : Result (Unit {0}) Refused → Reading → ResourceNo → Type 0
-Allows (Ok x) r k = save_refusal r k ≡ None
-Allows (Err e) r k = MatchBool (is_memory e) (Unit {0}) (save_refusal r k ≡ Some e)

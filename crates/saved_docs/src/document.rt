@@ -7,9 +7,9 @@ ghost use Rattle.serde_json.specs.View.{items_of, view};
 ghost use Rattle.saved_docs.specs.Document as spec;
 
 use crate::values::{object_value, two};
+use fragment_paths::Places;
 use link_store::LinkStore;
 use mm_types::{ObjectNo, ResourceNo};
-use models::ModelRef;
 use serde_json::Value as JsonValue;
 use std::alloc::{AllocError, Global};
 
@@ -19,15 +19,15 @@ pub const FORMAT: u32 = 1;
 /// The roots of a resource and all in them.
 fn roots_value<L: LinkStore>(
     alloc: Global,
-    model: &ModelRef<L>,
+    places: &Places<L>,
     resource: ResourceNo,
     roots: &[ObjectNo],
 ) -> Result<JsonValue, AllocError>
-    ensures { IfOk result (λ v. view v ≡ array (items_of (map (spec.object_data (reading model.now) resource (reading model.now).next) roots.now))) }
+    ensures { IfOk result (λ v. view v ≡ array (items_of (map (spec.object_data (reading places.now) resource (reading places.now).next) roots.now))) }
 {
     let mut items = Vec::new(alloc);
     'roots: for root in roots {
-        items.push(object_value(alloc, model, resource, model.next(), *root)?)?;
+        items.push(object_value(alloc, places, resource, places.model().next(), *root)?)?;
     }
     Ok(JsonValue::Array(items))
 }
@@ -35,27 +35,27 @@ fn roots_value<L: LinkStore>(
 /// The document of a resource that has these roots.
 fn document<L: LinkStore>(
     alloc: Global,
-    model: &ModelRef<L>,
+    places: &Places<L>,
     resource: ResourceNo,
     roots: &[ObjectNo],
 ) -> Result<JsonValue, AllocError>
-    requires roots { roots.now ≡ roots_of (reading model.now) resource }
-    ensures { IfOk result (λ v. view v ≡ spec.document (reading model.now) resource) }
+    requires roots { roots.now ≡ roots_of (reading places.now) resource }
+    ensures { IfOk result (λ v. view v ≡ spec.document (reading places.now) resource) }
 {
-    let roots = roots_value(alloc, model, resource, roots)?;
+    let roots = roots_value(alloc, places, resource, roots)?;
     two(alloc, "format", JsonValue::from(FORMAT), "roots", roots)
 }
 
 /// The text of the document of a resource that has these roots. Errs only where memory is refused.
 pub(crate) fn document_text<L: LinkStore>(
     alloc: Global,
-    model: &ModelRef<L>,
+    places: &Places<L>,
     resource: ResourceNo,
     roots: &[ObjectNo],
 ) -> Result<String, AllocError>
-    requires roots { roots.now ≡ roots_of (reading model.now) resource }
-    ensures { IfOk result (λ t. string_bytes t ≡ spec.saved (reading model.now) resource) }
+    requires roots { roots.now ≡ roots_of (reading places.now) resource }
+    ensures { IfOk result (λ t. string_bytes t ≡ spec.saved (reading places.now) resource) }
 {
-    let value = document(alloc, model, resource, roots)?;
+    let value = document(alloc, places, resource, roots)?;
     value.to_string(alloc)
 }

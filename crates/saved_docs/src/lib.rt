@@ -11,6 +11,7 @@ mod objects;
 mod refusals;
 mod targets;
 mod values;
+mod ways;
 mod writing;
 mod written;
 

@@ -52,7 +52,7 @@ fn holds<L: LinkStore>(
 }
 
 /// The object that was found, if one was.
-fn object_of(found: Found) -> Option<ObjectNo>
+pub(crate) fn object_of(found: Found) -> Option<ObjectNo>
     ensures { result ≡ r.object_of (found_value found.entry) }
 {
     match found {

@@ -10,11 +10,11 @@ ghost use Rattle.saved_docs.specs.Written as written;
 
 use crate::names::{class_name, feature_name, literal_text};
 use crate::written::is_written;
-use fragment_paths::reference;
+use fragment_paths::{Places, reference};
 use link_store::LinkStore;
 use mm_meta::Meta;
 use mm_types::{End, FeatureNo, Node, ObjectNo, ResourceNo, Value};
-use models::{Found, ModelRef, is_single};
+use models::{Found, is_single};
 use serde_json::{Map, Value as JsonValue, put};
 use std::alloc::{AllocError, Global};
 
@@ -44,13 +44,13 @@ pub(crate) fn two(
 /// A reference to an object.
 fn reference_value<L: LinkStore>(
     alloc: Global,
-    model: &ModelRef<L>,
+    places: &Places<L>,
     resource: ResourceNo,
     object: ObjectNo,
 ) -> Result<JsonValue, AllocError>
-    ensures { IfOk result (λ v. view v ≡ string (spec.reference_text (reading model.now) resource object)) }
+    ensures { IfOk result (λ v. view v ≡ string (spec.reference_text (reading places.now) resource object)) }
 {
-    match reference(alloc, model, resource, object)? {
+    match reference(alloc, places, resource, object)? {
         Some(text) => Ok(JsonValue::String(text.into_string())),
         None => text_value(alloc, ""),
     }
@@ -79,18 +79,18 @@ fn plain_value(
 #[cycle(object)]
 fn object_under<L: LinkStore>(
     alloc: Global,
-    model: &ModelRef<L>,
+    places: &Places<L>,
     resource: ResourceNo,
     levels: usize,
     feature: FeatureNo,
     object: ObjectNo,
 ) -> Result<JsonValue, AllocError>
-    ensures { IfOk result (λ v. view v ≡ spec.object_under (reading model.now) resource (spec.object_data (reading model.now) resource levels) feature object) }
+    ensures { IfOk result (λ v. view v ≡ spec.object_under (reading places.now) resource (spec.object_data (reading places.now) resource levels) feature object) }
 {
-    if model.meta().is_containment(feature) {
-        object_value(alloc, model, resource, levels, object)
+    if places.model().meta().is_containment(feature) {
+        object_value(alloc, places, resource, levels, object)
     } else {
-        reference_value(alloc, model, resource, object)
+        reference_value(alloc, places, resource, object)
     }
 }
 
@@ -98,20 +98,20 @@ fn object_under<L: LinkStore>(
 #[cycle(object)]
 fn found_json<L: LinkStore>(
     alloc: Global,
-    model: &ModelRef<L>,
+    places: &Places<L>,
     resource: ResourceNo,
     levels: usize,
     feature: FeatureNo,
     found: Found,
 ) -> Result<JsonValue, AllocError>
-    ensures { IfOk result (λ v. view v ≡ spec.value_data (reading model.now) resource (spec.object_data (reading model.now) resource levels) feature (found_value found.entry)) }
+    ensures { IfOk result (λ v. view v ≡ spec.value_data (reading places.now) resource (spec.object_data (reading places.now) resource levels) feature (found_value found.entry)) }
 {
     match found {
-        Found::Object(object) => object_under(alloc, model, resource, levels, feature, object),
+        Found::Object(object) => object_under(alloc, places, resource, levels, feature, object),
         Found::Kept(Value::Object(object)) => {
-            object_under(alloc, model, resource, levels, feature, *object)
+            object_under(alloc, places, resource, levels, feature, *object)
         }
-        Found::Kept(value) => plain_value(alloc, model.meta(), feature, value),
+        Found::Kept(value) => plain_value(alloc, places.model().meta(), feature, value),
     }
 }
 
@@ -119,16 +119,16 @@ fn found_json<L: LinkStore>(
 #[cycle(object)]
 fn item_value<L: LinkStore>(
     alloc: Global,
-    model: &ModelRef<L>,
+    places: &Places<L>,
     resource: ResourceNo,
     levels: usize,
     end: End,
     index: u32,
 ) -> Result<JsonValue, AllocError>
-    ensures { IfOk result (λ v. view v ≡ spec.value_data (reading model.now) resource (spec.object_data (reading model.now) resource levels) end.feature (value_in ((reading model.now).values end) index)) }
+    ensures { IfOk result (λ v. view v ≡ spec.value_data (reading places.now) resource (spec.object_data (reading places.now) resource levels) end.feature (value_in ((reading places.now).values end) index)) }
 {
-    match model.value_in(end, index) {
-        Some(found) => found_json(alloc, model, resource, levels, end.feature, found),
+    match places.model().value_in(end, index) {
+        Some(found) => found_json(alloc, places, resource, levels, end.feature, found),
         None => Ok(JsonValue::Null),
     }
 }
@@ -137,16 +137,16 @@ fn item_value<L: LinkStore>(
 #[cycle(object)]
 fn items_value<L: LinkStore>(
     alloc: Global,
-    model: &ModelRef<L>,
+    places: &Places<L>,
     resource: ResourceNo,
     levels: usize,
     end: End,
 ) -> Result<JsonValue, AllocError>
-    ensures { IfOk result (λ v. view v ≡ array (items_of (map (spec.value_data (reading model.now) resource (spec.object_data (reading model.now) resource levels) end.feature) ((reading model.now).values end)))) }
+    ensures { IfOk result (λ v. view v ≡ array (items_of (map (spec.value_data (reading places.now) resource (spec.object_data (reading places.now) resource levels) end.feature) ((reading places.now).values end)))) }
 {
     let mut items = Vec::new(alloc);
-    'places: for index in 0..model.len(end) {
-        items.push(item_value(alloc, model, resource, levels, end, index)?)?;
+    'values: for index in 0..places.model().len(end) {
+        items.push(item_value(alloc, places, resource, levels, end, index)?)?;
     }
     Ok(JsonValue::Array(items))
 }
@@ -155,20 +155,20 @@ fn items_value<L: LinkStore>(
 #[cycle(object)]
 fn content_value<L: LinkStore>(
     alloc: Global,
-    model: &ModelRef<L>,
+    places: &Places<L>,
     resource: ResourceNo,
     levels: usize,
     object: ObjectNo,
     feature: FeatureNo,
 ) -> Result<JsonValue, AllocError>
-    ensures { IfOk result (λ v. view v ≡ spec.content_data (reading model.now) resource (spec.object_data (reading model.now) resource levels) object feature) }
+    ensures { IfOk result (λ v. view v ≡ spec.content_data (reading places.now) resource (spec.object_data (reading places.now) resource levels) object feature) }
 {
     let node = Node::Object(object);
     let end = End { node, feature };
-    if is_single(model.meta(), feature) {
-        item_value(alloc, model, resource, levels, end, 0)
+    if is_single(places.model().meta(), feature) {
+        item_value(alloc, places, resource, levels, end, 0)
     } else {
-        items_value(alloc, model, resource, levels, end)
+        items_value(alloc, places, resource, levels, end)
     }
 }
 
@@ -176,39 +176,44 @@ fn content_value<L: LinkStore>(
 #[cycle(object)]
 fn put_feature<L: LinkStore>(
     alloc: Global,
-    model: &ModelRef<L>,
+    places: &Places<L>,
     resource: ResourceNo,
     levels: usize,
     object: ObjectNo,
     feature: FeatureNo,
     members: &mut Map<String, JsonValue>,
 ) -> Result<(), AllocError>
-    ensures { OnOk result (members_view members.new.entries ≡ spec.members_with (members_view members.old.entries) (map (spec.feature_member (reading model.now) resource (spec.object_data (reading model.now) resource levels) object) (filter (written.is_written (reading model.now) object) (feature ∷ [])))) }
+    ensures { OnOk result (members_view members.new.entries ≡ spec.members_with (members_view members.old.entries) (map (spec.feature_member (reading places.now) resource (spec.object_data (reading places.now) resource levels) object) (filter (written.is_written (reading places.now) object) (feature ∷ [])))) }
 {
-    if !is_written(model, object, feature) {
+    if !is_written(places.model(), object, feature) {
         return Ok(());
     }
-    let content = content_value(alloc, model, resource, levels, object, feature)?;
-    put(members, alloc, feature_name(model.meta(), feature), content)
+    let content = content_value(alloc, places, resource, levels, object, feature)?;
+    put(
+        members,
+        alloc,
+        feature_name(places.model().meta(), feature),
+        content,
+    )
 }
 
 /// What an object holds, under the names of its features.
 #[cycle(object)]
 fn features_value<L: LinkStore>(
     alloc: Global,
-    model: &ModelRef<L>,
+    places: &Places<L>,
     resource: ResourceNo,
     levels: usize,
     object: ObjectNo,
 ) -> Result<JsonValue, AllocError>
-    ensures { IfOk result (λ v. view v ≡ object_of (spec.members (map (spec.feature_member (reading model.now) resource (spec.object_data (reading model.now) resource levels) object) (written.written_features (reading model.now) object)))) }
+    ensures { IfOk result (λ v. view v ≡ object_of (spec.members (map (spec.feature_member (reading places.now) resource (spec.object_data (reading places.now) resource levels) object) (written.written_features (reading places.now) object)))) }
 {
     let mut members = Map::new(alloc);
-    let features = model.all_features(Node::Object(object));
+    let features = places.model().all_features(Node::Object(object));
     'features: for feature in features {
         put_feature(
             alloc,
-            model,
+            places,
             resource,
             levels,
             object,
@@ -223,17 +228,17 @@ fn features_value<L: LinkStore>(
 #[cycle(object)]
 pub(crate) fn object_value<L: LinkStore>(
     alloc: Global,
-    model: &ModelRef<L>,
+    places: &Places<L>,
     resource: ResourceNo,
     levels: usize,
     object: ObjectNo,
 ) -> Result<JsonValue, AllocError>
-    ensures { IfOk result (λ v. view v ≡ spec.object_data (reading model.now) resource levels object) }
+    ensures { IfOk result (λ v. view v ≡ spec.object_data (reading places.now) resource levels object) }
 {
     if levels == 0 {
         return Ok(JsonValue::Null);
     }
-    let features = features_value(alloc, model, resource, levels - 1, object)?;
-    let class = text_value(alloc, class_name(model, object))?;
+    let features = features_value(alloc, places, resource, levels - 1, object)?;
+    let class = text_value(alloc, class_name(places.model(), object))?;
     two(alloc, "class", class, "features", features)
 }

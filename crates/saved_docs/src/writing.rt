@@ -1,41 +1,62 @@
 //! A resource is saved.
-ghost use Rattle.std.specs.Prelude.{◌≡◌, true};
+ghost use Rattle.std.specs.Prelude.{◌≡◌, IfOk, string_bytes, true};
 ghost use Rattle.std.specs.List.{list_all};
 ghost use Rattle.fragment_paths.specs.Finding.{roots as roots_of};
 ghost use Rattle.models.specs.Model.{reading};
 ghost use Rattle.models.specs.Reading.{is_live};
+ghost use Rattle.saved_docs.specs.Document.{saved as saved_text};
 ghost use Rattle.saved_docs.specs.Saved as saved;
+ghost use Rattle.saved_docs.specs.Written.{objects_in};
 
 use crate::document::document_text;
 use crate::objects::{objects_below, roots};
 use crate::refusals::refusal;
+use crate::ways::note_ways;
+use fragment_paths::Places;
 use link_store::LinkStore;
 use mm_types::{ObjectNo, Refused, ResourceNo};
 use models::ModelRef;
-use std::alloc::Global;
+use std::alloc::{AllocError, Global};
 
-/// Why a resource that has these roots can't be saved, if it can't; else that memory was refused, or nothing.
-fn checked<L: LinkStore>(
+/// The document of a resource that has these roots and objects, as text.
+fn text_by<L: LinkStore>(
+    alloc: Global,
+    places: &mut Places<L>,
+    resource: ResourceNo,
+    roots: &[ObjectNo],
+    objects: &[ObjectNo],
+) -> Result<String, AllocError>
+    requires roots { roots.now ≡ roots_of (reading places.old) resource }
+    ensures { IfOk result (λ t. string_bytes t ≡ saved_text (reading places.old) resource) }
+{
+    note_ways(places, objects)?;
+    document_text(alloc, places, resource, roots)
+}
+
+/// The text of a resource that has these roots and objects, or why it can't be saved.
+fn written<L: LinkStore>(
     alloc: Global,
     model: &ModelRef<L>,
     resource: ResourceNo,
     roots: &[ObjectNo],
-) -> Result<(), Refused>
+    objects: &[ObjectNo],
+) -> Result<String, Refused>
     requires roots { roots.now ≡ roots_of (reading model.now) resource }
-    requires live { list_all (is_live (reading model.now)) roots.now ≡ true }
-    ensures { saved.Allows result (reading model.now) resource }
+    requires objects { objects.now ≡ objects_in (reading model.now) resource }
+    ensures { saved.Writes result (reading model.now) resource }
 {
-    let Ok(objects) = objects_below(alloc, model, roots) else {
-        return Err(Refused::Memory);
-    };
-    match refusal(model, resource, objects.as_slice()) {
-        Some(refused) => Err(refused),
-        None => Ok(()),
+    if let Some(refused) = refusal(model, resource, objects) {
+        return Err(refused);
+    }
+    let mut places = Places::new(alloc, model);
+    match text_by(alloc, &mut places, resource, roots, objects) {
+        Ok(text) => Ok(text),
+        Err(_) => Err(Refused::Memory),
     }
 }
 
-/// The document of a resource that has these roots, once it is known that it can be saved.
-fn written<L: LinkStore>(
+/// The text of a resource that has these roots, or why it can't be saved.
+fn written_below<L: LinkStore>(
     alloc: Global,
     model: &ModelRef<L>,
     resource: ResourceNo,
@@ -45,12 +66,9 @@ fn written<L: LinkStore>(
     requires live { list_all (is_live (reading model.now)) roots.now ≡ true }
     ensures { saved.Writes result (reading model.now) resource }
 {
-    match checked(alloc, model, resource, roots) {
-        Ok(()) => match document_text(alloc, model, resource, roots) {
-            Ok(text) => Ok(text),
-            Err(_) => Err(Refused::Memory),
-        },
-        Err(refused) => Err(refused),
+    match objects_below(alloc, model, roots) {
+        Ok(objects) => written(alloc, model, resource, roots, objects.as_slice()),
+        Err(_) => Err(Refused::Memory),
     }
 }
 
@@ -69,7 +87,7 @@ pub fn write_doc<L: LinkStore>(
     ensures { saved.Writes result (reading model.now) resource }
 {
     match roots(alloc, model, resource) {
-        Ok(roots) => written(alloc, model, resource, roots.as_slice()),
+        Ok(roots) => written_below(alloc, model, resource, roots.as_slice()),
         Err(_) => Err(Refused::Memory),
     }
 }

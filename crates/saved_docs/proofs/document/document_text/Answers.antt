@@ -8,4 +8,4 @@ use Rattle.saved_docs.proofs.document.document_text.Goals as goal
 pub returns : goal.returns
 returns g c =
     let is = c.in_ok-value.ensures in
-    ok-more c.to_string.result (λ s h. h (ap has_float is ∙ document-none (reading c.args.model.now) c.args.resource) ∙ ap compact_text is) c.to_string.ensures.text
+    ok-more c.to_string.result (λ s h. h (ap has_float is ∙ document-none (reading c.args.places.now) c.args.resource) ∙ ap compact_text is) c.to_string.ensures.text

@@ -1,0 +1,161 @@
+//! Where objects stand in the ends that hold them, looked up once for all of an end.
+ghost use Rattle.std.specs.Prelude.{◌≡◌, Some, slice_get, true};
+ghost use Rattle.mm_types.specs.Same.{same_end};
+ghost use Rattle.mm_types.specs.Shapes.{shape};
+ghost use Rattle.mm_types.specs.declared.numbers.Node.TheVariants as node;
+ghost use Rattle.mm_types.specs.declared.value.Value.TheVariants as value;
+ghost use Rattle.models.specs.Legal.{IsLegal};
+ghost use Rattle.models.specs.Model.{reading};
+ghost use Rattle.fragment_paths.specs.Fragments as fragments;
+
+use indexmap::IndexMap;
+use link_store::LinkStore;
+use mm_types::{End, Node, ObjectNo, Value};
+use models::ModelRef;
+use std::alloc::{AllocError, Global};
+use std::marker::Model;
+
+/// A position at an end.
+#[derive(Clone, Copy)]
+pub(crate) struct Place {
+    end: End,
+    index: u32,
+}
+
+impl Place {
+    // Whether it is one of an end.
+    fn is_at(&self, end: End) -> bool
+        ensures { result ≡ same_end self.now.end end }
+    {
+        self.end == end
+    }
+}
+
+/// A model, and where some of its objects stand in the ends that hold them. It is seen as the model.
+///
+/// The place of an object that is not among them is searched for, one value after another. So a caller that writes many
+/// fragments first notes the ways to their objects: each end on them is gone through once, however many fragments lead through it.
+#[derive(Drop)]
+pub struct Places<'m, 'a, L: LinkStore> {
+    model: &'m ModelRef<'a, L>,
+    known: IndexMap<u32, Place>,
+}
+
+impl<'m, 'a, L: LinkStore> Model for Places<'m, 'a, L> {
+    ghost use Rattle.std.specs.Coded.{codes};
+    ghost use Rattle.link_store.specs.Links.{coded_links};
+    ghost use Rattle.models.specs.Model.{Model, coded_map, reading};
+    ghost use Rattle.fragment_paths.specs.Known.{KnowsPlaces};
+
+    ghost Value = { Model };
+
+    ghost coded = { Prim.hlevel (codes, coded_map, coded_links) };
+
+    ghost view = { λ x. x.model.now };
+
+    ghost invariant = { λ x. KnowsPlaces (reading x.model.now) x.known.entries };
+}
+
+impl<'m, 'a, L: LinkStore> Places<'m, 'a, L> {
+    /// A model, of which no place is known yet. Takes no memory.
+    pub fn new(alloc: Global, model: &'m ModelRef<'a, L>) -> Self
+        ensures { result ≡ model.now }
+    {
+        Places {
+            model,
+            known: IndexMap::new(alloc),
+        }
+    }
+
+    /// The model. Takes no memory.
+    pub fn model(&self) -> &'m ModelRef<'a, L>
+        ensures { result.now ≡ self.now }
+    {
+        self.model
+    }
+
+    // What holds of every model, for proofs that know it by its view: it is legal.
+    pub(crate) fn is_legal(&self)
+        ensures { IsLegal self.now }
+    {
+        self.model.is_legal();
+    }
+
+    // The end that holds an object.
+    pub(crate) fn holder(&self, object: ObjectNo) -> Option<End>
+        ensures { result ≡ (reading self.now).holder (node.Object object) }
+    {
+        self.model.holder(Node::Object(object))
+    }
+
+    // Where an object stands in the end that holds it.
+    pub(crate) fn place_in(&self, end: End, object: ObjectNo) -> u32
+        ensures { result ≡ fragments.place_in (reading self.now) end object }
+    {
+        match self.known.get(&object.0) {
+            Some(place) if place.is_at(end) => place.index,
+            _ => self
+                .model
+                .position(end, &Value::Object(object))
+                .unwrap_or(0),
+        }
+    }
+
+    // Whether a place of an object is known. What is known is no part of the model, so no contract speaks of it.
+    fn is_known(&self, object: ObjectNo) -> bool {
+        self.known.contains_key(&object.0)
+    }
+
+    // Notes that an object stands at a position of a reference.
+    fn note(&mut self, end: End, index: u32, object: ObjectNo) -> Result<(), AllocError>
+        requires reference { (shape self.old.metamodel end.feature).is_reference ≡ true }
+        requires there { slice_get ((reading self.old).values end) index ≡ Some (value.Object object) }
+        ensures { self.new ≡ self.old }
+    {
+        self.model.is_legal();
+        self.known.insert(object.0, Place { end, index })?;
+        Ok(())
+    }
+
+    // Notes what stands at a position of a reference.
+    fn note_at(&mut self, end: End, index: u32) -> Result<(), AllocError>
+        requires reference { (shape self.old.metamodel end.feature).is_reference ≡ true }
+        ensures { self.new ≡ self.old }
+    {
+        match self.model().object_in(end, index) {
+            Some(object) => self.note(end, index, object),
+            None => Ok(()),
+        }
+    }
+
+    // Notes all that stand at a reference.
+    fn note_end(&mut self, end: End) -> Result<(), AllocError>
+        requires reference { (shape self.old.metamodel end.feature).is_reference ≡ true }
+        ensures { self.new ≡ self.old }
+    {
+        'places: for index in 0..self.model().len(end) {
+            self.note_at(end, index)?;
+        }
+        Ok(())
+    }
+
+    /// Notes the places of an object, of what is above it, and of all beside them. Where the object is known, so are those: then
+    /// this takes no time. Errs only where memory is refused; the model is the same in any case.
+    pub fn note_way(&mut self, object: ObjectNo) -> Result<(), AllocError>
+        ensures { self.new ≡ self.old }
+    {
+        self.is_legal();
+        let mut at = object;
+        'up: while let Some(end) = self.holder(at) {
+            if self.is_known(at) {
+                return Ok(());
+            }
+            self.note_end(end)?;
+            match end.node {
+                Node::Object(above) => at = above,
+                Node::Resource(_) => return Ok(()),
+            }
+        }
+        Ok(())
+    }
+}
