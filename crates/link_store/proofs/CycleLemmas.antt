@@ -105,7 +105,7 @@ pub plan_makes_no_cycle : (s : Links) (plan : List Edit) → IsLegalSet s → Pl
 plan_makes_no_cycle s [] legal fits out free = free
 plan_makes_no_cycle s (x ∷ xs) legal fits out free = plan_makes_no_cycle (edited s x) xs (edited_legal s x legal fits.0) fits.1 out.1 (edited_no_cycle s x legal fits.0 out.0 free)
 
-none_holder : (x : Node) → holder no_links x ≡ None
+pub none_holder : (x : Node) → holder no_links x ≡ None
 none_holder x = elim (holder no_links x) as (λ o. holder no_links x ≡ o → o ≡ None) [
   | None ↦ λ _. refl
   | Some e ↦ λ h. let l = holder-some no_links x e h in absurd (false≢true (sym (set.contains-empty link_cmp l.0) ∙ l.1))

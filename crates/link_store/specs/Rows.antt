@@ -108,7 +108,11 @@ abbrev pub place_if : End → Option ℕ → List Incoming
 place_if e None = []
 place_if e (Some k) = record { feature = e.feature; node = e.node; position = k } ∷ []
 
+-- where each of the ends has a value, as a search tells it
+abbrev pub places_by : (End → Option ℕ) → List End → List Incoming
+places_by found [] = []
+places_by found (e ∷ es) = place_if e (found e) ++ places_by found es
+
 -- where each of the ends has v first
 abbrev pub places_in : List Link → List End → Value → List Incoming
-places_in ls [] v = []
-places_in ls (e ∷ es) v = place_if e (position_in ls e v) ++ places_in ls es v
+places_in ls es v = places_by (λ e. position_in ls e v) es

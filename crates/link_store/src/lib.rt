@@ -16,4 +16,5 @@ pub use incoming::Incoming;
 pub use link::{Far, Link};
 pub use plan::{Edit, Plan};
 pub use row_store::RowStore;
+pub use rows::ordered;
 pub use store::LinkStore;

@@ -1,0 +1,5 @@
+pub mod ListLemmas
+pub mod SlotLemmas
+pub mod RowLemmas
+pub mod CellLemmas
+pub mod KeyLemmas

@@ -1,0 +1,83 @@
+-- What a change of a feature makes of a row, and what a change makes where there is no row.
+use Rattle.std.proofs.Common.{◌≡◌, zero, ◌+◌, ◌-◌, ◌≤◌, Global, true, false, eqb, List, [], Option, Some, None, if◌then◌else◌, refl, sym, ap, ◌∙◌, subst, arith}
+use Rattle.std.specs.Prelude.{Vec, vec_capacity, vec_len}
+use Rattle.std.proofs.lemmas.Bool.{eqb-true, eq-eqb, false≢true}
+use Rattle.mm_types.specs.declared.end.End.{End}
+use Rattle.mm_types.specs.Same.{same_feature}
+use Rattle.mm_types.specs.declared.numbers.FeatureNo.{FeatureNo}
+use Rattle.node_rows.specs.declared.slot.Slot.{Slot}
+use Rattle.node_rows.specs.declared.slot.SlotEdit.{SlotEdit}
+use Rattle.node_rows.specs.declared.row.Row.{Row}
+use Rattle.node_rows.specs.declared.row.RowEdit.{RowEdit}
+use Rattle.node_rows.specs.declared.row.RowEdit.TheVariants.{Change, Hold, Enter, Leave, ForgetEntries}
+use Rattle.node_rows.specs.Slots.{AreSlotsEdited, pairing_after, pairing_of, places_of, slot_in, taken, unpaired, values_after, values_of}
+use Rattle.node_rows.specs.Rows.{IsRowEdited, RowFits}
+use Rattle.node_rows.proofs.SlotLemmas.{nothing_after, nothing_told, same_slot}
+
+module _ (f : FeatureNo) (x : SlotEdit) (old new : List Slot) (h : AreSlotsEdited f x old new) where
+  -- what is read of a feature changes at f alone
+  read_if : {X : Type 0} (P : Option Slot → X) (Q : X → X) → P (slot_in new f) ≡ Q (P (slot_in old f)) → (g : FeatureNo) → P (slot_in new g) ≡ (if same_feature f g then Q (P (slot_in old g)) else P (slot_in old g))
+  read_if P Q law g = elim (eqb f.0 g.0) as (λ b. eqb f.0 g.0 ≡ b → P (slot_in new g) ≡ (if b then Q (P (slot_in old g)) else P (slot_in old g))) [
+    | true ↦ λ q. rw (same_slot new f g (eqb-true f.0 g.0 q), same_slot old f g (eqb-true f.0 g.0 q)) law
+    | false ↦ λ q. ap P (h.others g (λ e. false≢true (sym q ∙ eq-eqb f.0 g.0 e)))
+  ] refl
+
+  places_if : (g : FeatureNo) → places_of (slot_in old g) ≤ places_of (slot_in new g) + (if same_feature f g then taken x else zero)
+  places_if g = elim (eqb f.0 g.0) as (λ b. eqb f.0 g.0 ≡ b → places_of (slot_in old g) ≤ places_of (slot_in new g) + (if b then taken x else zero)) [
+    | true ↦ λ q. let e = same_slot new f g (eqb-true f.0 g.0 q) in let d = same_slot old f g (eqb-true f.0 g.0 q) in rw (e, d) h.here.places
+    | false ↦ λ q. let e = ap places_of (h.others g (λ e. false≢true (sym q ∙ eq-eqb f.0 g.0 e))) in omega (arith, e)
+  ] refl
+
+pub changed : (f : FeatureNo) (x : SlotEdit) (r s : Row) (e : RowEdit) → AreSlotsEdited f x r.slots.items s.slots.items → e ≡ Change f x → s.holder ≡ r.holder → s.entered ≡ r.entered → s.promised ≡ r.promised → IsRowEdited e (Some r) (Some s)
+changed f x r s e h is holder entered promised =
+    let entries = ap (λ (ds : Vec End Global). vec_capacity ds - vec_len ds) entered in
+    subst (λ (y : RowEdit). IsRowEdited y (Some r) (Some s)) (sym is) (record {
+      vals = read_if f x r.slots.items s.slots.items h values_of (values_after x) h.here.values;
+      pairing = read_if f x r.slots.items s.slots.items h pairing_of (pairing_after x) h.here.pairing;
+      hold = holder;
+      entered = ap (λ (ds : Vec End Global). ds.items) entered;
+      places = places_if f x r.slots.items s.slots.items h;
+      entries = omega (arith, entries, promised);
+      kept = refl;
+    })
+
+pub unedited_row : (x : RowEdit) (o : Option Row) → o ≡ None → RowFits x o → IsRowEdited x o o
+unedited_row (Change f y) None is fits = record {
+  vals = λ g. elim (eqb f.0 g.0) as (λ b. [] ≡ (if b then values_after y [] else [])) [ true ↦ nothing_after y fits | false ↦ refl ];
+  pairing = λ g. elim (eqb f.0 g.0) as (λ b. unpaired ≡ (if b then pairing_after y unpaired else unpaired)) [ true ↦ nothing_told y fits | false ↦ refl ];
+  hold = refl;
+  entered = refl;
+  places = λ g. omega arith;
+  entries = omega arith;
+  kept = refl;
+}
+unedited_row (Hold (Some h)) None is fits = absurd (false≢true fits)
+unedited_row (Hold None) None is fits = record {
+  vals = λ g. refl;
+  pairing = λ g. refl;
+  hold = refl;
+  entered = refl;
+  places = λ g. omega arith;
+  entries = omega arith;
+  kept = refl;
+}
+unedited_row (Enter d) None is fits = absurd (omega (arith, fits))
+unedited_row (Leave d) None is fits = record {
+  vals = λ g. refl;
+  pairing = λ g. refl;
+  hold = refl;
+  entered = refl;
+  places = λ g. omega arith;
+  entries = omega arith;
+  kept = refl;
+}
+unedited_row (ForgetEntries n) None is fits = record {
+  vals = λ g. refl;
+  pairing = λ g. refl;
+  hold = refl;
+  entered = refl;
+  places = λ g. omega arith;
+  entries = omega arith;
+  kept = refl;
+}
+unedited_row x (Some r) is fits = cc

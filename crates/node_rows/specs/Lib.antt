@@ -1,0 +1,4 @@
+pub mod Slots
+pub mod Rows
+pub mod Cells
+pub mod Growth

@@ -1,0 +1,325 @@
+//! The rows of all nodes.
+ghost use Rattle.std.specs.Prelude.{◌≡◌, ◌+◌, ◌≤◌, ◌<◌, [], ◌∷◌, length, option_copied, position, slice_get, OnOk, vec_len};
+ghost use Rattle.mm_types.specs.Same.{same_end, same_node, same_value};
+ghost use Rattle.mm_types.specs.declared.end.End.{End};
+ghost use Rattle.mm_types.specs.declared.numbers.Node.{Node};
+ghost use Rattle.mm_types.specs.declared.numbers.Node.TheVariants as node;
+ghost use Rattle.node_rows.specs.Rows.{AreRowsEdited, AreRowsGrown, RowFits, row_entries, row_places, row_slot, row_slots};
+ghost use Rattle.node_rows.specs.Cells.{Fits, KeepsRoom, cell_edit, cells, ends_of, no_cells, room, row_at};
+ghost use Rattle.node_rows.specs.Growth.{HasGained, HasRoom, entry, far_gain, gain, lone_entry, no_ends, no_values, one_if};
+
+use crate::row::{Row, RowEdit};
+use crate::slot::{Pairing, Slot, SlotEdit};
+use link_store::{Edit, Plan};
+use mm_types::{End, FeatureNo, Node, ObjectNo, Value};
+use std::alloc::{AllocError, Global};
+
+/// A row for each node, at its number.
+#[derive(Drop)]
+pub struct NodeRows {
+    objects: Vec<Row>,
+    resources: Vec<Row>,
+}
+
+impl NodeRows {
+    /// No rows. Takes no memory.
+    pub fn new(alloc: Global) -> Self
+        ensures cells { cells result ≡ no_cells }
+        ensures ends { ends_of result ≡ [] }
+    {
+        NodeRows {
+            objects: Vec::new(alloc),
+            resources: Vec::new(alloc),
+        }
+    }
+
+    // The row of a node; `None` where it has none, and so no values.
+    fn row(&self, node: Node) -> Option<&Row>
+        ensures { option_copied result ≡ row_at self.now node }
+    {
+        match node {
+            Node::Object(object) => self.objects.get(object.0 as usize),
+            Node::Resource(resource) => self.resources.get(resource.0 as usize),
+        }
+    }
+
+    /// The slots of a node, with its values by features.
+    pub fn slots(&self, node: Node) -> &[Slot]
+        ensures { result.now ≡ row_slots (row_at self.now node) }
+    {
+        match self.row(node) {
+            Some(row) => &row.slots,
+            None => &[],
+        }
+    }
+
+    // The slot of an end; `None` where it has none, and so no values.
+    fn slot(&self, end: End) -> Option<&Slot>
+        ensures { option_copied result ≡ row_slot (row_at self.now end.node) end.feature }
+    {
+        self.row(end.node)?.slot(end.feature)
+    }
+
+    /// How many values an end has.
+    #[tactic(auto, unfolding(crate::specs::Cells::cells))]
+    pub fn len(&self, end: End) -> usize
+        ensures { result ≡ length ((cells self.now).vals end) }
+    {
+        match self.slot(end) {
+            Some(slot) => slot.values.len(),
+            None => 0,
+        }
+    }
+
+    /// The value at an index of an end; `None` past the last.
+    #[tactic(auto, unfolding(crate::specs::Cells::cells))]
+    pub fn at(&self, end: End, index: usize) -> Option<&Value>
+        ensures { option_copied result ≡ slice_get ((cells self.now).vals end) index }
+    {
+        self.slot(end)?.values.get(index)
+    }
+
+    /// The index of a value in an end; `None` where it is not there.
+    #[tactic(auto, unfolding(crate::specs::Cells::cells))]
+    pub fn position(&self, end: End, value: &Value) -> Option<usize>
+        ensures { result ≡ position (same_value value.now) ((cells self.now).vals end) }
+    {
+        self.slot(end)?.values.position(value)
+    }
+
+    /// What the last put of an object into an end told of its feature.
+    #[tactic(auto, unfolding(crate::specs::Cells::cells))]
+    pub fn pairing(&self, end: End) -> Pairing
+        ensures { result ≡ (cells self.now).pairing end }
+    {
+        match self.slot(end) {
+            Some(slot) => slot.pairing,
+            None => Pairing {
+                opposite: None,
+                container: None,
+            },
+        }
+    }
+
+    /// The end that contains a node; `None` where none does.
+    #[tactic(auto, unfolding(crate::specs::Cells::cells))]
+    pub fn holder(&self, node: Node) -> Option<End>
+        ensures { result ≡ (cells self.now).hold node }
+    {
+        self.row(node)?.holder
+    }
+
+    /// The ends with no opposite that hold a node.
+    #[tactic(auto, unfolding(crate::specs::Cells::cells))]
+    pub fn entered(&self, node: Node) -> &[End]
+        ensures { result.now ≡ (cells self.now).entered node }
+    {
+        match self.row(node) {
+            Some(row) => &row.entered,
+            None => &[],
+        }
+    }
+
+    /// Makes one change of a node. Takes no memory.
+    pub fn edit(&mut self, node: Node, edit: RowEdit)
+        requires { Fits node edit (room self.old) }
+        ensures cells { cells self.new ≡ cell_edit node edit (cells self.old) }
+        ensures room { KeepsRoom node edit (room self.old) (room self.new) }
+    {
+        match node {
+            Node::Object(object) => edit_at(&mut self.objects, object.0 as usize, edit),
+            Node::Resource(resource) => edit_at(&mut self.resources, resource.0 as usize, edit),
+        }
+    }
+
+    // How many values more of an end come with no memory taken.
+    #[tactic(auto, unfolding(crate::specs::Cells::room))]
+    fn places(&self, end: End) -> usize
+        ensures { result ≡ (room self.now).places end }
+    {
+        match self.slot(end) {
+            Some(slot) => slot.places(),
+            None => 0,
+        }
+    }
+
+    // How many ends more that hold a node come with no memory taken.
+    #[tactic(auto, unfolding(crate::specs::Cells::room))]
+    fn entries(&self, node: Node) -> usize
+        ensures { result ≡ (room self.now).entries node }
+    {
+        match self.row(node) {
+            Some(row) => row.entries(),
+            None => 0,
+        }
+    }
+
+    // Takes back what an end was promised.
+    fn forget(&mut self, end: End)
+        ensures { cells self.new ≡ cells self.old }
+    {
+        let places = self.places(end);
+        self.edit(
+            end.node,
+            RowEdit::Change(end.feature, SlotEdit::Forget { places }),
+        );
+    }
+
+    // Takes back what the far side of a put was promised.
+    fn forget_far(&mut self, object: ObjectNo, opposite: Option<FeatureNo>)
+        ensures { cells self.new ≡ cells self.old }
+    {
+        let node = Node::Object(object);
+        match opposite {
+            Some(feature) => self.forget(End { node, feature }),
+            None => {
+                let places = self.entries(node);
+                self.edit(node, RowEdit::ForgetEntries(places));
+            }
+        }
+    }
+
+    // Takes back what was promised wherever an edit adds something.
+    fn forget_edit(&mut self, edit: &Edit)
+        ensures { cells self.new ≡ cells self.old }
+    {
+        match edit {
+            Edit::Put {
+                end,
+                object,
+                opposite,
+                ..
+            } => {
+                self.forget(*end);
+                self.forget_far(*object, *opposite);
+            }
+            Edit::PutProxy { end, .. } => self.forget(*end),
+            _ => {}
+        }
+    }
+
+    // Takes back what was promised wherever a plan adds something.
+    fn forget_plan(&mut self, plan: &[Edit])
+        ensures { cells self.new ≡ cells self.old }
+    {
+        for edit in plan {
+            self.forget_edit(edit);
+        }
+    }
+
+    // Promises one more value of an end a place.
+    fn promise(&mut self, end: End) -> Result<(), AllocError>
+        ensures cells { cells self.new ≡ cells self.old }
+        ensures ok { OnOk result (HasGained (λ e. one_if (same_end end e)) no_ends (room self.old) (room self.new)) }
+    {
+        match end.node {
+            Node::Object(object) => {
+                promise_at(&mut self.objects, object.0 as usize, end.feature)
+            }
+            Node::Resource(resource) => {
+                promise_at(&mut self.resources, resource.0 as usize, end.feature)
+            }
+        }
+    }
+
+    // Promises one more end that holds an object a place.
+    fn promise_entry(&mut self, object: ObjectNo) -> Result<(), AllocError>
+        ensures cells { cells self.new ≡ cells self.old }
+        ensures ok { OnOk result (HasGained no_values (λ n. one_if (same_node (node.Object object) n)) (room self.old) (room self.new)) }
+    {
+        promise_entry_at(&mut self.objects, object.0 as usize)
+    }
+
+    // Promises the far side of a put its place.
+    fn promise_far(
+        &mut self,
+        object: ObjectNo,
+        opposite: Option<FeatureNo>,
+    ) -> Result<(), AllocError>
+        ensures cells { cells self.new ≡ cells self.old }
+        ensures ok { OnOk result (HasGained (far_gain object opposite) (lone_entry object opposite) (room self.old) (room self.new)) }
+    {
+        match opposite {
+            Some(feature) => {
+                let node = Node::Object(object);
+                self.promise(End { node, feature })
+            }
+            None => self.promise_entry(object),
+        }
+    }
+
+    // Promises an edit a place wherever it adds something.
+    fn promise_edit(&mut self, edit: &Edit) -> Result<(), AllocError>
+        ensures cells { cells self.new ≡ cells self.old }
+        ensures ok { OnOk result (HasGained (λ e. gain e edit.now) (λ n. entry n edit.now) (room self.old) (room self.new)) }
+    {
+        match edit {
+            Edit::Put {
+                end,
+                object,
+                opposite,
+                ..
+            } => {
+                self.promise(*end)?;
+                self.promise_far(*object, *opposite)
+            }
+            Edit::PutProxy { end, .. } => self.promise(*end),
+            _ => Ok(()),
+        }
+    }
+
+    /// Makes room for a plan, in place of what was made for an earlier one wherever this one adds something. Errs where
+    /// memory is refused; no value changes.
+    pub fn reserve_for(&mut self, plan: &Plan) -> Result<(), AllocError>
+        ensures cells { cells self.new ≡ cells self.old }
+        ensures ok { OnOk result (HasRoom (room self.new) plan.now) }
+    {
+        let edits = plan.as_slice();
+        self.forget_plan(edits);
+        for edit in edits {
+            self.promise_edit(edit)?;
+        }
+        Ok(())
+    }
+}
+
+// Makes one change of the row at an index.
+fn edit_at(rows: &mut Vec<Row>, index: usize, edit: RowEdit)
+    requires { RowFits edit (slice_get rows.old.items index) }
+    ensures { AreRowsEdited index edit (slice_get rows.old.items) (slice_get rows.new.items) }
+{
+    if index >= rows.len() {
+        return drop(edit);
+    }
+    rows[index].edit(edit);
+}
+
+// Makes rows up to an index.
+fn add_rows(rows: &mut Vec<Row>, index: usize) -> Result<(), AllocError>
+    ensures grown { AreRowsGrown (slice_get rows.old.items) (slice_get rows.new.items) }
+    ensures ok { OnOk result (index < vec_len rows.new) }
+{
+    let alloc = *rows.allocator();
+    while rows.len() <= index {
+        rows.push(Row::new(alloc))?;
+    }
+    Ok(())
+}
+
+// Promises one more value at a feature of the row at an index a place.
+fn promise_at(rows: &mut Vec<Row>, index: usize, feature: FeatureNo) -> Result<(), AllocError>
+    ensures grown { AreRowsGrown (slice_get rows.old.items) (slice_get rows.new.items) }
+    ensures ok { OnOk result (row_places (slice_get rows.old.items index) feature + 1 ≤ row_places (slice_get rows.new.items index) feature) }
+{
+    add_rows(rows, index)?;
+    rows[index].promise(feature)
+}
+
+// Promises one more end that holds the node of the row at an index a place.
+fn promise_entry_at(rows: &mut Vec<Row>, index: usize) -> Result<(), AllocError>
+    ensures grown { AreRowsGrown (slice_get rows.old.items) (slice_get rows.new.items) }
+    ensures ok { OnOk result (row_entries (slice_get rows.old.items index) + 1 ≤ row_entries (slice_get rows.new.items index)) }
+{
+    add_rows(rows, index)?;
+    rows[index].promise_entry()
+}

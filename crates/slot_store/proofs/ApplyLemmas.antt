@@ -1,0 +1,76 @@
+-- What the rows say once an edit of a plan is made.
+use Rattle.std.proofs.Common.{◌≡◌, ◌+◌, List, ◌∷◌, [], sym, ap, subst, arith}
+use Rattle.std.proofs.Math.Logic.{∥∥₁_elim, ∥∥₁_map}
+use Rattle.std.proofs.lemmas.List.Sums.{sum_by-append}
+use Rattle.std.specs.Coded.{Coded-set}
+use Rattle.mm_types.specs.declared.numbers.Node.{Node}
+use Rattle.mm_types.specs.declared.end.End.{End}
+use Rattle.link_store.specs.LegalSets.{AreOfKind, Kinds}
+use Rattle.link_store.specs.Links.{Links, coded_links}
+use Rattle.link_store.specs.Plans.{HasPlanOfKind, IsPlanOfKind, PlanFits, applied, edited}
+use Rattle.link_store.specs.declared.plan.Edit.{Edit}
+use Rattle.link_store.proofs.KindLemmas.{plan_keeps_kinds}
+use Rattle.node_rows.specs.declared.node_rows.NodeRows.{NodeRows}
+use Rattle.node_rows.specs.Cells.{Cells, HasKeys, Room, cells, ends_of}
+use Rattle.node_rows.specs.Growth.{HasRoom, entries, entry, gain, gains}
+use Rattle.node_rows.proofs.KeyLemmas.{keys_of}
+use Rattle.slot_store.specs.CellLinks.{IsKept, IsStore, IsStoreOfKind, cell_links, store_links}
+use Rattle.slot_store.specs.EditedCells.{TakesAtMost, cells_after}
+use Rattle.slot_store.proofs.KeptEditLemmas.{kept_edit}
+
+---------------------------------------------------------------- room
+
+-- room for a plan is room for its first edit, and then for the rest
+gains_split : (x : Edit) (xs : List Edit) (e : End) → gains (x ∷ xs) e ≡ gains (x ∷ []) e + gains xs e
+gains_split x xs e = sum_by-append (gain e) (x ∷ []) xs
+
+entries_split : (x : Edit) (xs : List Edit) (n : Node) → entries (x ∷ xs) n ≡ entries (x ∷ []) n + entries xs n
+entries_split x xs n = sum_by-append (entry n) (x ∷ []) xs
+
+pub room_first : (r : Room) (x : Edit) (xs : List Edit) → HasRoom r (x ∷ xs) → HasRoom r (x ∷ [])
+room_first r x xs has = record {
+  places = λ e. omega (arith, has.places e, gains_split x xs e);
+  entries = λ n. omega (arith, has.entries n, entries_split x xs n);
+}
+
+pub room_rest : (r s : Room) (x : Edit) (xs : List Edit) → HasRoom r (x ∷ xs) → TakesAtMost (λ e. gain e x) (λ n. entry n x) r s → HasRoom s xs
+room_rest r s x xs has takes = record {
+  places = λ e. (let one : gains (x ∷ []) e ≡ gain e x = omega arith in omega (arith, has.places e, takes.places e, gains_split x xs e, one));
+  entries = λ n. (let one : entries (x ∷ []) n ≡ entry n x = omega arith in omega (arith, has.entries n, takes.entries n, entries_split x xs n, one));
+}
+
+---------------------------------------------------------------- an edit
+
+module _ (t u : NodeRows) (kept : ∥ IsStore t ∥₁) (x : Edit) (xs : List Edit) (fits : PlanFits (store_links t) (x ∷ xs)) (kind : HasPlanOfKind (IsStoreOfKind t) (x ∷ xs)) (now : cells u ≡ cells_after x (cells t)) where
+  after : IsStore t → IsStore u × (cell_links (cells u) (ends_of u) ≡ edited (store_links t) x)
+  unfolding store_links
+  after ok =
+      subst (λ (c : Cells). HasKeys c (ends_of u) → IsKept c (ends_of u) × (cell_links c (ends_of u) ≡ edited (store_links t) x)) (sym now)
+      (λ keys. kept_edit kind.0 kind.1.0 (cells t) (ends_of t) ok kind.1.1 x (ends_of u) fits.0 kind.2.0 keys) (keys_of u)
+
+  pub edit_kept : ∥ IsStore u ∥₁
+  edit_kept = ∥∥₁_map kept (λ ok. (after ok).0)
+
+  pub edit_links : store_links u ≡ edited (store_links t) x
+  unfolding store_links
+  edit_links = ∥∥₁_elim kept (Coded-set coded_links _ _) (λ ok. (after ok).1)
+
+  pub edit_fits : PlanFits (store_links u) xs
+  edit_fits = subst (λ (s : Links). PlanFits s xs) (sym edit_links) fits.1
+
+  pub edit_kind : HasPlanOfKind (IsStoreOfKind u) xs
+  edit_kind = (
+    kind.0,
+    (kind.1.0, subst (λ (s : Links). AreOfKind kind.0 s) (sym edit_links) (plan_keeps_kinds kind.0 kind.1.0 (store_links t) (x ∷ []) kind.1.1 (kind.2.0, tt))),
+    kind.2.1,
+  )
+
+  pub edit_rest : applied (store_links u) xs ≡ applied (store_links t) (x ∷ xs)
+  edit_rest = ap (λ (s : Links). applied s xs) edit_links
+
+-- a plan of the kinds keeps the kinds
+pub kinds_applied : (t u : NodeRows) (plan : List Edit) → store_links u ≡ applied (store_links t) plan → (m : Kinds) → IsStoreOfKind t m → IsPlanOfKind m plan → IsStoreOfKind u m
+kinds_applied t u plan is m of kind = (of.0, subst (λ (s : Links). AreOfKind m s) (sym is) (plan_keeps_kinds m of.0 (store_links t) plan of.1 kind))
+
+pub kinds_same : (t u : NodeRows) → store_links u ≡ store_links t → (m : Kinds) → IsStoreOfKind t m → IsStoreOfKind u m
+kinds_same t u is m of = (of.0, subst (λ (s : Links). AreOfKind m s) (sym is) of.1)

@@ -1,0 +1,72 @@
+-- What each part of an edit makes of the cells: of the values of an end, of what is told of it, of the holders and of what holds a node.
+use Rattle.std.proofs.Common.{◌≡◌, ◌≢◌, Bool, true, false, ◌&&◌, Option, Some, None, if◌then◌else◌, refl, sym, ap, ◌∙◌, subst, inl, inr}
+use Rattle.std.specs.Prelude.{◌⊎◌}
+use Rattle.std.proofs.lemmas.Bool.{cases_Bool, true≢false}
+use Rattle.mm_types.specs.Same.{same_end, same_feature, same_node}
+use Rattle.mm_types.specs.declared.numbers.Node.{Node}
+use Rattle.mm_types.specs.declared.end.End.{End}
+use Rattle.mm_types.proofs.SameLemmas.{same_end-self, same_node-true}
+use Rattle.link_store.proofs.PlaceLemmas.{ne-same_end, same_node_if}
+use Rattle.node_rows.specs.Cells.{Cells}
+pub use Rattle.node_rows.proofs.CellLemmas.{same_twice}
+use Rattle.slot_store.specs.EditedCells.{holds, released}
+
+pub two_tests : {X : Type 0} (a b : Bool) (y z : X) → (if a then (if b then y else z) else z) ≡ (if a && b then y else z)
+two_tests true b y z = refl
+two_tests false b y z = refl
+
+---------------------------------------------------------------- ends
+
+-- a change at the end d is seen there
+pub here : {X : Type 0} (d x : End) (y z : X) → d ≡ x → (if same_node d.node x.node then (if same_feature d.feature x.feature then y else z) else z) ≡ y
+here d x y z is = two_tests _ _ y z ∙ ap (λ (b : Bool). if b then y else z) (subst (λ (e : End). same_end d e ≡ true) is (same_end-self d))
+
+-- and nowhere else
+pub there : {X : Type 0} (d x : End) (y z : X) → d ≢ x → (if same_node d.node x.node then (if same_feature d.feature x.feature then y else z) else z) ≡ z
+there d x y z ne = two_tests _ _ y z ∙ ap (λ (b : Bool). if b then y else z) (ne-same_end d x ne)
+
+---------------------------------------------------------------- nodes
+
+pub cases_node : (m n : Node) → (m ≡ n) ⊎ (m ≢ n)
+cases_node m n = elim (cases_Bool (same_node m n)) [
+  | inl h ↦ inl (same_node-true m n h)
+  | inr h ↦ inr (λ same. true≢false (sym (same_node_if m n same) ∙ h))
+]
+
+no_node : (n m : Node) → n ≢ m → same_node n m ≡ false
+no_node n m ne = elim (same_node n m) as (λ b. same_node n m ≡ b → b ≡ false) [
+  | true ↦ λ p. absurd (ne (same_node-true n m p))
+  | false ↦ λ p. refl
+] refl
+
+pub if_node : {X : Type 0} (n m : Node) (y z : X) → n ≡ m → (if same_node n m then y else z) ≡ y
+if_node n m y z is = ap (λ (b : Bool). if b then y else z) (same_node_if n m is)
+
+pub else_node : {X : Type 0} (n m : Node) (y z : X) → n ≢ m → (if same_node n m then y else z) ≡ z
+else_node n m y z ne = ap (λ (b : Bool). if b then y else z) (no_node n m ne)
+
+---------------------------------------------------------------- a holder told
+
+pub holds-vals : (o : Option (Node × End)) (c : Cells) (x : End) → (holds o c).vals x ≡ c.vals x
+holds-vals None c x = refl
+holds-vals (Some p) c x = same_twice (same_node p.0 x.node) (c.vals x)
+
+pub holds-pairing : (o : Option (Node × End)) (c : Cells) (x : End) → (holds o c).pairing x ≡ c.pairing x
+holds-pairing None c x = refl
+holds-pairing (Some p) c x = same_twice (same_node p.0 x.node) (c.pairing x)
+
+pub holds-entered : (o : Option (Node × End)) (c : Cells) (m : Node) → (holds o c).entered m ≡ c.entered m
+holds-entered None c m = refl
+holds-entered (Some p) c m = same_twice (same_node p.0 m) (c.entered m)
+
+pub released-vals : (o : Option (Node × End)) (c : Cells) (x : End) → (released o c).vals x ≡ c.vals x
+released-vals None c x = refl
+released-vals (Some p) c x = same_twice (same_node p.0 x.node) (c.vals x)
+
+pub released-pairing : (o : Option (Node × End)) (c : Cells) (x : End) → (released o c).pairing x ≡ c.pairing x
+released-pairing None c x = refl
+released-pairing (Some p) c x = same_twice (same_node p.0 x.node) (c.pairing x)
+
+pub released-entered : (o : Option (Node × End)) (c : Cells) (m : Node) → (released o c).entered m ≡ c.entered m
+released-entered None c m = refl
+released-entered (Some p) c m = same_twice (same_node p.0 m) (c.entered m)

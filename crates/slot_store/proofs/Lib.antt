@@ -1,0 +1,14 @@
+pub mod RoomLemmas
+pub mod LinkLemmas
+pub mod StoreLemmas
+pub mod PositionLemmas
+pub mod StandLemmas
+pub mod CellEditLemmas
+pub mod TellingLemmas
+pub mod RebuiltLemmas
+pub mod KeptEndLemmas
+pub mod KeptHolderLemmas
+pub mod KeptEntryLemmas
+pub mod KeptEditLemmas
+pub mod ApplyLemmas
+pub mod EnteringLemmas

@@ -1,0 +1,120 @@
+-- Which lists have a value after an edit, and which ends stand among those that hold a node.
+use Rattle.std.proofs.Common.{◌≡◌, ◌≢◌, ℕ, zero, suc, ◌<◌, ◌≤◌, true, false, List, [], ◌∷◌, ◌++◌, length, not, Option, Some, if◌then◌else◌, refl, sym, ap, ◌∙◌, subst, inl, inr, arith}
+use Rattle.std.specs.Prelude.{◌⊎◌}
+use Rattle.std.specs.List.{slice_get, insert, remove, filter}
+use Rattle.std.proofs.lemmas.Bool.{false≢true, true≢false, cases_lt, cases_order, or_cases, or_left, or_right}
+use Rattle.std.proofs.lemmas.Option.{same_Some, slice_get_within}
+use Rattle.mm_types.specs.Lists.{put_back, shifted}
+use Rattle.mm_types.specs.Same.{same_end}
+use Rattle.mm_types.specs.declared.end.End.{End}
+use Rattle.mm_types.specs.declared.value.Value.{Value}
+use Rattle.mm_types.proofs.SameLemmas.{same_end-true, same_end-self}
+use Rattle.link_store.specs.Plans.{has_end}
+use Rattle.link_store.proofs.IncomingLemmas.{has_end_right, has_end_cases}
+use Rattle.link_store.proofs.ListLemmas.{insert_end_is, slice_get-insert_below, slice_get-insert_at, slice_get-insert_above, slice_get-remove_below, slice_get-remove_above, length_remove}
+use Rattle.slot_store.specs.CellLinks.{Stands}
+
+module _ (xs : List Value) (i : ℕ) (w : Value) (le : i ≤ length xs) where
+  pub Stands_insert_new : Stands (insert xs i w) w
+  Stands_insert_new = (i, slice_get-insert_at xs i w le)
+
+  pub Stands_insert_old : (v : Value) → Stands xs v → Stands (insert xs i w) v
+  Stands_insert_old v (k, h) = elim (cases_lt k i) [
+    | inl lt ↦ (k, slice_get-insert_below xs i k w lt le ∙ h)
+    | inr ge ↦ (suc k, slice_get-insert_above xs i k w (omega (arith, ge)) le ∙ h)
+  ]
+
+  pub Stands-insert : (v : Value) → Stands (insert xs i w) v → (v ≡ w) ⊎ Stands xs v
+  Stands-insert v (k, h) = elim (cases_order k i) [
+    | inl same ↦ inl (same_Some v w (sym h ∙ ap (λ (j : ℕ). slice_get (insert xs i w) j) same ∙ slice_get-insert_at xs i w le))
+    | inr (inl lt) ↦ inr (k, sym (slice_get-insert_below xs i k w lt le) ∙ h)
+    | inr (inr gt) ↦ inr (before k gt h)
+  ]
+    where
+      before : (k : ℕ) → i < k → slice_get (insert xs i w) k ≡ Some v → Stands xs v
+      before zero gt h = absurd (omega (arith, gt))
+      before (suc k) gt h = (k, sym (slice_get-insert_above xs i k w (omega (arith, gt)) le) ∙ h)
+
+pub Stands-push : (xs : List Value) (w v : Value) → Stands (xs ++ w ∷ []) v → (v ≡ w) ⊎ Stands xs v
+Stands-push xs w v h = Stands-insert xs (length xs) w (omega arith) v (subst (λ (ys : List Value). Stands ys v) (sym (insert_end_is xs w)) h)
+
+module _ (xs : List Value) (i : ℕ) where
+  pub Stands-remove : (v : Value) → Stands (remove xs i) v → Stands xs v
+  Stands-remove v (k, h) = elim (cases_lt k i) [
+    | inl lt ↦ (k, sym (slice_get-remove_below xs i k lt) ∙ h)
+    | inr ge ↦ (suc k, sym (slice_get-remove_above xs i k (omega (arith, ge))) ∙ h)
+  ]
+
+  pub Stands_remove_at : (v : Value) (k : ℕ) → k ≢ i → slice_get xs k ≡ Some v → Stands (remove xs i) v
+  Stands_remove_at v k ne h = elim (cases_order k i) [
+    | inl same ↦ absurd (ne same)
+    | inr (inl lt) ↦ (k, slice_get-remove_below xs i k lt ∙ h)
+    | inr (inr gt) ↦ after k gt h
+  ]
+    where
+      after : (k : ℕ) → i < k → slice_get xs k ≡ Some v → Stands (remove xs i) v
+      after zero gt h = absurd (omega (arith, gt))
+      after (suc k) gt h = (k, slice_get-remove_above xs i k (omega (arith, gt)) ∙ h)
+
+  pub Stands_remove : (v w : Value) → slice_get xs i ≡ Some w → v ≢ w → Stands xs v → Stands (remove xs i) v
+  Stands_remove v w at ne (k, h) = Stands_remove_at v k (λ same. ne (same_Some v w (sym h ∙ ap (λ (j : ℕ). slice_get xs j) same ∙ at))) h
+
+-- a shift keeps what stands in the list
+module _ (xs : List Value) (to from : ℕ) (w : Value) (at : slice_get xs from ≡ Some w) (lt : to < length xs) where
+  fits : to ≤ length (remove xs from)
+  fits = omega (arith, lt, length_remove xs from (slice_get_within xs from w at))
+
+  is : shifted xs to from ≡ insert (remove xs from) to w
+  is = ap (λ (o : Option Value). put_back o xs to from) at
+
+  pub Stands-shifted : (v : Value) → Stands (shifted xs to from) v → Stands xs v
+  Stands-shifted v h = elim (Stands-insert (remove xs from) to w fits v (subst (λ (ys : List Value). Stands ys v) is h)) [
+    | inl same ↦ (from, at ∙ ap Some (sym same))
+    | inr old ↦ Stands-remove xs from v old
+  ]
+
+  pub Stands_shifted : (v : Value) → Stands xs v → Stands (shifted xs to from) v
+  Stands_shifted v (k, h) = subst (λ (ys : List Value). Stands ys v) (sym is) (elim (cases_order k from) [
+    | inl same ↦ subst (λ (x : Value). Stands (insert (remove xs from) to w) x) (same_Some w v (sym at ∙ ap (λ (j : ℕ). slice_get xs j) (sym same) ∙ h)) (Stands_insert_new (remove xs from) to w fits)
+    | inr (inl below) ↦ Stands_insert_old (remove xs from) to w fits v (Stands_remove_at xs from v k (λ same. omega (arith, same, below)) h)
+    | inr (inr above) ↦ Stands_insert_old (remove xs from) to w fits v (Stands_remove_at xs from v k (λ same. omega (arith, same, above)) h)
+  ])
+
+---------------------------------------------------------------- ends
+
+pub has_end_new : (ds : List End) (d : End) → has_end (ds ++ d ∷ []) d ≡ true
+has_end_new ds d = has_end_right ds (d ∷ []) d (or_left _ _ (same_end-self d))
+
+pub has_end-push : (ds : List End) (d x : End) → has_end (ds ++ d ∷ []) x ≡ true → (has_end ds x ≡ true) ⊎ (d ≡ x)
+has_end-push ds d x h = elim (has_end_cases ds (d ∷ []) x h) [
+  | inl old ↦ inl old
+  | inr new ↦ elim (or_cases (same_end d x) false new) [ inl is ↦ inr (same_end-true d x is) | inr f ↦ absurd (false≢true f) ]
+]
+
+abbrev pub others : End → List End → List End
+others d ds = filter (λ x. not (same_end x d)) ds
+
+pub has_end-others : (ds : List End) (d x : End) → has_end (others d ds) x ≡ true → (has_end ds x ≡ true) × (d ≢ x)
+has_end-others [] d x h = absurd (false≢true h)
+has_end-others (y ∷ ds) d x h =
+    elim (same_end y d) as (λ b. same_end y d ≡ b → has_end (if not b then y ∷ others d ds else others d ds) x ≡ true → (has_end (y ∷ ds) x ≡ true) × (d ≢ x)) [
+      | true ↦ λ q g. let r = has_end-others ds d x g in (or_right _ _ r.0, r.1)
+      | false ↦ λ q g. elim (or_cases (same_end y x) (has_end (others d ds) x) g) [
+        | inl is ↦ (or_left _ _ is, λ same. true≢false (sym (subst (λ (z : End). same_end y z ≡ true) (sym same) is) ∙ q))
+        | inr later ↦ let r = has_end-others ds d x later in (or_right _ _ r.0, r.1)
+      ]
+    ] refl h
+
+pub has_end_others : (ds : List End) (d x : End) → d ≢ x → has_end ds x ≡ true → has_end (others d ds) x ≡ true
+has_end_others [] d x ne h = absurd (false≢true h)
+has_end_others (y ∷ ds) d x ne h =
+    elim (same_end y d) as (λ b. same_end y d ≡ b → has_end (if not b then y ∷ others d ds else others d ds) x ≡ true) [
+      | true ↦ λ q. elim (or_cases (same_end y x) (has_end ds x) h) [
+        | inl is ↦ absurd (ne (sym (same_end-true y d q) ∙ same_end-true y x is))
+        | inr later ↦ has_end_others ds d x ne later
+      ]
+      | false ↦ λ q. elim (or_cases (same_end y x) (has_end ds x) h) [
+        | inl is ↦ or_left _ _ is
+        | inr later ↦ or_right _ _ (has_end_others ds d x ne later)
+      ]
+    ] refl

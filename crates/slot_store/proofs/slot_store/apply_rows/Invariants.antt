@@ -1,0 +1,19 @@
+use Rattle.std.proofs.Common.{◌≡◌}
+use Rattle.std.specs.Vec.Iter.{into_iter_items}
+use Rattle.link_store.specs.Plans.{HasPlanOfKind, PlanFits, applied}
+use Rattle.node_rows.specs.Cells.{room}
+use Rattle.node_rows.specs.Growth.{HasRoom}
+use Rattle.slot_store.specs.CellLinks.{IsStore, IsStoreOfKind, store_links}
+use Rattle.slot_store.proofs.slot_store.apply_rows.Given as goal
+
+-- the edits that are left fit, have room, and make what all make
+abbrev pub invariant-loop-edit : goal.invariant-loop-edit
+invariant-loop-edit l = record {
+  can : (goal.iterator-loop-edit).can_next l.edit-iterator;
+  ends : (goal.iterator-loop-edit).is_finite l.edit-iterator;
+  kept : ∥ IsStore l.rows ∥₁;
+  fits : PlanFits (store_links l.rows) (into_iter_items l.edit-iterator);
+  kind : HasPlanOfKind (IsStoreOfKind l.rows) (into_iter_items l.edit-iterator);
+  room : HasRoom (room l.rows) (into_iter_items l.edit-iterator);
+  rest : applied (store_links l.rows) (into_iter_items l.edit-iterator) ≡ applied (store_links l.fn.rows) l.fn.plan;
+}

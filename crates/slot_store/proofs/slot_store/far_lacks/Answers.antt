@@ -1,0 +1,16 @@
+use Rattle.std.proofs.Common.{◌∙◌, sym, ap}
+use Rattle.std.specs.List.{position}
+use Rattle.mm_types.specs.Same.{same_value}
+use Rattle.mm_types.specs.declared.value.Value.{Value}
+use Rattle.link_store.specs.Links.{far_end}
+use Rattle.node_rows.specs.Cells.{cells}
+use Rattle.slot_store.proofs.PositionLemmas.{none_of}
+use Rattle.slot_store.proofs.StoreLemmas.{far_absent}
+use Rattle.slot_store.proofs.slot_store.far_lacks.Goals as goal
+
+pub returns-then-len : goal.returns-then-len
+returns-then-len c = λ lacks at.
+    let t = c.args.rows.now in
+    let g = c.in-Some.feature in
+    let found = c.position.ensures ∙ ap (λ (v : Value). position (same_value v) ((cells t).vals (far_end c.args.object g))) c.value_of.ensures in
+    far_absent t c.requires c.args.end c.args.object g ((λ i. (sym c.pairing.ensures i).opposite) ∙ c.in-Some.is) (sym found ∙ none_of c.position.result c.is_none.result c.is_none.ensures lacks) at

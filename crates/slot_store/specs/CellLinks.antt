@@ -1,0 +1,95 @@
+-- The links that lists at both ends stand for, and when lists, holders and entries tie up.
+use Rattle.std.specs.Prelude.{◌≡◌, ◌↔◌, ℕ, zero, suc, ◌≤◌, true, List, [], ◌∷◌, ◌++◌, length, slice_get, Option, Some, None}
+use Rattle.std.specs.FinSet as set
+use Rattle.mm_types.specs.Ends.{index_in}
+use Rattle.mm_types.specs.Same.{node_value}
+use Rattle.mm_types.specs.declared.numbers.FeatureNo.{FeatureNo}
+use Rattle.mm_types.specs.declared.numbers.Node.{Node}
+use Rattle.mm_types.specs.declared.numbers.Node.TheVariants as node
+use Rattle.mm_types.specs.declared.numbers.ObjectNo.{ObjectNo}
+use Rattle.mm_types.specs.declared.end.End.{End}
+use Rattle.mm_types.specs.declared.value.Value.{Value}
+use Rattle.mm_types.specs.declared.value.Value.TheVariants as value
+use Rattle.link_store.specs.declared.link.Far.TheVariants.{Alone, Proxy}
+use Rattle.link_store.specs.declared.link.Link.{Link}
+use Rattle.link_store.specs.Holders.{holder}
+use Rattle.link_store.specs.LegalSets.{AreKinds, AreOfKind, IsDistinct, IsHeldOnce, IsObject, Kinds, most}
+use Rattle.link_store.specs.Links.{Links, far_end, joined}
+use Rattle.link_store.specs.Plans.{has_end}
+use Rattle.node_rows.specs.declared.node_rows.NodeRows.{NodeRows}
+use Rattle.node_rows.specs.Cells.{Cells, HasKeys, cells, ends_of}
+
+---------------------------------------------------------------- links
+
+-- the link of an object at k in e, where g is the opposite: its far position is where the far list has e's node
+abbrev pub link_to : Cells → End → ℕ → ObjectNo → Option FeatureNo → Link
+link_to c e k o None = record { end = e; index = k; far = Alone o; container = (c.pairing e).container }
+link_to c e k o (Some g) = joined e k (far_end o g) (index_in (c.vals (far_end o g)) (node_value e.node)) (c.pairing e).container
+
+-- the link of a value at k in e; only objects and proxies stand in an end
+abbrev pub link_from : Cells → End → ℕ → Value → Link
+link_from c e k (value.Object o) = link_to c e k o (c.pairing e).opposite
+link_from c e k (value.Proxy t) = record { end = e; index = k; far = Proxy t; container = None }
+link_from c e k _ = record { end = e; index = k; far = Proxy []; container = None }
+
+abbrev pub links_from : Cells → End → ℕ → List Value → List Link
+links_from c e k [] = []
+links_from c e k (v ∷ vs) = link_from c e k v ∷ links_from c e (suc k) vs
+
+abbrev pub all_links : Cells → List End → List Link
+all_links c [] = []
+all_links c (e ∷ es) = links_from c e zero (c.vals e) ++ all_links c es
+
+-- the links that the lists at the ends es stand for
+abbrev pub cell_links : Cells → List End → Links
+cell_links c es = set.from_list (all_links c es)
+
+---------------------------------------------------------------- the invariant
+
+abbrev pub Stands : List Value → Value → Type 0
+Stands vs v = (k : ℕ) × (slice_get vs k ≡ Some v)
+
+abbrev pub IsReference : Value → Type 0
+IsReference (value.Object o) = Unit {0}
+IsReference (value.Proxy t) = Unit {0}
+IsReference _ = ⊥
+
+-- the far end of e's link to an object has e's node, and says of the pair what e says
+pub record IsMutual (c : Cells) (e : End) (o : ObjectNo) (g : FeatureNo) : Type 0 where
+  pub apart : (g.0 ≡ e.feature.0) → ⊥
+  pub object : IsObject e.node
+  pub back : Stands (c.vals (far_end o g)) (node_value e.node)
+  pub opposite : (c.pairing (far_end o g)).opposite ≡ Some e.feature
+  pub container : (c.pairing (far_end o g)).container ≡ (c.pairing e).container
+
+-- lists of objects and proxies, each object of a paired feature at both ends
+pub record AreLists (c : Cells) (es : List End) : Type 0 where
+  pub keys : HasKeys c es
+  pub references : (e : End) (k : ℕ) (v : Value) → slice_get (c.vals e) k ≡ Some v → IsReference v
+  pub mutual_ : (e : End) (k : ℕ) (o : ObjectNo) (g : FeatureNo) → slice_get (c.vals e) k ≡ Some (value.Object o) → (c.pairing e).opposite ≡ Some g → IsMutual c e o g
+  pub distinct : (e : End) → IsDistinct (c.vals e)
+  pub few : (e : End) → length (c.vals e) ≤ most
+
+-- the object stands in e, which has no opposite
+abbrev pub StandsAlone : Cells → ObjectNo → End → Type 0
+StandsAlone c o e = ((c.pairing e).opposite ≡ None) × Stands (c.vals e) (value.Object o)
+
+-- lists, the holders that the links tell, and for each object the ends with no opposite that have it
+pub record IsKept (c : Cells) (es : List End) : Type 0 where
+  pub lists : AreLists c es
+  pub held : IsHeldOnce (cell_links c es)
+  pub holds : (n : Node) → c.hold n ≡ holder (cell_links c es) n
+  pub entered : (o : ObjectNo) (e : End) → (has_end (c.entered (node.Object o)) e ≡ true) ↔ StandsAlone c o e
+
+---------------------------------------------------------------- of rows
+
+abbrev pub IsStore : NodeRows → Type 0
+IsStore t = IsKept (cells t) (ends_of t)
+
+-- the set of links that the rows stand for
+unfoldable pub store_links : NodeRows → Links
+store_links t = cell_links (cells t) (ends_of t)
+
+-- the links are of the kinds that a metamodel's features have
+abbrev pub IsStoreOfKind : NodeRows → Kinds → Type 0
+IsStoreOfKind t m = AreKinds m × AreOfKind m (store_links t)

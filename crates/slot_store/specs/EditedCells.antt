@@ -1,0 +1,87 @@
+-- What each edit of links makes of the cells.
+use Rattle.std.specs.Prelude.{◌≡◌, ℕ, ◌+◌, ◌≤◌, true, position, Option, Some, None, if◌then◌else◌}
+use Rattle.std.specs.Option.{option_map_or}
+use Rattle.mm_types.specs.Same.{node_value, same_feature, same_value}
+use Rattle.mm_types.specs.declared.numbers.FeatureNo.{FeatureNo}
+use Rattle.mm_types.specs.declared.numbers.Node.{Node}
+use Rattle.mm_types.specs.declared.numbers.Node.TheVariants as node
+use Rattle.mm_types.specs.declared.numbers.ObjectNo.{ObjectNo}
+use Rattle.mm_types.specs.declared.end.End.{End}
+use Rattle.mm_types.specs.declared.value.Value.{Value}
+use Rattle.mm_types.specs.declared.value.Value.TheVariants as value
+use Rattle.link_store.specs.declared.plan.Edit.{Edit}
+use Rattle.link_store.specs.declared.plan.Edit.TheVariants as edit
+use Rattle.link_store.specs.Links.{far_end}
+use Rattle.node_rows.specs.declared.slot.Pairing.{Pairing}
+use Rattle.node_rows.specs.declared.slot.SlotEdit.TheVariants.{Insert, Push, Remove, Move}
+use Rattle.node_rows.specs.declared.row.RowEdit.TheVariants.{Change, Hold, Enter, Leave}
+use Rattle.node_rows.specs.Cells.{Cells, Room, cell_edit}
+
+-- the far end of a link from e to an object, where its feature g is the containing one, h: it contains e's node
+abbrev pub held_far : End → ObjectNo → Option FeatureNo → FeatureNo → Option (Node × End)
+held_far e o None h = None
+held_far e o (Some g) h = if same_feature g h then Some (e.node, far_end o g) else None
+
+-- what a link from e to an object contains, and by which end, where g is the opposite and h the containing feature of the pair
+abbrev pub held : End → ObjectNo → Option FeatureNo → Option FeatureNo → Option (Node × End)
+held e o g None = None
+held e o g (Some h) = if same_feature e.feature h then Some (node.Object o, e) else held_far e o g h
+
+abbrev pub holds : Option (Node × End) → Cells → Cells
+holds None c = c
+holds (Some p) c = cell_edit p.0 (Hold (Some p.1)) c
+
+abbrev pub released : Option (Node × End) → Cells → Cells
+released None c = c
+released (Some p) c = cell_edit p.0 (Hold None) c
+
+---------------------------------------------------------------- puts
+
+-- the far side of a put: the opposite end gains last, or the object is entered
+abbrev pub put_far : End → ObjectNo → Option FeatureNo → Option FeatureNo → Cells → Cells
+put_far e o None h c = cell_edit (node.Object o) (Enter e) c
+put_far e o (Some g) h c = cell_edit (node.Object o) (Change g (Push (node_value e.node) (record { opposite = Some e.feature; container = h }))) c
+
+abbrev pub put_near : End → ℕ → Value → Option Pairing → Cells → Cells
+put_near e i v p c = cell_edit e.node (Change e.feature (Insert i v p)) c
+
+abbrev pub put_cells : End → ℕ → ObjectNo → Option FeatureNo → Option FeatureNo → Cells → Cells
+put_cells e i o g h c = holds (held e o g h) (put_far e o g h (put_near e i (value.Object o) (Some (record { opposite = g; container = h })) c))
+
+---------------------------------------------------------------- cuts
+
+-- the first of a value is taken out of an end, where it is there
+abbrev pub without_value : End → Value → Cells → Cells
+without_value e v c = option_map_or (λ (i : ℕ). cell_edit e.node (Change e.feature (Remove i)) c) (position (same_value v) (c.vals e)) c
+
+abbrev pub cut_far : End → ObjectNo → Option FeatureNo → Cells → Cells
+cut_far e o None c = cell_edit (node.Object o) (Leave e) c
+cut_far e o (Some g) c = without_value (far_end o g) (node_value e.node) c
+
+abbrev pub cut_cells : End → ObjectNo → Option FeatureNo → Option FeatureNo → Cells → Cells
+cut_cells e o g h c = released (held e o g h) (without_value e (value.Object o) (cut_far e o g c))
+
+---------------------------------------------------------------- edits
+
+abbrev pub cells_after : Edit → Cells → Cells
+cells_after (edit.Cut e o) c = cut_cells e o (c.pairing e).opposite (c.pairing e).container c
+cells_after (edit.Put e i o g h) c = put_cells e i o g h c
+cells_after (edit.Shift e to from) c = cell_edit e.node (Change e.feature (Move to from)) c
+cells_after (edit.PutProxy e i t) c = put_near e i (value.Proxy t) None c
+cells_after (edit.CutProxy e t) c = without_value e (value.Proxy t) c
+
+-- no place is lost but so many for values, and so many for ends that hold a node
+pub record TakesAtMost (values : End → ℕ) (ends : Node → ℕ) (old new : Room) : Type 0 where
+  pub places : (e : End) → old.places e ≤ new.places e + values e
+  pub entries : (n : Node) → old.entries n ≤ new.entries n + ends n
+  pub rows : (n : Node) → new.rows n ≡ old.rows n
+
+-- the far side has a place
+abbrev pub FarHasRoom : ObjectNo → Option FeatureNo → Room → Type 0
+FarHasRoom o None r = 1 ≤ r.entries (node.Object o)
+FarHasRoom o (Some g) r = 1 ≤ r.places (far_end o g)
+
+-- what becomes contained has a row
+abbrev pub HasHeldRow : Option (Node × End) → Room → Type 0
+HasHeldRow None r = Unit {0}
+HasHeldRow (Some p) r = r.rows p.0 ≡ true

@@ -1,0 +1,47 @@
+-- The ends that have an object, as its own lists and the entries tell them, and where it stands in each.
+use Rattle.std.specs.Prelude.{ℕ, ◌≤◌, List, [], ◌∷◌, ◌++◌, length, position, Option, Some, None}
+use Rattle.mm_types.specs.Same.{same_value}
+use Rattle.mm_types.specs.declared.numbers.FeatureNo.{FeatureNo}
+use Rattle.mm_types.specs.declared.numbers.Node.TheVariants as node
+use Rattle.mm_types.specs.declared.numbers.ObjectNo.{ObjectNo}
+use Rattle.mm_types.specs.declared.end.End.{End}
+use Rattle.mm_types.specs.declared.value.Value.{Value}
+use Rattle.mm_types.specs.declared.value.Value.TheVariants as value
+use Rattle.link_store.specs.LegalSets.{most}
+use Rattle.link_store.specs.Links.{far_end}
+use Rattle.node_rows.specs.declared.slot.Slot.{Slot}
+use Rattle.node_rows.specs.Cells.{Cells}
+
+-- the end of a feature at an object's node; of no other value
+abbrev pub far_of : FeatureNo → Option Value → List End
+far_of f (Some (value.Object o)) = far_end o f ∷ []
+far_of f _ = []
+
+abbrev pub far_ends : FeatureNo → List Value → List End
+far_ends f [] = []
+far_ends f (v ∷ vs) = far_of f (Some v) ++ far_ends f vs
+
+abbrev pub far_ends_of : Option FeatureNo → List Value → List End
+far_ends_of None vs = []
+far_ends_of (Some f) vs = far_ends f vs
+
+-- the far ends of the links of an end, where its feature has an opposite
+abbrev pub ends_at : Cells → End → List End
+ends_at c e = far_ends_of (c.pairing e).opposite (c.vals e)
+
+-- the far ends of the links of an object's features
+abbrev pub paired_ends : Cells → ObjectNo → List Slot → List End
+paired_ends c o [] = []
+paired_ends c o (s ∷ ss) = ends_at c (far_end o s.feature) ++ paired_ends c o ss
+
+-- the ends that have the object, whose slots are given
+abbrev pub entering_ends : Cells → ObjectNo → List Slot → List End
+entering_ends c o ss = paired_ends c o ss ++ c.entered (node.Object o)
+
+-- the first index of a value in an end
+abbrev pub found_in : Cells → Value → End → Option ℕ
+found_in c v e = position (same_value v) (c.vals e)
+
+-- each list has so few values that an index fits a position
+abbrev pub AreFew : Cells → Type 0
+AreFew c = (e : End) → length (c.vals e) ≤ most

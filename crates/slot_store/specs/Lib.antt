@@ -1,0 +1,3 @@
+pub mod EditedCells
+pub mod CellLinks
+pub mod Entering

@@ -1,0 +1,208 @@
+//! Edits of links in the rows of nodes.
+ghost use Rattle.std.specs.Prelude.{◌≡◌, ◌≤◌, ◌∷◌, []};
+ghost use Rattle.mm_types.specs.Same.{node_value, same_end};
+ghost use Rattle.node_rows.specs.Cells.{cells, room};
+ghost use Rattle.node_rows.specs.Growth.{HasRoom, entry, far_gain, gain, lone_entry, no_ends, no_values, one_if};
+ghost use Rattle.link_store.specs.declared.plan.Edit.TheVariants as edit;
+ghost use Rattle.slot_store.specs.EditedCells.{FarHasRoom, HasHeldRow, TakesAtMost, cells_after, cut_far, held, held_far, holds, put_cells, put_far, put_near, released, without_value};
+
+use link_store::Edit;
+use mm_types::{End, FeatureNo, Node, ObjectNo, Value};
+use node_rows::{NodeRows, Pairing, RowEdit, SlotEdit};
+
+// A node as a value: no end has a resource.
+pub(crate) fn value_of(node: Node) -> Value
+    ensures { result ≡ node_value node }
+{
+    match node {
+        Node::Object(object) => Value::Object(object),
+        Node::Resource(_) => Value::Null,
+    }
+}
+
+// Where the far feature of a link is the containing one: the near node, and the end that contains it.
+fn held_by_far(
+    end: End,
+    object: ObjectNo,
+    opposite: Option<FeatureNo>,
+    container: FeatureNo,
+) -> Option<(Node, End)>
+    ensures { result ≡ held_far end object opposite container }
+{
+    let feature = opposite?;
+    if feature != container {
+        return None;
+    }
+    let far = End {
+        node: Node::Object(object),
+        feature,
+    };
+    Some((end.node, far))
+}
+
+// What a link from an end to an object contains, and by which end.
+fn held_by(end: End, object: ObjectNo, pairing: Pairing) -> Option<(Node, End)>
+    ensures { result ≡ held end object pairing.opposite pairing.container }
+{
+    let container = pairing.container?;
+    if end.feature == container {
+        return Some((Node::Object(object), end));
+    }
+    held_by_far(end, object, pairing.opposite, container)
+}
+
+// Takes a value out of an end, where it is there.
+fn take_out(rows: &mut NodeRows, end: End, value: &Value)
+    ensures cells { cells rows.new ≡ without_value end value.now (cells rows.old) }
+    ensures room { TakesAtMost no_values no_ends (room rows.old) (room rows.new) }
+{
+    if let Some(index) = rows.position(end, value) {
+        rows.edit(
+            end.node,
+            RowEdit::Change(end.feature, SlotEdit::Remove { index }),
+        );
+    }
+}
+
+// Takes a link out of its far side.
+fn take_out_far(rows: &mut NodeRows, end: End, object: ObjectNo, opposite: Option<FeatureNo>)
+    ensures cells { cells rows.new ≡ cut_far end object opposite (cells rows.old) }
+    ensures room { TakesAtMost no_values no_ends (room rows.old) (room rows.new) }
+{
+    let node = Node::Object(object);
+    match opposite {
+        Some(feature) => take_out(rows, End { node, feature }, &value_of(end.node)),
+        None => rows.edit(node, RowEdit::Leave(end)),
+    }
+}
+
+// Tells a node that nothing contains it.
+fn release(rows: &mut NodeRows, pair: Option<(Node, End)>)
+    ensures cells { cells rows.new ≡ released pair (cells rows.old) }
+    ensures room { TakesAtMost no_values no_ends (room rows.old) (room rows.new) }
+{
+    if let Some((node, _)) = pair {
+        rows.edit(node, RowEdit::Hold(None));
+    }
+}
+
+// Cuts the link of an object in an end: what stands at the far side goes first, since it is found by the end.
+fn cut(rows: &mut NodeRows, end: End, object: ObjectNo)
+    ensures cells { cells rows.new ≡ cells_after (edit.Cut end object) (cells rows.old) }
+    ensures room { TakesAtMost no_values no_ends (room rows.old) (room rows.new) }
+{
+    let pairing = rows.pairing(end);
+    take_out_far(rows, end, object, pairing.opposite);
+    take_out(rows, end, &Value::Object(object));
+    release(rows, held_by(end, object, pairing));
+}
+
+// Tells a node the end that contains it.
+fn hold(rows: &mut NodeRows, pair: Option<(Node, End)>)
+    requires { HasHeldRow pair (room rows.old) }
+    ensures cells { cells rows.new ≡ holds pair (cells rows.old) }
+    ensures room { TakesAtMost no_values no_ends (room rows.old) (room rows.new) }
+{
+    if let Some((node, end)) = pair {
+        rows.edit(node, RowEdit::Hold(Some(end)));
+    }
+}
+
+// Puts a link in at its far side.
+fn put_in_far(
+    rows: &mut NodeRows,
+    end: End,
+    object: ObjectNo,
+    opposite: Option<FeatureNo>,
+    container: Option<FeatureNo>,
+)
+    requires { FarHasRoom object opposite (room rows.old) }
+    ensures cells { cells rows.new ≡ put_far end object opposite container (cells rows.old) }
+    ensures room { TakesAtMost (far_gain object opposite) (lone_entry object opposite) (room rows.old) (room rows.new) }
+{
+    let node = Node::Object(object);
+    match opposite {
+        Some(feature) => {
+            let pairing = Pairing {
+                opposite: Some(end.feature),
+                container,
+            };
+            let value = value_of(end.node);
+            rows.edit(
+                node,
+                RowEdit::Change(feature, SlotEdit::Push { value, pairing }),
+            );
+        }
+        None => rows.edit(node, RowEdit::Enter(end)),
+    }
+}
+
+// Puts a value in at an index of an end; a put of an object tells of the feature.
+fn put_in(rows: &mut NodeRows, end: End, index: u32, value: Value, pairing: Option<Pairing>)
+    requires { 1 ≤ (room rows.old).places end }
+    ensures cells { cells rows.new ≡ put_near end index value pairing (cells rows.old) }
+    ensures room { TakesAtMost (λ e. one_if (same_end end e)) no_ends (room rows.old) (room rows.new) }
+{
+    let edit = SlotEdit::Insert {
+        index: index as usize,
+        value,
+        pairing,
+    };
+    rows.edit(end.node, RowEdit::Change(end.feature, edit));
+}
+
+// Puts the link of an object in.
+fn put(
+    rows: &mut NodeRows,
+    end: End,
+    index: u32,
+    object: ObjectNo,
+    opposite: Option<FeatureNo>,
+    container: Option<FeatureNo>,
+)
+    requires room { HasRoom (room rows.old) (edit.Put end index object opposite container ∷ []) }
+    requires held { HasHeldRow (held end object opposite container) (room rows.old) }
+    ensures cells { cells rows.new ≡ put_cells end index object opposite container (cells rows.old) }
+    ensures room { TakesAtMost (λ e. gain e (edit.Put end index object opposite container)) (λ n. entry n (edit.Put end index object opposite container)) (room rows.old) (room rows.new) }
+{
+    let pairing = Pairing {
+        opposite,
+        container,
+    };
+    put_in(rows, end, index, Value::Object(object), Some(pairing));
+    put_in_far(rows, end, object, opposite, container);
+    hold(rows, held_by(end, object, pairing));
+}
+
+// Moves what stands at an index of an end.
+fn shift(rows: &mut NodeRows, end: End, to: u32, from: u32)
+    ensures cells { cells rows.new ≡ cells_after (edit.Shift end to from) (cells rows.old) }
+    ensures room { TakesAtMost no_values no_ends (room rows.old) (room rows.new) }
+{
+    let edit = SlotEdit::Move {
+        to: to as usize,
+        from: from as usize,
+    };
+    rows.edit(end.node, RowEdit::Change(end.feature, edit));
+}
+
+/// Makes one edit, for which there is room. Takes no memory.
+pub(crate) fn edit_rows(rows: &mut NodeRows, edit: Edit)
+    requires { HasRoom (room rows.old) (edit ∷ []) }
+    ensures cells { cells rows.new ≡ cells_after edit (cells rows.old) }
+    ensures room { TakesAtMost (λ e. gain e edit) (λ n. entry n edit) (room rows.old) (room rows.new) }
+{
+    match edit {
+        Edit::Cut { end, object } => cut(rows, end, object),
+        Edit::Put {
+            end,
+            index,
+            object,
+            opposite,
+            container,
+        } => put(rows, end, index, object, opposite, container),
+        Edit::Shift { end, to, from } => shift(rows, end, to, from),
+        Edit::PutProxy { end, index, text } => put_in(rows, end, index, Value::Proxy(text), None),
+        Edit::CutProxy { end, text } => take_out(rows, end, &Value::Proxy(text)),
+    }
+}

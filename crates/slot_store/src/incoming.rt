@@ -1,0 +1,122 @@
+//! Where an object stands, read off its own lists and the ends that are kept of it.
+ghost use Rattle.std.specs.Prelude.{◌≡◌, ◌++◌, IfOk, OnOk};
+ghost use Rattle.std.specs.Option.{option_copied};
+ghost use Rattle.mm_types.specs.declared.numbers.Node.TheVariants as node;
+ghost use Rattle.link_store.specs.Rows.{place_if, places_by};
+ghost use Rattle.node_rows.specs.Cells.{cells, row_at};
+ghost use Rattle.node_rows.specs.Rows.{row_slots};
+ghost use Rattle.slot_store.specs.Entering.{AreFew, ends_at, entering_ends, far_ends, far_of, found_in, paired_ends};
+
+use link_store::Incoming;
+use mm_types::{End, FeatureNo, Node, ObjectNo, Value};
+use node_rows::{NodeRows, Slot};
+use std::alloc::{AllocError, Global};
+
+// Adds the end of a feature at an object's node; of no other value.
+fn push_far(value: Option<&Value>, feature: FeatureNo, out: &mut Vec<End>) -> Result<(), AllocError>
+    ensures { OnOk result (out.new.items ≡ out.old.items ++ far_of feature (option_copied value.entry)) }
+{
+    if let Some(Value::Object(object)) = value {
+        out.push(End {
+            node: Node::Object(*object),
+            feature,
+        })?;
+    }
+    Ok(())
+}
+
+// Adds the ends of a feature at the objects of an end.
+fn push_far_ends(
+    rows: &NodeRows,
+    end: End,
+    feature: FeatureNo,
+    out: &mut Vec<End>,
+) -> Result<(), AllocError>
+    ensures { OnOk result (out.new.items ≡ out.old.items ++ far_ends feature ((cells rows.now).vals end)) }
+{
+    for index in 0..rows.len(end) {
+        push_far(rows.at(end, index), feature, out)?;
+    }
+    Ok(())
+}
+
+// Adds the far ends of the links of an end, where its feature has an opposite.
+fn push_ends(rows: &NodeRows, end: End, out: &mut Vec<End>) -> Result<(), AllocError>
+    ensures { OnOk result (out.new.items ≡ out.old.items ++ ends_at (cells rows.now) end) }
+{
+    match rows.pairing(end).opposite {
+        Some(feature) => push_far_ends(rows, end, feature, out),
+        None => Ok(()),
+    }
+}
+
+// Adds the far ends of the links of an object's features.
+fn push_paired(
+    rows: &NodeRows,
+    object: ObjectNo,
+    slots: &[Slot],
+    out: &mut Vec<End>,
+) -> Result<(), AllocError>
+    ensures { OnOk result (out.new.items ≡ out.old.items ++ paired_ends (cells rows.now) object slots.now) }
+{
+    for slot in slots {
+        let end = End {
+            node: Node::Object(object),
+            feature: slot.feature,
+        };
+        push_ends(rows, end, out)?;
+    }
+    Ok(())
+}
+
+/// The ends that have an object, in no order.
+pub(crate) fn entering(
+    alloc: Global,
+    rows: &NodeRows,
+    object: ObjectNo,
+) -> Result<Vec<End>, AllocError>
+    ensures { IfOk result (λ r. r.items ≡ entering_ends (cells rows.now) object (row_slots (row_at rows.now (node.Object object)))) }
+{
+    let node = Node::Object(object);
+    let mut out = Vec::new(alloc);
+    push_paired(rows, object, rows.slots(node), &mut out)?;
+    out.extend_from_slice(rows.entered(node))?;
+    Ok(out)
+}
+
+// Adds the position of a value in an end, where it has it.
+fn push_place(
+    rows: &NodeRows,
+    end: End,
+    value: &Value,
+    out: &mut Vec<Incoming>,
+) -> Result<(), AllocError>
+    requires { AreFew (cells rows.now) }
+    ensures { OnOk result (out.new.items ≡ out.old.items ++ place_if end (found_in (cells rows.now) value.now end)) }
+{
+    if let Some(index) = rows.position(end, value) {
+        out.push(Incoming {
+            feature: end.feature,
+            node: end.node,
+            position: index as u32,
+        })?;
+    }
+    Ok(())
+}
+
+/// The position of a value in each of some ends that has it.
+pub(crate) fn places_of(
+    alloc: Global,
+    rows: &NodeRows,
+    ends: &[End],
+    value: &Value,
+) -> Result<Vec<Incoming>, AllocError>
+    requires { AreFew (cells rows.now) }
+    ensures { IfOk result (λ r. r.items ≡ places_by (found_in (cells rows.now) value.now) ends.now) }
+{
+    let mut out = Vec::new(alloc);
+    for end in ends {
+        push_place(rows, *end, value, &mut out)?;
+    }
+    Ok(out)
+}

@@ -1,0 +1,127 @@
+//! The store of lists.
+ghost use Rattle.std.specs.Prelude.{◌≡◌, true, option_and_then};
+ghost use Rattle.std.specs.Option.{option_copied};
+ghost use Rattle.mm_types.specs.declared.value.Value.TheVariants as value;
+ghost use Rattle.link_store.specs.Links.{object_of, text_of};
+ghost use Rattle.link_store.specs.Plans.{HasPlanOfKind, PlanFits, applied};
+ghost use Rattle.node_rows.specs.Cells.{cells, room};
+ghost use Rattle.node_rows.specs.Growth.{HasRoom};
+ghost use Rattle.slot_store.specs.CellLinks.{IsStore, IsStoreOfKind, Stands, store_links};
+
+use crate::edits::{edit_rows, value_of};
+use crate::incoming::{entering, places_of};
+use link_store::{Incoming, LinkStore, Plan, ordered};
+use mm_types::{End, Node, ObjectNo, Value};
+use node_rows::NodeRows;
+use std::alloc::{AllocError, Global};
+
+/// Links as lists at both their ends, with the end that contains each node. What an end has, and what contains a node, is
+/// read where it stands, however many links there are.
+#[derive(Drop)]
+pub struct SlotStore {
+    rows: NodeRows,
+    ghost kept: { ∥ IsStore rows ∥₁ },
+}
+
+impl LinkStore for SlotStore {
+    ghost links = { λ s. store_links s.rows };
+
+    ghost kinds = { λ s m. IsStoreOfKind s.rows m };
+
+    ghost has_room = { λ s plan. HasRoom (room s.rows) plan };
+
+    fn empty(alloc: Global) -> Self {
+        SlotStore {
+            rows: NodeRows::new(alloc),
+        }
+    }
+
+    fn len(&self, end: End) -> usize {
+        self.rows.len(end)
+    }
+
+    fn at(&self, end: End, index: u32) -> Option<ObjectNo> {
+        object_of(self.rows.at(end, index as usize))
+    }
+
+    fn proxy_at(&self, end: End, index: u32) -> Option<&str> {
+        text_of(self.rows.at(end, index as usize))
+    }
+
+    fn position(&self, end: End, object: ObjectNo) -> Option<u32> {
+        if far_lacks(&self.rows, end, object) {
+            return None;
+        }
+        match self.rows.position(end, &Value::Object(object)) {
+            Some(index) => Some(index as u32),
+            None => None,
+        }
+    }
+
+    fn holder(&self, object: ObjectNo) -> Option<End> {
+        self.rows.holder(Node::Object(object))
+    }
+
+    fn incoming(&self, alloc: Global, object: ObjectNo) -> Result<Vec<Incoming>, AllocError> {
+        let ends = entering(alloc, &self.rows, object)?;
+        let ends = ordered(alloc, &ends)?;
+        places_of(alloc, &self.rows, &ends, &Value::Object(object))
+    }
+
+    fn reserve_for(&mut self, plan: &Plan) -> Result<(), AllocError> {
+        self.rows.reserve_for(plan)
+    }
+
+    fn apply(&mut self, plan: Plan) {
+        apply_rows(&mut self.rows, plan);
+    }
+}
+
+fn object_of(value: Option<&Value>) -> Option<ObjectNo>
+    ensures { result ≡ option_and_then object_of (option_copied value.entry) }
+{
+    match value? {
+        Value::Object(object) => Some(*object),
+        _ => None,
+    }
+}
+
+fn text_of(value: Option<&Value>) -> Option<&str>
+    ensures { option_copied result ≡ option_and_then text_of (option_copied value.entry) }
+{
+    match value? {
+        Value::Proxy(text) => Some(text.as_str()),
+        _ => None,
+    }
+}
+
+// Whether the far end, where it is the shorter list, tells that an object is not in an end.
+fn far_lacks(rows: &NodeRows, end: End, object: ObjectNo) -> bool
+    requires { ∥ IsStore rows.now ∥₁ }
+    ensures { result ≡ true → Stands ((cells rows.now).vals end) (value.Object object) → ⊥ }
+{
+    match rows.pairing(end).opposite {
+        Some(feature) => {
+            let far = End {
+                node: Node::Object(object),
+                feature,
+            };
+            rows.len(far) < rows.len(end) && rows.position(far, &value_of(end.node)).is_none()
+        }
+        None => false,
+    }
+}
+
+// Makes the edits of a plan, in their order.
+fn apply_rows(rows: &mut NodeRows, plan: Plan)
+    requires kept { ∥ IsStore rows.old ∥₁ }
+    requires fits { PlanFits (store_links rows.old) plan }
+    requires of_kind { HasPlanOfKind (IsStoreOfKind rows.old) plan }
+    requires reserved { HasRoom (room rows.old) plan }
+    ensures kept { ∥ IsStore rows.new ∥₁ }
+    ensures links { store_links rows.new ≡ applied (store_links rows.old) plan }
+{
+    for edit in plan.into_vec() {
+        edit_rows(rows, edit);
+    }
+}
