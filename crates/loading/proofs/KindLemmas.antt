@@ -1,0 +1,241 @@
+-- The edits of a document that is read are of the kinds of their features: a proxy stands under no reference of a pair that contains.
+use Rattle.std.proofs.Common.{◌≡◌, ◌+◌, ◌++◌, Bool, true, false, List, [], ◌∷◌, Option, Some, None, ℕ, cond, map, refl, subst, sym}
+use Rattle.std.specs.Prelude.{◌&&◌, ◌||◌, filter_map, flat_map, is_some, not, option_map, IfSome}
+use Rattle.std.specs.List.{All, enumerate_from, list_any}
+use Rattle.std.specs.Option.{option_map_or}
+use Rattle.std.proofs.lemmas.Bool.{false≢true}
+use Rattle.std.proofs.lemmas.List.Elements.{All-cons, All-head, All-nil, All-tail}
+use Rattle.serde_json.specs.Data.{Data}
+use Rattle.mm_types.specs.Conditions.{◌else_by◌, ◌where_so◌}
+use Rattle.mm_types.specs.Lookups as lookups
+use Rattle.mm_types.specs.Resolved.{Metamodel}
+use Rattle.mm_types.specs.Same.{is_nil}
+use Rattle.mm_types.specs.Shapes.{containing_of, contents_shape, shape, shape_of}
+use Rattle.mm_types.specs.declared.document_fault.DocFault.TheVariants as cause
+use Rattle.mm_types.specs.declared.feature.Feature.{Feature}
+use Rattle.mm_types.specs.declared.feature.Kind.{Kind}
+use Rattle.mm_types.specs.declared.feature.Kind.TheVariants.{Attribute, Reference}
+use Rattle.mm_types.specs.declared.numbers.FeatureNo.{FeatureNo}
+use Rattle.mm_types.specs.declared.numbers.ObjectNo.{ObjectNo}
+use Rattle.mm_types.specs.declared.numbers.ResourceNo.{ResourceNo}
+use Rattle.mm_types.specs.declared.end.End.{End}
+use Rattle.mm_types.specs.declared.value.Value.{Value}
+use Rattle.mm_types.specs.declared.value.Value.TheVariants as value
+use Rattle.link_store.specs.declared.plan.Edit.{Edit}
+use Rattle.link_store.specs.Plans.{IsPlanOfKind}
+use Rattle.link_store.proofs.LegalLemmas.{IsPlanOfKind-append}
+use Rattle.models.specs.Legal.{kinds_of}
+use Rattle.web_uris.specs.Paths.{with_step}
+use Rattle.web_uris.specs.declared.path.Path.{Path}
+use Rattle.doc_parts.specs.Faults.{is_deep, is_long, of_entry}
+use Rattle.doc_parts.specs.Layout.{top}
+use Rattle.doc_parts.specs.Parts.{Entry, Part, entries, number_of, parts, step_to, values_of}
+use Rattle.resource_docs.specs.Causes.{IsRead, cause_of, has_cross, has_many_roots, has_repeat, is_one_sided, is_proxy, of_content, sense_cause, shape_cause}
+use Rattle.resource_docs.specs.Read.{content_read, contents_read, doc_read, object_read, values_read}
+use Rattle.resource_docs.specs.Texts.{Base, base_of}
+use Rattle.resource_docs.specs.Values.{has_lost, object_of, value_of}
+use Rattle.resource_docs.specs.declared.doc.Content.{Content}
+use Rattle.resource_docs.specs.declared.doc.Doc.{Doc}
+use Rattle.resource_docs.specs.declared.doc.DocObject.{DocObject}
+use Rattle.loading.specs.LoadEdits.{far_edits, in_order, is_ascending_from, load_edits, near_edits, put_at, puts_again, value_puts}
+use Rattle.loading.specs.Loading.{contents_end, object_end, of_object}
+use Rattle.loading.specs.Pairs.{is_near, lower_of}
+use Rattle.loading.specs.Places.{place_in}
+use Rattle.loading.specs.declared.places.Naming.{Naming}
+use Rattle.loading.proofs.FitLemmas.{all-filtered, later, not-so, or-left, or-right, read-right}
+
+-- a proxy stands where nothing of the pair contains
+abbrev Place : Option FeatureNo → Value → Type 0
+Place h (value.Proxy t) = h ≡ None
+Place h _ = Unit {0}
+
+abbrev ContentPlaces : Metamodel → Content → Type 0
+ContentPlaces m c = All (Place (shape m c.feature).containing) c.values
+
+abbrev ObjectPlaces : Metamodel → DocObject → Type 0
+ObjectPlaces m o = All (ContentPlaces m) o.contents
+
+---------------------------------------------------------------- what is read
+
+anywhere : (v : Value) → Place None v
+anywhere (value.Proxy t) = refl
+anywhere value.Null = tt
+anywhere (value.Bool b) = tt
+anywhere (value.Int n) = tt
+anywhere (value.Text t) = tt
+anywhere (value.Literal i) = tt
+anywhere (value.Object o) = tt
+anywhere (value.Adapter a) = tt
+
+all-anywhere : (vs : List Value) → All (Place None) vs
+all-anywhere [] = All-nil (Place None)
+all-anywhere (v ∷ vs) = All-cons (Place None) v vs (anywhere v) (all-anywhere vs)
+
+no-proxy : (h : Option FeatureNo) (v : Value) → is_proxy v ≡ false → Place h v
+no-proxy h (value.Proxy t) none = absurd (false≢true (sym none))
+no-proxy h value.Null none = tt
+no-proxy h (value.Bool b) none = tt
+no-proxy h (value.Int n) none = tt
+no-proxy h (value.Text t) none = tt
+no-proxy h (value.Literal i) none = tt
+no-proxy h (value.Object o) none = tt
+no-proxy h (value.Adapter a) none = tt
+
+no-proxies : (h : Option FeatureNo) (vs : List Value) → list_any is_proxy vs ≡ false → All (Place h) vs
+no-proxies h [] none = All-nil (Place h)
+no-proxies h (v ∷ vs) none = All-cons (Place h) v vs (no-proxy h v (or-left (is_proxy v) (list_any is_proxy vs) none)) (no-proxies h vs (or-right (is_proxy v) (list_any is_proxy vs) none))
+
+uncontained : (b : Bool) (vs : List Value) → All (Place (cond b None None)) vs
+uncontained true vs = all-anywhere vs
+uncontained false vs = all-anywhere vs
+
+link-places : (m : Metamodel) (f : FeatureNo) (o : Option FeatureNo) (vs : List Value) → is_some o && list_any is_proxy vs ≡ false → All (Place (containing_of m f false o)) vs
+link-places m f None vs none = uncontained (lookups.is_container m f) vs
+link-places m f (Some g) vs none = no-proxies (containing_of m f false (Some g)) vs none
+
+part-place : (h : Option FeatureNo) (o : Option ℕ) → IfSome (option_map object_of o) (Place h)
+part-place h None = tt
+part-place h (Some k) = tt
+
+content-places : (m : Metamodel) (b : Base) (ps : List Part) (path : Path) (e : Entry) → has_cross m (content_read m b ps path e) ≡ false → ContentPlaces m (content_read m b ps path e)
+content-places m b ps path e = by (lookups.feature m e.feature)
+  where
+    by_kind : (g : Feature) (k : Kind) → is_some (shape_of m e.feature g k).opposite && list_any is_proxy (filter_map (value_of m b ps path e.feature k) (enumerate_from 0 (values_of m e))) ≡ false
+        → All (Place (shape_of m e.feature g k).containing) (filter_map (value_of m b ps path e.feature k) (enumerate_from 0 (values_of m e)))
+    by_kind g (Attribute t unique unsettable default) none = all-anywhere (filter_map (value_of m b ps path e.feature (Attribute t unique unsettable default)) (enumerate_from 0 (values_of m e)))
+    by_kind g (Reference class true opposite) none =
+        all-filtered (Place (Some e.feature)) (value_of m b ps path e.feature (Reference class true opposite)) (enumerate_from 0 (values_of m e))
+        (λ v. part-place (Some e.feature) (number_of ps (with_step path (step_to m e.feature v.0))))
+    by_kind g (Reference class false opposite) none =
+        link-places m e.feature opposite (filter_map (value_of m b ps path e.feature (Reference class false opposite)) (enumerate_from 0 (values_of m e))) none
+
+    by : (o : Option Feature)
+        → is_some (option_map_or (λ g. shape_of m e.feature g g.kind) o (contents_shape m)).opposite
+        && list_any is_proxy (option_map_or (λ g. filter_map (value_of m b ps path e.feature g.kind) (enumerate_from 0 (values_of m e))) o []) ≡ false
+        → All (Place (option_map_or (λ g. shape_of m e.feature g g.kind) o (contents_shape m)).containing) (option_map_or (λ g. filter_map (value_of m b ps path e.feature g.kind) (enumerate_from 0 (values_of m e))) o [])
+    by None none = All-nil (Place (contents_shape m).containing)
+    by (Some g) none = by_kind g g.kind none
+
+kept-places : (m : Metamodel) (b : Bool) (c : Content) (cs : List Content) → (has_cross m c ≡ false → ContentPlaces m c) → (list_any (has_cross m) cs ≡ false → All (ContentPlaces m) cs)
+    → list_any (has_cross m) (cond b (c ∷ cs) cs) ≡ false → All (ContentPlaces m) (cond b (c ∷ cs) cs)
+kept-places m true c cs here rest none =
+    All-cons (ContentPlaces m) c cs (here (or-left (has_cross m c) (list_any (has_cross m) cs) none)) (rest (or-right (has_cross m c) (list_any (has_cross m) cs) none))
+kept-places m false c cs here rest none = rest none
+
+contents-places : (m : Metamodel) (b : Base) (ps : List Part) (path : Path) (es : List Entry) → list_any (has_cross m) (contents_read m b ps path es) ≡ false → All (ContentPlaces m) (contents_read m b ps path es)
+contents-places m b ps path [] none = All-nil (ContentPlaces m)
+contents-places m b ps path (e ∷ es) none =
+    kept-places m (not (is_nil (values_read m b ps path e))) (content_read m b ps path e) (contents_read m b ps path es) (content-places m b ps path e) (contents-places m b ps path es) none
+
+objects-places : (m : Metamodel) (b : Base) (ps : List Part) (i : ℕ) (qs : List Part) → list_any (λ x. list_any (has_cross m) x.1.contents) (enumerate_from i (map (object_read m b ps) qs)) ≡ false
+    → All (ObjectPlaces m) (map (object_read m b ps) qs)
+objects-places m b ps i [] none = All-nil (ObjectPlaces m)
+objects-places m b ps i (q ∷ qs) none =
+    let here = list_any (has_cross m) (contents_read m b ps q.path (entries m q.json)) in
+    let rest = list_any (λ x. list_any (has_cross m) x.1.contents) (enumerate_from (i + 1) (map (object_read m b ps) qs)) in
+    All-cons (ObjectPlaces m) (object_read m b ps q) (map (object_read m b ps) qs)
+    (contents-places m b ps q.path (entries m q.json) (or-left here rest none)) (objects-places m b ps (i + 1) qs (or-right here rest none))
+
+doc-places : (m : Metamodel) (b : Base) (d : Data) → of_content (λ o c. has_cross m c) (doc_read m b d) ≡ false → All (ObjectPlaces m) (doc_read m b d).objects
+unfolding doc_read
+doc-places m b d none = objects-places m b (parts m d) 0 (parts m d) none
+
+not-across : (m : Metamodel) (b : Base) (d : Data) → cause_of m b d ≡ None → of_content (λ o c. has_cross m c) (doc_read m b d) ≡ false
+unfolding cause_of
+not-across m b d none =
+    let ps = parts m d in
+    let doc = doc_read m b d in
+    let deep = cause.Depth where_so list_any is_deep ps in
+    let across = of_content (λ o c. has_cross m c) doc in
+    let from_cross = cause.Cross where_so across else_by deep in
+    let one_sided = cause.OneSided where_so of_content (is_one_sided m doc) doc in
+    let long = cause.Bound where_so (has_many_roots m d || of_entry m (is_long m) ps) in
+    let repeated = cause.Duplicate where_so of_content (λ o c. has_repeat m c) doc in
+    let lost = cause.Reference where_so of_entry m (has_lost m b ps) ps in
+    let from_bound = long else_by (one_sided else_by from_cross) in
+    not-so cause.Cross across deep
+    (later one_sided from_cross (later long (one_sided else_by from_cross) (later repeated from_bound (later lost (repeated else_by from_bound) (later (shape_cause m (top d) ps) (sense_cause m b d ps doc) none)))))
+
+---------------------------------------------------------------- the plan
+
+value-kind : (m : Metamodel) (n : ℕ) (e : End) (i : ℕ) (v : Value) → Place (shape m e.feature).containing v → IsPlanOfKind (kinds_of m) (value_puts m n e (i, v))
+value-kind m n e i (value.Object b) place = ((refl, refl), tt)
+value-kind m n e i (value.Proxy t) place = (place, tt)
+value-kind m n e i value.Null place = tt
+value-kind m n e i (value.Bool b) place = tt
+value-kind m n e i (value.Int k) place = tt
+value-kind m n e i (value.Text t) place = tt
+value-kind m n e i (value.Literal k) place = tt
+value-kind m n e i (value.Adapter a) place = tt
+
+values-kind : (m : Metamodel) (n : ℕ) (e : End) (i : ℕ) (vs : List Value) → All (Place (shape m e.feature).containing) vs → IsPlanOfKind (kinds_of m) (flat_map (value_puts m n e) (enumerate_from i vs))
+values-kind m n e i [] all = tt
+values-kind m n e i (v ∷ vs) all =
+    IsPlanOfKind-append (kinds_of m) (value_puts m n e (i, v)) (flat_map (value_puts m n e) (enumerate_from (i + 1) vs))
+    (value-kind m n e i v (All-head (Place (shape m e.feature).containing) v vs all)) (values-kind m n e (i + 1) vs (All-tail (Place (shape m e.feature).containing) v vs all))
+
+chosen-kind : (m : Metamodel) (b : Bool) (es : List Edit) → IsPlanOfKind (kinds_of m) es → IsPlanOfKind (kinds_of m) (cond b es [])
+chosen-kind m true es kind = kind
+chosen-kind m false es kind = tt
+
+near-contents-kind : (m : Metamodel) (n : ℕ) (o : ObjectNo) (cs : List Content) → All (ContentPlaces m) cs → IsPlanOfKind (kinds_of m) (flat_map (near_edits m n o) cs)
+near-contents-kind m n o [] all = tt
+near-contents-kind m n o (c ∷ cs) all =
+    IsPlanOfKind-append (kinds_of m) (near_edits m n o c) (flat_map (near_edits m n o) cs)
+    (chosen-kind m (is_near (shape m c.feature) c.feature) (flat_map (value_puts m n (object_end n o c.feature)) (enumerate_from 0 c.values))
+    (values-kind m n (object_end n o c.feature) 0 c.values (All-head (ContentPlaces m) c cs all)))
+    (near-contents-kind m n o cs (All-tail (ContentPlaces m) c cs all))
+
+near-kind : (m : Metamodel) (n i : ℕ) (os : List DocObject) → All (ObjectPlaces m) os → IsPlanOfKind (kinds_of m) (flat_map (of_object (near_edits m n)) (enumerate_from i os))
+near-kind m n i [] all = tt
+near-kind m n i (o ∷ os) all =
+    IsPlanOfKind-append (kinds_of m) (of_object (near_edits m n) (i, o)) (flat_map (of_object (near_edits m n)) (enumerate_from (i + 1) os))
+    (near-contents-kind m n (record { 0 = i }) o.contents (All-head (ObjectPlaces m) o os all)) (near-kind m n (i + 1) os (All-tail (ObjectPlaces m) o os all))
+
+again-kind : (m : Metamodel) (n : ℕ) (place : Naming → ℕ) (b : ObjectNo) (f : FeatureNo) (vs : List Value) → IsPlanOfKind (kinds_of m) (flat_map (puts_again m n place b f) vs)
+again-kind m n place b f [] = tt
+again-kind m n place b f (value.Object a ∷ vs) = (tt, ((refl, refl), again-kind m n place b f vs))
+again-kind m n place b f (value.Proxy t ∷ vs) = again-kind m n place b f vs
+again-kind m n place b f (value.Null ∷ vs) = again-kind m n place b f vs
+again-kind m n place b f (value.Bool x ∷ vs) = again-kind m n place b f vs
+again-kind m n place b f (value.Int x ∷ vs) = again-kind m n place b f vs
+again-kind m n place b f (value.Text t ∷ vs) = again-kind m n place b f vs
+again-kind m n place b f (value.Literal x ∷ vs) = again-kind m n place b f vs
+again-kind m n place b f (value.Adapter x ∷ vs) = again-kind m n place b f vs
+
+ordered-kind : (m : Metamodel) (n : ℕ) (place : Naming → ℕ) (b : ObjectNo) (vs : List Value) (o : Option FeatureNo) → IsPlanOfKind (kinds_of m) (option_map_or (in_order m n place b vs) o [])
+ordered-kind m n place b vs None = tt
+ordered-kind m n place b vs (Some f) = by (is_ascending_from 0 vs)
+  where
+    by : (ascending : Bool) → IsPlanOfKind (kinds_of m) (cond ascending [] (flat_map (puts_again m n place b f) vs))
+    by true = tt
+    by false = again-kind m n place b f vs
+
+far-contents-kind : (m : Metamodel) (n : ℕ) (place : Naming → ℕ) (o : ObjectNo) (cs : List Content) → IsPlanOfKind (kinds_of m) (flat_map (far_edits m n place o) cs)
+far-contents-kind m n place o [] = tt
+far-contents-kind m n place o (c ∷ cs) =
+    IsPlanOfKind-append (kinds_of m) (far_edits m n place o c) (flat_map (far_edits m n place o) cs)
+    (ordered-kind m n place o c.values (lower_of (shape m c.feature) c.feature)) (far-contents-kind m n place o cs)
+
+far-kind : (m : Metamodel) (n : ℕ) (place : Naming → ℕ) (i : ℕ) (os : List DocObject) → IsPlanOfKind (kinds_of m) (flat_map (of_object (far_edits m n place)) (enumerate_from i os))
+far-kind m n place i [] = tt
+far-kind m n place i (o ∷ os) =
+    IsPlanOfKind-append (kinds_of m) (of_object (far_edits m n place) (i, o)) (flat_map (of_object (far_edits m n place)) (enumerate_from (i + 1) os))
+    (far-contents-kind m n place (record { 0 = i }) o.contents) (far-kind m n place (i + 1) os)
+
+roots-kind : (m : Metamodel) (n : ℕ) (e : End) (i : ℕ) (rs : List ObjectNo) → IsPlanOfKind (kinds_of m) (map (λ x. put_at m n e x.0 x.1) (enumerate_from i rs))
+roots-kind m n e i [] = tt
+roots-kind m n e i (o ∷ rs) = ((refl, refl), roots-kind m n e (i + 1) rs)
+
+plan-kind : (m : Metamodel) (n : ℕ) (k : ResourceNo) (doc : Doc) → All (ObjectPlaces m) doc.objects → IsPlanOfKind (kinds_of m) (load_edits m n k doc)
+plan-kind m n k doc all =
+    let near : List Edit = flat_map (of_object (near_edits m n)) (enumerate_from 0 doc.objects) in
+    let far : List Edit = flat_map (of_object (far_edits m n (place_in m doc.objects))) (enumerate_from 0 doc.objects) in
+    IsPlanOfKind-append (kinds_of m) (map (λ x. put_at m n (contents_end m k) x.0 x.1) (enumerate_from 0 doc.roots)) (near ++ far) (roots-kind m n (contents_end m k) 0 doc.roots)
+    (IsPlanOfKind-append (kinds_of m) near far (near-kind m n 0 doc.objects all) (far-kind m n (place_in m doc.objects) 0 doc.objects))
+
+pub read-kind : (m : Metamodel) (uri : List ℕ) (doc : Doc) (n : ℕ) (k : ResourceNo) → IsRead m uri doc → IsPlanOfKind (kinds_of m) (load_edits m n k doc)
+read-kind m uri doc n k read =
+    let b = base_of uri in
+    let right = read-right (cause_of m b read.source) (doc_read m b read.source) doc read.gives in
+    plan-kind m n k doc (subst (λ (x : Doc). All (ObjectPlaces m) x.objects) right.1 (doc-places m b read.source (not-across m b read.source right.0)))

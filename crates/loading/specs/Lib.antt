@@ -1,0 +1,5 @@
+pub mod Loading
+pub mod Fits
+pub mod Pairs
+pub mod Places
+pub mod LoadEdits

@@ -1,0 +1,23 @@
+-- The two features of a pair of which neither contains: a link of theirs is put from the lower one.
+use Rattle.std.specs.Prelude.{◌&&◌, Bool, false, not, nat_lt, Option, Some, None, is_some, option_and_then, if◌then◌else◌}
+use Rattle.std.specs.Option.{option_map_or}
+use Rattle.mm_types.specs.Shapes.{Shape}
+use Rattle.mm_types.specs.declared.numbers.FeatureNo.{FeatureNo}
+
+abbrev pub is_below : FeatureNo → FeatureNo → Bool
+is_below f g = nat_lt f.0 g.0
+
+abbrev pub if_below : FeatureNo → FeatureNo → Option FeatureNo
+if_below g f = if is_below f g then Some f else None
+
+-- the opposite of a feature, where that is the lower of the two and neither contains
+abbrev pub lower_of : Shape → FeatureNo → Option FeatureNo
+lower_of a g = if is_some a.containing then None else option_and_then (if_below g) a.opposite
+
+-- a feature is the lower of a pair of which neither contains
+abbrev pub is_lower : Shape → FeatureNo → Bool
+is_lower a f = not (is_some a.containing) && option_map_or (is_below f) a.opposite false
+
+-- a reference whose values are put from its own end
+abbrev pub is_near : Shape → FeatureNo → Bool
+is_near a f = a.is_reference && not (is_some (lower_of a f))

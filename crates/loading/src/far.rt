@@ -1,0 +1,189 @@
+//! The edits that put the links of pairs in the order of their other ends.
+ghost use Rattle.std.specs.Prelude.{◌≡◌, ◌≤◌, ◌+◌, ◌++◌, ℕ, OnOk, flat_map, length, unwrap_or};
+ghost use Rattle.std.specs.List.{All, enumerate_from, list_any};
+ghost use Rattle.mm_types.specs.declared.limits.TheConstants.{OBJECTS};
+ghost use Rattle.loading.specs.Fits.{IsFittingContent, IsFittingObject, IsNumbered, IsValueNumbered};
+ghost use Rattle.loading.specs.LoadEdits as e;
+ghost use Rattle.loading.specs.Loading.{of_object};
+ghost use Rattle.loading.specs.Places.{found_at, place_in};
+
+use crate::near::put_at;
+use crate::numbers::{loaded, object_end};
+use crate::pairs::lower_of;
+use crate::places::{Naming, Places};
+use link_store::Edit;
+use mm_meta::Meta;
+use mm_types::{FeatureNo, ObjectNo, Value};
+use resource_docs::{Content, DocObject};
+use std::alloc::{AllocError, Global};
+
+/// Whether the objects among values are in the order of their numbers.
+fn is_ascending(values: &[Value]) -> bool
+    ensures { result ≡ e.is_ascending_from 0 values.now }
+{
+    let mut least = 0;
+    'values: for value in values {
+        if let Value::Object(object) = value {
+            if (object.0 as u64) < least {
+                return false;
+            }
+            least = object.0 as u64 + 1;
+        }
+    }
+    true
+}
+
+/// Whether the values under the higher feature of a pair are in another order than that of their numbers.
+fn is_unordered(meta: &Meta, content: &Content) -> bool
+    ensures { result ≡ e.is_unordered meta.now content.now }
+{
+    lower_of(meta, content.feature).is_some() && !is_ascending(content.values.as_slice())
+}
+
+fn has_unordered(meta: &Meta, contents: &[Content]) -> bool
+    ensures { result ≡ list_any (e.is_unordered meta.now) contents.now }
+{
+    contents.iter().any(|content| is_unordered(meta, content))
+}
+
+fn has_any_unordered(meta: &Meta, objects: &[DocObject]) -> bool
+    ensures { result ≡ list_any (λ o. list_any (e.is_unordered meta.now) o.contents) objects.now }
+{
+    objects
+        .iter()
+        .any(|object| has_unordered(meta, object.contents.as_slice()))
+}
+
+/// Adds the edits that put the ends of a document's objects in order. Where all are, it takes no memory.
+pub(crate) fn push_in_order(
+    alloc: Global,
+    meta: &Meta,
+    next: usize,
+    objects: &[DocObject],
+    edits: &mut Vec<Edit>,
+) -> Result<(), AllocError>
+    requires room { next + length objects.now ≤ OBJECTS }
+    requires fits { All (IsFittingObject next) objects.now }
+    ensures { OnOk result (edits.new.items ≡ edits.old.items ++ flat_map (of_object (e.far_edits meta.now next (place_in meta.now objects.now))) (enumerate_from 0 objects.now)) }
+{
+    if !has_any_unordered(meta, objects) {
+        return Ok(());
+    }
+    let places = Places::of(alloc, meta, objects)?;
+    push_objects(meta, next, &places, objects, edits)
+}
+
+/// Adds the edits that put objects' ends in order.
+fn push_objects(
+    meta: &Meta,
+    next: usize,
+    places: &Places,
+    objects: &[DocObject],
+    edits: &mut Vec<Edit>,
+) -> Result<(), AllocError>
+    requires room { next + length objects.now ≤ OBJECTS }
+    requires fits { All (IsFittingObject next) objects.now }
+    ensures { OnOk result (edits.new.items ≡ edits.old.items ++ flat_map (of_object (e.far_edits meta.now next (found_at places.now))) (enumerate_from 0 objects.now)) }
+{
+    'objects: for (i, object) in objects.iter().enumerate() {
+        push_object(
+            meta,
+            next,
+            places,
+            ObjectNo(i as u32),
+            object.contents.as_slice(),
+            edits,
+        )?;
+    }
+    Ok(())
+}
+
+/// Adds the edits that put an object's ends in order.
+fn push_object(
+    meta: &Meta,
+    next: usize,
+    places: &Places,
+    object: ObjectNo,
+    contents: &[Content],
+    edits: &mut Vec<Edit>,
+) -> Result<(), AllocError>
+    requires number { IsNumbered next object }
+    requires fits { All (IsFittingContent next) contents.now }
+    ensures { OnOk result (edits.new.items ≡ edits.old.items ++ flat_map (e.far_edits meta.now next (found_at places.now) object) contents.now) }
+{
+    'contents: for content in contents {
+        push_content(meta, next, places, object, content, edits)?;
+    }
+    Ok(())
+}
+
+/// Adds the edits that put an object's end of a feature in order, where that is the higher of a pair, and where the end has another
+/// order.
+fn push_content(
+    meta: &Meta,
+    next: usize,
+    places: &Places,
+    object: ObjectNo,
+    content: &Content,
+    edits: &mut Vec<Edit>,
+) -> Result<(), AllocError>
+    requires number { IsNumbered next object }
+    requires fits { IsFittingContent next content.now }
+    ensures { OnOk result (edits.new.items ≡ edits.old.items ++ e.far_edits meta.now next (found_at places.now) object content.now) }
+{
+    let Some(lower) = lower_of(meta, content.feature) else {
+        return Ok(());
+    };
+    let values = content.values.as_slice();
+    if is_ascending(values) {
+        return Ok(());
+    }
+    push_values(meta, next, places, object, lower, values, edits)
+}
+
+/// Adds the edits that take an object out of the ends of values and put it there again.
+fn push_values(
+    meta: &Meta,
+    next: usize,
+    places: &Places,
+    object: ObjectNo,
+    lower: FeatureNo,
+    values: &[Value],
+    edits: &mut Vec<Edit>,
+) -> Result<(), AllocError>
+    requires number { IsNumbered next object }
+    requires fits { All (IsValueNumbered next) values.now }
+    ensures { OnOk result (edits.new.items ≡ edits.old.items ++ flat_map (e.puts_again meta.now next (found_at places.now) object lower) values.now) }
+{
+    'values: for value in values {
+        push_again(meta, next, places, object, lower, value, edits)?;
+    }
+    Ok(())
+}
+
+/// Adds the edits that take an object out of the end of a value and put it there again.
+fn push_again(
+    meta: &Meta,
+    next: usize,
+    places: &Places,
+    object: ObjectNo,
+    lower: FeatureNo,
+    value: &Value,
+    edits: &mut Vec<Edit>,
+) -> Result<(), AllocError>
+    requires number { IsNumbered next object }
+    requires fits { IsValueNumbered next value.now }
+    ensures { OnOk result (edits.new.items ≡ edits.old.items ++ e.puts_again meta.now next (found_at places.now) object lower value.now) }
+{
+    let Value::Object(other) = value else {
+        return Ok(());
+    };
+    let end = object_end(next, *other, lower);
+    let index = places.place(Naming::of(*other, lower, object));
+    edits.push(Edit::Cut {
+        end,
+        object: loaded(next, object),
+    })?;
+    edits.push(put_at(meta, next, end, index, object))?;
+    Ok(())
+}

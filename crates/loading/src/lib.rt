@@ -1,0 +1,16 @@
+//! Loading: the edits that make what a document holds, its objects with their values, and its links.
+//!
+//! `specs/Loading.antt` says what a document makes, `specs/LoadEdits.antt` in which order its links are put.
+#![tactic(auto)]
+
+mod far;
+pub mod laws;
+mod links;
+mod near;
+mod numbers;
+mod pairs;
+mod places;
+mod values;
+
+pub use links::link_edits;
+pub use values::value_edits;
