@@ -1,5 +1,8 @@
 pub mod ListedLemmas
 pub mod NumberLemmas
+pub mod HearingLemmas
+pub mod SpotLemmas
+pub mod PlaceLemmas
 pub mod ReserveLemmas
 pub mod DeliveryLemmas
 pub mod RoundLemmas

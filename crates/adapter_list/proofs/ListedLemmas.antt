@@ -1,11 +1,11 @@
 -- What one write to the list of attached adapters shows.
-use Rattle.std.proofs.Common.{◌≡◌, ℕ, ◌+◌, ◌-◌, ◌≤◌, ◌<◌, Bool, cond, Some, None, List, [], ◌∷◌, ◌++◌, map, length, get_or, set, take, drop, remove, position, count_by, slice_get, option_map, false, pos, zero, suc, subst, add-one, refl, sym, ap, ◌∙◌, arith, slice_index, All, ◌^◌}
+use Rattle.std.proofs.Common.{◌≡◌, ℕ, ◌+◌, ◌-◌, ◌≤◌, ◌<◌, Bool, cond, Some, None, List, [], ◌∷◌, ◌++◌, map, length, get_or, set, take, drop, remove, position, count_by, slice_get, option_map, false, pos, zero, suc, subst, refl, sym, ap, ◌∙◌, arith, slice_index, All, ◌^◌}
 use Rattle.std.specs.List.{prefix_len, fold}
 use Rattle.std.proofs.lemmas.Option.{slice_get-map, slice_get_read}
 use Rattle.std.proofs.lemmas.List.{take-map, drop-map, map-append, length-map}
 use Rattle.std.proofs.lemmas.List.Elements.{All-append, All-drop, All-get_or, All-map, All-push, All-rest, All-set, All-take, All-weaker}
 use Rattle.notice_chain.specs.View.{View, hear}
-use Rattle.notice_chain.specs.Listed.{told_all, last_notice, release, has_no}
+use Rattle.notice_chain.specs.Listed.{Listed, told_all, last_notice, release, has_no}
 use Rattle.mm_types.specs.Same.{same_node}
 use Rattle.notice_chain.specs.declared.kind.NoticeKind.TheVariants.{RemovingAdapter}
 use Rattle.notice_chain.specs.declared.notice.Notice.{Notice}
@@ -99,10 +99,10 @@ module _ {A : Type 0} where
   slice_index-told heard (y ∷ ys) zero x h e = sym (ap (λ (q : Attached A). (heard q.adapter).told) e)
   slice_index-told heard (y ∷ ys) (suc i) x h e = slice_index-told heard ys i x (omega arith) e
 
-  pub drop-listed : (heard : A → View) (xs : List (Attached A)) (i : ℕ) (x : Attached A) → i < length xs → x ≡ get_or xs i x → drop i (listed heard xs) ≡ listed_one heard x ∷ drop (i + 1) (listed heard xs)
-  drop-listed heard [] i x h e = absurd (omega arith)
-  drop-listed heard (y ∷ ys) zero x h e = ap (λ q. listed_one heard q ∷ listed heard ys) (sym e)
-  drop-listed heard (y ∷ ys) (suc i) x h e = subst (λ (k : ℕ). drop (suc i) (listed heard (y ∷ ys)) ≡ listed_one heard x ∷ drop k (listed heard (y ∷ ys))) (sym (add-one (suc i))) (rw add-one at (drop-listed heard ys i x (omega arith) e))
+  pub listed-get : (heard : A → View) (xs : List (Attached A)) (rs : List Listed) (i : ℕ) (x : Attached A) → listed heard xs ≡ rs → i < length rs → x ≡ get_or xs i x → slice_get rs i ≡ Some (listed_one heard x)
+  listed-get heard xs rs i x seen low e =
+      let within : i < length xs = omega (arith, low, ap (λ (qs : List Listed). length qs) seen, length-map xs (listed_one heard)) in
+      ap (λ (qs : List Listed). slice_get qs i) (sym seen) ∙ slice_get-map (listed_one heard) xs i ∙ ap (option_map (listed_one heard)) (slice_get_read xs (length xs) i x refl within e)
 
 module _ {A : Type 0} (heard : A → View) (places : A → ℕ) where
   abbrev ready : Attached A → Type 0

@@ -1,5 +1,5 @@
 -- What the round of a chain needs and leaves.
-use Rattle.std.proofs.Common.{◌≡◌, ℕ, ◌+◌, ◌<◌, true, false, List, [], ◌∷◌, ◌++◌, map, length, zero, suc, refl, sym, ap, subst, ◌∙◌, arith, slice_index, slice_get, Some, None, Option, option_map, if◌then◌else◌, append_assoc}
+use Rattle.std.proofs.Common.{◌≡◌, ℕ, ◌+◌, ◌<◌, true, false, List, [], ◌∷◌, ◌++◌, map, length, zero, suc, refl, sym, ap, subst, ◌∙◌, arith, slice_index, slice_get, Some, None, Option, option_map, if◌then◌else◌}
 use Rattle.std.specs.Option.{option_map_or}
 use Rattle.std.proofs.lemmas.List.Elements.{filter_map-append}
 use Rattle.mm_types.specs.declared.numbers.AdapterNo.{AdapterNo}
@@ -61,33 +61,6 @@ module _ (up : Above) where
       subst (λ (i : ℕ). copies_for i (copies_from up 0 n rs) ≡ heard_one n (slice_get rs k)) same (copies_for-copies_from k 0 n rs) in
       copies_for-append k (copies_from up 0 n rs) (round_copies up ns rs) ∙ ap (λ ms. ms ++ copies_for k (round_copies up ns rs)) first ∙ ap (λ ms. heard_one n (slice_get rs k) ++ ms) (copies_for-round_copies ns rs k) ∙ heard_one-append n ns (slice_get rs k)
 
-  ----------------------------------------------------------------- one adapter more
-
-  copies_from-cons : (k : ℕ) (n : Notice) (r : Listed) (rs : List Listed) → copies_from up k n (r ∷ rs) ≡ copies_from up k n (r ∷ []) ++ copies_from up (suc k) n rs
-  copies_from-cons k n r rs =
-      elim (hears up r n) as (λ b. (if b then ((k, n) ∷ copies_from up (suc k) n rs) else copies_from up (suc k) n rs) ≡ (if b then ((k, n) ∷ []) else []) ++ copies_from up (suc k) n rs) [ true ↦ refl | false ↦ refl ]
-
-  told_of-cons : (n : Notice) (r : Listed) (rs : List Listed) → told_of up n (r ∷ rs) ≡ told_of up n (r ∷ []) ++ told_of up n rs
-  told_of-cons n r rs =
-      elim (hears up r n) as (λ b. map (λ q. (q.no, n)) (if b then (r ∷ audience up n rs) else audience up n rs) ≡ map (λ q. (q.no, n)) (if b then (r ∷ []) else []) ++ told_of up n rs) [ true ↦ refl | false ↦ refl ]
-
-  -- what was added for one adapter and is to be added for those after it is what was to be added for all of them
-  pub copies_more : (old new : List (ℕ × Notice)) (k : ℕ) (n : Notice) (r : Listed) (rs all : List Listed) → new ≡ old ++ copies_from up k n (r ∷ []) → all ≡ r ∷ rs → new ++ copies_from up (k + 1) n rs ≡ old ++ copies_from up k n all
-  copies_more old new k n r rs all added is =
-      let next : k + 1 ≡ suc k = omega arith in
-      ap (λ (cs : List (ℕ × Notice)). cs ++ copies_from up (k + 1) n rs) added
-      ∙ append_assoc old (copies_from up k n (r ∷ [])) (copies_from up (k + 1) n rs)
-      ∙ ap (λ (j : ℕ). old ++ (copies_from up k n (r ∷ []) ++ copies_from up j n rs)) next
-      ∙ ap (λ (cs : List (ℕ × Notice)). old ++ cs) (sym (copies_from-cons k n r rs))
-      ∙ ap (λ (qs : List Listed). old ++ copies_from up k n qs) (sym is)
-
-  pub told_more : (old new : List (AdapterNo × Notice)) (n : Notice) (r : Listed) (rs all : List Listed) → new ≡ old ++ told_of up n (r ∷ []) → all ≡ r ∷ rs → new ++ told_of up n rs ≡ old ++ told_of up n all
-  told_more old new n r rs all added is =
-      ap (λ (ts : List (AdapterNo × Notice)). ts ++ told_of up n rs) added
-      ∙ append_assoc old (told_of up n (r ∷ [])) (told_of up n rs)
-      ∙ ap (λ (ts : List (AdapterNo × Notice)). old ++ ts) (sym (told_of-cons n r rs))
-      ∙ ap (λ (qs : List Listed). old ++ told_of up n qs) (sym is)
-
   ----------------------------------------------------------------- what a delivery does
 
   delivered_from-copies : (cs : List (ℕ × Notice)) (ns : List Notice) (j : ℕ) (rs : List Listed) → ((i : ℕ) (r : Listed) → slice_get rs i ≡ Some r → copies_for (j + i) cs ≡ heard_of up ns r) → delivered_from j cs rs ≡ tell_chain up ns rs
@@ -121,7 +94,7 @@ module _ (up : Above) where
         | false ↦ later
       ]
 
-  within-round_copies : (ns : List Notice) (rs : List Listed) → AreWithin (length rs) (round_copies up ns rs)
+  pub within-round_copies : (ns : List Notice) (rs : List Listed) → AreWithin (length rs) (round_copies up ns rs)
   within-round_copies [] rs = tt
   within-round_copies (n ∷ ns) rs =
       let same : 0 + length rs ≡ length rs = omega arith in
@@ -138,7 +111,7 @@ module _ (up : Above) where
   ----------------------------------------------------------------- who is notified
 
   -- the copies of one notice for those from place j on are told to its audience among them
-  told_by-copies_from : (all : List Listed) (j : ℕ) (n : Notice) (rs : List Listed) → ((i : ℕ) → slice_get all (j + i) ≡ slice_get rs i) → told_by (copies_from up j n rs) all ≡ told_of up n rs
+  pub told_by-copies_from : (all : List Listed) (j : ℕ) (n : Notice) (rs : List Listed) → ((i : ℕ) → slice_get all (j + i) ≡ slice_get rs i) → told_by (copies_from up j n rs) all ≡ told_of up n rs
   told_by-copies_from all j n [] h = refl
   told_by-copies_from all j n (r ∷ rs) h =
       let later : (i : ℕ) → slice_get all (suc j + i) ≡ slice_get rs i =

@@ -7,10 +7,13 @@
 
 mod attach_refused;
 mod attached;
+mod counts;
+mod hearers;
 pub mod laws;
 mod list;
 mod refusal;
 mod round;
+mod spots;
 
 pub use attach_refused::AttachRefused;
 pub use attached::Attached;

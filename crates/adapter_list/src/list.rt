@@ -4,16 +4,20 @@ ghost use Rattle.notice_chain.specs.Listed.{HasDistinctNumbers, adapter, has_no}
 ghost use Rattle.adapter_list.specs.Attached.{listed_one, HasReserve};
 
 mod attach;
+mod hear;
 mod release;
 mod release_gone;
+mod reserve;
 mod tell;
 
 use crate::attached::Attached;
+use crate::spots::Spot;
 use adapters::Adapter;
 use indexmap::IndexSet;
 use mm_types::limits::ADAPTERS;
 use mm_types::{AdapterNo, Node};
 use std::alloc::Global;
+use std::collections::BTreeSet;
 use std::marker::Model;
 
 /// The attached adapters, in attach order (EMF: the adapters of all notifiers). It is seen as two lists: the adapters by what
@@ -27,6 +31,8 @@ pub struct AdapterList<A: Adapter> {
     attached: Vec<Attached<A>>,
     /// The numbers of `attached`, in the same order, to find an adapter by its number.
     numbers: IndexSet<AdapterNo>,
+    /// Where each of `attached` is attached, to find those of one node.
+    spots: BTreeSet<Spot>,
     /// Always empty: `close` fills it, and takes no memory for that.
     released: Vec<(AdapterNo, A)>,
 }
@@ -40,7 +46,7 @@ impl<A: Adapter> Model for AdapterList<A> {
 
     ghost view = { λ l. (listed A.heard l.attached.items, places_of A.places l.attached.items) };
 
-    ghost invariant = { λ l. IsSound A.heard A.places l.attached.items l.numbers.keys (vec_len l.released) (vec_capacity l.released) };
+    ghost invariant = { λ l. IsSound A.heard A.places l.attached.items l.numbers.keys l.spots (vec_len l.released) (vec_capacity l.released) };
 }
 
 impl<A: Adapter> AdapterList<A> {
@@ -52,6 +58,7 @@ impl<A: Adapter> AdapterList<A> {
             alloc,
             attached: Vec::new(alloc),
             numbers: IndexSet::new(alloc),
+            spots: BTreeSet::new(alloc),
             released: Vec::new(alloc),
         }
     }

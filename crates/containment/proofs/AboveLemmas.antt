@@ -1,7 +1,8 @@
 -- What one step up leaves of the nodes above a node.
-use Rattle.std.proofs.Common.{◌≡◌, suc, ◌<◌, Bool, true, false, ◌||◌, [], ◌∷◌, length, Option, option_map, unwrap_or, Some, None, refl, sym, ap, ◌∙◌, arith}
+use Rattle.std.proofs.Common.{◌≡◌, suc, ◌<◌, Bool, true, false, ◌||◌, List, [], ◌∷◌, ◌++◌, length, append_assoc, Option, option_map, unwrap_or, Some, None, refl, sym, ap, ◌∙◌, arith}
 use Rattle.std.specs.List.{last_or, list_any}
 use Rattle.std.specs.Option.{option_map_or}
+use Rattle.std.proofs.lemmas.List.{append-nil}
 use Rattle.std.proofs.lemmas.Option.{none-some, same_Some}
 use Rattle.mm_types.specs.Same.{same_node}
 use Rattle.mm_types.specs.declared.end.End.{End}
@@ -40,6 +41,14 @@ above-root s x legal free h =
 -- each step up leaves fewer
 pub fewer_above : (s : Links) (x y : Node) → IsLegalSet s → HasNoCycle s → Some y ≡ parent s x → length (above s y) < length (above s x)
 fewer_above s x y legal free h = let one : length (above s x) ≡ suc (length (above s y)) = ap length (above-parent s x y legal free h) in omega (arith, one)
+
+-- the next one up is the first of those above x, and above a root there are none
+pub found-next : (s : Links) (x y : Node) (found more : List Node) → IsLegalSet s → HasNoCycle s → Some y ≡ parent s x → more ≡ found ++ y ∷ [] → more ++ above s y ≡ found ++ above s x
+found-next s x y found more legal free h made =
+    ap (λ (ns : List Node). ns ++ above s y) made ∙ append_assoc found (y ∷ []) (above s y) ∙ ap (λ (ns : List Node). found ++ ns) (sym (above-parent s x y legal free h))
+
+pub found-root : (s : Links) (x : Node) (found : List Node) → IsLegalSet s → HasNoCycle s → None ≡ parent s x → found ≡ found ++ above s x
+found-root s x found legal free h = sym (ap (λ (ns : List Node). found ++ ns) (above-root s x legal free h) ∙ append-nil found)
 
 -- the next one up is above x, and any other node where it is above that
 pub is_above-here : (s : Links) (x y z : Node) → IsLegalSet s → HasNoCycle s → Some y ≡ parent s x → same_node z y ≡ true → list_any (same_node z) (above s x) ≡ true

@@ -6,6 +6,7 @@ use super::AdapterList;
 use crate::attach_refused::AttachRefused;
 use crate::attached::Attached;
 use crate::refusal::refusal;
+use crate::spots::spot;
 use adapters::Adapter;
 use mm_types::{AdapterNo, Node, Refused, limits};
 
@@ -40,9 +41,13 @@ impl<A: Adapter> AdapterList<A> {
         if self.attached.reserve(1).is_err() {
             return refuse(Refused::Memory, adapter);
         }
-        let Ok(_) = self.numbers.insert(no) else {
+        if self.numbers.reserve(1).is_err() {
+            return refuse(Refused::Memory, adapter);
+        }
+        let Ok(_) = self.spots.insert(spot(target, no.0)) else {
             return refuse(Refused::Memory, adapter);
         };
+        let _ = self.numbers.insert(no);
         self.attached.push_reserved(Attached {
             no,
             target,

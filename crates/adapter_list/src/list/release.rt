@@ -5,6 +5,7 @@ ghost use Rattle.mm_types.specs.Same.{same_node};
 
 use super::AdapterList;
 use crate::attached::Attached;
+use crate::spots::spot;
 use adapters::Adapter;
 use mm_types::limits::ADAPTERS;
 use mm_types::{AdapterNo, Node, Value};
@@ -28,6 +29,7 @@ impl<A: Adapter> AdapterList<A> {
             deep: _,
             mut adapter,
         } = self.attached.remove(place);
+        self.spots.remove(&spot(target, no.0));
         adapter.notify_changed(last_notice(no, target, earlier));
         Some((last_notice(no, target, earlier), adapter))
     }
@@ -41,6 +43,7 @@ impl<A: Adapter> AdapterList<A> {
             alloc: _,
             attached,
             numbers: _,
+            spots: _,
             mut released,
         } = self;
         for one in attached {

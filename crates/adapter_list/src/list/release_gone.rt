@@ -1,21 +1,24 @@
 //! Releasing the adapters whose targets are gone.
-ghost use Rattle.std.specs.Prelude.{◌≡◌, Bool, ◌+◌, ◌≤◌, ◌<◌, ◌∷◌, [], ◌++◌, length, map, filter, not, vec_len, vec_capacity};
+ghost use Rattle.std.specs.Prelude.{◌≡◌, true, false, Bool, ◌+◌, ◌≤◌, ◌<◌, ◌∷◌, [], ◌++◌, length, map, filter, not, vec_len, vec_capacity};
 ghost use Rattle.std.specs.List.{IsDistinct, items_where_true};
 ghost use Rattle.indexmap.specs.IndexSet.{index_set_len};
+ghost use Rattle.mm_types.specs.declared.numbers.AdapterNo.{AdapterNo};
 ghost use Rattle.mm_types.specs.declared.numbers.Node.{Node};
 ghost use Rattle.notice_chain.specs.View.{hear};
 ghost use Rattle.notice_chain.specs.Listed.{last_notice as last_notice_of, release_all, removing, same_no};
 ghost use Rattle.notice_chain.specs.Released.{released as released_of};
-ghost use Rattle.adapter_list.specs.Attached.{AreReady, listed, numbers_of, views_of};
+ghost use Rattle.adapter_list.specs.Attached.{AreIndexed, AreReady, listed, numbers_of, views_of};
+ghost use Rattle.adapter_list.specs.Spots.{IsIndexed};
 
 use super::AdapterList;
 use super::release::last_notice;
 use crate::attached::Attached;
+use crate::spots::{Spot, spot};
 use adapters::Adapter;
 use indexmap::IndexSet;
 use mm_types::AdapterNo;
 use notice_chain::Notice;
-use std::collections::VecDeque;
+use std::collections::{BTreeSet, VecDeque};
 use std::mem;
 
 impl<A: Adapter> AdapterList<A> {
@@ -36,6 +39,7 @@ impl<A: Adapter> AdapterList<A> {
         ensures told { (gone : Node → Bool) → leaves.now ≡ map (λ r. gone r.target) self.old.0 → told.new.items ≡ told.old.items ++ (released_of (λ r. gone r.target) self.old.0).told }
         ensures released { (gone : Node → Bool) → leaves.now ≡ map (λ r. gone r.target) self.old.0 → views_of A.heard released.new.items ≡ views_of A.heard released.old.items ++ (released_of (λ r. gone r.target) self.old.0).views }
     {
+        forget(&mut self.spots, &self.attached, leaves);
         let attached = mem::replace(&mut self.attached, Vec::new(self.alloc));
         self.attached = let_go(attached, leaves, told, released);
         renumber(&mut self.numbers, &self.attached);
@@ -92,6 +96,27 @@ fn let_one_go<A: Adapter>(
     adapter.notify_changed(last_notice(no, target, 0));
     told.push_reserved((no, last_notice(no, target, 0)));
     released.push_reserved((no, adapter));
+}
+
+/// Takes out where the adapters that leave are attached. Those who stay are still in the set.
+fn forget<A>(spots: &mut BTreeSet<Spot>, attached: &[Attached<A>], leaves: &[bool])
+    requires as_many { length leaves.now ≡ length attached.now }
+    requires distinct { IsDistinct same_no (numbers_of attached.now) }
+    requires indexed { AreIndexed spots.old attached.now }
+    ensures { AreIndexed spots.new (items_where_true (map not leaves.now) attached.now) }
+{
+    for (place, one) in attached.iter().enumerate() {
+        forget_if(spots, one, leaves[place]);
+    }
+}
+
+/// Takes out where an adapter is attached, if it leaves.
+fn forget_if<A>(spots: &mut BTreeSet<Spot>, one: &Attached<A>, leaves: bool)
+    ensures { (x : Node) (number : AdapterNo) → (leaves ≡ true → same_no one.now.no number ≡ false) → IsIndexed spots.old x number → IsIndexed spots.new x number }
+{
+    if leaves {
+        spots.remove(&spot(one.target, one.no.0));
+    }
 }
 
 /// Makes the numbers those of the adapters, in the same order. It takes no memory: there were no fewer numbers before.

@@ -1,17 +1,17 @@
 //! Which adapters hear a notice, what is reserved for a chain, and its delivery.
-ghost use Rattle.std.specs.Prelude.{◌≡◌, ◌≤◌, ◌<◌, ◌+◌, ◌^◌, ◌∷◌, [], ◌++◌, ◌↔◌, ℕ, List, map, drop, length, slice_index, true, false, OnOk, IfOk, IfErr, IsErrOf};
+ghost use Rattle.std.specs.Prelude.{◌≡◌, ◌≤◌, ◌<◌, ◌∷◌, [], ◌++◌, length, slice_index, false, All, OnOk, IfOk, IfErr};
 ghost use Rattle.link_store.specs.Holders.{HasNoCycle, above};
 ghost use Rattle.link_store.specs.LegalSets.{IsLegalSet};
-ghost use Rattle.notice_chain.specs.Listed.{Listed, audience_numbers, is_chain_full, told_of};
-ghost use Rattle.adapter_list.specs.Attached.{listed_one};
+ghost use Rattle.notice_chain.specs.Listed.{audience_numbers, is_chain_full};
+ghost use Rattle.adapter_list.specs.Hearing.{copies_at};
 ghost use Rattle.adapter_list.specs.Refusals.{IsChainRefusal};
-ghost use Rattle.adapter_list.specs.Rounds.{RoundFits, round_of, copies_from, delivered, heard_at, tell_at, told_by, use_place};
+ghost use Rattle.adapter_list.specs.Rounds.{RoundFits, round_of, delivered, tell_at, told_by, use_place};
 
 use super::AdapterList;
-use crate::attached::{Attached, heard_count, hears};
+use crate::hearers::Hearers;
 use crate::refusal::refusal;
 use crate::round::Round;
-use adapters::{Adapter, NoRoom};
+use adapters::Adapter;
 use link_store::LinkStore;
 use mm_types::{AdapterNo, Refused};
 use notice_chain::{Chain, Notice};
@@ -29,9 +29,10 @@ impl<A: Adapter> AdapterList<A> {
         requires no_cycle { HasNoCycle (L.links store.now) }
         ensures { IfOk result (λ v. v.items ≡ audience_numbers (above (L.links store.now)) notice.now self.now.0) }
     {
+        let places = self.hearers(store, notice.notifier)?;
         let mut numbers = Vec::new(self.alloc);
-        for one in &self.attached {
-            push_if_hears(store, one, notice, &mut numbers)?;
+        for place in &places {
+            numbers.push(self.attached[*place].no)?;
         }
         Ok(numbers)
     }
@@ -41,7 +42,7 @@ impl<A: Adapter> AdapterList<A> {
     /// the change. Whatever the answer, the adapters have heard and keep what they did.
     ///
     /// Refused with AdapterFull where an adapter can't count the notices that it hears, or with Memory when out of memory. The
-    /// first adapter in attach order that refuses decides.
+    /// first that refuses decides, in the order in which the chain reaches them.
     pub fn reserve_all<L: LinkStore>(&mut self, store: &L, chain: &Chain) -> Result<Round, Refused>
         requires legal { IsLegalSet (L.links store.now) }
         requires no_cycle { HasNoCycle (L.links store.now) }
@@ -51,13 +52,13 @@ impl<A: Adapter> AdapterList<A> {
         ensures counted { OnOk result (is_chain_full (above (L.links store.now)) chain.now self.old.0 ≡ false) }
         ensures reason { IfErr result (λ e. IsChainRefusal (is_chain_full (above (L.links store.now)) chain.now self.old.0) e) }
     {
-        let chain = chain.as_slice();
-        if let Err(reason) = self.reserve_places(store, chain) {
-            return Err(refusal(reason));
-        }
-        match self.round(store, chain) {
-            Ok(round) => Ok(round),
-            Err(_) => Err(Refused::Memory),
+        self.keeps_its_rules();
+        let Ok(round) = self.round(store, chain.as_slice()) else {
+            return Err(Refused::Memory);
+        };
+        match self.reserve_places(round.copies()) {
+            Ok(()) => Ok(round),
+            Err(reason) => Err(refusal(reason)),
         }
     }
 
@@ -90,128 +91,35 @@ impl<A: Adapter> AdapterList<A> {
         one.adapter.notify_changed(notice);
     }
 
-    /// Makes sure that each adapter has a place for each notice of a chain that it hears, and one more for its last notice.
-    fn reserve_places<L: LinkStore>(&mut self, store: &L, chain: &[Notice]) -> Result<(), NoRoom>
-        requires legal { IsLegalSet (L.links store.now) }
-        requires no_cycle { HasNoCycle (L.links store.now) }
-        ensures kept { self.new.0 ≡ self.old.0 }
-        ensures ok { OnOk result ((k : ℕ) → k < length self.new.1 → length (heard_at (above (L.links store.now)) chain.now self.old.0 k) < slice_index self.new.1 k) }
-        ensures counted { OnOk result (is_chain_full (above (L.links store.now)) chain.now self.old.0 ≡ false) }
-        ensures full { IfErr result (λ e. e ≡ NoRoom.Full → is_chain_full (above (L.links store.now)) chain.now self.old.0 ≡ true) }
-        ensures as_many { length self.new.1 ≡ length self.new.0 }
-    {
-        for place in 0..self.attached.len() {
-            self.reserve_for(store, place, chain)?;
-        }
-        Ok(())
-    }
-
-    /// The same for the adapter at `place`.
-    fn reserve_for<L: LinkStore>(
-        &mut self,
-        store: &L,
-        place: usize,
-        chain: &[Notice],
-    ) -> Result<(), NoRoom>
-        requires legal { IsLegalSet (L.links store.now) }
-        requires no_cycle { HasNoCycle (L.links store.now) }
-        requires within { place < length self.old.1 }
-        ensures kept { self.new.0 ≡ self.old.0 }
-        ensures ok { OnOk result (length (heard_at (above (L.links store.now)) chain.now self.old.0 place) < slice_index self.new.1 place) }
-        ensures counted { OnOk result (is_chain_full (above (L.links store.now)) chain.now (drop place self.old.0) ≡ is_chain_full (above (L.links store.now)) chain.now (drop (place + 1) self.old.0)) }
-        ensures full { IfErr result (λ e. e ≡ NoRoom.Full → is_chain_full (above (L.links store.now)) chain.now (drop place self.old.0) ≡ true) }
-        ensures no_fewer { (k : ℕ) → slice_index self.old.1 k ≤ slice_index self.new.1 k }
-        ensures as_many { length self.new.1 ≡ length self.old.1 }
-    {
-        let count = heard_count(store, &self.attached[place], chain);
-        if count == 0 {
-            return Ok(());
-        }
-        match self.reserve_at(place, count as u64 + 1) {
-            Ok(()) => Ok(()),
-            Err(reason) => Err(reason),
-        }
-    }
-
-    /// Makes sure that the adapter at `place` has `n` places.
-    fn reserve_at(&mut self, place: usize, n: u64) -> Result<(), NoRoom>
-        requires within { place < length self.old.1 }
-        ensures kept { self.new.0 ≡ self.old.0 }
-        ensures ok { OnOk result (n ≤ slice_index self.new.1 place) }
-        ensures full { IsErrOf result NoRoom.Full ↔ (2 ^ 64 ≤ slice_index (map (λ r. r.view.told) self.old.0) place + n) }
-        ensures no_fewer { (k : ℕ) → slice_index self.old.1 k ≤ slice_index self.new.1 k }
-        ensures as_many { length self.new.1 ≡ length self.old.1 }
-    {
-        let one = &mut self.attached[place];
-        one.adapter.reserve(n)
-    }
-
-    /// The round of a chain.
+    /// The round of a chain. Notices of one notifier that follow each other have their hearers found once.
     fn round<L: LinkStore>(&self, store: &L, chain: &[Notice]) -> Result<Round, AllocError>
         requires legal { IsLegalSet (L.links store.now) }
         requires no_cycle { HasNoCycle (L.links store.now) }
         ensures { IfOk result (λ r. r ≡ round_of (above (L.links store.now)) chain.now self.now.0) }
     {
         let mut round = Round::new(self.alloc);
+        let mut hearers = Hearers::new(self.alloc);
         for notice in chain {
-            self.add_copies(store, notice, &mut round)?;
+            self.find_hearers(store, notice.notifier, &mut hearers)?;
+            self.add_copies(&hearers.places, notice, &mut round)?;
         }
         Ok(round)
     }
 
-    /// Adds the copies of a notice to a round.
-    fn add_copies<L: LinkStore>(
+    /// Adds the copies of a notice for the adapters at some places to a round.
+    fn add_copies(
         &self,
-        store: &L,
+        places: &[usize],
         notice: &Notice,
         round: &mut Round,
     ) -> Result<(), AllocError>
-        requires legal { IsLegalSet (L.links store.now) }
-        requires no_cycle { HasNoCycle (L.links store.now) }
-        ensures copies { OnOk result (round.new.copies ≡ round.old.copies ++ copies_from (above (L.links store.now)) 0 notice.now self.now.0) }
-        ensures told { OnOk result (round.new.told ≡ round.old.told ++ told_of (above (L.links store.now)) notice.now self.now.0) }
+        requires within { All (λ k. k < length self.now.0) places.now }
+        ensures copies { OnOk result (round.new.copies ≡ round.old.copies ++ copies_at places.now notice.now) }
+        ensures told { OnOk result (round.new.told ≡ round.old.told ++ told_by (copies_at places.now notice.now) self.now.0) }
     {
-        for (place, one) in self.attached.iter().enumerate() {
-            add_if_hears(store, one, place, notice, round)?;
+        for place in places {
+            round.add(*place, self.attached[*place].no, notice)?;
         }
         Ok(())
     }
-}
-
-/// Adds the number of an adapter that hears a notice.
-fn push_if_hears<L: LinkStore, A: Adapter>(
-    store: &L,
-    one: &Attached<A>,
-    notice: &Notice,
-    numbers: &mut Vec<AdapterNo>,
-) -> Result<(), AllocError>
-    requires legal { IsLegalSet (L.links store.now) }
-    requires no_cycle { HasNoCycle (L.links store.now) }
-    ensures { OnOk result (numbers.new.items ≡ numbers.old.items ++ audience_numbers (above (L.links store.now)) notice.now (listed_one A.heard one.now ∷ [])) }
-{
-    if !hears(store, one, notice) {
-        return Ok(());
-    }
-    numbers.push(one.no)?;
-    Ok(())
-}
-
-/// Adds the copies for an adapter that hears a notice.
-fn add_if_hears<L: LinkStore, A: Adapter>(
-    store: &L,
-    one: &Attached<A>,
-    place: usize,
-    notice: &Notice,
-    round: &mut Round,
-) -> Result<(), AllocError>
-    requires legal { IsLegalSet (L.links store.now) }
-    requires no_cycle { HasNoCycle (L.links store.now) }
-    ensures copies { OnOk result (round.new.copies ≡ round.old.copies ++ copies_from (above (L.links store.now)) place notice.now (listed_one A.heard one.now ∷ [])) }
-    ensures told { OnOk result (round.new.told ≡ round.old.told ++ told_of (above (L.links store.now)) notice.now (listed_one A.heard one.now ∷ [])) }
-{
-    if !hears(store, one, notice) {
-        return Ok(());
-    }
-    round.add(place, one.no, notice)?;
-    Ok(())
 }

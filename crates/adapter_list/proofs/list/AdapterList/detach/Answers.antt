@@ -1,7 +1,13 @@
-use Rattle.std.proofs.Common.{rules, ◌≡◌, ◌<◌, length, ◌∙◌, ap, sym, remove}
+use Rattle.std.proofs.Common.{rules, ◌≡◌, ◌<◌, cond, false, length, ◌∙◌, ap, sym, subst, remove}
 use Rattle.std.proofs.lemmas.List.{length-map}
+use Rattle.std.specs.BTreeSet as tree
+use Rattle.std.specs.List.{IsDistinct}
+use Rattle.std.specs.Ordering.{is_eq}
+use Rattle.notice_chain.specs.Listed.{same_no}
 use Rattle.adapter_list.specs.Attached.{numbers_of}
+use Rattle.adapter_list.specs.Spots.{Spot, spot, spot_cmp}
 use Rattle.adapter_list.proofs.ListedLemmas.{release-at, release-absent, last_notice-listed, AreReady-at, AreReady-remove, read_once, remove-map}
+use Rattle.adapter_list.proofs.SpotLemmas.{AreIndexed-without}
 use Rattle.adapter_list.proofs.list.AdapterList.detach.Goals as goal
 
 pub notify_changed-requires : goal.notify_changed-requires
@@ -13,12 +19,16 @@ notify_changed-requires g c =
 pub invariant_of-self : goal.invariant_of-self
 invariant_of-self g c =
     let removed = c.remove-target.ensures.items in
+    let within : c.in-Some.place < length c.self.inside.attached.items = rw (length-map) at (rw (← c.self.view_is) at c.in-Some.ensures.within) in
+    let distinct : IsDistinct same_no (numbers_of c.self.inside.attached.items) = subst (λ ks. IsDistinct same_no ks) c.self.invariant.numbered c.self.invariant.distinct in
+    let updates : (q : Spot) → tree.contains spot_cmp c.remove.new.self q ≡ cond (is_eq (spot_cmp (spot c.remove-target.result.target c.remove-target.result.no.0) q)) false (tree.contains spot_cmp c.self.inside.spots q) = subst (λ (s : Spot). (q : Spot) → tree.contains spot_cmp c.remove.new.self q ≡ cond (is_eq (spot_cmp s q)) false (tree.contains spot_cmp c.self.inside.spots q)) c.spot.ensures.spot c.remove.ensures.updates.0 in
     let numbers = c.shift_remove_index.ensures.keys ∙ ap (λ ks. remove ks c.in-Some.place) c.self.invariant.numbered ∙ remove-map (λ a. a.no) c.self.inside.attached.items c.in-Some.place ∙ ap numbers_of (sym removed) in
     record {
       few = search rules;
       ready = rw removed (AreReady-remove g.A.Adapter.heard g.A.Adapter.places c.self.inside.attached.items _ c.self.invariant.ready);
       numbered = numbers;
       distinct = c.shift_remove_index.ensures.unique;
+      indexed = rw removed (AreIndexed-without c.self.inside.spots c.remove.new.self c.remove-target.result updates c.self.inside.attached.items c.in-Some.place distinct within c.remove-target.ensures.value c.self.invariant.indexed);
       unused = c.self.invariant.unused;
       releasable = search rules;
     }

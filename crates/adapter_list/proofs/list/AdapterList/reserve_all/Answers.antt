@@ -1,18 +1,53 @@
-use Rattle.std.proofs.Common.{◌≡◌, List, length, ap, sym, subst, ◌∙◌}
+use Rattle.std.proofs.Common.{◌≡◌, ◌<◌, List, ℕ, length, slice_index, true, ap, sym, subst, ◌∙◌}
 use Rattle.link_store.specs.Holders.{above}
-use Rattle.notice_chain.specs.Listed.{Listed}
-use Rattle.adapter_list.specs.Rounds.{RoundView, RoundFits, round_of}
-use Rattle.adapter_list.proofs.RoundLemmas.{CopiesFit-round_copies, told_by-round_copies}
+use Rattle.adapters.specs.declared.adapter.NoRoom.TheVariants as room
+use Rattle.notice_chain.specs.Listed.{Listed, is_chain_full}
+use Rattle.notice_chain.specs.declared.notice.Notice.{Notice}
+use Rattle.adapter_list.specs.Counts.{IsFullFor, IsReadyFor, copies_len}
+use Rattle.adapter_list.specs.Rounds.{RoundView, RoundFits, heard_at, round_copies, round_of}
+use Rattle.adapter_list.proofs.DeliveryLemmas.{AreWithin}
+use Rattle.adapter_list.proofs.ReserveLemmas.{chain-counted, chain-full, refusal-is}
+use Rattle.adapter_list.proofs.RoundLemmas.{CopiesFit-round_copies, copies_for-round_copies, told_by-round_copies, within-round_copies}
 use Rattle.adapter_list.proofs.list.AdapterList.reserve_all.Goals as goal
 
-pub returns-in-Ok-clause-fits : goal.returns-in-Ok-clause-fits
-returns-in-Ok-clause-fits g c =
+pub reserve_places-requires : goal.reserve_places-requires
+reserve_places-requires g c =
     let up = above (g.L.LinkStore.links c.args.store.now) in
-    let ns = c.as_slice-chain.result.now in
-    let rs = c.reserve_places.new.self.0 in
+    let ns = c.as_slice.result.now in
+    let rs = c.args.self.now.0 in
+    let copies : c.copies.result.now ≡ round_copies up ns rs = c.copies.ensures ∙ ap (λ (r : RoundView). r.copies) c.in-Ok.ensures in
+    record { within = subst (λ (cs : List (ℕ × Notice)). AreWithin (length c.args.self.now.1) cs) (sym copies) (subst (λ (n : ℕ). AreWithin n (round_copies up ns rs)) (sym c.keeps_its_rules.ensures.places) (within-round_copies up ns rs)) }
+
+pub returns-in-Ok-reserve_places-clause-fits : goal.returns-in-Ok-reserve_places-clause-fits
+returns-in-Ok-reserve_places-clause-fits g c =
+    let up = above (g.L.LinkStore.links c.args.store.now) in
+    let ns = c.as_slice.result.now in
+    let rs = c.args.self.now.0 in
     let ps = c.reserve_places.new.self.1 in
-    let kept : rs ≡ c.args.self.now.0 = c.in_default.ensures.kept in
-    let long : length c.args.self.now.0 ≡ length ps = ap (λ (qs : List Listed). length qs) (sym kept) ∙ sym c.in_default.ensures.as_many in
-    let fits : RoundFits c.args.self.now.0 ps (round_of up ns c.args.self.now.0) = record { copies_fit = CopiesFit-round_copies up ns c.args.self.now.0 ps long c.in_default.ensures.ok; told_is = sym (told_by-round_copies up ns c.args.self.now.0) } in
-    let here : RoundFits rs ps (round_of up ns rs) = subst (λ (qs : List Listed). RoundFits qs ps (round_of up ns qs)) (sym kept) fits in
-    subst (λ (r : RoundView). RoundFits rs ps r) (sym c.in-Ok.ensures) here
+    let copies : c.copies.result.now ≡ round_copies up ns rs = c.copies.ensures ∙ ap (λ (r : RoundView). r.copies) c.in-Ok.ensures in
+    let long : length rs ≡ length ps = sym (c.in-Ok-reserve_places.ensures.as_many ∙ c.keeps_its_rules.ensures.places) in
+    let ready : (k : ℕ) → IsReadyFor rs ps k (copies_len (round_copies up ns rs) k) = λ k. subst (λ (cs : List (ℕ × Notice)). IsReadyFor rs ps k (copies_len cs k)) copies (c.in-Ok-reserve_places.ensures.ok k) in
+    let room : (k : ℕ) → k < length ps → length (heard_at up ns rs k) < slice_index ps k = λ k low. subst (λ (ms : List Notice). length ms < slice_index ps k) (copies_for-round_copies up ns rs k) ((ready k).places low) in
+    let fits : RoundFits rs ps (round_of up ns rs) = record { copies_fit = CopiesFit-round_copies up ns rs ps long room; told_is = sym (told_by-round_copies up ns rs) } in
+    subst (λ (qs : List Listed). RoundFits qs ps c.in-Ok.round) (sym c.in-Ok-reserve_places.ensures.kept) (subst (λ (r : RoundView). RoundFits rs ps r) (sym c.in-Ok.ensures) fits)
+
+pub returns-in-Ok-reserve_places-clause-counted : goal.returns-in-Ok-reserve_places-clause-counted
+returns-in-Ok-reserve_places-clause-counted g c =
+    let up = above (g.L.LinkStore.links c.args.store.now) in
+    let ns = c.as_slice.result.now in
+    let rs = c.args.self.now.0 in
+    let ps = c.reserve_places.new.self.1 in
+    let copies : c.copies.result.now ≡ round_copies up ns rs = c.copies.ensures ∙ ap (λ (r : RoundView). r.copies) c.in-Ok.ensures in
+    let ready : (k : ℕ) → IsReadyFor rs ps k (copies_len (round_copies up ns rs) k) = λ k. subst (λ (cs : List (ℕ × Notice)). IsReadyFor rs ps k (copies_len cs k)) copies (c.in-Ok-reserve_places.ensures.ok k) in
+    ap (λ (ms : List Notice). is_chain_full up ms rs) (sym c.as_slice.ensures) ∙ chain-counted up ns rs ps ready
+
+pub returns-in-Err-clause-reason : goal.returns-in-Err-clause-reason
+returns-in-Err-clause-reason g c =
+    let up = above (g.L.LinkStore.links c.args.store.now) in
+    let ns = c.as_slice.result.now in
+    let rs = c.args.self.now.0 in
+    let copies : c.copies.result.now ≡ round_copies up ns rs = c.copies.ensures ∙ ap (λ (r : RoundView). r.copies) c.in-Ok.ensures in
+    let full : c.in-Err.reason ≡ room.Full → is_chain_full up c.args.chain.now rs ≡ true =
+    λ is. let one = c.in-Err.ensures.full is in
+    ap (λ (ms : List Notice). is_chain_full up ms rs) (sym c.as_slice.ensures) ∙ chain-full up ns rs one.0 (subst (λ (cs : List (ℕ × Notice)). IsFullFor rs cs one.0) copies one.1) in
+    rw c.refusal.ensures (refusal-is (is_chain_full up c.args.chain.now rs) c.in-Err.reason full)

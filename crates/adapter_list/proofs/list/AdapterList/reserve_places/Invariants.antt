@@ -1,12 +1,12 @@
-use Rattle.std.proofs.Common.{◌≡◌, ◌<◌, ℕ, drop, length, slice_index}
-use Rattle.link_store.specs.Holders.{above}
-use Rattle.notice_chain.specs.Listed.{is_chain_full}
-use Rattle.adapter_list.specs.Rounds.{heard_at}
+use Rattle.std.proofs.Common.{◌≡◌, ℕ, drop, length, nat_eq}
+use Rattle.indexmap.specs.IndexMap.{get}
+use Rattle.adapter_list.specs.Counts.{copies_len}
+use Rattle.adapter_list.proofs.ReserveLemmas.{IsAsked}
 use Rattle.adapter_list.proofs.list.AdapterList.reserve_places.Given as goal
 
 abbrev pub invariant-loop-place : goal.invariant-loop-place
-invariant-loop-place g l =
-    (l.self.0 ≡ l.initial.self.0) ×
-    (length l.self.1 ≡ length l.initial.self.1) ×
-    ((k : ℕ) → k < l.place → length (heard_at (above (g.L.LinkStore.links l.store)) l.chain l.initial.self.0 k) < slice_index l.self.1 k) ×
-    (is_chain_full (above (g.L.LinkStore.links l.store)) l.chain (drop l.place l.initial.self.0) ≡ is_chain_full (above (g.L.LinkStore.links l.store)) l.chain l.initial.self.0)
+invariant-loop-place g l = record {
+  kept : l.self.0 ≡ l.fn.self.0;
+  as_many : length l.self.1 ≡ length l.fn.self.1;
+  asked : (k : ℕ) → IsAsked l.fn.self.0 l.self.1 k (get nat_eq l.counts k) (copies_len (drop l.place-index l.copies) k) (copies_len l.copies k);
+}

@@ -1,0 +1,29 @@
+-- How many copies each adapter gets, and whether it is ready for them.
+use Rattle.std.specs.Prelude.{◌≡◌, ℕ, ◌+◌, ◌^◌, ◌<◌, ◌≤◌, List, length, map, slice_index, Option, Some, None}
+use Rattle.notice_chain.specs.Listed.{Listed}
+use Rattle.notice_chain.specs.declared.notice.Notice.{Notice}
+use Rattle.adapter_list.specs.Rounds.{copies_for}
+
+-- how many copies the adapter at place k gets
+abbrev pub copies_len : List (ℕ × Notice) → ℕ → ℕ
+copies_len cs k = length (copies_for k cs)
+
+-- of so many copies, those that were counted and the rest; where none was counted, there is no count
+abbrev pub IsCounted : Option ℕ → ℕ → ℕ → Type 0
+IsCounted None rest all = rest ≡ all
+IsCounted (Some n) rest all = (0 < n) × (n + rest ≡ all)
+
+-- the notices that the adapter at place k was told
+abbrev pub told_at_place : List Listed → ℕ → ℕ
+told_at_place rs k = slice_index (map (λ r. r.view.told) rs) k
+
+-- the adapter at place k has a place for each of n notices and one more, and can count them all
+pub record IsReadyFor (rs : List Listed) (ps : List ℕ) (k n : ℕ) : Type 0 where
+  pub places : k < length ps → n < slice_index ps k
+  pub countable : 0 < n → told_at_place rs k + (n + 1) < 2 ^ 64
+
+-- an adapter can't count the copies that it gets
+pub record IsFullFor (rs : List Listed) (cs : List (ℕ × Notice)) (k : ℕ) : Type 0 where
+  pub within : k < length rs
+  pub some : 0 < copies_len cs k
+  pub full : 2 ^ 64 ≤ told_at_place rs k + (copies_len cs k + 1)
