@@ -9,6 +9,7 @@ pub mod laws;
 mod loss;
 mod numbers;
 
-pub use ends::touched_ends;
+pub use ends::{ends_touched_by, touched_ends};
 pub use gone::{is_gone, is_within};
 pub use loss::{Loss, losses};
+pub use numbers::{is_in, numbers_of};

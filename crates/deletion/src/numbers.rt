@@ -8,8 +8,8 @@ use mm_types::{Node, ObjectNo};
 use std::alloc::{AllocError, Global};
 use std::collections::BTreeSet;
 
-/// The numbers of some objects.
-pub(crate) fn numbers_of(alloc: Global, objects: &[ObjectNo]) -> Result<BTreeSet<u32>, AllocError>
+/// The numbers of some objects. Errs only when out of memory.
+pub fn numbers_of(alloc: Global, objects: &[ObjectNo]) -> Result<BTreeSet<u32>, AllocError>
     ensures { IfOk result (λ s. (n : Node) → ranks.is_in s n ≡ forest.is_node_among objects.now n) }
 {
     let mut numbers = BTreeSet::new(alloc);
@@ -19,8 +19,9 @@ pub(crate) fn numbers_of(alloc: Global, objects: &[ObjectNo]) -> Result<BTreeSet
     Ok(numbers)
 }
 
-/// Whether a node is an object whose number is in a set. Walks up no chain of containers, so a deep tree costs no more.
-pub(crate) fn is_in(numbers: &BTreeSet<u32>, node: Node) -> bool
+/// Whether a node is an object whose number is in a set. Walks up no chain of containers, so a deep tree costs no more. Takes no
+/// memory.
+pub fn is_in(numbers: &BTreeSet<u32>, node: Node) -> bool
     ensures { result ≡ ranks.is_in numbers.now node }
 {
     match node {

@@ -1,5 +1,6 @@
 -- What is added one after another.
 use Rattle.std.proofs.Common.{◌≡◌, ℕ, ◌<◌, ◌≤◌, ◌+◌, zero, suc, Bool, true, false, cond, List, [], ◌∷◌, ◌++◌, length, drop, slice_get, slice_index_or, Option, Some, option_to_list, filter, flat_map, map, if◌then◌else◌, append_assoc, refl, sym, ap, ◌∙◌, arith}
+use Rattle.std.specs.BTreeSet.{BTreeSet}
 use Rattle.std.proofs.lemmas.Bool.{and_parts}
 use Rattle.std.proofs.lemmas.List.{append-nil, drop_all, drop_more}
 use Rattle.std.proofs.lemmas.List.Elements.{All-get_or, filter_passes}
@@ -12,8 +13,10 @@ use Rattle.mm_types.specs.declared.numbers.Node.TheVariants as node
 use Rattle.mm_types.specs.declared.numbers.ObjectNo.{ObjectNo}
 use Rattle.mm_types.specs.declared.value.Value.TheVariants as value
 use Rattle.models.specs.Reading.{Reading, all_features_of, at_end}
+use Rattle.containment.specs.Forest.{subtree}
 use Rattle.deletion.specs.Outer.{gone, holds_some, outer_ends, touched_ends}
-use Rattle.ties.specs.TreeTies.{end_ties, node_ties, tie}
+use Rattle.deletion.specs.Ranks.{HasGone, is_in}
+use Rattle.ties.specs.TreeTies.{end_ties, node_ties, outer_ties, tie, tree_ties}
 use Rattle.ties.specs.declared.tie.Tie.{Tie}
 
 module _ {X Y : Type 0} (f : X → List Y) where
@@ -78,3 +81,12 @@ touched-reference r o es k d is low =
     let lower : k < length (touched_ends r o) = omega (arith, low, ap length is) in
     ap (λ (xs : List End). (shape r.metamodel (slice_index_or xs k d).feature).is_reference) is
     ∙ (and_parts _ _ (All-get_or (λ e. some e ≡ true) (touched_ends r o) k d lower (filter_passes some (outer_ends r (gone r o))))).0
+
+-- what goes is told by its numbers
+pub tree-gone : (r : Reading) (o : ObjectNo) (s : BTreeSet ℕ) (os : List ObjectNo) (es : List End) → HasGone r o s → os ≡ subtree r o → es ≡ touched_ends r o
+    → flat_map (node_ties r (is_in s)) os ++ flat_map (outer_ties r (is_in s)) es ≡ tree_ties r o
+tree-gone r o s os es has objects ends =
+    let same : is_in s ≡ gone r o = λ i n. has n i in
+    ap (λ (xs : List ObjectNo). flat_map (node_ties r (is_in s)) xs ++ flat_map (outer_ties r (is_in s)) es) objects
+    ∙ ap (λ (ds : List End). flat_map (node_ties r (is_in s)) (subtree r o) ++ flat_map (outer_ties r (is_in s)) ds) ends
+    ∙ ap (λ (p : Node → Bool). flat_map (node_ties r p) (subtree r o) ++ flat_map (outer_ties r p) (touched_ends r o)) same

@@ -1,56 +1,51 @@
-//! The links of nodes that go with an object.
+//! The links of nodes that go with an object, told apart by the numbers of what goes.
 ghost use Rattle.std.specs.Prelude.{◌≡◌, ◌++◌, [], true, filter, flat_map, map, OnOk, option_map, option_to_list, if◌then◌else◌};
 ghost use Rattle.mm_types.specs.Shapes.{shape};
 ghost use Rattle.mm_types.specs.declared.value.Value.TheVariants as value;
 ghost use Rattle.models.specs.Model.{reading};
-ghost use Rattle.models.specs.Reading.{is_live};
-ghost use Rattle.containment.specs.Forest as forest;
-ghost use Rattle.deletion.specs.Outer.{gone};
+ghost use Rattle.deletion.specs.Ranks as ranks;
 ghost use Rattle.ties.specs.TreeTies as t;
 
 use crate::tie::Tie;
-use containment::subtree;
-use deletion::is_gone;
+use deletion::is_in;
 use link_store::LinkStore;
 use mm_types::{End, FeatureNo, Node, ObjectNo, Value};
 use models::{ModelRef, is_reference, opposite};
-use std::alloc::{AllocError, Global};
+use std::alloc::AllocError;
+use std::collections::BTreeSet;
 
-/// Adds the links of an object and of all below it.
+/// Adds the links of objects, where those whose numbers are in a set go.
 pub(crate) fn push_inner<L: LinkStore>(
-    alloc: Global,
     model: &ModelRef<L>,
-    object: ObjectNo,
+    objects: &[ObjectNo],
+    numbers: &BTreeSet<u32>,
     ties: &mut Vec<Tie>,
 ) -> Result<(), AllocError>
-    requires live { is_live (reading model.now) object ≡ true }
-    ensures { OnOk result (ties.new.items ≡ ties.old.items ++ flat_map (t.node_ties (reading model.now) (gone (reading model.now) object)) (forest.subtree (reading model.now) object)) }
+    ensures { OnOk result (ties.new.items ≡ ties.old.items ++ flat_map (t.node_ties (reading model.now) (ranks.is_in numbers.now)) objects.now) }
 {
-    let below = subtree(alloc, model, object)?;
-    for part in &below {
-        push_node(model, object, *part, ties)?;
+    for object in objects {
+        push_node(model, *object, numbers, ties)?;
     }
     Ok(())
 }
 
-/// Adds the links of one object that goes.
+/// Adds the links of one object.
 fn push_node<L: LinkStore>(
     model: &ModelRef<L>,
     object: ObjectNo,
-    part: ObjectNo,
+    numbers: &BTreeSet<u32>,
     ties: &mut Vec<Tie>,
 ) -> Result<(), AllocError>
-    requires live { is_live (reading model.now) object ≡ true }
-    ensures { OnOk result (ties.new.items ≡ ties.old.items ++ t.node_ties (reading model.now) (gone (reading model.now) object) part) }
+    ensures { OnOk result (ties.new.items ≡ ties.old.items ++ t.node_ties (reading model.now) (ranks.is_in numbers.now) object) }
 {
-    let node = Node::Object(part);
+    let node = Node::Object(object);
     let features = model.all_features(node);
     for feature in features {
         let end = End {
             node,
             feature: *feature,
         };
-        push_reference(model, object, end, ties)?;
+        push_reference(model, end, numbers, ties)?;
     }
     Ok(())
 }
@@ -58,32 +53,30 @@ fn push_node<L: LinkStore>(
 /// Adds the links of one end, where it is of a reference.
 fn push_reference<L: LinkStore>(
     model: &ModelRef<L>,
-    object: ObjectNo,
     end: End,
+    numbers: &BTreeSet<u32>,
     ties: &mut Vec<Tie>,
 ) -> Result<(), AllocError>
-    requires live { is_live (reading model.now) object ≡ true }
-    ensures { OnOk result (ties.new.items ≡ ties.old.items ++ (if (shape model.now.metamodel end.feature).is_reference then t.end_ties (reading model.now) (gone (reading model.now) object) end else [])) }
+    ensures { OnOk result (ties.new.items ≡ ties.old.items ++ (if (shape model.now.metamodel end.feature).is_reference then t.end_ties (reading model.now) (ranks.is_in numbers.now) end else [])) }
 {
     if !is_reference(model.meta(), end.feature) {
         return Ok(());
     }
-    push_end(model, object, end, ties)
+    push_end(model, end, numbers, ties)
 }
 
 /// Adds the links that the end of a reference names.
 fn push_end<L: LinkStore>(
     model: &ModelRef<L>,
-    object: ObjectNo,
     end: End,
+    numbers: &BTreeSet<u32>,
     ties: &mut Vec<Tie>,
 ) -> Result<(), AllocError>
-    requires live { is_live (reading model.now) object ≡ true }
     requires reference { (shape model.now.metamodel end.feature).is_reference ≡ true }
-    ensures { OnOk result (ties.new.items ≡ ties.old.items ++ t.end_ties (reading model.now) (gone (reading model.now) object) end) }
+    ensures { OnOk result (ties.new.items ≡ ties.old.items ++ t.end_ties (reading model.now) (ranks.is_in numbers.now) end) }
 {
     for index in 0..model.len(end) {
-        push_named(model, object, end, model.object_in(end, index), ties)?;
+        push_named(model, end, model.object_in(end, index), numbers, ties)?;
     }
     Ok(())
 }
@@ -91,16 +84,15 @@ fn push_end<L: LinkStore>(
 /// Adds the link of one value, where its end names it.
 fn push_named<L: LinkStore>(
     model: &ModelRef<L>,
-    object: ObjectNo,
     end: End,
     other: Option<ObjectNo>,
+    numbers: &BTreeSet<u32>,
     ties: &mut Vec<Tie>,
 ) -> Result<(), AllocError>
-    requires live { is_live (reading model.now) object ≡ true }
-    ensures { OnOk result (ties.new.items ≡ ties.old.items ++ map (t.tie end) (filter (t.is_named_here (reading model.now) (gone (reading model.now) object) end.feature) (option_to_list (option_map value.Object other)))) }
+    ensures { OnOk result (ties.new.items ≡ ties.old.items ++ map (t.tie end) (filter (t.is_named_here (reading model.now) (ranks.is_in numbers.now) end.feature) (option_to_list (option_map value.Object other)))) }
 {
     if let Some(other) = other {
-        if is_named_here(model, object, end.feature, other) {
+        if is_named_here(model, end.feature, other, numbers) {
             ties.push(Tie {
                 end,
                 value: Value::Object(other),
@@ -113,14 +105,13 @@ fn push_named<L: LinkStore>(
 /// Whether the end of a node that goes names its link to an object: that stays, or its end is of a higher feature.
 fn is_named_here<L: LinkStore>(
     model: &ModelRef<L>,
-    object: ObjectNo,
     feature: FeatureNo,
     other: ObjectNo,
+    numbers: &BTreeSet<u32>,
 ) -> bool
-    requires live { is_live (reading model.now) object ≡ true }
-    ensures { result ≡ t.is_named_here (reading model.now) (gone (reading model.now) object) feature (value.Object other) }
+    ensures { result ≡ t.is_named_here (reading model.now) (ranks.is_in numbers.now) feature (value.Object other) }
 {
-    if !is_gone(model, object, Node::Object(other)) {
+    if !is_in(numbers, Node::Object(other)) {
         return true;
     }
     match opposite(model.meta(), feature) {

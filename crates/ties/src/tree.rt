@@ -7,6 +7,8 @@ ghost use Rattle.ties.specs.TreeTies as t;
 use crate::inner::push_inner;
 use crate::outer::push_outer;
 use crate::tie::Tie;
+use containment::subtree;
+use deletion::{ends_touched_by, numbers_of};
 use link_store::LinkStore;
 use mm_types::ObjectNo;
 use models::ModelRef;
@@ -21,8 +23,11 @@ pub fn tree_ties<L: LinkStore>(
     requires live { is_live (reading model.now) object ≡ true }
     ensures { IfOk result (λ ts. ts.items ≡ t.tree_ties (reading model.now) object) }
 {
+    let objects = subtree(alloc, model, object)?;
+    let numbers = numbers_of(alloc, &objects)?;
+    let ends = ends_touched_by(alloc, model, object, &objects, &numbers)?;
     let mut ties = Vec::new(alloc);
-    push_inner(alloc, model, object, &mut ties)?;
-    push_outer(alloc, model, object, &mut ties)?;
+    push_inner(model, &objects, &numbers, &mut ties)?;
+    push_outer(model, &ends, &numbers, &mut ties)?;
     Ok(ties)
 }

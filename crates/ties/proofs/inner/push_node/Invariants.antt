@@ -3,12 +3,12 @@ use Rattle.mm_types.specs.Shapes.{shape}
 use Rattle.mm_types.specs.declared.numbers.FeatureNo.{FeatureNo}
 use Rattle.models.specs.Model.{reading}
 use Rattle.models.specs.Reading.{at_end}
-use Rattle.deletion.specs.Outer.{gone}
+use Rattle.deletion.specs.Ranks.{is_in}
 use Rattle.ties.specs.TreeTies.{end_ties}
 use Rattle.ties.proofs.inner.push_node.Given as goal
 
 abbrev pub invariant-loop-feature : goal.invariant-loop-feature
 invariant-loop-feature g l =
     let r = reading l.model in
-    let of_feature = λ (f : FeatureNo). if (shape l.model.metamodel f).is_reference then end_ties r (gone r l.object) (at_end l.node f) else [] in
+    let of_feature = λ (f : FeatureNo). if (shape l.model.metamodel f).is_reference then end_ties r (is_in l.numbers) (at_end l.node f) else [] in
     l.ties.items ++ flat_map of_feature (drop l.feature-index l.features) ≡ l.fn.ties.items ++ flat_map of_feature l.features

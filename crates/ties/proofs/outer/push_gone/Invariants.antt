@@ -1,12 +1,12 @@
 use Rattle.std.proofs.Common.{◌≡◌, ◌++◌, drop, filter, map}
 use Rattle.link_store.specs.Laws.{goes}
 use Rattle.models.specs.Model.{reading}
-use Rattle.deletion.specs.Outer.{gone}
+use Rattle.deletion.specs.Ranks.{is_in}
 use Rattle.ties.specs.TreeTies.{tie}
 use Rattle.ties.proofs.outer.push_gone.Given as goal
 
 abbrev pub invariant-loop-index : goal.invariant-loop-index
 invariant-loop-index g l =
     let r = reading l.model in
-    let lost = goes (gone r l.object) in
+    let lost = goes (is_in l.numbers) in
     l.ties.items ++ map (tie l.end) (filter lost (drop l.index (r.values l.end))) ≡ l.fn.ties.items ++ map (tie l.end) (filter lost (r.values l.end))

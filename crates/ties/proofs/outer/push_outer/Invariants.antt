@@ -1,10 +1,10 @@
 use Rattle.std.proofs.Common.{◌≡◌, ◌++◌, drop, flat_map}
 use Rattle.models.specs.Model.{reading}
-use Rattle.deletion.specs.Outer.{gone}
+use Rattle.deletion.specs.Ranks.{is_in}
 use Rattle.ties.specs.TreeTies.{outer_ties}
 use Rattle.ties.proofs.outer.push_outer.Given as goal
 
 abbrev pub invariant-loop-end : goal.invariant-loop-end
 invariant-loop-end g l =
-    let of_end = outer_ties (reading l.model) (gone (reading l.model) l.object) in
-    l.ties.items ++ flat_map of_end (drop l.end-index l.end-items) ≡ l.fn.ties.items ++ flat_map of_end l.end-items
+    let of_end = outer_ties (reading l.model) (is_in l.numbers) in
+    l.ties.items ++ flat_map of_end (drop l.end-index l.ends) ≡ l.fn.ties.items ++ flat_map of_end l.ends
