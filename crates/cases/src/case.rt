@@ -38,18 +38,15 @@ impl<'a> Case<'a> {
         Ok(case)
     }
 
-    /// The script, if the case has one.
-    pub(crate) fn script(&self) -> Option<&[u8]> {
-        if self.script.is_empty() {
-            return None;
-        }
-        Some(self.script.as_slice())
+    /// The script; empty where the case has none.
+    pub(crate) fn script(&self) -> &[u8] {
+        self.script.as_slice()
     }
 
     /// The script without its last newline.
-    pub(crate) fn unended_script(&self) -> Option<&[u8]> {
-        self.script()
-            .and_then(|bytes| bytes.strip_suffix(b"\n".as_slice()))
+    pub(crate) fn unended_script(&self) -> &[u8] {
+        let script = self.script();
+        script.strip_suffix(b"\n".as_slice()).unwrap_or(script)
     }
 
     /// Adds a line.

@@ -1,8 +1,8 @@
 //! Runs cases and compares what each gives with what it expects.
 //!
 //! `cases FILE..` reads files of cases and the metamodels that they name; CONTRIBUTING.md explains how a case is written.
-//! A case that differs is printed with what was expected and what it gave, and the status is then 1. The last line counts
-//! the cases.
+//! A script is run over each store of links. A case that differs is printed with the store, what was expected and what it
+//! gave, and the status is then 1. The last line counts the cases.
 #![tactic(auto)]
 
 mod case;
@@ -12,7 +12,10 @@ mod outcome;
 
 use case::Case;
 use fault::CaseFault;
-use outcome::outcome_of;
+use link_store::{LinkStore, RowStore};
+use outcome::{document_outcome, script_outcome};
+use slot_store::SlotStore;
+use std::alloc::Global;
 use std::io::{BufWriter, Read, Write};
 use std::process::ExitCode;
 use std::{env, fs, io};
@@ -45,13 +48,22 @@ fn read_file(rt: &HostRuntime, path: &str) -> Result<Vec<u8>, CaseFault> {
     }
 }
 
-/// Writes a difference.
-fn report<W: Write>(writer: &mut W, case: &Case<'_>, given: &[u8]) -> Result<(), io::Error> {
-    writeln!(writer, "case differs: {}", case.name)?;
+/// Whether a case gives what it expects, with a part of the program that is named; writes a difference.
+fn gives_expected<W: Write>(
+    writer: &mut W,
+    case: &Case<'_>,
+    part: &str,
+    given: &[u8],
+) -> Result<bool, io::Error> {
+    if given == case.expected.as_slice() {
+        return Ok(true);
+    }
+    writeln!(writer, "case differs with {part}: {}", case.name)?;
     writeln!(writer, "expected:")?;
     writer.write_all(case.expected.as_slice())?;
     writeln!(writer, "given:")?;
-    writer.write_all(given)
+    writer.write_all(given)?;
+    Ok(false)
 }
 
 /// The metamodel of a case.
@@ -65,18 +77,36 @@ fn metamodel_of(rt: &HostRuntime, case: &Case<'_>) -> Result<Vec<u8>, CaseFault>
     }
 }
 
-/// Runs a case, with the last newline of its script and without it; answers whether it gives what it expects.
-fn passes<W: Write>(rt: &HostRuntime, writer: &mut W, case: &Case<'_>) -> Result<bool, CaseFault> {
-    let metamodel = metamodel_of(rt, case)?;
+/// Runs the script of a case over a store of links, with its last newline and without it; answers whether it gives what it
+/// expects.
+fn passes_over<L: LinkStore, W: Write>(
+    alloc: Global,
+    writer: &mut W,
+    case: &Case<'_>,
+    metamodel: &[u8],
+    store: &str,
+) -> Result<bool, CaseFault> {
     let scripts = [case.script(), case.unended_script()];
     for script in scripts {
-        let given = outcome_of(rt.alloc(), metamodel.as_slice(), script)?;
-        if given.as_slice() != case.expected.as_slice() {
-            report(writer, case, given.as_slice())?;
+        let given = script_outcome::<L>(alloc, metamodel, script)?;
+        if !gives_expected(writer, case, store, given.as_slice())? {
             return Ok(false);
         }
     }
     Ok(true)
+}
+
+/// Runs a case, over each store where it has a script; answers whether it gives what it expects, and so the same over both.
+fn passes<W: Write>(rt: &HostRuntime, writer: &mut W, case: &Case<'_>) -> Result<bool, CaseFault> {
+    let metamodel = metamodel_of(rt, case)?;
+    let metamodel = metamodel.as_slice();
+    if case.script().is_empty() {
+        let given = document_outcome(rt.alloc(), metamodel)?;
+        return Ok(gives_expected(writer, case, "no store", given.as_slice())?);
+    }
+    let slots = passes_over::<SlotStore, W>(rt.alloc(), writer, case, metamodel, "SlotStore")?;
+    let rows = passes_over::<RowStore, W>(rt.alloc(), writer, case, metamodel, "RowStore")?;
+    Ok(slots && rows)
 }
 
 /// Parses a case and runs it.

@@ -1,6 +1,6 @@
 //! What a case gives.
 use adapters::{Adapter, Counter, Recorder, Window};
-use link_store::RowStore;
+use link_store::LinkStore;
 use mm_check::check;
 use mm_load::load_meta;
 use mm_meta::Meta;
@@ -22,7 +22,7 @@ const RECORDERS: u64 = 4;
 const LEFT: u64 = 2;
 
 /// What a script prints, and the fault that stopped it.
-fn printed_with<A: Adapter>(
+fn printed_with<L: LinkStore, A: Adapter>(
     alloc: Global,
     meta: Box<Meta>,
     boxes: Vec<A>,
@@ -31,7 +31,7 @@ fn printed_with<A: Adapter>(
     let mut reader = script;
     let mut found = Vec::new(alloc);
     let meta = Box::into_inner(meta);
-    let outcome = run::<RowStore, _, _, _>(alloc, &mut reader, &mut found, meta, boxes);
+    let outcome = run::<L, _, _, _>(alloc, &mut reader, &mut found, meta, boxes);
     match outcome {
         Err(fault) if writeln!(found, "stopped: {fault}").is_err() => Err(AllocError),
         _ => Ok(found),
@@ -43,7 +43,11 @@ fn recorder(alloc: Global) -> Result<Box<Recorder>, AllocError> {
 }
 
 /// What a script prints with the boxes of the program, and the fault that stopped it.
-fn printed(alloc: Global, meta: Box<Meta>, script: &[u8]) -> Result<Vec<u8>, AllocError> {
+fn printed<L: LinkStore>(
+    alloc: Global,
+    meta: Box<Meta>,
+    script: &[u8],
+) -> Result<Vec<u8>, AllocError> {
     let mut boxes: Vec<Box<dyn Adapter>> = Vec::new(alloc);
     for _ in 0..RECORDERS {
         boxes.push(recorder(alloc)?)?;
@@ -52,7 +56,7 @@ fn printed(alloc: Global, meta: Box<Meta>, script: &[u8]) -> Result<Vec<u8>, All
     boxes.push(Box::new(alloc, Window::new(alloc, 100)?)?)?;
     boxes.push(Box::new(alloc, Counter::new())?)?;
     boxes.push(Box::new(alloc, Counter::starting_at(u64::MAX - LEFT))?)?;
-    printed_with(alloc, meta, boxes, script)
+    printed_with::<L, _>(alloc, meta, boxes, script)
 }
 
 fn line(alloc: Global, fault: MetaFault) -> Result<Vec<u8>, AllocError> {
@@ -60,17 +64,22 @@ fn line(alloc: Global, fault: MetaFault) -> Result<Vec<u8>, AllocError> {
     Vec::from_slice(alloc, line.as_bytes())
 }
 
-/// What a case gives: its metamodel's fault; or `accepted`, where it has no script; or what the script prints.
-pub(crate) fn outcome_of(
+/// What a metamodel gives: its fault, or `accepted`.
+pub(crate) fn document_outcome(alloc: Global, metamodel: &[u8]) -> Result<Vec<u8>, AllocError> {
+    match loaded(alloc, metamodel) {
+        Err(fault) => line(alloc, fault),
+        Ok(_) => Vec::from_slice(alloc, b"accepted\n".as_slice()),
+    }
+}
+
+/// What a script gives over a store of links: its metamodel's fault, or what the script prints.
+pub(crate) fn script_outcome<L: LinkStore>(
     alloc: Global,
     metamodel: &[u8],
-    script: Option<&[u8]>,
+    script: &[u8],
 ) -> Result<Vec<u8>, AllocError> {
     match loaded(alloc, metamodel) {
         Err(fault) => line(alloc, fault),
-        Ok(meta) => match script {
-            Some(script) => printed(alloc, meta, script),
-            None => Vec::from_slice(alloc, b"accepted\n".as_slice()),
-        },
+        Ok(meta) => printed::<L>(alloc, meta, script),
     }
 }

@@ -3,12 +3,12 @@
 
 use adapters::{Adapter, Counter, Recorder, Window};
 use clap::error::ErrorKind;
-use link_store::RowStore;
 use mm_check::check;
 use mm_load::load_meta;
 use mm_meta::Meta;
 use mm_types::MetaFault;
 use script_program::{RunFault, meta_file, read_all, run};
+use slot_store::SlotStore;
 use std::alloc::{AllocError, AllocFailed};
 use std::io::{BufWriter, Write};
 use std::process::ExitCode;
@@ -111,7 +111,7 @@ fn run_script<A: Adapter>(rt: &HostRuntime, meta: Box<Meta>, boxes: Vec<A>) -> R
         return Err(Stop::Run(RunFault::Memory));
     };
     let meta = Box::into_inner(meta);
-    let outcome = run::<RowStore, _, _, _>(rt.alloc(), &mut rt.reader(), &mut writer, meta, boxes);
+    let outcome = run::<SlotStore, _, _, _>(rt.alloc(), &mut rt.reader(), &mut writer, meta, boxes);
     let flushed = writer.flush();
     outcome?;
     if flushed.is_err() {
