@@ -38,6 +38,6 @@ moved-shifted xs to from lt = moved-put_back xs to (min to (length xs - 1)) from
 pub shifted_past : (xs : List Value) (to from : ℕ) → length xs ≤ from → xs ≡ shifted xs to from
 shifted_past xs to from le = sym (ap (λ o. put_back o xs to from) (slice_get_past xs from le))
 
-pub remove_nothing : (i : ℕ) → remove {X = Value} [] i ≡ []
+pub remove_nothing : {X : Type 0} (i : ℕ) → remove {X = X} [] i ≡ []
 remove_nothing zero = refl
 remove_nothing (suc i) = refl

@@ -1,7 +1,7 @@
 -- What a change of a feature makes of a row, and what a change makes where there is no row.
-use Rattle.std.proofs.Common.{◌≡◌, zero, ◌+◌, ◌-◌, ◌≤◌, Global, true, false, eqb, List, [], Option, Some, None, if◌then◌else◌, refl, sym, ap, ◌∙◌, subst, arith}
-use Rattle.std.specs.Prelude.{Vec, vec_capacity, vec_len}
+use Rattle.std.proofs.Common.{◌≡◌, zero, ◌+◌, ◌≤◌, true, false, eqb, List, [], Option, Some, None, if◌then◌else◌, refl, sym, ap, ◌∙◌, subst, arith}
 use Rattle.std.proofs.lemmas.Bool.{eqb-true, eq-eqb, false≢true}
+use Rattle.slot_lists.specs.Places.{Places}
 use Rattle.mm_types.specs.declared.end.End.{End}
 use Rattle.mm_types.specs.Same.{same_feature}
 use Rattle.mm_types.specs.declared.numbers.FeatureNo.{FeatureNo}
@@ -12,6 +12,7 @@ use Rattle.node_rows.specs.declared.row.RowEdit.{RowEdit}
 use Rattle.node_rows.specs.declared.row.RowEdit.TheVariants.{Change, Hold, Enter, Leave, ForgetEntries}
 use Rattle.node_rows.specs.Slots.{AreSlotsEdited, pairing_after, pairing_of, places_of, slot_in, taken, unpaired, values_after, values_of}
 use Rattle.node_rows.specs.Rows.{IsRowEdited, RowFits}
+use Rattle.node_rows.proofs.ListLemmas.{remove_nothing}
 use Rattle.node_rows.proofs.SlotLemmas.{nothing_after, nothing_told, same_slot}
 
 module _ (f : FeatureNo) (x : SlotEdit) (old new : List Slot) (h : AreSlotsEdited f x old new) where
@@ -30,12 +31,12 @@ module _ (f : FeatureNo) (x : SlotEdit) (old new : List Slot) (h : AreSlotsEdite
 
 pub changed : (f : FeatureNo) (x : SlotEdit) (r s : Row) (e : RowEdit) → AreSlotsEdited f x r.slots.items s.slots.items → e ≡ Change f x → s.holder ≡ r.holder → s.entered ≡ r.entered → s.promised ≡ r.promised → IsRowEdited e (Some r) (Some s)
 changed f x r s e h is holder entered promised =
-    let entries = ap (λ (ds : Vec End Global). vec_capacity ds - vec_len ds) entered in
+    let entries = ap (λ (ds : Places End). ds.spare) entered in
     subst (λ (y : RowEdit). IsRowEdited y (Some r) (Some s)) (sym is) (record {
       vals = read_if f x r.slots.items s.slots.items h values_of (values_after x) h.here.values;
       pairing = read_if f x r.slots.items s.slots.items h pairing_of (pairing_after x) h.here.pairing;
       hold = holder;
-      entered = ap (λ (ds : Vec End Global). ds.items) entered;
+      entered = ap (λ (ds : Places End). ds.items) entered;
       places = places_if f x r.slots.items s.slots.items h;
       entries = omega (arith, entries, promised);
       kept = refl;
@@ -62,11 +63,11 @@ unedited_row (Hold None) None is fits = record {
   kept = refl;
 }
 unedited_row (Enter d) None is fits = absurd (omega (arith, fits))
-unedited_row (Leave d) None is fits = record {
+unedited_row (Leave i) None is fits = record {
   vals = λ g. refl;
   pairing = λ g. refl;
   hold = refl;
-  entered = refl;
+  entered = sym (remove_nothing i);
   places = λ g. omega arith;
   entries = omega arith;
   kept = refl;

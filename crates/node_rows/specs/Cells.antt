@@ -95,7 +95,7 @@ Fits n (Change f x) r = taken x ≤ r.places (record { node = n; feature = f })
 Fits n (Hold None) r = Unit {0}
 Fits n (Hold (Some d)) r = r.rows n ≡ true
 Fits n (Enter d) r = 1 ≤ r.entries n
-Fits n (Leave d) r = Unit {0}
+Fits n (Leave i) r = Unit {0}
 Fits n (ForgetEntries k) r = k ≤ r.entries n
 
 -- the room is what it was, but for the places that a change of the node n takes

@@ -1,6 +1,6 @@
 -- What is kept of one node, and what one change makes of it.
-use Rattle.std.specs.Prelude.{◌≡◌, ℕ, zero, ◌+◌, ◌-◌, ◌≤◌, Bool, true, false, not, List, [], ◌∷◌, ◌++◌, filter, min, Option, Some, None, if◌then◌else◌, vec_capacity, vec_len}
-use Rattle.mm_types.specs.Same.{same_end, same_feature}
+use Rattle.std.specs.Prelude.{◌≡◌, ℕ, zero, ◌+◌, ◌≤◌, Bool, true, false, List, [], ◌∷◌, ◌++◌, min, remove, Option, Some, None, if◌then◌else◌}
+use Rattle.mm_types.specs.Same.{same_feature}
 use Rattle.mm_types.specs.declared.numbers.FeatureNo.{FeatureNo}
 use Rattle.mm_types.specs.declared.end.End.{End}
 use Rattle.mm_types.specs.declared.value.Value.{Value}
@@ -41,7 +41,7 @@ row_places o f = places_of (row_slot o f)
 -- and how many ends more that hold the node
 abbrev pub row_entries : Option Row → ℕ
 row_entries None = zero
-row_entries (Some r) = min r.promised (vec_capacity r.entered - vec_len r.entered)
+row_entries (Some r) = min r.promised r.entered.spare
 
 abbrev pub is_row : Option Row → Bool
 is_row None = false
@@ -54,7 +54,7 @@ abbrev pub vals_after : RowEdit → FeatureNo → List Value → List Value
 vals_after (Change f x) g vs = if same_feature f g then values_after x vs else vs
 vals_after (Hold h) g vs = vs
 vals_after (Enter d) g vs = vs
-vals_after (Leave d) g vs = vs
+vals_after (Leave i) g vs = vs
 vals_after (ForgetEntries n) g vs = vs
 
 -- and of what is told of g
@@ -62,21 +62,21 @@ abbrev pub told_after : RowEdit → FeatureNo → Pairing → Pairing
 told_after (Change f x) g p = if same_feature f g then pairing_after x p else p
 told_after (Hold h) g p = p
 told_after (Enter d) g p = p
-told_after (Leave d) g p = p
+told_after (Leave i) g p = p
 told_after (ForgetEntries n) g p = p
 
 abbrev pub hold_after : RowEdit → Option End → Option End
 hold_after (Change f x) h = h
 hold_after (Hold o) h = o
 hold_after (Enter d) h = h
-hold_after (Leave d) h = h
+hold_after (Leave i) h = h
 hold_after (ForgetEntries n) h = h
 
 abbrev pub entered_after : RowEdit → List End → List End
 entered_after (Change f x) ds = ds
 entered_after (Hold o) ds = ds
 entered_after (Enter d) ds = ds ++ d ∷ []
-entered_after (Leave d) ds = filter (λ x. not (same_end x d)) ds
+entered_after (Leave i) ds = remove ds i
 entered_after (ForgetEntries n) ds = ds
 
 -- how many places for values at g a change takes
@@ -84,7 +84,7 @@ abbrev pub places_taken : RowEdit → FeatureNo → ℕ
 places_taken (Change f x) g = if same_feature f g then taken x else zero
 places_taken (Hold h) g = zero
 places_taken (Enter d) g = zero
-places_taken (Leave d) g = zero
+places_taken (Leave i) g = zero
 places_taken (ForgetEntries n) g = zero
 
 -- and how many for ends that hold the node
@@ -92,7 +92,7 @@ abbrev pub entries_taken : RowEdit → ℕ
 entries_taken (Change f x) = zero
 entries_taken (Hold h) = zero
 entries_taken (Enter d) = 1
-entries_taken (Leave d) = zero
+entries_taken (Leave i) = zero
 entries_taken (ForgetEntries n) = n
 
 -- there is a place for what the change brings; only a node with a row is told its holder
@@ -101,7 +101,7 @@ RowFits (Change f x) o = taken x ≤ row_places o f
 RowFits (Hold None) o = Unit {0}
 RowFits (Hold (Some d)) o = is_row o ≡ true
 RowFits (Enter d) o = 1 ≤ row_entries o
-RowFits (Leave d) o = Unit {0}
+RowFits (Leave i) o = Unit {0}
 RowFits (ForgetEntries n) o = n ≤ row_entries o
 
 pub record IsRowEdited (x : RowEdit) (old new : Option Row) : Type 0 where

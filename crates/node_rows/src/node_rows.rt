@@ -109,15 +109,31 @@ impl NodeRows {
         self.row(node)?.holder
     }
 
-    /// The ends with no opposite that hold a node.
+    /// How many ends with no opposite hold a node.
     #[tactic(auto, unfolding(crate::specs::Cells::cells))]
-    pub fn entered(&self, node: Node) -> &[End]
-        ensures { result.now ≡ (cells self.now).entered node }
+    pub fn entered_len(&self, node: Node) -> usize
+        ensures { result ≡ length ((cells self.now).entered node) }
     {
         match self.row(node) {
-            Some(row) => &row.entered,
-            None => &[],
+            Some(row) => row.entered.len(),
+            None => 0,
         }
+    }
+
+    /// The end at an index of those with no opposite that hold a node; `None` past the last.
+    #[tactic(auto, unfolding(crate::specs::Cells::cells))]
+    pub fn entered_at(&self, node: Node, index: usize) -> Option<&End>
+        ensures { option_copied result ≡ slice_get ((cells self.now).entered node) index }
+    {
+        self.row(node)?.entered.get(index)
+    }
+
+    /// The index of an end among those with no opposite that hold a node; `None` where it is not there.
+    #[tactic(auto, unfolding(crate::specs::Cells::cells))]
+    pub fn entered_position(&self, node: Node, end: End) -> Option<usize>
+        ensures { result ≡ position (same_end end) ((cells self.now).entered node) }
+    {
+        self.row(node)?.entered.position(&end)
     }
 
     /// Makes one change of a node. Takes no memory.

@@ -1,11 +1,12 @@
 //! What is kept of one node.
-ghost use Rattle.std.specs.Prelude.{◌≡◌, ℕ, ◌+◌, ◌≤◌, ◌<◌, [], filter, length, not, option_copied, position, vec_capacity, vec_len, IfOk, None, OnOk, Some};
-ghost use Rattle.mm_types.specs.Same.{same_end, same_feature};
+ghost use Rattle.std.specs.Prelude.{◌≡◌, ℕ, ◌+◌, ◌≤◌, ◌<◌, [], ◌∷◌, ◌++◌, is_ok, length, option_copied, position, if◌then◌else◌, IfOk, None, OnOk, Some};
+ghost use Rattle.mm_types.specs.Same.{same_feature};
 ghost use Rattle.node_rows.specs.Slots.{AreSlotsEdited, AreSlotsGrown, places_of, slot_in, taken};
 ghost use Rattle.node_rows.specs.Rows.{IsRowEdited, IsRowGrown, RowFits, row_entries};
 
-use crate::slot::{Slot, SlotEdit};
+use crate::slot::{Slot, SlotEdit, push_on, remove_from};
 use mm_types::{End, FeatureNo};
+use slot_lists::SlotList;
 use std::alloc::{AllocError, Global};
 
 /// One change of what is kept of a node.
@@ -17,8 +18,8 @@ pub enum RowEdit {
     Hold(Option<End>),
     /// Adds an end with no opposite that holds the node.
     Enter(End),
-    /// Takes such an end away.
-    Leave(End),
+    /// Takes such an end away, at its index; past the last nothing changes.
+    Leave(usize),
     /// Takes places back that were promised to such ends. No end changes.
     ForgetEntries(usize),
 }
@@ -30,8 +31,8 @@ pub struct Row {
     pub slots: Vec<Slot>,
     /// The end that contains the node.
     pub holder: Option<End>,
-    /// The ends with no opposite that hold the node, in no order.
-    pub entered: Vec<End>,
+    /// The ends with no opposite that hold the node, in the order in which they came.
+    pub entered: SlotList<End>,
     /// How many ends more are promised a place there.
     pub promised: usize,
 }
@@ -46,7 +47,7 @@ impl Row {
         Row {
             slots: Vec::new(alloc),
             holder: None,
-            entered: Vec::new(alloc),
+            entered: SlotList::new(alloc),
             promised: 0,
         }
     }
@@ -70,10 +71,10 @@ impl Row {
             RowEdit::Change(feature, edit) => edit_slot(&mut self.slots, feature, edit),
             RowEdit::Hold(holder) => self.holder = holder,
             RowEdit::Enter(end) => {
-                self.entered.push_reserved(end);
+                push_on(&mut self.entered, end);
                 self.promised -= 1;
             }
-            RowEdit::Leave(end) => leave(&mut self.entered, end),
+            RowEdit::Leave(index) => remove_from(&mut self.entered, index),
             RowEdit::ForgetEntries(places) => self.promised -= places,
         }
     }
@@ -91,8 +92,7 @@ impl Row {
     pub fn entries(&self) -> usize
         ensures { result ≡ row_entries (Some self.now) }
     {
-        self.promised
-            .min(self.entered.capacity() - self.entered.len())
+        self.promised.min(self.entered.spare())
     }
 
     /// Promises one more end that holds the node a place. Errs where memory is refused; no end changes.
@@ -128,20 +128,13 @@ fn edit_slot(slots: &mut Vec<Slot>, feature: FeatureNo, edit: SlotEdit)
     }
 }
 
-// Takes an end away, wherever it stands.
-fn leave(ends: &mut Vec<End>, end: End)
-    ensures items { ends.new.items ≡ filter (λ d. not (same_end d end)) ends.old.items }
-    ensures len { vec_len ends.new ≤ vec_len ends.old }
-    ensures capacity { vec_capacity ends.new ≡ vec_capacity ends.old }
+// Adds a slot, and room for half as many more. Errs where memory is refused, and then nothing has changed.
+fn push_slot(slots: &mut Vec<Slot>, slot: Slot) -> Result<(), AllocError>
+    ensures { slots.new.items ≡ (if is_ok result then slots.old.items ++ slot ∷ [] else slots.old.items) }
 {
-    let mut i = 0;
-    while i < ends.len() {
-        if ends[i] == end {
-            let _end = ends.remove(i);
-        } else {
-            i += 1;
-        }
-    }
+    slots.reserve_exact(slots.len() / 2 + 1)?;
+    slots.push(slot)?;
+    Ok(())
 }
 
 // Makes a slot for a feature, where it has none.
@@ -153,7 +146,7 @@ fn add_slot(slots: &mut Vec<Slot>, feature: FeatureNo) -> Result<(), AllocError>
         return Ok(());
     }
     let alloc = *slots.allocator();
-    slots.push(Slot::new(alloc, feature))?;
+    push_slot(slots, Slot::new(alloc, feature))?;
     Ok(())
 }
 

@@ -127,7 +127,7 @@ impl Slot {
 }
 
 // Puts a value in, in a place that there is.
-fn insert_in(values: &mut SlotList<Value>, index: usize, value: Value)
+fn insert_in<T: Drop>(values: &mut SlotList<T>, index: usize, value: T)
     requires { 1 ≤ values.old.spare }
     ensures items { values.new.items ≡ insert values.old.items index value }
     ensures places { values.old.spare ≤ values.new.spare + 1 }
@@ -139,7 +139,7 @@ fn insert_in(values: &mut SlotList<Value>, index: usize, value: Value)
 }
 
 // Puts a value in last, in a place that there is.
-fn push_on(values: &mut SlotList<Value>, value: Value)
+pub(crate) fn push_on<T: Drop>(values: &mut SlotList<T>, value: T)
     requires { 1 ≤ values.old.spare }
     ensures items { values.new.items ≡ values.old.items ++ value ∷ [] }
     ensures places { values.old.spare ≤ values.new.spare + 1 }
@@ -147,7 +147,8 @@ fn push_on(values: &mut SlotList<Value>, value: Value)
     insert_in(values, values.len(), value);
 }
 
-fn remove_from(values: &mut SlotList<Value>, index: usize)
+// Takes a value out; past the end nothing changes.
+pub(crate) fn remove_from<T: Drop>(values: &mut SlotList<T>, index: usize)
     ensures items { values.new.items ≡ remove values.old.items index }
     ensures places { values.old.spare ≤ values.new.spare }
 {

@@ -1,15 +1,21 @@
 -- What each part of an edit makes of the cells: of the values of an end, of what is told of it, of the holders and of what holds a node.
-use Rattle.std.proofs.Common.{◌≡◌, ◌≢◌, Bool, true, false, ◌&&◌, Option, Some, None, if◌then◌else◌, refl, sym, ap, ◌∙◌, subst, inl, inr}
+use Rattle.std.proofs.Common.{◌≡◌, ◌≢◌, ℕ, Bool, true, false, ◌&&◌, Option, Some, None, if◌then◌else◌, refl, sym, ap, ◌∙◌, subst, inl, inr}
 use Rattle.std.specs.Prelude.{◌⊎◌}
+use Rattle.std.specs.List.{position, remove}
+use Rattle.std.specs.Option.{option_map_or}
 use Rattle.std.proofs.lemmas.Bool.{cases_Bool, true≢false}
 use Rattle.mm_types.specs.Same.{same_end, same_feature, same_node}
 use Rattle.mm_types.specs.declared.numbers.Node.{Node}
+use Rattle.mm_types.specs.declared.numbers.Node.TheVariants as node
+use Rattle.mm_types.specs.declared.numbers.ObjectNo.{ObjectNo}
 use Rattle.mm_types.specs.declared.end.End.{End}
 use Rattle.mm_types.proofs.SameLemmas.{same_end-self, same_node-true}
 use Rattle.link_store.proofs.PlaceLemmas.{ne-same_end, same_node_if}
-use Rattle.node_rows.specs.Cells.{Cells}
+use Rattle.node_rows.specs.declared.row.RowEdit.TheVariants.{Leave}
+use Rattle.node_rows.specs.Cells.{Cells, cell_edit}
 pub use Rattle.node_rows.proofs.CellLemmas.{same_twice}
-use Rattle.slot_store.specs.EditedCells.{holds, released}
+use Rattle.slot_store.specs.EditedCells.{holds, released, without_entry}
+use Rattle.slot_store.proofs.OnceLemmas.{without_end}
 
 pub two_tests : {X : Type 0} (a b : Bool) (y z : X) → (if a then (if b then y else z) else z) ≡ (if a && b then y else z)
 two_tests true b y z = refl
@@ -70,3 +76,30 @@ released-pairing (Some p) c x = same_twice (same_node p.0 x.node) (c.pairing x)
 pub released-entered : (o : Option (Node × End)) (c : Cells) (m : Node) → (released o c).entered m ≡ c.entered m
 released-entered None c m = refl
 released-entered (Some p) c m = same_twice (same_node p.0 m) (c.entered m)
+
+---------------------------------------------------------------- an entry taken out
+
+module _ (e : End) (o : ObjectNo) (c : Cells) where
+  abbrev left : Option ℕ → Cells
+  left p = option_map_or (λ (i : ℕ). cell_edit (node.Object o) (Leave i) c) p c
+
+  pub entry_out-vals : (x : End) → (without_entry e o c).vals x ≡ c.vals x
+  entry_out-vals x = elim (position (same_end e) (c.entered (node.Object o))) as (λ p. (left p).vals x ≡ c.vals x) [ None ↦ refl | Some i ↦ same_twice (same_node (node.Object o) x.node) (c.vals x) ]
+
+  pub entry_out-pairing : (x : End) → (without_entry e o c).pairing x ≡ c.pairing x
+  entry_out-pairing x = elim (position (same_end e) (c.entered (node.Object o))) as (λ p. (left p).pairing x ≡ c.pairing x) [ None ↦ refl | Some i ↦ same_twice (same_node (node.Object o) x.node) (c.pairing x) ]
+
+  pub entry_out-hold : (m : Node) → (without_entry e o c).hold m ≡ c.hold m
+  entry_out-hold m = elim (position (same_end e) (c.entered (node.Object o))) as (λ p. (left p).hold m ≡ c.hold m) [ None ↦ refl | Some i ↦ same_twice (same_node (node.Object o) m) (c.hold m) ]
+
+  -- of the object itself
+  entry_out : (without_entry e o c).entered (node.Object o) ≡ without_end e (c.entered (node.Object o))
+  entry_out =
+      let ds = c.entered (node.Object o) in
+      elim (position (same_end e) ds) as (λ p. (left p).entered (node.Object o) ≡ option_map_or (λ (i : ℕ). remove ds i) p ds) [ None ↦ refl | Some i ↦ if_node (node.Object o) (node.Object o) (remove ds i) ds refl ]
+
+  pub entry_out_here : (m : Node) → node.Object o ≡ m → (without_entry e o c).entered m ≡ without_end e (c.entered m)
+  entry_out_here m is = subst (λ (n : Node). (without_entry e o c).entered n ≡ without_end e (c.entered n)) is entry_out
+
+  pub entry_out_there : (m : Node) → node.Object o ≢ m → (without_entry e o c).entered m ≡ c.entered m
+  entry_out_there m ne = elim (position (same_end e) (c.entered (node.Object o))) as (λ p. (left p).entered m ≡ c.entered m) [ None ↦ refl | Some i ↦ else_node (node.Object o) m (remove (c.entered m) i) (c.entered m) ne ]

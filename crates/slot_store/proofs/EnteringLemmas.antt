@@ -1,6 +1,7 @@
 -- What is read of an object's own lists and entries is which ends have it.
 use Rattle.std.proofs.Common.{◌≡◌, ℕ, zero, suc, ◌+◌, ◌<◌, ◌≤◌, true, false, List, [], ◌∷◌, ◌++◌, drop, length, add-one, append-nil, append_assoc, Option, Some, None, if◌then◌else◌, MatchOption, map, refl, sym, ap, ◌∙◌, subst, inl, inr, arith}
 use Rattle.std.specs.List.{position, slice_get}
+use Rattle.std.specs.Option.{option_to_list}
 use Rattle.std.specs.Coded.{Coded-set, coded_bool}
 use Rattle.std.proofs.Math.Logic.{∥∥₁_elim}
 use Rattle.std.proofs.lemmas.Bool.{eqb-true, false≢true, or_cases, or_left}
@@ -52,6 +53,25 @@ next_far f vs i o out now all lt at is rest =
 
 pub last_far : (f : FeatureNo) (vs : List Value) (i : ℕ) (out all : List End) → length vs ≤ i → out ++ far_ends f (drop i vs) ≡ all → out ≡ all
 last_far f vs i out all le rest = sym (append-nil out) ∙ ap (λ (ws : List Value). out ++ far_ends f ws) (sym (drop_all i vs le)) ∙ rest
+
+---------------------------------------------------------------- the entries
+
+drop_end : (ds : List End) (i : ℕ) → i < length ds → drop i ds ≡ option_to_list (slice_get ds i) ++ drop (suc i) ds
+drop_end [] i lt = absurd (omega (arith, lt))
+drop_end (d ∷ ds) zero lt = refl
+drop_end (d ∷ ds) (suc i) lt = drop_end ds i (omega (arith, lt))
+
+-- one more of the ends that are left
+pub next_end : (ds : List End) (i : ℕ) (o : Option End) (out now all : List End) → i < length ds → o ≡ slice_get ds i → now ≡ out ++ option_to_list o → out ++ drop i ds ≡ all → now ++ drop (i + 1) ds ≡ all
+next_end ds i o out now all lt at is rest =
+    let left = drop (i + 1) ds in
+    let step : drop i ds ≡ option_to_list (slice_get ds i) ++ left = rw add-one (drop_end ds i lt) in
+    let part = option_to_list (slice_get ds i) in
+    let assoc : (out ++ part) ++ left ≡ out ++ (part ++ left) = rw append_assoc refl in
+    ap (λ (es : List End). es ++ left) (is ∙ ap (λ (p : Option End). out ++ option_to_list p) at)
+    ∙ assoc
+    ∙ ap (λ (es : List End). out ++ es) (sym step)
+    ∙ rest
 
 ---------------------------------------------------------------- members
 

@@ -26,7 +26,7 @@ use Rattle.slot_store.specs.CellLinks.{IsKept, Stands, StandsAlone, cell_links, 
 use Rattle.slot_store.specs.EditedCells.{cells_after, held}
 use Rattle.slot_store.proofs.CellEditLemmas.{same_twice}
 use Rattle.slot_store.proofs.KeptEndLemmas.{cut_is, ends_cut, ends_cut_proxy, ends_put, ends_put_proxy, ends_shift, link_within}
-use Rattle.slot_store.proofs.KeptEntryLemmas.{AreEntered, EntersAlone, entered_cut, entered_cut_proxy, entered_put, entered_put_proxy, entered_shift}
+use Rattle.slot_store.proofs.KeptEntryLemmas.{AreEntered, AreOnce, EntersAlone, entered_cut, entered_cut_proxy, entered_put, entered_put_proxy, entered_shift, once_cut, once_put, once_same, without-entered}
 use Rattle.slot_store.proofs.KeptHolderLemmas.{AreTwo, cut-hold, link_holding, new_holding, pair_holding, put-hold, without-hold}
 use Rattle.slot_store.proofs.LinkLemmas.{end-lists, lists_placed}
 use Rattle.slot_store.proofs.RebuiltLemmas.{rebuilt, rebuilt_links}
@@ -49,14 +49,15 @@ far_two s e o (Some g) fits = fits.apart
 
 -- the cells whose lists are the ends of a legal set are kept, and stand for it
 module _ (m : Kinds) (meta : AreKinds m) (s : Links) (legal : IsLegalSet s) (of : AreOfKind m s) (d : Cells) (fs : List End) (keys : HasKeys d fs) (told : IsTold m d) (same : (x : End) → end s x ≡ d.vals x) where
-  kept_from : ((n : Node) → d.hold n ≡ holder s n) → AreEntered m d → IsKept d fs × (cell_links d fs ≡ s)
-  kept_from holds entered =
+  kept_from : ((n : Node) → d.hold n ≡ holder s n) → AreEntered m d → AreOnce d → IsKept d fs × (cell_links d fs ≡ s)
+  kept_from holds entered once =
       let is = rebuilt_links m meta s legal.placed of d fs keys told same in (
         record {
           lists = rebuilt m meta s legal.placed of d fs keys told same;
           held = subst IsHeldOnce (sym is) legal.held;
           holds = λ n. holds n ∙ ap (λ (t : Links). holder t n) (sym is);
           entered = λ o x. (λ h. told_alone m d told o x ((entered o x).0 h), λ h. (entered o x).1 (alone_told m d told o x h));
+          once = once;
         },
         is,
       )
@@ -96,8 +97,8 @@ module _ (m : Kinds) (meta : AreKinds m) (c : Cells) (es : List End) (ok : IsKep
     abbrev now : Cells
     now = cells_after x c
 
-    kept_by : IsTold m now → ((y : End) → end (edited was x) y ≡ now.vals y) → ((n : Node) → now.hold n ≡ holder (edited was x) n) → AreEntered m now → IsKept now fs × (cell_links now fs ≡ edited was x)
-    kept_by telling same holds entering = kept_from m meta (edited was x) (edited_legal was x legal fits) (plan_keeps_kinds m meta was (x ∷ []) of (kind, tt)) now fs keys telling same holds entering
+    kept_by : IsTold m now → ((y : End) → end (edited was x) y ≡ now.vals y) → ((n : Node) → now.hold n ≡ holder (edited was x) n) → AreEntered m now → AreOnce now → IsKept now fs × (cell_links now fs ≡ edited was x)
+    kept_by telling same holds entering single = kept_from m meta (edited was x) (edited_legal was x legal fits) (plan_keeps_kinds m meta was (x ∷ []) of (kind, tt)) now fs keys telling same holds entering single
 
   kept_cut : (e : End) (o : ObjectNo) (fs : List End) → EditFits was (edit.Cut e o) → HasKeys (cells_after (edit.Cut e o) c) fs → IsKept (cells_after (edit.Cut e o) c) fs × (cell_links (cells_after (edit.Cut e o) c) fs ≡ edited was (edit.Cut e o))
   kept_cut e o fs fits keys =
@@ -110,7 +111,8 @@ module _ (m : Kinds) (meta : AreKinds m) (c : Cells) (es : List End) (ok : IsKep
       cut-hold e o g h c n ∙ ap (unheld (pair_holding (held e o g h) n)) (ok.holds n)
       ∙ ap (λ (p : Option End). unheld p (holder was n)) (sym (link_holding c e k o g (two_of e k o g at refl) n))
       ∙ cut_holder e k (value.Object o) at n)
-      (entered_cut m meta c entered e k o h (ok.lists.distinct e) at g (sym (opposite_told m c told o e (k, at))) ok.lists.distinct)
+      (entered_cut m meta c entered e k o h (ok.lists.distinct e) at g (sym (opposite_told m c told o e (k, at))) ok.once ok.lists.distinct)
+      (once_cut m meta c entered e k o h (ok.lists.distinct e) at g (sym (opposite_told m c told o e (k, at))) ok.once)
 
   kept_cut_proxy : (e : End) (t : List ℕ) (fs : List End) → EditFits was (edit.CutProxy e t) → HasKeys (cells_after (edit.CutProxy e t) c) fs → IsKept (cells_after (edit.CutProxy e t) c) fs × (cell_links (cells_after (edit.CutProxy e t) c) fs ≡ edited was (edit.CutProxy e t))
   kept_cut_proxy e t fs fits keys =
@@ -119,6 +121,7 @@ module _ (m : Kinds) (meta : AreKinds m) (c : Cells) (es : List End) (ok : IsKep
       kept_by (edit.CutProxy e t) fs fits tt keys (told_without m c told e v) (ends_cut_proxy c es ok.lists e fits.0 t at)
       (λ n. without-hold e v c n ∙ ok.holds n ∙ cut_holder e fits.0 v at n)
       (entered_cut_proxy m meta c entered e fits.0 t (ok.lists.distinct e) at)
+      (once_same c (cells_after (edit.CutProxy e t) c) (without-entered e v c) ok.once)
 
   kept_put : (e : End) (i : ℕ) (o : ObjectNo) (g h : Option FeatureNo) (fs : List End) → EditFits was (edit.Put e i o g h) → IsEditOfKind m (edit.Put e i o g h) → HasKeys (cells_after (edit.Put e i o g h) c) fs → IsKept (cells_after (edit.Put e i o g h) c) fs × (cell_links (cells_after (edit.Put e i o g h) c) fs ≡ edited was (edit.Put e i o g h))
   kept_put e i o g h fs fits kind keys =
@@ -130,6 +133,7 @@ module _ (m : Kinds) (meta : AreKinds m) (c : Cells) (es : List End) (ok : IsKep
       ∙ ap (λ (p : Option End). option_or p (holder was n)) (sym (new_holding was e i o g h (far_two was e o g fits.1) n))
       ∙ sym (holder-put was e i o g h ok.held free n))
       (entered_put m meta c entered e i o h g (sym kind.0) le)
+      (once_put m meta c entered e i o h g (sym kind.0) le (λ at. fits.0.absent at.0 (ap (λ (xs : List Value). slice_get xs at.0) (ends e) ∙ at.1)) ok.once)
 
   kept_put_proxy : (e : End) (i : ℕ) (t : List ℕ) (fs : List End) → EditFits was (edit.PutProxy e i t) → IsEditOfKind m (edit.PutProxy e i t) → HasKeys (cells_after (edit.PutProxy e i t) c) fs → IsKept (cells_after (edit.PutProxy e i t) c) fs × (cell_links (cells_after (edit.PutProxy e i t) c) fs ≡ edited was (edit.PutProxy e i t))
   kept_put_proxy e i t fs fits kind keys =
@@ -137,6 +141,7 @@ module _ (m : Kinds) (meta : AreKinds m) (c : Cells) (es : List End) (ok : IsKep
       kept_by (edit.PutProxy e i t) fs fits kind keys (told_proxy m c told e i t le kind) (ends_put_proxy c es ok.lists e i t legal.placed fits)
       (λ n. same_twice (same_node e.node n) (c.hold n) ∙ ok.holds n ∙ sym (holder-put_proxy was e i t ok.held n))
       (entered_put_proxy m meta c entered e i t le)
+      (once_same c (cells_after (edit.PutProxy e i t) c) (λ n. same_twice (same_node e.node n) (c.entered n)) ok.once)
 
   kept_shift : (e : End) (to from : ℕ) (fs : List End) → EditFits was (edit.Shift e to from) → HasKeys (cells_after (edit.Shift e to from) c) fs → IsKept (cells_after (edit.Shift e to from) c) fs × (cell_links (cells_after (edit.Shift e to from) c) fs ≡ edited was (edit.Shift e to from))
   kept_shift e to from fs fits keys =
@@ -147,6 +152,7 @@ module _ (m : Kinds) (meta : AreKinds m) (c : Cells) (es : List End) (ok : IsKep
       kept_by (edit.Shift e to from) fs fits tt keys (told_shift m c told e to from w at lt_to) (ends_shift c es ok.lists e to from legal.placed fits.0 fits.1)
       (λ n. same_twice (same_node e.node n) (c.hold n) ∙ ok.holds n ∙ sym (holder-shift was e to from ok.held n))
       (entered_shift m meta c entered e to from w at lt_to)
+      (once_same c (cells_after (edit.Shift e to from) c) (λ n. same_twice (same_node e.node n) (c.entered n)) ok.once)
 
   pub kept_edit : (x : Edit) (fs : List End) → EditFits was x → IsEditOfKind m x → HasKeys (cells_after x c) fs → IsKept (cells_after x c) fs × (cell_links (cells_after x c) fs ≡ edited was x)
   kept_edit (edit.Cut e o) fs fits kind keys = kept_cut e o fs fits keys

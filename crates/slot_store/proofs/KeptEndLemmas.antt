@@ -30,7 +30,7 @@ use Rattle.node_rows.specs.declared.slot.SlotEdit.TheVariants.{Move, Remove}
 use Rattle.node_rows.specs.Cells.{Cells, cell_edit}
 use Rattle.slot_store.specs.CellLinks.{AreLists, cell_links, link_from, link_to}
 use Rattle.slot_store.specs.EditedCells.{cut_cells, cut_far, held, put_cells, put_far, put_near, without_value}
-use Rattle.slot_store.proofs.CellEditLemmas.{here, holds-vals, released-vals, same_twice, there, two_tests}
+use Rattle.slot_store.proofs.CellEditLemmas.{entry_out-vals, here, holds-vals, released-vals, same_twice, there, two_tests}
 use Rattle.slot_store.proofs.LinkLemmas.{end-lists, link_in, lists_placed, place_from, slice_get-index_in}
 use Rattle.slot_store.proofs.PositionLemmas.{position_is}
 
@@ -161,7 +161,7 @@ module _ (c : Cells) (es : List End) (ok : AreLists c es) where
     cut_at : (g : Option FeatureNo) → (c.pairing e).opposite ≡ g → (x : End) → without (c.vals x) (place (link_to c e k o g) x) ≡ (without_value e v (cut_far e o g c)).vals x
     cut_at None q x =
         let d = cut_far e o None c in
-        let same : (z : End) → d.vals z ≡ c.vals z = λ z. same_twice (same_node (node.Object o) z.node) (c.vals z) in
+        let same : (z : End) → d.vals z ≡ c.vals z = λ z. entry_out-vals e o c z in
         elim (cases_end e x) [
           | inl is ↦
               ap (λ (p : Option FeatureNo). without (c.vals x) (place (link_to c e k o p) x)) (sym q) ∙ sym (without_here e k v at d x (same e) (same x) is)

@@ -18,17 +18,18 @@ use Rattle.link_store.specs.LegalSets.{AreKinds, IsDistinct, Kinds}
 use Rattle.link_store.specs.Links.{far_end}
 use Rattle.link_store.specs.Plans.{has_end}
 use Rattle.link_store.proofs.IncomingLemmas.{has_end_left}
-use Rattle.link_store.proofs.ListLemmas.{removed_absent}
+use Rattle.link_store.proofs.ListLemmas.{distinct_remove, removed_absent}
 use Rattle.link_store.proofs.PlaceLemmas.{not_proxy, same_node_value}
 use Rattle.link_store.proofs.PutLemmas.{cases_end}
 use Rattle.node_rows.specs.declared.row.RowEdit.TheVariants.{Change}
 use Rattle.node_rows.specs.declared.slot.SlotEdit.TheVariants.{Move, Remove}
 use Rattle.node_rows.specs.Cells.{Cells, cell_edit}
-use Rattle.slot_store.specs.CellLinks.{Stands}
+use Rattle.slot_store.specs.CellLinks.{IsOnce, Stands}
 use Rattle.slot_store.specs.EditedCells.{cut_cells, cut_far, held, put_cells, put_far, put_near, without_value}
-use Rattle.slot_store.proofs.CellEditLemmas.{cases_node, else_node, here, holds-entered, holds-vals, if_node, released-entered, released-vals, same_twice, there}
+use Rattle.slot_store.proofs.CellEditLemmas.{cases_node, else_node, entry_out-vals, entry_out_here, entry_out_there, here, holds-entered, holds-vals, if_node, released-entered, released-vals, same_twice, there}
 use Rattle.slot_store.proofs.KeptEndLemmas.{without_is}
-use Rattle.slot_store.proofs.StandLemmas.{Stands-insert, Stands-remove, Stands-shifted, Stands_insert_new, Stands_insert_old, Stands_remove, Stands_shifted, has_end-others, has_end-push, has_end_new, has_end_others}
+use Rattle.slot_store.proofs.StandLemmas.{Stands-insert, Stands-remove, Stands-shifted, Stands_insert_new, Stands_insert_old, Stands_remove, Stands_shifted, has_end-push, has_end_new}
+use Rattle.slot_store.proofs.OnceLemmas.{has_end-without, has_end_without, once-push, once-without, without_end}
 
 -- the object stands in x, which has no opposite
 abbrev pub EntersAlone : Kinds → Cells → ObjectNo → End → Type 0
@@ -37,6 +38,13 @@ EntersAlone m c o x = (m.opposite x.feature ≡ None) × Stands (c.vals x) (valu
 -- the ends that are kept of each object are those that have it alone
 abbrev pub AreEntered : Kinds → Cells → Type 0
 AreEntered m c = (o : ObjectNo) (x : End) → (has_end (c.entered (node.Object o)) x ≡ true) ↔ EntersAlone m c o x
+
+-- each of them once
+abbrev pub AreOnce : Cells → Type 0
+AreOnce c = (o : ObjectNo) → IsOnce (c.entered (node.Object o))
+
+pub once_same : (c d : Cells) → ((n : Node) → d.entered n ≡ c.entered n) → AreOnce c → AreOnce d
+once_same c d same once o = subst IsOnce (sym (same (node.Object o))) (once o)
 
 ---------------------------------------------------------------- lists that an edit leaves
 
@@ -50,15 +58,28 @@ without-other e v c x ne = elim (position (same_value v) (c.vals e)) as (λ p. (
   | Some i ↦ there e x (remove (c.vals x) i) (c.vals x) ne
 ]
 
-without-entered : (e : End) (v : Value) (c : Cells) (n : Node) → (without_value e v c).entered n ≡ c.entered n
+pub without-entered : (e : End) (v : Value) (c : Cells) (n : Node) → (without_value e v c).entered n ≡ c.entered n
 without-entered e v c n = elim (position (same_value v) (c.vals e)) as (λ p. (option_map_or (λ (i : ℕ). cell_edit e.node (Change e.feature (Remove i)) c) p c).entered n ≡ c.entered n) [
   | None ↦ refl
   | Some i ↦ same_twice (same_node e.node n) (c.entered n)
 ]
 
 cut_far-other : (e : End) (o : ObjectNo) (g : Option FeatureNo) (c : Cells) (x : End) → (IsFar o g x → ⊥) → (cut_far e o g c).vals x ≡ c.vals x
-cut_far-other e o None c x out = same_twice (same_node (node.Object o) x.node) (c.vals x)
+cut_far-other e o None c x out = entry_out-vals e o c x
 cut_far-other e o (Some g) c x out = without-other (far_end o g) (node_value e.node) c x out
+
+-- a cut at the far side leaves lists that repeat nothing
+pub cut_far-distinct : (e : End) (o : ObjectNo) (g : Option FeatureNo) (c : Cells) → ((x : End) → IsDistinct (c.vals x)) → (x : End) → IsDistinct ((cut_far e o g c).vals x)
+cut_far-distinct e o None c once x = subst IsDistinct (sym (entry_out-vals e o c x)) (once x)
+cut_far-distinct e o (Some g) c once x =
+    let y = far_end o g in
+    elim (position (same_value (node_value e.node)) (c.vals y)) as (λ p. IsDistinct ((option_map_or (λ (i : ℕ). cell_edit y.node (Change y.feature (Remove i)) c) p c).vals x)) [
+      | None ↦ once x
+      | Some i ↦ elim (cases_end y x) [
+        | inl is ↦ subst IsDistinct (sym (here y x (remove (c.vals x) i) (c.vals x) is)) (distinct_remove (c.vals x) i (once x))
+        | inr ne ↦ subst IsDistinct (sym (there y x (remove (c.vals x) i) (c.vals x) ne)) (once x)
+      ]
+    ]
 
 module _ (m : Kinds) (meta : AreKinds m) (c : Cells) (entered : AreEntered m c) where
   -- where lists with no opposite keep their objects, and the entries stay
@@ -93,6 +114,10 @@ module _ (m : Kinds) (meta : AreKinds m) (c : Cells) (entered : AreEntered m c) 
 
     put_there : (g : Option FeatureNo) (x : End) → (IsFar n g x → ⊥) → e ≢ x → (put_cells e i n g h c).vals x ≡ c.vals x
     put_there g x out ne = holds-vals (held e n g h) (put_far e n g h (near g)) x ∙ put_far-other e n g h (near g) x out ∙ there e x (insert (c.vals x) i (value.Object n)) (c.vals x) ne
+
+    -- with an opposite the entries stay
+    entries_put : (g : FeatureNo) (k : Node) → (put_cells e i n (Some g) h c).entered k ≡ c.entered k
+    entries_put g k = holds-entered (held e n (Some g) h) (put_far e n (Some g) h (near (Some g))) k ∙ same_twice (same_node (node.Object n) k) ((near (Some g)).entered k) ∙ same_twice (same_node e.node k) (c.entered k)
 
     module _ (q : m.opposite e.feature ≡ None) (le : i ≤ length (c.vals e)) (o : ObjectNo) (x : End) where
       abbrev d : Cells
@@ -152,12 +177,23 @@ module _ (m : Kinds) (meta : AreKinds m) (c : Cells) (entered : AreEntered m c) 
         | inr ne ↦ pushed ((entered o x).1 (now.0, stood d x o (put_there None x (λ f. f) ne) now.1))
       ]
 
+    -- a put of what is not there enters the object once
+    pub once_put : (g : Option FeatureNo) → m.opposite e.feature ≡ g → i ≤ length (c.vals e) → (Stands (c.vals e) (value.Object n) → ⊥) → AreOnce c → AreOnce (put_cells e i n g h c)
+    once_put None q le absent single o = subst IsOnce (sym (base q le o e)) (
+        let ds = c.entered (node.Object o) in
+        elim (cases_node (node.Object n) (node.Object o)) [
+          | inl who ↦ subst IsOnce (sym (if_node (node.Object n) (node.Object o) (ds ++ e ∷ []) ds who))
+              (once-push ds e (single o) (λ p. absent (subst (λ (y : Node). Stands (c.vals e) (node_value y)) (sym who) ((entered o e).0 p).1)))
+          | inr ne ↦ subst IsOnce (sym (else_node (node.Object n) (node.Object o) (ds ++ e ∷ []) ds ne)) (single o)
+        ])
+    once_put (Some g) q le absent single o = once_same c (put_cells e i n (Some g) h c) (entries_put g) single o
+
     pub entered_put : (g : Option FeatureNo) → m.opposite e.feature ≡ g → i ≤ length (c.vals e) → AreEntered m (put_cells e i n g h c)
     entered_put None q le = λ o x. (into q le o x, out_of q le o x)
     entered_put (Some g) q le =
         let d = put_cells e i n (Some g) h c in
         let same : (x : End) → m.opposite x.feature ≡ None → d.vals x ≡ c.vals x = λ x alone. put_there (Some g) x (no_far e n (Some g) q x alone) (with_opposite e g q x alone) in
-        carry d (λ k. holds-entered (held e n (Some g) h) (put_far e n (Some g) h (near (Some g))) k ∙ same_twice (same_node (node.Object n) k) ((near (Some g)).entered k) ∙ same_twice (same_node e.node k) (c.entered k))
+        carry d (entries_put g)
         (λ x o alone. stands_now d x o (same x alone)) (λ x o alone. stood d x o (same x alone))
 
   ---------------------------------------------------------------- proxies and moves
@@ -240,12 +276,18 @@ module _ (m : Kinds) (meta : AreKinds m) (c : Cells) (entered : AreEntered m c) 
     left_entered : (g : Option FeatureNo) (p : Node) → (cut_d g).entered p ≡ (cut_far e n g c).entered p
     left_entered g p = released-entered (held e n g h) (without_value e (value.Object n) (cut_far e n g c)) p ∙ without-entered e (value.Object n) (cut_far e n g c) p
 
-    module _ (q : m.opposite e.feature ≡ None) (o : ObjectNo) (x : End) where
+    module _ (q : m.opposite e.feature ≡ None) (single : AreOnce c) (o : ObjectNo) (x : End) where
       abbrev pub all_ends : List End
       all_ends = c.entered (node.Object o)
 
       abbrev pub left_ends : List End
       left_ends = (cut_d None).entered (node.Object o)
+
+      left_here : node.Object n ≡ node.Object o → left_ends ≡ without_end e all_ends
+      left_here who = left_entered None (node.Object o) ∙ entry_out_here e n c (node.Object o) who
+
+      left_there : node.Object n ≢ node.Object o → left_ends ≡ all_ends
+      left_there ne = left_entered None (node.Object o) ∙ entry_out_there e n c (node.Object o) ne
 
       stays : e ≢ x → EntersAlone m c o x → EntersAlone m (cut_d None) o x
       stays ne old = (old.0, stands_now (cut_d None) x o (cut_there None x (λ f. f) ne) old.1)
@@ -253,10 +295,10 @@ module _ (m : Kinds) (meta : AreKinds m) (c : Cells) (entered : AreEntered m c) 
       cut_into : has_end left_ends x ≡ true → EntersAlone m (cut_d None) o x
       cut_into p = elim (cases_node (node.Object n) (node.Object o)) [
         | inl who ↦
-            let r = has_end-others all_ends e x (subst (λ (ds : List End). has_end ds x ≡ true) (left_entered None (node.Object o) ∙ if_node (node.Object n) (node.Object o) _ _ who) p) in
+            let r = has_end-without e all_ends (single o) x (subst (λ (ds : List End). has_end ds x ≡ true) (left_here who) p) in
             stays r.1 ((entered o x).0 r.0)
         | inr ne ↦
-            let old = (entered o x).0 (subst (λ (ds : List End). has_end ds x ≡ true) (left_entered None (node.Object o) ∙ else_node (node.Object n) (node.Object o) _ _ ne) p) in
+            let old = (entered o x).0 (subst (λ (ds : List End). has_end ds x ≡ true) (left_there ne) p) in
             elim (cases_end e x) [
               | inl is ↦ (
                 old.0,
@@ -268,24 +310,31 @@ module _ (m : Kinds) (meta : AreKinds m) (c : Cells) (entered : AreEntered m c) 
       ]
 
       cut_back : IsDistinct (c.vals x) → EntersAlone m (cut_d None) o x → has_end left_ends x ≡ true
-      cut_back once now = subst (λ (ds : List End). has_end ds x ≡ true) (sym (left_entered None (node.Object o))) (elim (cases_end e x) [
+      cut_back once now = elim (cases_end e x) [
         | inl is ↦
             let had = subst (λ (xs : List Value). Stands xs (value.Object o)) (cut_here x is) now.1 in
             elim (cases_node (node.Object n) (node.Object o)) [
               | inl who ↦ absurd (removed_absent (c.vals x) k (value.Object n) once (at_x e k (value.Object n) distinct at x is) had.0 (had.1 ∙ ap (λ (p : Node). Some (node_value p)) (sym who)))
-              | inr ne ↦ subst (λ (ds : List End). has_end ds x ≡ true) (sym (else_node (node.Object n) (node.Object o) _ _ ne)) ((entered o x).1 (now.0, Stands-remove (c.vals x) k (value.Object o) had))
+              | inr ne ↦ subst (λ (ds : List End). has_end ds x ≡ true) (sym (left_there ne)) ((entered o x).1 (now.0, Stands-remove (c.vals x) k (value.Object o) had))
             ]
         | inr out ↦
             let old = (entered o x).1 (now.0, stood (cut_d None) x o (cut_there None x (λ f. f) out) now.1) in
             elim (cases_node (node.Object n) (node.Object o)) [
-              | inl who ↦ subst (λ (ds : List End). has_end ds x ≡ true) (sym (if_node (node.Object n) (node.Object o) _ _ who)) (has_end_others all_ends e x out old)
-              | inr ne ↦ subst (λ (ds : List End). has_end ds x ≡ true) (sym (else_node (node.Object n) (node.Object o) _ _ ne)) old
+              | inl who ↦ subst (λ (ds : List End). has_end ds x ≡ true) (sym (left_here who)) (has_end_without e all_ends (single o) x out old)
+              | inr ne ↦ subst (λ (ds : List End). has_end ds x ≡ true) (sym (left_there ne)) old
             ]
-      ])
+      ]
 
-    pub entered_cut : (g : Option FeatureNo) → m.opposite e.feature ≡ g → ((x : End) → IsDistinct (c.vals x)) → AreEntered m (cut_d g)
-    entered_cut None q once = λ o x. (cut_into q o x, cut_back q o x (once x))
-    entered_cut (Some g) q once =
+    pub once_cut : (g : Option FeatureNo) → m.opposite e.feature ≡ g → AreOnce c → AreOnce (cut_d g)
+    once_cut None q single o = elim (cases_node (node.Object n) (node.Object o)) [
+      | inl who ↦ subst IsOnce (sym (left_here q single o e who)) (once-without e (c.entered (node.Object o)) (single o))
+      | inr ne ↦ subst IsOnce (sym (left_there q single o e ne)) (single o)
+    ]
+    once_cut (Some g) q single o = once_same c (cut_d (Some g)) (λ p. left_entered (Some g) p ∙ without-entered (far_end n g) (node_value e.node) c p) single o
+
+    pub entered_cut : (g : Option FeatureNo) → m.opposite e.feature ≡ g → AreOnce c → ((x : End) → IsDistinct (c.vals x)) → AreEntered m (cut_d g)
+    entered_cut None q single once = λ o x. (cut_into q single o x, cut_back q single o x (once x))
+    entered_cut (Some g) q single once =
         let same : (x : End) → m.opposite x.feature ≡ None → (cut_d (Some g)).vals x ≡ c.vals x = λ x alone. cut_there (Some g) x (no_far e n (Some g) q x alone) (with_opposite e g q x alone) in
         carry (cut_d (Some g)) (λ p. left_entered (Some g) p ∙ without-entered (far_end n g) (node_value e.node) c p)
         (λ x o alone. stands_now (cut_d (Some g)) x o (same x alone)) (λ x o alone. stood (cut_d (Some g)) x o (same x alone))

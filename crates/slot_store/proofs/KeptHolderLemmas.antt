@@ -21,7 +21,7 @@ use Rattle.node_rows.specs.declared.slot.SlotEdit.TheVariants.{Remove}
 use Rattle.node_rows.specs.Cells.{Cells, cell_edit}
 use Rattle.slot_store.specs.CellLinks.{link_to}
 use Rattle.slot_store.specs.EditedCells.{cut_cells, cut_far, held, held_far, holds, put_cells, put_far, put_near, released, without_value}
-use Rattle.slot_store.proofs.CellEditLemmas.{same_twice}
+use Rattle.slot_store.proofs.CellEditLemmas.{entry_out-hold, same_twice}
 
 -- what the pair says of m
 abbrev pub pair_holding : Option (Node × End) → Node → Option End
@@ -100,7 +100,7 @@ put_far-hold e o None h c m = same_twice (same_node (node.Object o) m) (c.hold m
 put_far-hold e o (Some g) h c m = same_twice (same_node (node.Object o) m) (c.hold m)
 
 cut_far-hold : (e : End) (o : ObjectNo) (g : Option FeatureNo) (c : Cells) (m : Node) → (cut_far e o g c).hold m ≡ c.hold m
-cut_far-hold e o None c m = same_twice (same_node (node.Object o) m) (c.hold m)
+cut_far-hold e o None c m = entry_out-hold e o c m
 cut_far-hold e o (Some g) c m = without-hold (far_end o g) (node_value e.node) c m
 
 pub put-hold : (e : End) (i : ℕ) (o : ObjectNo) (g h : Option FeatureNo) (c : Cells) (m : Node) → (put_cells e i o g h c).hold m ≡ option_or (pair_holding (held e o g h) m) (c.hold m)

@@ -1,8 +1,8 @@
 -- Which lists have a value after an edit, and which ends stand among those that hold a node.
-use Rattle.std.proofs.Common.{◌≡◌, ◌≢◌, ℕ, zero, suc, ◌<◌, ◌≤◌, true, false, List, [], ◌∷◌, ◌++◌, length, not, Option, Some, if◌then◌else◌, refl, sym, ap, ◌∙◌, subst, inl, inr, arith}
+use Rattle.std.proofs.Common.{◌≡◌, ◌≢◌, ℕ, zero, suc, ◌<◌, ◌≤◌, true, false, List, [], ◌∷◌, ◌++◌, length, Option, Some, sym, ap, ◌∙◌, subst, inl, inr, arith}
 use Rattle.std.specs.Prelude.{◌⊎◌}
-use Rattle.std.specs.List.{slice_get, insert, remove, filter}
-use Rattle.std.proofs.lemmas.Bool.{false≢true, true≢false, cases_lt, cases_order, or_cases, or_left, or_right}
+use Rattle.std.specs.List.{slice_get, insert, remove}
+use Rattle.std.proofs.lemmas.Bool.{false≢true, cases_lt, cases_order, or_cases, or_left}
 use Rattle.std.proofs.lemmas.Option.{same_Some, slice_get_within}
 use Rattle.mm_types.specs.Lists.{put_back, shifted}
 use Rattle.mm_types.specs.Same.{same_end}
@@ -90,31 +90,3 @@ has_end-push ds d x h = elim (has_end_cases ds (d ∷ []) x h) [
   | inl old ↦ inl old
   | inr new ↦ elim (or_cases (same_end d x) false new) [ inl is ↦ inr (same_end-true d x is) | inr f ↦ absurd (false≢true f) ]
 ]
-
-abbrev pub others : End → List End → List End
-others d ds = filter (λ x. not (same_end x d)) ds
-
-pub has_end-others : (ds : List End) (d x : End) → has_end (others d ds) x ≡ true → (has_end ds x ≡ true) × (d ≢ x)
-has_end-others [] d x h = absurd (false≢true h)
-has_end-others (y ∷ ds) d x h =
-    elim (same_end y d) as (λ b. same_end y d ≡ b → has_end (if not b then y ∷ others d ds else others d ds) x ≡ true → (has_end (y ∷ ds) x ≡ true) × (d ≢ x)) [
-      | true ↦ λ q g. let r = has_end-others ds d x g in (or_right _ _ r.0, r.1)
-      | false ↦ λ q g. elim (or_cases (same_end y x) (has_end (others d ds) x) g) [
-        | inl is ↦ (or_left _ _ is, λ same. true≢false (sym (subst (λ (z : End). same_end y z ≡ true) (sym same) is) ∙ q))
-        | inr later ↦ let r = has_end-others ds d x later in (or_right _ _ r.0, r.1)
-      ]
-    ] refl h
-
-pub has_end_others : (ds : List End) (d x : End) → d ≢ x → has_end ds x ≡ true → has_end (others d ds) x ≡ true
-has_end_others [] d x ne h = absurd (false≢true h)
-has_end_others (y ∷ ds) d x ne h =
-    elim (same_end y d) as (λ b. same_end y d ≡ b → has_end (if not b then y ∷ others d ds else others d ds) x ≡ true) [
-      | true ↦ λ q. elim (or_cases (same_end y x) (has_end ds x) h) [
-        | inl is ↦ absurd (ne (sym (same_end-true y d q) ∙ same_end-true y x is))
-        | inr later ↦ has_end_others ds d x ne later
-      ]
-      | false ↦ λ q. elim (or_cases (same_end y x) (has_end ds x) h) [
-        | inl is ↦ or_left _ _ is
-        | inr later ↦ or_right _ _ (has_end_others ds d x ne later)
-      ]
-    ] refl

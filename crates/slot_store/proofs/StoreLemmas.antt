@@ -1,19 +1,21 @@
 -- What the rows of a store say of its links, where its invariant is known by the truncation alone.
 use Rattle.std.proofs.Common.{◌≡◌, List, [], Option, Some, None, sym, ap, ◌∙◌, subst, arith}
 use Rattle.std.proofs.Math.Logic.{∥∥₁_elim, ∥∥₁_map}
-use Rattle.std.specs.Coded.{Coded, Coded-set, codes, le_prop}
+use Rattle.std.specs.Coded.{Coded, Coded-set, coded_ℕ, codes, le_prop}
 use Rattle.std.specs.List.{position}
 use Rattle.std.proofs.lemmas.Bool.{false≢true}
 use Rattle.std.proofs.lemmas.Option.{none-some}
-use Rattle.mm_types.specs.Same.{node_value, same_value}
+use Rattle.mm_types.specs.Same.{node_value, same_end, same_value}
 use Rattle.mm_types.specs.declared.numbers.FeatureNo.{FeatureNo}
 use Rattle.mm_types.specs.declared.numbers.ObjectNo.{ObjectNo}
 use Rattle.mm_types.specs.declared.value.Value.TheVariants as value
 use Rattle.link_store.proofs.CycleLemmas.{none_holder}
 use Rattle.link_store.proofs.LegalLemmas.{none_legal}
 use Rattle.slot_store.specs.Entering.{AreFew}
-use Rattle.slot_store.proofs.PositionLemmas.{position_lacks}
+use Rattle.slot_store.proofs.OnceLemmas.{has_end_at}
+use Rattle.slot_store.proofs.PositionLemmas.{end_lacks, position_lacks}
 use Rattle.mm_types.specs.declared.numbers.Node.{Node}
+use Rattle.mm_types.specs.declared.numbers.Node.TheVariants as node
 use Rattle.mm_types.specs.declared.end.End.{End}
 use Rattle.mm_types.specs.declared.value.Value.{Value}
 use Rattle.link_store.specs.Holders.{holder}
@@ -25,7 +27,7 @@ use Rattle.link_store.proofs.ScanLemmas.{same_links}
 use Rattle.node_rows.specs.declared.node_rows.NodeRows.{NodeRows}
 use Rattle.node_rows.specs.Cells.{Cells, HasKeys, cells, ends_of, no_cells}
 use Rattle.node_rows.proofs.KeyLemmas.{keys_of}
-use Rattle.slot_store.specs.CellLinks.{AreLists, IsKept, IsStore, Stands, all_links, cell_links, store_links}
+use Rattle.slot_store.specs.CellLinks.{AreLists, IsKept, IsStore, RepeatNothing, Stands, all_links, cell_links, store_links}
 use Rattle.slot_store.proofs.LinkLemmas.{all_back, all_there, end-lists}
 
 ---------------------------------------------------------------- growth
@@ -47,6 +49,7 @@ kept_ends c es fs keys ok =
       held = subst IsHeldOnce is ok.held;
       holds = λ n. ok.holds n ∙ ap (λ (s : Links). holder s n) is;
       entered = ok.entered;
+      once = ok.once;
     }
 
 module _ (t u : NodeRows) (same : cells u ≡ cells t) where
@@ -83,6 +86,19 @@ module _ (t : NodeRows) (kept : ∥ IsStore t ∥₁) where
   pub few_kept : AreFew (cells t)
   few_kept e = ∥∥₁_elim kept le_prop (λ ok. ok.lists.few e)
 
+  -- nothing stands twice in a list
+  pub kept_once : RepeatNothing (cells t)
+  kept_once = record {
+    values = λ e j k v a b. ∥∥₁_elim kept (Coded-set coded_ℕ j k) (λ ok. ok.lists.distinct e j k v a b);
+    entries = λ o j k d a b. ∥∥₁_elim kept (Coded-set coded_ℕ j k) (λ ok. ok.once o j k d a b);
+  }
+
+  -- a value that is not among the entries is not in an end with no opposite
+  pub alone_absent : (e : End) (o : ObjectNo) → ((cells t).pairing e).opposite ≡ None → position (same_end e) ((cells t).entered (node.Object o)) ≡ None → Stands ((cells t).vals e) (value.Object o) → ⊥
+  alone_absent e o q none at = ∥∥₁_elim kept (λ x y. absurd x) (λ ok.
+      let b = has_end_at ((cells t).entered (node.Object o)) e ((ok.entered o e).1 (q, at)) in
+      end_lacks ((cells t).entered (node.Object o)) e b.0 none b.1)
+
   -- a value whose own end lacks the node is not in an end
   pub far_absent : (e : End) (o : ObjectNo) (g : FeatureNo) → ((cells t).pairing e).opposite ≡ Some g → position (same_value (node_value e.node)) ((cells t).vals (far_end o g)) ≡ None → Stands ((cells t).vals e) (value.Object o) → ⊥
   far_absent e o g q none at = ∥∥₁_elim kept (λ x y. absurd x) (λ ok.
@@ -106,6 +122,7 @@ none_kept = record {
   held = none_legal.held;
   holds = λ n. sym (none_holder n);
   entered = λ o e. (λ h. absurd (false≢true h), λ h. absurd (none-some (value.Object o) h.1.1));
+  once = λ o j k d h i. absurd (none-some d h);
 }
 
 module _ (t : NodeRows) (none : cells t ≡ no_cells) (no_ends : ends_of t ≡ []) where

@@ -23,7 +23,7 @@ use Rattle.node_rows.specs.Slots.{pairing_after, values_after}
 use Rattle.node_rows.specs.Cells.{Cells, cell_edit}
 use Rattle.slot_store.specs.CellLinks.{AreLists, Stands, cell_links, link_from, link_to}
 use Rattle.slot_store.specs.EditedCells.{cut_cells, cut_far, held, put_cells, put_far, put_near, without_value}
-use Rattle.slot_store.proofs.CellEditLemmas.{here, there, holds-pairing, holds-vals, released-pairing, released-vals, same_twice}
+use Rattle.slot_store.proofs.CellEditLemmas.{entry_out-pairing, entry_out-vals, here, there, holds-pairing, holds-vals, released-pairing, released-vals, same_twice}
 use Rattle.slot_store.proofs.LinkLemmas.{link_in}
 use Rattle.slot_store.proofs.StandLemmas.{Stands-insert, Stands-push, Stands-remove, Stands-shifted}
 
@@ -118,7 +118,7 @@ module _ (m : Kinds) (c : Cells) (told : IsTold m c) where
 
 module _ (m : Kinds) (meta : AreKinds m) (c : Cells) (told : IsTold m c) (e : End) (o : ObjectNo) where
   told_cut_far : (g : Option FeatureNo) → IsTold m (cut_far e o g c)
-  told_cut_far None = told_same m c told (cut_far e o None c) (λ x. same_twice _ (c.vals x)) (λ x. same_twice _ (c.pairing x))
+  told_cut_far None = told_same m c told (cut_far e o None c) (entry_out-vals e o c) (entry_out-pairing e o c)
   told_cut_far (Some g) = told_without m c told (far_end o g) (node_value e.node)
 
   pub told_cut : (g h : Option FeatureNo) → IsTold m (cut_cells e o g h c)

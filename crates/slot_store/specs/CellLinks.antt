@@ -74,12 +74,22 @@ pub record AreLists (c : Cells) (es : List End) : Type 0 where
 abbrev pub StandsAlone : Cells → ObjectNo → End → Type 0
 StandsAlone c o e = ((c.pairing e).opposite ≡ None) × Stands (c.vals e) (value.Object o)
 
+-- the list repeats no end
+abbrev pub IsOnce : List End → Type 0
+IsOnce ds = (j k : ℕ) (d : End) → slice_get ds j ≡ Some d → slice_get ds k ≡ Some d → j ≡ k
+
+-- no end repeats a value, and no end is kept twice of an object
+pub record RepeatNothing (c : Cells) : Type 0 where
+  pub values : (e : End) → IsDistinct (c.vals e)
+  pub entries : (o : ObjectNo) → IsOnce (c.entered (node.Object o))
+
 -- lists, the holders that the links tell, and for each object the ends with no opposite that have it
 pub record IsKept (c : Cells) (es : List End) : Type 0 where
   pub lists : AreLists c es
   pub held : IsHeldOnce (cell_links c es)
   pub holds : (n : Node) → c.hold n ≡ holder (cell_links c es) n
   pub entered : (o : ObjectNo) (e : End) → (has_end (c.entered (node.Object o)) e ≡ true) ↔ StandsAlone c o e
+  pub once : (o : ObjectNo) → IsOnce (c.entered (node.Object o))
 
 ---------------------------------------------------------------- of rows
 

@@ -1,7 +1,7 @@
 -- What each edit of links makes of the cells.
 use Rattle.std.specs.Prelude.{◌≡◌, ℕ, ◌+◌, ◌≤◌, true, position, Option, Some, None, if◌then◌else◌}
 use Rattle.std.specs.Option.{option_map_or}
-use Rattle.mm_types.specs.Same.{node_value, same_feature, same_value}
+use Rattle.mm_types.specs.Same.{node_value, same_end, same_feature, same_value}
 use Rattle.mm_types.specs.declared.numbers.FeatureNo.{FeatureNo}
 use Rattle.mm_types.specs.declared.numbers.Node.{Node}
 use Rattle.mm_types.specs.declared.numbers.Node.TheVariants as node
@@ -54,8 +54,12 @@ put_cells e i o g h c = holds (held e o g h) (put_far e o g h (put_near e i (val
 abbrev pub without_value : End → Value → Cells → Cells
 without_value e v c = option_map_or (λ (i : ℕ). cell_edit e.node (Change e.feature (Remove i)) c) (position (same_value v) (c.vals e)) c
 
+-- the end is taken out of those that hold the object, where it is there
+abbrev pub without_entry : End → ObjectNo → Cells → Cells
+without_entry e o c = option_map_or (λ (i : ℕ). cell_edit (node.Object o) (Leave i) c) (position (same_end e) (c.entered (node.Object o))) c
+
 abbrev pub cut_far : End → ObjectNo → Option FeatureNo → Cells → Cells
-cut_far e o None c = cell_edit (node.Object o) (Leave e) c
+cut_far e o None c = without_entry e o c
 cut_far e o (Some g) c = without_value (far_end o g) (node_value e.node) c
 
 abbrev pub cut_cells : End → ObjectNo → Option FeatureNo → Option FeatureNo → Cells → Cells

@@ -1,11 +1,15 @@
 //! Edits of links in the rows of nodes.
 ghost use Rattle.std.specs.Prelude.{◌≡◌, ◌≤◌, ◌∷◌, []};
 ghost use Rattle.mm_types.specs.Same.{node_value, same_end};
+ghost use Rattle.mm_types.specs.declared.numbers.Node.TheVariants as node;
+ghost use Rattle.link_store.specs.LegalSets.{IsDistinct};
 ghost use Rattle.node_rows.specs.Cells.{cells, room};
 ghost use Rattle.node_rows.specs.Growth.{HasRoom, entry, far_gain, gain, lone_entry, no_ends, no_values, one_if};
 ghost use Rattle.link_store.specs.declared.plan.Edit.TheVariants as edit;
-ghost use Rattle.slot_store.specs.EditedCells.{FarHasRoom, HasHeldRow, TakesAtMost, cells_after, cut_far, held, held_far, holds, put_cells, put_far, put_near, released, without_value};
+ghost use Rattle.slot_store.specs.CellLinks.{IsOnce, RepeatNothing};
+ghost use Rattle.slot_store.specs.EditedCells.{FarHasRoom, HasHeldRow, TakesAtMost, cells_after, cut_far, held, held_far, holds, put_cells, put_far, put_near, released, without_entry, without_value};
 
+use crate::search::{entry_found, found};
 use link_store::Edit;
 use mm_types::{End, FeatureNo, Node, ObjectNo, Value};
 use node_rows::{NodeRows, Pairing, RowEdit, SlotEdit};
@@ -53,10 +57,11 @@ fn held_by(end: End, object: ObjectNo, pairing: Pairing) -> Option<(Node, End)>
 
 // Takes a value out of an end, where it is there.
 fn take_out(rows: &mut NodeRows, end: End, value: &Value)
+    requires { IsDistinct ((cells rows.old).vals end) }
     ensures cells { cells rows.new ≡ without_value end value.now (cells rows.old) }
     ensures room { TakesAtMost no_values no_ends (room rows.old) (room rows.new) }
 {
-    if let Some(index) = rows.position(end, value) {
+    if let Some(index) = found(rows, end, value) {
         rows.edit(
             end.node,
             RowEdit::Change(end.feature, SlotEdit::Remove { index }),
@@ -64,15 +69,27 @@ fn take_out(rows: &mut NodeRows, end: End, value: &Value)
     }
 }
 
+// Takes an end out of those with no opposite that hold an object, where it is there.
+fn take_out_entry(rows: &mut NodeRows, end: End, object: ObjectNo)
+    requires { IsOnce ((cells rows.old).entered (node.Object object)) }
+    ensures cells { cells rows.new ≡ without_entry end object (cells rows.old) }
+    ensures room { TakesAtMost no_values no_ends (room rows.old) (room rows.new) }
+{
+    if let Some(index) = entry_found(rows, object, end) {
+        rows.edit(Node::Object(object), RowEdit::Leave(index));
+    }
+}
+
 // Takes a link out of its far side.
 fn take_out_far(rows: &mut NodeRows, end: End, object: ObjectNo, opposite: Option<FeatureNo>)
+    requires { RepeatNothing (cells rows.old) }
     ensures cells { cells rows.new ≡ cut_far end object opposite (cells rows.old) }
     ensures room { TakesAtMost no_values no_ends (room rows.old) (room rows.new) }
 {
     let node = Node::Object(object);
     match opposite {
         Some(feature) => take_out(rows, End { node, feature }, &value_of(end.node)),
-        None => rows.edit(node, RowEdit::Leave(end)),
+        None => take_out_entry(rows, end, object),
     }
 }
 
@@ -88,6 +105,7 @@ fn release(rows: &mut NodeRows, pair: Option<(Node, End)>)
 
 // Cuts the link of an object in an end: what stands at the far side goes first, since it is found by the end.
 fn cut(rows: &mut NodeRows, end: End, object: ObjectNo)
+    requires { RepeatNothing (cells rows.old) }
     ensures cells { cells rows.new ≡ cells_after (edit.Cut end object) (cells rows.old) }
     ensures room { TakesAtMost no_values no_ends (room rows.old) (room rows.new) }
 {
@@ -188,7 +206,8 @@ fn shift(rows: &mut NodeRows, end: End, to: u32, from: u32)
 
 /// Makes one edit, for which there is room. Takes no memory.
 pub(crate) fn edit_rows(rows: &mut NodeRows, edit: Edit)
-    requires { HasRoom (room rows.old) (edit ∷ []) }
+    requires room { HasRoom (room rows.old) (edit ∷ []) }
+    requires distinct { RepeatNothing (cells rows.old) }
     ensures cells { cells rows.new ≡ cells_after edit (cells rows.old) }
     ensures room { TakesAtMost (λ e. gain e edit) (λ n. entry n edit) (room rows.old) (room rows.new) }
 {

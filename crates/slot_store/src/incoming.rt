@@ -1,12 +1,15 @@
 //! Where an object stands, read off its own lists and the ends that are kept of it.
 ghost use Rattle.std.specs.Prelude.{◌≡◌, ◌++◌, IfOk, OnOk};
-ghost use Rattle.std.specs.Option.{option_copied};
+ghost use Rattle.std.specs.Option.{option_copied, option_to_list};
 ghost use Rattle.mm_types.specs.declared.numbers.Node.TheVariants as node;
+ghost use Rattle.link_store.specs.LegalSets.{IsDistinct};
 ghost use Rattle.link_store.specs.Rows.{place_if, places_by};
 ghost use Rattle.node_rows.specs.Cells.{cells, row_at};
 ghost use Rattle.node_rows.specs.Rows.{row_slots};
+ghost use Rattle.slot_store.specs.CellLinks.{RepeatNothing};
 ghost use Rattle.slot_store.specs.Entering.{AreFew, ends_at, entering_ends, far_ends, far_of, found_in, paired_ends};
 
+use crate::search::found;
 use link_store::Incoming;
 use mm_types::{End, FeatureNo, Node, ObjectNo, Value};
 use node_rows::{NodeRows, Slot};
@@ -69,6 +72,26 @@ fn push_paired(
     Ok(())
 }
 
+// Adds an end, where there is one.
+fn push_end(end: Option<&End>, out: &mut Vec<End>) -> Result<(), AllocError>
+    ensures { OnOk result (out.new.items ≡ out.old.items ++ option_to_list (option_copied end.entry)) }
+{
+    if let Some(end) = end {
+        out.push(*end)?;
+    }
+    Ok(())
+}
+
+// Adds the ends with no opposite that hold a node.
+fn push_entered(rows: &NodeRows, node: Node, out: &mut Vec<End>) -> Result<(), AllocError>
+    ensures { OnOk result (out.new.items ≡ out.old.items ++ (cells rows.now).entered node) }
+{
+    for index in 0..rows.entered_len(node) {
+        push_end(rows.entered_at(node, index), out)?;
+    }
+    Ok(())
+}
+
 /// The ends that have an object, in no order.
 pub(crate) fn entering(
     alloc: Global,
@@ -80,7 +103,7 @@ pub(crate) fn entering(
     let node = Node::Object(object);
     let mut out = Vec::new(alloc);
     push_paired(rows, object, rows.slots(node), &mut out)?;
-    out.extend_from_slice(rows.entered(node))?;
+    push_entered(rows, node, &mut out)?;
     Ok(out)
 }
 
@@ -91,10 +114,11 @@ fn push_place(
     value: &Value,
     out: &mut Vec<Incoming>,
 ) -> Result<(), AllocError>
-    requires { AreFew (cells rows.now) }
+    requires few { AreFew (cells rows.now) }
+    requires distinct { IsDistinct ((cells rows.now).vals end) }
     ensures { OnOk result (out.new.items ≡ out.old.items ++ place_if end (found_in (cells rows.now) value.now end)) }
 {
-    if let Some(index) = rows.position(end, value) {
+    if let Some(index) = found(rows, end, value) {
         out.push(Incoming {
             feature: end.feature,
             node: end.node,
@@ -111,7 +135,8 @@ pub(crate) fn places_of(
     ends: &[End],
     value: &Value,
 ) -> Result<Vec<Incoming>, AllocError>
-    requires { AreFew (cells rows.now) }
+    requires few { AreFew (cells rows.now) }
+    requires distinct { RepeatNothing (cells rows.now) }
     ensures { IfOk result (λ r. r.items ≡ places_by (found_in (cells rows.now) value.now) ends.now) }
 {
     let mut out = Vec::new(alloc);

@@ -3,6 +3,8 @@
 
 mod edits;
 mod incoming;
+mod order;
+mod search;
 mod slot_store;
 
 pub use slot_store::SlotStore;

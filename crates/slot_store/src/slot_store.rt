@@ -10,7 +10,9 @@ ghost use Rattle.slot_store.specs.CellLinks.{IsStore, IsStoreOfKind, Stands, sto
 
 use crate::edits::{edit_rows, value_of};
 use crate::incoming::{entering, places_of};
-use link_store::{Incoming, LinkStore, Plan, ordered};
+use crate::order::ordered;
+use crate::search::{entry_found, found};
+use link_store::{Incoming, LinkStore, Plan};
 use mm_types::{End, Node, ObjectNo, Value};
 use node_rows::NodeRows;
 use std::alloc::{AllocError, Global};
@@ -52,7 +54,7 @@ impl LinkStore for SlotStore {
         if far_lacks(&self.rows, end, object) {
             return None;
         }
-        match self.rows.position(end, &Value::Object(object)) {
+        match found(&self.rows, end, &Value::Object(object)) {
             Some(index) => Some(index as u32),
             None => None,
         }
@@ -95,7 +97,7 @@ fn text_of(value: Option<&Value>) -> Option<&str>
     }
 }
 
-// Whether the far end, where it is the shorter list, tells that an object is not in an end.
+// Whether the far side, where it is the shorter list, tells that an object is not in an end.
 fn far_lacks(rows: &NodeRows, end: End, object: ObjectNo) -> bool
     requires { ∥ IsStore rows.now ∥₁ }
     ensures { result ≡ true → Stands ((cells rows.now).vals end) (value.Object object) → ⊥ }
@@ -106,9 +108,12 @@ fn far_lacks(rows: &NodeRows, end: End, object: ObjectNo) -> bool
                 node: Node::Object(object),
                 feature,
             };
-            rows.len(far) < rows.len(end) && rows.position(far, &value_of(end.node)).is_none()
+            rows.len(far) < rows.len(end) && found(rows, far, &value_of(end.node)).is_none()
         }
-        None => false,
+        None => {
+            rows.entered_len(Node::Object(object)) < rows.len(end)
+                && entry_found(rows, object, end).is_none()
+        }
     }
 }
 

@@ -11,10 +11,10 @@ returns-then-is_some-clause-ok c = present c.args.slots.now.items c.deref.result
 pub returns-clause-grown : goal.returns-clause-grown
 returns-clause-grown c =
     let ss = c.args.slots.now.items in
-    subst (λ (xs : List Slot). AreSlotsGrown ss xs) (sym c.in_ok-push.ensures.items) (pushed c.new.result c.new.ensures.values c.new.ensures.pairing ss)
+    subst (λ (xs : List Slot). AreSlotsGrown ss xs) (sym c.in_ok-push_slot.ensures) (pushed c.new.result c.new.ensures.values c.new.ensures.pairing ss)
 
 pub returns-clause-ok : goal.returns-clause-ok
 returns-clause-ok c none =
     let ss = c.args.slots.now.items in
-    let gone : slot_in (ss ++ c.new.result ∷ []) c.args.feature ≡ None = subst (λ (xs : List Slot). slot_in xs c.args.feature ≡ None) c.in_ok-push.ensures.items none in
+    let gone : slot_in (ss ++ c.new.result ∷ []) c.args.feature ≡ None = subst (λ (xs : List Slot). slot_in xs c.args.feature ≡ None) c.in_ok-push_slot.ensures none in
     is_there ss c.new.result (subst (λ (f : FeatureNo). slot_in (ss ++ c.new.result ∷ []) f ≡ None) (sym c.new.ensures.feature) gone)

@@ -5,11 +5,15 @@ use Rattle.link_store.specs.Plans.{HasPlanOfKind, PlanFits, applied}
 use Rattle.node_rows.specs.Cells.{room}
 use Rattle.node_rows.specs.Growth.{HasRoom}
 use Rattle.slot_store.specs.CellLinks.{IsStoreOfKind, store_links}
+use Rattle.slot_store.proofs.StoreLemmas.{kept_once}
 use Rattle.slot_store.proofs.ApplyLemmas.{edit_fits, edit_kept, edit_kind, edit_rest, room_first, room_rest}
 use Rattle.slot_store.proofs.slot_store.apply_rows.Goals as goal
 
-pub edit_rows-requires : goal.edit_rows-requires
-edit_rows-requires c =
+pub edit_rows-requires-clause-distinct : goal.edit_rows-requires-clause-distinct
+edit_rows-requires-clause-distinct c = kept_once c.loop-edit.rows c.loop-edit.invariant.kept
+
+pub edit_rows-requires-clause-room : goal.edit_rows-requires-clause-room
+edit_rows-requires-clause-room c =
     let rest = into_iter_items c.next.new.self in
     room_first (room c.loop-edit.rows) c.in-Some.edit rest (subst (λ (es : List Edit). HasRoom (room c.loop-edit.rows) es) c.in-Some.ensures.steps.0 c.loop-edit.invariant.room)
 
