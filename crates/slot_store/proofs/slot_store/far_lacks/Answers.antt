@@ -9,10 +9,10 @@ use Rattle.slot_store.proofs.StoreLemmas.{alone_absent, far_absent, kept_once}
 use Rattle.slot_store.proofs.slot_store.far_lacks.Goals as goal
 
 pub found-requires : goal.found-requires
-found-requires c = (kept_once c.args.rows.now c.requires).values (far_end c.args.object c.in-Some.feature)
+found-requires c = (kept_once c.args.rows.now c.requires).values _
 
 pub entry_found-requires : goal.entry_found-requires
-entry_found-requires c = (kept_once c.args.rows.now c.requires).entries c.args.object
+entry_found-requires c = (kept_once c.args.rows.now c.requires).entries _
 
 pub returns-then-len : goal.returns-then-len
 returns-then-len c = λ lacks at.
