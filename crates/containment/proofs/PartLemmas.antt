@@ -30,7 +30,7 @@ use Rattle.link_store.proofs.HolderLemmas.{holder_is}
 use Rattle.link_store.specs.Holders.{holder}
 use Rattle.link_store.specs.LegalSets.{AreKinds}
 use Rattle.link_store.specs.Links.{end}
-use Rattle.models.specs.Legal.{IsLegal, is_legal_end, is_legal_object, kinds_of}
+use Rattle.models.specs.Legal.{IsLegal, is_legal_end, is_legal_target, kinds_of}
 use Rattle.models.specs.Model.{Model, reading, values_at}
 use Rattle.models.specs.Reading.{Reading, all_features_of, at_end, has_feature, is_live, objects_of}
 use Rattle.containment.proofs.ForestLemmas.{parts-first}
@@ -77,9 +77,9 @@ has-made : (s : Model) (n : Node) (f : FeatureNo) → has_feature (reading s) n 
 has-made s (node.Object o) f h = live-made s o (some-of (λ c. lookups.has_feature s.metamodel c f) (class_of s.values o) h)
 has-made s (node.Resource k) f h = tt
 
-pub legal-at : (r : Reading) (e : End) (vs : List Value) (k : ℕ) (v : Value) → IsTrue (is_legal_end r e vs) → slice_get vs k ≡ Some v → (has_feature r e.node e.feature ≡ true) × (is_legal_object r e.feature v ≡ true)
+pub legal-at : (r : Reading) (e : End) (vs : List Value) (k : ℕ) (v : Value) → IsTrue (is_legal_end r e vs) → slice_get vs k ≡ Some v → (has_feature r e.node e.feature ≡ true) × (is_legal_target r e.feature v ≡ true)
 legal-at r e [] k v h at = absurd (none-some v at)
-legal-at r e (w ∷ ws) k v h at = let two = and_parts _ _ h in (two.0, all-get (is_legal_object r e.feature) (w ∷ ws) k v (and_parts _ _ two.1).0 at)
+legal-at r e (w ∷ ws) k v h at = let two = and_parts _ _ h in (two.0, all-get (is_legal_target r e.feature) (w ∷ ws) k v (and_parts _ _ two.1).0 at)
 
 -- the node of an end that holds something was made
 pub end-made : (s : Model) (e : End) (k : ℕ) (v : Value) → IsLegal s → slice_get (end s.links e) k ≡ Some v → IsMade s e.node
@@ -160,7 +160,7 @@ module _ (s : Model) (legal : IsLegal s) (n : Node) where
       let may = legal-at (reading s) e (end s.links e) k (value.Object c) (legal.links.ends e) (linked f contains k c at) in
       record {
         whole = has-made s n f may.0;
-        made = live-made s c (taken-live s.metamodel (class_of s.values) f c (and_parts (lookups.is_object (value.Object c)) _ may.1).1);
+        made = live-made s c (taken-live s.metamodel (class_of s.values) f c may.1);
         by = e;
         held = holder-at f contains k c at;
         here = refl;

@@ -1,14 +1,14 @@
 -- What an end loses, place by place, and where the object itself stands then.
-use Rattle.std.proofs.Common.{◌≡◌, ℕ, zero, suc, ◌+◌, ◌<◌, ◌≤◌, length, drop, slice_get, slice_index_or, eq-eqb, Bool, true, false, not, ◌&&◌, cond, List, [], ◌∷◌, ◌++◌, filter, flat_map, Option, Some, None, option_map, append_assoc, add-one, refl, sym, ap, ◌∙◌, arith}
+use Rattle.std.proofs.Common.{◌≡◌, ℕ, zero, suc, ◌+◌, ◌<◌, ◌≤◌, length, drop, slice_get, slice_index_or, eq-eqb, Bool, true, false, not, ◌&&◌, cond, List, [], ◌∷◌, ◌++◌, filter, flat_map, Option, Some, None, option_and_then, option_map, option_to_list, append_assoc, add-one, refl, sym, ap, ◌∙◌, arith}
 use Rattle.std.specs.BTreeSet.{BTreeSet}
 use Rattle.std.specs.Option.{option_map_or}
-use Rattle.std.proofs.lemmas.Bool.{and_parts}
+use Rattle.std.proofs.lemmas.Bool.{and_parts, false≢true}
 use Rattle.std.proofs.lemmas.List.{append-nil, drop_all, drop_more}
 use Rattle.std.proofs.lemmas.List.Elements.{All-get_or, filter_passes}
 use Rattle.std.proofs.lemmas.Option.{none-some, same_Some}
 use Rattle.mm_types.proofs.SameLemmas.{same_end-self}
 use Rattle.mm_types.specs.Ends.{index_in}
-use Rattle.mm_types.specs.Same.{node_value, same_end, same_value}
+use Rattle.mm_types.specs.Same.{node_value, same_end, same_object, same_value}
 use Rattle.mm_types.specs.Shapes.{shape}
 use Rattle.mm_types.specs.declared.end.End.{End}
 use Rattle.mm_types.specs.declared.numbers.Node.TheVariants as node
@@ -20,7 +20,7 @@ use Rattle.link_store.specs.Laws.{goes}
 use Rattle.link_store.specs.Links.{end}
 use Rattle.models.specs.Legal.{IsLegal}
 use Rattle.models.specs.Model.{Model, reading}
-use Rattle.models.specs.Reading.{Reading}
+use Rattle.models.specs.Reading.{Reading, object_of}
 use Rattle.containment.proofs.PartLemmas.{legal-at}
 use Rattle.deletion.proofs.HoldLemmas.{legal-reference}
 use Rattle.deletion.specs.Losses.{is_held_by, is_lost, loss, lost_from}
@@ -39,25 +39,36 @@ get-at (w ∷ ws) (suc i) v at = let r = get-at ws i v at in ((let low = r.0 in 
 drop-at : (vs : List Value) (i : ℕ) (v : Value) → slice_get vs i ≡ Some v → drop i vs ≡ v ∷ drop (i + 1) vs
 drop-at vs i v at = let r = get-at vs i v at in drop_more vs i v r.0 ∙ ap (λ (w : Value). w ∷ drop (i + 1) vs) r.1
 
-drop-none : (vs : List Value) (i : ℕ) → slice_get vs i ≡ None → drop i vs ≡ []
-drop-none [] zero none = refl
-drop-none [] (suc i) none = refl
-drop-none (v ∷ vs) zero none = absurd (none-some v (sym none))
-drop-none (v ∷ vs) (suc i) none = drop-none vs i none
+-- a place of the list has a value
+pub some-below : (vs : List Value) (i : ℕ) → i < length vs → (v : Value) × (slice_get vs i ≡ Some v)
+some-below [] i low = absurd (omega (arith, low))
+some-below (v ∷ vs) zero low = (v, refl)
+some-below (v ∷ vs) (suc i) low = some-below vs i (omega (arith, low))
 
--- what is read of a reference at a place
-some-at : (vs : List Value) (i : ℕ) (q : Option ObjectNo) (x : ObjectNo) → option_map value.Object q ≡ slice_get vs i → q ≡ Some x → slice_get vs i ≡ Some (value.Object x)
-some-at vs i q x read is = sym read ∙ ap (λ (o : Option ObjectNo). option_map value.Object o) is
-
-none-at : (vs : List Value) (i : ℕ) (q : Option ObjectNo) → option_map value.Object q ≡ slice_get vs i → q ≡ None → slice_get vs i ≡ None
-none-at vs i q read is = sym read ∙ ap (λ (o : Option ObjectNo). option_map value.Object o) is
+-- what is read of it
+pub read-of : (vs : List Value) (i : ℕ) (v : Value) (q : Option ObjectNo) → slice_get vs i ≡ Some v → q ≡ option_and_then object_of (slice_get vs i) → q ≡ object_of v
+read-of vs i v q at read = read ∙ ap (λ (x : Option Value). option_and_then object_of x) at
 
 ---------------------------------------------------------------- one end
 
--- a value is lost where the numbers and the holder say so
-pub lost-is : (r : Reading) (o : ObjectNo) (e : End) (x : ObjectNo) (numbers : BTreeSet ℕ) (held answer : Bool) → HasGone r o numbers → held ≡ is_held_by r o e
-    → answer ≡ (is_in numbers (node.Object x) && not (held && same_value (value.Object x) (value.Object o))) → answer ≡ is_lost r o e (value.Object x)
-lost-is r o e x numbers held answer has holds told = told ∙ (λ i. has (node.Object x) i && not (holds i && same_value (value.Object x) (value.Object o)))
+-- a value is lost where the numbers and the holder say so of the object that it is
+pub lost-is : (r : Reading) (o : ObjectNo) (e : End) (v : Value) (q : Option ObjectNo) (numbers : BTreeSet ℕ) (held answer : Bool) → HasGone r o numbers → held ≡ is_held_by r o e → q ≡ object_of v
+    → answer ≡ option_map_or (λ x. is_in numbers (node.Object x) && not (held && same_value (value.Object x) (value.Object o))) q false → answer ≡ is_lost r o e v
+lost-is r o e v q numbers held answer has holds read told =
+    told ∙ ap (λ (x : Option ObjectNo). option_map_or (λ y. is_in numbers (node.Object y) && not (held && same_value (value.Object y) (value.Object o))) x false) read ∙ by v
+  where
+    by : (w : Value) → option_map_or (λ y. is_in numbers (node.Object y) && not (held && same_value (value.Object y) (value.Object o))) (object_of w) false ≡ is_lost r o e w
+    by (value.Object x) = λ i. has (node.Object x) i && not (holds i && same_value (value.Object x) (value.Object o))
+    by _ = refl
+
+-- what is added of a value that is lost
+pub added-is : (r : Reading) (o : ObjectNo) (e : End) (v : Value) (k : ℕ) (q : Option ObjectNo) → q ≡ object_of v → is_lost r o e v ≡ true
+    → option_to_list (option_map (λ x. loss e (value.Object x) k) q) ≡ loss e v k ∷ []
+added-is r o e v k q read lost = ap (λ (x : Option ObjectNo). option_to_list (option_map (λ y. loss e (value.Object y) k) x)) read ∙ by v lost
+  where
+    by : (w : Value) → is_lost r o e w ≡ true → option_to_list (option_map (λ y. loss e (value.Object y) k) (object_of w)) ≡ loss e w k ∷ []
+    by (value.Object x) h = refl
+    by _ h = absurd (false≢true h)
 
 module _ (e : End) (p : Value → Bool) where
   lost-yes : (v : Value) (vs : List Value) (k : ℕ) → p v ≡ true → lost_from p e (v ∷ vs) k ≡ loss e v k ∷ lost_from p e vs k
@@ -67,24 +78,22 @@ module _ (e : End) (p : Value → Bool) where
   lost-no v vs k h = ap (λ (b : Bool). cond b (loss e v k ∷ lost_from p e vs k) (lost_from p e vs (suc k))) h
 
   -- one place further, where the value is lost
-  pub lost-step : (vs : List Value) (i k : ℕ) (q : Option ObjectNo) (x : ObjectNo) (out new all : List Loss) → option_map value.Object q ≡ slice_get vs i → q ≡ Some x → p (value.Object x) ≡ true
-      → new ≡ out ++ loss e (value.Object x) k ∷ [] → out ++ lost_from p e (drop i vs) k ≡ all → new ++ lost_from p e (drop (i + 1) vs) k ≡ all
-  lost-step vs i k q x out new all read is h made whole =
-      let v = value.Object x in
+  pub lost-step : (vs : List Value) (i k : ℕ) (v : Value) (out new all : List Loss) → slice_get vs i ≡ Some v → p v ≡ true
+      → new ≡ out ++ loss e v k ∷ [] → out ++ lost_from p e (drop i vs) k ≡ all → new ++ lost_from p e (drop (i + 1) vs) k ≡ all
+  lost-step vs i k v out new all at h made whole =
       let rest = drop (i + 1) vs in
       ap (λ (ls : List Loss). ls ++ lost_from p e rest k) made
       ∙ append_assoc out (loss e v k ∷ []) (lost_from p e rest k)
-      ∙ ap (λ (ls : List Loss). out ++ ls) (sym (lost-yes v rest k h) ∙ ap (λ (ws : List Value). lost_from p e ws k) (sym (drop-at vs i v (some-at vs i q x read is))))
+      ∙ ap (λ (ls : List Loss). out ++ ls) (sym (lost-yes v rest k h) ∙ ap (λ (ws : List Value). lost_from p e ws k) (sym (drop-at vs i v at)))
       ∙ whole
 
   -- one place further, where it stays
-  pub kept-step : (vs : List Value) (i k : ℕ) (q : Option ObjectNo) (x : ObjectNo) (out all : List Loss) → option_map value.Object q ≡ slice_get vs i → q ≡ Some x → p (value.Object x) ≡ false
+  pub kept-step : (vs : List Value) (i k : ℕ) (v : Value) (out all : List Loss) → slice_get vs i ≡ Some v → p v ≡ false
       → out ++ lost_from p e (drop i vs) k ≡ all → out ++ lost_from p e (drop (i + 1) vs) (k + 1) ≡ all
-  kept-step vs i k q x out all read is h whole =
-      let v = value.Object x in
+  kept-step vs i k v out all at h whole =
       let rest = drop (i + 1) vs in
       ap (λ (n : ℕ). out ++ lost_from p e rest n) (add-one k)
-      ∙ ap (λ (ls : List Loss). out ++ ls) (sym (lost-no v rest k h) ∙ ap (λ (ws : List Value). lost_from p e ws k) (sym (drop-at vs i v (some-at vs i q x read is))))
+      ∙ ap (λ (ls : List Loss). out ++ ls) (sym (lost-no v rest k h) ∙ ap (λ (ws : List Value). lost_from p e ws k) (sym (drop-at vs i v at)))
       ∙ whole
 
   lost-done : (ws : List Value) (k : ℕ) (out all : List Loss) → ws ≡ [] → out ++ lost_from p e ws k ≡ all → out ≡ all
@@ -93,9 +102,6 @@ module _ (e : End) (p : Value → Bool) where
   -- past the last place
   pub lost-end : (vs : List Value) (i k : ℕ) (out all : List Loss) → length vs ≤ i → out ++ lost_from p e (drop i vs) k ≡ all → out ≡ all
   lost-end vs i k out all past = lost-done (drop i vs) k out all (drop_all i vs past)
-
-  pub lost-none : (vs : List Value) (i k : ℕ) (q : Option ObjectNo) (out all : List Loss) → option_map value.Object q ≡ slice_get vs i → q ≡ None → out ++ lost_from p e (drop i vs) k ≡ all → out ≡ all
-  lost-none vs i k q out all read is = lost-done (drop i vs) k out all (drop-none vs i (none-at vs i q read is))
 
 ---------------------------------------------------------------- the object itself
 
@@ -117,31 +123,33 @@ module _ (p : Value → Bool) (o : ObjectNo) where
   left-here vs i v at = ap place_left (drop-at vs i v at)
 
   -- one place further
-  pub left-lost_step : (vs : List Value) (i k all : ℕ) (q : Option ObjectNo) (x : ObjectNo) → option_map value.Object q ≡ slice_get vs i → q ≡ Some x → p (value.Object x) ≡ true
-      → k + place_left (drop i vs) ≡ all → k + place_left (drop (i + 1) vs) ≡ all
-  left-lost_step vs i k all q x read is h whole =
-      ap (λ (n : ℕ). k + n) (sym (left-here vs i (value.Object x) (some-at vs i q x read is) ∙ left-lost (value.Object x) (drop (i + 1) vs) h)) ∙ whole
+  pub left-lost_step : (vs : List Value) (i k all : ℕ) (v : Value) → slice_get vs i ≡ Some v → p v ≡ true → k + place_left (drop i vs) ≡ all → k + place_left (drop (i + 1) vs) ≡ all
+  left-lost_step vs i k all v at h whole = ap (λ (n : ℕ). k + n) (sym (left-here vs i v at ∙ left-lost v (drop (i + 1) vs) h)) ∙ whole
 
-  pub left-kept_step : (vs : List Value) (i k all : ℕ) (q : Option ObjectNo) (x : ObjectNo) → option_map value.Object q ≡ slice_get vs i → q ≡ Some x → p (value.Object x) ≡ false
-      → same_value (value.Object o) (value.Object x) ≡ false → k + place_left (drop i vs) ≡ all → k + 1 + place_left (drop (i + 1) vs) ≡ all
-  left-kept_step vs i k all q x read is h other whole =
+  pub left-kept_step : (vs : List Value) (i k all : ℕ) (v : Value) → slice_get vs i ≡ Some v → p v ≡ false → same_value (value.Object o) v ≡ false
+      → k + place_left (drop i vs) ≡ all → k + 1 + place_left (drop (i + 1) vs) ≡ all
+  left-kept_step vs i k all v at h other whole =
       let rest = drop (i + 1) vs in
-      let one : place_left (drop i vs) ≡ suc (place_left rest) = left-here vs i (value.Object x) (some-at vs i q x read is) ∙ left-kept (value.Object x) rest h ∙ ap (λ (b : Bool). cond b 0 (suc (place_left rest))) other in
+      let one : place_left (drop i vs) ≡ suc (place_left rest) = left-here vs i v at ∙ left-kept v rest h ∙ ap (λ (b : Bool). cond b 0 (suc (place_left rest))) other in
       omega (arith, one, whole)
 
   -- at the object itself
-  pub left-found : (vs : List Value) (i k all : ℕ) (q : Option ObjectNo) → option_map value.Object q ≡ slice_get vs i → q ≡ Some o → p (value.Object o) ≡ false
-      → k + place_left (drop i vs) ≡ all → k ≡ all
-  left-found vs i k all q read is h whole =
+  pub left-found : (vs : List Value) (i k all : ℕ) → slice_get vs i ≡ Some (value.Object o) → p (value.Object o) ≡ false → k + place_left (drop i vs) ≡ all → k ≡ all
+  left-found vs i k all at h whole =
       let rest = drop (i + 1) vs in
-      let none : place_left (drop i vs) ≡ 0 = left-here vs i (value.Object o) (some-at vs i q o read is) ∙ left-kept (value.Object o) rest h ∙ ap (λ (b : Bool). cond b 0 (suc (place_left rest))) (eq-eqb o.0 o.0 refl) in
+      let none : place_left (drop i vs) ≡ 0 = left-here vs i (value.Object o) at ∙ left-kept (value.Object o) rest h ∙ ap (λ (b : Bool). cond b 0 (suc (place_left rest))) (eq-eqb o.0 o.0 refl) in
       omega (arith, none, whole)
 
   pub left-end : (vs : List Value) (i k all : ℕ) → length vs ≤ i → k + place_left (drop i vs) ≡ all → k ≡ all
   left-end vs i k all past whole = let none : place_left (drop i vs) ≡ 0 = left-none (drop i vs) (drop_all i vs past) in omega (arith, none, whole)
 
-  pub left-past : (vs : List Value) (i k all : ℕ) (q : Option ObjectNo) → option_map value.Object q ≡ slice_get vs i → q ≡ None → k + place_left (drop i vs) ≡ all → k ≡ all
-  left-past vs i k all q read is whole = let none : place_left (drop i vs) ≡ 0 = left-none (drop i vs) (drop-none vs i (none-at vs i q read is)) in omega (arith, none, whole)
+-- an object is a value where it is what is read of it
+pub same-read : (o : ObjectNo) (v : Value) (q : Option ObjectNo) → q ≡ object_of v → same_value (value.Object o) v ≡ option_map_or (same_object o) q false
+same-read o v q read = by v ∙ sym (ap (λ (x : Option ObjectNo). option_map_or (same_object o) x false) read)
+  where
+    by : (w : Value) → same_value (value.Object o) w ≡ option_map_or (same_object o) (object_of w) false
+    by (value.Object x) = refl
+    by _ = refl
 
 -- the end that contains the object does not lose it before the end
 pub held-by : (r : Reading) (o : ObjectNo) (e : End) → r.holder (node.Object o) ≡ Some e → true ≡ is_held_by r o e

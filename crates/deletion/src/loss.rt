@@ -1,7 +1,8 @@
 //! What ends lose.
-ghost use Rattle.std.specs.Prelude.{◌≡◌, ◌&&◌, ◌++◌, not, true, IfOk, OnOk, Some};
+ghost use Rattle.std.specs.Prelude.{◌≡◌, ◌&&◌, ◌++◌, false, not, true, IfOk, OnOk, Some, option_map, option_to_list};
+ghost use Rattle.std.specs.Option.{option_map_or};
 ghost use Rattle.mm_types.specs.Ends.{index_in};
-ghost use Rattle.mm_types.specs.Same.{same_value};
+ghost use Rattle.mm_types.specs.Same.{same_object, same_value};
 ghost use Rattle.mm_types.specs.Shapes.{shape};
 ghost use Rattle.mm_types.specs.declared.numbers.Node.TheVariants as node;
 ghost use Rattle.mm_types.specs.declared.value.Value.TheVariants as value;
@@ -64,19 +65,32 @@ fn push_lost<L: LinkStore>(
     let is_holder = is_held_by(model, object, end);
     let mut kept = 0;
     for index in 0..model.len(end) {
-        let Some(found) = model.object_in(end, index) else {
-            return Ok(());
-        };
+        let found = model.object_in(end, index);
         if is_lost(object, numbers, is_holder, found) {
-            let value = Value::Object(found);
-            out.push(Loss {
-                end,
-                value,
-                position: kept,
-            })?;
+            push_loss(end, found, kept, out)?;
         } else {
             kept += 1;
         }
+    }
+    Ok(())
+}
+
+/// Adds the loss of an object, if one was found.
+fn push_loss(
+    end: End,
+    found: Option<ObjectNo>,
+    position: u32,
+    out: &mut Vec<Loss>,
+) -> Result<(), AllocError>
+    ensures { OnOk result (out.new.items ≡ out.old.items ++ option_to_list (option_map (λ x. l.loss end (value.Object x) position) found)) }
+{
+    if let Some(found) = found {
+        let value = Value::Object(found);
+        out.push(Loss {
+            end,
+            value,
+            position,
+        })?;
     }
     Ok(())
 }
@@ -117,10 +131,8 @@ fn last_position<L: LinkStore>(
     model.is_legal();
     let mut kept = 0;
     for index in 0..model.len(end) {
-        let Some(found) = model.object_in(end, index) else {
-            return kept;
-        };
-        if found == object {
+        let found = model.object_in(end, index);
+        if is_found(found, object) {
             return kept;
         }
         if !is_lost(object, numbers, true, found) {
@@ -130,11 +142,30 @@ fn last_position<L: LinkStore>(
     kept
 }
 
-/// Whether an object that stands in an end goes before the object itself is taken out of the end that contains it.
-fn is_lost(object: ObjectNo, numbers: &BTreeSet<u32>, is_holder: bool, found: ObjectNo) -> bool
-    ensures { result ≡ (ranks.is_in numbers.now (node.Object found) && not (is_holder && same_value (value.Object found) (value.Object object))) }
+/// Whether an object that stands in an end goes before the object itself is taken out of the end that contains it; a proxy, for which
+/// no object is found, stays.
+fn is_lost(
+    object: ObjectNo,
+    numbers: &BTreeSet<u32>,
+    is_holder: bool,
+    found: Option<ObjectNo>,
+) -> bool
+    ensures { result ≡ option_map_or (λ x. ranks.is_in numbers.now (node.Object x) && not (is_holder && same_value (value.Object x) (value.Object object))) found false }
 {
-    is_in(numbers, Node::Object(found)) && !(is_holder && found == object)
+    match found {
+        Some(found) => is_in(numbers, Node::Object(found)) && !(is_holder && found == object),
+        None => false,
+    }
+}
+
+/// Whether what was found is an object.
+fn is_found(found: Option<ObjectNo>, object: ObjectNo) -> bool
+    ensures { result ≡ option_map_or (same_object object) found false }
+{
+    match found {
+        Some(found) => object == found,
+        None => false,
+    }
 }
 
 /// Whether an end contains an object.

@@ -1,5 +1,5 @@
 -- Where an object stands in the end that holds it, and that a step from there leads into it.
-use Rattle.std.proofs.Common.{◌≡◌, ℕ, ◌<◌, ◌≤◌, ◌&&◌, Bool, true, false, not, List, length, slice_get, Option, Some, None, option_map, option_to_list, unwrap_or, if◌then◌else◌, arith, refl, sym, ap, ◌∙◌}
+use Rattle.std.proofs.Common.{◌≡◌, ℕ, ◌<◌, ◌≤◌, ◌&&◌, Bool, true, false, not, List, length, slice_get, Option, Some, None, option_to_list, unwrap_or, if◌then◌else◌, arith, refl, sym, ap, ◌∙◌}
 use Rattle.std.specs.Prelude.{IfSome, is_some, option_and_then}
 use Rattle.std.specs.Option.{option_map_or}
 use Rattle.std.proofs.lemmas.Bool.{and_parts, eq-eqb, eqb-true, false≢true}
@@ -19,10 +19,10 @@ use Rattle.mm_types.specs.declared.value.Value.{Value}
 use Rattle.mm_types.specs.declared.value.Value.TheVariants as value
 use Rattle.link_store.proofs.HolderLemmas.{holder-some, place_held}
 use Rattle.link_store.specs.Holders.{holder}
-use Rattle.link_store.specs.Links.{end, object_at}
+use Rattle.link_store.specs.Links.{end}
 use Rattle.models.specs.Legal.{IsLegal, kinds_of}
 use Rattle.models.specs.Model.{Model, reading, values_at}
-use Rattle.models.specs.Reading.{at_end, has_feature, has_resource, objects_of}
+use Rattle.models.specs.Reading.{at_end, has_feature, has_resource, object_of, objects_of}
 use Rattle.models.proofs.EndLemmas.{values-single}
 use Rattle.models.proofs.PlaceLemmas.{has-at, index-at, values-few}
 use Rattle.containment.proofs.HolderLemmas.{container_at, holding-feature}
@@ -47,9 +47,9 @@ place-at vs v k at =
     let there = has-at vs v k at in
     ap (λ (b : Bool). slice_get vs (unwrap_or (if b then Some (index_in vs v) else None) 0)) there ∙ index-at vs v there
 
-few-values : (xs : List Value) (x : Option ObjectNo) → xs ≡ option_to_list (option_map value.Object x) → length xs ≤ 1
+few-values : (xs : List Value) (x : Option Value) → xs ≡ option_to_list x → length xs ≤ 1
 few-values xs None is = let long = ap (λ (ys : List Value). length ys) is in omega (arith, long)
-few-values xs (Some o) is = let long = ap (λ (ys : List Value). length ys) is in omega (arith, long)
+few-values xs (Some v) is = let long = ap (λ (ys : List Value). length ys) is in omega (arith, long)
 
 module _ (s : Model) (legal : IsLegal s) where
   pub held : (o : ObjectNo) (e : End) → holder s.links (node.Object o) ≡ Some e → IsHeld s o e
@@ -73,12 +73,12 @@ module _ (s : Model) (legal : IsLegal s) where
 
   -- among the objects there, too
   pub held-object : (o : ObjectNo) (e : End) → IsHeld s o e → slice_get (objects_of (values_at s e)) (place_in (reading s) e o) ≡ Some o
-  held-object o e h = sym (objects-get (values_at s e) (place_in (reading s) e o) (Some o) (all-objects s e legal h.reference) (sym h.here))
+  held-object o e h = sym (objects-get (values_at s e) (place_in (reading s) e o) (all-objects s e legal h.contains)) ∙ ap (λ (x : Option Value). option_and_then object_of x) h.here
 
   -- in a single end, it is the first
   single-place : (o : ObjectNo) (e : End) → IsHeld s o e → (shape s.metamodel e.feature).is_single ≡ true → place_in (reading s) e o ≡ 0
   single-place o e h single =
-      let one = few-values (values_at s e) (object_at s.links e 0) (values-single s e legal h.reference single) in
+      let one = few-values (values_at s e) (slice_get (values_at s e) 0) (values-single s e legal h.reference single) in
       let low = h.low in
       omega arith
 

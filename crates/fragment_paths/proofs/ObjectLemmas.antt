@@ -1,44 +1,77 @@
--- The objects at the ends of references of a legal model: all that stands there.
-use Rattle.std.proofs.Common.{◌≡◌, ℕ, zero, suc, true, IsTrue, List, [], ◌∷◌, slice_get, Option, Some, None, option_map, refl, ap, ◌∙◌}
+-- The objects at the ends of a legal model that contain: all that stands there.
+use Rattle.std.proofs.Common.{◌≡◌, ◌&&◌, ◌||◌, not, ℕ, zero, suc, Bool, true, false, IsTrue, List, [], ◌∷◌, slice_get, Option, Some, None, is_some, option_and_then, if◌then◌else◌, refl, sym, ap, ◌∙◌}
 use Rattle.std.specs.List.{list_all}
 use Rattle.std.proofs.lemmas.Bool.{and_parts, false≢true}
+use Rattle.std.proofs.lemmas.Option.{none-some, same_Some}
+use Rattle.mm_types.specs.Lookups as lookups
 use Rattle.mm_types.specs.Lookups.{is_object}
-use Rattle.mm_types.specs.Shapes.{shape}
+use Rattle.mm_types.specs.Resolved.{Metamodel}
+use Rattle.mm_types.specs.Shapes.{is_containment, shape}
 use Rattle.mm_types.specs.declared.end.End.{End}
+use Rattle.mm_types.specs.declared.numbers.ClassNo.{ClassNo}
+use Rattle.mm_types.specs.declared.numbers.FeatureNo.{FeatureNo}
 use Rattle.mm_types.specs.declared.numbers.ObjectNo.{ObjectNo}
 use Rattle.mm_types.specs.declared.value.Value.{Value}
 use Rattle.mm_types.specs.declared.value.Value.TheVariants as value
 use Rattle.link_store.specs.Links.{end}
-use Rattle.models.specs.Legal.{IsLegal, is_legal_end, is_legal_object}
+use Rattle.models.specs.Legal.{IsLegal, is_legal_end, is_legal_target, takes_proxies}
 use Rattle.models.specs.Model.{Model, reading, values_at}
-use Rattle.models.specs.Reading.{Reading, objects_of}
-use Rattle.containment.proofs.PartLemmas.{values-linked}
+use Rattle.models.specs.Reading.{Reading, object_of, objects_of}
+use Rattle.web_uris.specs.declared.path.Step.{Step}
+use Rattle.fragment_paths.specs.Finding.{feature_of, goes_by, if_goes_by}
+use Rattle.containment.proofs.PartLemmas.{contains-itself, contains-reference, values-linked}
 
-all-of : (r : Reading) (e : End) (vs : List Value) → list_all (is_legal_object r e.feature) vs ≡ true → list_all is_object vs ≡ true
-all-of r e [] h = refl
-all-of r e (v ∷ vs) h =
-    let both = and_parts (is_legal_object r e.feature v) (list_all (is_legal_object r e.feature) vs) h in
-    rw ((and_parts (is_object v) _ both.0).0) (all-of r e vs both.1)
+never : (b c : Bool) → (b && not (c || true)) ≡ false
+never true true = refl
+never true false = refl
+never false c = refl
 
-all-at : (r : Reading) (e : End) (vs : List Value) → IsTrue (is_legal_end r e vs) → list_all is_object vs ≡ true
-all-at r e [] h = refl
-all-at r e (v ∷ vs) h = all-of r e (v ∷ vs) (and_parts _ _ (and_parts _ _ h).1).0
+-- what contains takes no proxies
+no-proxies : (m : Metamodel) (f : FeatureNo) → is_containment m f ≡ true → takes_proxies (shape m f) ≡ false
+no-proxies m f contains =
+    let a = shape m f in
+    ap (λ (x : Option FeatureNo). a.is_reference && not (is_some a.opposite || is_some x)) (contains-itself f a.containing contains) ∙ never a.is_reference (is_some a.opposite)
 
--- an end of a reference has objects alone
-pub all-objects : (s : Model) (e : End) → IsLegal s → (shape s.metamodel e.feature).is_reference ≡ true → list_all is_object (values_at s e) ≡ true
-all-objects s e legal reference = ap (list_all is_object) (values-linked s e reference) ∙ all-at (reading s) e (end s.links e) (legal.links.ends e)
+one-of : (r : Reading) (f : FeatureNo) (v : Value) → takes_proxies (shape r.metamodel f) ≡ false → is_legal_target r f v ≡ true → is_object v ≡ true
+one-of r f (value.Object o) none h = refl
+one-of r f (value.Proxy t) none h = sym none ∙ h
+one-of r f _ none h = h
 
-none-is : (x : Option ObjectNo) → option_map value.Object x ≡ None → x ≡ None
-none-is None h = refl
-none-is (Some o) h = cc
+all-of : (r : Reading) (e : End) (vs : List Value) → takes_proxies (shape r.metamodel e.feature) ≡ false → list_all (is_legal_target r e.feature) vs ≡ true → list_all is_object vs ≡ true
+all-of r e [] none h = refl
+all-of r e (v ∷ vs) none h =
+    let both = and_parts (is_legal_target r e.feature v) (list_all (is_legal_target r e.feature) vs) h in
+    rw (one-of r e.feature v none both.0) (all-of r e vs none both.1)
 
-some-is : (x : Option ObjectNo) (o : ObjectNo) → option_map value.Object x ≡ Some (value.Object o) → x ≡ Some o
-some-is None o h = cc
-some-is (Some p) o h = cc
+all-at : (r : Reading) (e : End) (vs : List Value) → takes_proxies (shape r.metamodel e.feature) ≡ false → IsTrue (is_legal_end r e vs) → list_all is_object vs ≡ true
+all-at r e [] none h = refl
+all-at r e (v ∷ vs) none h = all-of r e (v ∷ vs) none (and_parts _ _ (and_parts _ _ h).1).0
+
+-- an end that contains has objects alone
+pub all-objects : (s : Model) (e : End) → IsLegal s → is_containment s.metamodel e.feature ≡ true → list_all is_object (values_at s e) ≡ true
+all-objects s e legal contains =
+    let reference = contains-reference s.metamodel e.feature e.feature (contains-itself e.feature (shape s.metamodel e.feature).containing contains) in
+    ap (list_all is_object) (values-linked s e reference) ∙ all-at (reading s) e (end s.links e) (no-proxies s.metamodel e.feature contains) (legal.links.ends e)
+
+-- a step goes by a containment reference
+pub by-containment : (r : Reading) (o : ObjectNo) (t : Step) (f : FeatureNo) → feature_of r o t ≡ Some f → is_containment r.metamodel f ≡ true
+by-containment r o t f = by_class (r.class o)
+  where
+    by_test : (g : FeatureNo) (b : Bool) → goes_by r t g ≡ b → (if b then Some g else None) ≡ Some f → is_containment r.metamodel f ≡ true
+    by_test g true goes is = ap (λ (h : FeatureNo). is_containment r.metamodel h) (sym (same_Some g f is)) ∙ (and_parts (is_containment r.metamodel g) _ goes).0
+    by_test g false goes is = absurd (none-some f is)
+
+    by_name : (x : Option FeatureNo) → option_and_then (if_goes_by r t) x ≡ Some f → is_containment r.metamodel f ≡ true
+    by_name None h = absurd (none-some f h)
+    by_name (Some g) h = by_test g (goes_by r t g) refl h
+
+    by_class : (x : Option ClassNo) → option_and_then (λ (c : ClassNo). option_and_then (if_goes_by r t) (lookups.feature_by_name r.metamodel c t.name)) x ≡ Some f → is_containment r.metamodel f ≡ true
+    by_class None h = absurd (none-some f h)
+    by_class (Some c) h = by_name (lookups.feature_by_name r.metamodel c t.name) h
 
 -- an object among objects alone has its place among all values
-pub objects-get : (vs : List Value) (k : ℕ) (x : Option ObjectNo) → list_all is_object vs ≡ true → option_map value.Object x ≡ slice_get vs k → x ≡ slice_get (objects_of vs) k
-objects-get [] k x all h = none-is x h
-objects-get (value.Object o ∷ vs) zero x all h = some-is x o h
-objects-get (value.Object o ∷ vs) (suc k) x all h = objects-get vs k x all h
-objects-get (v ∷ vs) k x all h = absurd (false≢true all)
+pub objects-get : (vs : List Value) (k : ℕ) → list_all is_object vs ≡ true → option_and_then object_of (slice_get vs k) ≡ slice_get (objects_of vs) k
+objects-get [] k all = refl
+objects-get (value.Object o ∷ vs) zero all = refl
+objects-get (value.Object o ∷ vs) (suc k) all = objects-get vs k all
+objects-get (v ∷ vs) k all = absurd (false≢true all)

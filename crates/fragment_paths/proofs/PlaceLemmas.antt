@@ -11,7 +11,7 @@ use Rattle.mm_types.specs.declared.value.Value.TheVariants as value
 use Rattle.link_store.specs.Links.{end}
 use Rattle.models.specs.Legal.{IsLegal}
 use Rattle.models.specs.Model.{Model, reading, values_at}
-use Rattle.models.proofs.PlaceLemmas.{position-object}
+use Rattle.models.proofs.PlaceLemmas.{position-target}
 use Rattle.fragment_paths.specs.Fragments.{place_in}
 use Rattle.fragment_paths.specs.Known.{KnowsPlaces}
 use Rattle.fragment_paths.specs.declared.places.Place.{Place}
@@ -22,7 +22,7 @@ nothing-known s known is o p h = absurd (none-some p (ap (lookup (nat_eq o.0)) (
 stands-at : (s : Model) (e : End) (i : ℕ) (o : ObjectNo) → IsLegal s → (shape s.metamodel e.feature).is_reference ≡ true → slice_get ((reading s).values e) i ≡ Some (value.Object o) → place_in (reading s) e o ≡ i
 stands-at s e i o legal reference there =
     let linked : values_at s e ≡ end s.links e = rw reference refl in
-    ap (λ (x : Option ℕ). unwrap_or x 0) (sym (position-object s e o (Some i) legal reference (ap (λ vs. slice_get vs i) (sym linked) ∙ there)))
+    ap (λ (x : Option ℕ). unwrap_or x 0) (sym (position-target s e (value.Object o) (Some i) legal reference (ap (λ vs. slice_get vs i) (sym linked) ∙ there)))
 
 -- one more place is known
 pub one-more-known : (s : Model) (old new : List (ℕ × Place)) (e : End) (i : ℕ) (o : ObjectNo) → IsLegal s → (shape s.metamodel e.feature).is_reference ≡ true → slice_get ((reading s).values e) i ≡ Some (value.Object o)

@@ -1,6 +1,6 @@
 //! The ends that hold the objects of resources.
 ghost use Rattle.std.specs.Prelude.{◌≡◌, true, slice_get};
-ghost use Rattle.mm_types.specs.Shapes.{shape};
+ghost use Rattle.mm_types.specs.Shapes.{is_containment};
 ghost use Rattle.models.specs.Model.{reading};
 ghost use Rattle.models.specs.Reading.{objects_of};
 ghost use Rattle.fragment_paths.specs.Fragments as fragments;
@@ -19,9 +19,9 @@ pub fn roots_end<L: LinkStore>(model: &ModelRef<L>, resource: ResourceNo) -> End
     }
 }
 
-/// The object at a position of a reference; `None` past the last.
+/// The object at a position of a containment reference, where no proxy stands; `None` past the last.
 pub(crate) fn object_in<L: LinkStore>(model: &ModelRef<L>, end: End, index: u32) -> Option<ObjectNo>
-    requires reference { (shape model.now.metamodel end.feature).is_reference ≡ true }
+    requires contains { is_containment model.now.metamodel end.feature ≡ true }
     ensures { result ≡ slice_get (objects_of ((reading model.now).values end)) index }
 {
     model.is_legal();

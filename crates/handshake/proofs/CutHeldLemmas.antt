@@ -21,7 +21,7 @@ use Rattle.mm_types.specs.SameValues.{same_value-self, same_value-true}
 use Rattle.link_store.specs.Laws.{AreOnce, AreThere, names, names_far, without_all}
 use Rattle.link_store.proofs.SideLemmas.{both_ends_agree}
 use Rattle.link_store.specs.LegalSets.{AreKinds, AreOfKind, IsDistinct, IsLegalSet, Kinds}
-use Rattle.link_store.specs.Links.{Links, cut_value, end, far_end, object_at}
+use Rattle.link_store.specs.Links.{Links, cut_value, end, far_end}
 use Rattle.models.proofs.EndLemmas.{values-single}
 use Rattle.link_store.specs.Plans.{Has}
 use Rattle.models.specs.Legal.{IsLegal, kinds_of}
@@ -94,11 +94,11 @@ all-left s legal =
     by : (d : End) → (shape s.metamodel d.feature).is_single ≡ true → (b : Bool) → (shape s.metamodel d.feature).is_reference ≡ b → length (end s.links d) ≤ 1
     by d single true reference =
         let is = sym (values-linked s d reference) ∙ values-single s d legal reference single in
-        subst (λ (vs : List Value). length vs ≤ 1) (sym is) (at-most (object_at s.links d 0))
+        subst (λ (vs : List Value). length vs ≤ 1) (sym is) (at-most (slice_get ((reading s).values d) 0))
       where
-        at-most : (q : Option ObjectNo) → length (option_to_list (option_map value.Object q)) ≤ 1
+        at-most : (q : Option Value) → length (option_to_list q) ≤ 1
         at-most None = omega arith
-        at-most (Some o) = omega arith
+        at-most (Some v) = omega arith
     by d single false attribute = elim (end s.links d) as (λ vs. end s.links d ≡ vs → length vs ≤ 1) [
       | [] ↦ λ _. omega arith
       | v ∷ vs ↦ λ is. absurd (false≢true (sym attribute ∙ (open-of s legal (tie d v) (0, ap (λ (ws : List Value). slice_get ws 0) is)).reference))

@@ -22,7 +22,7 @@ use Rattle.link_store.proofs.ScanLemmas.{same_bool}
 use Rattle.link_store.specs.Holders.{contained, holder}
 use Rattle.link_store.specs.Laws.{AreOnce, AreThere, is_named, kept_holder, names, names_far, without_all}
 use Rattle.link_store.specs.LegalSets.{IsDistinct, IsLegalSet}
-use Rattle.link_store.specs.Links.{Links, cut_value, end, far_end, object_at}
+use Rattle.link_store.specs.Links.{Links, cut_value, end, far_end}
 use Rattle.link_store.specs.Plans.{Has}
 use Rattle.link_store.proofs.GoneLemmas.{without_all-nodes}
 use Rattle.models.proofs.EndLemmas.{values-single}
@@ -343,11 +343,22 @@ cuts-stand s (Move n f to from) legal early = tt
 pub cuts-there : (s : Model) (c : Change) → IsLegal s → early_refusal (reading s) c ≡ None → late_refusal (reading s) c ≡ None → AreThere s.links (names_of (cut_ties (reading s) c))
 cuts-there s c legal early late = all_map (λ (t : End × Value). Has s.links t.0 t.1) (λ (t : Tie). (t.end, t.value)) (cut_ties (reading s) c) (cuts-stand s c legal early)
 
+-- the link of what a single end has, if it has something
+pub ties-single : (s : Model) (e : End) → IsLegal s → (shape s.metamodel e.feature).is_reference ≡ true → (shape s.metamodel e.feature).is_single ≡ true
+    → ties_if_single (reading s) e ≡ option_to_list (option_map (tie e) (slice_get ((reading s).values e) 0))
+ties-single s e legal reference single =
+    ap (λ (b : Bool). if b then ties_at (reading s) e else []) single
+    ∙ ap (λ (vs : List Value). map (tie e) vs) (values-single s e legal reference single) ∙ by (slice_get ((reading s).values e) 0)
+  where
+    by : (q : Option Value) → map (tie e) (option_to_list q) ≡ option_to_list (option_map (tie e) q)
+    by None = refl
+    by (Some v) = refl
+
 -- a single end has one link at most
 pub ties_at-different : (s : Model) (e : End) → IsLegal s → (shape s.metamodel e.feature).is_reference ≡ true → (shape s.metamodel e.feature).is_single ≡ true → AreDifferent (reading s) (ties_at (reading s) e)
 ties_at-different s e legal reference single =
     subst (λ (vs : List Value). AreDifferent (reading s) (map (tie e) vs)) (sym (values-single s e legal reference single))
-    (elim (object_at s.links e 0) as (λ q. AreDifferent (reading s) (map (tie e) (option_to_list (option_map value.Object q)))) [ None ↦ tt | Some o ↦ (tt, tt) ])
+    (elim (slice_get ((reading s).values e) 0) as (λ q. AreDifferent (reading s) (map (tie e) (option_to_list q))) [ None ↦ tt | Some v ↦ (tt, tt) ])
 
 cut_by_set-different : (s : Model) (e : End) (v : Value) → IsLegal s → (shape s.metamodel e.feature).is_reference ≡ true → (shape s.metamodel e.feature).is_single ≡ true → AreDifferent (reading s) (cut_by_set (reading s) e v)
 cut_by_set-different s e (value.Object o) legal reference single = yields-different (reading s) e o

@@ -24,7 +24,7 @@ use Rattle.link_store.proofs.GoneLemmas.{end-without_nodes}
 use Rattle.link_store.specs.Holders.{above}
 use Rattle.link_store.specs.Laws.{goes}
 use Rattle.link_store.specs.LegalSets.{IsDistinct}
-use Rattle.link_store.specs.Links.{end, object_at, without_nodes}
+use Rattle.link_store.specs.Links.{end, without_nodes}
 use Rattle.link_store.specs.Plans.{Has, has_end}
 use Rattle.containment.proofs.MemberLemmas.{subtree-has}
 use Rattle.containment.proofs.PartLemmas.{legal-at}
@@ -228,13 +228,13 @@ module _ (s : Model) (legal : IsLegal s) (o : ObjectNo) (live : is_live (reading
 
     -- a single one has nothing else
     only-root : a.is_single ≡ true → r.values d ≡ root ∷ []
-    only-root single = by (object_at s.links d 0) (values-single s d legal holder-reference single) values-have
+    only-root single = by (slice_get (r.values d) 0) (values-single s d legal holder-reference single) values-have
       where
-        by : (q : Option ObjectNo) → r.values d ≡ option_to_list (option_map value.Object q) → has_value (r.values d) root ≡ true → r.values d ≡ root ∷ []
+        by : (q : Option Value) → r.values d ≡ option_to_list q → has_value (r.values d) root ≡ true → r.values d ≡ root ∷ []
         by None is has = absurd (false≢true (ap (λ (vs : List Value). has_value vs root) (sym is) ∙ has))
         by (Some x) is has =
-            let same : same_value root (value.Object x) ≡ true = sym (or-false (same_value root (value.Object x))) ∙ ap (λ (vs : List Value). has_value vs root) (sym is) ∙ has in
-            is ∙ ap (λ (v : Value). v ∷ []) (sym (same_value-true root (value.Object x) same))
+            let same : same_value root x ≡ true = sym (or-false (same_value root x)) ∙ ap (λ (vs : List Value). has_value vs root) (sym is) ∙ has in
+            is ∙ ap (λ (v : Value). v ∷ []) (sym (same_value-true root x same))
 
     kept-single : a.is_single ≡ true → kept_at r o d ≡ r.values d
     kept-single single =

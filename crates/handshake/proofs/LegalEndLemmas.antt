@@ -34,7 +34,7 @@ use Rattle.link_store.proofs.CutNamedLemmas.{end-without_all, without_all_legal}
 use Rattle.link_store.proofs.FilterLemmas.{length-filter_le}
 use Rattle.link_store.proofs.PutEndLemmas.{end-put}
 use Rattle.link_store.specs.LegalSets.{most}
-use Rattle.models.specs.Legal.{IsLegal, is_legal_end, is_legal_object, kinds_of}
+use Rattle.models.specs.Legal.{IsLegal, is_legal_end, is_legal_target, kinds_of}
 use Rattle.models.specs.Model.{Model, model_of, reading}
 use Rattle.models.specs.Reading.{Reading, has_feature, shape_at, takes}
 use Rattle.handshake.specs.Displaced.{yields}
@@ -73,7 +73,7 @@ one-bounded a = elim (int_le (pos 1) a.upper) as (λ b. (nat_le 1 LIST_VALUES &&
 
 ---------------------------------------------------------------- fewer values
 
-end-from : (r : Reading) (e : End) (vs : List Value) → has_feature r e.node e.feature ≡ true → list_all (is_legal_object r e.feature) vs ≡ true → is_bounded (shape_at r e) (length vs) ≡ true
+end-from : (r : Reading) (e : End) (vs : List Value) → has_feature r e.node e.feature ≡ true → list_all (is_legal_target r e.feature) vs ≡ true → is_bounded (shape_at r e) (length vs) ≡ true
     → is_legal_end r e vs ≡ true
 end-from r e [] has all bounded = refl
 end-from r e (v ∷ vs) has all bounded = and_from _ _ has (and_from _ _ all bounded)
@@ -83,7 +83,7 @@ filter-legal r e p [] h = refl
 filter-legal r e p (v ∷ vs) h =
     let has = and_parts _ _ h in
     let held = and_parts _ _ has.1 in
-    end-from r e (filter p (v ∷ vs)) has.0 (list_all-filter (is_legal_object r e.feature) p (v ∷ vs) held.0)
+    end-from r e (filter p (v ∷ vs)) has.0 (list_all-filter (is_legal_target r e.feature) p (v ∷ vs) held.0)
     (bounded-less (shape_at r e) (length (filter p (v ∷ vs))) (length (v ∷ vs)) (length-filter_le p (v ∷ vs)) held.1)
 
 pub cut-end : (s : Model) (ts : List (End × Value)) → IsLegal s → (d : End) → is_legal_end (reading s) d (end (without_all s.links ts) d) ≡ true
@@ -131,9 +131,9 @@ list_all-insert p xs zero x a b = and_from (p x) (list_all p xs) b a
 list_all-insert p [] (suc i) x a b = and_from (p x) true b refl
 list_all-insert p (y ∷ ys) (suc i) x a b = let both = and_parts (p y) (list_all p ys) a in and_from (p y) (list_all p (insert ys i x)) both.0 (list_all-insert p ys i x both.1 b)
 
-end-all : (r : Reading) (e : End) (vs : List Value) → is_legal_end r e vs ≡ true → list_all (is_legal_object r e.feature) vs ≡ true
+end-all : (r : Reading) (e : End) (vs : List Value) → is_legal_end r e vs ≡ true → list_all (is_legal_target r e.feature) vs ≡ true
 end-all r e [] h = refl
-end-all r e (v ∷ vs) h = (and_parts (list_all (is_legal_object r e.feature) (v ∷ vs)) _ (and_parts (has_feature r e.node e.feature) _ h).1).0
+end-all r e (v ∷ vs) h = (and_parts (list_all (is_legal_target r e.feature) (v ∷ vs)) _ (and_parts (has_feature r e.node e.feature) _ h).1).0
 
 length-push : {X : Type 0} (xs : List X) (x : X) → suc (length xs) ≡ length (xs ++ x ∷ [])
 length-push [] x = refl
@@ -150,7 +150,7 @@ module _ (s : Model) (legal : IsLegal s) (e : End) (o : ObjectNo) (new : IsNewLi
   abbrev left : Links
   left = without_displaced s e o
 
-  left-all : (d : End) → list_all (is_legal_object (reading s) d.feature) (end left d) ≡ true
+  left-all : (d : End) → list_all (is_legal_target (reading s) d.feature) (end left d) ≡ true
   left-all d = end-all (reading s) d (end left d) (cut-end s (names_of (yields (reading s) e o)) legal d)
 
   linked-length : (d : End) → (shape s.metamodel d.feature).is_reference ≡ true → length ((reading s).values d) ≡ length (end s.links d)
@@ -165,18 +165,18 @@ module _ (s : Model) (legal : IsLegal s) (e : End) (o : ObjectNo) (new : IsNewLi
       bounded-more a (length (end left d)) (length (end s.links d)) (fewer-left s legal e o new d) (below-limit _ (subst (λ (n : ℕ). nat_le LIST_VALUES n ≡ false) same few))
       (subst (λ (n : ℕ). is_full_list a n ≡ false) same room) (λ one. ap (λ (vs : List Value). length vs) (empty (single-of s.metamodel d.feature one)))
 
-  far-legal : (g : FeatureNo) → (shape s.metamodel e.feature).opposite ≡ Some g → (has_feature (reading s) (node.Object o) g ≡ true) × (is_legal_object (reading s) g (node_value e.node) ≡ true)
+  far-legal : (g : FeatureNo) → (shape s.metamodel e.feature).opposite ≡ Some g → (has_feature (reading s) (node.Object o) g ≡ true) × (is_legal_target (reading s) g (node_value e.node) ≡ true)
   far-legal g opposite =
       let there = feature-there (reading s) e.node e.feature g opposite new.has in
       let near : meta.class_has s.metamodel (class_of s.values) there.object e.feature ≡ true = rw there.class_is there.has in
       let fit = far_types_fit s.metamodel legal.metamodel (class_of s.values) there.object o e.feature g opposite near taken in
-      (fit.0, subst (λ (n : Node). is_legal_object (reading s) g (node_value n) ≡ true) (sym there.node) fit.1)
+      (fit.0, subst (λ (n : Node). is_legal_target (reading s) g (node_value n) ≡ true) (sym there.node) fit.1)
 
   near-put : (i : ℕ) (d : End) → same_end e d ≡ true → is_legal_end (reading s) d (insert (end left d) i (value.Object o)) ≡ true
   near-put i d h =
       let r = reading s in
       subst (λ (x : End). is_legal_end r x (insert (end left x) i (value.Object o)) ≡ true) (same_end-true e d h)
-      (end-from r e (insert (end left e) i (value.Object o)) new.has (list_all-insert (is_legal_object r e.feature) (end left e) i (value.Object o) (left-all e) taken)
+      (end-from r e (insert (end left e) i (value.Object o)) new.has (list_all-insert (is_legal_target r e.feature) (end left e) i (value.Object o) (left-all e) taken)
       (subst (λ (n : ℕ). is_bounded (shape s.metamodel e.feature) n ≡ true) (length-put (end left e) i (value.Object o))
       (gains e new.reference (near-of (is_full_at r) r e o new.linkable.room) (near-of (is_at_limit r) r e o new.linkable.few) (near-empty s legal e o new))))
 
@@ -187,7 +187,7 @@ module _ (s : Model) (legal : IsLegal s) (e : End) (o : ObjectNo) (new : IsNewLi
       let x = far_end o g in
       let fit = far-legal g is in
       subst (λ (y : End). is_legal_end r y (end left y ++ node_value e.node ∷ []) ≡ true) (same_end-true x d h)
-      (end-from r x (end left x ++ node_value e.node ∷ []) fit.0 (list_all-append (is_legal_object r g) (end left x) (node_value e.node ∷ []) (left-all x) (and_from _ _ fit.1 refl))
+      (end-from r x (end left x ++ node_value e.node ∷ []) fit.0 (list_all-append (is_legal_target r g) (end left x) (node_value e.node ∷ []) (left-all x) (and_from _ _ fit.1 refl))
       (subst (λ (n : ℕ). is_bounded (shape s.metamodel g) n ≡ true) (length-push (end left x) (node_value e.node))
       (gains x (far-reference s.metamodel legal.metamodel e.feature g is) (far-of (is_full_at r) r e o g is new.linkable.room) (far-of (is_at_limit r) r e o g is new.linkable.few) (λ single. far-emptied s e o g legal is single))))
 
@@ -234,13 +234,13 @@ shifted-end s e to from legal low_from low_to d =
         let r = reading s in
         let vs = w ∷ ws in
         let has = and_parts (has_feature r e.node e.feature) _ legal_end in
-        let held = and_parts (list_all (is_legal_object r e.feature) vs) _ has.1 in
+        let held = and_parts (list_all (is_legal_target r e.feature) vs) _ has.1 in
         elim (slice_get vs from) as (λ q. slice_get vs from ≡ q → is_legal_end r e (put_back q vs to from) ≡ true) [
           | None ↦ λ _. legal_end
           | Some v ↦ λ at.
-              let rest = taken_out vs from v at (is_legal_object r e.feature) held.0 in
+              let rest = taken_out vs from v at (is_legal_target r e.feature) held.0 in
               let same = sym (length-put (remove vs from) to v) ∙ rest.2 in
-              end-from r e (insert (remove vs from) to v) has.0 (list_all-insert (is_legal_object r e.feature) (remove vs from) to v rest.1 rest.0) (subst (λ (n : ℕ). is_bounded (shape_at r e) n ≡ true) (sym same) held.1)
+              end-from r e (insert (remove vs from) to v) has.0 (list_all-insert (is_legal_target r e.feature) (remove vs from) to v rest.1 rest.0) (subst (λ (n : ℕ). is_bounded (shape_at r e) n ≡ true) (sym same) held.1)
         ] refl
 
 ---------------------------------------------------------------- classes
@@ -311,10 +311,10 @@ module _ (g : Node → Bool) (s : Model) (v : ValuesState) (l : Links) (kept : H
       let both = and_parts (nat_lt k.0 (length s.values.uris)) (same_feature f (lookups.contents s.metamodel)) h in
       and_from _ _ (grind (arith, nat_tests)) both.1
 
-  object-kept : (f : FeatureNo) (w : Value) → goes g w ≡ false → is_legal_object (reading s) f w ≡ true → is_legal_object (reading (model_of s.metamodel v l)) f w ≡ true
-  object-kept f w stays h =
-      let both = and_parts (lookups.is_object w) (takes (reading s) f w) h in
-      and_from _ _ both.0 (takes-kept s.metamodel (class_of s.values) (class_of v) f w (has-class g (class_of s.values) (class_of v) kept w stays) both.1)
+  target-kept : (f : FeatureNo) (w : Value) → goes g w ≡ false → is_legal_target (reading s) f w ≡ true → is_legal_target (reading (model_of s.metamodel v l)) f w ≡ true
+  target-kept f (value.Object o) stays h = takes-kept s.metamodel (class_of s.values) (class_of v) f (value.Object o) (has-class g (class_of s.values) (class_of v) kept (value.Object o) stays) h
+  target-kept f (value.Proxy t) stays h = h
+  target-kept f _ stays h = h
 
   -- a legal end stays legal
   pub legal-end-kept : (e : End) (ws : List Value) → IsUntouched g e ws → is_legal_end (reading s) e ws ≡ true → is_legal_end (reading (model_of s.metamodel v l)) e ws ≡ true
@@ -323,4 +323,4 @@ module _ (g : Node → Bool) (s : Model) (v : ValuesState) (l : Links) (kept : H
       let has = and_parts _ _ h in
       let held = and_parts _ _ has.1 in
       and_from _ _ (has-kept e.node e.feature stays.0 has.0)
-      (and_from _ _ (list_all-kept (is_legal_object (reading s) e.feature) (is_legal_object (reading (model_of s.metamodel v l)) e.feature) g (object-kept e.feature) (w ∷ ws) stays.1 held.0) held.1)
+      (and_from _ _ (list_all-kept (is_legal_target (reading s) e.feature) (is_legal_target (reading (model_of s.metamodel v l)) e.feature) g (target-kept e.feature) (w ∷ ws) stays.1 held.0) held.1)

@@ -25,14 +25,14 @@ use Rattle.link_store.specs.declared.plan.Edit.{Edit}
 use Rattle.link_store.specs.Holders.{above, contained, containing, holder}
 use Rattle.link_store.specs.Laws.{without_all}
 use Rattle.link_store.specs.LegalSets.{IsObject, most}
-use Rattle.link_store.specs.Links.{Links, end, far_end, object_at}
+use Rattle.link_store.specs.Links.{Links, end, far_end}
 use Rattle.link_store.specs.Plans.{EditFits, FarFitsIn, Has, IsFree, Lacks, MakesNoCycle}
 use Rattle.link_store.specs.declared.plan.Edit.TheVariants as edit
 use Rattle.link_store.proofs.CutNamedLemmas.{lacks-without_all, length-without_all, without_all_above, without_all_legal, without_all_no_cycle}
 use Rattle.mm_types.specs.SameValues.{same_value-self}
 use Rattle.link_store.proofs.PutEndLemmas.{put_outside}
 use Rattle.link_store.proofs.SideLemmas.{both_ends_agree}
-use Rattle.models.proofs.EndLemmas.{value_at-object, values-single}
+use Rattle.models.proofs.EndLemmas.{value_at-first, values-single}
 use Rattle.models.proofs.PlaceLemmas.{has-at}
 use Rattle.models.specs.Legal.{IsLegal, kinds_of}
 use Rattle.models.specs.Model.{Model, reading}
@@ -63,17 +63,17 @@ reference-unique m f h = by (lookups.feature m f) h
     by None h = refl
     by (Some x) h = unique-kind m f x x.kind h
 
-one-of : (q : Option ObjectNo) (k : ℕ) (o : ObjectNo) → slice_get (option_to_list (option_map value.Object q)) k ≡ Some (value.Object o) → unwrap_or (option_map value.Object q) value.Null ≡ value.Object o
-one-of None k o h = absurd (none-some _ h)
-one-of (Some p) zero o h = same_Some _ _ h
-one-of (Some p) (suc k) o h = absurd (none-some _ h)
+one-of : (q : Option Value) (k : ℕ) (v : Value) → slice_get (option_to_list q) k ≡ Some v → unwrap_or q value.Null ≡ v
+one-of None k v h = absurd (none-some _ h)
+one-of (Some w) zero v h = same_Some _ _ h
+one-of (Some w) (suc k) v h = absurd (none-some _ h)
 
 -- a single reference that has another value, or none, lacks the object
 pub single-lacks : (s : Model) (e : End) (o : ObjectNo) → IsLegal s → (shape s.metamodel e.feature).is_reference ≡ true → (shape s.metamodel e.feature).is_single ≡ true
     → has_already (reading s) e (value.Object o) ≡ false → Lacks s.links e (value.Object o)
 single-lacks s e o legal reference single other k at =
     let is = sym (values-linked s e reference) ∙ values-single s e legal reference single in
-    let held = sym (value_at-object s e legal reference) ∙ one-of (object_at s.links e 0) k o (subst (λ (vs : List Value). slice_get vs k ≡ Some (value.Object o)) is at) in
+    let held = sym (value_at-first s e) ∙ one-of (slice_get ((reading s).values e) 0) k (value.Object o) (subst (λ (vs : List Value). slice_get vs k ≡ Some (value.Object o)) is at) in
     false≢true (sym other ∙ ap (same_value (value.Object o)) held ∙ same_value-self (value.Object o))
 
 -- so does a list of which it is no repeat

@@ -14,7 +14,6 @@ use Rattle.mm_types.specs.declared.numbers.ObjectNo.{ObjectNo}
 use Rattle.mm_types.specs.declared.value.Value.{Value}
 use Rattle.mm_types.specs.declared.value.Value.TheVariants as value
 use Rattle.link_store.specs.LegalSets.{IsDistinct}
-use Rattle.link_store.specs.Links.{object_at}
 use Rattle.link_store.specs.Plans.{AreInOrder, has_end}
 use Rattle.link_store.proofs.ListLemmas.{distinct_remove}
 use Rattle.models.proofs.EndLemmas.{values-single}
@@ -170,11 +169,10 @@ module _ (s : Model) (legal : IsLegal s) (o : ObjectNo) (d : End) (reference : (
       (is ∙ listed many ∙ ap (λ (ws : List Value). record { values = ws; flag = r.flag d }) has)
 
   -- a single end has one value at most
-  single-notices : a.is_single ≡ true → (q : Option ObjectNo) → (e : Ends) → e d ≡ held_at r d
-      → (let vs = option_to_list (option_map value.Object q) in told s.metamodel e (map (loses d) (filter (is_lost r o d) vs)) ≡ map (lost_notice r) (lost_from (is_lost r o d) d vs 0))
+  single-notices : a.is_single ≡ true → (q : Option Value) → (e : Ends) → e d ≡ held_at r d
+      → (let vs = option_to_list q in told s.metamodel e (map (loses d) (filter (is_lost r o d) vs)) ≡ map (lost_notice r) (lost_from (is_lost r o d) d vs 0))
   single-notices single None e is = refl
-  single-notices single (Some x) e is =
-      let v = value.Object x in
+  single-notices single (Some v) e is =
       let m = s.metamodel in
       elim (is_lost r o d v) as (λ b. told m e (map (loses d) (if b then v ∷ [] else [])) ≡ map (lost_notice r) (if b then loss d v 0 ∷ [] else [])) [
         | true ↦ ap (λ (n : Notice). n ∷ []) (single-notice v)
@@ -194,15 +192,14 @@ module _ (s : Model) (legal : IsLegal s) (o : ObjectNo) (d : End) (reference : (
       elim a.is_single as (λ b. a.is_single ≡ b → told s.metamodel e (lost_with r o d) ≡ map (lost_notice r) (lost_at r o d)) [
         | true ↦ λ single.
             subst (λ (vs : List Value). told s.metamodel e (map (loses d) (filter lost vs)) ≡ map (lost_notice r) (lost_from lost d vs 0)) (sym (values-single s d legal reference single))
-            (single-notices single (object_at s.links d 0) e is)
+            (single-notices single (slice_get (r.values d) 0) e is)
         | false ↦ λ many. list-notices many (r.values d) refl e is
       ] refl
 
-  single-held : a.is_single ≡ true → (q : Option ObjectNo)
-      → (let vs = option_to_list (option_map value.Object q) in happened_at s.metamodel (map (loses d) (filter (is_lost r o d) vs)) d (record { values = shown true vs; flag = r.flag d }) ≡ record { values = shown true (filter (λ v. not (is_lost r o d v)) vs); flag = r.flag d })
+  single-held : a.is_single ≡ true → (q : Option Value)
+      → (let vs = option_to_list q in happened_at s.metamodel (map (loses d) (filter (is_lost r o d) vs)) d (record { values = shown true vs; flag = r.flag d }) ≡ record { values = shown true (filter (λ v. not (is_lost r o d v)) vs); flag = r.flag d })
   single-held single None = refl
-  single-held single (Some x) =
-      let v = value.Object x in
+  single-held single (Some v) =
       let h : Held = record { values = v ∷ []; flag = r.flag d } in
       let off = (reference-plain s.metamodel d.feature reference).0 ∙ sym (reference-flag s d.node d.feature legal reference) in
       elim (is_lost r o d v) as (λ b. happened_at s.metamodel (map (loses d) (if b then v ∷ [] else [])) d h ≡ record { values = shown true (if not b then v ∷ [] else []); flag = r.flag d }) [
@@ -217,7 +214,7 @@ module _ (s : Model) (legal : IsLegal s) (o : ObjectNo) (d : End) (reference : (
       elim a.is_single as (λ b. a.is_single ≡ b → happened_at s.metamodel (lost_with r o d) d (record { values = shown b (r.values d); flag = r.flag d }) ≡ record { values = shown b (kept_at r o d); flag = r.flag d }) [
         | true ↦ λ single.
             subst (λ (vs : List Value). happened_at s.metamodel (map (loses d) (filter lost vs)) d (record { values = shown true vs; flag = r.flag d }) ≡ record { values = shown true (filter (λ v. not (lost v)) vs); flag = r.flag d }) (sym (values-single s d legal reference single))
-            (single-held single (object_at s.links d 0))
+            (single-held single (slice_get (r.values d) 0))
         | false ↦ λ many. many-held s.metamodel d many lost (r.flag d) [] (r.values d) values-apart
       ] refl
 

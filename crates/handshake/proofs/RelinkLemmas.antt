@@ -1,5 +1,5 @@
 -- What a change of a reference tells is what it makes of each end.
-use Rattle.std.proofs.Common.{◌≡◌, ℕ, suc, ◌≤◌, nat_lt, length, unwrap_or, arith, inl, inr, Bool, true, false, ◌&&◌, ◌||◌, List, [], ◌∷◌, ◌++◌, flat_map, Option, Some, None, option_map, option_to_list, if◌then◌else◌, refl, sym, ap, ◌∙◌, subst}
+use Rattle.std.proofs.Common.{slice_get, ◌≡◌, ℕ, suc, ◌≤◌, nat_lt, length, unwrap_or, arith, inl, inr, Bool, true, false, ◌&&◌, ◌||◌, List, [], ◌∷◌, ◌++◌, flat_map, Option, Some, None, option_map, option_to_list, if◌then◌else◌, refl, sym, ap, ◌∙◌, subst}
 use Rattle.std.specs.Prelude.{◌⊎◌}
 use Rattle.std.specs.List.{AllByRecursion, insert}
 use Rattle.std.specs.Option.{option_map_or}
@@ -20,7 +20,7 @@ use Rattle.link_store.proofs.CutNamedLemmas.{without_all_legal}
 use Rattle.mm_types.specs.SameValues.{same_value-true}
 use Rattle.link_store.proofs.PutEndLemmas.{end-put}
 use Rattle.link_store.specs.Laws.{AreThere, is_far, put_end, without_all}
-use Rattle.link_store.specs.Links.{Links, end, far_end, object_at, put}
+use Rattle.link_store.specs.Links.{Links, end, far_end, put}
 use Rattle.link_store.specs.Plans.{Has}
 use Rattle.models.proofs.EndLemmas.{values-single}
 use Rattle.models.specs.Legal.{IsLegal}
@@ -63,7 +63,7 @@ module _ (s : Model) (e : End) (legal : IsLegal s) (reference : (shape s.metamod
   held-value : gained (shape s.metamodel e.feature) (value_at (reading s) e) ≡ held_at (reading s) e
   held-value =
       let a = shape s.metamodel e.feature in
-      let o = option_map value.Object (object_at s.links e 0) in
+      let o = slice_get ((reading s).values e) 0 in
       let one = subst (λ (b : Bool). shown b ((reading s).values e) ≡ value_in (shown b ((reading s).values e)) 0 ∷ []) (sym single)
       (subst (λ (vs : List Value). shown true vs ≡ value_in (shown true vs) 0 ∷ []) (sym (values-single s e legal reference single)) (one-shown o)) in
       let off = (reference-plain s.metamodel e.feature reference).0 ∙ sym (reference-flag s e.node e.feature legal reference) in

@@ -18,10 +18,10 @@ use Rattle.mm_types.specs.declared.value.Value.TheVariants as value
 use Rattle.mm_types.specs.declared.value.Value.{Value}
 use Rattle.link_store.proofs.SideLemmas.{both_ends_agree}
 use Rattle.link_store.specs.Holders.{contained}
-use Rattle.link_store.specs.Links.{end, far_end, object_at}
+use Rattle.link_store.specs.Links.{end, far_end}
 use Rattle.link_store.specs.Plans.{Has}
 use Rattle.models.proofs.EndLemmas.{values-single}
-use Rattle.models.specs.Legal.{IsLegal, is_legal_end, is_legal_object, kinds_of}
+use Rattle.models.specs.Legal.{IsLegal, is_legal_end, is_legal_target, kinds_of}
 use Rattle.models.specs.Model.{Model, reading}
 use Rattle.models.specs.Reading.{Reading, at_end, has_feature}
 use Rattle.handshake.proofs.CutTieLemmas.{Stands, same_tie-self, values-linked}
@@ -38,16 +38,17 @@ pub record IsOpen (s : Model) (e : End) : Type 0 where
   pub has : has_feature (reading s) e.node e.feature ≡ true
   pub reference : (shape s.metamodel e.feature).is_reference ≡ true
 
-object_takes : (s : Model) (f : FeatureNo) (v : Value) → is_legal_object (reading s) f v ≡ true → (shape s.metamodel f).is_reference ≡ true
+object_takes : (s : Model) (f : FeatureNo) (v : Value) → is_legal_target (reading s) f v ≡ true → (shape s.metamodel f).is_reference ≡ true
 object_takes s f (value.Object o) h = object-reference s.metamodel (reading s).class f o h
+object_takes s f (value.Proxy t) h = (and_parts (shape s.metamodel f).is_reference _ h).0
 object_takes s f _ h = absurd (false≢true h)
 
 open_by : (s : Model) (e : End) (vs : List Value) (k : ℕ) (v : Value) → IsTrue (is_legal_end (reading s) e vs) → slice_get vs k ≡ Some v → IsOpen s e
 open_by s e [] k v legal at = absurd (none-some v at)
 open_by s e (w ∷ ws) k v legal at =
     let all = and_parts (has_feature (reading s) e.node e.feature) _ legal in
-    let typed = and_parts (list_all (is_legal_object (reading s) e.feature) (w ∷ ws)) _ all.1 in
-    record { has = all.0; reference = object_takes s e.feature w (and_parts (is_legal_object (reading s) e.feature w) _ typed.0).0 }
+    let typed = and_parts (list_all (is_legal_target (reading s) e.feature) (w ∷ ws)) _ all.1 in
+    record { has = all.0; reference = object_takes s e.feature w (and_parts (is_legal_target (reading s) e.feature w) _ typed.0).0 }
 
 pub open-of : (s : Model) → IsLegal s → (t : Tie) → Stands s.links t → IsOpen s t.end
 open-of s legal t at = open_by s t.end (end s.links t.end) at.0 t.value (legal.links.ends t.end) at.1
@@ -62,9 +63,10 @@ one_of (Some x) (suc j) k v w a b = absurd (none-some v a)
 one_value : (s : Model) → IsLegal s → (t u : Tie) → (shape s.metamodel t.end.feature).is_single ≡ true → t.end ≡ u.end → Stands s.links t → Stands s.links u → t.value ≡ u.value
 one_value s legal t u single same at_t at_u =
     let o = open-of s legal t at_t in
-    let is : end s.links t.end ≡ option_to_list (option_map value.Object (object_at s.links t.end 0)) = sym (values-linked s t.end o.reference) ∙ values-single s t.end legal o.reference single in
+    let first = slice_get ((reading s).values t.end) 0 in
+    let is : end s.links t.end ≡ option_to_list first = sym (values-linked s t.end o.reference) ∙ values-single s t.end legal o.reference single in
     let here = subst (λ (e : End). slice_get (end s.links e) at_u.0 ≡ Some u.value) (sym same) at_u.1 in
-    one_of (option_map value.Object (object_at s.links t.end 0)) at_t.0 at_u.0 t.value u.value
+    one_of first at_t.0 at_u.0 t.value u.value
     (subst (λ (vs : List Value). slice_get vs at_t.0 ≡ Some t.value) is at_t.1)
     (subst (λ (vs : List Value). slice_get vs at_u.0 ≡ Some u.value) is here)
 

@@ -30,13 +30,14 @@ pub(crate) fn notices<L: LinkStore>(
 {
     let mut chain = Chain::new(alloc);
     for telling in tellings {
-        push_notice(model, telling, &mut chain)?;
+        push_notice(alloc, model, telling, &mut chain)?;
     }
     Ok(chain)
 }
 
 /// Adds the notice of what happens to an end.
 fn push_notice<L: LinkStore>(
+    alloc: Global,
     model: &ModelRef<L>,
     telling: Telling,
     chain: &mut Chain,
@@ -44,7 +45,7 @@ fn push_notice<L: LinkStore>(
     ensures ok { OnOk result (chain.new ≡ chain.old ++ notice_at (reading model.now) telling ∷ []) }
     ensures err { IfErr result (λ r. r ≡ Memory) }
 {
-    push(notice(model, telling)?, chain)
+    push(notice(alloc, model, telling)?, chain)
 }
 
 fn push(notice: Notice, chain: &mut Chain) -> Result<(), Refused>
@@ -123,13 +124,17 @@ pub(crate) struct Report {
 }
 
 /// The notice of what happens to an end.
-fn notice<L: LinkStore>(model: &ModelRef<L>, telling: Telling) -> Result<Notice, Refused>
+fn notice<L: LinkStore>(
+    alloc: Global,
+    model: &ModelRef<L>,
+    telling: Telling,
+) -> Result<Notice, Refused>
     ensures ok { IfOk result (λ n. n ≡ notice_at (reading model.now) telling) }
     ensures err { IfErr result (λ r. r ≡ Memory) }
 {
     let Telling { at, does } = telling;
     let was_set = model.is_set(at);
-    let report = match report_of(model, at, does) {
+    let report = match report_of(alloc, model, at, does) {
         Ok(report) => report,
         Err(refused) => return Err(refused),
     };
@@ -145,12 +150,17 @@ fn notice<L: LinkStore>(model: &ModelRef<L>, telling: Telling) -> Result<Notice,
 }
 
 /// What is reported of an end to which something happens.
-fn report_of<L: LinkStore>(model: &ModelRef<L>, at: End, does: Happening) -> Result<Report, Refused>
+fn report_of<L: LinkStore>(
+    alloc: Global,
+    model: &ModelRef<L>,
+    at: End,
+    does: Happening,
+) -> Result<Report, Refused>
     ensures ok { IfOk result (λ p. reported (reading model.now) at p ≡ notice_at (reading model.now) (telling at does)) }
     ensures err { IfErr result (λ r. r ≡ Memory) }
 {
     match does {
-        Happening::Gains(value) => gain(model, at, value),
+        Happening::Gains(value) => gain(alloc, model, at, value),
         Happening::GainsAt(index, value) => Ok(Report {
             kind: NoticeKind::Add,
             old_value: Value::Null,
@@ -160,22 +170,27 @@ fn report_of<L: LinkStore>(model: &ModelRef<L>, at: End, does: Happening) -> Res
         Happening::Loses(value) => Ok(loss(model, at, value)),
         Happening::LosesAt(index) => Ok(Report {
             kind: NoticeKind::Remove,
-            old_value: copied(model.value_in(at, index))?,
+            old_value: copied(alloc, model.value_in(at, index))?,
             new_value: Value::Null,
             position: i64::from(index),
         }),
-        Happening::Unsets => unset(model, at),
+        Happening::Unsets => unset(alloc, model, at),
         Happening::Moves(to, from) => Ok(Report {
             kind: NoticeKind::Move,
             old_value: Value::Int(i64::from(from)),
-            new_value: copied(model.value_in(at, from))?,
+            new_value: copied(alloc, model.value_in(at, from))?,
             position: i64::from(to),
         }),
     }
 }
 
 /// A gain: SET at a single end, from what it has, and else ADD behind the last value.
-fn gain<L: LinkStore>(model: &ModelRef<L>, at: End, value: Value) -> Result<Report, Refused>
+fn gain<L: LinkStore>(
+    alloc: Global,
+    model: &ModelRef<L>,
+    at: End,
+    value: Value,
+) -> Result<Report, Refused>
     ensures ok { IfOk result (λ p. reported (reading model.now) at p ≡ notice_at (reading model.now) (telling at (Gains value))) }
     ensures err { IfErr result (λ r. r ≡ Memory) }
 {
@@ -189,7 +204,7 @@ fn gain<L: LinkStore>(model: &ModelRef<L>, at: End, value: Value) -> Result<Repo
     }
     Ok(Report {
         kind: NoticeKind::Set,
-        old_value: copied(model.value_at(at))?,
+        old_value: copied(alloc, model.value_at(at))?,
         new_value: value,
         position: NO_INDEX,
     })
@@ -227,13 +242,13 @@ fn place_of<L: LinkStore>(model: &ModelRef<L>, at: End, value: &Value) -> u32
 }
 
 /// UNSET, from what a single end has to its default.
-fn unset<L: LinkStore>(model: &ModelRef<L>, at: End) -> Result<Report, Refused>
+fn unset<L: LinkStore>(alloc: Global, model: &ModelRef<L>, at: End) -> Result<Report, Refused>
     ensures ok { IfOk result (λ p. reported (reading model.now) at p ≡ notice_at (reading model.now) (telling at Unsets)) }
     ensures err { IfErr result (λ r. r ≡ Memory) }
 {
     Ok(Report {
         kind: NoticeKind::Unset,
-        old_value: copied(model.value_at(at))?,
+        old_value: copied(alloc, model.value_at(at))?,
         new_value: default(model.meta(), at.feature)?,
         position: NO_INDEX,
     })

@@ -2,8 +2,8 @@
 ghost use Rattle.std.specs.Prelude.{◌≡◌, ◌++◌, [], true, None, fold, OnOk, IfOk, option_map, option_to_list, if◌then◌else◌};
 ghost use Rattle.std.specs.Option.{option_map_or};
 ghost use Rattle.mm_types.specs.Shapes.{shape};
-ghost use Rattle.mm_types.specs.declared.value.Value.TheVariants as value;
 ghost use Rattle.link_store.specs.Holders as h;
+ghost use Rattle.models.specs.Found.{found_value};
 ghost use Rattle.models.specs.Model.{reading};
 ghost use Rattle.ties.specs.TreeTies.{tie};
 ghost use Rattle.handshake.specs.Displaced as d;
@@ -14,7 +14,7 @@ use crate::tie::{at_end, is_among, node_value, opposite_end};
 use link_store::LinkStore;
 use mm_meta::Meta;
 use mm_types::{End, Node, ObjectNo, Value};
-use models::{ModelRef, is_reference, is_single};
+use models::{Found, ModelRef, is_reference, is_single};
 use std::alloc::{AllocError, Global};
 use ties::{Tie, tree_ties};
 
@@ -30,9 +30,9 @@ pub(crate) fn yields<L: LinkStore>(
 {
     model.is_legal();
     let mut ties = Vec::new(alloc);
-    add_held(model, end, &mut ties)?;
+    add_held(alloc, model, end, &mut ties)?;
     if let Some(far) = opposite_end(model, end, object) {
-        add_held(model, far, &mut ties)?;
+        add_held(alloc, model, far, &mut ties)?;
     }
     if let Some(part) = contained(model.meta(), end, object) {
         add_holding(model, part, &mut ties)?;
@@ -42,6 +42,7 @@ pub(crate) fn yields<L: LinkStore>(
 
 /// Adds the link of what a single end has.
 fn add_held<L: LinkStore>(
+    alloc: Global,
     model: &ModelRef<L>,
     end: End,
     ties: &mut Vec<Tie>,
@@ -49,18 +50,15 @@ fn add_held<L: LinkStore>(
     requires reference { (shape model.now.metamodel end.feature).is_reference ≡ true }
     ensures { OnOk result (ties.new.items ≡ fold (d.with_tie (reading model.now)) ties.old.items (d.ties_if_single (reading model.now) end)) }
 {
+    model.is_legal();
     if !is_single(model.meta(), end.feature) {
         return Ok(());
     }
-    match model.object_at(end) {
-        Some(held) => add(
-            model,
-            Tie {
-                end,
-                value: Value::Object(held),
-            },
-            ties,
-        ),
+    match model.value_in(end, 0) {
+        Some(held) => {
+            let value = held.to_value(alloc)?;
+            add(model, Tie { end, value }, ties)
+        }
         None => Ok(()),
     }
 }
@@ -193,7 +191,7 @@ fn ties_at<L: LinkStore>(
 {
     let mut ties = Vec::new(alloc);
     for index in 0..model.len(end) {
-        push_tie(end, model.object_in(end, index), &mut ties)?;
+        push_tie(alloc, end, model.value_in(end, index), &mut ties)?;
     }
     Ok(ties)
 }
@@ -211,7 +209,7 @@ fn ties_backwards<L: LinkStore>(
         return Ok(ties);
     }
     for index in (0..model.len(end)).rev() {
-        push_tie(end, model.object_in(end, index), &mut ties)?;
+        push_tie(alloc, end, model.value_in(end, index), &mut ties)?;
     }
     Ok(ties)
 }
@@ -230,20 +228,23 @@ fn tie_in<L: LinkStore>(
         return Ok(ties);
     }
     if let Some(index) = index {
-        push_tie(end, model.object_in(end, index), &mut ties)?;
+        push_tie(alloc, end, model.value_in(end, index), &mut ties)?;
     }
     Ok(ties)
 }
 
-/// Adds the link of an object of an end.
-fn push_tie(end: End, object: Option<ObjectNo>, ties: &mut Vec<Tie>) -> Result<(), AllocError>
-    ensures { OnOk result (ties.new.items ≡ ties.old.items ++ option_to_list (option_map (tie end) (option_map value.Object object))) }
+/// Adds the link of what was found at an end.
+fn push_tie(
+    alloc: Global,
+    end: End,
+    found: Option<Found>,
+    ties: &mut Vec<Tie>,
+) -> Result<(), AllocError>
+    ensures { OnOk result (ties.new.items ≡ ties.old.items ++ option_to_list (option_map (tie end) (option_map found_value found.entry))) }
 {
-    if let Some(object) = object {
-        ties.push(Tie {
-            end,
-            value: Value::Object(object),
-        })?;
+    if let Some(found) = found {
+        let value = found.to_value(alloc)?;
+        ties.push(Tie { end, value })?;
     }
     Ok(())
 }
@@ -270,9 +271,8 @@ pub(crate) fn has_already<L: LinkStore>(model: &ModelRef<L>, end: End, value: &V
     requires reference { (shape model.now.metamodel end.feature).is_reference ≡ true }
     ensures { result ≡ d.has_already (reading model.now) end value.now }
 {
-    match (value, model.object_at(end)) {
-        (Value::Null, None) => true,
-        (Value::Object(a), Some(b)) => a.0 == b.0,
-        _ => false,
+    match model.value_at(end) {
+        Some(found) => found.is(value),
+        None => matches!(value, Value::Null),
     }
 }

@@ -3,7 +3,6 @@ use Rattle.std.proofs.Common.{◌≡◌, ◌≤◌, nat_le, arith, pos, option_t
 use Rattle.std.specs.Prelude.{int_le}
 use Rattle.std.proofs.lemmas.Bool.{and_parts}
 use Rattle.mm_types.specs.Ends.{shown, value_in}
-use Rattle.mm_types.specs.Lookups.{is_object}
 use Rattle.std.proofs.lemmas.Bool.Decides.{Decides-int_eq, nat_tests}
 use Rattle.std.specs.Option.{option_map_or}
 use Rattle.mm_types.specs.Lookups as lookups
@@ -17,7 +16,7 @@ use Rattle.mm_types.specs.declared.numbers.FeatureNo.{FeatureNo}
 use Rattle.mm_types.specs.declared.end.End.{End}
 use Rattle.mm_types.specs.declared.value.Value.{Value}
 use Rattle.mm_types.specs.declared.value.Value.TheVariants as value
-use Rattle.link_store.specs.Links.{end, object_at, object_of}
+use Rattle.link_store.specs.Links.{end}
 use Rattle.models.specs.Legal.{IsLegal, is_legal_end}
 use Rattle.models.specs.Model.{Model, reading}
 use Rattle.models.specs.Reading.{Reading, shape_at, value_at}
@@ -30,33 +29,13 @@ shown-some : (b : Bool) (v : Value) (vs : List Value) → value_in (shown b (v �
 shown-some true v vs = refl
 shown-some false v vs = refl
 
-object-is : (v : Value) → IsTrue (is_object v) → unwrap_or (option_map value.Object (object_of v)) value.Null ≡ v
-object-is (value.Object o) h = refl
-object-is value.Null h = cc
-object-is (value.Bool b) h = cc
-object-is (value.Int n) h = cc
-object-is (value.Text t) h = cc
-object-is (value.Literal i) h = cc
-object-is (value.Proxy t) h = cc
-object-is (value.Adapter a) h = cc
+-- what a single end has is its first value, and else null
+first-shown : (b : Bool) (vs : List Value) → unwrap_or (slice_get vs 0) value.Null ≡ value_in (shown b vs) 0
+first-shown b [] = sym (shown-none b)
+first-shown b (v ∷ vs) = sym (shown-some b v vs)
 
-single-object : (v : Value) → IsTrue (is_object v) → v ∷ [] ≡ option_to_list (option_map value.Object (object_of v))
-single-object (value.Object o) h = refl
-single-object value.Null h = cc
-single-object (value.Bool b) h = cc
-single-object (value.Int n) h = cc
-single-object (value.Text t) h = cc
-single-object (value.Literal i) h = cc
-single-object (value.Proxy t) h = cc
-single-object (value.Adapter a) h = cc
-
--- the first object of a legal end is its first value
-first-object : (r : Reading) (e : End) (b : Bool) (vs : List Value) → IsTrue (is_legal_end r e vs) → unwrap_or (option_map value.Object (option_and_then object_of (slice_get vs 0))) value.Null ≡ value_in (shown b vs) 0
-first-object r e b [] h = sym (shown-none b)
-first-object r e b (v ∷ vs) h = object-is v (and_parts _ _ (and_parts _ _ (and_parts _ _ (and_parts _ _ h).1).0).0).0 ∙ sym (shown-some b v vs)
-
-pub value_at-object : (s : Model) (e : End) → IsLegal s → (shape s.metamodel e.feature).is_reference ≡ true → unwrap_or (option_map value.Object (object_at s.links e 0)) value.Null ≡ value_at (reading s) e
-value_at-object s e legal reference = rw reference (first-object (reading s) e (shape s.metamodel e.feature).is_single (end s.links e) (legal.links.ends e))
+pub value_at-first : (s : Model) (e : End) → unwrap_or (slice_get ((reading s).values e) 0) value.Null ≡ value_at (reading s) e
+value_at-first s e = first-shown (shape s.metamodel e.feature).is_single ((reading s).values e)
 
 ---------------------------------------------------------------- single ends
 
@@ -78,12 +57,12 @@ bounded-one a n one h =
     grind (arith, nat_tests, below)
 
 -- so has each legal end of one
-one-at-most : (r : Reading) (e : End) (vs : List Value) → (shape_at r e).is_single ≡ true → IsTrue (is_legal_end r e vs) → vs ≡ option_to_list (option_map value.Object (option_and_then object_of (slice_get vs 0)))
+one-at-most : (r : Reading) (e : End) (vs : List Value) → (shape_at r e).is_single ≡ true → IsTrue (is_legal_end r e vs) → vs ≡ option_to_list (slice_get vs 0)
 one-at-most r e [] single h = refl
-one-at-most r e (v ∷ []) single h = single-object v (and_parts _ _ (and_parts _ _ (and_parts _ _ (and_parts _ _ h).1).0).0).0
+one-at-most r e (v ∷ []) single h = refl
 one-at-most r e (v ∷ w ∷ vs) single h =
     absurd (omega (arith, bounded-one (shape_at r e) (length (v ∷ w ∷ vs)) (upper-single r.metamodel e.feature single) (and_parts _ _ (and_parts _ _ h).1).1))
 
 pub values-single : (s : Model) (e : End) → IsLegal s → (shape s.metamodel e.feature).is_reference ≡ true → (shape s.metamodel e.feature).is_single ≡ true
-    → (reading s).values e ≡ option_to_list (option_map value.Object (object_at s.links e 0))
+    → (reading s).values e ≡ option_to_list (slice_get ((reading s).values e) 0)
 values-single s e legal reference single = rw reference (one-at-most (reading s) e (end s.links e) single (legal.links.ends e))

@@ -1,16 +1,17 @@
 -- What stands at the places of ends, and where values stand.
-use Rattle.std.proofs.Common.{◌≡◌, ◌≤◌, ◌<◌, ◌+◌, ◌||◌, nat_le, nat_lt, pos, not, arith, ℕ, zero, suc, true, false, cond, IsTrue, List, [], ◌∷◌, length, slice_get, slice_index_or, Option, Some, None, unwrap_or, option_map, option_and_then, if◌then◌else◌, refl, sym, ap, ◌∙◌, subst}
+use Rattle.std.proofs.Common.{◌≡◌, ◌≤◌, ◌<◌, ◌+◌, ◌||◌, nat_le, nat_lt, pos, not, arith, ℕ, zero, suc, Bool, true, false, cond, IsTrue, List, [], ◌∷◌, length, slice_get, slice_index_or, Option, Some, None, unwrap_or, option_map, option_and_then, if◌then◌else◌, refl, sym, ap, ◌∙◌, subst}
 use Rattle.std.specs.Prelude.{int_le, MatchOption, position}
 use Rattle.std.specs.List.{All, list_all, position_or_len}
+use Rattle.std.specs.Option.{option_map_or}
 use Rattle.std.proofs.lemmas.Bool.{and_parts, false≢true}
 use Rattle.std.proofs.lemmas.Bool.Decides.{nat_tests}
 use Rattle.std.proofs.lemmas.List.Elements.{All-head, All-tail}
 use Rattle.std.proofs.lemmas.Option.{none-some, same_Some}
 use Rattle.mm_types.specs.Ends.{first_in, has_value, index_in}
-use Rattle.mm_types.specs.Lookups.{is_object}
 use Rattle.mm_types.specs.Same.{same_value}
 use Rattle.mm_types.specs.Shapes.{Shape, is_bounded, shape}
 use Rattle.mm_types.specs.declared.end.End.{End}
+use Rattle.mm_types.specs.declared.numbers.FeatureNo.{FeatureNo}
 use Rattle.mm_types.specs.declared.limits.TheConstants.{LIST_VALUES}
 use Rattle.mm_types.specs.declared.numbers.Node.{Node}
 use Rattle.mm_types.specs.declared.numbers.Node.TheVariants as node
@@ -22,9 +23,9 @@ use Rattle.link_store.specs.Links as links
 use Rattle.link_store.specs.Links.{end}
 use Rattle.link_store.specs.Plans.{Lacks}
 use Rattle.mm_types.specs.SameValues.{same_value-self, same_value-true}
-use Rattle.models.specs.Legal.{IsLegal, IsLegalObject, is_legal_end, is_legal_list, is_legal_object}
+use Rattle.models.specs.Legal.{IsLegal, IsLegalObject, is_legal_end, is_legal_list, is_legal_target, takes_proxies}
 use Rattle.models.specs.Model.{Model, attribute_values, kept_values, reading}
-use Rattle.models.specs.Reading.{Reading}
+use Rattle.models.specs.Reading.{Reading, object_of, shape_at}
 
 ---------------------------------------------------------------- where a value first stands
 
@@ -80,40 +81,110 @@ first_in-place vs v (Some k) distinct h =
     let there = has-at vs v k h in
     ap Some (distinct k (index_in vs v) v h (index-at vs v there)) ∙ ap (λ b. if b then Some (index_in vs v) else None) (sym there)
 
----------------------------------------------------------------- objects at ends
+---------------------------------------------------------------- objects and proxies at ends
 
-object-of : (v : Value) → is_object v ≡ true → option_map value.Object (links.object_of v) ≡ Some v
-object-of (value.Object o) h = refl
-object-of _ h = absurd (false≢true h)
+object-is : (v : Value) (o : ObjectNo) → links.object_of v ≡ Some o → v ≡ value.Object o
+object-is (value.Object p) o h = ap value.Object (same_Some p o h)
+object-is _ o h = absurd (none-some o h)
 
-get-object : (r : Reading) (e : End) (vs : List Value) (k : ℕ) → list_all (is_legal_object r e.feature) vs ≡ true → option_map value.Object (option_and_then links.object_of (slice_get vs k)) ≡ slice_get vs k
-get-object r e [] k h = refl
-get-object r e (v ∷ vs) zero h = object-of v (and_parts _ _ (and_parts _ _ h).0).0
-get-object r e (v ∷ vs) (suc k) h = get-object r e vs k (and_parts _ _ h).1
+-- the object at a place of a reference
+pub object_in-is : (s : Model) (e : End) (k : ℕ) → (shape s.metamodel e.feature).is_reference ≡ true → links.object_at s.links e k ≡ option_and_then object_of (slice_get ((reading s).values e) k)
+object_in-is s e k reference = rw reference refl
 
-all-legal : (r : Reading) (e : End) (vs : List Value) → IsTrue (is_legal_end r e vs) → list_all (is_legal_object r e.feature) vs ≡ true
+-- where an object is found, it stands
+pub object-there : (q : Option Value) (o : ObjectNo) → option_and_then links.object_of q ≡ Some o → q ≡ Some (value.Object o)
+object-there None o h = absurd (none-some o h)
+object-there (Some v) o h = ap Some (object-is v o h)
+
+pub value_in-object : (s : Model) (e : End) (k : ℕ) (o : ObjectNo) → (shape s.metamodel e.feature).is_reference ≡ true → links.object_at s.links e k ≡ Some o → Some (value.Object o) ≡ slice_get ((reading s).values e) k
+value_in-object s e k o reference h = rw reference (sym (object-there (slice_get (end s.links e) k) o h))
+
+proxy-is : (r : Reading) (f : FeatureNo) (v : Value) → is_legal_target r f v ≡ true → links.object_of v ≡ None → option_map value.Proxy (links.text_of v) ≡ Some v
+proxy-is r f (value.Object o) h none = absurd (none-some o (sym none))
+proxy-is r f (value.Proxy t) h none = refl
+proxy-is r f _ h none = absurd (false≢true h)
+
+get-proxy : (r : Reading) (e : End) (vs : List Value) (k : ℕ) → list_all (is_legal_target r e.feature) vs ≡ true → option_and_then links.object_of (slice_get vs k) ≡ None
+    → option_map value.Proxy (option_and_then links.text_of (slice_get vs k)) ≡ slice_get vs k
+get-proxy r e [] k h none = refl
+get-proxy r e (v ∷ vs) zero h none = proxy-is r e.feature v (and_parts (is_legal_target r e.feature v) _ h).0 none
+get-proxy r e (v ∷ vs) (suc k) h none = get-proxy r e vs k (and_parts (is_legal_target r e.feature v) _ h).1 none
+
+all-legal : (r : Reading) (e : End) (vs : List Value) → IsTrue (is_legal_end r e vs) → list_all (is_legal_target r e.feature) vs ≡ true
 all-legal r e [] h = refl
 all-legal r e (v ∷ vs) h = (and_parts _ _ (and_parts _ _ h).1).0
 
--- an end of a legal model has objects alone
-pub value_in-object : (s : Model) (e : End) (k : ℕ) → IsLegal s → (shape s.metamodel e.feature).is_reference ≡ true → option_map value.Object (links.object_at s.links e k) ≡ slice_get ((reading s).values e) k
-value_in-object s e k legal reference = rw reference (get-object (reading s) e (end s.links e) k (all-legal (reading s) e (end s.links e) (legal.links.ends e)))
+-- what stands at a reference of a legal model and is no object is a proxy
+pub value_in-proxy : (s : Model) (e : End) (k : ℕ) → IsLegal s → (shape s.metamodel e.feature).is_reference ≡ true → links.object_at s.links e k ≡ None
+    → option_map value.Proxy (links.proxy_at s.links e k) ≡ slice_get ((reading s).values e) k
+value_in-proxy s e k legal reference none = rw reference (get-proxy (reading s) e (end s.links e) k (all-legal (reading s) e (end s.links e) (legal.links.ends e)) none)
 
-none-of : (r : Reading) (e : End) (vs : List Value) (v : Value) → is_object v ≡ false → list_all (is_legal_object r e.feature) vs ≡ true → has_value vs v ≡ false
+get-object : (r : Reading) (e : End) (vs : List Value) (k : ℕ) → takes_proxies (shape_at r e) ≡ false → list_all (is_legal_target r e.feature) vs ≡ true
+    → option_map value.Object (option_and_then links.object_of (slice_get vs k)) ≡ slice_get vs k
+get-object r e [] k never h = refl
+get-object r e (v ∷ vs) zero never h = by v (and_parts (is_legal_target r e.feature v) _ h).0
+  where
+    by : (w : Value) → is_legal_target r e.feature w ≡ true → option_map value.Object (links.object_of w) ≡ Some w
+    by (value.Object o) is = refl
+    by (value.Proxy t) is = absurd (false≢true (sym never ∙ is))
+    by _ is = absurd (false≢true is)
+get-object r e (v ∷ vs) (suc k) never h = get-object r e vs k never (and_parts (is_legal_target r e.feature v) _ h).1
+
+-- a reference that takes no proxies has objects alone
+pub value_in-objects : (s : Model) (e : End) (k : ℕ) → IsLegal s → (shape s.metamodel e.feature).is_reference ≡ true → takes_proxies (shape s.metamodel e.feature) ≡ false
+    → option_map value.Object (links.object_at s.links e k) ≡ slice_get ((reading s).values e) k
+value_in-objects s e k legal reference never = rw reference (get-object (reading s) e (end s.links e) k never (all-legal (reading s) e (end s.links e) (legal.links.ends e)))
+
+-- an object or a proxy
+abbrev pub is_target : Value → Bool
+is_target (value.Object o) = true
+is_target (value.Proxy t) = true
+is_target _ = false
+
+target-legal : (r : Reading) (f : FeatureNo) (v : Value) → is_legal_target r f v ≡ true → is_target v ≡ true
+target-legal r f (value.Object o) h = refl
+target-legal r f (value.Proxy t) h = refl
+target-legal r f _ h = absurd (false≢true h)
+
+none-of : (r : Reading) (e : End) (vs : List Value) (v : Value) → is_target v ≡ false → list_all (is_legal_target r e.feature) vs ≡ true → has_value vs v ≡ false
 none-of r e [] v not h = refl
 none-of r e (w ∷ ws) v not h =
-    let both = and_parts _ _ h in
+    let both = and_parts (is_legal_target r e.feature w) _ h in
     elim (same_value v w) as (λ b. same_value v w ≡ b → (b || has_value ws v) ≡ false) [
-      | true ↦ λ same. absurd (false≢true (sym not ∙ ap is_object (same_value-true v w same) ∙ (and_parts (is_object w) _ both.0).0))
+      | true ↦ λ same. absurd (false≢true (sym not ∙ ap is_target (same_value-true v w same) ∙ target-legal r e.feature w both.0))
       | false ↦ λ _. none-of r e ws v not both.1
     ] refl
 
--- where an object stands at a reference, and that no other value does
-pub position-object : (s : Model) (e : End) (o : ObjectNo) (q : Option ℕ) → IsLegal s → (shape s.metamodel e.feature).is_reference ≡ true
-    → MatchOption q (Lacks s.links e (value.Object o)) (λ k. slice_get (end s.links e) k ≡ Some (value.Object o)) → q ≡ first_in ((reading s).values e) (value.Object o)
-position-object s e o q legal reference at = rw reference (first_in-place (end s.links e) (value.Object o) q (legal.links.set.placed.distinct e) at)
+-- where a value stands at a reference, and that nothing but objects and proxies does
+pub position-target : (s : Model) (e : End) (v : Value) (q : Option ℕ) → IsLegal s → (shape s.metamodel e.feature).is_reference ≡ true
+    → MatchOption q (Lacks s.links e v) (λ k. slice_get (end s.links e) k ≡ Some v) → q ≡ first_in ((reading s).values e) v
+position-target s e v q legal reference at = rw reference (first_in-place (end s.links e) v q (legal.links.set.placed.distinct e) at)
 
-pub position-other : (s : Model) (e : End) (v : Value) → IsLegal s → (shape s.metamodel e.feature).is_reference ≡ true → is_object v ≡ false → None ≡ first_in ((reading s).values e) v
+same-there : (q : Option Value) (v : Value) → option_map_or (same_value v) q false ≡ true → q ≡ Some v
+same-there None v h = absurd (false≢true h)
+same-there (Some w) v h = ap Some (sym (same_value-true v w h))
+
+-- a place that has the value
+pub position-same : (s : Model) (e : End) (v : Value) (k : ℕ) → IsLegal s → (shape s.metamodel e.feature).is_reference ≡ true
+    → option_map_or (same_value v) (slice_get ((reading s).values e) k) false ≡ true → Some k ≡ first_in ((reading s).values e) v
+position-same s e v k legal reference same =
+    position-target s e v (Some k) legal reference (subst (λ (vs : List Value). slice_get vs k ≡ Some v) (rw reference refl) (same-there (slice_get ((reading s).values e) k) v same))
+
+get-below : (vs : List Value) (k : ℕ) (v : Value) → slice_get vs k ≡ Some v → k < length vs
+get-below [] k v h = absurd (none-some v h)
+get-below (w ∷ ws) zero v h = omega arith
+get-below (w ∷ ws) (suc k) v h = let low = get-below ws k v h in omega (arith, low)
+
+-- no place of all that there are has it
+pub position-nowhere : (s : Model) (e : End) (v : Value) (n : ℕ) → IsLegal s → (shape s.metamodel e.feature).is_reference ≡ true
+    → length ((reading s).values e) ≤ n → ((k : ℕ) → k < n → slice_get ((reading s).values e) k ≡ Some v → ⊥) → None ≡ first_in ((reading s).values e) v
+position-nowhere s e v n legal reference all none =
+    let q : Option ℕ = None in
+    position-target s e v q legal reference
+    (subst (λ (vs : List Value). (k : ℕ) → slice_get vs k ≡ Some v → ⊥) (rw reference refl)
+    (λ k at. none k (let low = get-below ((reading s).values e) k v at in omega (arith, low, all)) at))
+
+pub position-other : (s : Model) (e : End) (v : Value) → IsLegal s → (shape s.metamodel e.feature).is_reference ≡ true → is_target v ≡ false → None ≡ first_in ((reading s).values e) v
 position-other s e v legal reference other =
     rw reference (ap (λ b. if b then Some (index_in (end s.links e) v) else None) (sym (none-of (reading s) e (end s.links e) v other (all-legal (reading s) e (end s.links e) (legal.links.ends e)))))
 

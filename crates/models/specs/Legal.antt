@@ -1,12 +1,12 @@
 -- The models that a repository can be in.
-use Rattle.std.specs.Prelude.{◌≡◌, ◌≤◌, ℕ, ◌&&◌, Bool, true, false, not, IsTrue, List, [], ◌∷◌, length, nat_le, Option, Some, None}
+use Rattle.std.specs.Prelude.{◌≡◌, ◌≤◌, ℕ, ◌&&◌, ◌||◌, Bool, true, false, not, IsTrue, List, [], ◌∷◌, length, nat_le, Option, Some, None, is_some}
 use Rattle.std.specs.List.{All, list_all, IsDistinct}
 use Rattle.std.specs.Str.{bytes_eq}
 use Rattle.mm_types.specs.Lookups as lookups
 use Rattle.mm_types.specs.OfDocument.{IsOfDocument}
 use Rattle.mm_types.specs.Resolved.{Metamodel}
 use Rattle.mm_types.specs.Same.{is_nil, same_value}
-use Rattle.mm_types.specs.Shapes.{is_bounded, shape}
+use Rattle.mm_types.specs.Shapes.{Shape, is_bounded, shape}
 use Rattle.mm_types.specs.declared.limits.TheConstants.{OBJECTS, RESOURCES, TEXT_BYTES}
 use Rattle.mm_types.specs.declared.numbers.ClassNo.{ClassNo}
 use Rattle.mm_types.specs.declared.numbers.FeatureNo.{FeatureNo}
@@ -58,15 +58,21 @@ IsLegalObject m (Some o) = IsTrue (lookups.is_concrete m o.class) × ((f : Featu
 abbrev pub kinds_of : Metamodel → Kinds
 kinds_of m = record { opposite = λ f. (shape m f).opposite; container = λ f. (shape m f).containing }
 
--- an object of a feature's type
-abbrev pub is_legal_object : Reading → FeatureNo → Value → Bool
-is_legal_object r f v = lookups.is_object v && takes r f v
+-- proxies may stand in a reference that has no opposite and contains nothing (EMF: EReference.isResolveProxies)
+abbrev pub takes_proxies : Shape → Bool
+takes_proxies a = a.is_reference && not (is_some a.opposite || is_some a.containing)
 
--- an end of a reference that holds something is one of its node's, holds objects of its feature's type, and no more of them than it may
+-- an object of a feature's type, or a proxy where the feature takes proxies
+abbrev pub is_legal_target : Reading → FeatureNo → Value → Bool
+is_legal_target r f (value.Object o) = takes r f (value.Object o)
+is_legal_target r f (value.Proxy t) = takes_proxies (shape r.metamodel f)
+is_legal_target r f _ = false
+
+-- an end of a reference that holds something is one of its node's, holds what its feature may, and no more of it than it may
 abbrev pub is_legal_end : Reading → End → List Value → Bool
 is_legal_end r e [] = true
 is_legal_end r e (v ∷ vs) =
-    has_feature r e.node e.feature && (list_all (is_legal_object r e.feature) (v ∷ vs) && is_bounded (shape_at r e) (length (v ∷ vs)))
+    has_feature r e.node e.feature && (list_all (is_legal_target r e.feature) (v ∷ vs) && is_bounded (shape_at r e) (length (v ∷ vs)))
 
 -- links of the metamodel's pairs, at ends that may hold them, where no object contains itself
 pub record AreLegalLinks (r : Reading) (s : Links) : Type 0 where

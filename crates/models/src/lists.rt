@@ -1,17 +1,19 @@
 //! What stands at the places of ends.
-ghost use Rattle.std.specs.Prelude.{◌≡◌, ◌&&◌, false, true, Some, length, option_map, option_copied, slice_get, unwrap_or};
+ghost use Rattle.std.specs.Prelude.{◌≡◌, ◌&&◌, false, true, Some, length, option_and_then, option_map, option_copied, slice_get, unwrap_or};
 ghost use Rattle.mm_types.specs.Ends.{first_in, has_value};
-ghost use Rattle.mm_types.specs.Same.{is_nil};
+ghost use Rattle.std.specs.Option.{option_map_or};
+ghost use Rattle.mm_types.specs.Same.{is_nil, same_value};
 ghost use Rattle.mm_types.specs.Shapes.{shape};
 ghost use Rattle.mm_types.specs.declared.value.Value.TheVariants as value;
 ghost use Rattle.mm_values.specs.Room.{values_of};
 ghost use Rattle.models.specs.Found.{found_value};
+ghost use Rattle.models.specs.Legal.{takes_proxies};
 ghost use Rattle.models.specs.Model.{attribute_values, kept_values, reading};
 ghost use Rattle.models.specs.Reading as r;
 
 use crate::features::{is_reference, is_single, is_unique};
 use crate::model_ref::ModelRef;
-use crate::reads::{Found, found_kept, found_object, kept_at, kept_len};
+use crate::reads::{Found, found_kept, found_proxy, kept_at, kept_len};
 use link_store::LinkStore;
 use mm_meta::Meta;
 use mm_types::{End, FeatureNo, Node, ObjectNo, Value};
@@ -33,21 +35,58 @@ impl<'a, L: LinkStore> ModelRef<'a, L> {
     pub fn value_in(&self, end: End, index: u32) -> Option<Found<'a>>
         ensures { option_map found_value result ≡ slice_get ((reading self.now).values end) index }
     {
-        self.is_legal();
         if is_reference(self.meta(), end.feature) {
-            return found_object(self.store().at(end, index));
+            return self.target_in(end, index);
         }
         let (meta, values) = (self.meta(), self.values());
         found_kept(attribute_value_in(meta, values, end, index as usize))
     }
 
-    /// The object at a place of a reference; `None` past the last.
+    // What stands at a place of a reference: an object, or a proxy by its text.
+    pub(crate) fn target_in(&self, end: End, index: u32) -> Option<Found<'a>>
+        requires reference { (shape self.now.metamodel end.feature).is_reference ≡ true }
+        ensures { option_map found_value result ≡ slice_get ((reading self.now).values end) index }
+    {
+        self.is_legal();
+        match self.store().at(end, index) {
+            Some(object) => Some(Found::Object(object)),
+            None => found_proxy(self.store().proxy_at(end, index)),
+        }
+    }
+
+    /// The object at a place of a reference; `None` past the last, and where a proxy stands.
     pub fn object_in(&self, end: End, index: u32) -> Option<ObjectNo>
         requires reference { (shape self.now.metamodel end.feature).is_reference ≡ true }
-        ensures { option_map value.Object result ≡ slice_get ((reading self.now).values end) index }
+        ensures object { result ≡ option_and_then r.object_of (slice_get ((reading self.now).values end) index) }
+        ensures objects { takes_proxies (shape self.now.metamodel end.feature) ≡ false → option_map value.Object result ≡ slice_get ((reading self.now).values end) index }
     {
         self.is_legal();
         self.store().at(end, index)
+    }
+
+    // Whether a value stands at a place of a reference.
+    fn has_target(&self, end: End, index: u32, value: &Value) -> bool
+        requires reference { (shape self.now.metamodel end.feature).is_reference ≡ true }
+        ensures { result ≡ option_map_or (same_value value.now) (slice_get ((reading self.now).values end) index) false }
+    {
+        match self.target_in(end, index) {
+            Some(found) => found.is(value),
+            None => false,
+        }
+    }
+
+    // Where a value stands in a reference, looked for at one place after another; `None` where it does not.
+    fn target_position(&self, end: End, value: &Value) -> Option<u32>
+        requires reference { (shape self.now.metamodel end.feature).is_reference ≡ true }
+        ensures { result ≡ first_in ((reading self.now).values end) value.now }
+    {
+        self.is_legal();
+        'places: for index in 0..self.len(end) {
+            if self.has_target(end, index, value) {
+                return Some(index);
+            }
+        }
+        None
     }
 
     /// Where a value first stands at an end; `None` where it does not.
@@ -58,6 +97,7 @@ impl<'a, L: LinkStore> ModelRef<'a, L> {
         if is_reference(self.meta(), end.feature) {
             return match value {
                 Value::Object(object) => self.store().position(end, *object),
+                Value::Proxy(_) => self.target_position(end, value),
                 _ => None,
             };
         }

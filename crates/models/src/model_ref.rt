@@ -1,8 +1,5 @@
 //! A model in its parts.
-ghost use Rattle.std.specs.Prelude.{◌≡◌, true, length, option_copied, option_map, option_to_list, slice_get, unwrap_or};
-ghost use Rattle.mm_types.specs.Shapes.{shape};
-ghost use Rattle.mm_types.specs.declared.value.Value.TheVariants as value;
-ghost use Rattle.mm_types.specs.declared.value.Value.TheVariants.{Null};
+ghost use Rattle.std.specs.Prelude.{◌≡◌, length, option_copied, slice_get};
 ghost use Rattle.mm_values.specs.Room.{values_of};
 ghost use Rattle.link_store.specs.Holders.{HasNoCycle};
 ghost use Rattle.link_store.specs.LegalSets.{IsLegalSet};
@@ -167,15 +164,6 @@ impl<'a, L: LinkStore> ModelRef<'a, L> {
             Node::Object(object) => store.holder(object),
             Node::Resource(_) => None,
         }
-    }
-
-    /// The object that a single reference has; `None` where it is null.
-    pub fn object_at(&self, end: End) -> Option<ObjectNo>
-        requires reference { (shape self.now.metamodel end.feature).is_reference ≡ true }
-        ensures value { unwrap_or (option_map value.Object result) Null ≡ r.value_at (reading self.now) end }
-        ensures single { (shape self.now.metamodel end.feature).is_single ≡ true → (reading self.now).values end ≡ option_to_list (option_map value.Object result) }
-    {
-        self.store.at(end, 0)
     }
 
     /// The values of objects, for the files of this crate.

@@ -17,8 +17,9 @@ use crate::features::{is_attribute_value, is_reference, is_single, is_unsettable
 use crate::model_ref::ModelRef;
 use link_store::LinkStore;
 use mm_meta::Meta;
-use mm_types::{ClassNo, End, FeatureNo, Kind, Node, ObjectNo, Refused, Value};
+use mm_types::{ClassNo, End, FeatureNo, Kind, Node, ObjectNo, Refused, Text, Value};
 use mm_values::Values;
+use std::alloc::{AllocError, Global};
 
 /// What stands at a single end, where it is kept.
 #[derive(Clone, Copy, Debug)]
@@ -27,16 +28,61 @@ pub enum Found<'a> {
     Kept(&'a Value),
     /// The object that a reference has.
     Object(ObjectNo),
+    /// The text of a proxy that a reference has.
+    Proxy(&'a str),
+}
+
+impl Found<'_> {
+    /// A copy, as a value of its own. Errs only when out of memory.
+    pub fn to_value(&self, alloc: Global) -> Result<Value, AllocError>
+        ensures { IfOk result (λ v. v ≡ found_value self.now) }
+    {
+        match self {
+            Found::Kept(value) => (*value).clone(),
+            Found::Object(object) => Ok(Value::Object(*object)),
+            Found::Proxy(text) => proxy_of(alloc, text),
+        }
+    }
+
+    /// The object that it is; `None` where it is another value.
+    pub fn object(&self) -> Option<ObjectNo>
+        ensures { result ≡ r.object_of (found_value self.now) }
+    {
+        match self {
+            Found::Kept(Value::Object(object)) | Found::Object(object) => Some(*object),
+            Found::Kept(_) | Found::Proxy(_) => None,
+        }
+    }
+
+    /// Whether it is a value.
+    pub fn is(&self, value: &Value) -> bool
+        ensures { result ≡ same_value value.now (found_value self.now) }
+    {
+        match (self, value) {
+            (Found::Kept(kept), value) => value == *kept,
+            (Found::Object(object), Value::Object(other)) => *object == *other,
+            (Found::Proxy(text), Value::Proxy(other)) => *text == other.as_str(),
+            _ => false,
+        }
+    }
+}
+
+// The proxy of a text.
+fn proxy_of(alloc: Global, text: &str) -> Result<Value, AllocError>
+    ensures { IfOk result (λ v. v ≡ value.Proxy text.now) }
+{
+    let text = String::from_str(alloc, text)?;
+    Ok(Value::Proxy(Text::from_string(text)))
 }
 
 impl<'a, L: LinkStore> ModelRef<'a, L> {
-    /// What a single end has: the value that was set, else its default, or the object of a reference (EMF: EObject.eGet). `None`
-    /// stands for null.
+    /// What a single end has: the value that was set, else its default, or what a reference has (EMF: EObject.eGet). `None` stands
+    /// for null; a proxy is answered as it is.
     pub fn value_at(&self, end: End) -> Option<Found<'a>>
         ensures { unwrap_or (option_map found_value result) Null ≡ r.value_at (reading self.now) end }
     {
         if is_reference(self.meta(), end.feature) {
-            return found_object(self.object_at(end));
+            return self.target_in(end, 0);
         }
         found_kept(attribute_at(self.meta(), self.values(), end))
     }
@@ -86,11 +132,11 @@ impl<'a, L: LinkStore> ModelRef<'a, L> {
     }
 }
 
-pub(crate) fn found_object<'a>(object: Option<ObjectNo>) -> Option<Found<'a>>
-    ensures { option_map found_value result ≡ option_map value.Object object }
+pub(crate) fn found_proxy(text: Option<&str>) -> Option<Found<'_>>
+    ensures { option_map found_value result ≡ option_map value.Proxy (option_copied text.entry) }
 {
-    match object {
-        Some(object) => Some(Found::Object(object)),
+    match text {
+        Some(text) => Some(Found::Proxy(text)),
         None => None,
     }
 }
@@ -170,14 +216,16 @@ pub fn is_same(a: &Value, b: &Value) -> bool
 }
 
 /// A copy of what was found; `None` stands for null. Errs only with `Memory`.
-pub fn copied(found: Option<Found>) -> Result<Value, Refused>
+pub fn copied(alloc: Global, found: Option<Found>) -> Result<Value, Refused>
     ensures ok { IfOk result (λ w. w ≡ unwrap_or (option_map found_value found.entry) Null) }
     ensures memory { IfErr result (λ r. r ≡ Memory) }
 {
-    match found {
-        Some(Found::Kept(value)) => copy_of(value),
-        Some(Found::Object(object)) => Ok(Value::Object(object)),
-        None => Ok(Value::Null),
+    let Some(found) = found else {
+        return Ok(Value::Null);
+    };
+    match found.to_value(alloc) {
+        Ok(value) => Ok(value),
+        Err(_) => Err(Refused::Memory),
     }
 }
 

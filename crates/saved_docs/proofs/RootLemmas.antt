@@ -22,7 +22,7 @@ use Rattle.mm_types.specs.declared.value.Value.TheVariants as value
 use Rattle.mm_values.specs.Values.{class_of}
 use Rattle.link_store.specs.Links as links
 use Rattle.link_store.specs.Links.{end}
-use Rattle.models.specs.Legal.{IsLegal, is_legal_end, is_legal_object}
+use Rattle.models.specs.Legal.{IsLegal, is_legal_end, is_legal_target}
 use Rattle.models.specs.Model.{Model, reading, values_at}
 use Rattle.models.specs.Reading.{Reading, is_live, objects_of}
 use Rattle.mm_types.specs.declared.numbers.ResourceNo.{ResourceNo}
@@ -30,13 +30,9 @@ use Rattle.fragment_paths.specs.Finding.{roots}
 use Rattle.fragment_paths.specs.Fragments.{roots_end}
 use Rattle.containment.proofs.PartLemmas.{values-linked}
 
-given-back : (x : Option ObjectNo) → option_and_then links.object_of (option_map value.Object x) ≡ x
-given-back None = refl
-given-back (Some o) = refl
-
 -- an object that is pushed is the one at its place
-pub pushed-at : (vs : List Value) (k : ℕ) (x : Option ObjectNo) (out new : List ObjectNo) → option_map value.Object x ≡ slice_get vs k → new ≡ out ++ option_to_list x → new ≡ out ++ option_to_list (option_and_then links.object_of (slice_get vs k))
-pushed-at vs k x out new at made = made ∙ ap (λ (y : Option ObjectNo). out ++ option_to_list y) (sym (given-back x) ∙ ap (option_and_then links.object_of) at)
+pub pushed-at : (vs : List Value) (k : ℕ) (x : Option ObjectNo) (out new : List ObjectNo) → x ≡ option_and_then links.object_of (slice_get vs k) → new ≡ out ++ option_to_list x → new ≡ out ++ option_to_list (option_and_then links.object_of (slice_get vs k))
+pushed-at vs k x out new at made = made ∙ ap (λ (y : Option ObjectNo). out ++ option_to_list y) at
 
 ---------------------------------------------------------------- who lives
 
@@ -63,12 +59,12 @@ taken-live m class f o = by (lookups.feature m f)
     by None h = h
     by (Some g) h = by_kind (lookups.is_single g) g.kind h
 
-live-objects : (m : Model) (e : End) (vs : List Value) → list_all (is_legal_object (reading m) e.feature) vs ≡ true → list_all (is_live (reading m)) (objects_of vs) ≡ true
+live-objects : (m : Model) (e : End) (vs : List Value) → list_all (is_legal_target (reading m) e.feature) vs ≡ true → list_all (is_live (reading m)) (objects_of vs) ≡ true
 live-objects m e [] h = refl
 live-objects m e (value.Object o ∷ vs) h =
-    let both = and_parts (is_legal_object (reading m) e.feature (value.Object o)) (list_all (is_legal_object (reading m) e.feature) vs) h in
-    rw (taken-live m.metamodel (class_of m.values) e.feature o (and_parts (lookups.is_object (value.Object o)) _ both.0).1) (live-objects m e vs both.1)
-live-objects m e (v ∷ vs) h = live-objects m e vs (and_parts (is_legal_object (reading m) e.feature v) _ h).1
+    let both = and_parts (is_legal_target (reading m) e.feature (value.Object o)) (list_all (is_legal_target (reading m) e.feature) vs) h in
+    rw (taken-live m.metamodel (class_of m.values) e.feature o both.0) (live-objects m e vs both.1)
+live-objects m e (v ∷ vs) h = live-objects m e vs (and_parts (is_legal_target (reading m) e.feature v) _ h).1
 
 live-end : (m : Model) (e : End) (vs : List Value) → IsTrue (is_legal_end (reading m) e vs) → list_all (is_live (reading m)) (objects_of vs) ≡ true
 live-end m e [] h = refl

@@ -51,17 +51,6 @@ fn holds<L: LinkStore>(
     }
 }
 
-/// The object that was found, if one was.
-pub(crate) fn object_of(found: Found) -> Option<ObjectNo>
-    ensures { result ≡ r.object_of (found_value found.entry) }
-{
-    match found {
-        Found::Object(object) => Some(object),
-        Found::Kept(Value::Object(object)) => Some(*object),
-        Found::Kept(_) => None,
-    }
-}
-
 /// Whether the condition holds of the object at a place of an end.
 fn holds_at<L: LinkStore>(
     model: &ModelRef<L>,
@@ -73,7 +62,7 @@ fn holds_at<L: LinkStore>(
     ensures { result ≡ option_map_or (saved.holds (reading model.now) resource condition end.feature) (option_and_then r.object_of (slice_get ((reading model.now).values end) index)) false }
 {
     match model.value_in(end, index) {
-        Some(found) => match object_of(found) {
+        Some(found) => match found.object() {
             Some(object) => holds(model, resource, condition, end.feature, object),
             None => false,
         },

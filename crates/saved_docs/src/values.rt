@@ -112,6 +112,7 @@ fn found_json<L: LinkStore>(
             object_under(alloc, places, resource, levels, feature, *object)
         }
         Found::Kept(value) => plain_value(alloc, places.model().meta(), feature, value),
+        Found::Proxy(text) => text_value(alloc, text),
     }
 }
 

@@ -1,7 +1,6 @@
 //! The ways to the objects that a resource refers to are looked up, so that each end on them is gone through once.
 ghost use Rattle.std.specs.Prelude.{◌≡◌};
 
-use crate::targets::object_of;
 use crate::written::is_written;
 use fragment_paths::Places;
 use link_store::LinkStore;
@@ -14,7 +13,7 @@ fn note_at<L: LinkStore>(places: &mut Places<L>, end: End, index: u32) -> Result
     ensures { places.new ≡ places.old }
 {
     match places.model().value_in(end, index) {
-        Some(found) => match object_of(found) {
+        Some(found) => match found.object() {
             Some(object) => places.note_way(object),
             None => Ok(()),
         },

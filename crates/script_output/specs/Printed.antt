@@ -32,6 +32,10 @@ node_text (node.Resource r) = RESOURCE_MARK ∷ decimal r.0
 abbrev pub adapter_text : AdapterNo → List ℕ
 adapter_text a = ADAPTER_MARK ∷ decimal a.0
 
+-- as `proxy "http://m.example/b#/0"`
+abbrev pub proxy_text : List ℕ → List ℕ
+proxy_text t = codes "proxy " ++ json_text t
+
 -- a value; where it is a literal, `literal` is its name
 abbrev pub value_text : List ℕ → Value → List ℕ
 value_text literal value.Null = codes "null"
@@ -41,7 +45,7 @@ value_text literal (value.Int n) = signed_decimal n
 value_text literal (value.Text t) = json_text t
 value_text literal (value.Literal index) = LITERAL_MARK ∷ literal
 value_text literal (value.Object o) = OBJECT_MARK ∷ decimal o.0
-value_text literal (value.Proxy t) = codes "proxy " ++ json_text t
+value_text literal (value.Proxy t) = proxy_text t
 value_text literal (value.Adapter a) = adapter_text a
 
 -- a value of a feature

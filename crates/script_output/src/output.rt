@@ -3,7 +3,7 @@ ghost use Rattle.std.specs.Prelude.{◌≡◌, ◌++◌, ◌∷◌, [], OnErr, O
 ghost use Rattle.std.specs.Io.{StartsWith};
 ghost use Rattle.std.specs.Fmt.{decimal, signed_decimal};
 ghost use Rattle.mm_types.specs.Refusals.{refusal_detail};
-ghost use Rattle.script_output.specs.Printed.{adapter_text, cause_detail, class_text, json_text, node_text, refused_text, value_text};
+ghost use Rattle.script_output.specs.Printed.{adapter_text, cause_detail, class_text, json_text, node_text, proxy_text, refused_text, value_text};
 
 mod features;
 mod lists;
@@ -150,6 +150,24 @@ impl Output {
         self.natural(u64::from(no.0))
     }
 
+    fn proxy_parts(&mut self, text: &str) -> Result<(), AllocError>
+        ensures ok { OnOk result (self.new ≡ self.old ++ proxy_text text.now) }
+        ensures err { OnErr result (StartsWith self.new self.old) }
+    {
+        self.text("proxy ")?;
+        self.json(text)
+    }
+
+    /// Adds a proxy by its text: `proxy "http://m.example/b#/0"`.
+    pub fn proxy(&mut self, text: &str) -> Result<(), AllocError>
+        ensures ok { OnOk result (self.new ≡ self.old ++ proxy_text text.now) }
+        ensures err { OnErr result (self.new ≡ self.old) }
+    {
+        let start = self.bytes.len();
+        let added = self.proxy_parts(text);
+        self.whole(start, added)
+    }
+
     fn value_parts(&mut self, value: &Value, literal: &str) -> Result<(), AllocError>
         ensures ok { OnOk result (self.new ≡ self.old ++ value_text literal.now value.now) }
         ensures err { OnErr result (StartsWith self.new self.old) }
@@ -165,10 +183,7 @@ impl Output {
                 self.text(literal)
             }
             Value::Object(object) => self.node(Node::Object(*object)),
-            Value::Proxy(text) => {
-                self.text("proxy ")?;
-                self.json(text.as_str())
-            }
+            Value::Proxy(text) => self.proxy_parts(text.as_str()),
             Value::Adapter(adapter) => self.adapter_parts(*adapter),
         }
     }

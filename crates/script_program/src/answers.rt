@@ -77,6 +77,10 @@ pub(crate) fn print_found(
     match found {
         Some(Found::Kept(value)) => print_value(output, meta, feature, value),
         Some(Found::Object(object)) => print_value(output, meta, feature, &Value::Object(object)),
+        Some(Found::Proxy(text)) => {
+            output.proxy(text)?;
+            output.text("\n")
+        }
         None => print_value(output, meta, feature, &Value::Null),
     }
 }

@@ -3,7 +3,7 @@ use Rattle.std.proofs.Common.{◌≡◌, suc, Bool, true, false, ◌&&◌, List,
 use Rattle.std.specs.Prelude.{option_and_then}
 use Rattle.std.specs.List.{IsDistinct, list_any}
 use Rattle.std.specs.Option.{option_map_or}
-use Rattle.std.proofs.lemmas.Bool.{false_from_ne_true, false≢true, or_cases, or_left, or_right}
+use Rattle.std.proofs.lemmas.Bool.{and_parts, false_from_ne_true, false≢true, or_cases, or_left, or_right}
 use Rattle.mm_types.specs.Lookups as lookups
 use Rattle.mm_types.specs.Resolved.{Metamodel}
 use Rattle.mm_types.specs.Same.{node_value, same_feature, same_value}
@@ -26,7 +26,7 @@ use Rattle.link_store.specs.LegalSets as sets
 use Rattle.link_store.specs.LegalSets.{IsObject}
 use Rattle.link_store.specs.Links.{end}
 use Rattle.link_store.specs.Plans.{Has}
-use Rattle.models.specs.Legal.{IsLegal, is_legal_object}
+use Rattle.models.specs.Legal.{IsLegal, is_legal_target}
 use Rattle.models.specs.Model.{Model, reading}
 use Rattle.models.specs.Reading.{Reading, all_features_of, has_feature, has_resource}
 use Rattle.containment.proofs.PartLemmas.{legal-at}
@@ -53,8 +53,9 @@ object-reference m class f o h = by (lookups.feature m f) h
     by None h = refl
     by (Some x) h = object-of_kind m class f x x.kind o h
 
-legal-reference : (r : Reading) (f : FeatureNo) (v : Value) → is_legal_object r f v ≡ true → (shape r.metamodel f).is_reference ≡ true
+legal-reference : (r : Reading) (f : FeatureNo) (v : Value) → is_legal_target r f v ≡ true → (shape r.metamodel f).is_reference ≡ true
 legal-reference r f (value.Object o) h = object-reference r.metamodel r.class f o h
+legal-reference r f (value.Proxy t) h = (and_parts (shape r.metamodel f).is_reference _ h).0
 legal-reference r f _ h = absurd (false≢true h)
 
 -- a feature that a node has is among all its features

@@ -1,5 +1,5 @@
 -- What is added one after another.
-use Rattle.std.proofs.Common.{◌≡◌, ℕ, ◌<◌, ◌≤◌, ◌+◌, zero, suc, Bool, true, false, cond, List, [], ◌∷◌, ◌++◌, length, drop, slice_get, slice_index_or, Option, Some, option_to_list, filter, flat_map, map, if◌then◌else◌, append_assoc, refl, sym, ap, ◌∙◌, arith}
+use Rattle.std.proofs.Common.{◌≡◌, ℕ, ◌<◌, ◌≤◌, ◌+◌, zero, suc, Bool, true, false, cond, List, [], ◌∷◌, ◌++◌, length, drop, slice_get, slice_index_or, Option, Some, None, option_and_then, option_map, option_to_list, filter, flat_map, map, if◌then◌else◌, append_assoc, refl, sym, ap, ◌∙◌, arith}
 use Rattle.std.specs.BTreeSet.{BTreeSet}
 use Rattle.std.proofs.lemmas.Bool.{and_parts}
 use Rattle.std.proofs.lemmas.List.{append-nil, drop_all, drop_more}
@@ -12,7 +12,8 @@ use Rattle.mm_types.specs.declared.numbers.Node.{Node}
 use Rattle.mm_types.specs.declared.numbers.Node.TheVariants as node
 use Rattle.mm_types.specs.declared.numbers.ObjectNo.{ObjectNo}
 use Rattle.mm_types.specs.declared.value.Value.TheVariants as value
-use Rattle.models.specs.Reading.{Reading, all_features_of, at_end}
+use Rattle.link_store.specs.Laws.{goes}
+use Rattle.models.specs.Reading.{Reading, all_features_of, at_end, object_of}
 use Rattle.containment.specs.Forest.{subtree}
 use Rattle.deletion.specs.Outer.{gone, holds_some, outer_ends, touched_ends}
 use Rattle.deletion.specs.Ranks.{HasGone, is_in}
@@ -73,6 +74,18 @@ module _ (e : End) (p : Value → Bool) where
 
   pub named-end : (vs : List Value) (k : ℕ) (out all : List Tie) → length vs ≤ k → out ++ map (tie e) (filter p (drop k vs)) ≡ all → out ≡ all
   named-end vs k out all past whole = sym (ap (λ (ws : List Value). out ++ map (tie e) (filter p ws)) (drop_all k vs past) ∙ append-nil out) ∙ whole
+
+-- what goes of the objects that are read is what goes of the values
+pub goes-read : (g : Node → Bool) (x : Option Value) (q : Option ObjectNo) → q ≡ option_and_then object_of x → filter (goes g) (option_to_list (option_map value.Object q)) ≡ filter (goes g) (option_to_list x)
+goes-read g x q read = ap (λ (o : Option ObjectNo). filter (goes g) (option_to_list (option_map value.Object o))) read ∙ by x
+  where
+    of_value : (v : Value) → filter (goes g) (option_to_list (option_map value.Object (object_of v))) ≡ filter (goes g) (v ∷ [])
+    of_value (value.Object o) = refl
+    of_value _ = refl
+
+    by : (y : Option Value) → filter (goes g) (option_to_list (option_map value.Object (option_and_then object_of y))) ≡ filter (goes g) (option_to_list y)
+    by None = refl
+    by (Some v) = of_value v
 
 -- a touched end is of a reference
 pub touched-reference : (r : Reading) (o : ObjectNo) (es : List End) (k : ℕ) (d : End) → es ≡ touched_ends r o → k < length es → (shape r.metamodel (slice_index_or es k d).feature).is_reference ≡ true

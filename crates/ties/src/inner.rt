@@ -1,7 +1,8 @@
 //! The links of nodes that go with an object, told apart by the numbers of what goes.
 ghost use Rattle.std.specs.Prelude.{◌≡◌, ◌++◌, [], true, filter, flat_map, map, OnOk, option_map, option_to_list, if◌then◌else◌};
 ghost use Rattle.mm_types.specs.Shapes.{shape};
-ghost use Rattle.mm_types.specs.declared.value.Value.TheVariants as value;
+ghost use Rattle.link_store.specs.Laws.{goes as goes_with};
+ghost use Rattle.models.specs.Found.{found_value};
 ghost use Rattle.models.specs.Model.{reading};
 ghost use Rattle.deletion.specs.Ranks as ranks;
 ghost use Rattle.ties.specs.TreeTies as t;
@@ -9,13 +10,14 @@ ghost use Rattle.ties.specs.TreeTies as t;
 use crate::tie::Tie;
 use deletion::is_in;
 use link_store::LinkStore;
-use mm_types::{End, FeatureNo, Node, ObjectNo, Value};
-use models::{ModelRef, is_reference, opposite};
-use std::alloc::AllocError;
+use mm_types::{End, FeatureNo, Node, ObjectNo};
+use models::{Found, ModelRef, is_reference, opposite};
+use std::alloc::{AllocError, Global};
 use std::collections::BTreeSet;
 
 /// Adds the links of objects, where those whose numbers are in a set go.
 pub(crate) fn push_inner<L: LinkStore>(
+    alloc: Global,
     model: &ModelRef<L>,
     objects: &[ObjectNo],
     numbers: &BTreeSet<u32>,
@@ -24,13 +26,14 @@ pub(crate) fn push_inner<L: LinkStore>(
     ensures { OnOk result (ties.new.items ≡ ties.old.items ++ flat_map (t.node_ties (reading model.now) (ranks.is_in numbers.now)) objects.now) }
 {
     for object in objects {
-        push_node(model, *object, numbers, ties)?;
+        push_node(alloc, model, *object, numbers, ties)?;
     }
     Ok(())
 }
 
 /// Adds the links of one object.
 fn push_node<L: LinkStore>(
+    alloc: Global,
     model: &ModelRef<L>,
     object: ObjectNo,
     numbers: &BTreeSet<u32>,
@@ -45,13 +48,14 @@ fn push_node<L: LinkStore>(
             node,
             feature: *feature,
         };
-        push_reference(model, end, numbers, ties)?;
+        push_reference(alloc, model, end, numbers, ties)?;
     }
     Ok(())
 }
 
 /// Adds the links of one end, where it is of a reference.
 fn push_reference<L: LinkStore>(
+    alloc: Global,
     model: &ModelRef<L>,
     end: End,
     numbers: &BTreeSet<u32>,
@@ -62,11 +66,12 @@ fn push_reference<L: LinkStore>(
     if !is_reference(model.meta(), end.feature) {
         return Ok(());
     }
-    push_end(model, end, numbers, ties)
+    push_end(alloc, model, end, numbers, ties)
 }
 
 /// Adds the links that the end of a reference names.
 fn push_end<L: LinkStore>(
+    alloc: Global,
     model: &ModelRef<L>,
     end: End,
     numbers: &BTreeSet<u32>,
@@ -76,46 +81,56 @@ fn push_end<L: LinkStore>(
     ensures { OnOk result (ties.new.items ≡ ties.old.items ++ t.end_ties (reading model.now) (ranks.is_in numbers.now) end) }
 {
     for index in 0..model.len(end) {
-        push_named(model, end, model.object_in(end, index), numbers, ties)?;
+        push_named(alloc, model, end, model.value_in(end, index), numbers, ties)?;
     }
     Ok(())
 }
 
-/// Adds the link of one value, where its end names it.
+/// Adds the link of one value, or the proxy, where its end names it.
 fn push_named<L: LinkStore>(
+    alloc: Global,
     model: &ModelRef<L>,
     end: End,
-    other: Option<ObjectNo>,
+    found: Option<Found>,
     numbers: &BTreeSet<u32>,
     ties: &mut Vec<Tie>,
 ) -> Result<(), AllocError>
-    ensures { OnOk result (ties.new.items ≡ ties.old.items ++ map (t.tie end) (filter (t.is_named_here (reading model.now) (ranks.is_in numbers.now) end.feature) (option_to_list (option_map value.Object other)))) }
+    ensures { OnOk result (ties.new.items ≡ ties.old.items ++ map (t.tie end) (filter (t.is_named_here (reading model.now) (ranks.is_in numbers.now) end.feature) (option_to_list (option_map found_value found.entry)))) }
 {
-    if let Some(other) = other {
-        if is_named_here(model, end.feature, other, numbers) {
-            ties.push(Tie {
-                end,
-                value: Value::Object(other),
-            })?;
+    if let Some(found) = found {
+        if is_named_here(model, end.feature, &found, numbers) {
+            let value = found.to_value(alloc)?;
+            ties.push(Tie { end, value })?;
         }
     }
     Ok(())
 }
 
-/// Whether the end of a node that goes names its link to an object: that stays, or its end is of a higher feature.
+/// Whether the end of a node that goes names what was found there: a proxy, an object that stays, or one whose end is of a higher
+/// feature.
 fn is_named_here<L: LinkStore>(
     model: &ModelRef<L>,
     feature: FeatureNo,
-    other: ObjectNo,
+    found: &Found,
     numbers: &BTreeSet<u32>,
 ) -> bool
-    ensures { result ≡ t.is_named_here (reading model.now) (ranks.is_in numbers.now) feature (value.Object other) }
+    ensures { result ≡ t.is_named_here (reading model.now) (ranks.is_in numbers.now) feature (found_value found.now) }
 {
-    if !is_in(numbers, Node::Object(other)) {
+    if !goes(found, numbers) {
         return true;
     }
     match opposite(model.meta(), feature) {
         Some(far) => feature.0 < far.0,
         None => true,
+    }
+}
+
+/// Whether what was found is an object that goes.
+fn goes(found: &Found, numbers: &BTreeSet<u32>) -> bool
+    ensures { result ≡ goes_with (ranks.is_in numbers.now) (found_value found.now) }
+{
+    match found.object() {
+        Some(object) => is_in(numbers, Node::Object(object)),
+        None => false,
     }
 }

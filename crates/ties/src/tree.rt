@@ -27,7 +27,7 @@ pub fn tree_ties<L: LinkStore>(
     let numbers = numbers_of(alloc, &objects)?;
     let ends = ends_touched_by(alloc, model, object, &objects, &numbers)?;
     let mut ties = Vec::new(alloc);
-    push_inner(model, &objects, &numbers, &mut ties)?;
+    push_inner(alloc, model, &objects, &numbers, &mut ties)?;
     push_outer(model, &ends, &numbers, &mut ties)?;
     Ok(ties)
 }

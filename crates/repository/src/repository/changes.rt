@@ -174,13 +174,13 @@ fn answered<L: LinkStore>(
             node,
             feature,
             index,
-        } => value_answer(model, at_end(node, feature), *index),
+        } => value_answer(alloc, model, at_end(node, feature), *index),
         Change::Move {
             node,
             feature,
             from,
             ..
-        } => value_answer(model, at_end(node, feature), *from),
+        } => value_answer(alloc, model, at_end(node, feature), *from),
     }
 }
 
@@ -201,11 +201,16 @@ fn destroyed_answer<L: LinkStore>(
 }
 
 // The value at a place of a list, as an answer. Errs only with `Memory`.
-fn value_answer<L: LinkStore>(model: &ModelRef<L>, end: End, index: u32) -> Result<Answer, Refused>
+fn value_answer<L: LinkStore>(
+    alloc: Global,
+    model: &ModelRef<L>,
+    end: End,
+    index: u32,
+) -> Result<Answer, Refused>
     ensures ok { IfOk result (λ a. a ≡ answer.Value (value_in ((reading model.now).values end) index)) }
     ensures memory { IfErr result (λ r. r ≡ Memory) }
 {
-    let value = copied(model.value_in(end, index))?;
+    let value = copied(alloc, model.value_in(end, index))?;
     Ok(Answer::Value(value))
 }
 

@@ -37,7 +37,7 @@ impl<L: LinkStore, A: Adapter> Repository<L, A> {
         }
         let end = End { node, feature };
         if is_single(model.meta(), feature) {
-            let value = copied(model.value_at(end))?;
+            let value = copied(self.alloc, model.value_at(end))?;
             return Ok(FeatureValue::One(value));
         }
         let values = list_at(self.alloc, &model, end)?;
@@ -151,7 +151,7 @@ fn list_at<L: LinkStore>(
         return Err(Refused::Memory);
     };
     for index in 0..len {
-        values.push_reserved(copied(model.value_in(end, index))?);
+        values.push_reserved(copied(alloc, model.value_in(end, index))?);
     }
     Ok(Seq::from_vec(values))
 }

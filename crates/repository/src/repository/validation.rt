@@ -95,7 +95,7 @@ fn is_null(found: Option<Found<'_>>) -> bool
 {
     match found {
         Some(Found::Kept(value)) => is_same(&Value::Null, value),
-        Some(Found::Object(_)) => false,
+        Some(Found::Object(_) | Found::Proxy(_)) => false,
         None => true,
     }
 }

@@ -13,7 +13,7 @@ pub loop-index-preserved : goal.loop-index-preserved
 loop-index-preserved g c =
     let e = c.args.end in
     ties-step e ((reading c.args.model.now).values e) c.loop-index.index _ _ _ (subst (λ (n : ℕ). c.loop-index.index < n) c.len-index-end.ensures c.loop-index-test.true)
-    (c.in_ok-push_tie.ensures ∙ ap (λ (x : Option Value). c.loop-index.ties.items ++ option_to_list (option_map (tie e) x)) c.object_in.ensures) c.loop-index.invariant
+    (c.in_ok-push_tie.ensures ∙ ap (λ (x : Option Value). c.loop-index.ties.items ++ option_to_list (option_map (tie e) x)) c.value_in.ensures) c.loop-index.invariant
 
 pub returns : goal.returns
 returns g c =

@@ -23,7 +23,7 @@ loop-index-preserved g c =
     let low = c.loop-index.invariant.0 in (
       omega (arith, low),
       backwards-before e vs c.loop-index.index _ _ _ c.loop-index-test.true low
-          (c.in_ok-push_tie.ensures ∙ ap (λ (x : Option Value). c.loop-index.ties.items ++ option_to_list (option_map (tie e) x)) c.object_in.ensures) c.loop-index.invariant.1,
+          (c.in_ok-push_tie.ensures ∙ ap (λ (x : Option Value). c.loop-index.ties.items ++ option_to_list (option_map (tie e) x)) c.value_in.ensures) c.loop-index.invariant.1,
     )
 
 pub returns : goal.returns

@@ -14,7 +14,7 @@ places-preserved g c =
     let r = reading c.args.model.now in
     let vs = r.values (roots_end r c.args.resource) in
     let long = rw c.roots_end-end.ensures at c.len-index-end.ensures in
-    let at = rw c.roots_end-end.ensures at c.object_in.ensures in
+    let at = rw c.roots_end-end.ensures at c.object_in.ensures.object in
     objects-step vs c.places.index c.places.found.items c.push_some.new.found.items (roots r c.args.resource) (subst (λ (n : ℕ). c.places.index < n) long c.places-test.true)
     (pushed-at vs c.places.index c.object_in.result c.places.found.items c.push_some.new.found.items at c.in_ok-push_some.ensures) c.places.invariant
 

@@ -1,5 +1,5 @@
 use Rattle.std.proofs.Common.{refl, ℕ, ◌<◌, ◌≤◌, subst, option_map}
-use Rattle.mm_types.specs.declared.value.Value.TheVariants as value
+use Rattle.models.specs.Found.{found_value}
 use Rattle.models.specs.Model.{reading}
 use Rattle.deletion.specs.Ranks.{is_in}
 use Rattle.ties.specs.TreeTies.{is_named_here}
@@ -13,8 +13,8 @@ pub loop-index-preserved : goal.loop-index-preserved
 loop-index-preserved g c =
     let r = reading c.args.model.now in
     let e = c.args.end in
-    named-step e (is_named_here r (is_in c.args.numbers.now) e.feature) (r.values e) c.loop-index.index _ _ _ (option_map value.Object c.object_in.result) (subst (λ (n : ℕ). c.loop-index.index < n) c.len-index-end.ensures c.loop-index-test.true)
-    c.in_ok-push_named.ensures c.object_in.ensures c.loop-index.invariant
+    named-step e (is_named_here r (is_in c.args.numbers.now) e.feature) (r.values e) c.loop-index.index _ _ _ (option_map found_value c.value_in.result) (subst (λ (n : ℕ). c.loop-index.index < n) c.len-index-end.ensures c.loop-index-test.true)
+    c.in_ok-push_named.ensures c.value_in.ensures c.loop-index.invariant
 
 pub returns : goal.returns
 returns g c =

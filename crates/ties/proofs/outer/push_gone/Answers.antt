@@ -1,9 +1,10 @@
-use Rattle.std.proofs.Common.{refl, ℕ, ◌<◌, ◌≤◌, subst, option_map}
-use Rattle.mm_types.specs.declared.value.Value.TheVariants as value
+use Rattle.std.proofs.Common.{refl, ℕ, ◌<◌, ◌≤◌, ◌++◌, List, map, slice_get, subst, ap, ◌∙◌}
+use Rattle.mm_types.specs.declared.value.Value.{Value}
 use Rattle.link_store.specs.Laws.{goes}
 use Rattle.models.specs.Model.{reading}
 use Rattle.deletion.specs.Ranks.{is_in}
-use Rattle.ties.proofs.PushLemmas.{named-end, named-step}
+use Rattle.ties.specs.TreeTies.{tie}
+use Rattle.ties.proofs.PushLemmas.{goes-read, named-end, named-step}
 use Rattle.ties.proofs.outer.push_gone.Goals as goal
 
 pub loop-index-init : goal.loop-index-init
@@ -13,8 +14,10 @@ pub loop-index-preserved : goal.loop-index-preserved
 loop-index-preserved g c =
     let r = reading c.args.model.now in
     let e = c.args.end in
-    named-step e (goes (is_in c.args.numbers.now)) (r.values e) c.loop-index.index _ _ _ (option_map value.Object c.object_in.result) (subst (λ (n : ℕ). c.loop-index.index < n) c.len-index-end.ensures c.loop-index-test.true)
-    c.in_ok-push_if_gone.ensures c.object_in.ensures c.loop-index.invariant
+    let g = is_in c.args.numbers.now in
+    let i = c.loop-index.index in
+    named-step e (goes g) (r.values e) i _ _ _ (slice_get (r.values e) i) (subst (λ (n : ℕ). i < n) c.len-index-end.ensures c.loop-index-test.true)
+    (c.in_ok-push_if_gone.ensures ∙ ap (λ (vs : List Value). c.loop-index.ties.items ++ map (tie e) vs) (goes-read g (slice_get (r.values e) i) c.object_in.result c.object_in.ensures.object)) refl c.loop-index.invariant
 
 pub returns : goal.returns
 returns g c =

@@ -1,0 +1,34 @@
+use Rattle.std.proofs.Common.{◌≡◌, true, List, Option, Some, None, fold, option_map, option_to_list, slice_get, sym, ap, ◌∙◌, subst}
+use Rattle.std.specs.Prelude.{OnOk}
+use Rattle.mm_types.specs.Resolved.{Metamodel}
+use Rattle.mm_types.specs.Shapes.{shape}
+use Rattle.mm_types.specs.declared.value.Value.{Value}
+use Rattle.models.specs.Found.{found_value}
+use Rattle.models.specs.Model.{reading}
+use Rattle.models.specs.declared.reads.Found.{Found}
+use Rattle.ties.specs.TreeTies.{tie}
+use Rattle.ties.specs.declared.tie.Tie.{Tie}
+use Rattle.handshake.specs.Displaced.{ties_if_single, with_tie}
+use Rattle.handshake.proofs.CutTieLemmas.{ties-single}
+use Rattle.handshake.proofs.displaced.add_held.Goals as goal
+
+pub returns-in_ok-value-in-Some : goal.returns-in_ok-value-in-Some
+returns-in_ok-value-in-Some g c =
+    let s = c.args.model.now in
+    let r = reading s in
+    let e = c.args.end in
+    let single : (shape s.metamodel e.feature).is_single ≡ true = sym (ap (λ (m : Metamodel). (shape m e.feature).is_single) c.meta.ensures) ∙ sym c.is_single.ensures ∙ c.if-not-is_single.false in
+    let here : slice_get (r.values e) 0 ≡ Some c.in_ok-value-in-Some.value =
+    sym c.value_in.ensures ∙ ap (λ (q : Option Found). option_map found_value q) c.in-Some.is ∙ ap (λ (v : Value). Some v) (sym c.in_ok-value-in-Some.ensures) in
+    let ties = ties-single s e c.is_legal.ensures c.requires.reference single ∙ ap (λ (q : Option Value). option_to_list (option_map (tie e) q)) here in
+    subst (λ (ts : List Tie). OnOk c.add.result (c.add.new.ties.items ≡ fold (with_tie r) c.args.ties.now.items ts)) (sym ties) c.add.ensures
+
+pub returns-in-None : goal.returns-in-None
+returns-in-None g c =
+    let s = c.args.model.now in
+    let r = reading s in
+    let e = c.args.end in
+    let single : (shape s.metamodel e.feature).is_single ≡ true = sym (ap (λ (m : Metamodel). (shape m e.feature).is_single) c.meta.ensures) ∙ sym c.is_single.ensures ∙ c.if-not-is_single.false in
+    let here : slice_get (r.values e) 0 ≡ None = sym c.value_in.ensures ∙ ap (λ (q : Option Found). option_map found_value q) c.in-None.is in
+    let ties = ties-single s e c.is_legal.ensures c.requires.reference single ∙ ap (λ (q : Option Value). option_to_list (option_map (tie e) q)) here in
+    ap (λ (ts : List Tie). fold (with_tie r) c.args.ties.now.items ts) (sym ties)
