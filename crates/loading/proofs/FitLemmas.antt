@@ -1,6 +1,6 @@
 -- A document that is read has no longer lists than it may have, and names no object that it does not have.
 use Rattle.std.proofs.Common.{◌≡◌, ◌+◌, ◌-◌, ◌^◌, ◌<◌, ◌≤◌, Bool, true, false, List, [], ◌∷◌, Option, Some, None, ℕ, ℤ, arith, cond, length, map, refl, subst, sym}
-use Rattle.std.specs.Prelude.{◌&&◌, ◌||◌, Ok, filter_map, int_le, nat_le, neg_ℤ, not, option_map, pos, slice_get, IfSome}
+use Rattle.std.specs.Prelude.{◌&&◌, ◌||◌, filter_map, int_le, nat_le, neg_ℤ, not, option_map, pos, slice_get, IfSome}
 use Rattle.std.specs.List.{All, cons_option, enumerate_from, list_any}
 use Rattle.std.specs.Option.{option_map_or, option_or}
 use Rattle.std.proofs.lemmas.Bool.{false≢true}
@@ -10,13 +10,10 @@ use Rattle.std.proofs.lemmas.List.FromFn.{length-enumerate_from}
 use Rattle.std.proofs.lemmas.List.Elements.{All-cons, All-nil}
 use Rattle.serde_json.specs.Data.{Data}
 use Rattle.serde_json.specs.Find.{as_bool, as_null, as_str}
-use Rattle.mm_types.specs.Conditions.{◌else_by◌, ◌where_so◌}
 use Rattle.mm_types.specs.Lookups as lookups
 use Rattle.mm_types.specs.Resolved.{Metamodel, int_within}
 use Rattle.mm_types.specs.Same.{is_nil}
 use Rattle.mm_types.specs.Shapes.{Shape, contents_shape, is_bounded, shape}
-use Rattle.mm_types.specs.declared.document_fault.DocFault.{DocFault}
-use Rattle.mm_types.specs.declared.document_fault.DocFault.TheVariants as cause
 use Rattle.mm_types.specs.declared.feature.DataType.{DataType}
 use Rattle.mm_types.specs.declared.feature.DataType.TheVariants.{EString, EInt, ELong, EBoolean, Enum}
 use Rattle.mm_types.specs.declared.feature.Feature.{Feature}
@@ -31,17 +28,17 @@ use Rattle.web_uris.specs.Paths.{with_step}
 use Rattle.web_uris.specs.declared.path.Path.{Path}
 use Rattle.json_rows.specs.Rows.{◌>>=◌, ◌such_that◌, whole_number_of_64}
 use Rattle.doc_parts.specs.Contents.{attribute_value, conforms_to, is_short}
-use Rattle.doc_parts.specs.Faults.{is_deep, is_long, of_entry}
-use Rattle.doc_parts.specs.Layout.{top}
+use Rattle.doc_parts.specs.Faults.{is_long, of_entry}
 use Rattle.doc_parts.specs.Parts.{Entry, Part, entries, number_of, parts, root_parts, step_to, values_of}
 use Rattle.doc_parts.proofs.WayLemmas.{number_below}
-use Rattle.resource_docs.specs.Causes.{IsRead, cause_of, has_cross, has_many_roots, has_repeat, is_one_sided, of_content, sense_cause, shape_cause, unless_faulty}
+use Rattle.resource_docs.specs.Causes.{IsRead, has_many_roots}
 use Rattle.resource_docs.specs.Read.{content_read, contents_read, doc_read, object_read, root_number, values_read}
 use Rattle.resource_docs.specs.Texts.{Base, base_of, target}
-use Rattle.resource_docs.specs.Values.{has_lost, led_to, object_of, value_of}
+use Rattle.resource_docs.specs.Values.{led_to, object_of, value_of}
 use Rattle.resource_docs.specs.declared.doc.Doc.{Doc}
 use Rattle.resource_docs.specs.declared.target.Target.{Target}
 use Rattle.resource_docs.specs.declared.target.Target.TheVariants.{Here, Elsewhere}
+use Rattle.loading.proofs.CauseLemmas.{read-faultless}
 use Rattle.loading.specs.Fits.{IsFitting, IsFittingContent, IsFittingObject, IsNumbered, IsValueNumbered}
 
 ---------------------------------------------------------------- lists
@@ -196,35 +193,8 @@ doc-fits m b d n room short =
           (λ p. root-numbered n (number_of ps p.path) (numbered ps n p.path (number_of ps p.path) refl all));
     }
 
-pub read-right : (o : Option DocFault) (x y : Doc) → unless_faulty o x ≡ Ok y → (o ≡ None) × (x ≡ y)
-read-right None x y e = (refl, (cc))
-read-right (Some f) x y e = absurd (cc)
-
-pub later : {X : Type 0} (o p : Option X) → option_or o p ≡ None → p ≡ None
-later None p none = none
-later (Some x) p none = absurd (cc)
-
-pub not-so : (f : DocFault) (b : Bool) (p : Option DocFault) → option_or (cond b (Some f) None) p ≡ None → b ≡ false
-not-so f true p none = absurd (cc)
-not-so f false p none = refl
-
-bounded : (m : Metamodel) (b : Base) (d : Data) → cause_of m b d ≡ None → has_many_roots m d || of_entry m (is_long m) (parts m d) ≡ false
-unfolding cause_of
-bounded m b d none =
-    let ps = parts m d in
-    let doc = doc_read m b d in
-    let many = has_many_roots m d || of_entry m (is_long m) ps in
-    let behind =
-    cause.OneSided where_so of_content (is_one_sided m doc) doc else_by
-    cause.Cross where_so of_content (λ o c. has_cross m c) doc else_by
-    cause.Depth where_so list_any is_deep ps in
-    let from_bound = cause.Bound where_so many else_by behind in
-    let repeated = cause.Duplicate where_so of_content (λ o c. has_repeat m c) doc in
-    let lost = cause.Reference where_so of_entry m (has_lost m b ps) ps in
-    not-so cause.Bound many behind (later repeated from_bound (later lost (repeated else_by from_bound) (later (shape_cause m (top d) ps) (sense_cause m b d ps doc) none)))
-
 pub read-fits : (m : Metamodel) (uri : List ℕ) (doc : Doc) (n : ℕ) → IsRead m uri doc → n + length doc.objects ≤ OBJECTS → IsFitting n doc
 read-fits m uri doc n read room =
     let b = base_of uri in
-    let right = read-right (cause_of m b read.source) (doc_read m b read.source) doc read.gives in
-    subst (IsFitting n) right.1 (doc-fits m b read.source n (subst (λ (x : Doc). n + length x.objects ≤ OBJECTS) (sym right.1) room) (bounded m b read.source right.0))
+    let right = read-faultless m uri doc read in
+    subst (IsFitting n) right.0 (doc-fits m b read.source n (subst (λ (x : Doc). n + length x.objects ≤ OBJECTS) (sym right.0) room) right.1.long)

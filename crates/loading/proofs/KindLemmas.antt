@@ -1,17 +1,15 @@
 -- The edits of a document that is read are of the kinds of their features: a proxy stands under no reference of a pair that contains.
 use Rattle.std.proofs.Common.{◌≡◌, ◌+◌, ◌++◌, Bool, true, false, List, [], ◌∷◌, Option, Some, None, ℕ, cond, map, refl, subst, sym}
-use Rattle.std.specs.Prelude.{◌&&◌, ◌||◌, filter_map, flat_map, is_some, not, option_map, IfSome}
+use Rattle.std.specs.Prelude.{◌&&◌, filter_map, flat_map, is_some, not, option_map, IfSome}
 use Rattle.std.specs.List.{All, enumerate_from, list_any}
 use Rattle.std.specs.Option.{option_map_or}
 use Rattle.std.proofs.lemmas.Bool.{false≢true}
 use Rattle.std.proofs.lemmas.List.Elements.{All-cons, All-head, All-nil, All-tail}
 use Rattle.serde_json.specs.Data.{Data}
-use Rattle.mm_types.specs.Conditions.{◌else_by◌, ◌where_so◌}
 use Rattle.mm_types.specs.Lookups as lookups
 use Rattle.mm_types.specs.Resolved.{Metamodel}
 use Rattle.mm_types.specs.Same.{is_nil}
 use Rattle.mm_types.specs.Shapes.{containing_of, contents_shape, shape, shape_of}
-use Rattle.mm_types.specs.declared.document_fault.DocFault.TheVariants as cause
 use Rattle.mm_types.specs.declared.feature.Feature.{Feature}
 use Rattle.mm_types.specs.declared.feature.Kind.{Kind}
 use Rattle.mm_types.specs.declared.feature.Kind.TheVariants.{Attribute, Reference}
@@ -27,13 +25,11 @@ use Rattle.link_store.proofs.LegalLemmas.{IsPlanOfKind-append}
 use Rattle.models.specs.Legal.{kinds_of}
 use Rattle.web_uris.specs.Paths.{with_step}
 use Rattle.web_uris.specs.declared.path.Path.{Path}
-use Rattle.doc_parts.specs.Faults.{is_deep, is_long, of_entry}
-use Rattle.doc_parts.specs.Layout.{top}
 use Rattle.doc_parts.specs.Parts.{Entry, Part, entries, number_of, parts, step_to, values_of}
-use Rattle.resource_docs.specs.Causes.{IsRead, cause_of, has_cross, has_many_roots, has_repeat, is_one_sided, is_proxy, of_content, sense_cause, shape_cause}
+use Rattle.resource_docs.specs.Causes.{IsRead, has_cross, is_proxy, of_content}
 use Rattle.resource_docs.specs.Read.{content_read, contents_read, doc_read, object_read, values_read}
 use Rattle.resource_docs.specs.Texts.{Base, base_of}
-use Rattle.resource_docs.specs.Values.{has_lost, object_of, value_of}
+use Rattle.resource_docs.specs.Values.{object_of, value_of}
 use Rattle.resource_docs.specs.declared.doc.Content.{Content}
 use Rattle.resource_docs.specs.declared.doc.Doc.{Doc}
 use Rattle.resource_docs.specs.declared.doc.DocObject.{DocObject}
@@ -42,7 +38,8 @@ use Rattle.loading.specs.Loading.{contents_end, object_end, of_object}
 use Rattle.loading.specs.Pairs.{is_near, lower_of}
 use Rattle.loading.specs.Places.{place_in}
 use Rattle.loading.specs.declared.places.Naming.{Naming}
-use Rattle.loading.proofs.FitLemmas.{all-filtered, later, not-so, or-left, or-right, read-right}
+use Rattle.loading.proofs.CauseLemmas.{read-faultless}
+use Rattle.loading.proofs.FitLemmas.{all-filtered, or-left, or-right}
 
 -- a proxy stands where nothing of the pair contains
 abbrev Place : Option FeatureNo → Value → Type 0
@@ -140,22 +137,6 @@ doc-places : (m : Metamodel) (b : Base) (d : Data) → of_content (λ o c. has_c
 unfolding doc_read
 doc-places m b d none = objects-places m b (parts m d) 0 (parts m d) none
 
-not-across : (m : Metamodel) (b : Base) (d : Data) → cause_of m b d ≡ None → of_content (λ o c. has_cross m c) (doc_read m b d) ≡ false
-unfolding cause_of
-not-across m b d none =
-    let ps = parts m d in
-    let doc = doc_read m b d in
-    let deep = cause.Depth where_so list_any is_deep ps in
-    let across = of_content (λ o c. has_cross m c) doc in
-    let from_cross = cause.Cross where_so across else_by deep in
-    let one_sided = cause.OneSided where_so of_content (is_one_sided m doc) doc in
-    let long = cause.Bound where_so (has_many_roots m d || of_entry m (is_long m) ps) in
-    let repeated = cause.Duplicate where_so of_content (λ o c. has_repeat m c) doc in
-    let lost = cause.Reference where_so of_entry m (has_lost m b ps) ps in
-    let from_bound = long else_by (one_sided else_by from_cross) in
-    not-so cause.Cross across deep
-    (later one_sided from_cross (later long (one_sided else_by from_cross) (later repeated from_bound (later lost (repeated else_by from_bound) (later (shape_cause m (top d) ps) (sense_cause m b d ps doc) none)))))
-
 ---------------------------------------------------------------- the plan
 
 value-kind : (m : Metamodel) (n : ℕ) (e : End) (i : ℕ) (v : Value) → Place (shape m e.feature).containing v → IsPlanOfKind (kinds_of m) (value_puts m n e (i, v))
@@ -236,6 +217,5 @@ plan-kind m n k doc all =
 
 pub read-kind : (m : Metamodel) (uri : List ℕ) (doc : Doc) (n : ℕ) (k : ResourceNo) → IsRead m uri doc → IsPlanOfKind (kinds_of m) (load_edits m n k doc)
 read-kind m uri doc n k read =
-    let b = base_of uri in
-    let right = read-right (cause_of m b read.source) (doc_read m b read.source) doc read.gives in
-    plan-kind m n k doc (subst (λ (x : Doc). All (ObjectPlaces m) x.objects) right.1 (doc-places m b read.source (not-across m b read.source right.0)))
+    let right = read-faultless m uri doc read in
+    plan-kind m n k doc (subst (λ (x : Doc). All (ObjectPlaces m) x.objects) right.0 (doc-places m (base_of uri) read.source right.1.across))

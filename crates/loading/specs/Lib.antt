@@ -3,3 +3,4 @@ pub mod Fits
 pub mod Pairs
 pub mod Places
 pub mod LoadEdits
+pub mod Laws
