@@ -1,17 +1,19 @@
 -- No cause of refusal applies to a document that is read.
 use Rattle.std.proofs.Common.{◌≡◌, Bool, true, false, List, Option, Some, None, ℕ, cond, refl}
-use Rattle.std.specs.Prelude.{◌||◌, Ok}
+use Rattle.std.specs.Prelude.{◌||◌, Ok, is_some, not}
 use Rattle.std.specs.List.{list_any}
-use Rattle.std.specs.Option.{option_or}
+use Rattle.std.specs.Option.{option_map_or, option_or}
+use Rattle.std.proofs.lemmas.Bool.{or_parts}
 use Rattle.serde_json.specs.Data.{Data}
 use Rattle.mm_types.specs.Conditions.{◌else_by◌, ◌where_so◌}
 use Rattle.mm_types.specs.Resolved.{Metamodel}
 use Rattle.mm_types.specs.declared.document_fault.DocFault.{DocFault}
 use Rattle.mm_types.specs.declared.document_fault.DocFault.TheVariants as cause
-use Rattle.doc_parts.specs.Faults.{is_deep, is_long, of_entry}
+use Rattle.doc_parts.specs.Contents.{is_content}
+use Rattle.doc_parts.specs.Faults.{has_no_class, has_other_key, is_deep, is_long, is_misshapen, of_entry, of_written}
 use Rattle.doc_parts.specs.Layout.{top}
 use Rattle.doc_parts.specs.Parts.{parts}
-use Rattle.resource_docs.specs.Causes.{IsRead, cause_of, has_cross, has_many_roots, has_repeat, is_one_sided, of_content, sense_cause, shape_cause, unless_faulty}
+use Rattle.resource_docs.specs.Causes.{IsRead, cause_of, has_cross, has_many_roots, has_other_format, has_repeat, is_one_sided, of_content, sense_cause, shape_cause, unless_faulty}
 use Rattle.resource_docs.specs.Read.{doc_read}
 use Rattle.resource_docs.specs.Texts.{Base, base_of}
 use Rattle.resource_docs.specs.Values.{has_lost}
@@ -25,12 +27,45 @@ later : {X : Type 0} (o p : Option X) → option_or o p ≡ None → p ≡ None
 later None p none = none
 later (Some x) p none = absurd (cc)
 
+sooner : {X : Type 0} (o p : Option X) → option_or o p ≡ None → o ≡ None
+sooner None p none = refl
+sooner (Some x) p none = absurd (cc)
+
 not-so : (f : DocFault) (b : Bool) (p : Option DocFault) → option_or (cond b (Some f) None) p ≡ None → b ≡ false
 not-so f true p none = absurd (cc)
 not-so f false p none = refl
 
+not-last : (f : DocFault) (b : Bool) → cond b (Some f) None ≡ None → b ≡ false
+not-last f true none = absurd (cc)
+not-last f false none = refl
+
+-- what stands as an object is one, of a class that has objects; each content is of its feature's type
+pub record IsShapely (m : Metamodel) (d : Data) : Type 0 where
+  pub layout : list_any is_misshapen (parts m d) ≡ false
+  pub classes : of_written (has_no_class m) (parts m d) ≡ false
+  pub content : of_entry m (λ e. not (is_content m e)) (parts m d) ≡ false
+
+shapely : (m : Metamodel) (d : Data) → shape_cause m (top d) (parts m d) ≡ None → IsShapely m d
+shapely m d none =
+    let ps = parts m d in
+    let misshapen = not (is_some (top d)) || list_any is_misshapen ps in
+    let layout = cause.Layout where_so misshapen in
+    let format = cause.Format where_so option_map_or has_other_format (top d) false in
+    let classless = of_written (has_no_class m) ps in
+    let classes = cause.Class where_so classless in
+    let keys = cause.Feature where_so of_written (has_other_key m) ps in
+    let untyped = of_entry m (λ e. not (is_content m e)) ps in
+    let values = cause.Value where_so untyped in
+    let from_class = later format (classes else_by (keys else_by values)) (later layout (format else_by (classes else_by (keys else_by values))) none) in
+    record {
+      layout = (or_parts (not (is_some (top d))) (list_any is_misshapen ps) (not-so cause.Layout misshapen (format else_by (classes else_by (keys else_by values))) none)).1;
+      classes = not-so cause.Class classless (keys else_by values) from_class;
+      content = not-last cause.Value untyped (later keys values (later classes (keys else_by values) from_class));
+    }
+
 -- nothing repeats that may not, no list is too long, both ends of a pair name each other, and none has a proxy
 pub record IsFaultless (m : Metamodel) (d : Data) (doc : Doc) : Type 0 where
+  pub form : IsShapely m d
   pub repeats : of_content (λ o c. has_repeat m c) doc ≡ false
   pub long : has_many_roots m d || of_entry m (is_long m) (parts m d) ≡ false
   pub sided : of_content (is_one_sided m doc) doc ≡ false
@@ -56,6 +91,7 @@ faultless m b d none =
     let from_long = later repeated from_bound from_repeated in
     let from_sided = later long (one_sided else_by from_cross) from_long in
     record {
+      form = shapely m d (sooner (shape_cause m (top d) ps) (sense_cause m b d ps doc) none);
       repeats = not-so cause.Duplicate twice from_bound from_repeated;
       long = not-so cause.Bound many (one_sided else_by from_cross) from_long;
       sided = not-so cause.OneSided unanswered from_cross from_sided;

@@ -107,7 +107,7 @@ led-linked m ps class None = tt
 led-linked m ps class (Some (Here q)) = here-linked m ps class (number_of ps q)
 led-linked m ps class (Some (Elsewhere t)) = tt
 
-if-some : {X Y : Type 0} (P : Y → Type 0) (h : X → Option Y) (xs : List X) → ((x : X) → IfSome (h x) P) → AllByRecursion P (filter_map h xs)
+pub if-some : {X Y : Type 0} (P : Y → Type 0) (h : X → Option Y) (xs : List X) → ((x : X) → IfSome (h x) P) → AllByRecursion P (filter_map h xs)
 if-some {X} {Y} P h xs each =
     all-filter_map (λ x. Unit {0}) P h xs (λ x y u is. subst (λ (o : Option Y). IfSome o P) is (each x)) (all-every (λ x. Unit {0}) xs (λ x. tt))
 

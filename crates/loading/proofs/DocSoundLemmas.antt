@@ -1,13 +1,12 @@
 -- A document that is read is sound.
 use Rattle.std.proofs.Common.{◌≡◌, ◌∙◌, ◌+◌, ◌≤◌, ◌++◌, ℕ, zero, suc, Bool, true, false, cond, List, [], ◌∷◌, Option, Some, None, append-nil, length, map, refl, sym, ap, subst, arith}
-use Rattle.std.specs.Prelude.{◌&&◌, filter_map, flat_map, not, option_map, slice_get, unwrap_or}
+use Rattle.std.specs.Prelude.{◌&&◌, filter_map, flat_map, not, option_map, slice_get}
 use Rattle.std.specs.List.{AllByRecursion, enumerate_from, list_any}
 use Rattle.std.specs.Option.{option_map_or}
-use Rattle.std.proofs.lemmas.Bool.{eq-eqb, eqb-true, false_from_ne_true, false≢true, not-false, not-true, true≢false}
+use Rattle.std.proofs.lemmas.Bool.{eq-eqb, eqb-true, false_from_ne_true, false≢true, not-false, true≢false}
 use Rattle.std.proofs.lemmas.List.Elements.{recursion_from_All}
 use Rattle.std.proofs.lemmas.Option.{none-some, same_Some}
-use Rattle.serde_json.specs.Data.{Data, Members}
-use Rattle.serde_json.specs.Find.{get_member}
+use Rattle.serde_json.specs.Data.{Data}
 use Rattle.mm_types.specs.Lookups as lookups
 use Rattle.mm_types.specs.OfDocument.{IsOfDocument}
 use Rattle.mm_types.specs.Resolved.{Metamodel}
@@ -15,7 +14,6 @@ use Rattle.mm_types.specs.Same.{is_feature, is_nil, same_feature, same_value}
 use Rattle.mm_types.specs.SameValues.{same_value-true}
 use Rattle.mm_types.specs.Shapes.{shape}
 use Rattle.mm_types.specs.declared.limits.TheConstants.{LIST_VALUES, OBJECTS}
-use Rattle.mm_types.specs.declared.numbers.ClassNo.{ClassNo}
 use Rattle.mm_types.specs.declared.numbers.FeatureNo.{FeatureNo}
 use Rattle.mm_types.specs.declared.numbers.ObjectNo.{ObjectNo}
 use Rattle.mm_types.specs.declared.value.Value.{Value}
@@ -23,7 +21,7 @@ use Rattle.mm_types.specs.declared.value.Value.TheVariants as value
 use Rattle.containment.proofs.PartLemmas.{kinds-are}
 use Rattle.web_uris.specs.Paths.{new_path, with_step}
 use Rattle.web_uris.specs.declared.path.Step.{Step}
-use Rattle.doc_parts.specs.Parts.{Entry, Part, entries, entries_in, entry_at, known, new_entry, number_of, parts, root_parts}
+use Rattle.doc_parts.specs.Parts.{Entry, Part, entries, number_of, parts, root_parts}
 use Rattle.doc_parts.proofs.WayLemmas.{number_tells}
 use Rattle.resource_docs.specs.Causes.{IsRead, has_cross, has_repeat, is_one_sided, is_unanswered, of_content, repeats_value}
 use Rattle.resource_docs.specs.Read.{content_read, contents_read, doc_read, object_read, root_number, values_in, values_under}
@@ -32,13 +30,14 @@ use Rattle.resource_docs.specs.declared.doc.Content.{Content}
 use Rattle.resource_docs.specs.declared.doc.Doc.{Doc}
 use Rattle.resource_docs.specs.declared.doc.DocObject.{DocObject}
 use Rattle.loading.specs.Fits.{IsFitting, IsFittingContent, IsFittingObject}
-use Rattle.loading.proofs.DocLemmas.{IsKnown, known-of, repeats-none}
+use Rattle.loading.proofs.DocLemmas.{repeats-none}
 use Rattle.loading.proofs.CauseLemmas.{IsFaultless, read-faultless}
 use Rattle.loading.proofs.FitLemmas.{read-fits}
 use Rattle.loading.proofs.NameLemmas.{names-apart}
-use Rattle.loading.proofs.PairLemmas.{Apart, all-at, all-every, all-filter_map, all-from_at, all-more, apart-filter, apart-filter_map, apart-map, apart-more, numbered-at}
-use Rattle.loading.proofs.SoundLemmas.{AreSoundContents, HaveOtherFeatures, IsSound, IsSoundContent, IsThere, all-none, any-at, apart-one, at-numbered, filter-at, filter_map-at, map-at, value-there}
-use Rattle.loading.proofs.WholeLemmas.{HaveOtherNames, HaveOtherPaths, NamesAreApart, entries-apart, entry-feature, not-root, part-later, part-once, roots-apart, roots-are}
+use Rattle.loading.proofs.PairLemmas.{Apart, all-at, all-from_at, all-more, apart-filter, apart-filter_map, apart-map, apart-more, numbered-at}
+use Rattle.loading.proofs.SoundLemmas.{AreSoundContents, HaveOtherFeatures, IsSound, IsSoundContent, IsThere, all-none, any-at, apart-one, filter_map-at, value-there}
+use Rattle.loading.proofs.WrittenLemmas.{IsWritten, known-at, none-of, object-at, same-entry, written}
+use Rattle.loading.proofs.WholeLemmas.{HaveOtherNames, HaveOtherPaths, NamesAreApart, entries-apart, not-root, part-later, part-once, roots-apart, roots-are}
 
 ---------------------------------------------------------------- lists
 
@@ -59,36 +58,7 @@ own-under (x ∷ xs) (suc j) c a h =
     let other = turned-false x.feature c.feature (all-at (HaveOtherFeatures x) xs j c a.0 h) in
     rw other (own-under xs j c a.1 h)
 
----------------------------------------------------------------- entries
-
-plain-entry : (m : Metamodel) (ms : Members) (f : FeatureNo) (e : Entry) → entry_at m ms f ≡ Some e → lookups.is_container m e.feature ≡ false
-plain-entry m ms f e h =
-    elim (lookups.is_container m f) as (λ b. lookups.is_container m f ≡ b → option_map (new_entry f) (cond b None (get f)) ≡ Some e → lookups.is_container m e.feature ≡ false) [
-      | true ↦ λ q at. absurd (none-some e at)
-      | false ↦ λ q at. ap (lookups.is_container m) (entry-feature f (get f) e at) ∙ q
-    ] refl h
-  where
-    get : FeatureNo → Option Data
-    get g = get_member (lookups.feature_name m g) ms
-
-plain-entries : (m : Metamodel) (d : Data) → AllByRecursion (λ e. lookups.is_container m e.feature ≡ false) (entries m d)
-plain-entries m d = by (known m d)
-  where
-    by : (o : Option (ClassNo × Members)) → AllByRecursion (λ e. lookups.is_container m e.feature ≡ false) (option_map_or (λ k. entries_in m k.0 k.1) o [])
-    by None = tt
-    by (Some (c, ms)) =
-        let fs = unwrap_or (lookups.features m c) [] in
-        all-filter_map (λ f. Unit {0}) (λ e. lookups.is_container m e.feature ≡ false) (entry_at m ms) fs (λ f e u is. plain-entry m ms f e is) (all-every (λ f. Unit {0}) fs (λ f. tt))
-
--- the entry that a content of an object was read from
-record IsWritten (m : Metamodel) (b : Base) (ps : List Part) (o : ℕ) (c : Content) : Type 0 where
-  part : Part
-  here : slice_get ps o ≡ Some part
-  index : ℕ
-  entry : Entry
-  there : slice_get (entries m part.json) index ≡ Some entry
-  is : content_read m b ps part.path entry ≡ c
-  some : is_nil c.values ≡ false
+---------------------------------------------------------------- contents
 
 contents-apart : (m : Metamodel) (names : NamesAreApart m) (b : Base) (ps : List Part) (p : Part) → Apart HaveOtherFeatures (contents_read m b ps p.path (entries m p.json))
 contents-apart m names b ps p =
@@ -98,43 +68,16 @@ contents-apart m names b ps p =
     (λ x y other. false_from_ne_true (same_feature x.feature y.feature) (λ q. other (let e = eqb-true x.feature.0 y.feature.0 q in λ i. lookups.feature_name m (record { 0 = e i }))))
     (entries-apart m names p.json)))
 
----------------------------------------------------------------- contents
-
 module _ (m : Metamodel) (names : NamesAreApart m) (b : Base) (d : Data) (doc : Doc) (objects_are : doc.objects ≡ map (object_read m b (parts m d)) (parts m d))
     (roots_are : doc.roots ≡ filter_map (λ p. root_number (parts m d) p.path) (root_parts d)) (repeats : of_content (λ o c. has_repeat m c) doc ≡ false) (sided : of_content (is_one_sided m doc) doc ≡ false)
     (across : of_content (λ o c. has_cross m c) doc ≡ false) (fits : AllByRecursion (λ (o : DocObject). AllByRecursion (λ (c : Content). length c.values ≤ LIST_VALUES) o.contents) doc.objects) where
-  object-at : (o : ℕ) (x : DocObject) → slice_get doc.objects o ≡ Some x → (p : Part) × (slice_get (parts m d) o ≡ Some p) × (object_read m b (parts m d) p ≡ x)
-  object-at o x at = map-at (object_read m b (parts m d)) (parts m d) o x (sym (ap (λ (os : List DocObject). slice_get os o) objects_are) ∙ at)
-
-  written : (o : ObjectNo) (c : Content) → IsThere doc o c → IsWritten m b (parts m d) o.0 c
-  written o c there =
-      let p = object-at o.0 there.object there.at in
-      let in_read : slice_get (contents_read m b (parts m d) p.0.path (entries m p.0.json)) there.index ≡ Some c = ap (λ (x : DocObject). slice_get x.contents there.index) p.2 ∙ there.in_object in
-      let f = filter-at (λ c. not (is_nil c.values)) (map (content_read m b (parts m d) p.0.path) (entries m p.0.json)) there.index c in_read in
-      let e = map-at (content_read m b (parts m d) p.0.path) (entries m p.0.json) f.0 c f.1 in
-      record { part = p.0; here = p.1; index = f.0; entry = e.0; there = e.1; is = e.2; some = not-true (is_nil c.values) f.2 }
-
   other-features : (o : ℕ) (x : DocObject) → slice_get doc.objects o ≡ Some x → Apart HaveOtherFeatures x.contents
-  other-features o x at = let p = object-at o x at in subst (λ (y : DocObject). Apart HaveOtherFeatures y.contents) p.2 (contents-apart m names b (parts m d) p.0)
+  other-features o x at = let p = object-at m b (parts m d) doc objects_are o x at in subst (λ (y : DocObject). Apart HaveOtherFeatures y.contents) p.2 (contents-apart m names b (parts m d) p.0)
 
   own-values : (o : ObjectNo) (c : Content) → IsThere doc o c → values_in doc o c.feature ≡ c.values
   own-values o c there =
       ap (λ (x : Option DocObject). option_map_or (λ y. values_under y c.feature) x []) there.at
       ∙ own-under there.object.contents there.index c (other-features o.0 there.object there.at) there.in_object
-
-  none-of : (holds : ObjectNo → Content → Bool) → of_content holds doc ≡ false → (o : ObjectNo) (c : Content) → IsThere doc o c → holds o c ≡ false
-  none-of holds none o c there =
-      let r = at-numbered doc.objects 0 o.0 there.object there.at in
-      let n = r.1 in
-      let all = all-at (λ (x : ℕ × DocObject). list_any (holds (record { 0 = x.0 })) x.1.contents ≡ false) (enumerate_from 0 doc.objects) o.0 (r.0, there.object) (all-none (λ (x : ℕ × DocObject). list_any (holds (record { 0 = x.0 })) x.1.contents) (enumerate_from 0 doc.objects) none) r.2 in
-      let same : r.0 ≡ o.0 = omega (arith, n) in
-      subst (λ (x : ℕ). holds (record { 0 = x }) c ≡ false) same (all-at (λ (x : Content). holds (record { 0 = r.0 }) x ≡ false) there.object.contents there.index c (all-none (holds (record { 0 = r.0 })) there.object.contents all) there.in_object)
-
-  known-at : (o : ObjectNo) (c : Content) (there : IsThere doc o c) (w : IsWritten m b (parts m d) o.0 c) → IsKnown m (parts m d) w.part.path c.feature c.values
-  known-at o c there w =
-      subst (λ (x : Content). IsKnown m (parts m d) w.part.path x.feature x.values) w.is
-      (known-of m b (parts m d) w.part.path w.entry (all-at (λ e. lookups.is_container m e.feature ≡ false) (entries m w.part.json) w.index w.entry (plain-entries m w.part.json) w.there)
-      (ap (λ (x : Content). is_nil x.values) w.is ∙ w.some) (ap (has_cross m) w.is ∙ none-of (λ o c. has_cross m c) across o c there))
 
   unrepeated : (a r : Bool) → a ≡ true → a && r ≡ false → r ≡ false
   unrepeated true r h n = n
@@ -151,15 +94,15 @@ module _ (m : Metamodel) (names : NamesAreApart m) (b : Base) (d : Data) (doc : 
 
   sound-content : (o : ObjectNo) (c : Content) → IsThere doc o c → IsSoundContent m doc o c
   sound-content o c there =
-      let w = written o c there in
-      let k = known-at o c there w in
+      let w = written m b (parts m d) doc objects_are o c there in
+      let k = known-at m b (parts m d) doc objects_are across o c there w in
       record {
         own = own-values o c there;
         plain = k.plain;
         few = all-at (λ (c : Content). length c.values ≤ LIST_VALUES) there.object.contents there.index c (all-at (λ (o : DocObject). AllByRecursion (λ (c : Content). length c.values ≤ LIST_VALUES) o.contents) doc.objects o.0 there.object fits there.at) there.in_object;
-        distinct = λ r. repeats-none c.values (unrepeated (shape m c.feature).is_unique (repeats_value c.values) (k.unique r) (none-of (λ o c. has_repeat m c) repeats o c there));
+        distinct = λ r. repeats-none c.values (unrepeated (shape m c.feature).is_unique (repeats_value c.values) (k.unique r) (none-of doc (λ o c. has_repeat m c) repeats o c there));
         sorts = k.sorts;
-        answered = λ g i a plain pair at. answered-at o c g i a (none-of (is_one_sided m doc) sided o c there) plain pair at;
+        answered = λ g i a plain pair at. answered-at o c g i a (none-of doc (is_one_sided m doc) sided o c there) plain pair at;
         before = λ h i a q at. (let r = k.numbers h i a q at in part-later m names d o.0 a.0 w.part r.0 w.here r.2);
       }
 
@@ -184,15 +127,10 @@ module _ (m : Metamodel) (names : NamesAreApart m) (b : Base) (d : Data) (doc : 
   part-of : (o : ObjectNo) (f h : FeatureNo) (k : ℕ) (a : ObjectNo) → (shape m f).containing ≡ Some h → slice_get (values_in doc o f) k ≡ Some (value.Object a) → IsPart o f a
   part-of o f h k a contains at =
       let v = value-there doc o f k (value.Object a) at in
-      let w = written o v.0 v.1 in
-      let known = known-at o v.0 v.1 w in
+      let w = written m b (parts m d) doc objects_are o v.0 v.1 in
+      let known = known-at m b (parts m d) doc objects_are across o v.0 v.1 w in
       let r = known.numbers h v.3.0 a (ap (λ (x : FeatureNo). (shape m x).containing) v.2 ∙ contains) v.3.1 in
       record { content = v.0; of = v.2; origin = w; step = r.0; name = r.1; number = r.2 }
-
-  same-entry : (json : Data) (i j : ℕ) (x y : Entry) → slice_get (entries m json) i ≡ Some x → slice_get (entries m json) j ≡ Some y → lookups.feature_name m x.feature ≡ lookups.feature_name m y.feature → x ≡ y
-  same-entry json i j x y p q same =
-      let index = apart-one (HaveOtherNames m) (entries m json) i j x y (entries-apart m names json) p q (λ other. other same) (λ other. other (sym same)) in
-      same_Some x y (sym p ∙ ap (slice_get (entries m json)) index ∙ q)
 
   one-part : (a c : ObjectNo) (f g : FeatureNo) (x : ObjectNo) → IsPart a f x → IsPart c g x → (a ≡ c) × (f ≡ g)
   one-part a c f g x p q =
@@ -201,7 +139,7 @@ module _ (m : Metamodel) (names : NamesAreApart m) (b : Base) (d : Data) (doc : 
       let pf : p.content.feature ≡ p.origin.entry.feature = ap (λ (z : Content). z.feature) (sym p.origin.is) in
       let qf : q.content.feature ≡ q.origin.entry.feature = ap (λ (z : Content). z.feature) (sym q.origin.is) in
       let name = ap (lookups.feature_name m) (sym pf) ∙ sym p.name ∙ ap (λ (s : Step). s.name) r.1 ∙ q.name ∙ ap (lookups.feature_name m) qf in
-      let entry = same-entry q.origin.part.json p.origin.index q.origin.index p.origin.entry q.origin.entry (subst (λ (z : Part). slice_get (entries m z.json) p.origin.index ≡ Some p.origin.entry) part p.origin.there) q.origin.there name in (
+      let entry = same-entry m names q.origin.part.json p.origin.index q.origin.index p.origin.entry q.origin.entry (subst (λ (z : Part). slice_get (entries m z.json) p.origin.index ≡ Some p.origin.entry) part p.origin.there) q.origin.there name in (
         (λ i. record { 0 = r.0 i }),
         sym p.of ∙ pf ∙ ap (λ (e : Entry). e.feature) entry ∙ sym qf ∙ q.of,
       )
@@ -237,11 +175,11 @@ fitting-contents n doc fits =
     (λ o all. all-more (IsFittingContent n) (λ (c : Content). length c.values ≤ LIST_VALUES) o.contents (λ c f. f.few) (recursion_from_All (IsFittingContent n) o.contents all))
     (recursion_from_All (IsFittingObject n) doc.objects fits.objects)
 
-objects-are : (m : Metamodel) (b : Base) (d : Data) → (doc_read m b d).objects ≡ map (object_read m b (parts m d)) (parts m d)
+pub objects-are : (m : Metamodel) (b : Base) (d : Data) → (doc_read m b d).objects ≡ map (object_read m b (parts m d)) (parts m d)
 unfolding doc_read
 objects-are m b d = refl
 
-roots-read : (m : Metamodel) (b : Base) (d : Data) → (doc_read m b d).roots ≡ filter_map (λ p. root_number (parts m d) p.path) (root_parts d)
+pub roots-read : (m : Metamodel) (b : Base) (d : Data) → (doc_read m b d).roots ≡ filter_map (λ p. root_number (parts m d) p.path) (root_parts d)
 unfolding doc_read
 roots-read m b d = refl
 

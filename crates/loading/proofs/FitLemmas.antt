@@ -55,7 +55,7 @@ few-more : {Y : Type 0} (o : Option Y) (ys : List Y) (n : ℕ) → length ys ≤
 few-more None ys n few = omega (arith, few)
 few-more (Some y) ys n few = omega (arith, few)
 
-few-filtered : {X Y : Type 0} (f : X → Option Y) (xs : List X) → length (filter_map f xs) ≤ length xs
+pub few-filtered : {X Y : Type 0} (f : X → Option Y) (xs : List X) → length (filter_map f xs) ≤ length xs
 few-filtered f [] = omega arith
 few-filtered f (x ∷ xs) = let e = few-more (f x) (filter_map f xs) (length xs) (few-filtered f xs) in omega (arith, e)
 

@@ -11,7 +11,11 @@ pub mod WholeLemmas
 pub mod NameLemmas
 pub mod SoundLemmas
 pub mod DocLemmas
+pub mod WrittenLemmas
 pub mod DocSoundLemmas
+pub mod StandingLemmas
+pub mod TypedValueLemmas
+pub mod TypedLemmas
 pub mod SideLemmas
 pub mod SourceLemmas
 pub mod TotalLemmas

@@ -68,7 +68,7 @@ all-there (f ∷ fs) = (
   all-more (λ g. list_any (λ (h : FeatureNo). nat_eq h.0 g.0) fs ≡ true) (λ g. nat_eq f.0 g.0 || list_any (λ (h : FeatureNo). nat_eq h.0 g.0) fs ≡ true) fs (λ g h. or_right (nat_eq f.0 g.0) (list_any (λ (k : FeatureNo). nat_eq k.0 g.0) fs) h) (all-there fs),
 )
 
-class-features : (m : Metamodel) (c : ClassNo) → AllByRecursion (λ f. lookups.has_feature m c f ≡ true) (unwrap_or (lookups.features m c) [])
+pub class-features : (m : Metamodel) (c : ClassNo) → AllByRecursion (λ f. lookups.has_feature m c f ≡ true) (unwrap_or (lookups.features m c) [])
 class-features m c = by (lookups.features m c)
   where
     by : (o : Option (List FeatureNo)) → AllByRecursion (λ f. option_map_or (λ all. list_any (λ (g : FeatureNo). nat_eq g.0 f.0) all) o false ≡ true) (unwrap_or o [])

@@ -1,6 +1,6 @@
 -- What loading a document makes: its objects, numbered on from the next number, their values, and their links and proxies, which stand
 -- at both ends where the document says.
-use Rattle.std.specs.Prelude.{ℕ, ◌+◌, Bool, List, [], ◌∷◌, ◌++◌, filter_map, flat_map, fold, map, position, Option, Some, None, unwrap_or, if◌then◌else◌}
+use Rattle.std.specs.Prelude.{ℕ, ◌+◌, ◌&&◌, Bool, List, [], ◌∷◌, ◌++◌, filter_map, flat_map, fold, map, position, Option, Some, None, unwrap_or, if◌then◌else◌}
 use Rattle.std.specs.List.{enumerate_from}
 use Rattle.std.specs.FinSet as set
 use Rattle.mm_types.specs.Resolved.{Metamodel}
@@ -42,11 +42,11 @@ of_contents make doc = flat_map (of_object make) (enumerate_from 0 doc.objects)
 
 ---------------------------------------------------------------- values
 
--- an unsettable attribute that is written is set
+-- a single unsettable attribute that is written is set
 abbrev pub attribute_edits : Metamodel → ℕ → ObjectNo → Content → List ValueEdit
 attribute_edits m n o c =
     let a = shape m c.feature in
-    if a.is_reference then [] else PutList (loaded n o) c.feature c.values a.is_unsettable ∷ []
+    if a.is_reference then [] else PutList (loaded n o) c.feature c.values (a.is_unsettable && a.is_single) ∷ []
 
 abbrev pub loaded_values : Metamodel → ℕ → Doc → List ValueEdit
 loaded_values m n doc = map (λ o. NewObject o.class) doc.objects ++ of_contents (attribute_edits m n) doc

@@ -14,10 +14,17 @@ ghost use Rattle.resource_docs.specs.declared.doc.Doc.{Doc};
 ghost use Rattle.loading.specs.Fits.{IsFitting};
 ghost use Rattle.loading.specs.Laws.{IsRoomFor, MakesLinks};
 ghost use Rattle.loading.specs.LoadEdits.{load_edits};
+ghost use Rattle.loading.specs.Typed.{IsTyped};
 
 /// A document that is read can be loaded where its objects get numbers within the limit.
 pub fn a_document_that_is_read_fits()
     ensures { (m : Metamodel) (uri : List ℕ) (doc : Doc) (n : ℕ) → IsRead m uri doc → n + length doc.objects ≤ OBJECTS → IsFitting n doc }
+{}
+
+/// A document that is read keeps to its metamodel: each object is of a concrete class that has the features that it is written with, and
+/// each feature takes its values, no more of them than it may have.
+pub fn a_document_that_is_read_is_typed()
+    ensures { (m : Metamodel) (uri : List ℕ) (doc : Doc) → IsOfDocument m → IsRead m uri doc → IsTyped m doc }
 {}
 
 /// The edits that put the links of a document that is read are of the kinds of their features.

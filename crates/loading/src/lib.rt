@@ -12,5 +12,6 @@ mod pairs;
 mod places;
 mod values;
 
-pub use links::link_edits;
+pub use links::{contents_end, link_edits};
+pub use numbers::loaded;
 pub use values::value_edits;

@@ -35,8 +35,8 @@ pub fn link_edits(
     Ok(edits)
 }
 
-/// The end that holds the roots of a resource.
-fn contents_end(meta: &Meta, resource: ResourceNo) -> End
+/// The end that holds the roots of a resource. Takes no memory.
+pub fn contents_end(meta: &Meta, resource: ResourceNo) -> End
     ensures { result ≡ l.contents_end meta.now resource }
 {
     End {

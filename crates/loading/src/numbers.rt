@@ -5,8 +5,8 @@ ghost use Rattle.loading.specs.Loading as l;
 
 use mm_types::{End, FeatureNo, Node, ObjectNo};
 
-/// The number that an object of a document gets, where the first one gets `next`.
-pub(crate) fn loaded(next: usize, object: ObjectNo) -> ObjectNo
+/// The number that an object of a document gets, where the first one gets `next`. Takes no memory.
+pub fn loaded(next: usize, object: ObjectNo) -> ObjectNo
     requires fits { IsNumbered next object }
     ensures { result ≡ l.loaded next object }
 {

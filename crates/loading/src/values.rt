@@ -10,7 +10,7 @@ use crate::numbers::loaded;
 use mm_meta::Meta;
 use mm_types::ObjectNo;
 use mm_values::ValueEdit;
-use models::{is_reference, is_unsettable};
+use models::{is_reference, is_single, is_unsettable};
 use resource_docs::{Content, Doc, DocObject};
 use std::alloc::{AllocError, Global};
 
@@ -95,7 +95,7 @@ fn push_list(
             object: loaded(next, object),
             feature,
             list: values,
-            flag: is_unsettable(meta, feature),
+            flag: is_unsettable(meta, feature) && is_single(meta, feature),
         })?;
     }
     Ok(())

@@ -120,7 +120,6 @@ HasProxyTexts doc = (o : ObjectNo) (f : FeatureNo) (t : List ℕ) → Contains (
 pub record IsRead (m : Metamodel) (uri : List ℕ) (doc : Doc) : Type 0 where
   pub source : Data
   pub gives : reads m (base_of uri) source ≡ Ok doc
-  pub proxies : HasProxyTexts doc
 
 -- what was answered is what is to be read, a document or its fault, unless memory was refused
 abbrev pub Answers : Result Doc Refused → Result Doc DocFault → Type 0
