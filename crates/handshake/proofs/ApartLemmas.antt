@@ -1,5 +1,5 @@
 -- A chain tells no end twice, but a list that is unset, and so its notices are those that are read in the model as it is.
-use Rattle.std.proofs.Common.{◌≡◌, ◌≢◌, ◌<◌, ◌≤◌, ◌||◌, ℕ, zero, suc, pos, nat_lt, length, take, remove, slice_get, option_to_list, arith, Bool, true, false, not, List, [], ◌∷◌, ◌++◌, filter, flat_map, map, Option, Some, None, option_map, if◌then◌else◌, refl, sym, ap, ◌∙◌, subst, inl, inr}
+use Rattle.std.proofs.Common.{◌≡◌, ◌≢◌, ◌<◌, ◌≤◌, ◌||◌, ℕ, zero, suc, pos, nat_lt, length, take, remove, slice_get, option_to_list, arith, Bool, true, false, not, List, [], ◌∷◌, ◌++◌, filter, flat_map, map, Option, Some, None, option_map, if◌then◌else◌, refl, sym, ap, ◌∙◌, subst, inl, inr, true≢false}
 use Rattle.std.specs.List.{AllByRecursion}
 use Rattle.std.specs.Option.{option_map_or}
 use Rattle.std.proofs.lemmas.Bool.{and_from, false≢true, or_left, or_right}
@@ -15,7 +15,9 @@ use Rattle.mm_types.specs.Shapes.{Shape, is_containment, shape}
 use Rattle.mm_types.specs.declared.end.End.{End}
 use Rattle.mm_types.specs.declared.numbers.FeatureNo.{FeatureNo}
 use Rattle.mm_types.specs.declared.numbers.Node.{Node}
+use Rattle.mm_types.specs.declared.numbers.Node.TheVariants as node
 use Rattle.mm_types.specs.declared.numbers.ObjectNo.{ObjectNo}
+use Rattle.mm_types.specs.declared.numbers.ResourceNo.{ResourceNo}
 use Rattle.mm_types.specs.declared.value.Value.TheVariants as value
 use Rattle.mm_types.specs.declared.value.Value.{Value}
 use Rattle.link_store.proofs.PlaceLemmas.{ne-same_end}
@@ -39,10 +41,11 @@ use Rattle.ties.specs.TreeTies.{tie}
 use Rattle.handshake.specs.Laws.{AreApart, AreDifferent, takes_many}
 use Rattle.handshake.specs.Refusals.{early_refusal, late_refusal}
 use Rattle.handshake.specs.Telling.{changed, flagged, happened, happened_all, has_flag, notice_at, notice_of, telling, told}
-use Rattle.handshake.specs.Tellings.{all_lost, before_gain, chain, destroyed_by, far_gain, far_loss, far_losses, gain_at, is_replaced, loss, losses, other_losses, taken_out, tellings, tellings_with}
-use Rattle.handshake.specs.declared.change.Change.TheVariants.{Create, Set, Unset, Add, Remove, RemoveValue, Move, Delete, NewResource}
+use Rattle.handshake.specs.Tellings.{all_lost, before_gain, chain, destroyed_by, far_gain, far_loss, far_losses, gain_at, is_replaced, loaded_by, loss, losses, other_losses, taken_out, tellings, tellings_with}
+use Rattle.handshake.specs.declared.change.Change.TheVariants.{Create, Set, Unset, Add, Remove, RemoveValue, Move, Delete, NewResource, Resolve, Load}
+use Rattle.resource_docs.specs.declared.doc.Doc.{Doc}
 use Rattle.handshake.specs.declared.change.Change.{Change}
-use Rattle.handshake.specs.declared.happening.Happening.TheVariants.{Gains, LosesAt, Moves, Unsets}
+use Rattle.handshake.specs.declared.happening.Happening.TheVariants.{Gains, LosesAt, Moves, Resolves, Unsets}
 use Rattle.handshake.specs.declared.happening.Happening.{Happening}
 use Rattle.handshake.specs.declared.happening.Telling.{Telling}
 use Rattle.ties.specs.declared.tie.Tie.{Tie}
@@ -398,6 +401,9 @@ tellings-apart s (RemoveValue n f v) legal early late few =
       | Some i ↦ taken-apart s n f i legal
     ]
 tellings-apart s (Move n f to from) legal early late few = one-apart (telling (at_end n f) (Moves to from))
+tellings-apart s (Load k doc) legal early late few = absurd (true≢false few)
+tellings-apart s (Resolve o f i None) legal early late few = tt
+tellings-apart s (Resolve o f i (Some b)) legal early late few = one-apart (telling (at_end (node.Object o) f) (Resolves i (value.Object b)))
 
 ---------------------------------------------------------------- a list that is unset
 
@@ -505,11 +511,16 @@ unset-read s n f legal many =
     within : (r : Reading) (e : End) → (held_at r e).values ≡ r.values e → length (r.values e) ≤ length (held_at r e).values
     within r e is = subst (λ (vs : List Value). length (r.values e) ≤ length vs) (sym is) (omega arith)
 
--- the chain of a change that destroys nothing is the notices that are read in the model as it is
-pub chain-read : (s : Model) (c : Change) → IsLegal s → destroyed_by c ≡ None → early_refusal (reading s) c ≡ None → late_refusal (reading s) c ≡ None → chain (reading s) c ≡ map (notice_at (reading s)) (tellings (reading s) c)
-chain-read s c legal none early late =
+-- a change that is no load loads nothing
+pub nothing-loaded : (c : Change) → ((k : ResourceNo) (doc : Doc) → c ≡ Load k doc → ⊥) → loaded_by c ≡ None
+nothing-loaded (Load k doc) none = absurd (none k doc refl)
+nothing-loaded _ none = refl
+
+-- the chain of a change that destroys and loads nothing is the notices that are read in the model as it is
+pub chain-read : (s : Model) (c : Change) → IsLegal s → destroyed_by c ≡ None → loaded_by c ≡ None → early_refusal (reading s) c ≡ None → late_refusal (reading s) c ≡ None → chain (reading s) c ≡ map (notice_at (reading s)) (tellings (reading s) c)
+chain-read s c legal none unloaded early late =
     elim (takes_many (reading s) c) as (λ b. takes_many (reading s) c ≡ b → chain (reading s) c ≡ map (notice_at (reading s)) (tellings (reading s) c)) [
-      | true ↦ λ many. by c none many
+      | true ↦ λ many. by c none unloaded many
       | false ↦ λ few. told-apart s.metamodel (held_at (reading s)) (tellings (reading s) c) (tellings-apart s c legal early late few)
     ] refl
   where
@@ -517,15 +528,16 @@ chain-read s c legal none early late =
     not-true true h = absurd (false≢true h)
     not-true false h = refl
 
-    by : (c : Change) → destroyed_by c ≡ None → takes_many (reading s) c ≡ true → chain (reading s) c ≡ map (notice_at (reading s)) (tellings (reading s) c)
-    by (Delete o) none many = absurd (none-some o (sym none))
-    by (Unset n f) none many = unset-read s n f legal (not-true (shape s.metamodel f).is_single many)
-    by _ none many = absurd (false≢true many)
+    by : (c : Change) → destroyed_by c ≡ None → loaded_by c ≡ None → takes_many (reading s) c ≡ true → chain (reading s) c ≡ map (notice_at (reading s)) (tellings (reading s) c)
+    by (Load k doc) none unloaded many = absurd (none-some doc (sym unloaded))
+    by (Delete o) none unloaded many = absurd (none-some o (sym none))
+    by (Unset n f) none unloaded many = unset-read s n f legal (not-true (shape s.metamodel f).is_single many)
+    by _ none unloaded many = absurd (false≢true many)
 
 ---------------------------------------------------------------- tellings that are made
 
 -- the notices of the tellings that are made are the chain
-pub made-chain : (s : Model) (c : Change) (cut : List Tie) (ts : List Telling) → IsLegal s → destroyed_by c ≡ None → early_refusal (reading s) c ≡ None → late_refusal (reading s) c ≡ None → cut ≡ cut_ties (reading s) c → ts ≡ tellings_with (reading s) c cut
+pub made-chain : (s : Model) (c : Change) (cut : List Tie) (ts : List Telling) → IsLegal s → destroyed_by c ≡ None → loaded_by c ≡ None → early_refusal (reading s) c ≡ None → late_refusal (reading s) c ≡ None → cut ≡ cut_ties (reading s) c → ts ≡ tellings_with (reading s) c cut
     → (heard : Bool) → heard ≡ true → map (notice_at (reading s)) ts ≡ (if heard then chain (reading s) c else [])
-made-chain s c cut ts legal none early late is_cut made heard is =
-    ap (map (notice_at (reading s))) (made ∙ ap (tellings_with (reading s) c) is_cut) ∙ sym (chain-read s c legal none early late) ∙ ap (λ (b : Bool). if b then chain (reading s) c else []) (sym is)
+made-chain s c cut ts legal none unloaded early late is_cut made heard is =
+    ap (map (notice_at (reading s))) (made ∙ ap (tellings_with (reading s) c) is_cut) ∙ sym (chain-read s c legal none unloaded early late) ∙ ap (λ (b : Bool). if b then chain (reading s) c else []) (sym is)

@@ -32,7 +32,7 @@ Replays s ts t = (d : End) → happened_at s.metamodel ts d (held_at (reading s)
 
 ---------------------------------------------------------------- what an object stores, if there is one
 
-abbrev stored_for : FeatureNo → Option ObjectState → Stored
+abbrev pub stored_for : FeatureNo → Option ObjectState → Stored
 stored_for f None = nothing_stored
 stored_for f (Some o) = stored_under o f
 
@@ -46,7 +46,7 @@ held-stored_for a vs f None = refl
 held-stored_for a vs f (Some o) = refl
 
 -- at the end of an object
-held_at-object : (s : Model) (o : ObjectNo) (f : FeatureNo)
+pub held_at-object : (s : Model) (o : ObjectNo) (f : FeatureNo)
     → held_at (reading s) (at_end (node.Object o) f) ≡ held_of (shape s.metamodel f) (end s.links (at_end (node.Object o) f)) (stored_for f (object_at s.values.objects o))
 held_at-object s o f = held-stored_for (shape s.metamodel f) (end s.links (at_end (node.Object o) f)) f (object_at s.values.objects o)
 

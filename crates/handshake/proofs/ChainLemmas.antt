@@ -1,5 +1,6 @@
 -- The chain of a change, replayed at each end, gives what the end holds after it.
 use Rattle.std.proofs.Common.{◌≡◌, ℕ, zero, suc, ◌≤◌, nat_le, nat_lt, pos, insert, remove, length, slice_get, slice_index_or, option_map, option_to_list, arith, Bool, true, false, ◌||◌, not, List, [], ◌∷◌, ◌++◌, map, Option, Some, None, if◌then◌else◌, refl, sym, ap, ◌∙◌, subst}
+use Rattle.std.specs.Prelude.{slice_set}
 use Rattle.std.specs.List.{AllByRecursion, list_any}
 use Rattle.std.specs.Option.{option_map_or}
 use Rattle.std.proofs.lemmas.Bool.{false≢true, or_left, or_right, true≢false}
@@ -34,23 +35,24 @@ use Rattle.models.specs.Legal.{IsLegal, kinds_of}
 use Rattle.models.specs.Model.{Model, kept_flag, reading}
 use Rattle.models.specs.Reading.{Reading, at_end, first_at, has_feature, held_at, is_repeat, object_of, place_for}
 use Rattle.notice_chain.specs.Replay as replay
-use Rattle.notice_chain.specs.Replay.{moved}
+use Rattle.notice_chain.specs.Replay.{moved, resolved as list-resolved}
 use Rattle.handshake.specs.Displaced.{cut_by_new, cut_by_set, has_already, is_plain_add, is_plain_set, same_link, tie_in, ties_at, ties_backwards, yields}
 use Rattle.ties.specs.TreeTies.{tie}
 use Rattle.handshake.specs.Effects.{add_value, after, of_object, put_values, take_value, value_edits, with_value, without_ties}
-use Rattle.handshake.specs.Laws.{AreDifferent, ChainReplays, goes_with}
+use Rattle.handshake.specs.Laws.{AreDifferent, ChainReplays, comes_with, goes_with}
+use Rattle.handshake.specs.Plans.{HasReadDocument}
 use Rattle.handshake.specs.Refusals.{early_refusal, late_refusal}
 use Rattle.handshake.specs.Telling.{telling}
 use Rattle.handshake.specs.Tellings.{all_lost, before_gain, far_losses, gain_at, taken_out, tellings}
 use Rattle.handshake.specs.declared.change.Change.{Change}
-use Rattle.handshake.specs.declared.change.Change.TheVariants.{Create, Set, Unset, Add, Remove, RemoveValue, Move, Delete, NewResource}
+use Rattle.handshake.specs.declared.change.Change.TheVariants.{Create, Set, Unset, Add, Remove, RemoveValue, Move, Delete, NewResource, Resolve, Load}
 use Rattle.handshake.specs.declared.happening.Happening.{Happening}
-use Rattle.handshake.specs.declared.happening.Happening.TheVariants.{Gains, LosesAt, Moves, Unsets}
+use Rattle.handshake.specs.declared.happening.Happening.TheVariants.{Gains, LosesAt, Moves, Resolves, Unsets}
 use Rattle.handshake.specs.declared.happening.Telling.{Telling}
 use Rattle.ties.specs.declared.tie.Tie.{Tie}
 use Rattle.handshake.proofs.ApartLemmas.{backwards-here, tie_in-here, ties_at-here}
 use Rattle.handshake.proofs.AttributeLemmas.{Replays, create-replays}
-use Rattle.handshake.proofs.CutEndLemmas.{held-none, reference-plain, same-held}
+use Rattle.handshake.proofs.CutEndLemmas.{held-none, held-one, reference-flag, reference-plain, same-held}
 use Rattle.handshake.proofs.CutHeldLemmas.{all-left, held_in, near-gives}
 use Rattle.mm_types.specs.Same.{same_end}
 use Rattle.mm_types.specs.Lists.{put_back, shifted}
@@ -58,10 +60,12 @@ use Rattle.handshake.proofs.CutTieLemmas.{Stands, all_at, any_append_left, any_p
 use Rattle.ties.specs.Laws.{names_of}
 use Rattle.handshake.proofs.DestroyLemmas.{destroyed-replays}
 use Rattle.handshake.proofs.HappenedLemmas.{at-own, done, happened_all-at, happened_at}
-use Rattle.handshake.proofs.KnownLemmas.{add-named, add-taken, delete-named, kinds-are, move-named, move-placed, object-reference, remove-named, remove-placed, resource-keeps-none, set-named, set-taken, take-named, unset-there}
+use Rattle.handshake.proofs.KnownLemmas.{IsResolvable, add-named, add-taken, delete-named, kinds-are, move-named, move-placed, object-reference, remove-named, remove-placed, resolvable, resource-keeps-none, set-named, set-taken, take-named, unresolved, unset-there}
+use Rattle.handshake.proofs.ResolveLemmas.{alone-there, end-resolved, one-cut, resolved, set-there, there}
+use Rattle.handshake.proofs.LoadChainLemmas.{load-replays}
 use Rattle.handshake.proofs.LinkLemmas.{IsNewLink, near-empty, without_displaced}
 use Rattle.handshake.proofs.ListReplayLemmas.{all_lost-own, list-added, list-moved, list-taken, list-unset, lost-done, one-done, own-one, single-set, single-unset}
-use Rattle.handshake.proofs.LossLemmas.{gained-single, lost}
+use Rattle.handshake.proofs.LossLemmas.{gained, gained-single, lost}
 use Rattle.handshake.proofs.PlanLemmas.{add-new, add-place, below, set-new}
 use Rattle.handshake.proofs.RelinkLemmas.{add-replays, at-each, cut-replays, kept-replays, list-held, set-replays}
 use Rattle.handshake.proofs.ReplayLemmas.{replayed_all-told}
@@ -206,6 +210,61 @@ module _ (s : Model) (legal : IsLegal s) (e : End) (reference : (shape s.metamod
           ap (λ (b : Bool). if b then (if nat_lt to (length vs) then replay.shifted vs to from else vs) else vs) low_from
           ∙ ap (λ (b : Bool). if b then replay.shifted vs to from else vs) low_to
           ∙ elim (slice_get vs from) as (λ q. option_map_or (λ x. insert (remove vs from) to x) q vs ≡ put_back q vs to from) [ None ↦ refl | Some v ↦ refl ]
+
+---------------------------------------------------------------- a proxy that is resolved
+
+module _ (s : Model) (legal : IsLegal s) (e : End) (i : ℕ) (o : ObjectNo) (is : IsResolvable (reading s) e i o) where
+  abbrev v : Value
+  v = value.Object o
+
+  abbrev proxied : List Value
+  proxied = end s.links e
+
+  abbrev swapped : End → List Value → List Value
+  swapped d vs = if same_end e d then vs else end s.links d
+
+  near-resolved : end (resolved s legal e i o is) e ≡ insert (remove proxied i) i v
+  near-resolved = end-resolved s legal e i o is e ∙ ap (λ (b : Bool). if b then insert (remove proxied i) i v else end s.links e) (same_end-self e)
+
+  resolve-single : (shape s.metamodel e.feature).is_single ≡ true → done (shape s.metamodel e.feature) (Resolves i v) (held_at (reading s) e) ≡ held_in s (resolved s legal e i o is) e
+  resolve-single single =
+      let a = shape s.metamodel e.feature in
+      let plain = (reference-plain s.metamodel e.feature is.reference).0 in
+      let off = reference-flag s e.node e.feature legal is.reference in
+      let only = near-resolved ∙ alone-there proxied i (value.Proxy is.text) v ((all-left s legal).one e single) (there s legal e i o is) in
+      let so : done a (Resolves i v) (held_at (reading s) e) ≡ gained a v = λ j. record { values = if single j then v ∷ [] else list-resolved (held_at (reading s) e).values (pos i) v; flag = (off ∙ sym plain) j } in
+      so ∙ held-one s (resolved s legal e i o is) e legal is.reference single v only
+
+  resolve-many : (shape s.metamodel e.feature).is_single ≡ false → done (shape s.metamodel e.feature) (Resolves i v) (held_at (reading s) e) ≡ held_in s (resolved s legal e i o is) e
+  resolve-many many =
+      let a = shape s.metamodel e.feature in
+      let b = kept_flag s.values e.node e.feature in
+      let low = subst (λ (ws : List Value). nat_lt i (length ws) ≡ true) (values-linked s e is.reference) is.low in
+      ap (done a (Resolves i v)) (list-held s s.links e is.reference many)
+      ∙ (λ j. record { values = if many j then v ∷ [] else (if low j then slice_set proxied i v else proxied); flag = b })
+      ∙ ap (λ (ws : List Value). record { values = ws; flag = b }) (set-there proxied i (value.Proxy is.text) v (there s legal e i o is) ∙ sym near-resolved)
+      ∙ sym (list-held s (resolved s legal e i o is) e is.reference many)
+
+  resolve-replays : Replays s (telling e (Resolves i v) ∷ []) (relinked s (resolved s legal e i o is))
+  resolve-replays d =
+      let a = shape s.metamodel e.feature in
+      at-each (λ y. happened_at s.metamodel (telling e (Resolves i v) ∷ []) y (held_at (reading s) y) ≡ held_in s (resolved s legal e i o is) y) e d
+      (one-done s.metamodel e (Resolves i v) (held_at (reading s) e)
+      ∙ elim a.is_single as (λ b. a.is_single ≡ b → done a (Resolves i v) (held_at (reading s) e) ≡ held_in s (resolved s legal e i o is) e) [ true ↦ resolve-single | false ↦ resolve-many ] refl)
+      (λ other.
+      at-own s.metamodel e d (telling e (Resolves i v) ∷ []) (held_at (reading s) d) (own-one e (Resolves i v)) other
+      ∙ same-held s s.links (resolved s legal e i o is) d (sym (end-resolved s legal e i o is d ∙ ap (λ (b : Bool). if b then insert (remove proxied i) i v else end s.links d) other)))
+
+-- the links are those without the proxy, and the object at its place
+resolve-changes : (s : Model) (legal : IsLegal s) (o : ObjectNo) (f : FeatureNo) (i : ℕ) (x : ObjectNo) → late_refusal (reading s) (Resolve o f i (Some x)) ≡ None → Replays s (tellings (reading s) (Resolve o f i (Some x))) (after s (Resolve o f i (Some x)))
+resolve-changes s legal o f i x late =
+    let r = reading s in
+    let e = at_end (node.Object o) f in
+    let is = resolvable r e i x late in
+    let a = shape s.metamodel f in
+    let made : List Tie → Links = λ ts. put (without_ties s.links ts) e i x a.opposite a.containing in
+    subst (λ (b : Bool). Replays s (telling e (Resolves i (value.Object x)) ∷ []) (relinked s (made (if b then tie_in r e i else [])))) (sym is.reference)
+    (subst (λ (ts : List Tie). Replays s (telling e (Resolves i (value.Object x)) ∷ []) (relinked s (made ts))) (sym (one-cut s legal e i x is)) (resolve-replays s legal e i x is))
 
 ---------------------------------------------------------------- changes of a reference, and of an attribute
 
@@ -408,29 +467,32 @@ move-changes s n f to from legal has many late =
     ] refl
 
 -- a change that destroys nothing replays at every end
-everywhere : (s : Model) (c : Change) → Replays s (tellings (reading s) c) (after s c) → (d : End) → goes_with (reading s) c d.node ≡ false → happened_at s.metamodel (tellings (reading s) c) d (held_at (reading s) d) ≡ held_at (reading (after s c)) d
-everywhere s c replays d stays = replays d
+everywhere : (s : Model) (c : Change) → Replays s (tellings (reading s) c) (after s c) → (d : End) → goes_with (reading s) c d.node ≡ false → comes_with (reading s) c d.node ≡ false → happened_at s.metamodel (tellings (reading s) c) d (held_at (reading s) d) ≡ held_at (reading (after s c)) d
+everywhere s c replays d stays old = replays d
 
-changes-replay : (s : Model) (c : Change) → IsLegal s → early_refusal (reading s) c ≡ None → late_refusal (reading s) c ≡ None
-    → (d : End) → goes_with (reading s) c d.node ≡ false → happened_at s.metamodel (tellings (reading s) c) d (held_at (reading s) d) ≡ held_at (reading (after s c)) d
-changes-replay s (Create k) legal early late = everywhere s (Create k) (create-replays s k)
-changes-replay s (NewResource u) legal early late = everywhere s (NewResource u) (λ d. refl)
-changes-replay s (Delete o) legal early late = destroyed-replays s legal o (delete-named (reading s) o early)
-changes-replay s (Set n f v) legal early late = everywhere s (Set n f v) (set-changes s n f v legal early late)
-changes-replay s (Unset n f) legal early late = everywhere s (Unset n f) (unset-changes s n f legal (unset-there (reading s) n f early))
-changes-replay s (Add n f v i) legal early late = everywhere s (Add n f v i) (add-changes s n f v i legal early late)
-changes-replay s (Remove n f i) legal early late =
+changes-replay : (s : Model) (c : Change) → IsLegal s → early_refusal (reading s) c ≡ None → late_refusal (reading s) c ≡ None → HasReadDocument s.metamodel c
+    → (d : End) → goes_with (reading s) c d.node ≡ false → comes_with (reading s) c d.node ≡ false → happened_at s.metamodel (tellings (reading s) c) d (held_at (reading s) d) ≡ held_at (reading (after s c)) d
+changes-replay s (Create k) legal early late read = everywhere s (Create k) (create-replays s k)
+changes-replay s (NewResource u) legal early late read = everywhere s (NewResource u) (λ d. refl)
+changes-replay s (Delete o) legal early late read = (λ d stays old. destroyed-replays s legal o (delete-named (reading s) o early) d stays)
+changes-replay s (Set n f v) legal early late read = everywhere s (Set n f v) (set-changes s n f v legal early late)
+changes-replay s (Unset n f) legal early late read = everywhere s (Unset n f) (unset-changes s n f legal (unset-there (reading s) n f early))
+changes-replay s (Add n f v i) legal early late read = everywhere s (Add n f v i) (add-changes s n f v i legal early late)
+changes-replay s (Remove n f i) legal early late read =
     let named = remove-named (reading s) n f i early in
     everywhere s (Remove n f i) (take-changes s n f i legal named.0 named.1 (remove-placed (reading s) n f i late))
-changes-replay s (RemoveValue n f v) legal early late =
+changes-replay s (RemoveValue n f v) legal early late read =
     let named = take-named (reading s) n f v early in
     everywhere s (RemoveValue n f v) (take-value_changes s n f v legal named.there named.single)
-changes-replay s (Move n f to from) legal early late =
+changes-replay s (Move n f to from) legal early late read =
     let named = move-named (reading s) n f to from early in
     everywhere s (Move n f to from) (move-changes s n f to from legal named.0 named.1 late)
+changes-replay s (Resolve o f i None) legal early late read = λ d stays old. absurd (unresolved (reading s) (at_end (node.Object o) f) i late)
+changes-replay s (Resolve o f i (Some x)) legal early late read = everywhere s (Resolve o f i (Some x)) (resolve-changes s legal o f i x late)
+changes-replay s (Load k doc) legal early late read = λ d stays old. load-replays s k doc legal late read d old
 
 pub chain-replays : (s : Model) (c : Change) → ChainReplays s c
-chain-replays s c legal early late d stays =
+chain-replays s c legal early late read d stays old =
     let m = s.metamodel in
     let r = reading s in
-    ap (λ (y : Ends). y d) (replayed_all-told m (held_at r) (tellings r c)) ∙ happened_all-at m (held_at r) (tellings r c) d ∙ changes-replay s c legal early late d stays
+    ap (λ (y : Ends). y d) (replayed_all-told m (held_at r) (tellings r c)) ∙ happened_all-at m (held_at r) (tellings r c) d ∙ changes-replay s c legal early late read d stays old

@@ -12,6 +12,7 @@ use Rattle.mm_types.specs.Shapes.{shape}
 use Rattle.mm_types.specs.declared.numbers.FeatureNo.{FeatureNo}
 use Rattle.mm_types.specs.declared.numbers.ObjectNo.{ObjectNo}
 use Rattle.mm_types.specs.declared.numbers.Node.{Node}
+use Rattle.mm_types.specs.declared.numbers.Node.TheVariants as node
 use Rattle.mm_types.specs.declared.end.End.{End}
 use Rattle.mm_types.specs.declared.value.Value.{Value}
 use Rattle.mm_types.specs.declared.value.Value.TheVariants as value
@@ -31,7 +32,7 @@ use Rattle.models.specs.Model.{Model, reading}
 use Rattle.models.specs.Reading.{Reading, at_end, first_at, is_repeat}
 use Rattle.handshake.proofs.KnownLemmas.{delete-named, far-reference, kinds-are, set-named}
 use Rattle.handshake.specs.declared.change.Change.{Change}
-use Rattle.handshake.specs.declared.change.Change.TheVariants.{Create, Set, Unset, Add, Remove, RemoveValue, Move, Delete, NewResource}
+use Rattle.handshake.specs.declared.change.Change.TheVariants.{Create, Set, Unset, Add, Remove, RemoveValue, Move, Delete, NewResource, Resolve, Load}
 use Rattle.ties.specs.declared.tie.Tie.{Tie}
 use Rattle.handshake.specs.Displaced.{cut_by_new, cut_by_set, cut_ties, is_plain_add, tie_in, ties_backwards, has_already, in_the_way, is_plain_set, once, opposite_end, holding_tie, other_side, same_link, same_tie, ties_at, ties_if_single, with_tie, yields}
 use Rattle.ties.specs.TreeTies.{tie, tree_ties}
@@ -323,6 +324,8 @@ left-cuts s (Add n f v i) legal early = without_ties-names_of s.links (cut_ties 
 left-cuts s (Remove n f i) legal early = without_ties-names_of s.links (cut_ties (reading s) (Remove n f i))
 left-cuts s (RemoveValue n f v) legal early = without_ties-names_of s.links (cut_ties (reading s) (RemoveValue n f v))
 left-cuts s (Move n f to from) legal early = refl
+left-cuts s (Load k doc) legal early = refl
+left-cuts s (Resolve o f i b) legal early = without_ties-names_of s.links (cut_ties (reading s) (Resolve o f i b))
 left-cuts s (Delete o) legal early =
     let r = reading s in
     let m = kinds_of s.metamodel in
@@ -339,6 +342,8 @@ cuts-stand s (Add n f v i) legal early = add-cuts (AllByRecursion (Stands s.link
 cuts-stand s (Remove n f i) legal early = reference-cuts (AllByRecursion (Stands s.links)) s n f tt (tie_in (reading s) (at_end n f) i) (λ reference. tie_in-stand s (at_end n f) i reference)
 cuts-stand s (RemoveValue n f v) legal early = take-cuts (AllByRecursion (Stands s.links)) s n f tt v (λ reference i. tie_in-stand s (at_end n f) i reference)
 cuts-stand s (Move n f to from) legal early = tt
+cuts-stand s (Load k doc) legal early = tt
+cuts-stand s (Resolve o f i b) legal early = let e = at_end (node.Object o) f in reference-cuts (AllByRecursion (Stands s.links)) s (node.Object o) f tt (tie_in (reading s) e i) (λ reference. tie_in-stand s e i reference)
 
 pub cuts-there : (s : Model) (c : Change) → IsLegal s → early_refusal (reading s) c ≡ None → late_refusal (reading s) c ≡ None → AreThere s.links (names_of (cut_ties (reading s) c))
 cuts-there s c legal early late = all_map (λ (t : End × Value). Has s.links t.0 t.1) (λ (t : Tie). (t.end, t.value)) (cut_ties (reading s) c) (cuts-stand s c legal early)
@@ -438,6 +443,8 @@ cuts-different s (Add n f v i) legal early = add-cuts (AreDifferent (reading s))
 cuts-different s (Remove n f i) legal early = reference-cuts (AreDifferent (reading s)) s n f tt (tie_in (reading s) (at_end n f) i) (λ reference. tie_in-different (reading s) (at_end n f) i)
 cuts-different s (RemoveValue n f v) legal early = take-cuts (AreDifferent (reading s)) s n f tt v (λ reference i. tie_in-different (reading s) (at_end n f) i)
 cuts-different s (Move n f to from) legal early = tt
+cuts-different s (Load k doc) legal early = tt
+cuts-different s (Resolve o f i b) legal early = let e = at_end (node.Object o) f in reference-cuts (AreDifferent (reading s)) s (node.Object o) f tt (tie_in (reading s) e i) (λ reference. tie_in-different (reading s) e i)
 
 pub cuts-once : (s : Model) (c : Change) → IsLegal s → early_refusal (reading s) c ≡ None → late_refusal (reading s) c ≡ None → AreOnce (kinds_of s.metamodel) (names_of (cut_ties (reading s) c))
 cuts-once s c legal early late = once-of_different (reading s) (cut_ties (reading s) c) (cuts-different s c legal early)

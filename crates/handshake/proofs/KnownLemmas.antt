@@ -1,11 +1,12 @@
 -- What follows where a change is not refused: the node lives and has the feature, the value is one of its type, and the end can gain
 -- it.
-use Rattle.std.proofs.Common.{◌≡◌, ℕ, nat_le, nat_lt, length, slice_get, ◌&&◌, Bool, true, false, Option, Some, None, is_some, if◌then◌else◌, refl, sym, ap, ◌∙◌, subst, arith, ◌<◌, List}
+use Rattle.std.proofs.Common.{◌≡◌, ℕ, nat_le, nat_lt, length, slice_get, ◌&&◌, ◌||◌, not, Bool, true, false, Option, Some, None, is_some, option_and_then, if◌then◌else◌, refl, sym, ap, ◌∙◌, subst, arith, ◌<◌, List}
 use Rattle.std.specs.Option.{option_map_or}
 use Rattle.std.proofs.lemmas.Bool.{and_parts, eqb-true, false≢true}
 use Rattle.std.proofs.lemmas.Option.{none-some, slice_get_past}
 use Rattle.mm_meta.proofs.ShapeLemmas.{opposites_are_pairs}
 use Rattle.mm_types.specs.Conditions.{◌unless◌, ◌where_so◌, ◌else_by◌}
+use Rattle.mm_types.specs.Ends.{has_value}
 use Rattle.mm_types.specs.Lookups as lookups
 use Rattle.mm_types.specs.OfDocument.{IsOfDocument}
 use Rattle.mm_types.specs.Resolved.{Metamodel}
@@ -23,15 +24,17 @@ use Rattle.mm_types.specs.declared.numbers.ObjectNo.{ObjectNo}
 use Rattle.mm_types.specs.declared.numbers.ResourceNo.{ResourceNo}
 use Rattle.mm_types.specs.declared.end.End.{End}
 use Rattle.mm_types.specs.declared.refused.Refused.{Refused}
-use Rattle.mm_types.specs.declared.refused.Refused.TheVariants.{NoObject, NoResource, NoFeature, NotSingle, NotMany, WrongType, TextLength, Index, Duplicate, Bound, Recursive, Limit, ResourceExists}
+use Rattle.mm_types.specs.declared.refused.Refused.TheVariants.{NoObject, NoResource, NoFeature, NotSingle, NotMany, WrongType, TextLength, Index, Duplicate, Bound, Recursive, Limit, ResourceExists, NotProxy, Unloaded, Unresolved}
 use Rattle.mm_types.specs.declared.value.Value.{Value}
 use Rattle.mm_types.specs.declared.value.Value.TheVariants as value
 use Rattle.link_store.specs.LegalSets.{AreKinds}
+use Rattle.link_store.specs.Links.{text_of}
+use Rattle.web_uris.specs.Addresses.{uri_part}
 use Rattle.models.specs.Legal.{is_short, kinds_of, is_short_text}
 use Rattle.models.specs.Reading.{Reading, at_end, has_feature, is_live, is_node_live, is_repeat, is_value_live, place_for, takes, has_uri}
 use Rattle.handshake.specs.Named.{feature_refusal, many_refusal, node_refusal, single_refusal, value_refusal}
-use Rattle.handshake.specs.Refusals.{add_refusal, early_refusal, gain_refusal, is_at_limit, is_full_at, is_recursive, late_refusal, link_refusal, of_either, set_refusal, type_refusal, uri_refusal}
-use Rattle.handshake.specs.declared.change.Change.TheVariants.{Set, Unset, Add, Remove, RemoveValue, Move, Delete}
+use Rattle.handshake.specs.Refusals.{add_refusal, early_refusal, gain_refusal, is_at_limit, is_full_at, is_recursive, is_mistyped, is_there_already, late_refusal, link_refusal, of_either, proxy_at, resolve_refusal, set_refusal, type_refusal, uri_refusal}
+use Rattle.handshake.specs.declared.change.Change.TheVariants.{Set, Unset, Add, Remove, RemoveValue, Move, Delete, Resolve}
 use Rattle.std.proofs.lemmas.Bool.Decides.{nat_tests}
 use Rattle.mm_types.specs.declared.limits.TheConstants.{RESOURCES}
 
@@ -52,7 +55,7 @@ pub far-reference : (m : Metamodel) → IsOfDocument m → (f g : FeatureNo) →
 far-reference m d f g h = (opposites_are_pairs m d f g h).far_refers
 
 -- no attribute takes an object
-object-typed : (m : Metamodel) (single : Bool) (t : DataType) (o : ObjectNo) → lookups.is_attribute_value m single t (value.Object o) ≡ false
+pub object-typed : (m : Metamodel) (single : Bool) (t : DataType) (o : ObjectNo) → lookups.is_attribute_value m single t (value.Object o) ≡ false
 object-typed m single EString o = refl
 object-typed m single EInt o = refl
 object-typed m single ELong o = refl
@@ -181,7 +184,70 @@ take-named r n f v h = many-named r n f v h
 pub move-named : (r : Reading) (n : Node) (f : FeatureNo) (to from : ℕ) → early_refusal r (Move n f to from) ≡ None → (has_feature r n f ≡ true) × ((shape r.metamodel f).is_single ≡ false)
 move-named r n f to from h = list-named r n f h
 
+pub resolve-named : (r : Reading) (o : ObjectNo) (f : FeatureNo) (i : ℕ) (b : Option ObjectNo) → early_refusal r (Resolve o f i b) ≡ None → has_feature r (node.Object o) f ≡ true
+resolve-named r o f i b h = feature-named r (node.Object o) f h
+
 ---------------------------------------------------------------- late refusals
+
+-- a proxy stands at the place, and an object of the reference's type, which is not in the list, may take it
+pub record IsResolvable (r : Reading) (e : End) (i : ℕ) (o : ObjectNo) : Type 0 where
+  pub reference : (shape r.metamodel e.feature).is_reference ≡ true
+  pub low : nat_lt i (length (r.values e)) ≡ true
+  pub takes : takes r e.feature (value.Object o) ≡ true
+  pub absent : has_value (r.values e) (value.Object o) ≡ false
+  pub text : List ℕ
+  pub proxy : slice_get (r.values e) i ≡ Some (value.Proxy text)
+
+not-true : (a : Bool) → not a ≡ false → a ≡ true
+not-true true h = refl
+not-true false h = absurd (false≢true (sym h))
+
+or-none : (a b : Bool) → (a || b) ≡ false → (a ≡ false) × (b ≡ false)
+or-none true b h = absurd (false≢true (sym h))
+or-none false b h = (refl, h)
+
+text-is : (v : Value) → is_some (text_of v) ≡ true → (t : List ℕ) × (v ≡ value.Proxy t)
+text-is (value.Proxy t) h = (t, refl)
+text-is _ h = absurd (false≢true h)
+
+text-at : (q : Option Value) → is_some (option_and_then text_of q) ≡ true → (t : List ℕ) × (q ≡ Some (value.Proxy t))
+text-at None h = absurd (false≢true h)
+text-at (Some v) h = let is = text-is v h in (is.0, ap (λ (w : Value). Some w) is.1)
+
+-- a proxy is resolved where an object is at its address
+target-some : (r : Reading) (e : End) (i : ℕ) (b : Option ObjectNo) → resolve_refusal r e i b ≡ None → is_some b ≡ true
+target-some r e i b h =
+    let last = Unresolved unless is_some b in
+    let loaded = Unloaded where_so option_map_or (λ t. not (has_uri r (uri_part t))) (proxy_at r e i) false in
+    let proxy = NotProxy unless is_some (proxy_at r e i) in
+    let there = Duplicate where_so is_there_already r e b in
+    let index = Index unless nat_lt i (length (r.values e)) in
+    let type = WrongType where_so is_mistyped r e b in
+    let one = none-else_by type (index else_by there else_by proxy else_by loaded else_by last) h in
+    let two = none-else_by index (there else_by proxy else_by loaded else_by last) one.1 in
+    let three = none-else_by there (proxy else_by loaded else_by last) two.1 in
+    let four = none-else_by proxy (loaded else_by last) three.1 in
+    none-unless Unresolved (is_some b) (none-else_by loaded last four.1).1
+
+pub unresolved : (r : Reading) (e : End) (i : ℕ) → resolve_refusal r e i None ≡ None → ⊥
+unresolved r e i h = false≢true (target-some r e i None h)
+
+pub resolvable : (r : Reading) (e : End) (i : ℕ) (o : ObjectNo) → resolve_refusal r e i (Some o) ≡ None → IsResolvable r e i o
+resolvable r e i o h =
+    let type = none-else_by _ _ h in
+    let index = none-else_by _ _ type.1 in
+    let there = none-else_by _ _ index.1 in
+    let proxy = none-else_by _ _ there.1 in
+    let typed = or-none (not (shape r.metamodel e.feature).is_reference) (not (takes r e.feature (value.Object o))) (none-where_so WrongType _ type.0) in
+    let stands = text-at (slice_get (r.values e) i) (none-unless NotProxy _ proxy.0) in
+    record {
+      reference = not-true _ typed.0;
+      low = none-unless Index _ index.0;
+      takes = not-true _ typed.1;
+      absent = none-where_so Duplicate _ there.0;
+      text = stands.0;
+      proxy = stands.1;
+    }
 
 -- a value is one of the feature's type, and short
 pub record IsTyped (r : Reading) (f : FeatureNo) (v : Value) : Type 0 where

@@ -73,7 +73,7 @@ one-bounded a = elim (int_le (pos 1) a.upper) as (λ b. (nat_le 1 LIST_VALUES &&
 
 ---------------------------------------------------------------- fewer values
 
-end-from : (r : Reading) (e : End) (vs : List Value) → has_feature r e.node e.feature ≡ true → list_all (is_legal_target r e.feature) vs ≡ true → is_bounded (shape_at r e) (length vs) ≡ true
+pub end-from : (r : Reading) (e : End) (vs : List Value) → has_feature r e.node e.feature ≡ true → list_all (is_legal_target r e.feature) vs ≡ true → is_bounded (shape_at r e) (length vs) ≡ true
     → is_legal_end r e vs ≡ true
 end-from r e [] has all bounded = refl
 end-from r e (v ∷ vs) has all bounded = and_from _ _ has (and_from _ _ all bounded)
@@ -298,6 +298,28 @@ takes-kept m x y f v kept h = by (lookups.feature m f) h
 abbrev pub IsUntouched : (Node → Bool) → End → List Value → Type 0
 IsUntouched g e [] = Unit {0}
 IsUntouched g e (v ∷ vs) = (g e.node ≡ false) × AllByRecursion (λ (w : Value). goes g w ≡ false) (v ∷ vs)
+
+-- where nothing goes
+abbrev pub none_goes : Node → Bool
+none_goes n = false
+
+none-gone : (v : Value) → goes none_goes v ≡ false
+none-gone value.Null = refl
+none-gone (value.Bool b) = refl
+none-gone (value.Int i) = refl
+none-gone (value.Text t) = refl
+none-gone (value.Literal i) = refl
+none-gone (value.Object o) = refl
+none-gone (value.Proxy t) = refl
+none-gone (value.Adapter a) = refl
+
+all-stay : (vs : List Value) → AllByRecursion (λ (w : Value). goes none_goes w ≡ false) vs
+all-stay [] = tt
+all-stay (v ∷ vs) = (none-gone v, all-stay vs)
+
+pub untouched-end : (e : End) (vs : List Value) → IsUntouched none_goes e vs
+untouched-end e [] = tt
+untouched-end e (v ∷ vs) = (refl, all-stay (v ∷ vs))
 
 list_all-kept : (p q : Value → Bool) (g : Node → Bool) → ((w : Value) → goes g w ≡ false → p w ≡ true → q w ≡ true) → (ws : List Value) → AllByRecursion (λ (w : Value). goes g w ≡ false) ws → list_all p ws ≡ true → list_all q ws ≡ true
 list_all-kept p q g kept [] stay h = refl

@@ -1,41 +1,35 @@
 -- A change that nothing refuses keeps a legal model legal.
-use Rattle.std.proofs.Common.{◌≡◌, ℕ, zero, suc, ◌≤◌, nat_le, nat_lt, insert, remove, eqb, nat_eq, Bool, true, false, ◌&&◌, ◌||◌, not, List, [], ◌∷◌, ◌++◌, filter, map, length, slice_index_or, slice_set, Option, Some, None, unwrap_or, option_map, if◌then◌else◌, refl, sym, ap, ◌∙◌, subst, arith, ◌<◌, IsTrue}
-use Rattle.std.specs.List.{All, AllByRecursion, IsDistinct, list_any}
-use Rattle.std.specs.Ordering.{nat_cmp}
-use Rattle.std.specs.FinMap as map
+use Rattle.std.proofs.Common.{◌≡◌, ℕ, zero, suc, ◌≤◌, nat_le, nat_lt, insert, remove, nat_eq, Bool, true, false, ◌&&◌, ◌||◌, not, List, [], ◌∷◌, ◌++◌, filter, map, length, slice_index_or, slice_set, Option, Some, None, unwrap_or, option_map, if◌then◌else◌, refl, sym, ap, ◌∙◌, subst, arith, ◌<◌, IsTrue}
+use Rattle.std.specs.List.{All, AllByRecursion, list_any}
 use Rattle.std.specs.Option.{option_map_or}
-use Rattle.std.proofs.lemmas.Bool.{and_from, false≢true}
+use Rattle.std.proofs.lemmas.Bool.{false≢true}
 use Rattle.std.proofs.lemmas.Bool.Decides.{nat_tests}
 use Rattle.std.proofs.lemmas.Option.{none-some}
 use Rattle.std.proofs.lemmas.List.{length-set, length-append}
-use Rattle.std.proofs.lemmas.List.Elements.{All-append, All-cons, All-nil, All-head, All-tail, All-set}
-use Rattle.mm_types.specs.Conditions.{◌where_so◌}
+use Rattle.std.proofs.lemmas.List.Elements.{All-append, All-cons, All-nil, All-set}
+use Rattle.mm_types.specs.Conditions.{◌unless◌, ◌where_so◌}
 use Rattle.mm_types.specs.Ends.{has_value}
 use Rattle.mm_types.specs.Lookups as lookups
 use Rattle.mm_types.specs.Resolved.{Metamodel}
-use Rattle.mm_types.specs.Shapes.{contents_shape, is_full_list, shape, shape_of}
-use Rattle.mm_types.specs.declared.feature.Feature.{Feature}
-use Rattle.mm_types.specs.declared.feature.Kind.{Kind}
-use Rattle.mm_types.specs.declared.feature.Kind.TheVariants.{Attribute, Reference}
+use Rattle.mm_types.specs.Shapes.{is_full_list, shape}
 use Rattle.mm_types.specs.declared.limits.TheConstants.{LIST_VALUES, OBJECTS, RESOURCES}
 use Rattle.mm_types.specs.declared.end.End.{End}
-use Rattle.mm_types.specs.declared.numbers.ClassNo.{ClassNo}
 use Rattle.mm_types.specs.declared.numbers.FeatureNo.{FeatureNo}
 use Rattle.mm_types.specs.declared.numbers.Node.{Node}
 use Rattle.mm_types.specs.declared.numbers.Node.TheVariants as node
 use Rattle.mm_types.specs.declared.numbers.ObjectNo.{ObjectNo}
-use Rattle.mm_types.specs.declared.refused.Refused.TheVariants.{Abstract, Bound, Limit}
+use Rattle.mm_types.specs.declared.numbers.ResourceNo.{ResourceNo}
+use Rattle.mm_types.specs.declared.refused.Refused.TheVariants.{Abstract, Bound, Limit, NoObject, NoResource}
 use Rattle.mm_types.specs.declared.value.Value.{Value}
 use Rattle.mm_types.specs.declared.value.Value.TheVariants as value
-use Rattle.mm_values.specs.Stored.{Stored, is_nothing, list_changed, nothing_stored}
-use Rattle.mm_values.specs.Values.{ObjectState, Objects, ValuesState, applied, change_list, class_of, object_at, put_stored, stored_under, with_changed, with_uri, without_object}
+use Rattle.mm_values.specs.Stored.{Stored, list_changed, nothing_stored}
+use Rattle.mm_values.specs.Values.{ObjectState, Objects, ValuesState, applied, change_list, class_of, object_at, stored_under, with_changed, with_uri, without_object}
 use Rattle.mm_types.specs.Lists.{shifted}
 use Rattle.mm_types.specs.Same.{same_object}
 use Rattle.containment.specs.Forest.{is_node_among, subtree}
 use Rattle.deletion.specs.Outer.{gone}
 use Rattle.mm_values.specs.declared.edit.ValueEdit.{ValueEdit}
 use Rattle.mm_values.specs.declared.edit.ValueEdit.TheVariants.{DropObject, InsertValue}
-use Rattle.mm_values.proofs.StoredIn.{get-with_stored, kept}
 use Rattle.link_store.specs.Holders.{HasNoCycle}
 use Rattle.link_store.specs.Laws.{goes, without_all}
 use Rattle.link_store.specs.LegalSets.{AreOfKind, IsLegalSet}
@@ -44,142 +38,39 @@ use Rattle.link_store.proofs.CycleLemmas.{plan_makes_no_cycle}
 use Rattle.link_store.proofs.GoneLemmas.{end-without_nodes}
 use Rattle.link_store.proofs.KindLemmas.{plan_keeps_kinds}
 use Rattle.link_store.proofs.LegalLemmas.{plan_keeps_legal}
-use Rattle.models.specs.Legal.{AreLegalLinks, AreLegalUris, IsLegal, IsLegalObject, IsLegalStored, IsUniqueList, is_legal_end, is_short, is_short_text, kinds_of}
+use Rattle.models.specs.Legal.{AreLegalLinks, AreLegalUris, IsLegal, IsLegalObject, IsLegalStored, is_legal_end, is_short_text, kinds_of}
 use Rattle.models.specs.Model.{Model, attribute_values, kept_values, reading}
-use Rattle.models.specs.Reading.{at_end, first_at, has_feature, is_repeat, place_for, takes}
+use Rattle.models.specs.Reading.{at_end, first_at, has_feature, has_resource, is_repeat, place_for, takes}
+use Rattle.resource_docs.specs.declared.doc.Doc.{Doc}
+use Rattle.loading.proofs.TypedLemmas.{read-typed}
 use Rattle.handshake.specs.declared.change.Change.{Change}
-use Rattle.handshake.specs.declared.change.Change.TheVariants.{Create, Set, Unset, Add, Remove, RemoveValue, Move, Delete, NewResource}
-use Rattle.handshake.specs.Displaced.{cut_by_new, cut_by_set, cut_ties, is_plain_add, is_plain_set}
+use Rattle.handshake.specs.declared.change.Change.TheVariants.{Create, Set, Unset, Add, Remove, RemoveValue, Move, Delete, NewResource, Resolve, Load}
+use Rattle.handshake.specs.Displaced.{cut_by_new, cut_by_set, cut_ties, is_plain_add, is_plain_set, tie_in}
 use Rattle.handshake.specs.Edits.{link_edits}
 use Rattle.handshake.specs.Effects.{add_value, after, links_after, put_by, put_under, take_value, value_edits, with_value}
 use Rattle.handshake.specs.Laws.{KeepsLegal, IsBrought, goes_with}
+use Rattle.handshake.specs.Plans.{HasReadDocument, IsDocument}
+use Rattle.handshake.specs.Tellings.{loaded_by}
 use Rattle.handshake.specs.Refusals.{early_refusal, gain_refusal, is_at_limit, is_full_at, late_refusal}
 use Rattle.handshake.proofs.CutTieLemmas.{left-cuts, values-linked}
 use Rattle.ties.specs.Laws.{names_of}
-use Rattle.handshake.proofs.KnownLemmas.{add-gains, add-named, add-taken, kinds-are, move-named, move-placed, none-else_by, none-unless, none-where_so, object-reference, remove-named, resource-keeps-none, set-named, set-taken, set-there, take-named, uri-taken}
-use Rattle.handshake.proofs.LegalEndLemmas.{HaveClasses, IsUntouched, cut-end, legal-end-kept, one-bounded, put-end, shifted-end}
+use Rattle.handshake.proofs.ResolveLemmas.{one-cut, resolved-legal}
+use Rattle.ties.specs.declared.tie.Tie.{Tie}
+use Rattle.handshake.proofs.KnownLemmas.{add-gains, add-named, add-taken, kinds-are, move-named, move-placed, none-else_by, none-unless, none-where_so, object-reference, remove-named, resolvable, resource-keeps-none, set-named, set-taken, set-there, take-named, uri-taken, unresolved}
+use Rattle.handshake.proofs.LegalEndLemmas.{HaveClasses, IsUntouched, cut-end, legal-end-kept, none_goes, put-end, shifted-end, untouched-end}
 use Rattle.handshake.proofs.LinkLemmas.{below-limit, near-empty, without_displaced}
+use Rattle.handshake.proofs.LoadEndLemmas.{linked-legal, no-fewer, same-classes}
+use Rattle.handshake.proofs.LoadLemmas.{few}
+use Rattle.handshake.proofs.LoadValueLemmas.{load-values}
 use Rattle.handshake.proofs.ListLegalLemmas.{insert-legal, move-legal, remove-legal}
 use Rattle.handshake.proofs.PlanLemmas.{add-new, add-place, below, plan-for, set-new}
 use Rattle.std.specs.Str.{bytes_eq}
 use Rattle.std.proofs.lemmas.Cmp.{nat_list_eq_equiv}
 use Rattle.std.proofs.lemmas.Map.Keys.{IsDistinct-push}
 use Rattle.web_uris.specs.Joined.{IsWebUri}
-
----------------------------------------------------------------- what an object keeps
-
-legal-at : {X : Type 0} (P : Option X → Type 0) (os : List (Option X)) (i : ℕ) → P None → All P os → P (slice_index_or os i None)
-legal-at P [] i none all = none
-legal-at P (o ∷ os) zero none all = All-head P o os all
-legal-at P (o ∷ os) (suc i) none all = legal-at P os i none (All-tail P o os all)
-
-flag-off : (a b : Bool) → false ≡ (a && (b && false))
-flag-off true true = refl
-flag-off true false = refl
-flag-off false b = refl
-
-flag-on : (a b : Bool) → b ≡ true → a ≡ (a && (b && true))
-flag-on true b h = sym h ∙ sym (and-true b)
-  where
-    and-true : (b : Bool) → (b && true) ≡ b
-    and-true true = refl
-    and-true false = refl
-flag-on false b h = refl
-
-unique-none : (b : Bool) → IsUniqueList b []
-unfolding IsDistinct
-unique-none true = tt
-unique-none false = tt
-
-unique-one : (b : Bool) (v : Value) → IsUniqueList b (v ∷ [])
-unfolding IsDistinct
-unique-one true v = (tt, tt)
-unique-one false v = tt
-
-same_number : (f g : FeatureNo) → f.0 ≡ g.0 → f ≡ g
-same_number f g e = ap (λ (n : ℕ). record { 0 = n }) e
-
--- what holds nothing is legal
-nothing-legal : (m : Metamodel) (c : ClassNo) (f : FeatureNo) → IsLegalStored m c f nothing_stored
-nothing-legal m c f = record { values = refl; unique = unique-none (shape m f).is_unique; flag = flag-off (shape m f).is_unsettable (shape m f).is_single }
-
-kept-of_kind : (m : Metamodel) (class : ObjectNo → Option ClassNo) (f : FeatureNo) (x : Feature) (k : Kind) (v : Value)
-    → (shape_of m f x k).is_reference ≡ false → lookups.is_of_kind m class (lookups.is_single x) k v ≡ true → lookups.is_of_attribute m (lookups.is_single x) k v ≡ true
-kept-of_kind m class f x (Attribute t unique unsettable default) v attribute h = h
-kept-of_kind m class f x (Reference target containment opposite) v attribute h = cc
-
--- what an attribute takes, it keeps
-keeps-taken : (m : Metamodel) (class : ObjectNo → Option ClassNo) (f : FeatureNo) (v : Value) → (shape m f).is_reference ≡ false → lookups.takes m class f v ≡ true → lookups.keeps m f v ≡ true
-keeps-taken m class f v attribute h = by (lookups.feature m f) attribute h
-  where
-    by : (q : Option Feature) → (option_map_or (λ g. shape_of m f g g.kind) q (contents_shape m)).is_reference ≡ false
-        → option_map_or (λ g. lookups.is_of_kind m class (lookups.is_single g) g.kind v) q (lookups.is_live_object class v) ≡ true
-        → option_map_or (λ g. lookups.is_of_attribute m (lookups.is_single g) g.kind v) q false ≡ true
-    by None attribute h = cc
-    by (Some g) attribute h = kept-of_kind m class f g g.kind v attribute h
-
--- one value of an attribute's type is legal
-one-legal : (m : Metamodel) (c : ClassNo) (f : FeatureNo) (v : Value) → (shape m f).is_single ≡ true → lookups.has_feature m c f ≡ true → lookups.keeps m f v ≡ true → is_short v ≡ true
-    → IsLegalStored m c f (record { list = v ∷ []; flag = (shape m f).is_unsettable })
-one-legal m c f v single has held short =
-    record {
-      values = and_from _ _ has (and_from _ _ (and_from _ _ (and_from _ _ held short) refl) (one-bounded (shape m f)));
-      unique = unique-one (shape m f).is_unique v;
-      flag = flag-on (shape m f).is_unsettable (shape m f).is_single single;
-    }
-
--- what is kept of it
-kept-legal : (m : Metamodel) (c : ClassNo) (f : FeatureNo) (h : Stored) → IsLegalStored m c f h → IsLegalStored m c f (unwrap_or (kept h) nothing_stored)
-kept-legal m c f h legal =
-    elim (is_nothing h) as (λ b. IsLegalStored m c f (unwrap_or (if b then None else Some h) nothing_stored)) [ true ↦ nothing-legal m c f | false ↦ legal ]
-
--- a new object holds nothing
-created : (m : Metamodel) (c : ClassNo) → lookups.is_concrete m c ≡ true → IsLegalObject m (Some (record { class = c; stored = map.empty }))
-created m c concrete = (concrete, λ f. subst (λ (h : Option Stored). IsLegalStored m c f (unwrap_or h nothing_stored)) (sym (map.get-empty nat_cmp f.0)) (nothing-legal m c f))
-
--- an object after something was put under a feature
-put-legal : (m : Metamodel) (o : ObjectState) (f : FeatureNo) (h : Stored) → IsLegalObject m (Some o) → IsLegalStored m o.class f h → IsLegalObject m (Some (put_stored f h o))
-put-legal m o f h legal held =
-    let at : (g : FeatureNo) (b : Bool) → eqb g.0 f.0 ≡ b → IsLegalStored m o.class g (unwrap_or (if b then kept h else map.get o.stored g.0) nothing_stored) =
-    λ g b. elim b as (λ b. eqb g.0 f.0 ≡ b → IsLegalStored m o.class g (unwrap_or (if b then kept h else map.get o.stored g.0) nothing_stored)) [
-      | true ↦ λ e. subst (λ (k : FeatureNo). IsLegalStored m o.class k (unwrap_or (kept h) nothing_stored)) (same_number f g (grind (arith, nat_tests))) (kept-legal m o.class f h held)
-      | false ↦ λ e. legal.1 g
-    ] in
-    (legal.0, λ g. subst (λ (r : Option Stored). IsLegalStored m o.class g (unwrap_or r nothing_stored)) (sym (get-with_stored o.stored f.0 h g.0)) (at g (eqb g.0 f.0) refl))
-
--- the object at a number after something was put for it that is legal for its class
-put-at : (m : Metamodel) (o : Option ObjectState) (f : FeatureNo) (h : Stored) → IsLegalObject m o → ((x : ObjectState) → o ≡ Some x → IsLegalStored m x.class f h) → IsLegalObject m (option_map (put_stored f h) o)
-put-at m None f h legal held = tt
-put-at m (Some o) f h legal held = put-legal m o f h legal (held o refl)
-
--- the class of the object there has the feature, where the object does
-has-of : (m : Metamodel) (o : Option ObjectState) (f : FeatureNo) (x : ObjectState) → o ≡ Some x → option_map_or (λ c. lookups.has_feature m c f) (option_map (λ (s : ObjectState). s.class) o) false ≡ true → lookups.has_feature m x.class f ≡ true
-has-of m o f x e has = subst (λ (o : Option ObjectState). option_map_or (λ c. lookups.has_feature m c f) (option_map (λ (s : ObjectState). s.class) o) false ≡ true) e has
+use Rattle.handshake.proofs.ObjectLegalLemmas.{class-append, class-put, created, has-of, keeps-taken, legal-at, nothing-legal, one-legal, put-at, put-legal}
 
 ---------------------------------------------------------------- the objects after a change
-
--- an object that comes leaves the others their classes
-class-append : (os ys : Objects) (i : ℕ) (c : ClassNo) → option_map (λ (x : ObjectState). x.class) (slice_index_or os i None) ≡ Some c
-    → option_map (λ (x : ObjectState). x.class) (slice_index_or (os ++ ys) i None) ≡ Some c
-class-append [] ys i c h = absurd (none-some c h)
-class-append (o ∷ os) ys zero c h = h
-class-append (o ∷ os) ys (suc i) c h = class-append os ys i c h
-
-put-class : (f : FeatureNo) (h : Stored) (o : Option ObjectState) → option_map (λ (x : ObjectState). x.class) (option_map (put_stored f h) o) ≡ option_map (λ (x : ObjectState). x.class) o
-put-class f h None = refl
-put-class f h (Some x) = refl
-
--- and so does what is put for one
-class-put : (f : FeatureNo) (h : Stored) (os : Objects) (k i : ℕ)
-    → option_map (λ (x : ObjectState). x.class) (slice_index_or (slice_set os k (option_map (put_stored f h) (slice_index_or os k None))) i None) ≡ option_map (λ (x : ObjectState). x.class) (slice_index_or os i None)
-class-put f h [] k i = refl
-class-put f h (o ∷ os) zero zero = put-class f h o
-class-put f h (o ∷ os) zero (suc i) = refl
-class-put f h (o ∷ os) (suc k) zero = refl
-class-put f h (o ∷ os) (suc k) (suc i) = class-put f h os k i
-
-abbrev none_goes : Node → Bool
-none_goes n = false
 
 -- legal objects and URIs, where each object of before that stays keeps its class, and each resource is still there
 record AreLegalValues (s : Model) (g : Node → Bool) (v : ValuesState) : Type 0 where
@@ -342,8 +233,22 @@ left-values s legal os =
       more = subst (λ (us : List (List ℕ)). length s.values.uris ≤ length us) (sym uris) (not-fewer s.values.uris);
     }
 
-values-after : (s : Model) (c : Change) → IsLegal s → early_refusal (reading s) c ≡ None → late_refusal (reading s) c ≡ None → IsBrought c → AreLegalValues s (goes_with (reading s) c) (applied s.values (value_edits (reading s) c))
-values-after s (Create c) legal early late brought =
+-- the objects of a document
+load-legal : (s : Model) (k : ResourceNo) (doc : Doc) → IsLegal s → late_refusal (reading s) (Load k doc) ≡ None → IsDocument s.metamodel doc → AreLegalValues s none_goes (after s (Load k doc)).values
+load-legal s k doc legal late read =
+    let made = load-values s.metamodel s.values doc (read-typed s.metamodel read.uri doc legal.metamodel read.read) legal.objects in
+    let room = few s k doc legal late in
+    let count = made.count in
+    record {
+      count = omega (arith, count, room);
+      objects = made.objects;
+      classes = same-classes s k doc legal late read (after s (Load k doc)).values made;
+      uris = subst AreLegalUris (sym made.uris) legal.uris;
+      more = no-fewer s k doc legal late read (after s (Load k doc)).values made;
+    }
+
+values-after : (s : Model) (c : Change) → IsLegal s → early_refusal (reading s) c ≡ None → late_refusal (reading s) c ≡ None → HasReadDocument s.metamodel c → IsBrought c → AreLegalValues s (goes_with (reading s) c) (applied s.values (value_edits (reading s) c))
+values-after s (Create c) legal early late read brought =
     let P = IsLegalObject s.metamodel in
     record {
       count = rw (length-append s.values.objects _) (grind (arith, nat_tests, none-unless Limit _ late));
@@ -352,12 +257,13 @@ values-after s (Create c) legal early late brought =
       uris = legal.uris;
       more = not-fewer s.values.uris;
     }
-values-after s (Delete o) legal early late brought = left-values s legal (subtree (reading s) o)
-values-after s (NewResource u) legal early late web =
+values-after s (Delete o) legal early late read brought = left-values s legal (subtree (reading s) o)
+values-after s (NewResource u) legal early late read web =
     let uri = uri-taken (reading s) u late in
     let us = with-new s.values.uris u legal.uris web uri.short uri.room uri.free in
     record { count = legal.count; objects = legal.objects; classes = λ o stays c h. h; uris = us.0; more = us.1 }
-values-after s (Set (node.Object o) f v) legal early late brought =
+values-after s (Resolve o f i b) legal early late read brought = same-values s legal
+values-after s (Set (node.Object o) f v) legal early late read brought =
     let m = s.metamodel in
     let ask = set-taken (reading s) (node.Object o) f v late in
     let h : Stored = record { list = v ∷ []; flag = (shape m f).is_unsettable } in
@@ -365,16 +271,16 @@ values-after s (Set (node.Object o) f v) legal early late brought =
       | true ↦ λ _. same-values s legal
       | false ↦ λ attribute. put-values s o f h legal (λ x e. one-legal m x.class f v (set-named (reading s) (node.Object o) f v early).single (has-of m _ f x e (set-there (reading s) (node.Object o) f v early)) (keeps-taken m (class_of s.values) f v attribute ask.takes) ask.short)
     ] refl
-values-after s (Set (node.Resource k) f v) legal early late brought =
+values-after s (Set (node.Resource k) f v) legal early late read brought =
     elim (shape s.metamodel f).is_reference as (λ b. AreLegalValues s none_goes (applied s.values (if b then [] else []))) [ true ↦ same-values s legal | false ↦ same-values s legal ]
-values-after s (Unset (node.Object o) f) legal early late brought =
+values-after s (Unset (node.Object o) f) legal early late read brought =
     elim (shape s.metamodel f).is_reference as (λ b. AreLegalValues s none_goes (applied s.values (if b then [] else put_under f [] false (node.Object o)))) [
       | true ↦ same-values s legal
       | false ↦ put-values s o f nothing_stored legal (λ x e. nothing-legal s.metamodel x.class f)
     ]
-values-after s (Unset (node.Resource k) f) legal early late brought =
+values-after s (Unset (node.Resource k) f) legal early late read brought =
     elim (shape s.metamodel f).is_reference as (λ b. AreLegalValues s none_goes (applied s.values (if b then [] else []))) [ true ↦ same-values s legal | false ↦ same-values s legal ]
-values-after s (Add (node.Object o) f v i) legal early late brought =
+values-after s (Add (node.Object o) f v i) legal early late read brought =
     let r = reading s in
     let e = at_end (node.Object o) f in
     let named = add-named r (node.Object o) f v i early in
@@ -383,12 +289,12 @@ values-after s (Add (node.Object o) f v i) legal early late brought =
       | true ↦ λ _. same-values s legal
       | false ↦ λ new. added-values s legal o f named.single named.there attribute v i late new
     ] refl)
-values-after s (Add (node.Resource k) f v i) legal early late brought = of-attribute s f _ legal (λ attribute. absurd (resource-keeps-none (reading s) k f (add-named (reading s) (node.Resource k) f v i early).there attribute))
-values-after s (Remove (node.Object o) f i) legal early late brought =
+values-after s (Add (node.Resource k) f v i) legal early late read brought = of-attribute s f _ legal (λ attribute. absurd (resource-keeps-none (reading s) k f (add-named (reading s) (node.Resource k) f v i early).there attribute))
+values-after s (Remove (node.Object o) f i) legal early late read brought =
     let named = remove-named (reading s) (node.Object o) f i early in
     of-attribute s f _ legal (λ attribute. taken-values s legal o f named.1 named.0 attribute i)
-values-after s (Remove (node.Resource k) f i) legal early late brought = of-attribute s f _ legal (λ attribute. absurd (resource-keeps-none (reading s) k f (remove-named (reading s) (node.Resource k) f i early).0 attribute))
-values-after s (RemoveValue (node.Object o) f v) legal early late brought =
+values-after s (Remove (node.Resource k) f i) legal early late read brought = of-attribute s f _ legal (λ attribute. absurd (resource-keeps-none (reading s) k f (remove-named (reading s) (node.Resource k) f i early).0 attribute))
+values-after s (RemoveValue (node.Object o) f v) legal early late read brought =
     let r = reading s in
     let e = at_end (node.Object o) f in
     let named = take-named r (node.Object o) f v early in
@@ -397,11 +303,12 @@ values-after s (RemoveValue (node.Object o) f v) legal early late brought =
       | None ↦ same-values s legal
       | Some i ↦ taken-values s legal o f named.single named.there attribute i
     ])
-values-after s (RemoveValue (node.Resource k) f v) legal early late brought = of-attribute s f _ legal (λ attribute. absurd (resource-keeps-none (reading s) k f (take-named (reading s) (node.Resource k) f v early).there attribute))
-values-after s (Move (node.Object o) f to from) legal early late brought =
+values-after s (RemoveValue (node.Resource k) f v) legal early late read brought = of-attribute s f _ legal (λ attribute. absurd (resource-keeps-none (reading s) k f (take-named (reading s) (node.Resource k) f v early).there attribute))
+values-after s (Move (node.Object o) f to from) legal early late read brought =
     let named = move-named (reading s) (node.Object o) f to from early in
     of-attribute s f _ legal (λ attribute. moved-values s legal o f named.1 named.0 attribute to from)
-values-after s (Move (node.Resource k) f to from) legal early late brought = of-attribute s f _ legal (λ attribute. absurd (resource-keeps-none (reading s) k f (move-named (reading s) (node.Resource k) f to from early).0 attribute))
+values-after s (Move (node.Resource k) f to from) legal early late read brought = of-attribute s f _ legal (λ attribute. absurd (resource-keeps-none (reading s) k f (move-named (reading s) (node.Resource k) f to from early).0 attribute))
+values-after s (Load k doc) legal early late read brought = load-legal s k doc legal late read
 
 ---------------------------------------------------------------- the links after a change
 
@@ -436,15 +343,16 @@ move-ends s n f to from legal late reference d =
     let linked = values-linked s e reference in
     shifted-end s e to from legal (below from _ (subst (λ (vs : List Value). nat_lt from (length vs) ≡ true) linked placed.1)) (below to _ (subst (λ (vs : List Value). nat_lt to (length vs) ≡ true) linked placed.0)) d
 
-ends-by-pairs : (s : Model) (c : Change) → IsLegal s → early_refusal (reading s) c ≡ None → late_refusal (reading s) c ≡ None → (d : End)
+-- of a change that loads nothing
+ends-by-pairs : (s : Model) (c : Change) → loaded_by c ≡ None → IsLegal s → early_refusal (reading s) c ≡ None → late_refusal (reading s) c ≡ None → (d : End)
     → is_legal_end (reading s) d (end (put_by (without_all s.links (names_of (cut_ties (reading s) c))) (reading s) c) d) ≡ true
-ends-by-pairs s (Create k) legal early late d = legal.links.ends d
-ends-by-pairs s (NewResource u) legal early late d = legal.links.ends d
-ends-by-pairs s (Delete o) legal early late d = cut-end s (names_of (cut_ties (reading s) (Delete o))) legal d
-ends-by-pairs s (Unset n f) legal early late d = cut-end s (names_of (cut_ties (reading s) (Unset n f))) legal d
-ends-by-pairs s (Remove n f i) legal early late d = cut-end s (names_of (cut_ties (reading s) (Remove n f i))) legal d
-ends-by-pairs s (RemoveValue n f v) legal early late d = cut-end s (names_of (cut_ties (reading s) (RemoveValue n f v))) legal d
-ends-by-pairs s (Set n f v) legal early late d =
+ends-by-pairs s (Create k) none legal early late d = legal.links.ends d
+ends-by-pairs s (NewResource u) none legal early late d = legal.links.ends d
+ends-by-pairs s (Delete o) none legal early late d = cut-end s (names_of (cut_ties (reading s) (Delete o))) legal d
+ends-by-pairs s (Unset n f) none legal early late d = cut-end s (names_of (cut_ties (reading s) (Unset n f))) legal d
+ends-by-pairs s (Remove n f i) none legal early late d = cut-end s (names_of (cut_ties (reading s) (Remove n f i))) legal d
+ends-by-pairs s (RemoveValue n f v) none legal early late d = cut-end s (names_of (cut_ties (reading s) (RemoveValue n f v))) legal d
+ends-by-pairs s (Set n f v) none legal early late d =
     let r = reading s in
     let e = at_end n f in
     let t : Bool → Links = λ b. without_all s.links (names_of (if b then [] else cut_by_set r e v)) in
@@ -452,7 +360,7 @@ ends-by-pairs s (Set n f v) legal early late d =
       | true ↦ λ _. legal.links.ends d
       | false ↦ λ new. set-ends s n f v legal early late new d
     ] refl
-ends-by-pairs s (Add n f v i) legal early late d =
+ends-by-pairs s (Add n f v i) none legal early late d =
     let r = reading s in
     let e = at_end n f in
     let t : Bool → Links = λ b. without_all s.links (names_of (if b then [] else cut_by_new r e v)) in
@@ -460,34 +368,25 @@ ends-by-pairs s (Add n f v i) legal early late d =
       | true ↦ λ _. legal.links.ends d
       | false ↦ λ new. add-ends s n f v i legal early late new d
     ] refl
-ends-by-pairs s (Move n f to from) legal early late d =
+ends-by-pairs s (Move n f to from) none legal early late d =
     elim (shape s.metamodel f).is_reference as (λ b. (shape s.metamodel f).is_reference ≡ b → is_legal_end (reading s) d (end (if b then shift s.links (at_end n f) to from else s.links) d) ≡ true) [
       | true ↦ λ reference. move-ends s n f to from legal late reference d
       | false ↦ λ _. legal.links.ends d
     ] refl
+ends-by-pairs s (Resolve o f i None) none legal early late d = absurd (unresolved (reading s) (at_end (node.Object o) f) i late)
+ends-by-pairs s (Resolve o f i (Some x)) none legal early late d =
+    let r = reading s in
+    let e = at_end (node.Object o) f in
+    let is = resolvable r e i x late in
+    let made : List Tie → Links = λ ts. with_value (without_all s.links (names_of ts)) r e (Some i) (value.Object x) in
+    subst (λ (b : Bool). is_legal_end r d (end (made (if b then tie_in r e i else [])) d) ≡ true) (sym is.reference)
+    (subst (λ (ts : List Tie). is_legal_end r d (end (made ts) d) ≡ true) (sym (one-cut s legal e i x is)) (resolved-legal s legal e i x is d))
+ends-by-pairs s (Load k doc) none legal early late d = absurd (none-some doc (sym none))
 
-ends-after : (s : Model) (c : Change) → IsLegal s → early_refusal (reading s) c ≡ None → late_refusal (reading s) c ≡ None → (d : End)
+ends-after : (s : Model) (c : Change) → loaded_by c ≡ None → IsLegal s → early_refusal (reading s) c ≡ None → late_refusal (reading s) c ≡ None → (d : End)
     → is_legal_end (reading s) d (end (links_after s.links (reading s) c) d) ≡ true
-ends-after s c legal early late d =
-    subst (λ (t : Links). is_legal_end (reading s) d (end (put_by t (reading s) c) d) ≡ true) (sym (left-cuts s c legal early)) (ends-by-pairs s c legal early late d)
-
-none-gone : (v : Value) → goes none_goes v ≡ false
-none-gone value.Null = refl
-none-gone (value.Bool b) = refl
-none-gone (value.Int i) = refl
-none-gone (value.Text t) = refl
-none-gone (value.Literal i) = refl
-none-gone (value.Object o) = refl
-none-gone (value.Proxy t) = refl
-none-gone (value.Adapter a) = refl
-
-all-stay : (vs : List Value) → AllByRecursion (λ (w : Value). goes none_goes w ≡ false) vs
-all-stay [] = tt
-all-stay (v ∷ vs) = (none-gone v, all-stay vs)
-
-untouched-end : (e : End) (vs : List Value) → IsUntouched none_goes e vs
-untouched-end e [] = tt
-untouched-end e (v ∷ vs) = (refl, all-stay (v ∷ vs))
+ends-after s c none legal early late d =
+    subst (λ (t : Links). is_legal_end (reading s) d (end (put_by t (reading s) c) d) ≡ true) (sym (left-cuts s c legal early)) (ends-by-pairs s c none legal early late d)
 
 -- what is left of an end does not go
 left-stays : (g : Node → Bool) (vs : List Value) → AllByRecursion (λ (w : Value). goes g w ≡ false) (filter (λ w. not (goes g w)) vs)
@@ -520,23 +419,42 @@ untouched-after s (Add n f v i) legal e = untouched-end e _
 untouched-after s (Remove n f i) legal e = untouched-end e _
 untouched-after s (RemoveValue n f v) legal e = untouched-end e _
 untouched-after s (Move n f to from) legal e = untouched-end e _
+untouched-after s (Load k doc) legal e = untouched-end e _
+untouched-after s (Resolve o f i b) legal e = untouched-end e _
 
-links-after : (s : Model) (c : Change) → IsLegal s → early_refusal (reading s) c ≡ None → late_refusal (reading s) c ≡ None → IsBrought c → AreLegalLinks (reading (after s c)) (links_after s.links (reading s) c)
-links-after s c legal early late brought =
+-- a load leaves legal ends, and so does each other change
+load-ends : (s : Model) (c : Change) (doc : Doc) → loaded_by c ≡ Some doc → IsLegal s → early_refusal (reading s) c ≡ None → late_refusal (reading s) c ≡ None → HasReadDocument s.metamodel c → (d : End)
+    → is_legal_end (reading (after s c)) d (end (after s c).links d) ≡ true
+load-ends s (Load k doc) x is legal early late read d =
+    let typed = read-typed s.metamodel read.uri doc legal.metamodel read.read in
+    let there = none-unless NoResource (has_resource (reading s) k) (none-else_by (NoObject unless true) (NoResource unless has_resource (reading s) k) early).1 in
+    linked-legal s k doc legal late read typed there (after s (Load k doc)).values (load-values s.metamodel s.values doc typed legal.objects) d
+load-ends s _ x is legal early late read d = absurd (none-some x is)
+
+ends-legal : (s : Model) (c : Change) → IsLegal s → early_refusal (reading s) c ≡ None → late_refusal (reading s) c ≡ None → HasReadDocument s.metamodel c → IsBrought c → (d : End) → is_legal_end (reading (after s c)) d (end (after s c).links d) ≡ true
+ends-legal s c legal early late read brought d =
+    elim (loaded_by c) as (λ q. loaded_by c ≡ q → is_legal_end (reading (after s c)) d (end (after s c).links d) ≡ true) [
+      | None ↦ λ none. (
+          let v = values-after s c legal early late read brought in
+          legal-end-kept (goes_with (reading s) c) s (after s c).values (after s c).links v.classes v.more d _ (untouched-after s c legal d) (ends-after s c none legal early late d))
+      | Some doc ↦ λ is. load-ends s c doc is legal early late read d
+    ] refl
+
+links-after : (s : Model) (c : Change) → IsLegal s → early_refusal (reading s) c ≡ None → late_refusal (reading s) c ≡ None → HasReadDocument s.metamodel c → IsBrought c → AreLegalLinks (reading (after s c)) (links_after s.links (reading s) c)
+links-after s c legal early late read brought =
     let m = kinds_of s.metamodel in
     let plan = link_edits (reading s) c in
-    let p = plan-for s c legal early late in
-    let v = values-after s c legal early late brought in
+    let p = plan-for s c legal early late read in
     record {
       set = subst IsLegalSet p.makes (plan_keeps_legal s.links plan legal.links.set p.fits);
       kinds = subst (AreOfKind m) p.makes (plan_keeps_kinds m (kinds-are s.metamodel legal.metamodel) s.links plan legal.links.kinds p.of_kind);
       forest = subst HasNoCycle p.makes (plan_makes_no_cycle s.links plan legal.links.set p.fits p.no_cycle legal.links.forest);
-      ends = λ d. legal-end-kept (goes_with (reading s) c) s (after s c).values (after s c).links v.classes v.more d _ (untouched-after s c legal d) (ends-after s c legal early late d);
+      ends = ends-legal s c legal early late read brought;
     }
 
 ---------------------------------------------------------------- both
 
 pub change-keeps-legal : (s : Model) (c : Change) → KeepsLegal s c
-change-keeps-legal s c legal early late brought =
-    let v = values-after s c legal early late brought in
-    record { metamodel = legal.metamodel; count = v.count; objects = v.objects; links = links-after s c legal early late brought; uris = v.uris }
+change-keeps-legal s c legal early late read brought =
+    let v = values-after s c legal early late read brought in
+    record { metamodel = legal.metamodel; count = v.count; objects = v.objects; links = links-after s c legal early late read brought; uris = v.uris }

@@ -11,12 +11,18 @@ pub mod LegalEndLemmas
 pub mod LegalLemmas
 mod LinkLemmas
 mod ListLegalLemmas
+mod LoadLemmas
 mod ListReplayLemmas
 mod LostLemmas
 mod DestroyLemmas
+pub mod LoadChainLemmas
+mod LoadEndLemmas
+mod LoadValueLemmas
 pub mod LossLemmas
+mod ObjectLegalLemmas
 pub mod PlanLemmas
 pub mod RelinkLemmas
 pub mod ReplayLemmas
+mod ResolveLemmas
 pub mod TellingLemmas
 pub mod TieNameLemmas

@@ -5,7 +5,9 @@ use Rattle.mm_types.specs.Shapes.{shape}
 use Rattle.mm_types.specs.declared.end.End.{End}
 use Rattle.mm_types.specs.declared.numbers.FeatureNo.{FeatureNo}
 use Rattle.mm_types.specs.declared.numbers.Node.{Node}
+use Rattle.mm_types.specs.declared.numbers.Node.TheVariants as node
 use Rattle.mm_types.specs.declared.numbers.ObjectNo.{ObjectNo}
+use Rattle.mm_types.specs.declared.numbers.ResourceNo.{ResourceNo}
 use Rattle.mm_types.specs.declared.value.Value.{Value}
 use Rattle.mm_types.specs.declared.value.Value.TheVariants as value
 use Rattle.link_store.specs.declared.plan.Edit.{Edit}
@@ -19,18 +21,24 @@ use Rattle.mm_values.specs.Values as values
 use Rattle.models.specs.Legal.{IsLegal, kinds_of}
 use Rattle.models.specs.Model.{Model, reading}
 use Rattle.models.specs.Reading.{at_end, is_repeat, place_for, shape_at}
+use Rattle.resource_docs.specs.declared.doc.Doc.{Doc}
+use Rattle.loading.specs.LoadEdits.{load_edits}
+use Rattle.loading.specs.Loading.{loaded_links, with_links}
+use Rattle.loading.proofs.KindLemmas.{read-kind}
 use Rattle.handshake.specs.declared.change.Change.{Change}
-use Rattle.handshake.specs.declared.change.Change.TheVariants.{Create, Set, Unset, Add, Remove, RemoveValue, Move, Delete, NewResource}
+use Rattle.handshake.specs.declared.change.Change.TheVariants.{Create, Set, Unset, Add, Remove, RemoveValue, Move, Delete, NewResource, Resolve, Load}
 use Rattle.handshake.specs.declared.planned.Planned.{Planned}
 use Rattle.ties.specs.declared.tie.Tie.{Tie}
 use Rattle.handshake.specs.Tellings.{chain}
-use Rattle.handshake.specs.Displaced.{cut_by_new, cut_by_set, cut_ties, has_already, is_plain_add, is_plain_set}
-use Rattle.handshake.specs.Edits.{cut_of, link_edits, made_edit, new_put}
+use Rattle.handshake.specs.Displaced.{cut_by_new, cut_by_set, cut_ties, has_already, is_plain_add, is_plain_set, tie_in}
+use Rattle.handshake.specs.Edits.{cut_of, link_edits, made_edits, new_put}
 use Rattle.handshake.specs.Effects.{links_after, put_by, value_edits, with_value}
-use Rattle.handshake.specs.Plans.{IsPlanOf}
+use Rattle.handshake.specs.Plans.{HasReadDocument, IsDocument, IsPlanOf}
 use Rattle.handshake.specs.Refusals.{early_refusal, late_refusal, link_refusal}
-use Rattle.handshake.proofs.KnownLemmas.{add-gains, add-named, add-taken, kinds-are, linkable, move-placed, set-named, set-taken}
+use Rattle.handshake.proofs.KnownLemmas.{IsResolvable, add-gains, add-named, add-taken, kinds-are, linkable, move-placed, resolvable, set-named, set-taken, unresolved}
+use Rattle.handshake.proofs.LoadLemmas.{load-makes}
 use Rattle.handshake.proofs.LinkLemmas.{IsNewLink, many-lacks, near-empty, near-same, new-fits, new-outside, new_edit, single-lacks, without_displaced}
+use Rattle.handshake.proofs.ResolveLemmas.{one-cut, resolve-fits, resolve-outside}
 use Rattle.handshake.proofs.CutTieLemmas.{cuts-once, cuts-there, left-cuts, plain-not, values-linked}
 use Rattle.ties.specs.Laws.{names_of}
 
@@ -131,15 +139,30 @@ move-puts s n f to from late reference =
     let low_from = subst (λ (vs : List Value). nat_lt from (length vs) ≡ true) linked placed.1 in
     record { fits = ((below from _ low_from, below to _ low_to), tt); of_kind = (tt, tt); no_cycle = (tt, tt); makes = refl }
 
-are-puts : (s : Model) (c : Change) → IsLegal s → early_refusal (reading s) c ≡ None → late_refusal (reading s) c ≡ None
-    → ArePuts s (without_all s.links (names_of (cut_ties (reading s) c))) (option_to_list (made_edit (reading s) c)) (put_by (without_all s.links (names_of (cut_ties (reading s) c))) (reading s) c)
-are-puts s (Create k) legal early late = no-puts s s.links
-are-puts s (NewResource u) legal early late = no-puts s s.links
-are-puts s (Delete o) legal early late = no-puts s _
-are-puts s (Unset n f) legal early late = no-puts s _
-are-puts s (Remove n f i) legal early late = no-puts s _
-are-puts s (RemoveValue n f v) legal early late = no-puts s _
-are-puts s (Set n f v) legal early late =
+-- of a proxy that is resolved
+resolve-puts : (s : Model) (legal : IsLegal s) (e : End) (i : ℕ) (o : ObjectNo) → IsResolvable (reading s) e i o
+    → ArePuts s (without_all s.links (names_of (tie_in (reading s) e i))) (option_to_list (new_put (reading s) e i (value.Object o))) (with_value (without_all s.links (names_of (tie_in (reading s) e i))) (reading s) e (Some i) (value.Object o))
+resolve-puts s legal e i o is =
+    let a = shape s.metamodel e.feature in
+    subst (λ (ts : List Tie). let t = without_all s.links (names_of ts) in ArePuts s t (new_edit s e i o ∷ []) (put t e i o a.opposite a.containing)) (sym (one-cut s legal e i o is))
+    (record { fits = (resolve-fits s legal e i o is, tt); of_kind = ((refl, refl), tt); no_cycle = (resolve-outside s legal e i o is, tt); makes = refl })
+
+-- of a document that is loaded
+load-puts : (s : Model) (k : ResourceNo) (doc : Doc) → IsLegal s → late_refusal (reading s) (Load k doc) ≡ None → IsDocument s.metamodel doc
+    → ArePuts s s.links (load_edits s.metamodel (length s.values.objects) k doc) (with_links s.links (loaded_links s.metamodel (length s.values.objects) k doc))
+load-puts s k doc legal late read =
+    let made = load-makes s k doc legal late read in
+    record { fits = made.fits; of_kind = read-kind s.metamodel read.uri doc (length s.values.objects) k read.read; no_cycle = made.no_cycle; makes = made.makes }
+
+are-puts : (s : Model) (c : Change) → IsLegal s → early_refusal (reading s) c ≡ None → late_refusal (reading s) c ≡ None → HasReadDocument s.metamodel c
+    → ArePuts s (without_all s.links (names_of (cut_ties (reading s) c))) (made_edits (reading s) c) (put_by (without_all s.links (names_of (cut_ties (reading s) c))) (reading s) c)
+are-puts s (Create k) legal early late read = no-puts s s.links
+are-puts s (NewResource u) legal early late read = no-puts s s.links
+are-puts s (Delete o) legal early late read = no-puts s _
+are-puts s (Unset n f) legal early late read = no-puts s _
+are-puts s (Remove n f i) legal early late read = no-puts s _
+are-puts s (RemoveValue n f v) legal early late read = no-puts s _
+are-puts s (Set n f v) legal early late read =
     let r = reading s in
     let e = at_end n f in
     let t : Bool → Links = λ b. without_all s.links (names_of (if b then [] else cut_by_set r e v)) in
@@ -147,7 +170,7 @@ are-puts s (Set n f v) legal early late =
       | true ↦ λ plain. no-puts s s.links
       | false ↦ λ new. set-puts s n f v legal early late new
     ] refl
-are-puts s (Add n f v i) legal early late =
+are-puts s (Add n f v i) legal early late read =
     let r = reading s in
     let e = at_end n f in
     let t : Bool → Links = λ b. without_all s.links (names_of (if b then [] else cut_by_new r e v)) in
@@ -155,12 +178,20 @@ are-puts s (Add n f v i) legal early late =
       | true ↦ λ plain. no-puts s s.links
       | false ↦ λ new. add-puts s n f v i legal early late new
     ] refl
-are-puts s (Move n f to from) legal early late =
+are-puts s (Move n f to from) legal early late read =
     let e = at_end n f in
     elim (shape s.metamodel f).is_reference as (λ b. (shape s.metamodel f).is_reference ≡ b → ArePuts s s.links (option_to_list (if b then Some (edit.Shift e to from) else None)) (if b then shift s.links e to from else s.links)) [
       | true ↦ λ reference. move-puts s n f to from late reference
       | false ↦ λ _. no-puts s s.links
     ] refl
+are-puts s (Resolve o f i None) legal early late read = absurd (unresolved (reading s) (at_end (node.Object o) f) i late)
+are-puts s (Resolve o f i (Some x)) legal early late read =
+    let r = reading s in
+    let e = at_end (node.Object o) f in
+    let is = resolvable r e i x late in
+    subst (λ (b : Bool). let t = without_all s.links (names_of (if b then tie_in r e i else [])) in ArePuts s t (option_to_list (new_put r e i (value.Object x))) (with_value t r e (Some i) (value.Object x))) (sym is.reference)
+    (resolve-puts s legal e i x is)
+are-puts s (Load k doc) legal early late read = load-puts s k doc legal late read
 
 ---------------------------------------------------------------- the whole plan
 
@@ -175,7 +206,7 @@ pub record IsPlanFor (s : Model) (c : Change) (xs : List Edit) : Type 0 where
   pub no_cycle : PlanMakesNoCycle s.links xs
   pub makes : applied s.links xs ≡ links_after s.links (reading s) c
 
-module _ (s : Model) (c : Change) (legal : IsLegal s) (early : early_refusal (reading s) c ≡ None) (late : late_refusal (reading s) c ≡ None) where
+module _ (s : Model) (c : Change) (legal : IsLegal s) (early : early_refusal (reading s) c ≡ None) (late : late_refusal (reading s) c ≡ None) (read : HasReadDocument s.metamodel c) where
   ts : List (End × Value)
   ts = names_of (cut_ties (reading s) c)
 
@@ -186,9 +217,9 @@ module _ (s : Model) (c : Change) (legal : IsLegal s) (early : early_refusal (re
       let ok = kinds-are s.metamodel legal.metamodel in
       let there = cuts-there s c legal early late in
       let once = cuts-once s c legal early late in
-      let xs = option_to_list (made_edit (reading s) c) in
+      let xs = made_edits (reading s) c in
       let cut : applied s.links (cut_edits ts) ≡ without_all s.links ts = applied-cut_edits m ok s.links ts legal.links.set legal.links.kinds there once in
-      let last = are-puts s c legal early late in
+      let last = are-puts s c legal early late read in
       let whole : IsPlanFor s c (cut_edits ts ++ xs) = record {
         fits = PlanFits-append s.links (cut_edits ts) xs (cuts_fit m ok s.links ts legal.links.set legal.links.kinds there once) (subst (λ (t : Links). PlanFits t xs) (sym cut) last.fits);
         of_kind = IsPlanOfKind-append m (cut_edits ts) xs (cuts_of_kind m ts) last.of_kind;
@@ -200,10 +231,10 @@ module _ (s : Model) (c : Change) (legal : IsLegal s) (early : early_refusal (re
       subst (λ (ys : List Edit). IsPlanFor s c (ys ++ xs)) (sym (cut_edits-pairs (cut_ties (reading s) c))) whole
 
 -- what planning gives, by its parts
-pub planned : (is_heard : Bool) (s : Model) (c : Change) (p : Planned) → IsLegal s → early_refusal (reading s) c ≡ None → late_refusal (reading s) c ≡ None
+pub planned : (is_heard : Bool) (s : Model) (c : Change) (p : Planned) → IsLegal s → early_refusal (reading s) c ≡ None → late_refusal (reading s) c ≡ None → HasReadDocument s.metamodel c
     → p.edits ≡ link_edits (reading s) c → p.values ≡ value_edits (reading s) c → p.chain ≡ (if is_heard then chain (reading s) c else []) → IsPlanOf is_heard s c p
-planned is_heard s c p legal early late edits lists tells =
-    let plan = subst (IsPlanFor s c) (sym edits) (plan-for s c legal early late) in
+planned is_heard s c p legal early late read edits lists tells =
+    let plan = subst (IsPlanFor s c) (sym edits) (plan-for s c legal early late read) in
     record {
       allowed = late;
       fits = plan.fits;

@@ -1,5 +1,5 @@
 -- Replaying what tellings report gives what they do.
-use Rattle.std.proofs.Common.{◌≡◌, zero, suc, nat_lt, pos, Bool, true, false, List, [], ◌∷◌, ◌++◌, length, remove, if◌then◌else◌, refl, ap, ◌∙◌, arith}
+use Rattle.std.proofs.Common.{◌≡◌, ℕ, zero, suc, nat_lt, pos, Bool, true, false, List, [], ◌∷◌, ◌++◌, length, remove, if◌then◌else◌, refl, ap, ◌∙◌, arith}
 use Rattle.std.proofs.lemmas.Bool.{lt-ltb}
 use Rattle.std.proofs.lemmas.Bool.Decides.{nat_tests}
 use Rattle.std.proofs.lemmas.List.Edits.{insert_end}
@@ -11,11 +11,11 @@ use Rattle.mm_types.specs.declared.end.End.{End}
 use Rattle.mm_types.specs.declared.value.Value.{Value}
 use Rattle.mm_types.specs.declared.value.Value.TheVariants as value
 use Rattle.notice_chain.specs.Kinds.{no_index}
-use Rattle.notice_chain.specs.Replay.{added, removed, replayed_all, replayed_in}
+use Rattle.notice_chain.specs.Replay.{added, removed, replayed_all, replayed_in, resolved}
 use Rattle.notice_chain.specs.declared.kind.NoticeKind.TheVariants as kind
 use Rattle.handshake.specs.Telling.{happened, happened_all, has_flag, notice, notice_of, telling, told, without}
 use Rattle.handshake.specs.declared.happening.Happening.{Happening}
-use Rattle.handshake.specs.declared.happening.Happening.TheVariants.{Gains, GainsAt, Loses, LosesAt, Unsets, Moves}
+use Rattle.handshake.specs.declared.happening.Happening.TheVariants.{Gains, GainsAt, Loses, LosesAt, Unsets, Moves, Resolves}
 use Rattle.handshake.specs.declared.happening.Telling.{Telling}
 
 ---------------------------------------------------------------- what tellings report is what they do
@@ -24,7 +24,7 @@ use Rattle.handshake.specs.declared.happening.Telling.{Telling}
 added-length : (vs : List Value) (v : Value) → added vs (pos (length vs)) v ≡ vs ++ v ∷ []
 added-length vs v = rw (lt-ltb (length vs) (suc (length vs)) (omega arith)) (insert_end vs v)
 
-replayed_in-gain : (m : Metamodel) (e : Ends) (x : End) (v : Value) → replayed_in (has_flag m) e (notice_of (shape m x.feature) x (Gains v) (e x)) ≡ happened m e (telling x (Gains v))
+pub replayed_in-gain : (m : Metamodel) (e : Ends) (x : End) (v : Value) → replayed_in (has_flag m) e (notice_of (shape m x.feature) x (Gains v) (e x)) ≡ happened m e (telling x (Gains v))
 replayed_in-gain m e x v =
     let a = shape m x.feature in
     let h = e x in
@@ -57,6 +57,15 @@ replayed_in-loss m e x v =
       | false ↦ ap (λ (vs : List Value). with_held e x (record { values = vs; flag = h.flag })) (removed-index h.values v)
     ]
 
+replayed_in-resolved : (m : Metamodel) (e : Ends) (x : End) (i : ℕ) (v : Value) → replayed_in (has_flag m) e (notice_of (shape m x.feature) x (Resolves i v) (e x)) ≡ happened m e (telling x (Resolves i v))
+replayed_in-resolved m e x i v =
+    let a = shape m x.feature in
+    let h = e x in
+    elim a.is_single as (λ b. replayed_in (has_flag m) e (notice a x h kind.Resolve (value_in h.values i) v (if b then no_index else pos i)) ≡ with_held e x (record { values = if b then v ∷ [] else resolved h.values (pos i) v; flag = h.flag })) [
+      | true ↦ refl
+      | false ↦ refl
+    ]
+
 replayed_in-notice_of : (m : Metamodel) (e : Ends) (x : End) (h : Happening) → replayed_in (has_flag m) e (notice_of (shape m x.feature) x h (e x)) ≡ happened m e (telling x h)
 replayed_in-notice_of m e x (Gains v) = replayed_in-gain m e x v
 replayed_in-notice_of m e x (Loses v) = replayed_in-loss m e x v
@@ -64,6 +73,7 @@ replayed_in-notice_of m e x (GainsAt i v) = refl
 replayed_in-notice_of m e x (LosesAt i) = refl
 replayed_in-notice_of m e x Unsets = refl
 replayed_in-notice_of m e x (Moves to from) = refl
+replayed_in-notice_of m e x (Resolves i v) = replayed_in-resolved m e x i v
 
 pub replayed_all-told : (m : Metamodel) (e : Ends) (ts : List Telling) → replayed_all (has_flag m) e (told m e ts) ≡ happened_all m e ts
 replayed_all-told m e [] = refl

@@ -1,5 +1,5 @@
 -- A link has a name at each of its ends. Two links share no single end, so a name that both have tells that they are one.
-use Rattle.std.proofs.Common.{◌≡◌, ℕ, zero, suc, ◌<◌, ◌≤◌, eq-eqb, eqb-true, Bool, if◌then◌else◌, arith, true, false, IsTrue, List, [], ◌∷◌, slice_get, Option, Some, None, option_map, option_to_list, refl, sym, ap, ◌∙◌, subst, inl, inr}
+use Rattle.std.proofs.Common.{◌≡◌, ℕ, zero, suc, ◌<◌, ◌≤◌, eq-eqb, eqb-true, Bool, if◌then◌else◌, arith, true, false, IsTrue, List, [], ◌∷◌, slice_get, Option, Some, None, option_to_list, refl, sym, ap, ◌∙◌, subst, inl, inr}
 use Rattle.std.specs.Prelude.{◌⊎◌}
 use Rattle.std.specs.List.{list_all}
 use Rattle.std.specs.Option.{option_map_or}

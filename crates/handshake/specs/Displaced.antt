@@ -7,6 +7,7 @@ use Rattle.mm_types.specs.Same.{node_value, same_end, same_value}
 use Rattle.mm_types.specs.declared.numbers.FeatureNo.{FeatureNo}
 use Rattle.mm_types.specs.declared.numbers.ObjectNo.{ObjectNo}
 use Rattle.mm_types.specs.declared.numbers.Node.{Node}
+use Rattle.mm_types.specs.declared.numbers.Node.TheVariants as node
 use Rattle.mm_types.specs.declared.end.End.{End}
 use Rattle.mm_types.specs.declared.value.Value.{Value}
 use Rattle.mm_types.specs.declared.value.Value.TheVariants as value
@@ -16,7 +17,7 @@ use Rattle.link_store.specs.Holders.{contained}
 use Rattle.models.specs.Reading.{Reading, at_end, is_repeat, shape_at, first_at, value_at}
 use Rattle.ties.specs.TreeTies.{tie, tree_ties}
 use Rattle.handshake.specs.declared.change.Change.{Change}
-use Rattle.handshake.specs.declared.change.Change.TheVariants.{Create, Set, Unset, Add, Remove, RemoveValue, Move, Delete, NewResource}
+use Rattle.handshake.specs.declared.change.Change.TheVariants.{Create, Set, Unset, Add, Remove, RemoveValue, Move, Delete, NewResource, Resolve, Load}
 
 -- the same link by its other end, if it has one
 abbrev pub other_side : Node → Value → Option FeatureNo → Option Tie
@@ -108,3 +109,5 @@ cut_ties r (RemoveValue n f v) = let e = at_end n f in if (shape_at r e).is_refe
 cut_ties r (Move n f to from) = []
 cut_ties r (Delete o) = tree_ties r o
 cut_ties r (NewResource u) = []
+cut_ties r (Resolve o f i b) = let e = at_end (node.Object o) f in if (shape_at r e).is_reference then tie_in r e i else []
+cut_ties r (Load k doc) = []

@@ -1,6 +1,7 @@
 -- The edits of links that make a change.
-use Rattle.std.specs.Prelude.{ℕ, List, ◌++◌, map, Option, Some, None, option_to_list, if◌then◌else◌}
+use Rattle.std.specs.Prelude.{ℕ, List, ◌++◌, map, Option, Some, None, option_and_then, option_to_list, if◌then◌else◌}
 use Rattle.mm_types.specs.declared.end.End.{End}
+use Rattle.mm_types.specs.declared.numbers.Node.TheVariants as node
 use Rattle.mm_types.specs.declared.value.Value.{Value}
 use Rattle.mm_types.specs.declared.value.Value.TheVariants as value
 use Rattle.link_store.specs.declared.plan.Edit.{Edit}
@@ -8,8 +9,9 @@ use Rattle.link_store.specs.declared.plan.Edit.TheVariants.{Put, Shift}
 use Rattle.link_store.specs.Laws.{cut_edit}
 use Rattle.models.specs.Reading.{Reading, at_end, place_for, shape_at}
 use Rattle.handshake.specs.declared.change.Change.{Change}
-use Rattle.handshake.specs.declared.change.Change.TheVariants.{Create, Set, Unset, Add, Remove, RemoveValue, Move, Delete, NewResource}
+use Rattle.handshake.specs.declared.change.Change.TheVariants.{Create, Set, Unset, Add, Remove, RemoveValue, Move, Delete, NewResource, Resolve, Load}
 use Rattle.ties.specs.declared.tie.Tie.{Tie}
+use Rattle.loading.specs.LoadEdits.{load_edits}
 use Rattle.handshake.specs.Displaced.{cut_ties, is_plain_add, is_plain_set}
 
 abbrev pub cut_of : Tie → Edit
@@ -31,6 +33,13 @@ made_edit r (RemoveValue n f v) = None
 made_edit r (Move n f to from) = let e = at_end n f in if (shape_at r e).is_reference then Some (Shift e to from) else None
 made_edit r (Delete o) = None
 made_edit r (NewResource u) = None
+made_edit r (Resolve o f i b) = option_and_then (λ x. new_put r (at_end (node.Object o) f) i (value.Object x)) b
+made_edit r (Load k doc) = None
+
+-- a load makes all links of its document
+abbrev pub made_edits : Reading → Change → List Edit
+made_edits r (Load k doc) = load_edits r.metamodel r.next k doc
+made_edits r c = option_to_list (made_edit r c)
 
 abbrev pub link_edits : Reading → Change → List Edit
-link_edits r c = map cut_of (cut_ties r c) ++ option_to_list (made_edit r c)
+link_edits r c = map cut_of (cut_ties r c) ++ made_edits r c

@@ -1,5 +1,5 @@
 -- What a change makes of values and of links.
-use Rattle.std.specs.Prelude.{ℕ, Bool, false, List, [], ◌∷◌, fold, length, map, Option, None, unwrap_or, if◌then◌else◌}
+use Rattle.std.specs.Prelude.{ℕ, Bool, false, List, [], ◌∷◌, fold, length, map, Option, Some, None, unwrap_or, if◌then◌else◌}
 use Rattle.std.specs.Option.{option_map_or}
 use Rattle.mm_types.specs.declared.numbers.FeatureNo.{FeatureNo}
 use Rattle.mm_types.specs.declared.numbers.ObjectNo.{ObjectNo}
@@ -17,8 +17,9 @@ use Rattle.models.specs.Model.{Model, reading}
 use Rattle.containment.specs.Forest.{subtree}
 use Rattle.deletion.specs.Outer.{gone}
 use Rattle.handshake.specs.declared.change.Change.{Change}
-use Rattle.handshake.specs.declared.change.Change.TheVariants.{Create, Set, Unset, Add, Remove, RemoveValue, Move, Delete, NewResource}
+use Rattle.handshake.specs.declared.change.Change.TheVariants.{Create, Set, Unset, Add, Remove, RemoveValue, Move, Delete, NewResource, Resolve, Load}
 use Rattle.ties.specs.declared.tie.Tie.{Tie}
+use Rattle.loading.specs.Loading.{loaded_links, loaded_values, with_links}
 use Rattle.handshake.specs.Displaced.{cut_ties, is_plain_add, is_plain_set}
 
 ---------------------------------------------------------------- values
@@ -60,6 +61,8 @@ value_edits r (RemoveValue n f v) = let e = at_end n f in if_attribute r e (take
 value_edits r (Move n f to from) = let e = at_end n f in if_attribute r e (of_object n (λ o. MoveValue o f to from))
 value_edits r (Delete o) = map DropObject (subtree r o)
 value_edits r (NewResource u) = NewUri u ∷ []
+value_edits r (Resolve o f i b) = []
+value_edits r (Load k doc) = loaded_values r.metamodel r.next doc
 
 ---------------------------------------------------------------- links
 
@@ -82,6 +85,8 @@ put_by s r (RemoveValue n f v) = s
 put_by s r (Move n f to from) = let e = at_end n f in if (shape_at r e).is_reference then shift s e to from else s
 put_by s r (Delete o) = s
 put_by s r (NewResource u) = s
+put_by s r (Resolve o f i b) = option_map_or (λ x. with_value s r (at_end (node.Object o) f) (Some i) (value.Object x)) b s
+put_by s r (Load k doc) = with_links s (loaded_links r.metamodel r.next k doc)
 
 -- the links that a change leaves: all but those that name an object that is destroyed, or but those that it cuts
 abbrev pub links_left : Links → Reading → Change → Links

@@ -1,9 +1,10 @@
 -- What holds of every change of a legal model that nothing refuses.
-use Rattle.std.specs.Prelude.{◌≡◌, Bool, true, false, not, IsFalse, List, [], ◌∷◌, ◌++◌, None}
+use Rattle.std.specs.Prelude.{◌≡◌, Bool, true, false, not, nat_le, IsFalse, List, [], ◌∷◌, ◌++◌, None}
 use Rattle.std.specs.List.{AllByRecursion}
 use Rattle.mm_types.specs.declared.end.End.{End}
 use Rattle.mm_types.specs.declared.numbers.FeatureNo.{FeatureNo}
 use Rattle.mm_types.specs.declared.numbers.Node.{Node}
+use Rattle.mm_types.specs.declared.numbers.Node.TheVariants as node
 use Rattle.web_uris.specs.Joined.{IsWebUri}
 use Rattle.models.specs.Legal.{IsLegal}
 use Rattle.models.specs.Model.{Model, reading}
@@ -11,12 +12,13 @@ use Rattle.models.specs.Reading.{Reading, at_end, held_at, shape_at}
 use Rattle.deletion.specs.Outer.{gone}
 use Rattle.notice_chain.specs.Replay.{replayed_all}
 use Rattle.handshake.specs.declared.change.Change.{Change}
-use Rattle.handshake.specs.declared.change.Change.TheVariants.{Delete, NewResource, Unset}
+use Rattle.handshake.specs.declared.change.Change.TheVariants.{Delete, Load, NewResource, Unset}
 use Rattle.handshake.specs.declared.happening.Happening.TheVariants.{Unsets}
 use Rattle.handshake.specs.declared.happening.Telling.{Telling}
 use Rattle.ties.specs.declared.tie.Tie.{Tie}
 use Rattle.handshake.specs.Displaced.{cut_ties, same_link}
 use Rattle.handshake.specs.Effects.{after}
+use Rattle.handshake.specs.Plans.{HasReadDocument}
 use Rattle.handshake.specs.Refusals.{early_refusal, late_refusal}
 use Rattle.handshake.specs.Telling.{has_flag, telling}
 use Rattle.handshake.specs.Tellings.{chain, far_losses, tellings}
@@ -32,21 +34,27 @@ IsBrought _ = Unit {0}
 
 -- it leaves a legal model
 abbrev pub KeepsLegal : Model → Change → Type 0
-KeepsLegal = OfAllowed (λ s c. IsBrought c → IsLegal (after s c))
+KeepsLegal = OfAllowed (λ s c. HasReadDocument s.metamodel c → IsBrought c → IsLegal (after s c))
 
 -- a node is one of the objects that a change destroys
 abbrev pub goes_with : Reading → Change → Node → Bool
 goes_with r (Delete o) n = gone r o n
 goes_with r _ n = false
 
--- its chain, replayed at each end of a node that it doesn't destroy, gives what the end holds after it
-abbrev pub ChainReplays : Model → Change → Type 0
-ChainReplays = OfAllowed (λ s c. (d : End) → goes_with (reading s) c d.node ≡ false → replayed_all (has_flag s.metamodel) (held_at (reading s)) (chain (reading s) c) d ≡ held_at (reading (after s c)) d)
+-- a node is one of the objects that a change makes with their values, or has a number behind theirs
+abbrev pub comes_with : Reading → Change → Node → Bool
+comes_with r (Load k doc) (node.Object o) = nat_le r.next o.0
+comes_with r _ n = false
 
--- a change that may take several values out of one list
+-- its chain, replayed at each end of a node that it neither destroys nor makes with its values, gives what the end holds after it
+abbrev pub ChainReplays : Model → Change → Type 0
+ChainReplays = OfAllowed (λ s c. HasReadDocument s.metamodel c → (d : End) → goes_with (reading s) c d.node ≡ false → comes_with (reading s) c d.node ≡ false → replayed_all (has_flag s.metamodel) (held_at (reading s)) (chain (reading s) c) d ≡ held_at (reading (after s c)) d)
+
+-- a change that may take several values out of one list, or put several in
 abbrev pub takes_many : Reading → Change → Bool
 takes_many r (Unset n f) = not (shape_at r (at_end n f)).is_single
 takes_many r (Delete o) = true
+takes_many r (Load k doc) = true
 takes_many r _ = false
 
 -- no end is told twice
@@ -54,7 +62,7 @@ abbrev pub AreApart : List Telling → Type 0
 AreApart [] = Unit {0}
 AreApart (t ∷ ts) = AllByRecursion (λ (u : Telling). t.at ≡ u.at → ⊥) ts × AreApart ts
 
--- but a list that is unset, which is told last, value by value, and the lists that hold what is destroyed
+-- but a list that is unset, which is told last, value by value, the lists that hold what is destroyed, and that of the roots of a load
 abbrev pub TellsNoEndTwice : Model → Change → Type 0
 TellsNoEndTwice = OfAllowed (λ s c. IsFalse (takes_many (reading s) c) → AreApart (tellings (reading s) c))
 

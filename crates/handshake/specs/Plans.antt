@@ -1,16 +1,36 @@
 -- What planning a change gives.
-use Rattle.std.specs.Prelude.{◌≡◌, Bool, true, false, MatchBool, [], Some, None, Result, Ok, Err, if◌then◌else◌}
+use Rattle.std.specs.Prelude.{◌≡◌, ℕ, Bool, true, false, MatchBool, List, [], Some, None, Result, Ok, Err, if◌then◌else◌}
+use Rattle.mm_types.specs.Resolved.{Metamodel}
 use Rattle.mm_types.specs.declared.refused.Refused.{Refused}
 use Rattle.mm_types.specs.declared.refused.Refused.TheVariants.{Memory}
 use Rattle.mm_values.specs.Values as values
 use Rattle.link_store.specs.Plans as links
 use Rattle.models.specs.Legal.{kinds_of}
 use Rattle.models.specs.Model.{Model, reading}
+use Rattle.loading.specs.Fits.{IsFitting}
+use Rattle.resource_docs.specs.Causes.{IsRead}
+use Rattle.resource_docs.specs.declared.doc.Doc.{Doc}
 use Rattle.handshake.specs.declared.change.Change.{Change}
+use Rattle.handshake.specs.declared.change.Change.TheVariants.{Load}
 use Rattle.handshake.specs.declared.planned.Planned.{Planned}
 use Rattle.handshake.specs.Effects.{after}
 use Rattle.handshake.specs.Refusals.{late_refusal}
 use Rattle.handshake.specs.Tellings.{chain}
+
+-- a document as reading gives it, in a resource of some URI
+pub record IsDocument (m : Metamodel) (doc : Doc) : Type 0 where
+  pub uri : List ℕ
+  pub read : IsRead m uri doc
+
+-- the document that is loaded is one that reading gives
+abbrev pub HasReadDocument : Metamodel → Change → Type 0
+HasReadDocument m (Load k doc) = IsDocument m doc
+HasReadDocument m _ = Unit {0}
+
+-- the objects of a document that is loaded get numbers within the limit, where the first one gets n
+abbrev pub HasFittingDocument : ℕ → Change → Type 0
+HasFittingDocument n (Load k doc) = IsFitting n doc
+HasFittingDocument n _ = Unit {0}
 
 abbrev pub is_memory_refusal : Refused → Bool
 is_memory_refusal Memory = true

@@ -1,25 +1,31 @@
 -- Why a change is refused: by what it names, by a value's type or length, an index, a repeated value, a full end, a cycle of parts, or a
 -- limit. What is looked for after is the repository's.
-use Rattle.std.specs.Prelude.{ℕ, ◌&&◌, ◌||◌, Bool, false, List, length, nat_le, nat_lt, Option, None, is_some, if◌then◌else◌}
+use Rattle.std.specs.Prelude.{ℕ, ◌+◌, ◌&&◌, ◌||◌, Bool, false, not, List, length, nat_le, nat_lt, slice_get, Option, None, is_some, option_and_then, if◌then◌else◌}
 use Rattle.std.specs.Option.{option_map_or}
 use Rattle.mm_types.specs.Conditions.{◌unless◌, ◌where_so◌, ◌else_by◌}
+use Rattle.mm_types.specs.Ends.{has_value}
 use Rattle.mm_types.specs.Same.{same_feature}
 use Rattle.mm_types.specs.Shapes.{is_full_list}
 use Rattle.mm_types.specs.declared.limits.TheConstants.{LIST_VALUES, OBJECTS, RESOURCES}
 use Rattle.mm_types.specs.declared.numbers.FeatureNo.{FeatureNo}
 use Rattle.mm_types.specs.declared.numbers.ObjectNo.{ObjectNo}
+use Rattle.mm_types.specs.declared.numbers.ResourceNo.{ResourceNo}
 use Rattle.mm_types.specs.declared.numbers.Node.TheVariants as node
 use Rattle.mm_types.specs.declared.end.End.{End}
 use Rattle.mm_types.specs.declared.refused.Refused.{Refused}
-use Rattle.mm_types.specs.declared.refused.Refused.TheVariants.{WrongType, TextLength, Index, Duplicate, Bound, Recursive, Limit, ResourceExists}
+use Rattle.mm_types.specs.declared.refused.Refused.TheVariants.{WrongType, TextLength, Index, Duplicate, Bound, Recursive, Limit, ResourceExists, NotEmpty, NotProxy, Unloaded, Unresolved}
 use Rattle.mm_types.specs.declared.value.Value.{Value}
 use Rattle.mm_types.specs.declared.value.Value.TheVariants as value
+use Rattle.web_uris.specs.Addresses.{uri_part}
+use Rattle.link_store.specs.Links.{text_of}
 use Rattle.models.specs.Reading.{Reading, at_end, has_uri, is_repeat, is_within, place_for, shape_at, takes}
 use Rattle.models.specs.Legal.{is_short, is_short_text}
+use Rattle.loading.specs.Loading.{is_empty_resource}
+use Rattle.resource_docs.specs.declared.doc.Doc.{Doc}
 use Rattle.handshake.specs.Named.{class_refusal, feature_refusal, many_refusal, node_refusal, single_refusal, value_refusal}
 use Rattle.handshake.specs.Displaced.{has_already, opposite_end}
 use Rattle.handshake.specs.declared.change.Change.{Change}
-use Rattle.handshake.specs.declared.change.Change.TheVariants.{Create, Set, Unset, Add, Remove, RemoveValue, Move, Delete, NewResource}
+use Rattle.handshake.specs.declared.change.Change.TheVariants.{Create, Set, Unset, Add, Remove, RemoveValue, Move, Delete, NewResource, Resolve, Load}
 
 -- why a value is not one of a feature
 abbrev pub type_refusal : Reading → FeatureNo → Value → Option Refused
@@ -80,6 +86,34 @@ uri_refusal r u =
     Limit unless nat_lt (length r.uris) RESOURCES else_by
     ResourceExists where_so has_uri r u
 
+-- the object at a proxy's address is not one of the feature's type, or the feature is an attribute
+abbrev pub is_mistyped : Reading → End → Option ObjectNo → Bool
+is_mistyped r e b = not (shape_at r e).is_reference || option_map_or (λ x. not (takes r e.feature (value.Object x))) b false
+
+-- the object at a proxy's address stands in the list already
+abbrev pub is_there_already : Reading → End → Option ObjectNo → Bool
+is_there_already r e b = option_map_or (λ x. has_value (r.values e) (value.Object x)) b false
+
+-- the text of the proxy at a place, if one stands there
+abbrev pub proxy_at : Reading → End → ℕ → Option (List ℕ)
+proxy_at r e i = option_and_then text_of (slice_get (r.values e) i)
+
+-- why the proxy at a place can't be resolved to the object at its address, if there is one
+abbrev pub resolve_refusal : Reading → End → ℕ → Option ObjectNo → Option Refused
+resolve_refusal r e i b =
+    WrongType where_so is_mistyped r e b else_by
+    Index unless nat_lt i (count_at r e) else_by
+    Duplicate where_so is_there_already r e b else_by
+    NotProxy unless is_some (proxy_at r e i) else_by
+    Unloaded where_so option_map_or (λ t. not (has_uri r (uri_part t))) (proxy_at r e i) false else_by
+    Unresolved unless is_some b
+
+-- why a document can't be loaded into a resource
+abbrev pub load_refusal : Reading → ResourceNo → Doc → Option Refused
+load_refusal r k doc =
+    Limit unless nat_le (r.next + length doc.objects) OBJECTS else_by
+    NotEmpty unless is_empty_resource r k
+
 -- why it is refused before anything is planned
 abbrev pub early_refusal : Reading → Change → Option Refused
 early_refusal r (Create c) = class_refusal r.metamodel c
@@ -91,6 +125,8 @@ early_refusal r (RemoveValue n f v) = value_refusal r n f v else_by many_refusal
 early_refusal r (Move n f to from) = feature_refusal r n f else_by many_refusal r.metamodel f
 early_refusal r (Delete o) = node_refusal r (node.Object o)
 early_refusal r (NewResource u) = None
+early_refusal r (Resolve o f i b) = feature_refusal r (node.Object o) f
+early_refusal r (Load k doc) = node_refusal r (node.Resource k)
 
 -- why one that is not is refused when it is planned
 abbrev pub late_refusal : Reading → Change → Option Refused
@@ -108,3 +144,5 @@ late_refusal r (RemoveValue n f v) = type_refusal r f v
 late_refusal r (Move n f to from) = Index unless (nat_lt to (count_at r (at_end n f)) && nat_lt from (count_at r (at_end n f)))
 late_refusal r (Delete o) = None
 late_refusal r (NewResource u) = uri_refusal r u
+late_refusal r (Resolve o f i b) = resolve_refusal r (at_end (node.Object o) f) i b
+late_refusal r (Load k doc) = load_refusal r k doc

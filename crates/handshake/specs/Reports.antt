@@ -1,12 +1,14 @@
 -- What is reported of an end, as a notice.
-use Rattle.std.specs.Prelude.{pos, if◌then◌else◌}
+use Rattle.std.specs.Prelude.{ℕ, pos, nat_lt, Some, if◌then◌else◌}
 use Rattle.mm_types.specs.declared.end.End.{End}
+use Rattle.mm_types.specs.declared.numbers.ObjectNo.{ObjectNo}
 use Rattle.mm_types.specs.declared.value.Value.TheVariants as value
 use Rattle.notice_chain.specs.Kinds.{no_index}
 use Rattle.notice_chain.specs.declared.kind.NoticeKind.TheVariants as kind
 use Rattle.notice_chain.specs.declared.notice.Notice.{Notice}
 use Rattle.models.specs.Reading.{Reading, held_at, shape_at}
 use Rattle.deletion.specs.declared.loss.Loss.{Loss}
+use Rattle.loading.specs.Loading.{loaded}
 use Rattle.handshake.specs.declared.chain.Report.{Report}
 use Rattle.handshake.specs.Telling.{notice}
 
@@ -20,3 +22,16 @@ lost_notice r l =
     if (shape_at r l.end).is_single
     then notice (shape_at r l.end) l.end (held_at r l.end) kind.Set l.value value.Null no_index
     else notice (shape_at r l.end) l.end (held_at r l.end) kind.Remove l.value value.Null (pos l.position)
+
+-- the notice that an end gains a root of a document behind so many others: it was set where there were any
+abbrev pub root_notice : ℕ → End → ℕ × ObjectNo → Notice
+root_notice n e x =
+    record {
+      notifier = e.node;
+      feature = Some e.feature;
+      kind = kind.Add;
+      old_value = value.Null;
+      new_value = value.Object (loaded n x.1);
+      position = pos x.0;
+      was_set = nat_lt 0 x.0;
+    }

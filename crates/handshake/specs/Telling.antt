@@ -13,9 +13,9 @@ use Rattle.notice_chain.specs.declared.kind.NoticeKind.TheVariants as kind
 use Rattle.notice_chain.specs.declared.notice.Notice.{Notice}
 use Rattle.models.specs.Reading.{Reading, held_at, shape_at}
 use Rattle.notice_chain.specs.Kinds.{no_index}
-use Rattle.notice_chain.specs.Replay.{added, moved, removed, replayed_in}
+use Rattle.notice_chain.specs.Replay.{added, moved, removed, replayed_in, resolved}
 use Rattle.handshake.specs.declared.happening.Happening.{Happening}
-use Rattle.handshake.specs.declared.happening.Happening.TheVariants.{Gains, GainsAt, Loses, LosesAt, Unsets, Moves}
+use Rattle.handshake.specs.declared.happening.Happening.TheVariants.{Gains, GainsAt, Loses, LosesAt, Unsets, Moves, Resolves}
 use Rattle.handshake.specs.declared.happening.Telling.{Telling}
 
 abbrev pub telling : End → Happening → Telling
@@ -39,6 +39,7 @@ notice_of a e (Loses v) h =
 notice_of a e (LosesAt i) h = notice a e h kind.Remove (value_in h.values i) value.Null (pos i)
 notice_of a e Unsets h = notice a e h kind.Unset (value_in h.values 0) a.default no_index
 notice_of a e (Moves to from) h = notice a e h kind.Move (value.Int (pos from)) (value_in h.values from) (pos to)
+notice_of a e (Resolves i v) h = notice a e h kind.Resolve (value_in h.values i) v (if a.is_single then no_index else pos i)
 
 -- the notice of a telling, read in a model
 abbrev pub notice_at : Reading → Telling → Notice
@@ -70,6 +71,7 @@ changed a (Loses v) vs = if a.is_single then value.Null ∷ [] else without vs v
 changed a (LosesAt i) vs = removed vs (pos i)
 changed a Unsets vs = a.default ∷ []
 changed a (Moves to from) vs = moved vs (pos from) (pos to)
+changed a (Resolves i v) vs = if a.is_single then v ∷ [] else resolved vs (pos i) v
 
 -- the flag after it: a gain or loss of a single end turns it on, where there is one, and unsetting turns it off
 abbrev pub flagged : Shape → Happening → Bool → Bool
@@ -79,6 +81,7 @@ flagged a (Loses v) b = if a.is_single then a.is_unsettable else b
 flagged a (LosesAt i) b = b
 flagged a Unsets b = false
 flagged a (Moves to from) b = b
+flagged a (Resolves i v) b = b
 
 abbrev pub happened : Metamodel → Ends → Telling → Ends
 happened m e t =

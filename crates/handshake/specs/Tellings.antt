@@ -5,16 +5,19 @@ use Rattle.mm_types.specs.Same.{node_value, same_end}
 use Rattle.mm_types.specs.Shapes.{is_containment}
 use Rattle.mm_types.specs.declared.numbers.Node.TheVariants as node
 use Rattle.mm_types.specs.declared.numbers.ObjectNo.{ObjectNo}
+use Rattle.mm_types.specs.declared.numbers.ResourceNo.{ResourceNo}
 use Rattle.mm_types.specs.declared.end.End.{End}
 use Rattle.mm_types.specs.declared.value.Value.{Value}
 use Rattle.mm_types.specs.declared.value.Value.TheVariants as value
 use Rattle.notice_chain.specs.declared.notice.Notice.{Notice}
 use Rattle.models.specs.Reading.{Reading, at_end, first_at, held_at, is_repeat, shape_at}
+use Rattle.resource_docs.specs.declared.doc.Doc.{Doc}
+use Rattle.loading.specs.Loading.{contents_end, roots_loaded}
 use Rattle.deletion.specs.Losses.{is_lost}
 use Rattle.deletion.specs.Outer.{touched_ends}
 use Rattle.handshake.specs.declared.change.Change.{Change}
-use Rattle.handshake.specs.declared.change.Change.TheVariants.{Create, Set, Unset, Add, Remove, RemoveValue, Move, Delete, NewResource}
-use Rattle.handshake.specs.declared.happening.Happening.TheVariants.{Gains, GainsAt, Loses, LosesAt, Unsets, Moves}
+use Rattle.handshake.specs.declared.change.Change.TheVariants.{Create, Set, Unset, Add, Remove, RemoveValue, Move, Delete, NewResource, Resolve, Load}
+use Rattle.handshake.specs.declared.happening.Happening.TheVariants.{Gains, GainsAt, Loses, LosesAt, Unsets, Moves, Resolves}
 use Rattle.handshake.specs.declared.happening.Happening.{Happening}
 use Rattle.handshake.specs.declared.happening.Telling.{Telling}
 use Rattle.ties.specs.declared.tie.Tie.{Tie}
@@ -90,6 +93,11 @@ abbrev pub destroyed_by : Change → Option ObjectNo
 destroyed_by (Delete o) = Some o
 destroyed_by _ = None
 
+-- the document that a change loads
+abbrev pub loaded_by : Change → Option Doc
+loaded_by (Load k doc) = Some doc
+loaded_by _ = None
+
 -- what an end of another node loses with an object and all that is below it, in order
 abbrev pub lost_with : Reading → ObjectNo → End → List Telling
 lost_with r o d = map (λ v. telling d (Loses v)) (filter (is_lost r o d) (r.values d))
@@ -99,6 +107,10 @@ abbrev pub destroyed : Reading → ObjectNo → List Telling
 destroyed r o =
     flat_map (lost_with r o) (touched_ends r o)
     ++ map (λ d. telling d (Loses (value.Object o))) (option_to_list (r.holder (node.Object o)))
+
+-- the list of a resource's roots gains each root of a document, in order
+abbrev pub loaded : Reading → ResourceNo → Doc → List Telling
+loaded r k doc = map (λ v. telling (contents_end r.metamodel k) (Gains v)) (roots_loaded r.next doc)
 
 -- a change that cuts these links
 abbrev pub tellings_with : Reading → Change → List Tie → List Telling
@@ -111,6 +123,8 @@ tellings_with r (RemoveValue n f v) ts = value_taken_out r (at_end n f) ts v
 tellings_with r (Move n f to from) ts = telling (at_end n f) (Moves to from) ∷ []
 tellings_with r (Delete o) ts = destroyed r o
 tellings_with r (NewResource u) ts = []
+tellings_with r (Resolve o f i b) ts = option_map_or (λ x. telling (at_end (node.Object o) f) (Resolves i (value.Object x)) ∷ []) b []
+tellings_with r (Load k doc) ts = loaded r k doc
 
 abbrev pub tellings : Reading → Change → List Telling
 tellings r c = tellings_with r c (cut_ties r c)

@@ -8,7 +8,7 @@ ghost use Rattle.deletion.specs.Losses.{losses as losses_of};
 ghost use Rattle.models.specs.Reading.{is_live};
 ghost use Rattle.handshake.specs.Reports.{lost_notice as lost_notice_of, reported};
 ghost use Rattle.handshake.specs.Telling.{notice_at, telling};
-ghost use Rattle.handshake.specs.declared.happening.Happening.TheVariants.{Gains, Loses, Unsets};
+ghost use Rattle.handshake.specs.declared.happening.Happening.TheVariants.{Gains, Loses, Resolves, Unsets};
 
 use crate::happening::{Happening, Telling};
 use deletion::{Loss, losses};
@@ -48,7 +48,8 @@ fn push_notice<L: LinkStore>(
     push(notice(alloc, model, telling)?, chain)
 }
 
-fn push(notice: Notice, chain: &mut Chain) -> Result<(), Refused>
+/// Adds a notice.
+pub(crate) fn push(notice: Notice, chain: &mut Chain) -> Result<(), Refused>
     ensures ok { OnOk result (chain.new ≡ chain.old ++ notice ∷ []) }
     ensures err { IfErr result (λ r. r ≡ Memory) }
 {
@@ -181,7 +182,32 @@ fn report_of<L: LinkStore>(
             new_value: copied(alloc, model.value_in(at, from))?,
             position: i64::from(to),
         }),
+        Happening::Resolves(index, value) => resolved(alloc, model, at, index, value),
     }
+}
+
+/// RESOLVE, from the proxy that stands at an index.
+fn resolved<L: LinkStore>(
+    alloc: Global,
+    model: &ModelRef<L>,
+    at: End,
+    index: u32,
+    value: Value,
+) -> Result<Report, Refused>
+    ensures ok { IfOk result (λ p. reported (reading model.now) at p ≡ notice_at (reading model.now) (telling at (Resolves index value))) }
+    ensures err { IfErr result (λ r. r ≡ Memory) }
+{
+    let position = if is_single(model.meta(), at.feature) {
+        NO_INDEX
+    } else {
+        i64::from(index)
+    };
+    Ok(Report {
+        kind: NoticeKind::Resolve,
+        old_value: copied(alloc, model.value_in(at, index))?,
+        new_value: value,
+        position,
+    })
 }
 
 /// A gain: SET at a single end, from what it has, and else ADD behind the last value.

@@ -1,5 +1,6 @@
 //! Changes.
-use mm_types::{ClassNo, FeatureNo, Node, ObjectNo, Text, Value};
+use mm_types::{ClassNo, FeatureNo, Node, ObjectNo, ResourceNo, Text, Value};
+use resource_docs::Doc;
 
 /// A change of objects, their values and their links, or of resources.
 #[derive(Debug, Drop)]
@@ -48,4 +49,14 @@ pub enum Change {
     Delete(ObjectNo),
     /// Makes a resource of a URI, which is as joining gives it (EMF: ResourceSet.createResource).
     NewResource(Text),
+    /// Puts an object in the place of the proxy at an index of a reference (EMF: EcoreUtil.resolve). `target` is the object at the
+    /// proxy's address, if one is there.
+    Resolve {
+        object: ObjectNo,
+        feature: FeatureNo,
+        index: u32,
+        target: Option<ObjectNo>,
+    },
+    /// Makes what a document holds in an empty resource (EMF: Resource.load).
+    Load(ResourceNo, Doc),
 }

@@ -10,7 +10,7 @@ ghost use Rattle.handshake.specs.Displaced as d;
 ghost use Rattle.handshake.specs.Refusals as refusals;
 
 use crate::change::Change;
-use crate::tie::{at_end, is_among, node_value, opposite_end};
+use crate::tie::{at_end, far_end, is_among, node_value, opposite_end};
 use link_store::LinkStore;
 use mm_meta::Meta;
 use mm_types::{End, Node, ObjectNo, Value};
@@ -116,7 +116,9 @@ pub(crate) fn cut_ties<L: LinkStore>(
     ensures { IfOk result (λ ts. ts.items ≡ d.cut_ties (reading model.now) change.now) }
 {
     match change {
-        Change::Create(_) | Change::Move { .. } | Change::NewResource(_) => Ok(Vec::new(alloc)),
+        Change::Create(_) | Change::Move { .. } | Change::NewResource(_) | Change::Load(_, _) => Ok(
+            Vec::new(alloc),
+        ),
         Change::Set {
             node,
             feature,
@@ -143,6 +145,12 @@ pub(crate) fn cut_ties<L: LinkStore>(
             tie_in(alloc, model, end, model.position(end, value))
         }
         Change::Delete(object) => tree_ties(alloc, model, *object),
+        Change::Resolve {
+            object,
+            feature,
+            index,
+            ..
+        } => tie_in(alloc, model, far_end(*object, *feature), Some(*index)),
     }
 }
 

@@ -1,37 +1,50 @@
 //! The edits of a change.
-ghost use Rattle.std.specs.Prelude.{◌≡◌, ◌∷◌, ◌++◌, [], true, None, map, option_to_list, IfOk, IfErr};
+ghost use Rattle.std.specs.Prelude.{◌≡◌, ◌∷◌, ◌++◌, [], true, None, Some, map, option_to_list, IfOk, IfErr};
 ghost use Rattle.mm_types.specs.Shapes.{shape};
 ghost use Rattle.mm_types.specs.declared.refused.Refused.TheVariants.{Memory};
+ghost use Rattle.mm_types.specs.declared.value.Value.TheVariants as value;
 ghost use Rattle.models.specs.Model.{reading};
 ghost use Rattle.models.specs.Reading.{at_end, is_live};
 ghost use Rattle.containment.specs.Forest.{subtree as subtree_of};
 ghost use Rattle.handshake.specs.Refusals as refusals;
 ghost use Rattle.handshake.specs.Edits as e;
 ghost use Rattle.mm_values.specs.declared.edit.ValueEdit.TheVariants.{DropObject, MoveValue};
+ghost use Rattle.handshake.specs.Displaced as d;
 ghost use Rattle.handshake.specs.Effects as effects;
+ghost use Rattle.handshake.specs.Plans.{HasFittingDocument};
+ghost use Rattle.loading.specs.Fits.{IsFitting};
+ghost use Rattle.loading.specs.Loading.{loaded_values};
 ghost use Rattle.handshake.specs.Effects.{put_values, value_edits as value_edits_of};
 
 use crate::change::Change;
 use crate::displaced::{is_plain_add, is_plain_set};
-use crate::tie::at_end;
+use crate::tie::{at_end, far_end};
 use containment::subtree;
 use link_store::{Edit, LinkStore, Plan};
 use mm_types::{End, FeatureNo, Node, ObjectNo, Refused, Seq, Text, Value};
 use mm_values::{ValueEdit, ValuePlan};
 use models::{ModelRef, is_reference, is_unique, is_unsettable, opposite};
+use resource_docs::Doc;
 use std::alloc::{AllocError, Global};
 use ties::Tie;
 
-/// The edits that cut links, and then the one behind them, if there is one.
-pub(crate) fn link_edits(
+/// The edits of links that make a change that cuts these.
+pub(crate) fn link_edits<L: LinkStore>(
     alloc: Global,
+    model: &ModelRef<L>,
     ties: Vec<Tie>,
-    made: Option<Edit>,
+    change: &Change,
 ) -> Result<Plan, AllocError>
-    ensures { IfOk result (λ p. p ≡ map e.cut_of ties.items ++ option_to_list made) }
+    requires cut { ties.items ≡ d.cut_ties (reading model.now) change.now }
+    requires fits { HasFittingDocument (reading model.now).next change.now }
+    ensures { IfOk result (λ p. p ≡ e.link_edits (reading model.now) change.now) }
 {
+    if let Change::Load(resource, doc) = change {
+        let edits = loading::link_edits(alloc, model.meta(), model.next(), *resource, doc)?;
+        return Ok(Seq::from_vec(edits));
+    }
     let mut edits = cuts(alloc, ties)?;
-    if let Some(edit) = made {
+    if let Some(edit) = made_edit(model, change) {
         edits.push(edit)?;
     }
     Ok(Seq::from_vec(edits))
@@ -63,7 +76,7 @@ fn cut(alloc: Global, tie: Tie) -> Edit
 }
 
 /// The edit behind the cuts, if there is one.
-pub(crate) fn made_edit<L: LinkStore>(model: &ModelRef<L>, change: &Change) -> Option<Edit>
+fn made_edit<L: LinkStore>(model: &ModelRef<L>, change: &Change) -> Option<Edit>
     ensures { result ≡ e.made_edit (reading model.now) change.now }
 {
     match change {
@@ -100,6 +113,12 @@ pub(crate) fn made_edit<L: LinkStore>(model: &ModelRef<L>, change: &Change) -> O
             to: *to,
             from: *from,
         }),
+        Change::Resolve {
+            object,
+            feature,
+            index,
+            target: Some(target),
+        } => Some(put_object(model, far_end(*object, *feature), *index, *target)),
         _ => None,
     }
 }
@@ -109,14 +128,20 @@ fn new_put<L: LinkStore>(model: &ModelRef<L>, end: End, index: u32, value: &Valu
     ensures { result ≡ e.new_put (reading model.now) end index value.now }
 {
     match value {
-        Value::Object(object) => Some(Edit::Put {
-            end,
-            index,
-            object: *object,
-            opposite: opposite(model.meta(), end.feature),
-            container: model.meta().containing(end.feature),
-        }),
+        Value::Object(object) => Some(put_object(model, end, index, *object)),
         _ => None,
+    }
+}
+
+fn put_object<L: LinkStore>(model: &ModelRef<L>, end: End, index: u32, object: ObjectNo) -> Edit
+    ensures { Some result ≡ e.new_put (reading model.now) end index (value.Object object) }
+{
+    Edit::Put {
+        end,
+        index,
+        object,
+        opposite: opposite(model.meta(), end.feature),
+        container: model.meta().containing(end.feature),
     }
 }
 
@@ -127,6 +152,7 @@ pub(crate) fn value_edits<L: LinkStore>(
     change: Change,
 ) -> Result<ValuePlan, Refused>
     requires asked { refusals.early_refusal (reading model.now) change ≡ None }
+    requires fits { HasFittingDocument (reading model.now).next change }
     ensures ok { IfOk result (λ p. p ≡ value_edits_of (reading model.now) change) }
     ensures err { IfErr result (λ r. r ≡ Memory) }
 {
@@ -134,6 +160,8 @@ pub(crate) fn value_edits<L: LinkStore>(
         Change::Create(class) => Ok(ValuePlan::one(ValueEdit::NewObject(class))),
         Change::Delete(object) => drop_edits(alloc, model, object),
         Change::NewResource(uri) => Ok(ValuePlan::one(ValueEdit::NewUri(uri))),
+        Change::Resolve { .. } => Ok(ValuePlan::none(alloc)),
+        Change::Load(_, doc) => load_edits(alloc, model, doc),
         Change::Set { feature, .. }
         | Change::Unset { feature, .. }
         | Change::Add { feature, .. }
@@ -171,6 +199,22 @@ pub(crate) fn value_edits<L: LinkStore>(
             to,
             from,
         } => Ok(move_value(alloc, node, feature, to, from)),
+    }
+}
+
+/// The edits that make the objects of a document, with their values.
+fn load_edits<L: LinkStore>(
+    alloc: Global,
+    model: &ModelRef<L>,
+    doc: Doc,
+) -> Result<ValuePlan, Refused>
+    requires fits { IsFitting (reading model.now).next doc }
+    ensures ok { IfOk result (λ p. p ≡ loaded_values model.now.metamodel (reading model.now).next doc) }
+    ensures err { IfErr result (λ r. r ≡ Memory) }
+{
+    match loading::value_edits(alloc, model.meta(), model.next(), doc) {
+        Ok(edits) => Ok(ValuePlan::from_seq(Seq::from_vec(edits))),
+        Err(_) => Err(Refused::Memory),
     }
 }
 

@@ -16,6 +16,8 @@ pub enum Happening {
     Unsets,
     /// In a list, what stands at the second index then stands at the first.
     Moves(u32, u32),
+    /// The value takes the place of what stands at an index, a proxy; at a single end the index is 0.
+    Resolves(u32, Value),
 }
 
 /// What happens, and at which end.

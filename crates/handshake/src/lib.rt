@@ -10,10 +10,12 @@ mod displaced;
 mod edits;
 mod happening;
 pub mod laws;
+mod loads;
 mod named;
 mod planned;
 mod planning;
 mod recursion;
+mod resolving;
 mod telling;
 mod tie;
 
@@ -22,3 +24,4 @@ pub use happening::{Happening, Telling};
 pub use named::{early_refusal, feature_refusal, node_refusal};
 pub use planned::Planned;
 pub use planning::plan;
+pub use resolving::proxy_at;

@@ -22,6 +22,12 @@ pub fn early_refusal<L: LinkStore>(model: &ModelRef<L>, change: &Change) -> Opti
         Change::Create(class) => class_refusal(model.meta(), *class),
         Change::Delete(object) => node_refusal(model, Node::Object(*object)),
         Change::NewResource(_) => None,
+        Change::Load(resource, _) => node_refusal(model, Node::Resource(*resource)),
+        Change::Resolve {
+            object,
+            feature,
+            ..
+        } => feature_refusal(model, Node::Object(*object), *feature),
         Change::Set {
             node,
             feature,

@@ -5,7 +5,7 @@ ghost use Rattle.mm_types.specs.declared.refused.Refused.TheVariants.{Index, Mem
 ghost use Rattle.models.specs.Model.{reading};
 ghost use Rattle.models.specs.Reading.{takes};
 ghost use Rattle.handshake.specs.Displaced as d;
-ghost use Rattle.handshake.specs.Plans.{Plans};
+ghost use Rattle.handshake.specs.Plans.{HasFittingDocument, HasReadDocument, Plans};
 ghost use Rattle.handshake.specs.Refusals as refusals;
 ghost use Rattle.handshake.specs.Tellings as t;
 ghost use Rattle.handshake.specs.declared.change.Change.TheVariants.{Add};
@@ -13,12 +13,15 @@ ghost use Rattle.handshake.specs.declared.change.Change.TheVariants.{Add};
 use crate::chain::{lost_notices, notices};
 use crate::change::Change;
 use crate::displaced::{cut_ties, has_already};
-use crate::edits::{link_edits, made_edit, value_edits};
+use crate::edits::{link_edits, value_edits};
+use crate::loads::{load_refusal, root_notices};
 use crate::planned::Planned;
 use crate::recursion::is_recursive;
+use crate::resolving::resolve_refusal;
 use crate::telling::tellings;
-use crate::tie::{at_end, opposite_end};
+use crate::tie::{at_end, far_end, opposite_end};
 use link_store::LinkStore;
+use loading::contents_end;
 use mm_types::{End, FeatureNo, ObjectNo, Refused, Text, Value, limits};
 use models::{ModelRef, is_full, is_short, is_short_text};
 use notice_chain::Chain;
@@ -31,8 +34,10 @@ use ties::Tie;
 /// `WrongType` where the value is not one of the feature's type, `TextLength` above 65,535 bytes, `Index` where nothing stands at an
 /// index or a value would not stand behind the last, `Duplicate` where a unique list has the value that is added at an index, `Bound`
 /// where an end that has to gain is full, `Recursive` where an object would become a part of itself, `Limit` where 1,000,000 objects
-/// or 100,000 resources were made, or 1,000,000 values stand at an end, `ResourceExists` where a resource has the URI; `Memory`
-/// where none of these applies.
+/// or 100,000 resources were made, or 1,000,000 values stand at an end, `ResourceExists` where a resource has the URI; and of a
+/// proxy to be resolved `NotProxy` where something else stands there, `Unloaded` where no resource has its URI, `Unresolved` where
+/// nothing is at its address; and of a document `Limit` where its objects would be more than 1,000,000 with those that were made,
+/// `NotEmpty` where the resource has roots. `Memory` where none of these applies.
 pub fn plan<L: LinkStore>(
     alloc: Global,
     model: &ModelRef<L>,
@@ -40,6 +45,7 @@ pub fn plan<L: LinkStore>(
     is_heard: bool,
 ) -> Result<Planned, Refused>
     requires asked { refusals.early_refusal (reading model.now) change ≡ None }
+    requires read { HasReadDocument model.now.metamodel change }
     ensures { Plans is_heard result model.now change }
 {
     model.is_legal();
@@ -53,7 +59,7 @@ pub fn plan<L: LinkStore>(
         Ok(chain) => chain,
         Err(refused) => return Err(refused),
     };
-    let Ok(edits) = link_edits(alloc, ties, made_edit(model, &change)) else {
+    let Ok(edits) = link_edits(alloc, model, ties, &change) else {
         return Err(Refused::Memory);
     };
     match value_edits(alloc, model, change) {
@@ -74,6 +80,13 @@ fn late_refusal<L: LinkStore>(model: &ModelRef<L>, change: &Change) -> Option<Re
         Change::Create(_) if model.next() >= limits::OBJECTS => Some(Refused::Limit),
         Change::Create(_) | Change::Unset { .. } | Change::Delete(_) => None,
         Change::NewResource(uri) => uri_refusal(model, uri),
+        Change::Resolve {
+            object,
+            feature,
+            index,
+            target,
+        } => resolve_refusal(model, far_end(*object, *feature), *index, *target),
+        Change::Load(resource, doc) => load_refusal(model, *resource, doc),
         Change::Set {
             node,
             feature,
@@ -276,6 +289,7 @@ fn heard_chain<L: LinkStore>(
     requires asked { refusals.early_refusal (reading model.now) change.now ≡ None }
     requires allowed { refusals.late_refusal (reading model.now) change.now ≡ None }
     requires cut { ties.now ≡ d.cut_ties (reading model.now) change.now }
+    requires fits { HasFittingDocument (reading model.now).next change.now }
     ensures ok { IfOk result (λ c. c ≡ (if is_heard then t.chain (reading model.now) change.now else [])) }
     ensures err { IfErr result (λ r. r ≡ Memory) }
 {
@@ -285,6 +299,10 @@ fn heard_chain<L: LinkStore>(
     model.is_legal();
     if let Some(object) = destroyed_by(change) {
         return lost_notices(alloc, model, object);
+    }
+    if let Change::Load(resource, doc) = change {
+        let roots = contents_end(model.meta(), *resource);
+        return root_notices(alloc, model.next(), roots, doc.roots.as_slice());
     }
     let tellings = match tellings(alloc, model, change, ties) {
         Ok(tellings) => tellings,

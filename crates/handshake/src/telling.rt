@@ -6,19 +6,19 @@ ghost use Rattle.mm_types.specs.declared.value.Value.TheVariants as value;
 ghost use Rattle.models.specs.Model.{reading};
 ghost use Rattle.models.specs.Reading.{at_end};
 ghost use Rattle.handshake.specs.Tellings as t;
-ghost use Rattle.handshake.specs.Tellings.{destroyed_by};
+ghost use Rattle.handshake.specs.Tellings.{destroyed_by, loaded_by};
 
 use crate::change::Change;
 use crate::displaced::is_plain_set;
 use crate::happening::{Happening, Telling};
-use crate::tie::{at_end, node_value, opposite_end, turned};
+use crate::tie::{at_end, far_end, node_value, opposite_end, turned};
 use link_store::LinkStore;
 use mm_types::{End, ObjectNo, Refused, Value};
 use models::{ModelRef, copy_of, is_single};
 use std::alloc::Global;
 use ties::Tie;
 
-/// What a change that cuts these links and destroys nothing makes happen, in the order in which it is told.
+/// What a change that cuts these links, and destroys and loads nothing, makes happen, in the order in which it is told.
 pub(crate) fn tellings<L: LinkStore>(
     alloc: Global,
     model: &ModelRef<L>,
@@ -26,13 +26,18 @@ pub(crate) fn tellings<L: LinkStore>(
     ties: &[Tie],
 ) -> Result<Vec<Telling>, Refused>
     requires destroys_nothing { destroyed_by change.now ≡ None }
+    requires loads_nothing { loaded_by change.now ≡ None }
     ensures ok { IfOk result (λ ts. ts.items ≡ t.tellings_with (reading model.now) change.now ties.now) }
     ensures err { IfErr result (λ r. r ≡ Memory) }
 {
     let mut out = Vec::new(alloc);
     match change {
-        // `chain` makes the notices of a delete
-        Change::Create(_) | Change::NewResource(_) | Change::Delete(_) => {}
+        // `chain` makes the notices of a delete, and `loads` those of a load
+        Change::Create(_)
+        | Change::NewResource(_)
+        | Change::Delete(_)
+        | Change::Load(_, _)
+        | Change::Resolve { target: None, .. } => {}
         Change::Set {
             node,
             feature,
@@ -68,6 +73,15 @@ pub(crate) fn tellings<L: LinkStore>(
             at_end(node, feature),
             Happening::Moves(*to, *from),
         )?,
+        Change::Resolve {
+            object,
+            feature,
+            index,
+            target: Some(target),
+        } => {
+            let resolved = Happening::Resolves(*index, Value::Object(*target));
+            push(&mut out, far_end(*object, *feature), resolved)?;
+        }
     }
     Ok(out)
 }

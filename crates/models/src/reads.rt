@@ -9,6 +9,7 @@ ghost use Rattle.mm_types.specs.declared.refused.Refused.TheVariants.{Memory};
 ghost use Rattle.mm_types.specs.declared.value.Value.TheVariants as value;
 ghost use Rattle.mm_types.specs.declared.value.Value.TheVariants.{Null};
 ghost use Rattle.mm_values.specs.Room.{values_of};
+ghost use Rattle.link_store.specs.Links.{text_of};
 ghost use Rattle.models.specs.Found.{found_value};
 ghost use Rattle.models.specs.Model.{attribute_held, kept_flag, kept_values, reading};
 ghost use Rattle.models.specs.Reading as r;
@@ -63,6 +64,19 @@ impl Found<'_> {
             (Found::Object(object), Value::Object(other)) => *object == *other,
             (Found::Proxy(text), Value::Proxy(other)) => *text == other.as_str(),
             _ => false,
+        }
+    }
+}
+
+impl<'a> Found<'a> {
+    /// The text of the proxy that it is; `None` where it is another value.
+    pub fn proxy(self) -> Option<&'a str>
+        ensures { option_copied result ≡ text_of (found_value self.entry) }
+    {
+        match self {
+            Found::Kept(Value::Proxy(text)) => Some(text.as_str()),
+            Found::Proxy(text) => Some(text),
+            Found::Kept(_) | Found::Object(_) => None,
         }
     }
 }

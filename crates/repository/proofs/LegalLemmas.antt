@@ -1,6 +1,6 @@
 -- Every command of a legal state leaves a legal one.
-use Rattle.std.proofs.Common.{◌≡◌, ◌≤◌, ◌<◌, ◌+◌, ◌^◌, ◌⊎◌, inl, inr, ◌&&◌, ℕ, zero, suc, Bool, true, false, IsTrue, List, [], ◌∷◌, ◌++◌, map, length, nat_le, nat_lt, slice_index_or, slice_set, Option, Some, None, option_map, is_some, Ok, if◌then◌else◌, refl, sym, ap, ◌∙◌, subst, arith, true≢false, length-append}
-use Rattle.std.specs.Prelude.{MatchBool}
+use Rattle.std.proofs.Common.{◌≡◌, ◌≤◌, ◌<◌, ◌+◌, ◌^◌, ◌⊎◌, inl, inr, ◌&&◌, ℕ, Bool, true, false, IsTrue, List, [], ◌∷◌, ◌++◌, map, length, nat_le, nat_lt, Option, Some, None, option_map, Ok, Err, if◌then◌else◌, refl, sym, ap, ◌∙◌, subst, arith, length-append}
+use Rattle.std.specs.Prelude.{MatchBool, Result}
 use Rattle.std.specs.List.{All, insert, list_any, remove}
 use Rattle.std.specs.Option.{option_map_or}
 use Rattle.std.proofs.lemmas.Bool.{or_parts, leb-false, ltb-false}
@@ -17,7 +17,7 @@ use Rattle.mm_types.specs.declared.refused.Refused.TheVariants.{NoObject, NoReso
 use Rattle.mm_types.specs.Shapes.{shape}
 use Rattle.mm_types.specs.declared.end.End.{End}
 use Rattle.mm_types.specs.declared.value.Value.{Value}
-use Rattle.mm_values.specs.Values.{Objects, ObjectState, applied, change_list, put_stored, with_uri}
+use Rattle.mm_values.specs.Values.{ObjectState, applied, change_list, put_stored, with_uri}
 use Rattle.mm_types.specs.Lists.{shifted}
 use Rattle.mm_values.specs.declared.edit.ValueEdit.{ValueEdit}
 use Rattle.mm_values.specs.declared.edit.ValueEdit.TheVariants.{InsertValue, RemoveValue as TakeValue, MoveValue}
@@ -37,7 +37,7 @@ use Rattle.handshake.specs.declared.change.Change.TheVariants as change
 use Rattle.handshake.proofs.KnownLemmas.{none-else_by, none-unless}
 use Rattle.handshake.proofs.LegalLemmas.{change-keeps-legal, left-object, left-uris}
 use Rattle.repository.specs.declared.command.Command.{Command}
-use Rattle.repository.specs.declared.command.Command.TheVariants.{Create, Set, Unset, Add, Remove, RemoveValue, Move, Delete, Attach, Detach, Get, IsSet, Container, Contents, Class, AdapterTold, AdapterKept, CreateResource, Resource, Validate, Fragment, ObjectAt, Save}
+use Rattle.repository.specs.declared.command.Command.TheVariants.{Create, Set, Unset, Add, Remove, RemoveValue, Move, Delete, Attach, Detach, Get, IsSet, Container, Contents, Class, AdapterTold, AdapterKept, CreateResource, Resolve, Load, Resource, Validate, Fragment, ObjectAt, Save}
 use Rattle.repository.specs.State.{State, IsLegal, IsLegalAdapter, is_there, reads}
 use Rattle.repository.specs.Refusals.{chain, early_refusal, late_refusal, resource_refusal}
 use Rattle.repository.specs.Run.{Executed, IsWanting, is_memory}
@@ -54,7 +54,15 @@ use Rattle.web_uris.specs.Joined.{IsWebUri, joined}
 use Rattle.repository.proofs.PlanLemmas.{uri-allowed}
 use Rattle.std.proofs.lemmas.Option.{same_Some}
 use Rattle.web_uris.proofs.JoinFacts.{joined-web}
-use Rattle.handshake.specs.Laws.{IsBrought, goes_with}
+use Rattle.handshake.specs.Laws.{goes_with}
+use Rattle.repository.specs.Loads.{load_of, load_refusal, reads_into}
+use Rattle.repository.specs.Proper.{IsProper}
+use Rattle.repository.specs.Resolving.{target_at}
+use Rattle.repository.proofs.LiveLemmas.{change-live, is_object, loaded-live, loaded-uris, push-live}
+use Rattle.repository.proofs.LoadLemmas.{proper-read}
+use Rattle.mm_types.specs.declared.document_fault.DocFault.{DocFault}
+use Rattle.mm_types.specs.declared.numbers.ResourceNo.{ResourceNo}
+use Rattle.resource_docs.specs.declared.doc.Doc.{Doc}
 use Rattle.containment.specs.Forest.{subtree}
 
 abbrev IsThere : Option Refused → Type 0
@@ -70,25 +78,6 @@ both-true true b x y = y
 both-true false b x y = x
 
 ---------------------------------------------------------------- no node goes
-
-abbrev is_object : Option ObjectState → Bool
-is_object o = is_some (option_map (λ (s : ObjectState). s.class) o)
-
-push-live : (os : Objects) (x : Option ObjectState) (i : ℕ) → is_object (slice_index_or os i None) ≡ true → is_object (slice_index_or (os ++ x ∷ []) i None) ≡ true
-push-live [] x i h = absurd (true≢false (sym h))
-push-live (o ∷ os) x zero h = h
-push-live (o ∷ os) x (suc i) h = push-live os x i h
-
-change-object : (g : ObjectState → ObjectState) (o : Option ObjectState) → is_object (option_map g o) ≡ is_object o
-change-object g None = refl
-change-object g (Some o) = refl
-
-change-live : (os : Objects) (g : ObjectState → ObjectState) (k i : ℕ) → is_object (slice_index_or (slice_set os k (option_map g (slice_index_or os k None))) i None) ≡ is_object (slice_index_or os i None)
-change-live [] g k i = refl
-change-live (o ∷ os) g zero zero = change-object g o
-change-live (o ∷ os) g zero (suc i) = refl
-change-live (o ∷ os) g (suc k) zero = refl
-change-live (o ∷ os) g (suc k) (suc i) = change-live os g k i
 
 first-true : (a b : Bool) → (a && b) ≡ true → a ≡ true
 first-true true b h = refl
@@ -158,6 +147,14 @@ change-keeps-node s (change.RemoveValue m f v) n stays h = either-keeps s n (sha
 change-keeps-node s (change.Move m f to from) n stays h = either-keeps s n (shape s.metamodel f).is_reference _ _ (none-keeps s n) (move-keeps s n m f to from) h
 change-keeps-node s (change.NewResource u) (node.Object o) stays h = h
 change-keeps-node s (change.NewResource u) (node.Resource k) stays h = more-resources s.values.uris u k.0 h
+change-keeps-node s (change.Resolve o f i b) n stays h = h
+change-keeps-node s (change.Load k doc) (node.Object o) stays h = ap (λ (b : Bool). b && true) (loaded-live s.metamodel s.values doc o.0 (first-true _ true h))
+change-keeps-node s (change.Load k doc) (node.Resource j) stays h = subst (λ (us : List (List ℕ)). IsTrue (nat_lt j.0 (length us))) (sym (loaded-uris s.metamodel (length s.values.objects) s.values doc)) h
+
+-- a document that is loaded, if there is one
+load-keeps-node : (s : Model) (k : ResourceNo) (read : Result Doc DocFault) (n : Node) → IsTrue (is_there (reading s) n) → IsTrue (is_there (reading (option_map_or (effects.after s) (load_of k read) s)) n)
+load-keeps-node s k (Err f) n h = h
+load-keeps-node s k (Ok doc) n h = change-keeps-node s (change.Load k doc) n refl h
 
 -- a new resource, if there is one
 resource-keeps-node : (s : Model) (u : Option (List ℕ)) (n : Node) → IsTrue (is_there (reading s) n) → IsTrue (is_there (reading (option_map_or (effects.after s) (option_map change.NewResource u) s)) n)
@@ -174,6 +171,8 @@ keeps-node s (RemoveValue m f v) a stays h = change-keeps-node s.model (change.R
 keeps-node s (Move m f to from) a stays h = change-keeps-node s.model (change.Move m f to from) a.target refl h
 keeps-node s (Delete o) a stays h = change-keeps-node s.model (change.Delete o) a.target stays h
 keeps-node s (CreateResource t) a stays h = resource-keeps-node s.model (joined [] t) a.target h
+keeps-node s (Resolve o f i) a stays h = change-keeps-node s.model (change.Resolve o f i (target_at (reads s) o f i)) a.target refl h
+keeps-node s (Load k text) a stays h = load-keeps-node s.model k (reads_into (reads s) k text) a.target h
 keeps-node s (Attach number target deep view) a stays h = h
 keeps-node s (Detach number) a stays h = h
 keeps-node s (Get m f) a stays h = h
@@ -195,18 +194,25 @@ resource-legal : (s : State) (t : List ℕ) (uri : Option (List ℕ)) → ((u : 
     → models.IsLegal (option_map_or (effects.after s.model) (option_map change.NewResource uri) s.model)
 resource-legal s t None web legal late = legal
 resource-legal s t (Some u) web legal late =
-    change-keeps-legal s.model (change.NewResource u) legal refl (uri-allowed (reads s) t u late) (web u refl)
+    change-keeps-legal s.model (change.NewResource u) legal refl (uri-allowed (reads s) t u late) tt (web u refl)
+
+load-legal : (s : State) (k : ResourceNo) (text : List ℕ) (read : Result Doc DocFault) → reads_into (reads s) k text ≡ read → models.IsLegal s.model → node_refusal (reads s) (node.Resource k) ≡ None → load_refusal (reads s) k read ≡ None
+    → models.IsLegal (option_map_or (effects.after s.model) (load_of k read) s.model)
+load-legal s k text (Ok doc) is legal early late = change-keeps-legal s.model (change.Load k doc) legal early late (proper-read (reads s) text (change.Load k doc) is) tt
+load-legal s k text (Err f) is legal early late = legal
 
 model-legal : (s : State) (c : Command View) → HasSteadyUri c → models.IsLegal s.model → early_refusal (reads s) s.adapters c ≡ None → late_refusal (reads s) s.adapters c ≡ None → models.IsLegal (model_after s.model c)
-model-legal s (Create c) steady legal early late = change-keeps-legal s.model (change.Create c) legal early late tt
-model-legal s (Set n f v) steady legal early late = change-keeps-legal s.model (change.Set n f v) legal early late tt
-model-legal s (Unset n f) steady legal early late = change-keeps-legal s.model (change.Unset n f) legal early late tt
-model-legal s (Add n f v i) steady legal early late = change-keeps-legal s.model (change.Add n f v i) legal early late tt
-model-legal s (Remove n f i) steady legal early late = change-keeps-legal s.model (change.Remove n f i) legal early late tt
-model-legal s (RemoveValue n f v) steady legal early late = change-keeps-legal s.model (change.RemoveValue n f v) legal early late tt
-model-legal s (Move n f to from) steady legal early late = change-keeps-legal s.model (change.Move n f to from) legal early late tt
-model-legal s (Delete o) steady legal early late = change-keeps-legal s.model (change.Delete o) legal early late tt
+model-legal s (Create c) steady legal early late = change-keeps-legal s.model (change.Create c) legal early late tt tt
+model-legal s (Set n f v) steady legal early late = change-keeps-legal s.model (change.Set n f v) legal early late tt tt
+model-legal s (Unset n f) steady legal early late = change-keeps-legal s.model (change.Unset n f) legal early late tt tt
+model-legal s (Add n f v i) steady legal early late = change-keeps-legal s.model (change.Add n f v i) legal early late tt tt
+model-legal s (Remove n f i) steady legal early late = change-keeps-legal s.model (change.Remove n f i) legal early late tt tt
+model-legal s (RemoveValue n f v) steady legal early late = change-keeps-legal s.model (change.RemoveValue n f v) legal early late tt tt
+model-legal s (Move n f to from) steady legal early late = change-keeps-legal s.model (change.Move n f to from) legal early late tt tt
+model-legal s (Delete o) steady legal early late = change-keeps-legal s.model (change.Delete o) legal early late tt tt
 model-legal s (CreateResource t) steady legal early late = resource-legal s t (joined [] t) steady legal late
+model-legal s (Resolve o f i) steady legal early late = change-keeps-legal s.model (change.Resolve o f i (target_at (reads s) o f i)) legal early late tt tt
+model-legal s (Load k text) steady legal early late = load-legal s k text (reads_into (reads s) k text) refl legal early late
 model-legal s (Attach number target deep view) steady legal early late = legal
 model-legal s (Detach number) steady legal early late = legal
 model-legal s (Get n f) steady legal early late = legal
@@ -270,6 +276,8 @@ attaches r rs (RemoveValue n f v) = inl refl
 attaches r rs (Move n f to from) = inl refl
 attaches r rs (Delete o) = inl refl
 attaches r rs (CreateResource t) = inl refl
+attaches r rs (Resolve o f i) = inl refl
+attaches r rs (Load k text) = inl refl
 attaches r rs (Attach number target deep view) = inr (record { one = record { no = number; target = target; deep = deep; view = view }; joins_one = refl; stays = refl; early = refl; late = refl; quiet = ap (λ (x : Released). x.others) (releases-quiet r.above rs) })
 attaches r rs (Detach number) = inl refl
 attaches r rs (Get n f) = inl refl
@@ -358,13 +366,15 @@ pub stepped-legal : (s t : State) (c : Command View) (r : Reply View) → HasSte
 stepped-legal s t c r steady legal e = subst IsLegal (ap (λ (q : Stepped). q.after) e) (step-legal s c steady legal)
 
 -- a change that brings what it has to is asked for by such a command
-pub steady-of : (c : Change) → IsBrought c → HasSteadyUri (command_of c)
-steady-of (change.Create c) brought = tt
-steady-of (change.Set n f v) brought = tt
-steady-of (change.Unset n f) brought = tt
-steady-of (change.Add n f v i) brought = tt
-steady-of (change.Remove n f i) brought = tt
-steady-of (change.RemoveValue n f v) brought = tt
-steady-of (change.Move n f to from) brought = tt
-steady-of (change.Delete o) brought = tt
-steady-of (change.NewResource u) web = λ v same. subst IsWebUri (same_Some u v (sym (joined-web [] u web) ∙ same)) web
+pub steady-of : (r : Reading) (text : List ℕ) (c : Change) → IsProper r text c → HasSteadyUri (command_of text c)
+steady-of r text (change.Create c) brought = tt
+steady-of r text (change.Set n f v) brought = tt
+steady-of r text (change.Unset n f) brought = tt
+steady-of r text (change.Add n f v i) brought = tt
+steady-of r text (change.Remove n f i) brought = tt
+steady-of r text (change.RemoveValue n f v) brought = tt
+steady-of r text (change.Move n f to from) brought = tt
+steady-of r text (change.Delete o) brought = tt
+steady-of r text (change.Resolve o f i b) own = tt
+steady-of r text (change.Load k doc) is = tt
+steady-of r text (change.NewResource u) web = λ v same. subst IsWebUri (same_Some u v (sym (joined-web [] u web) ∙ same)) web

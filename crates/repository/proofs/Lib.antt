@@ -3,6 +3,8 @@ pub mod OthersLemmas
 pub mod QuietLemmas
 pub mod AttachLemmas
 pub mod LeavingLemmas
+pub mod LiveLemmas
+pub mod LoadLemmas
 pub mod PlanLemmas
 pub mod LegalLemmas
 pub mod ResourceLemmas

@@ -1,13 +1,13 @@
 -- What a plan, or its refusal, makes of its command.
 use Rattle.std.proofs.Common.{◌≡◌, inl, inr, Bool, true, false, not, IsTrue, List, [], ◌∷◌, ◌++◌, map, Option, Some, None, Ok, Err, if◌then◌else◌, refl, ap, sym, subst, ◌∙◌}
 use Rattle.std.proofs.lemmas.Bool.{false≢true}
-use Rattle.std.specs.Prelude.{Result, OnOk, is_err, ◌&&◌, nat_le, nat_lt, is_some, ℕ, length, option_map}
+use Rattle.std.specs.Prelude.{◌+◌, Result, OnOk, is_err, ◌&&◌, nat_le, nat_lt, is_some, ℕ, length, option_map}
 use Rattle.std.specs.Option.{option_map_or}
 use Rattle.std.proofs.lemmas.List.{append-nil}
 use Rattle.mm_types.specs.Conditions.{◌else_by◌, ◌unless◌, ◌where_so◌}
 use Rattle.mm_types.specs.declared.limits.TheConstants.{OBJECTS, RESOURCES}
 use Rattle.mm_types.specs.declared.refused.Refused.{Refused}
-use Rattle.mm_types.specs.declared.refused.Refused.TheVariants.{NoObject, NoResource, NoClass, Abstract, NoFeature, NotSingle, NotMany, WrongType, TextLength, Index, Duplicate, Bound, Recursive, Limit, AdapterFull, Memory, ResourceExists}
+use Rattle.mm_types.specs.declared.refused.Refused.TheVariants.{NoObject, NoResource, NoClass, Abstract, NoFeature, NotSingle, NotMany, WrongType, TextLength, Index, Duplicate, Bound, Recursive, Limit, NotEmpty, NotProxy, Unloaded, Unresolved, AdapterFull, Memory, ResourceExists}
 use Rattle.mm_types.specs.declared.end.End.{End}
 use Rattle.mm_types.specs.declared.value.Value.{Value}
 use Rattle.mm_types.specs.declared.value.Value.TheVariants as value
@@ -16,6 +16,7 @@ use Rattle.mm_types.specs.declared.numbers.FeatureNo.{FeatureNo}
 use Rattle.mm_types.specs.declared.numbers.Node.{Node}
 use Rattle.mm_types.specs.declared.numbers.Node.TheVariants as node
 use Rattle.mm_types.specs.declared.numbers.ObjectNo.{ObjectNo}
+use Rattle.mm_types.specs.declared.numbers.ResourceNo.{ResourceNo}
 use Rattle.mm_types.specs.Lookups as lookups
 use Rattle.mm_types.specs.Shapes.{shape}
 use Rattle.notice_chain.specs.Listed.{Above, Listed, is_chain_full, tell_chain, told_list}
@@ -30,12 +31,17 @@ use Rattle.handshake.specs.Named.{feature_refusal, many_refusal, node_refusal, v
 use Rattle.handshake.specs.Effects as effects
 use Rattle.handshake.specs.Plans.{Plans, is_memory_refusal}
 use Rattle.handshake.specs.Displaced.{has_already}
-use Rattle.handshake.specs.Refusals.{count_at, early_refusal, gain_refusal, is_at_limit, is_full_at, is_recursive, late_refusal, link_refusal, of_either, set_refusal, type_refusal, uri_refusal}
+use Rattle.handshake.specs.Refusals.{count_at, early_refusal, gain_refusal, is_at_limit, is_full_at, is_mistyped, is_recursive, is_there_already, late_refusal, link_refusal, of_either, proxy_at, resolve_refusal, set_refusal, type_refusal, uri_refusal}
 use Rattle.handshake.specs.Tellings.{chain, destroyed_by}
+use Rattle.mm_types.specs.declared.document_fault.DocFault.{DocFault}
+use Rattle.resource_docs.specs.declared.doc.Doc.{Doc}
+use Rattle.loading.specs.Loading.{is_empty_resource}
 use Rattle.handshake.specs.declared.change.Change.{Change}
-use Rattle.handshake.specs.declared.change.Change.TheVariants.{Create, Set, Unset, Add, Remove, RemoveValue, Move, Delete, NewResource}
+use Rattle.handshake.specs.declared.change.Change.TheVariants.{Create, Set, Unset, Add, Remove, RemoveValue, Move, Delete, NewResource, Resolve, Load}
 use Rattle.repository.specs.Answers.{answer_of}
+use Rattle.repository.specs.declared.command.Command.TheVariants as command
 use Rattle.repository.specs.declared.reply.Answer.{Answer}
+use Rattle.repository.specs.declared.reply.Answer.TheVariants as answer
 use Rattle.repository.specs.Run.{Executed, is_plain, may_want_memory}
 use Rattle.repository.specs.State.{State, reads}
 use Rattle.repository.specs.Step.{Stepped, done, refusal_of, step, step_unless}
@@ -43,7 +49,10 @@ use Rattle.repository.specs.Views.{command_of}
 use Rattle.repository.proofs.AdapterLemmas.{Heard, released-nobody}
 use Rattle.std.proofs.lemmas.Option.{none-some}
 use Rattle.web_uris.proofs.JoinFacts.{joined-web}
-use Rattle.handshake.specs.Laws.{IsBrought, goes_with}
+use Rattle.web_uris.specs.Addresses.{uri_part}
+use Rattle.handshake.specs.Laws.{goes_with}
+use Rattle.repository.specs.Loads.{load_of, load_refusal, objects_of}
+use Rattle.repository.specs.Proper.{IsProper}
 use Rattle.repository.specs.Refusals.{resource_refusal}
 use Rattle.handshake.proofs.KnownLemmas.{none-else_by, none-unless}
 use Rattle.std.proofs.lemmas.Bool.{and_parts}
@@ -77,19 +86,31 @@ module _ (s : State) (u : List ℕ) where
   asked_of : Option (List ℕ) → Option Refused
   asked_of uri = resource_refusal (reads s) u uri else_by (AdapterFull where_so is_chain_full (reads s).above (option_map_or (chain (reads s)) (option_map NewResource uri) []) s.adapters)
 
+-- why a proxy is not resolved to this object
+module _ (s : State) (o : ObjectNo) (f : FeatureNo) (i : ℕ) where
+  resolved_to : Option ObjectNo → Option Refused
+  resolved_to b = feature_refusal (reads s) (node.Object o) f else_by late_refusal (reads s) (Resolve o f i b) else_by full s (Resolve o f i b)
+
+-- why a text that is read as this is not loaded
+module _ (s : State) (k : ResourceNo) where
+  unfoldable pub loaded_as : Result Doc DocFault → Option Refused
+  loaded_as x = node_refusal (reads s) (node.Resource k) else_by load_refusal (reads s) k x else_by (AdapterFull where_so is_chain_full (reads s).above (option_map_or (chain (reads s)) (load_of k x) []) s.adapters)
+
 -- where nothing is found before planning
-refusal-planned : (s : State) (c : Change) → IsBrought c → early_refusal (reads s) c ≡ None → refusal_of s (command_of c) ≡ (late_refusal (reads s) c else_by full s c)
-unfolding full asked_of
-refusal-planned s (Create c) brought early = rw early refl
-refusal-planned s (Set n f v) brought early = rw early refl
-refusal-planned s (Unset n f) brought early = rw early refl
-refusal-planned s (Add n f v i) brought early = rw early refl
-refusal-planned s (Remove n f i) brought early = rw early refl
-refusal-planned s (RemoveValue n f v) brought early = rw early refl
-refusal-planned s (Move n f to from) brought early = rw early refl
-refusal-planned s (Delete o) brought early = rw early refl
-refusal-planned s (NewResource u) web early =
+refusal-planned : (s : State) (text : List ℕ) (c : Change) → IsProper (reads s) text c → early_refusal (reads s) c ≡ None → refusal_of s (command_of text c) ≡ (late_refusal (reads s) c else_by full s c)
+unfolding full asked_of resolved_to loaded_as
+refusal-planned s text (Create c) brought early = rw early refl
+refusal-planned s text (Set n f v) brought early = rw early refl
+refusal-planned s text (Unset n f) brought early = rw early refl
+refusal-planned s text (Add n f v i) brought early = rw early refl
+refusal-planned s text (Remove n f i) brought early = rw early refl
+refusal-planned s text (RemoveValue n f v) brought early = rw early refl
+refusal-planned s text (Move n f to from) brought early = rw early refl
+refusal-planned s text (Delete o) brought early = rw early refl
+refusal-planned s text (NewResource u) web early =
     ap (asked_of s u) (joined-web [] u web) ∙ ap (λ (o : Option Refused). o else_by full s (NewResource u)) (uri-refused (reads s) u)
+refusal-planned s text (Resolve o f i b) own early = ap (resolved_to s o f i) (sym own) ∙ rw early refl
+refusal-planned s text (Load k doc) is early = ap (loaded_as s k) is ∙ rw early refl
 
 -- a condition that is none of these is none of them behind another that is none
 pub later-not : (q : Refused → Bool) (o p : Option Refused) → IsNot q o → IsNot q p → IsNot q (o else_by p)
@@ -135,6 +156,8 @@ early-not-memory r (RemoveValue n f v) = many-not-memory r f (value_refusal r n 
 early-not-memory r (Move n f to from) = many-not-memory r f (feature_refusal r n f) (feature-not-memory r n f)
 early-not-memory r (Delete o) = node-not-memory r (node.Object o)
 early-not-memory r (NewResource u) = refl
+early-not-memory r (Resolve o f i b) = feature-not-memory r (node.Object o) f
+early-not-memory r (Load k doc) = node-not-memory r (node.Resource k)
 
 ---------------------------------------------------------------- what is found later is not plain
 
@@ -174,7 +197,16 @@ uri-not-plain r u =
     later-not is_plain _ _ (unless-not is_plain TextLength (is_short_text u) refl)
     (later-not is_plain _ _ (unless-not is_plain Limit (nat_lt (length r.uris) RESOURCES) refl) (where-not is_plain ResourceExists (has_uri r u) refl))
 
-late-not-plain : (r : Reading) (c : Change) → IsNot is_plain (late_refusal r c)
+resolve-not-plain : (r : Reading) (e : End) (i : ℕ) (b : Option ObjectNo) → IsNot is_plain (resolve_refusal r e i b)
+resolve-not-plain r e i b =
+    later-not is_plain _ _ (where-not is_plain WrongType (is_mistyped r e b) refl)
+    (later-not is_plain _ _ (unless-not is_plain Index (nat_lt i (count_at r e)) refl)
+    (later-not is_plain _ _ (where-not is_plain Duplicate (is_there_already r e b) refl)
+    (later-not is_plain _ _ (unless-not is_plain NotProxy (is_some (proxy_at r e i)) refl)
+    (later-not is_plain _ _ (where-not is_plain Unloaded (option_map_or (λ (t : List ℕ). not (has_uri r (uri_part t))) (proxy_at r e i) false) refl)
+    (unless-not is_plain Unresolved (is_some b) refl)))))
+
+pub late-not-plain : (r : Reading) (c : Change) → IsNot is_plain (late_refusal r c)
 late-not-plain r (Create c) = unless-not is_plain Limit (nat_lt r.next OBJECTS) refl
 late-not-plain r (Set n f v) = later-not is_plain _ _ (type-not-plain r f v) (set-not-plain r (at_end n f) v)
 late-not-plain r (Unset n f) = refl
@@ -188,78 +220,89 @@ late-not-plain r (RemoveValue n f v) = type-not-plain r f v
 late-not-plain r (Move n f to from) = unless-not is_plain Index (nat_lt to (count_at r (at_end n f)) && nat_lt from (count_at r (at_end n f))) refl
 late-not-plain r (Delete o) = refl
 late-not-plain r (NewResource u) = uri-not-plain r u
+late-not-plain r (Resolve o f i b) = resolve-not-plain r (at_end (node.Object o) f) i b
+late-not-plain r (Load k doc) =
+    later-not is_plain _ _ (unless-not is_plain Limit (nat_le (r.next + length doc.objects) OBJECTS) refl) (unless-not is_plain NotEmpty (is_empty_resource r k) refl)
 
 full-not-plain : (s : State) (c : Change) → IsNot is_plain (full s c)
 unfolding full
 full-not-plain s c = where-not is_plain AdapterFull (is_chain_full (reads s).above (chain (reads s) c) s.adapters) refl
 
-not-plain : (s : State) (c : Change) → IsBrought c → early_refusal (reads s) c ≡ None → not (option_map_or is_plain (refusal_of s (command_of c)) false) ≡ true
-not-plain s c brought early =
-    ap (λ (o : Option Refused). not (option_map_or is_plain o false)) (refusal-planned s c brought early)
+not-plain : (s : State) (text : List ℕ) (c : Change) → IsProper (reads s) text c → early_refusal (reads s) c ≡ None → not (option_map_or is_plain (refusal_of s (command_of text c)) false) ≡ true
+not-plain s text c brought early =
+    ap (λ (o : Option Refused). not (option_map_or is_plain o false)) (refusal-planned s text c brought early)
     ∙ ap not (later-not is_plain (late_refusal (reads s) c) (full s c) (late-not-plain (reads s) c) (full-not-plain s c))
 
-may-want : (s : State) (c : Change) → IsBrought c → early_refusal (reads s) c ≡ None → IsTrue (may_want_memory s (command_of c))
-may-want s (Create c) brought early = not-plain s (Create c) brought early
-may-want s (Set n f v) brought early = not-plain s (Set n f v) brought early
-may-want s (Unset n f) brought early = not-plain s (Unset n f) brought early
-may-want s (Add n f v i) brought early = not-plain s (Add n f v i) brought early
-may-want s (Remove n f i) brought early = not-plain s (Remove n f i) brought early
-may-want s (RemoveValue n f v) brought early = not-plain s (RemoveValue n f v) brought early
-may-want s (Move n f to from) brought early = not-plain s (Move n f to from) brought early
-may-want s (Delete o) brought early = not-plain s (Delete o) brought early
-may-want s (NewResource u) brought early = not-plain s (NewResource u) brought early
+may-want : (s : State) (text : List ℕ) (c : Change) → IsProper (reads s) text c → early_refusal (reads s) c ≡ None → IsTrue (may_want_memory s (command_of text c))
+may-want s text (Create c) brought early = not-plain s text (Create c) brought early
+may-want s text (Set n f v) brought early = not-plain s text (Set n f v) brought early
+may-want s text (Unset n f) brought early = not-plain s text (Unset n f) brought early
+may-want s text (Add n f v i) brought early = not-plain s text (Add n f v i) brought early
+may-want s text (Remove n f i) brought early = not-plain s text (Remove n f i) brought early
+may-want s text (RemoveValue n f v) brought early = not-plain s text (RemoveValue n f v) brought early
+may-want s text (Move n f to from) brought early = not-plain s text (Move n f to from) brought early
+may-want s text (Delete o) brought early = not-plain s text (Delete o) brought early
+may-want s text (NewResource u) brought early = not-plain s text (NewResource u) brought early
+may-want s text (Resolve o f i b) brought early = not-plain s text (Resolve o f i b) brought early
+may-want s text (Load k doc) brought early = not-plain s text (Load k doc) brought early
 
 ---------------------------------------------------------------- what is executed
 
-refused_as : (s : State) (c : Change) (r : Refused) → is_memory_refusal r ≡ false → refusal_of s (command_of c) ≡ Some r → Executed s (command_of c) (Err (record { refused = r; given_back = None })) s
-refused_as s (Create c) r other found = rw other (ap (step_unless s (command_of (Create c))) found)
-refused_as s (Set n f v) r other found = rw other (ap (step_unless s (command_of (Set n f v))) found)
-refused_as s (Unset n f) r other found = rw other (ap (step_unless s (command_of (Unset n f))) found)
-refused_as s (Add n f v i) r other found = rw other (ap (step_unless s (command_of (Add n f v i))) found)
-refused_as s (Remove n f i) r other found = rw other (ap (step_unless s (command_of (Remove n f i))) found)
-refused_as s (RemoveValue n f v) r other found = rw other (ap (step_unless s (command_of (RemoveValue n f v))) found)
-refused_as s (Move n f to from) r other found = rw other (ap (step_unless s (command_of (Move n f to from))) found)
-refused_as s (Delete o) r other found = rw other (ap (step_unless s (command_of (Delete o))) found)
-refused_as s (NewResource u) r other found = rw other (ap (step_unless s (command_of (NewResource u))) found)
+refused_as : (s : State) (text : List ℕ) (c : Change) (r : Refused) → is_memory_refusal r ≡ false → refusal_of s (command_of text c) ≡ Some r → Executed s (command_of text c) (Err (record { refused = r; given_back = None })) s
+refused_as s text (Create c) r other found = rw other (ap (step_unless s (command_of text (Create c))) found)
+refused_as s text (Set n f v) r other found = rw other (ap (step_unless s (command_of text (Set n f v))) found)
+refused_as s text (Unset n f) r other found = rw other (ap (step_unless s (command_of text (Unset n f))) found)
+refused_as s text (Add n f v i) r other found = rw other (ap (step_unless s (command_of text (Add n f v i))) found)
+refused_as s text (Remove n f i) r other found = rw other (ap (step_unless s (command_of text (Remove n f i))) found)
+refused_as s text (RemoveValue n f v) r other found = rw other (ap (step_unless s (command_of text (RemoveValue n f v))) found)
+refused_as s text (Move n f to from) r other found = rw other (ap (step_unless s (command_of text (Move n f to from))) found)
+refused_as s text (Delete o) r other found = rw other (ap (step_unless s (command_of text (Delete o))) found)
+refused_as s text (NewResource u) r other found = rw other (ap (step_unless s (command_of text (NewResource u))) found)
+refused_as s text (Resolve o f i b) r other found = rw other (ap (step_unless s (command_of text (Resolve o f i b))) found)
+refused_as s text (Load k doc) r other found = rw other (ap (step_unless s (command_of text (Load k doc))) found)
 
 -- what is found first
-found-first : (s : State) (c : Change) (r : Refused) → early_refusal (reads s) c ≡ Some r → refusal_of s (command_of c) ≡ Some r
-found-first s (Create c) r e = rw e refl
-found-first s (Set n f v) r e = rw e refl
-found-first s (Unset n f) r e = rw e refl
-found-first s (Add n f v i) r e = rw e refl
-found-first s (Remove n f i) r e = rw e refl
-found-first s (RemoveValue n f v) r e = rw e refl
-found-first s (Move n f to from) r e = rw e refl
-found-first s (Delete o) r e = rw e refl
-found-first s (NewResource u) r e = absurd (none-some r e)
+found-first : (s : State) (text : List ℕ) (c : Change) (r : Refused) → early_refusal (reads s) c ≡ Some r → refusal_of s (command_of text c) ≡ Some r
+found-first s text (Create c) r e = rw e refl
+found-first s text (Set n f v) r e = rw e refl
+found-first s text (Unset n f) r e = rw e refl
+found-first s text (Add n f v i) r e = rw e refl
+found-first s text (Remove n f i) r e = rw e refl
+found-first s text (RemoveValue n f v) r e = rw e refl
+found-first s text (Move n f to from) r e = rw e refl
+found-first s text (Delete o) r e = rw e refl
+found-first s text (NewResource u) r e = absurd (none-some r e)
+found-first s text (Resolve o f i b) r e = rw e refl
+found-first s text (Load k doc) r e = rw e refl
 
-pub early_err : (s : State) (c : Change) (r : Refused) → early_refusal (reads s) c ≡ Some r → Executed s (command_of c) (Err (record { refused = r; given_back = None })) s
-early_err s c r e = refused_as s c r (subst (IsNot no_memory) e (early-not-memory (reads s) c)) (found-first s c r e)
+pub early_err : (s : State) (text : List ℕ) (c : Change) (r : Refused) → early_refusal (reads s) c ≡ Some r → Executed s (command_of text c) (Err (record { refused = r; given_back = None })) s
+early_err s text c r e = refused_as s text c r (subst (IsNot no_memory) e (early-not-memory (reads s) c)) (found-first s text c r e)
 
-pub out_of_memory : (s : State) (c : Change) → IsBrought c → early_refusal (reads s) c ≡ None → Executed s (command_of c) (Err (record { refused = Memory; given_back = None })) s
-out_of_memory s (Create c) brought early = record { may = may-want s (Create c) brought early; outcome = refl; state = refl }
-out_of_memory s (Set n f v) brought early = record { may = may-want s (Set n f v) brought early; outcome = refl; state = refl }
-out_of_memory s (Unset n f) brought early = record { may = may-want s (Unset n f) brought early; outcome = refl; state = refl }
-out_of_memory s (Add n f v i) brought early = record { may = may-want s (Add n f v i) brought early; outcome = refl; state = refl }
-out_of_memory s (Remove n f i) brought early = record { may = may-want s (Remove n f i) brought early; outcome = refl; state = refl }
-out_of_memory s (RemoveValue n f v) brought early = record { may = may-want s (RemoveValue n f v) brought early; outcome = refl; state = refl }
-out_of_memory s (Move n f to from) brought early = record { may = may-want s (Move n f to from) brought early; outcome = refl; state = refl }
-out_of_memory s (Delete o) brought early = record { may = may-want s (Delete o) brought early; outcome = refl; state = refl }
-out_of_memory s (NewResource u) brought early = record { may = may-want s (NewResource u) brought early; outcome = refl; state = refl }
+pub out_of_memory : (s : State) (text : List ℕ) (c : Change) → IsProper (reads s) text c → early_refusal (reads s) c ≡ None → Executed s (command_of text c) (Err (record { refused = Memory; given_back = None })) s
+out_of_memory s text (Create c) brought early = record { may = may-want s text (Create c) brought early; outcome = refl; state = refl }
+out_of_memory s text (Set n f v) brought early = record { may = may-want s text (Set n f v) brought early; outcome = refl; state = refl }
+out_of_memory s text (Unset n f) brought early = record { may = may-want s text (Unset n f) brought early; outcome = refl; state = refl }
+out_of_memory s text (Add n f v i) brought early = record { may = may-want s text (Add n f v i) brought early; outcome = refl; state = refl }
+out_of_memory s text (Remove n f i) brought early = record { may = may-want s text (Remove n f i) brought early; outcome = refl; state = refl }
+out_of_memory s text (RemoveValue n f v) brought early = record { may = may-want s text (RemoveValue n f v) brought early; outcome = refl; state = refl }
+out_of_memory s text (Move n f to from) brought early = record { may = may-want s text (Move n f to from) brought early; outcome = refl; state = refl }
+out_of_memory s text (Delete o) brought early = record { may = may-want s text (Delete o) brought early; outcome = refl; state = refl }
+out_of_memory s text (NewResource u) brought early = record { may = may-want s text (NewResource u) brought early; outcome = refl; state = refl }
+out_of_memory s text (Resolve o f i b) brought early = record { may = may-want s text (Resolve o f i b) brought early; outcome = refl; state = refl }
+out_of_memory s text (Load k doc) brought early = record { may = may-want s text (Load k doc) brought early; outcome = refl; state = refl }
 
 -- what planning refuses
-pub planned_err : (s : State) (c : Change) (b : Bool) (r : Refused) → IsBrought c → early_refusal (reads s) c ≡ None → Plans b (Err r) s.model c → Executed s (command_of c) (Err (record { refused = r; given_back = None })) s
-planned_err s c b Memory brought early h = out_of_memory s c brought early
-planned_err s c b r brought early h = refused_as s c r refl (refusal-planned s c brought early ∙ ap (λ (o : Option Refused). o else_by full s c) h)
+pub planned_err : (s : State) (text : List ℕ) (c : Change) (b : Bool) (r : Refused) → IsProper (reads s) text c → early_refusal (reads s) c ≡ None → Plans b (Err r) s.model c → Executed s (command_of text c) (Err (record { refused = r; given_back = None })) s
+planned_err s text c b Memory brought early h = out_of_memory s text c brought early
+planned_err s text c b r brought early h = refused_as s text c r refl (refusal-planned s text c brought early ∙ ap (λ (o : Option Refused). o else_by full s c) h)
 
 -- what the adapters refuse
-pub chain_err : (s : State) (c : Change) (made : List Notice) (r : Refused) → IsBrought c → early_refusal (reads s) c ≡ None → late_refusal (reads s) c ≡ None → Heard (reads s).above made (chain (reads s) c) s.adapters → IsChainRefusal (is_chain_full (reads s).above made s.adapters) r → Executed s (command_of c) (Err (record { refused = r; given_back = None })) s
+pub chain_err : (s : State) (text : List ℕ) (c : Change) (made : List Notice) (r : Refused) → IsProper (reads s) text c → early_refusal (reads s) c ≡ None → late_refusal (reads s) c ≡ None → Heard (reads s).above made (chain (reads s) c) s.adapters → IsChainRefusal (is_chain_full (reads s).above made s.adapters) r → Executed s (command_of text c) (Err (record { refused = r; given_back = None })) s
 unfolding full
-chain_err s c made r brought early late heard (inl e) = rw e (out_of_memory s c brought early)
-chain_err s c made r brought early late heard (inr h) =
-    let found : refusal_of s (command_of c) ≡ Some AdapterFull = refusal-planned s c brought early ∙ ap (λ (o : Option Refused). o else_by full s c) late ∙ ap (λ b. AdapterFull where_so b) (sym heard.full ∙ h.1) in
-    rw (h.0) (refused_as s c AdapterFull refl found)
+chain_err s text c made r brought early late heard (inl e) = rw e (out_of_memory s text c brought early)
+chain_err s text c made r brought early late heard (inr h) =
+    let found : refusal_of s (command_of text c) ≡ Some AdapterFull = refusal-planned s text c brought early ∙ ap (λ (o : Option Refused). o else_by full s c) late ∙ ap (λ b. AdapterFull where_so b) (sym heard.full ∙ h.1) in
+    rw (h.0) (refused_as s text c AdapterFull refl found)
 
 -- the reply and the state that a change gives, where these adapters leave
 abbrev replied : State → Change → List Notice → Model → Answer → Released → Stepped
@@ -283,43 +326,72 @@ done_of s u made =
     let ns = option_map_or (chain (reads s)) made [] in
     let x : Released = released (λ a. false) (tell_chain (reads s).above ns s.adapters) in
     record {
-      outcome = Ok (record { answer = answer_of (reads s) s.adapters (command_of (NewResource u)); told = told_list (reads s).above ns s.adapters ++ x.told; released = x.views });
+      outcome = Ok (record { answer = answer_of (reads s) s.adapters (command.CreateResource u); told = told_list (reads s).above ns s.adapters ++ x.told; released = x.views });
       after = record { model = option_map_or (effects.after s.model) made s.model; adapters = x.others ++ [] };
+    }
+
+-- what is done where a proxy is resolved to this object
+done_resolved : (s : State) (o : ObjectNo) (f : FeatureNo) (i : ℕ) → Option ObjectNo → Stepped
+done_resolved s o f i b =
+    let c = Resolve o f i b in
+    let x : Released = released (λ a. false) (tell_chain (reads s).above (chain (reads s) c) s.adapters) in
+    record {
+      outcome = Ok (record { answer = answer_of (reads s) s.adapters (command.Resolve o f i); told = told_list (reads s).above (chain (reads s) c) s.adapters ++ x.told; released = x.views });
+      after = record { model = effects.after s.model c; adapters = x.others ++ [] };
+    }
+
+-- what is done where a text is read as this
+done_loaded : (s : State) (k : ResourceNo) → Result Doc DocFault → Stepped
+done_loaded s k read =
+    let ns = option_map_or (chain (reads s)) (load_of k read) [] in
+    let x : Released = released (λ a. false) (tell_chain (reads s).above ns s.adapters) in
+    record {
+      outcome = Ok (record { answer = answer.Loaded (objects_of read); told = told_list (reads s).above ns s.adapters ++ x.told; released = x.views });
+      after = record { model = option_map_or (effects.after s.model) (load_of k read) s.model; adapters = x.others ++ [] };
     }
 
 -- who is released by a change that tells these notices
 abbrev pub releases_of : State → Change → List Notice → Released
 releases_of s c ns = released (λ a. goes_with (reads s) c a.target) (tell_chain (reads s).above ns s.adapters)
 
-done_change : (s : State) (c : Change) → IsBrought c → done s (command_of c) ≡ replied s c (chain (reads s) c) (effects.after s.model c) (answer_of (reads s) s.adapters (command_of c)) (releases_of s c (chain (reads s) c))
-unfolding done_of
-done_change s (Create k) brought = let c = Create k in no_more s c (chain (reads s) c) (effects.after s.model c) (answer_of (reads s) s.adapters (command_of c)) (releases_of s c (chain (reads s) c))
-done_change s (Set n f v) brought = let c = Set n f v in no_more s c (chain (reads s) c) (effects.after s.model c) (answer_of (reads s) s.adapters (command_of c)) (releases_of s c (chain (reads s) c))
-done_change s (Unset n f) brought = let c = Unset n f in no_more s c (chain (reads s) c) (effects.after s.model c) (answer_of (reads s) s.adapters (command_of c)) (releases_of s c (chain (reads s) c))
-done_change s (Add n f v i) brought = let c = Add n f v i in no_more s c (chain (reads s) c) (effects.after s.model c) (answer_of (reads s) s.adapters (command_of c)) (releases_of s c (chain (reads s) c))
-done_change s (Remove n f i) brought = let c = Remove n f i in no_more s c (chain (reads s) c) (effects.after s.model c) (answer_of (reads s) s.adapters (command_of c)) (releases_of s c (chain (reads s) c))
-done_change s (RemoveValue n f v) brought = let c = RemoveValue n f v in no_more s c (chain (reads s) c) (effects.after s.model c) (answer_of (reads s) s.adapters (command_of c)) (releases_of s c (chain (reads s) c))
-done_change s (Move n f to from) brought = let c = Move n f to from in no_more s c (chain (reads s) c) (effects.after s.model c) (answer_of (reads s) s.adapters (command_of c)) (releases_of s c (chain (reads s) c))
-done_change s (Delete o) brought = let c = Delete o in no_more s c (chain (reads s) c) (effects.after s.model c) (answer_of (reads s) s.adapters (command_of c)) (releases_of s c (chain (reads s) c))
-done_change s (NewResource u) web =
+done_change : (s : State) (text : List ℕ) (c : Change) → IsProper (reads s) text c → done s (command_of text c) ≡ replied s c (chain (reads s) c) (effects.after s.model c) (answer_of (reads s) s.adapters (command_of text c)) (releases_of s c (chain (reads s) c))
+unfolding done_of done_resolved done_loaded
+done_change s text (Create k) brought = let c = Create k in no_more s c (chain (reads s) c) (effects.after s.model c) (answer_of (reads s) s.adapters (command_of text c)) (releases_of s c (chain (reads s) c))
+done_change s text (Set n f v) brought = let c = Set n f v in no_more s c (chain (reads s) c) (effects.after s.model c) (answer_of (reads s) s.adapters (command_of text c)) (releases_of s c (chain (reads s) c))
+done_change s text (Unset n f) brought = let c = Unset n f in no_more s c (chain (reads s) c) (effects.after s.model c) (answer_of (reads s) s.adapters (command_of text c)) (releases_of s c (chain (reads s) c))
+done_change s text (Add n f v i) brought = let c = Add n f v i in no_more s c (chain (reads s) c) (effects.after s.model c) (answer_of (reads s) s.adapters (command_of text c)) (releases_of s c (chain (reads s) c))
+done_change s text (Remove n f i) brought = let c = Remove n f i in no_more s c (chain (reads s) c) (effects.after s.model c) (answer_of (reads s) s.adapters (command_of text c)) (releases_of s c (chain (reads s) c))
+done_change s text (RemoveValue n f v) brought = let c = RemoveValue n f v in no_more s c (chain (reads s) c) (effects.after s.model c) (answer_of (reads s) s.adapters (command_of text c)) (releases_of s c (chain (reads s) c))
+done_change s text (Move n f to from) brought = let c = Move n f to from in no_more s c (chain (reads s) c) (effects.after s.model c) (answer_of (reads s) s.adapters (command_of text c)) (releases_of s c (chain (reads s) c))
+done_change s text (Delete o) brought = let c = Delete o in no_more s c (chain (reads s) c) (effects.after s.model c) (answer_of (reads s) s.adapters (command_of text c)) (releases_of s c (chain (reads s) c))
+done_change s text (NewResource u) web =
     let c = NewResource u in
     ap (λ (o : Option (List ℕ)). done_of s u (option_map NewResource o)) (joined-web [] u web)
-    ∙ no_more s c (chain (reads s) c) (effects.after s.model c) (answer_of (reads s) s.adapters (command_of c)) (releases_of s c (chain (reads s) c))
+    ∙ no_more s c (chain (reads s) c) (effects.after s.model c) (answer_of (reads s) s.adapters (command_of text c)) (releases_of s c (chain (reads s) c))
+done_change s text (Load k doc) is =
+    let c = Load k doc in
+    ap (done_loaded s k) is
+    ∙ no_more s c (chain (reads s) c) (effects.after s.model c) (answer.Loaded (length doc.objects)) (releases_of s c (chain (reads s) c))
+    ∙ ap (λ (a : Answer). replied s c (chain (reads s) c) (effects.after s.model c) a (releases_of s c (chain (reads s) c))) (sym (ap (λ (x : Result Doc DocFault). answer.Loaded (objects_of x)) is))
+done_change s text (Resolve o f i b) own =
+    let c = Resolve o f i b in
+    ap (done_resolved s o f i) (sym own)
+    ∙ no_more s c (chain (reads s) c) (effects.after s.model c) (answer_of (reads s) s.adapters (command_of text c)) (releases_of s c (chain (reads s) c))
 
 -- a change that was made, with the notices that somebody may hear
-pub changed : (s : State) (c : Change) (made : List Notice) → IsBrought c → early_refusal (reads s) c ≡ None → late_refusal (reads s) c ≡ None → Heard (reads s).above made (chain (reads s) c) s.adapters → is_chain_full (reads s).above made s.adapters ≡ false
-    → step s (command_of c) ≡ replied s c made (effects.after s.model c) (answer_of (reads s) s.adapters (command_of c)) (releases_of s c made)
+pub changed : (s : State) (text : List ℕ) (c : Change) (made : List Notice) → IsProper (reads s) text c → early_refusal (reads s) c ≡ None → late_refusal (reads s) c ≡ None → Heard (reads s).above made (chain (reads s) c) s.adapters → is_chain_full (reads s).above made s.adapters ≡ false
+    → step s (command_of text c) ≡ replied s c made (effects.after s.model c) (answer_of (reads s) s.adapters (command_of text c)) (releases_of s c made)
 unfolding full
-changed s c made brought early late heard free =
-    let found : refusal_of s (command_of c) ≡ None = refusal-planned s c brought early ∙ ap (λ (o : Option Refused). o else_by full s c) late ∙ ap (λ b. AdapterFull where_so b) (sym heard.full ∙ free) in
-    ap (step_unless s (command_of c)) found ∙ rw (heard.told, heard.adapters) (done_change s c brought)
+changed s text c made brought early late heard free =
+    let found : refusal_of s (command_of text c) ≡ None = refusal-planned s text c brought early ∙ ap (λ (o : Option Refused). o else_by full s c) late ∙ ap (λ b. AdapterFull where_so b) (sym heard.full ∙ free) in
+    ap (step_unless s (command_of text c)) found ∙ rw (heard.told, heard.adapters) (done_change s text c brought)
 
 -- the same, for a reply and a state that are known by their parts
-pub changed_to : (s t : State) (c : Change) (made : List Notice) (a : Answer) (told : List (AdapterNo × Notice)) (views : List (AdapterNo × View)) → IsBrought c → early_refusal (reads s) c ≡ None → late_refusal (reads s) c ≡ None → Heard (reads s).above made (chain (reads s) c) s.adapters → is_chain_full (reads s).above made s.adapters ≡ false
-    → a ≡ answer_of (reads s) s.adapters (command_of c) → told ≡ told_list (reads s).above made s.adapters ++ (releases_of s c made).told → views ≡ (releases_of s c made).views → t.model ≡ effects.after s.model c → t.adapters ≡ (releases_of s c made).others
-    → step s (command_of c) ≡ record { outcome = Ok (record { answer = a; told = told; released = views }); after = t }
-changed_to s t c made a told views brought early late heard free answered told_is views_are model adapters =
-    changed s c made brought early late heard free
+pub changed_to : (s t : State) (text : List ℕ) (c : Change) (made : List Notice) (a : Answer) (told : List (AdapterNo × Notice)) (views : List (AdapterNo × View)) → IsProper (reads s) text c → early_refusal (reads s) c ≡ None → late_refusal (reads s) c ≡ None → Heard (reads s).above made (chain (reads s) c) s.adapters → is_chain_full (reads s).above made s.adapters ≡ false
+    → a ≡ answer_of (reads s) s.adapters (command_of text c) → told ≡ told_list (reads s).above made s.adapters ++ (releases_of s c made).told → views ≡ (releases_of s c made).views → t.model ≡ effects.after s.model c → t.adapters ≡ (releases_of s c made).others
+    → step s (command_of text c) ≡ record { outcome = Ok (record { answer = a; told = told; released = views }); after = t }
+changed_to s t text c made a told views brought early late heard free answered told_is views_are model adapters =
+    changed s text c made brought early late heard free
     ∙ sym (λ i. record { outcome = Ok (record { answer = answered i; told = told_is i; released = views_are i }); after = record { model = model i; adapters = adapters i } })
 
 ---------------------------------------------------------------- who leaves

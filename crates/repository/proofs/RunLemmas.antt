@@ -1,9 +1,14 @@
 -- A run, one command at a time.
 use Rattle.std.proofs.Common.{◌≡◌, Bool, true, false, List, [], ◌∷◌, ◌++◌, Option, Some, None, Ok, Err, refl, sym, ap, subst, ◌∙◌, if◌then◌else◌, ℕ, option_map}
-use Rattle.std.specs.Prelude.{MatchBool}
+use Rattle.std.specs.Prelude.{MatchBool, Result}
 use Rattle.repository.specs.declared.command.Command.{Command}
-use Rattle.repository.specs.declared.command.Command.TheVariants.{Create, Set, Unset, Add, Remove, RemoveValue, Move, Delete, Attach, Detach, Get, IsSet, Container, Contents, Class, AdapterTold, AdapterKept, CreateResource, Resource, Validate, Fragment, ObjectAt, Save}
-use Rattle.repository.specs.State.{State}
+use Rattle.repository.specs.declared.command.Command.TheVariants.{Create, Set, Unset, Add, Remove, RemoveValue, Move, Delete, Attach, Detach, Get, IsSet, Container, Contents, Class, AdapterTold, AdapterKept, CreateResource, Resolve, Load, Resource, Validate, Fragment, ObjectAt, Save}
+use Rattle.repository.specs.State.{State, reads}
+use Rattle.repository.specs.Loads.{load_of, reads_into}
+use Rattle.mm_types.specs.declared.document_fault.DocFault.{DocFault}
+use Rattle.mm_types.specs.declared.numbers.ResourceNo.{ResourceNo}
+use Rattle.models.specs.Model.{Model}
+use Rattle.resource_docs.specs.declared.doc.Doc.{Doc}
 use Rattle.notice_chain.specs.View.{View}
 use Rattle.repository.specs.Views.{Outcome, brought}
 use Rattle.repository.specs.declared.reply.Failure.{Failure}
@@ -50,6 +55,10 @@ resource-metamodel : (s : State) (uri : Option (List ℕ)) → (option_map_or (e
 resource-metamodel s None = refl
 resource-metamodel s (Some u) = refl
 
+load-metamodel : (s : Model) (k : ResourceNo) (read : Result Doc DocFault) → (option_map_or (effects.after s) (load_of k read) s).metamodel ≡ s.metamodel
+load-metamodel s k (Ok doc) = refl
+load-metamodel s k (Err f) = refl
+
 -- no command changes the metamodel
 done-metamodel : (s : State) (c : Command View) → (done s c).after.model.metamodel ≡ s.model.metamodel
 done-metamodel s (Create c) = refl
@@ -61,6 +70,8 @@ done-metamodel s (RemoveValue n f v) = refl
 done-metamodel s (Move n f to from) = refl
 done-metamodel s (Delete o) = refl
 done-metamodel s (CreateResource t) = resource-metamodel s (joined [] t)
+done-metamodel s (Resolve o f i) = refl
+done-metamodel s (Load k text) = load-metamodel s.model k (reads_into (reads s) k text)
 done-metamodel s (Attach number target deep view) = refl
 done-metamodel s (Detach number) = refl
 done-metamodel s (Get n f) = refl

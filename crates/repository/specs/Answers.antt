@@ -23,6 +23,8 @@ use Rattle.mm_types.specs.declared.numbers.ObjectNo.{ObjectNo}
 use Rattle.fragment_paths.specs.Fragments.{fragment}
 use Rattle.fragment_paths.specs.Finding.{at}
 use Rattle.saved_docs.specs.Document.{saved}
+use Rattle.repository.specs.Loads.{objects_of, reads_into}
+use Rattle.repository.specs.Resolving.{target_at}
 
 -- what is counted of the adapter of a number
 abbrev pub count_of : List Listed → AdapterNo → (View → ℕ) → ℕ
@@ -52,7 +54,7 @@ abbrev pub short_features : Reading → ObjectNo → List FeatureNo
 short_features r o = filter (λ f. is_too_few r (at_end (node.Object o) f)) (all_features_of r (node.Object o))
 
 -- an `add` answers whether the list changed, what takes a value out or moves it answers the value, `remove_value` whether it was there,
--- and `delete` how many objects it destroyed
+-- `delete` how many objects it destroyed, `resolve` the object that the proxy finds, and `load` how many objects it made
 abbrev pub answer_of : Reading → List Listed → Command View → Answer
 answer_of r rs (command.Create c) = answer.Object (record { 0 = r.next })
 answer_of r rs (command.Set n f v) = answer.Done
@@ -63,6 +65,8 @@ answer_of r rs (command.RemoveValue n f v) = answer.Flag (has_value (r.values (a
 answer_of r rs (command.Move n f to from) = answer.Value (value_in (r.values (at_end n f)) from)
 answer_of r rs (command.Delete o) = answer.Destroyed (length (subtree r o))
 answer_of r rs (command.CreateResource t) = answer.Resource (record { 0 = length r.uris })
+answer_of r rs (command.Resolve o f i) = answer.Object (unwrap_or (target_at r o f i) (record { 0 = 0 }))
+answer_of r rs (command.Load k text) = answer.Loaded (objects_of (reads_into r k text))
 answer_of r rs (command.Attach number target deep view) = answer.Done
 answer_of r rs (command.Detach number) = answer.Done
 answer_of r rs (command.Get n f) = got_answer (got r (at_end n f))

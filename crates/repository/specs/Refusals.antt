@@ -16,6 +16,8 @@ use Rattle.handshake.specs.Refusals as planned
 use Rattle.handshake.specs.Tellings as planned_chain
 use Rattle.handshake.specs.declared.change.Change.{Change}
 use Rattle.handshake.specs.declared.change.Change.TheVariants as change
+use Rattle.repository.specs.Loads.{load_of, load_refusal, reads_into}
+use Rattle.repository.specs.Resolving.{target_at}
 use Rattle.repository.specs.declared.command.Command.{Command}
 use Rattle.repository.specs.declared.command.Command.TheVariants as command
 use Rattle.mm_types.specs.declared.limits.TheConstants.{RESOURCES}
@@ -25,35 +27,38 @@ use Rattle.web_uris.specs.Addresses.{has_mark}
 use Rattle.fragment_paths.specs.Fragments.{fragment}
 use Rattle.saved_docs.specs.Saved.{save_refusal}
 
--- the change that a command makes of the model, if it makes one
-abbrev pub change_of : Command View → Option Change
-change_of (command.Create c) = Some (change.Create c)
-change_of (command.Set n f v) = Some (change.Set n f v)
-change_of (command.Unset n f) = Some (change.Unset n f)
-change_of (command.Add n f v i) = Some (change.Add n f v i)
-change_of (command.Remove n f i) = Some (change.Remove n f i)
-change_of (command.RemoveValue n f v) = Some (change.RemoveValue n f v)
-change_of (command.Move n f to from) = Some (change.Move n f to from)
-change_of (command.Delete o) = Some (change.Delete o)
-change_of (command.CreateResource t) = option_map change.NewResource (joined [] t)
-change_of (command.Attach number target deep view) = None
-change_of (command.Detach number) = None
-change_of (command.Get n f) = None
-change_of (command.IsSet n f) = None
-change_of (command.Container o) = None
-change_of (command.Resource o) = None
-change_of (command.Contents n) = None
-change_of (command.Validate o) = None
-change_of (command.Fragment o) = None
-change_of (command.ObjectAt t) = None
-change_of (command.Save k) = None
-change_of (command.Class o) = None
-change_of (command.AdapterTold number) = None
-change_of (command.AdapterKept number) = None
+-- the change that a command makes of the model, if it makes one; a proxy is resolved to the object that it finds, and a text is loaded as
+-- what it is read as
+abbrev pub change_of : Reading → Command View → Option Change
+change_of r (command.Create c) = Some (change.Create c)
+change_of r (command.Set n f v) = Some (change.Set n f v)
+change_of r (command.Unset n f) = Some (change.Unset n f)
+change_of r (command.Add n f v i) = Some (change.Add n f v i)
+change_of r (command.Remove n f i) = Some (change.Remove n f i)
+change_of r (command.RemoveValue n f v) = Some (change.RemoveValue n f v)
+change_of r (command.Move n f to from) = Some (change.Move n f to from)
+change_of r (command.Delete o) = Some (change.Delete o)
+change_of r (command.CreateResource t) = option_map change.NewResource (joined [] t)
+change_of r (command.Resolve o f i) = Some (change.Resolve o f i (target_at r o f i))
+change_of r (command.Load k text) = load_of k (reads_into r k text)
+change_of r (command.Attach number target deep view) = None
+change_of r (command.Detach number) = None
+change_of r (command.Get n f) = None
+change_of r (command.IsSet n f) = None
+change_of r (command.Container o) = None
+change_of r (command.Resource o) = None
+change_of r (command.Contents n) = None
+change_of r (command.Validate o) = None
+change_of r (command.Fragment o) = None
+change_of r (command.ObjectAt t) = None
+change_of r (command.Save k) = None
+change_of r (command.Class o) = None
+change_of r (command.AdapterTold number) = None
+change_of r (command.AdapterKept number) = None
 
 -- the notices that its change tells
 abbrev pub chain : Reading → Command View → List Notice
-chain r c = option_map_or (planned_chain.chain r) (change_of c) []
+chain r c = option_map_or (planned_chain.chain r) (change_of r c) []
 
 ---------------------------------------------------------------- what is found without memory
 
@@ -70,6 +75,8 @@ early_refusal r rs (command.RemoveValue n f v) = planned.early_refusal r (change
 early_refusal r rs (command.Move n f to from) = planned.early_refusal r (change.Move n f to from)
 early_refusal r rs (command.Delete o) = planned.early_refusal r (change.Delete o)
 early_refusal r rs (command.CreateResource t) = None
+early_refusal r rs (command.Resolve o f i) = feature_refusal r (node.Object o) f
+early_refusal r rs (command.Load k text) = node_refusal r (node.Resource k)
 early_refusal r rs (command.Attach number target deep view) = node_refusal r target
 early_refusal r rs (command.Detach number) = adapter_refusal rs number
 early_refusal r rs (command.Get n f) = feature_refusal r n f
@@ -106,6 +113,8 @@ late_refusal r rs (command.RemoveValue n f v) = planned.late_refusal r (change.R
 late_refusal r rs (command.Move n f to from) = planned.late_refusal r (change.Move n f to from)
 late_refusal r rs (command.Delete o) = planned.late_refusal r (change.Delete o)
 late_refusal r rs (command.CreateResource t) = resource_refusal r t (joined [] t)
+late_refusal r rs (command.Resolve o f i) = planned.late_refusal r (change.Resolve o f i (target_at r o f i))
+late_refusal r rs (command.Load k text) = load_refusal r k (reads_into r k text)
 late_refusal r rs (command.Attach number target deep view) = attach_refusal rs number view
 late_refusal r rs (command.Detach number) = None
 late_refusal r rs (command.Get n f) = None

@@ -6,7 +6,7 @@ use Rattle.mm_types.specs.declared.refused.Refused.{Refused}
 use Rattle.notice_chain.specs.View.{View}
 use Rattle.notice_chain.specs.Listed.{Listed, has_no, tell_chain, told_list}
 use Rattle.notice_chain.specs.Released.{Released, released}
-use Rattle.models.specs.Model.{Model}
+use Rattle.models.specs.Model.{Model, reading}
 use Rattle.models.specs.Reading.{Reading}
 use Rattle.deletion.specs.Outer.{gone}
 use Rattle.handshake.specs.Effects as effects
@@ -42,6 +42,8 @@ leaves r (command.RemoveValue n f v) a = false
 leaves r (command.Move n f to from) a = false
 leaves r (command.Delete o) a = gone r o a.target
 leaves r (command.CreateResource t) a = false
+leaves r (command.Resolve o f i) a = false
+leaves r (command.Load k text) a = false
 leaves r (command.Attach number target deep view) a = false
 leaves r (command.Detach number) a = has_no number a
 leaves r (command.Get n f) a = false
@@ -68,6 +70,8 @@ joins (command.RemoveValue n f v) = []
 joins (command.Move n f to from) = []
 joins (command.Delete o) = []
 joins (command.CreateResource t) = []
+joins (command.Resolve o f i) = []
+joins (command.Load k text) = []
 joins (command.Attach number target deep view) = record { no = number; target = target; deep = deep; view = view } ∷ []
 joins (command.Detach number) = []
 joins (command.Get n f) = []
@@ -99,7 +103,7 @@ abbrev pub adapters_after : Reading → List Listed → Command View → List Li
 adapters_after r rs c = (releases r rs c).others ++ joins c
 
 abbrev pub model_after : Model → Command View → Model
-model_after s c = option_map_or (effects.after s) (change_of c) s
+model_after s c = option_map_or (effects.after s) (change_of (reading s) c) s
 
 abbrev pub done : State → Command View → Stepped
 done s c =

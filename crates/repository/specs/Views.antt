@@ -1,5 +1,5 @@
 -- Commands and outcomes with views in the place of adapters: of an adapter only what it has heard is determined.
-use Rattle.std.specs.Prelude.{map, Option, Some, None, Result, Ok, Err, option_map}
+use Rattle.std.specs.Prelude.{ℕ, List, map, Option, Some, None, Result, Ok, Err, option_map}
 use Rattle.handshake.specs.declared.change.Change.{Change}
 use Rattle.handshake.specs.declared.change.Change.TheVariants as change
 use Rattle.mm_types.specs.declared.refused.Refused.{Refused}
@@ -13,17 +13,19 @@ use Rattle.repository.specs.declared.reply.Failure.{Failure}
 abbrev pub Outcome : Type 0
 Outcome = Result (Reply View) (Failure View)
 
--- the command that asks for a change
-abbrev pub command_of : {A : Type 0} → Change → Command A
-command_of (change.Create c) = command.Create c
-command_of (change.Set n f v) = command.Set n f v
-command_of (change.Unset n f) = command.Unset n f
-command_of (change.Add n f v i) = command.Add n f v i
-command_of (change.Remove n f i) = command.Remove n f i
-command_of (change.RemoveValue n f v) = command.RemoveValue n f v
-command_of (change.Move n f to from) = command.Move n f to from
-command_of (change.Delete o) = command.Delete o
-command_of (change.NewResource u) = command.CreateResource u
+-- the command that asks for a change, where a document is read from this text
+abbrev pub command_of : {A : Type 0} → List ℕ → Change → Command A
+command_of text (change.Create c) = command.Create c
+command_of text (change.Set n f v) = command.Set n f v
+command_of text (change.Unset n f) = command.Unset n f
+command_of text (change.Add n f v i) = command.Add n f v i
+command_of text (change.Remove n f i) = command.Remove n f i
+command_of text (change.RemoveValue n f v) = command.RemoveValue n f v
+command_of text (change.Move n f to from) = command.Move n f to from
+command_of text (change.Delete o) = command.Delete o
+command_of text (change.NewResource u) = command.CreateResource u
+command_of text (change.Resolve o f i b) = command.Resolve o f i
+command_of text (change.Load k doc) = command.Load k text
 
 -- the adapter that a command brings
 abbrev pub brought : {A : Type 0} → Command A → Option A
@@ -36,6 +38,8 @@ brought (command.RemoveValue n f v) = None
 brought (command.Move n f to from) = None
 brought (command.Delete o) = None
 brought (command.CreateResource t) = None
+brought (command.Resolve o f i) = None
+brought (command.Load k text) = None
 brought (command.Attach number target deep adapter) = Some adapter
 brought (command.Detach number) = None
 brought (command.Get n f) = None
@@ -62,6 +66,8 @@ module _ {A : Type 0} (heard : A → View) where
   command_view (command.Move n f to from) = command.Move n f to from
   command_view (command.Delete o) = command.Delete o
   command_view (command.CreateResource t) = command.CreateResource t
+  command_view (command.Resolve o f i) = command.Resolve o f i
+  command_view (command.Load k text) = command.Load k text
   command_view (command.Attach number target deep adapter) = command.Attach number target deep (heard adapter)
   command_view (command.Detach number) = command.Detach number
   command_view (command.Get n f) = command.Get n f

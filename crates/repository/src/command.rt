@@ -49,6 +49,17 @@ pub enum Command<A = Box<dyn Adapter>> {
     Delete(ObjectNo),
     /// Makes a resource of the URI that a text gives (EMF: ResourceSet.createResource).
     CreateResource(Text),
+    /// Puts the object at the address of the proxy at an index of a reference in its place (EMF: EcoreUtil.resolve).
+    Resolve {
+        object: ObjectNo,
+        feature: FeatureNo,
+        index: u32,
+    },
+    /// Makes what a text says in an empty resource (EMF: Resource.load).
+    Load {
+        resource: ResourceNo,
+        text: Text,
+    },
     /// Attaches an adapter to a node, last in attach order (EMF: Notifier.eAdapters().add). A deep one is also notified of what
     /// happens below the node (EMF: EContentAdapter).
     Attach {

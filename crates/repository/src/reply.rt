@@ -24,6 +24,8 @@ pub enum Answer {
     Count(u64),
     /// How many objects were destroyed.
     Destroyed(u64),
+    /// How many objects a document made.
+    Loaded(u64),
     /// The object that contains another, if one does.
     Container(Option<ObjectNo>),
     /// The resource that an object is in, if it is in one.

@@ -7,7 +7,9 @@ mod changes;
 mod commands;
 mod documents;
 mod lists;
+mod loads;
 mod reads;
+mod resolving;
 mod resources;
 mod validation;
 

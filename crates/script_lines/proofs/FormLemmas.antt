@@ -3,7 +3,7 @@ use Rattle.std.proofs.Common.{◌≡◌, ◌<◌, ◌≤◌, ℕ, Bool, true, fa
 use Rattle.std.specs.Str.{is_utf8}
 use Rattle.std.proofs.lemmas.Str.{IsUtf8-from_is_utf8, is_utf8-from_IsUtf8}
 use Rattle.script_lines.specs.Words.{words}
-use Rattle.script_lines.specs.Forms.{form, form_of, line_of}
+use Rattle.script_lines.specs.Forms.{form, form_of, is_load, line_of, text_line}
 use Rattle.script_lines.specs.declared.line.Line.TheVariants.{Bad}
 
 -- ---- numbers of words
@@ -43,6 +43,10 @@ pub not_text : (bytes : List ℕ) → ¬ (IsUtf8 bytes) → Bad ≡ form bytes
 unfolding form
 not_text bytes h = at_false (is_utf8 bytes) _ Bad (λ e. absurd (h (IsUtf8-from_is_utf8 bytes e)))
 
-pub text_form : (bytes : List ℕ) → IsUtf8 bytes → form bytes ≡ line_of (words bytes)
+pub text_form : (bytes : List ℕ) → IsUtf8 bytes → form bytes ≡ text_line bytes
 unfolding form
 text_form bytes h = let e = is_utf8-from_IsUtf8 bytes h in rw e refl
+
+-- a line with another verb is cut into words
+pub other_line : (bytes : List ℕ) → is_load bytes ≡ false → text_line bytes ≡ line_of (words bytes)
+other_line bytes h = rw h refl

@@ -3,3 +3,4 @@ mod WordLemmas
 mod TextLemmas
 mod ValueLemmas
 mod FormLemmas
+mod LoadLemmas

@@ -1,8 +1,10 @@
--- What a line asks for: its first word says what is done, the others to what.
+-- What a line asks for: its first word says what is done, the others to what. A `load` line ends with the text of a
+-- document, which is not cut into words.
 use Rattle.std.specs.Prelude.{ℕ, Bool, true, false, List, [], ◌∷◌, Option, Some, None, option_map, option_and_then, codes, if◌then◌else◌}
 use Rattle.std.specs.Option.{option_zip}
+use Rattle.std.specs.List.{after_first, before_first, list_any}
 use Rattle.std.specs.Str.{bytes_eq, is_utf8}
-use Rattle.script_lines.specs.Words.{words}
+use Rattle.script_lines.specs.Words.{after_spaces, is_space, words}
 use Rattle.mm_types.specs.Integers.{natural}
 use Rattle.script_lines.specs.Values.{adapter_in, feature_in, feature_value_in, name_in, node_in, object_in, resource_in, string_in}
 use Rattle.script_lines.specs.declared.form.Form.{Form}
@@ -90,6 +92,10 @@ add_at_form n f v i = option_and_then (λ k. add_form n f v (Some k)) (natural i
 abbrev pub remove_form : List ℕ → List ℕ → List ℕ → Option Form
 remove_form n f i = option_map (λ p. asks.Remove p.0.0 p.0.1 p.1) (option_zip (feature_in n f) (natural i))
 
+-- `resolve OBJ NAME N`
+abbrev pub resolve_form : List ℕ → List ℕ → List ℕ → Option Form
+resolve_form o f i = option_map (λ p. asks.Resolve p.0.0 p.0.1 p.1) (option_zip (option_zip (object_in o) (name_in f)) (natural i))
+
 -- `removevalue NODE NAME VALUE`
 abbrev pub removevalue_form : List ℕ → List ℕ → List ℕ → Option Form
 removevalue_form n f v = option_map (λ p. asks.RemoveValue p.0.0 p.0.1 p.1) (feature_value_in n f v)
@@ -140,6 +146,7 @@ with_three verb a b c =
     else if bytes_eq verb (codes "add") then add_form a b c None
     else if bytes_eq verb (codes "remove") then remove_form a b c
     else if bytes_eq verb (codes "removevalue") then removevalue_form a b c
+    else if bytes_eq verb (codes "resolve") then resolve_form a b c
     else None
 
 -- the forms of a verb and four arguments
@@ -166,6 +173,28 @@ abbrev pub line_of : List (List ℕ) → Line
 line_of [] = line.Blank
 line_of ws = line_with (form_of ws)
 
+-- the verb of a line: what stands before the first space that follows those that lead the line
+abbrev pub verb_in : List ℕ → List ℕ
+verb_in bytes = before_first is_space (after_spaces bytes)
+
+-- what follows that space
+abbrev pub behind_verb : List ℕ → List ℕ
+behind_verb bytes = after_first is_space (after_spaces bytes)
+
+-- `load RES REST`, from RES on: the first space ends RES, and REST is every byte that follows it
+abbrev pub load_form : List ℕ → Option Form
+load_form bytes =
+    if list_any is_space bytes then option_map (λ r. asks.Load r (after_first is_space bytes)) (resource_in (before_first is_space bytes))
+    else None
+
+-- the line begins with the word `load`
+abbrev pub is_load : List ℕ → Bool
+is_load bytes = bytes_eq (verb_in bytes) (codes "load")
+
+-- what the text of a line asks for
+abbrev pub text_line : List ℕ → Line
+text_line bytes = if is_load bytes then line_with (load_form (after_spaces (behind_verb bytes))) else line_of (words bytes)
+
 -- what the bytes of a line ask for
 unfoldable pub form : List ℕ → Line
-form bytes = if is_utf8 bytes then line_of (words bytes) else line.Bad
+form bytes = if is_utf8 bytes then text_line bytes else line.Bad

@@ -7,6 +7,11 @@ use Rattle.script_lines.specs.declared.grammar.TheConstants.{BACKSLASH, QUOTE, S
 abbrev pub is_space : ℕ → Bool
 is_space c = c == SPACE
 
+-- what follows the spaces that lead some bytes
+abbrev pub after_spaces : List ℕ → List ℕ
+after_spaces [] = []
+after_spaces (c ∷ cs) = if is_space c then after_spaces cs else c ∷ cs
+
 -- how many bytes stand before the first space
 abbrev pub plain_len : List ℕ → ℕ
 plain_len = position_or_len is_space

@@ -49,6 +49,12 @@ pub enum Form<'a> {
     },
     /// A new resource of the URI that a text gives (EMF: ResourceSet.createResource).
     Resource(Text),
+    /// The object at the address of the proxy at a place of a reference, counted from 0, put in its place (EMF: EcoreUtil.resolve).
+    Resolve {
+        object: ObjectNo,
+        feature: Name<'a>,
+        index: u32,
+    },
     /// An adapter attached to a node. A deep one is also notified of what happens below the node (EMF: Notifier.eAdapters().add).
     Attach {
         no: AdapterNo,
@@ -78,6 +84,11 @@ pub enum Form<'a> {
     At(Text),
     /// The document of a resource (EMF: Resource.save).
     Save(ResourceNo),
+    /// A resource loaded from a document, whose text the line gives as it is (EMF: Resource.load).
+    Load {
+        resource: ResourceNo,
+        text: Text,
+    },
     /// The class of an object (EMF: EObject.eClass).
     Class(ObjectNo),
     /// What a feature holds (EMF: EObject.eGet).

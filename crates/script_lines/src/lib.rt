@@ -7,6 +7,7 @@ pub mod grammar;
 pub mod laws;
 mod line;
 mod lines;
+mod load;
 mod name;
 mod parse;
 mod texts;
@@ -15,8 +16,7 @@ mod words;
 mod written_value;
 
 pub use form::Form;
-pub use line::Line;
+pub use line::{Line, parse_line};
 pub use lines::next_line;
 pub use name::Name;
-pub use parse::parse_line;
 pub use written_value::WrittenValue;

@@ -1,5 +1,13 @@
-//! A line of a script.
+//! A line of a script, and what it asks for.
+ghost use Rattle.std.specs.Prelude.{◌≡◌, IfOk, map};
+ghost use Rattle.script_lines.specs.Forms.{form, line_of as the_line_of, line_with as the_line_with, text_line};
+
 use crate::form::Form;
+use crate::load::{load_of, verb_of};
+use crate::parse::form_of;
+use crate::words::words_of;
+use std::alloc::{AllocError, Global};
+use std::str;
 
 /// A line of a script.
 #[derive(Drop)]
@@ -10,4 +18,50 @@ pub enum Line<'a> {
     Bad,
     /// It asks for something.
     Form(Form<'a>),
+}
+
+/// A line that has words: it fits a form, or is bad.
+fn line_with(form: Option<Form<'_>>) -> Line<'_>
+    ensures { result ≡ the_line_with form.entry }
+{
+    match form {
+        Some(form) => Line::Form(form),
+        None => Line::Bad,
+    }
+}
+
+/// What the words of a line ask for.
+fn line_of<'a>(alloc: Global, words: &[&'a str]) -> Result<Line<'a>, AllocError>
+    ensures { IfOk result (λ l. l ≡ the_line_of (map (λ w. w.now) words.now)) }
+{
+    if words.is_empty() {
+        return Ok(Line::Blank);
+    }
+    Ok(line_with(form_of(alloc, words)?))
+}
+
+/// What the text of a line asks for.
+fn text_line_of(alloc: Global, text: &str) -> Result<Line<'_>, AllocError>
+    ensures { IfOk result (λ l. l ≡ text_line text.now) }
+{
+    let (verb, rest) = verb_of(text);
+    if verb == "load" {
+        return Ok(line_with(load_of(alloc, rest)?));
+    }
+    line_of(alloc, words_of(text).as_slice())
+}
+
+/// What a line asks for. Errs only where memory is refused for the text that the line writes as a value.
+///
+/// A line is the bytes between two newlines, without them. It is blank where it is empty or has only
+/// spaces, and bad where it is not UTF-8 or fits no form of the language. The text that a `load` line
+/// gives is not cut into words: it is what follows the one space behind the resource, to the end of the
+/// line. The time is linear in the line's length.
+pub fn parse_line(alloc: Global, line: &[u8]) -> Result<Line<'_>, AllocError>
+    ensures { IfOk result (λ l. l ≡ form line.now) }
+{
+    match str::from_utf8(line) {
+        Ok(text) => text_line_of(alloc, text),
+        Err(_) => Ok(Line::Bad),
+    }
 }

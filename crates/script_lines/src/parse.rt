@@ -1,17 +1,14 @@
-//! What a line asks for: its words, and the form that they fit.
+//! The form that the words of a line fit.
 ghost use Rattle.std.specs.Prelude.{◌≡◌, IfOk, map};
-ghost use Rattle.script_lines.specs.Forms.{add_at_form, add_form, at_form, attach_form, class_form, container_form, contents_form, delete_form, depth_in, detach_form, form, form_of as the_form_of, fragment_form, get_form, isset_form, line_of as the_line_of, move_form, new_form, remove_form, removevalue_form, resource_form, save_form, seen_form, set_form, unset_form, validate_form, with_four, with_one, with_three, with_two, within_form};
+ghost use Rattle.script_lines.specs.Forms.{add_at_form, add_form, at_form, attach_form, class_form, container_form, contents_form, delete_form, depth_in, detach_form, form_of as the_form_of, fragment_form, get_form, isset_form, move_form, new_form, remove_form, removevalue_form, resolve_form, resource_form, save_form, seen_form, set_form, unset_form, validate_form, with_four, with_one, with_three, with_two, within_form};
 
 use crate::form::Form;
-use crate::line::Line;
 use crate::name::Name;
 use crate::values::{
     adapter_of, feature_of, feature_value_of, node_of, object_of, resource_no_of, string_of,
 };
-use crate::words::words_of;
 use mm_types::integers::natural_of;
 use std::alloc::{AllocError, Global};
-use std::str;
 
 /// `new NAME`
 fn new_of(class: &str) -> Option<Form<'_>>
@@ -200,6 +197,20 @@ fn remove_of<'a>(node: &str, feature: &'a str, index: &str) -> Option<Form<'a>>
     })
 }
 
+/// `resolve OBJ NAME N`
+fn resolve_of<'a>(object: &str, feature: &'a str, index: &str) -> Option<Form<'a>>
+    ensures { result ≡ resolve_form object.now feature.now index.now }
+{
+    let object = object_of(object)?;
+    let feature = Name::from_word(feature)?;
+    let index = natural_of(index)?;
+    Some(Form::Resolve {
+        object,
+        feature,
+        index,
+    })
+}
+
 /// `removevalue NODE NAME VALUE`
 fn removevalue_of<'a>(
     alloc: Global,
@@ -327,6 +338,8 @@ fn with_three_of<'a>(
         Ok(remove_of(a, b, c))
     } else if verb == "removevalue" {
         removevalue_of(alloc, a, b, c)
+    } else if verb == "resolve" {
+        Ok(resolve_of(a, b, c))
     } else {
         Ok(None)
     }
@@ -353,7 +366,7 @@ fn with_four_of<'a>(
 }
 
 /// The form of a verb and its arguments.
-fn form_of<'a>(alloc: Global, words: &[&'a str]) -> Result<Option<Form<'a>>, AllocError>
+pub fn form_of<'a>(alloc: Global, words: &[&'a str]) -> Result<Option<Form<'a>>, AllocError>
     ensures { IfOk result (λ o. o ≡ the_form_of (map (λ w. w.now) words.now)) }
 {
     match words {
@@ -364,32 +377,5 @@ fn form_of<'a>(alloc: Global, words: &[&'a str]) -> Result<Option<Form<'a>>, All
         [verb, a, b, c] => with_three_of(alloc, verb, a, b, c),
         [verb, a, b, c, d] => with_four_of(alloc, verb, a, b, c, d),
         _ => Ok(None),
-    }
-}
-
-/// What the words of a line ask for.
-fn line_of<'a>(alloc: Global, words: &[&'a str]) -> Result<Line<'a>, AllocError>
-    ensures { IfOk result (λ l. l ≡ the_line_of (map (λ w. w.now) words.now)) }
-{
-    if words.is_empty() {
-        return Ok(Line::Blank);
-    }
-    match form_of(alloc, words)? {
-        Some(form) => Ok(Line::Form(form)),
-        None => Ok(Line::Bad),
-    }
-}
-
-/// What a line asks for. Errs only where memory is refused for the text that the line writes as a value.
-///
-/// A line is the bytes between two newlines, without them. It is blank where it is empty or has only
-/// spaces, and bad where it is not UTF-8 or fits no form of the language. The time is linear in its
-/// length.
-pub fn parse_line(alloc: Global, line: &[u8]) -> Result<Line<'_>, AllocError>
-    ensures { IfOk result (λ l. l ≡ form line.now) }
-{
-    match str::from_utf8(line) {
-        Ok(line) => line_of(alloc, words_of(line).as_slice()),
-        Err(_) => Ok(Line::Bad),
     }
 }

@@ -29,10 +29,12 @@ feature_of (command.Add n f v place) = f
 feature_of (command.Remove n f i) = f
 feature_of (command.RemoveValue n f v) = f
 feature_of (command.Move n f to from) = f
+feature_of (command.Resolve o f i) = f
 feature_of (command.Get n f) = f
 feature_of (command.IsSet n f) = f
 feature_of (command.Create c) = record { 0 = NOTHING }
 feature_of (command.CreateResource t) = record { 0 = NOTHING }
+feature_of (command.Load k text) = record { 0 = NOTHING }
 feature_of (command.Attach number target deep view) = record { 0 = NOTHING }
 feature_of (command.Detach number) = record { 0 = NOTHING }
 feature_of (command.Container o) = record { 0 = NOTHING }
@@ -58,6 +60,7 @@ answer_text m f (answer.Flag false) = codes "false"
 answer_text m f (answer.Class c) = class_text m c
 answer_text m f (answer.Count n) = decimal n
 answer_text m f (answer.Destroyed n) = codes "deleted " ++ decimal n
+answer_text m f (answer.Loaded n) = codes "loaded " ++ decimal n
 answer_text m f (answer.Resource k) = node_text (node.Resource k)
 answer_text m f (answer.Container o) = holder_text (option_map node.Object o)
 answer_text m f (answer.Features fs) = features_text m fs

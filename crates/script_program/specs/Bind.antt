@@ -8,6 +8,7 @@ use Rattle.mm_types.specs.declared.numbers.ClassNo.{ClassNo}
 use Rattle.mm_types.specs.declared.numbers.FeatureNo.{FeatureNo}
 use Rattle.mm_types.specs.declared.numbers.Node.{Node}
 use Rattle.mm_types.specs.declared.numbers.Node.TheVariants as node
+use Rattle.mm_types.specs.declared.numbers.ObjectNo.{ObjectNo}
 use Rattle.mm_types.specs.declared.refused.Refused.{Refused}
 use Rattle.mm_types.specs.declared.value.Value.{Value}
 use Rattle.mm_types.specs.declared.value.Value.TheVariants as value
@@ -73,6 +74,9 @@ removevalue_command s n name v = command.RemoveValue n (feature_number s n name)
 abbrev pub move_command : {A : Type 0} → State → Node → List ℕ → ℕ → ℕ → Command A
 move_command s n name to from = command.Move n (feature_number s n name) to from
 
+abbrev pub resolve_command : {A : Type 0} → State → ObjectNo → List ℕ → ℕ → Command A
+resolve_command s o name i = command.Resolve o (feature_number s (node.Object o) name) i
+
 abbrev pub get_command : {A : Type 0} → State → Node → List ℕ → Command A
 get_command s n name = command.Get n (feature_number s n name)
 
@@ -92,6 +96,8 @@ bind s (asks.Add n feature v place) = request.Execute (add_command s.state n fea
 bind s (asks.Remove n feature i) = request.Execute (remove_command s.state n feature i)
 bind s (asks.RemoveValue n feature v) = request.Execute (removevalue_command s.state n feature v)
 bind s (asks.Move n feature to from) = request.Execute (move_command s.state n feature to from)
+bind s (asks.Resolve o feature i) = request.Execute (resolve_command s.state o feature i)
+bind s (asks.Load k text) = request.Execute (command.Load k text)
 bind s (asks.Resource t) = request.Execute (command.CreateResource t)
 bind s (asks.Attach number target deep) = attach_request (box_of s.pool number) number target deep
 bind s (asks.Detach number) = request.Execute (command.Detach number)

@@ -27,6 +27,7 @@ pub(crate) fn feature_of<A>(command: &Command<A>) -> FeatureNo
         Command::Remove { feature, .. } => *feature,
         Command::RemoveValue { feature, .. } => *feature,
         Command::Move { feature, .. } => *feature,
+        Command::Resolve { feature, .. } => *feature,
         Command::Get { feature, .. } => *feature,
         Command::IsSet { feature, .. } => *feature,
         _ => FeatureNo(NOTHING),
@@ -52,6 +53,10 @@ fn print_answer(
         Answer::Count(count) => output.natural(*count),
         Answer::Destroyed(count) => {
             output.text("deleted ")?;
+            output.natural(*count)
+        }
+        Answer::Loaded(count) => {
+            output.text("loaded ")?;
             output.natural(*count)
         }
         Answer::Resource(resource) => output.node(Node::Resource(*resource)),

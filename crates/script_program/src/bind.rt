@@ -9,7 +9,7 @@ use crate::request::Request;
 use adapters::Adapter;
 use link_store::LinkStore;
 use mm_meta::Meta;
-use mm_types::{AdapterNo, ClassNo, FeatureNo, Node, Value};
+use mm_types::{AdapterNo, ClassNo, FeatureNo, Node, ObjectNo, Value};
 use repository::{Command, Repository};
 use script_lines::{Form, Name, WrittenValue};
 use script_output::enum_of;
@@ -59,6 +59,12 @@ pub(crate) fn bind<L: LinkStore, A: Adapter>(
             from,
         } => Request::Execute(move_command(repository, node, feature, to, from)),
         Form::Resource(text) => Request::Execute(Command::CreateResource(text)),
+        Form::Load { resource, text } => Request::Execute(Command::Load { resource, text }),
+        Form::Resolve {
+            object,
+            feature,
+            index,
+        } => Request::Execute(resolve_command(repository, object, feature, index)),
         Form::Attach { no, target, deep } => attach_request(pool, no, target, deep),
         Form::Detach(no) => Request::Execute(Command::Detach(no)),
         Form::Get { node, feature } => Request::Execute(get_command(repository, node, feature)),
@@ -197,6 +203,22 @@ fn move_command<L: LinkStore, A: Adapter>(
         feature,
         to,
         from,
+    }
+}
+
+fn resolve_command<L: LinkStore, A: Adapter>(
+    repository: &Repository<L, A>,
+    object: ObjectNo,
+    name: Name<'_>,
+    index: u32,
+) -> Command<A>
+    ensures { result ≡ b.resolve_command repository.now object name.entry index }
+{
+    let feature = feature_number(repository, Node::Object(object), name.as_str());
+    Command::Resolve {
+        object,
+        feature,
+        index,
     }
 }
 

@@ -1,5 +1,5 @@
 //! Changes of objects, their values and their links.
-ghost use Rattle.std.specs.Prelude.{◌≡◌, List, true, None, length, IfOk, IfErr};
+ghost use Rattle.std.specs.Prelude.{◌≡◌, ℕ, List, [], true, None, length, IfOk, IfErr};
 ghost use Rattle.mm_types.specs.Ends.{value_in};
 ghost use Rattle.mm_types.specs.declared.refused.Refused.TheVariants.{Memory};
 ghost use Rattle.notice_chain.specs.Listed.{Listed};
@@ -13,7 +13,7 @@ ghost use Rattle.repository.specs.State.{reads};
 ghost use Rattle.repository.specs.Views.{changed_view, command_of};
 ghost use Rattle.repository.specs.declared.command.Command.TheVariants.{Create, Delete, Set, Unset};
 ghost use Rattle.repository.specs.declared.reply.Answer.TheVariants as answer;
-ghost use Rattle.handshake.specs.Laws.{IsBrought};
+ghost use Rattle.repository.specs.Proper.{IsProper};
 
 use super::Repository;
 use crate::leaving::{notify, places_of, room_for};
@@ -84,10 +84,10 @@ impl<L: LinkStore, A: Adapter> Repository<L, A> {
         self.change(Change::Delete(object))
     }
 
-    // A change that no condition refuses which needs no memory is carried out.
+    // A change of no document, which no condition refuses that needs no memory, is carried out.
     pub(super) fn change(&mut self, change: Change) -> Result<Reply<A>, Refused>
-        requires brought { IsBrought change }
-        ensures { Executed self.old (command_of change) (change_outcome (changed_view A.heard result)) self.new }
+        requires proper { IsProper (reads self.old) [] change }
+        ensures { Executed self.old (command_of [] change) (change_outcome (changed_view A.heard result)) self.new }
     {
         if let Some(refused) = early_refusal(&self.model(), &change) {
             return Err(refused);
@@ -95,11 +95,12 @@ impl<L: LinkStore, A: Adapter> Repository<L, A> {
         self.carry_out(change)
     }
 
-    // Every change goes these steps; after the second nothing can fail.
-    fn carry_out(&mut self, change: Change) -> Result<Reply<A>, Refused>
-        requires brought { IsBrought change }
+    // Every change goes these steps; after the second nothing can fail. A change that loads a document is done as `load` of each text that
+    // is read as this document.
+    pub(super) fn carry_out(&mut self, change: Change) -> Result<Reply<A>, Refused>
+        requires proper { (text : List ℕ) × IsProper (reads self.old) text change }
         requires asked { early_refusal_of (reads self.old) change ≡ None }
-        ensures { Executed self.old (command_of change) (change_outcome (changed_view A.heard result)) self.new }
+        ensures { (text : List ℕ) → IsProper (reads self.old) text change → Executed self.old (command_of text change) (change_outcome (changed_view A.heard result)) self.new }
     {
         // The answer, who leaves, and the plan with its notices, or the refusal that planning finds. Where no adapter is attached no
         // notice is made.
@@ -150,7 +151,8 @@ fn answered<L: LinkStore>(
     change: &Change,
 ) -> Result<Answer, Refused>
     requires asked { early_refusal_of (reading model.now) change.now ≡ None }
-    ensures ok { IfOk result (λ a. (rs : List Listed) → a ≡ answer_of (reading model.now) rs (command_of change.now)) }
+    requires proper { (text : List ℕ) × IsProper (reading model.now) text change.now }
+    ensures ok { IfOk result (λ a. (rs : List Listed) (text : List ℕ) → IsProper (reading model.now) text change.now → a ≡ answer_of (reading model.now) rs (command_of text change.now)) }
     ensures memory { IfErr result (λ r. r ≡ Memory) }
 {
     model.is_legal();
@@ -158,6 +160,8 @@ fn answered<L: LinkStore>(
         Change::Create(_) => Ok(Answer::Object(ObjectNo(model.next() as u32))),
         Change::NewResource(_) => Ok(Answer::Resource(ResourceNo(model.resources() as u32))),
         Change::Delete(object) => destroyed_answer(alloc, model, *object),
+        Change::Resolve { target, .. } => Ok(Answer::Object(target.unwrap_or(ObjectNo(0)))),
+        Change::Load(_, doc) => Ok(Answer::Loaded(doc.objects.len() as u64)),
         Change::Set { .. } | Change::Unset { .. } => Ok(Answer::Done),
         Change::Add {
             node,

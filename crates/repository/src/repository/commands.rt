@@ -52,6 +52,14 @@ impl<L: LinkStore, A: Adapter> Repository<L, A> {
             } => outcome(self.move_to(node, feature, to, from)),
             Command::Delete(object) => outcome(self.delete(object)),
             Command::CreateResource(text) => outcome(self.create_resource(text.as_str())),
+            Command::Resolve {
+                object,
+                feature,
+                index,
+            } => outcome(self.resolve(object, feature, index)),
+            Command::Load { resource, text } => {
+                outcome(self.load(resource, text.as_str().as_bytes()))
+            }
             Command::Attach {
                 no,
                 target,

@@ -8,7 +8,7 @@ use Rattle.models.specs.Model.{reading}
 use Rattle.models.specs.declared.reads.Found.{Found}
 use Rattle.ties.specs.TreeTies.{tie}
 use Rattle.ties.specs.declared.tie.Tie.{Tie}
-use Rattle.handshake.specs.Displaced.{ties_if_single, with_tie}
+use Rattle.handshake.specs.Displaced.{with_tie}
 use Rattle.handshake.proofs.CutTieLemmas.{ties-single}
 use Rattle.handshake.proofs.displaced.add_held.Goals as goal
 

@@ -1,0 +1,72 @@
+//! What loading a document into a resource makes and tells, and why it can't be loaded.
+ghost use Rattle.std.specs.Prelude.{◌≡◌, ◌≤◌, length, map, IfOk, IfErr};
+ghost use Rattle.std.specs.List.{All, enumerate_from};
+ghost use Rattle.mm_types.specs.declared.limits.TheConstants.{LIST_VALUES};
+ghost use Rattle.mm_types.specs.declared.refused.Refused.TheVariants.{Memory};
+ghost use Rattle.models.specs.Model.{reading};
+ghost use Rattle.loading.specs.Fits.{IsNumbered};
+ghost use Rattle.handshake.specs.Refusals as refusals;
+ghost use Rattle.handshake.specs.Reports.{root_notice as root_notice_of};
+
+use crate::chain::push;
+use link_store::LinkStore;
+use loading::{contents_end, loaded};
+use mm_types::{End, ObjectNo, Refused, ResourceNo, Value, limits};
+use models::ModelRef;
+use notice_chain::{Chain, Notice, NoticeKind};
+use resource_docs::Doc;
+use std::alloc::Global;
+
+/// Why a document can't be loaded into a resource: `Limit` or `NotEmpty`. Takes no memory.
+pub(crate) fn load_refusal<L: LinkStore>(
+    model: &ModelRef<L>,
+    resource: ResourceNo,
+    doc: &Doc,
+) -> Option<Refused>
+    ensures { result ≡ refusals.load_refusal (reading model.now) resource doc.now }
+{
+    match model.next().checked_add(doc.objects.len()) {
+        Some(count) if count <= limits::OBJECTS => {}
+        _ => return Some(Refused::Limit),
+    }
+    if model.len(contents_end(model.meta(), resource)) > 0 {
+        return Some(Refused::NotEmpty);
+    }
+    None
+}
+
+/// The notices that an end gains the roots of a document, in their order, where it has none and the first object gets the number
+/// `next`.
+pub(crate) fn root_notices(
+    alloc: Global,
+    next: usize,
+    end: End,
+    roots: &[ObjectNo],
+) -> Result<Chain, Refused>
+    requires few { length roots.now ≤ LIST_VALUES }
+    requires fits { All (IsNumbered next) roots.now }
+    ensures ok { IfOk result (λ c. c ≡ map (root_notice_of next end) (enumerate_from 0 roots.now)) }
+    ensures err { IfErr result (λ r. r ≡ Memory) }
+{
+    let mut chain = Chain::new(alloc);
+    'roots: for (i, root) in roots.iter().enumerate() {
+        push(root_notice(next, end, i as u32, *root), &mut chain)?;
+    }
+    Ok(chain)
+}
+
+/// The notice that an end gains a root of a document behind so many others.
+fn root_notice(next: usize, end: End, position: u32, root: ObjectNo) -> Notice
+    requires fits { IsNumbered next root }
+    ensures { result ≡ root_notice_of next end (position, root) }
+{
+    Notice {
+        notifier: end.node,
+        feature: Some(end.feature),
+        kind: NoticeKind::Add,
+        old_value: Value::Null,
+        new_value: Value::Object(loaded(next, root)),
+        position: i64::from(position),
+        was_set: position > 0,
+    }
+}

@@ -1,0 +1,54 @@
+//! Resources that are loaded.
+ghost use Rattle.std.specs.Prelude.{◌≡◌, Err, Some};
+ghost use Rattle.models.specs.Model.{reading};
+ghost use Rattle.repository.specs.Loads.{load_refusal};
+ghost use Rattle.repository.specs.Run.{Executed, change_outcome};
+ghost use Rattle.repository.specs.Views.{changed_view};
+ghost use Rattle.repository.specs.declared.command.Command.TheVariants.{Load};
+
+use super::Repository;
+use crate::reply::Reply;
+use adapters::Adapter;
+use handshake::Change;
+use link_store::LinkStore;
+use loading::contents_end;
+use mm_types::{DocFault, Refused, ResourceNo};
+use models::ModelRef;
+use resource_docs::read_doc;
+
+impl<L: LinkStore, A: Adapter> Repository<L, A> {
+    /// Makes what a document says in an empty resource (EMF: Resource.load), `bytes` as JSON: its objects with their values, links and proxies, or
+    /// nothing. The objects get the next numbers, root by root, each before what it contains, by feature in the order of all features of its
+    /// class, then by position. Both ends of a pair take the order that the document gives. Answers how many objects were made. Notifies
+    /// the adapters at the resource with one ADD on `contents` for each root.
+    ///
+    /// Refused, the first that applies: `NoResource`; `Limit` where the document has no fault and more objects than can be made; `NotEmpty` where the
+    /// resource has roots; `Document` with the cause for which the document can't be read; `AdapterFull`, `Memory`.
+    pub fn load(&mut self, resource: ResourceNo, bytes: &[u8]) -> Result<Reply<A>, Refused>
+        ensures { Executed self.old (Load resource bytes.now) (change_outcome (changed_view A.heard result)) self.new }
+    {
+        let model = self.model();
+        let Some(uri) = model.uri(resource) else {
+            return Err(Refused::NoResource);
+        };
+        match read_doc(self.alloc, model.meta(), uri, bytes) {
+            Ok(doc) => self.carry_out(Change::Load(resource, doc)),
+            Err(Refused::Document(fault)) => Err(fault_refusal(&model, resource, fault)),
+            Err(_) => Err(Refused::Memory),
+        }
+    }
+}
+
+/// What is answered where a document has a fault: it comes last.
+fn fault_refusal<L: LinkStore>(
+    model: &ModelRef<L>,
+    resource: ResourceNo,
+    fault: DocFault,
+) -> Refused
+    ensures { Some result ≡ load_refusal (reading model.now) resource (Err fault) }
+{
+    if model.len(contents_end(model.meta(), resource)) > 0 {
+        return Refused::NotEmpty;
+    }
+    Refused::Document(fault)
+}

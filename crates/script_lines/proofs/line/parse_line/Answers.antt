@@ -1,0 +1,12 @@
+use Rattle.std.proofs.Common.{◌∙◌, ap, sym}
+use Rattle.std.proofs.lemmas.Result.{IfOk-weaker}
+use Rattle.script_lines.specs.Forms.{text_line}
+use Rattle.script_lines.proofs.FormLemmas.{not_text, text_form}
+use Rattle.script_lines.proofs.line.parse_line.Goals as goal
+
+pub returns-in-Err : goal.returns-in-Err
+returns-in-Err c = not_text c.args.line.now c.in-Err.ensures.cases.0
+
+pub returns-in-Ok : goal.returns-in-Ok
+returns-in-Ok c =
+    IfOk-weaker c.text_line_of.result _ _ (λ l h. h ∙ (ap text_line c.in-Ok.ensures.cases.0 ∙ sym (text_form c.args.line.now c.in-Ok.ensures.cases.1))) c.text_line_of.ensures
