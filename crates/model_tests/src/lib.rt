@@ -41,6 +41,8 @@ mod memory_links;
 #[cfg(test)]
 mod memory_lists;
 #[cfg(test)]
+mod memory_loads;
+#[cfg(test)]
 mod memory_parts;
 #[cfg(test)]
 mod memory_values;
