@@ -34,7 +34,7 @@ use Rattle.link_store.specs.Laws.{goes}
 use Rattle.link_store.specs.Links.{Links, end}
 use Rattle.link_store.specs.Plans.{ArePlacesOf, has_end, incoming_end, is_before}
 use Rattle.link_store.specs.declared.incoming.Incoming.{Incoming}
-use Rattle.models.specs.Legal.{IsLegal, is_legal_target}
+use Rattle.models.specs.Legal.{IsLegal, is_legal_target, takes_proxies}
 use Rattle.models.specs.Model.{Model, reading}
 use Rattle.models.specs.Reading.{Reading, is_live}
 use Rattle.containment.proofs.PartLemmas.{legal-at, values-linked}
@@ -133,7 +133,7 @@ object-reference m class f o h = by (lookups.feature m f) h
 -- a feature with legal links is a reference
 pub legal-reference : (r : Reading) (f : FeatureNo) (v : Value) → is_legal_target r f v ≡ true → (shape r.metamodel f).is_reference ≡ true
 legal-reference r f (value.Object o) h = object-reference r.metamodel r.class f o h
-legal-reference r f (value.Proxy t) h = (and_parts (shape r.metamodel f).is_reference _ h).0
+legal-reference r f (value.Proxy t) h = (and_parts (shape r.metamodel f).is_reference _ (and_parts (takes_proxies (shape r.metamodel f)) _ h).0).0
 legal-reference r f _ h = absurd (false≢true h)
 
 any-or : (p q : ObjectNo → Bool) (os : List ObjectNo) → list_any (λ x. p x || q x) os ≡ (list_any p os || list_any q os)

@@ -423,13 +423,13 @@ untouched-after s (Load k doc) legal e = untouched-end e _
 untouched-after s (Resolve o f i b) legal e = untouched-end e _
 
 -- a load leaves legal ends, and so does each other change
-load-ends : (s : Model) (c : Change) (doc : Doc) → loaded_by c ≡ Some doc → IsLegal s → early_refusal (reading s) c ≡ None → late_refusal (reading s) c ≡ None → HasReadDocument s.metamodel c → (d : End)
+load-ends : (s : Model) (c : Change) (doc : Doc) → loaded_by c ≡ Some doc → IsLegal s → early_refusal (reading s) c ≡ None → late_refusal (reading s) c ≡ None → HasReadDocument s.metamodel c → IsBrought c → (d : End)
     → is_legal_end (reading (after s c)) d (end (after s c).links d) ≡ true
-load-ends s (Load k doc) x is legal early late read d =
+load-ends s (Load k doc) x is legal early late read brought d =
     let typed = read-typed s.metamodel read.uri doc legal.metamodel read.read in
     let there = none-unless NoResource (has_resource (reading s) k) (none-else_by (NoObject unless true) (NoResource unless has_resource (reading s) k) early).1 in
-    linked-legal s k doc legal late read typed there (after s (Load k doc)).values (load-values s.metamodel s.values doc typed legal.objects) d
-load-ends s _ x is legal early late read d = absurd (none-some x is)
+    linked-legal s k doc legal late read typed brought there (after s (Load k doc)).values (load-values s.metamodel s.values doc typed legal.objects) d
+load-ends s _ x is legal early late read brought d = absurd (none-some x is)
 
 ends-legal : (s : Model) (c : Change) → IsLegal s → early_refusal (reading s) c ≡ None → late_refusal (reading s) c ≡ None → HasReadDocument s.metamodel c → IsBrought c → (d : End) → is_legal_end (reading (after s c)) d (end (after s c).links d) ≡ true
 ends-legal s c legal early late read brought d =
@@ -437,7 +437,7 @@ ends-legal s c legal early late read brought d =
       | None ↦ λ none. (
           let v = values-after s c legal early late read brought in
           legal-end-kept (goes_with (reading s) c) s (after s c).values (after s c).links v.classes v.more d _ (untouched-after s c legal d) (ends-after s c none legal early late d))
-      | Some doc ↦ λ is. load-ends s c doc is legal early late read d
+      | Some doc ↦ λ is. load-ends s c doc is legal early late read brought d
     ] refl
 
 links-after : (s : Model) (c : Change) → IsLegal s → early_refusal (reading s) c ≡ None → late_refusal (reading s) c ≡ None → HasReadDocument s.metamodel c → IsBrought c → AreLegalLinks (reading (after s c)) (links_after s.links (reading s) c)

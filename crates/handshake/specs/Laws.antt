@@ -6,6 +6,7 @@ use Rattle.mm_types.specs.declared.numbers.FeatureNo.{FeatureNo}
 use Rattle.mm_types.specs.declared.numbers.Node.{Node}
 use Rattle.mm_types.specs.declared.numbers.Node.TheVariants as node
 use Rattle.web_uris.specs.Joined.{IsWebUri}
+use Rattle.resource_docs.specs.Causes.{HasProxyTexts}
 use Rattle.models.specs.Legal.{IsLegal}
 use Rattle.models.specs.Model.{Model, reading}
 use Rattle.models.specs.Reading.{Reading, at_end, held_at, shape_at}
@@ -27,9 +28,10 @@ use Rattle.handshake.specs.Tellings.{chain, far_losses, tellings}
 abbrev pub OfAllowed : (Model → Change → Type 0) → Model → Change → Type 0
 OfAllowed Holds s c = IsLegal s → early_refusal (reading s) c ≡ None → late_refusal (reading s) c ≡ None → Holds s c
 
--- what a change brings is as it has to be: the URI of a new resource is as joining gives it
+-- what a change brings is as it has to be: the URI of a new resource is as joining gives it, and each proxy has the text of one
 abbrev pub IsBrought : Change → Type 0
 IsBrought (NewResource u) = IsWebUri u
+IsBrought (Load k doc) = HasProxyTexts doc
 IsBrought _ = Unit {0}
 
 -- it leaves a legal model

@@ -12,7 +12,7 @@ ghost use Rattle.handshake.specs.declared.change.Change.{Change};
 ghost use Rattle.handshake.specs.declared.happening.Telling.{Telling};
 
 /// A change of a legal model, where nothing refuses it, leaves a legal one: both ends of each link agree, no object has two
-/// containers or contains itself, and each end has values of its feature's type, no more of them than it may.
+/// containers or contains itself, and each end has values of its feature's type or proxies, no more of them than it may.
 pub fn keeps_legal()
     ensures { (s : Model) (c : Change) → KeepsLegal s c }
 {}

@@ -13,6 +13,7 @@ use Rattle.mm_types.specs.declared.numbers.FeatureNo.{FeatureNo}
 use Rattle.mm_types.specs.declared.end.End.{End}
 use Rattle.mm_types.specs.declared.value.Value.{Value}
 use Rattle.mm_types.specs.declared.value.Value.TheVariants as value
+use Rattle.web_uris.specs.Addresses.{is_proxy_text}
 use Rattle.web_uris.specs.Joined.{IsWebUri}
 use Rattle.mm_values.specs.Stored.{Stored}
 use Rattle.mm_values.specs.Values.{ObjectState, stored_under}
@@ -62,10 +63,10 @@ kinds_of m = record { opposite = λ f. (shape m f).opposite; container = λ f. (
 abbrev pub takes_proxies : Shape → Bool
 takes_proxies a = a.is_reference && not (is_some a.opposite || is_some a.containing)
 
--- an object of a feature's type, or a proxy where the feature takes proxies
+-- an object of a feature's type, or the text of a proxy where the feature takes proxies
 abbrev pub is_legal_target : Reading → FeatureNo → Value → Bool
 is_legal_target r f (value.Object o) = takes r f (value.Object o)
-is_legal_target r f (value.Proxy t) = takes_proxies (shape r.metamodel f)
+is_legal_target r f (value.Proxy t) = takes_proxies (shape r.metamodel f) && is_proxy_text t
 is_legal_target r f _ = false
 
 -- an end of a reference that holds something is one of its node's, holds what its feature may, and no more of it than it may

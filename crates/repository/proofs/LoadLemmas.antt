@@ -39,7 +39,7 @@ bytes-read m uri bytes doc is = by (parsed bytes) is
 
 -- a proper change brings a document that reading gives
 pub proper-read : (r : Reading) (text : List ℕ) (c : Change) → IsProper r text c → HasReadDocument r.metamodel c
-proper-read r text (Load k doc) is = record { uri = uri_at r k; read = bytes-read r.metamodel (uri_at r k) text doc is }
+proper-read r text (Load k doc) proper = record { uri = uri_at r k; read = bytes-read r.metamodel (uri_at r k) text doc proper.0 }
 proper-read r text (Create c) proper = tt
 proper-read r text (Set n f v) proper = tt
 proper-read r text (Unset n f) proper = tt

@@ -110,7 +110,7 @@ refusal-planned s text (Delete o) brought early = rw early refl
 refusal-planned s text (NewResource u) web early =
     ap (asked_of s u) (joined-web [] u web) ∙ ap (λ (o : Option Refused). o else_by full s (NewResource u)) (uri-refused (reads s) u)
 refusal-planned s text (Resolve o f i b) own early = ap (resolved_to s o f i) (sym own) ∙ rw early refl
-refusal-planned s text (Load k doc) is early = ap (loaded_as s k) is ∙ rw early refl
+refusal-planned s text (Load k doc) proper early = ap (loaded_as s k) proper.0 ∙ rw early refl
 
 -- a condition that is none of these is none of them behind another that is none
 pub later-not : (q : Refused → Bool) (o p : Option Refused) → IsNot q o → IsNot q p → IsNot q (o else_by p)
@@ -368,11 +368,11 @@ done_change s text (NewResource u) web =
     let c = NewResource u in
     ap (λ (o : Option (List ℕ)). done_of s u (option_map NewResource o)) (joined-web [] u web)
     ∙ no_more s c (chain (reads s) c) (effects.after s.model c) (answer_of (reads s) s.adapters (command_of text c)) (releases_of s c (chain (reads s) c))
-done_change s text (Load k doc) is =
+done_change s text (Load k doc) proper =
     let c = Load k doc in
-    ap (done_loaded s k) is
+    ap (done_loaded s k) proper.0
     ∙ no_more s c (chain (reads s) c) (effects.after s.model c) (answer.Loaded (length doc.objects)) (releases_of s c (chain (reads s) c))
-    ∙ ap (λ (a : Answer). replied s c (chain (reads s) c) (effects.after s.model c) a (releases_of s c (chain (reads s) c))) (sym (ap (λ (x : Result Doc DocFault). answer.Loaded (objects_of x)) is))
+    ∙ ap (λ (a : Answer). replied s c (chain (reads s) c) (effects.after s.model c) a (releases_of s c (chain (reads s) c))) (sym (ap (λ (x : Result Doc DocFault). answer.Loaded (objects_of x)) proper.0))
 done_change s text (Resolve o f i b) own =
     let c = Resolve o f i b in
     ap (done_resolved s o f i) (sym own)

@@ -26,7 +26,7 @@ use Rattle.link_store.specs.LegalSets as sets
 use Rattle.link_store.specs.LegalSets.{IsObject}
 use Rattle.link_store.specs.Links.{end}
 use Rattle.link_store.specs.Plans.{Has}
-use Rattle.models.specs.Legal.{IsLegal, is_legal_target}
+use Rattle.models.specs.Legal.{IsLegal, is_legal_target, takes_proxies}
 use Rattle.models.specs.Model.{Model, reading}
 use Rattle.models.specs.Reading.{Reading, all_features_of, has_feature, has_resource}
 use Rattle.containment.proofs.PartLemmas.{legal-at}
@@ -55,7 +55,7 @@ object-reference m class f o h = by (lookups.feature m f) h
 
 legal-reference : (r : Reading) (f : FeatureNo) (v : Value) → is_legal_target r f v ≡ true → (shape r.metamodel f).is_reference ≡ true
 legal-reference r f (value.Object o) h = object-reference r.metamodel r.class f o h
-legal-reference r f (value.Proxy t) h = (and_parts (shape r.metamodel f).is_reference _ h).0
+legal-reference r f (value.Proxy t) h = (and_parts (shape r.metamodel f).is_reference _ (and_parts (takes_proxies (shape r.metamodel f)) _ h).0).0
 legal-reference r f _ h = absurd (false≢true h)
 
 -- a feature that a node has is among all its features

@@ -1,13 +1,16 @@
 -- A URI as joining gives it, `#` and a fragment are the text of a proxy.
 use Rattle.std.proofs.Common.{◌≡◌, ◌∙◌, ◌++◌, ◌∷◌, Bool, true, false, cond, List, Option, Some, None, ℕ, ap, refl, subst, sym}
-use Rattle.std.specs.Prelude.{◌||◌, IsTrue, is_some}
+use Rattle.std.specs.Prelude.{◌&&◌, ◌||◌, IsTrue, bytes_eq, is_some}
 use Rattle.std.specs.List.{list_any}
+use Rattle.std.specs.Option.{option_map_or}
+use Rattle.std.proofs.lemmas.Bool.{and_from, and_parts, false≢true}
 use Rattle.std.proofs.lemmas.List.Folds.{list_any-append}
 use Rattle.std.proofs.lemmas.Option.{option_and_then_some, same_Some}
+use Rattle.std.proofs.lemmas.Slice.Eq.{bytes_eq-Decides}
 use Rattle.url.specs.Parser.{parse_url}
 use Rattle.url.specs.Parts.{serialize}
-use Rattle.web_uris.specs.Addresses.{IsProxyText, address_text, fragment_part, has_mark, uri_part}
-use Rattle.web_uris.specs.Joined.{IsWebUri, if_parsed, is_mark, is_web, web_text}
+use Rattle.web_uris.specs.Addresses.{IsProxyText, address_text, fragment_part, has_mark, is_proxy_text, uri_part}
+use Rattle.web_uris.specs.Joined.{IsWebUri, if_parsed, is_mark, is_web, own_text, web_text}
 use Rattle.web_uris.specs.Paths.{parse}
 use Rattle.web_uris.specs.declared.path.Path.{Path}
 use Rattle.web_uris.proofs.CutLemmas.{after_around, before_around}
@@ -33,3 +36,25 @@ proxy_text uri rest p web parsed =
     let after : fragment_part (address_text uri rest) ≡ rest = after_around is_mark uri 35 rest none refl in
     let read : is_some (parse (fragment_part (address_text uri rest))) ≡ true = ap (λ t. is_some (parse t)) after ∙ ap is_some parsed in
     record { mark = marked; uri = subst IsWebUri (sym before) web; fragment = read }
+
+---------------------------------------------------------------- computed
+
+same_text : (u : List ℕ) (o : Option (List ℕ)) → option_map_or (bytes_eq u) o false ≡ true → o ≡ Some u
+same_text u None h = absurd (false≢true h)
+same_text u (Some w) h = ap Some (sym ((bytes_eq-Decides u w).0 h))
+
+-- what is computed to be the text of a proxy is one
+pub proxy_text-from : (t : List ℕ) → is_proxy_text t ≡ true → IsProxyText t
+unfolding is_proxy_text
+proxy_text-from t h =
+    let (mark, rest) = and_parts (has_mark t) (option_map_or (bytes_eq (uri_part t)) (own_text (uri_part t)) false && is_some (parse (fragment_part t))) h in
+    let (uri, fragment) = and_parts (option_map_or (bytes_eq (uri_part t)) (own_text (uri_part t)) false) (is_some (parse (fragment_part t))) rest in
+    record { mark = mark; uri = same_text (uri_part t) (own_text (uri_part t)) uri; fragment = fragment }
+
+-- and what is one is computed to be one
+pub proxy_text-computed : (t : List ℕ) → IsProxyText t → is_proxy_text t ≡ true
+unfolding is_proxy_text
+proxy_text-computed t p =
+    and_from (has_mark t) (option_map_or (bytes_eq (uri_part t)) (own_text (uri_part t)) false && is_some (parse (fragment_part t))) p.mark
+    (and_from (option_map_or (bytes_eq (uri_part t)) (own_text (uri_part t)) false) (is_some (parse (fragment_part t)))
+    (ap (λ (o : Option (List ℕ)). option_map_or (bytes_eq (uri_part t)) o false) p.uri ∙ (bytes_eq-Decides (uri_part t) (uri_part t)).1 refl) p.fragment)

@@ -18,6 +18,7 @@ use Rattle.handshake.specs.Refusals.{early_refusal}
 use Rattle.handshake.specs.Tellings.{chain}
 use Rattle.repository.specs.Answers.{answer_of}
 use Rattle.repository.specs.Leaving.{leavers}
+use Rattle.repository.specs.Laws.{HasSteadyUris}
 use Rattle.repository.specs.Proper.{IsProper}
 use Rattle.repository.specs.Views.{command_of}
 use Rattle.repository.specs.Repository.{state}
@@ -154,6 +155,6 @@ invariant_of-self-2 g c =
     let is : c.model-model.result ≡ s.model = c.model-model.ensures ∙ ap (λ (t : State). t.model) (sym c.self.view_is) in
     let of_kind = (subst (λ (m : Model). IsPlanOf (nat_lt 0 c.len-is_heard.result) m c.args.change c.in-Ok-plan.planned) is (rw c.in-Ok-plan.is at c.plan.ensures)).of_kind in
     record {
-      legal = stepped-legal _ _ (command_of text c.args.change) _ (steady-of (reads s) text c.args.change proper) (subst IsLegal c.self.view_is c.self.invariant.legal) (returns g c text c.requires.proper.1);
+      legal = stepped-legal _ _ (command_of text c.args.change) _ (subst (λ (t : State). HasSteadyUris t (command_of text c.args.change)) c.self.view_is (steady-of s text c.args.change proper)) (subst IsLegal c.self.view_is c.self.invariant.legal) (returns g c text c.requires.proper.1);
       kinds_are = c.apply.ensures.kinds (kinds_of c.self.inside.meta) (c.reserve_for.ensures.kinds (kinds_of c.self.inside.meta) c.self.invariant.kinds_are of_kind) of_kind;
     }

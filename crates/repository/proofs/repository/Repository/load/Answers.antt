@@ -10,7 +10,7 @@ pub carry_out-requires-clause-proper : goal.carry_out-requires-clause-proper
 carry_out-requires-clause-proper g c =
     let meta = c.meta.ensures ∙ ap (λ (m : Model). m.metamodel) c.model-model.ensures in
     let uri = c.in-Some.ensures ∙ ap (λ (m : Model). slice_get m.values.uris c.args.resource.0) c.model-model.ensures in
-    (c.args.bytes.now, read-into c.args.self.now c.args.resource c.args.bytes.now _ _ _ meta uri c.in-Ok.ensures.0)
+    (c.args.bytes.now, (read-into c.args.self.now c.args.resource c.args.bytes.now _ _ _ meta uri c.in-Ok.ensures.0, c.in-Ok.ensures.1))
 
 pub carry_out-requires-clause-asked : goal.carry_out-requires-clause-asked
 carry_out-requires-clause-asked g c =
