@@ -1,7 +1,9 @@
 -- Why a resource can't be saved: the first condition that applies to any of its objects.
-use Rattle.std.specs.Prelude.{◌≡◌, ◌&&◌, Bool, not, List, filter, nat_lt, Option, Some, None, is_some, Result, Ok, Err, MatchBool, true, false, String, string_bytes}
+use Rattle.std.specs.Prelude.{◌≡◌, ◌≤◌, ℕ, ◌&&◌, Bool, not, List, filter, nat_lt, Option, Some, None, is_some, Result, Ok, Err, MatchBool, true, false, String, string_bytes}
 use Rattle.std.specs.List.{list_any}
 use Rattle.std.specs.declared.alloc.Global.{Global}
+use Rattle.serde_json.specs.Data.{depth}
+use Rattle.serde_json.specs.Read.{max_depth, read}
 use Rattle.mm_types.specs.Conditions.{◌where_so◌, ◌else_by◌}
 use Rattle.mm_types.specs.Shapes.{is_containment, shape}
 use Rattle.mm_types.specs.declared.numbers.FeatureNo.{FeatureNo}
@@ -13,7 +15,7 @@ use Rattle.mm_types.specs.declared.refused.Refused.TheVariants.{CrossOpposite, D
 use Rattle.models.specs.Reading.{Reading, at_end, objects_of}
 use Rattle.containment.specs.Above.{resource_of}
 use Rattle.fragment_paths.specs.Fragments.{is_in}
-use Rattle.saved_docs.specs.Document.{saved}
+use Rattle.saved_docs.specs.Document.{document, saved}
 use Rattle.saved_docs.specs.Written.{is_written, level, objects_in, written_features}
 use Rattle.saved_docs.specs.declared.levels.TheConstants.{LEVELS}
 use Rattle.saved_docs.specs.declared.targets.Condition.{Condition}
@@ -63,6 +65,10 @@ save_refusal r k =
 abbrev pub is_memory : Refused → Bool
 is_memory Memory = true
 is_memory _ = false
+
+-- a text is read as the resource's document, where that nests no deeper than JSON does that is read
+abbrev pub IsReadAs : Reading → ResourceNo → List ℕ → Type 0
+IsReadAs r k text = depth (document r k) ≤ max_depth → read text ≡ Some (document r k)
 
 -- what writing a document gives: its text, the refusal, or that memory was refused
 abbrev pub Writes : Result (String Global) Refused → Reading → ResourceNo → Type 0

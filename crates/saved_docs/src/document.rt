@@ -5,6 +5,7 @@ ghost use Rattle.models.specs.Model.{reading};
 ghost use Rattle.serde_json.specs.Data.{array};
 ghost use Rattle.serde_json.specs.View.{items_of, view};
 ghost use Rattle.saved_docs.specs.Document as spec;
+ghost use Rattle.saved_docs.specs.Saved.{IsReadAs};
 
 use crate::values::{object_value, two};
 use fragment_paths::Places;
@@ -54,7 +55,8 @@ pub(crate) fn document_text<L: LinkStore>(
     roots: &[ObjectNo],
 ) -> Result<String, AllocError>
     requires roots { roots.now ≡ roots_of (reading places.now) resource }
-    ensures { IfOk result (λ t. string_bytes t ≡ spec.saved (reading places.now) resource) }
+    ensures text { IfOk result (λ t. string_bytes t ≡ spec.saved (reading places.now) resource) }
+    ensures reads { IfOk result (λ t. IsReadAs (reading places.now) resource (string_bytes t)) }
 {
     let value = document(alloc, places, resource, roots)?;
     value.to_string(alloc)

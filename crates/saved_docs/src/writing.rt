@@ -27,7 +27,8 @@ fn text_by<L: LinkStore>(
     objects: &[ObjectNo],
 ) -> Result<String, AllocError>
     requires roots { roots.now ≡ roots_of (reading places.old) resource }
-    ensures { IfOk result (λ t. string_bytes t ≡ saved_text (reading places.old) resource) }
+    ensures text { IfOk result (λ t. string_bytes t ≡ saved_text (reading places.old) resource) }
+    ensures reads { IfOk result (λ t. saved.IsReadAs (reading places.old) resource (string_bytes t)) }
 {
     note_ways(places, objects)?;
     document_text(alloc, places, resource, roots)
@@ -43,7 +44,8 @@ fn written<L: LinkStore>(
 ) -> Result<String, Refused>
     requires roots { roots.now ≡ roots_of (reading model.now) resource }
     requires objects { objects.now ≡ objects_in (reading model.now) resource }
-    ensures { saved.Writes result (reading model.now) resource }
+    ensures writes { saved.Writes result (reading model.now) resource }
+    ensures reads { IfOk result (λ t. saved.IsReadAs (reading model.now) resource (string_bytes t)) }
 {
     if let Some(refused) = refusal(model, resource, objects) {
         return Err(refused);
@@ -64,7 +66,8 @@ fn written_below<L: LinkStore>(
 ) -> Result<String, Refused>
     requires roots { roots.now ≡ roots_of (reading model.now) resource }
     requires live { list_all (is_live (reading model.now)) roots.now ≡ true }
-    ensures { saved.Writes result (reading model.now) resource }
+    ensures writes { saved.Writes result (reading model.now) resource }
+    ensures reads { IfOk result (λ t. saved.IsReadAs (reading model.now) resource (string_bytes t)) }
 {
     match objects_below(alloc, model, roots) {
         Ok(objects) => written(alloc, model, resource, roots, objects.as_slice()),
@@ -84,7 +87,8 @@ pub fn write_doc<L: LinkStore>(
     model: &ModelRef<L>,
     resource: ResourceNo,
 ) -> Result<String, Refused>
-    ensures { saved.Writes result (reading model.now) resource }
+    ensures writes { saved.Writes result (reading model.now) resource }
+    ensures reads { IfOk result (λ t. saved.IsReadAs (reading model.now) resource (string_bytes t)) }
 {
     match roots(alloc, model, resource) {
         Ok(roots) => written_below(alloc, model, resource, roots.as_slice()),
