@@ -1,0 +1,9 @@
+pub mod ListLemmas
+pub mod EndLemmas
+pub mod CopyLemmas
+pub mod ShapeLemmas
+pub mod OrderLemmas
+pub mod NamedLemmas
+pub mod SideLemmas
+pub mod DepthLemmas
+pub mod BackLemmas

@@ -1,0 +1,24 @@
+-- What is saved is read back: the document of a resource is read as the resource, up to the numbers of its objects.
+use Rattle.std.specs.Prelude.{◌≡◌, ℕ, true, List, Ok}
+use Rattle.std.specs.Str.{is_utf8}
+use Rattle.mm_types.specs.declared.numbers.ResourceNo.{ResourceNo}
+use Rattle.models.specs.Legal.{IsLegal}
+use Rattle.models.specs.Model.{Model, reading}
+use Rattle.saved_docs.specs.Document.{document}
+use Rattle.saved_docs.specs.Saved.{IsReadAs}
+use Rattle.resource_docs.specs.Causes.{reads, reads_bytes}
+use Rattle.resource_docs.specs.Texts.{base_of}
+use Rattle.saved_values.specs.Copied.{copied}
+use Rattle.saved_values.specs.Readable.{IsReadable}
+
+-- the JSON value of a resource is read as that resource
+abbrev pub ReadsBack : Model → Type 0
+ReadsBack s =
+    IsLegal s → (k : ResourceNo) (uri : List ℕ) → IsReadable (reading s) k uri
+    → reads s.metamodel (base_of uri) (document (reading s) k) ≡ Ok (copied (reading s) k)
+
+-- and so is a text of it, as saving answers one
+abbrev pub ReadsTextBack : Model → Type 0
+ReadsTextBack s =
+    IsLegal s → (k : ResourceNo) (uri text : List ℕ) → IsReadable (reading s) k uri → IsReadAs (reading s) k text → is_utf8 text ≡ true
+    → reads_bytes s.metamodel uri text ≡ Ok (copied (reading s) k)

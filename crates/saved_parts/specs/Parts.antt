@@ -1,0 +1,32 @@
+-- The objects of a resource as the parts of its document.
+use Rattle.std.specs.Prelude.{[], map, unwrap_or}
+use Rattle.serde_json.specs.Data.{Data, Members}
+use Rattle.mm_types.specs.declared.numbers.FeatureNo.{FeatureNo}
+use Rattle.mm_types.specs.declared.numbers.ObjectNo.{ObjectNo}
+use Rattle.mm_types.specs.declared.numbers.ResourceNo.{ResourceNo}
+use Rattle.models.specs.Reading.{Reading}
+use Rattle.web_uris.specs.Paths.{new_path}
+use Rattle.web_uris.specs.declared.path.Path.{Path}
+use Rattle.fragment_paths.specs.Fragments.{path_of}
+use Rattle.doc_parts.specs.Parts.{Entry, Part, new_entry}
+use Rattle.saved_docs.specs.Document.{content_data, feature_member, members, object_data}
+use Rattle.saved_docs.specs.Written.{written_features}
+
+-- the path of an object in its resource
+abbrev pub path_in : Reading → ObjectNo → Path
+path_in r o = unwrap_or (path_of r o) (new_path 0 [])
+
+-- what is written of an object and of all in it: no tree has more levels than objects were made
+abbrev pub data_of : Reading → ResourceNo → ObjectNo → Data
+data_of r k o = object_data r k r.next o
+
+-- what is written of its features
+abbrev pub features_data : Reading → ResourceNo → ObjectNo → Members
+features_data r k o = members (map (feature_member r k (data_of r k) o) (written_features r o))
+
+-- an object as a part, and a feature that is written as an entry
+abbrev pub part_of : Reading → ResourceNo → ObjectNo → Part
+part_of r k o = record { path = path_in r o; json = data_of r k o }
+
+abbrev pub entry_of : Reading → ResourceNo → ObjectNo → FeatureNo → Entry
+entry_of r k o f = new_entry f (content_data r k (data_of r k) o f)

@@ -1,0 +1,3 @@
+pub mod UnmarkedLemmas
+pub mod TargetLemmas
+pub mod LeadsLemmas

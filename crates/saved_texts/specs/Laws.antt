@@ -1,0 +1,23 @@
+-- Where the texts of references lead: in the resource that they are written in, to the object that they were written for.
+use Rattle.std.specs.Prelude.{◌≡◌, ℕ, List, [], Some, unwrap_or, if◌then◌else◌}
+use Rattle.mm_types.specs.declared.numbers.ObjectNo.{ObjectNo}
+use Rattle.mm_types.specs.declared.numbers.ResourceNo.{ResourceNo}
+use Rattle.models.specs.Reading.{Reading}
+use Rattle.containment.specs.Above.{resource_of}
+use Rattle.web_uris.specs.Addresses.{IsProxyText, uri_part}
+use Rattle.web_uris.specs.Paths.{new_path}
+use Rattle.fragment_paths.specs.Fragments.{address, is_in, path_of}
+use Rattle.saved_docs.specs.Document.{reference_text}
+use Rattle.resource_docs.specs.Texts.{base_of, target}
+use Rattle.resource_docs.specs.declared.target.Target.{Target}
+use Rattle.resource_docs.specs.declared.target.Target.TheVariants.{Here, Elsewhere}
+
+-- what the reference of a resource to an object leads to: the object's path in the resource, or its address in another one
+abbrev pub target_of : Reading → ResourceNo → ObjectNo → Target
+target_of r k o = if is_in r k o then Here (unwrap_or (path_of r o) (new_path 0 [])) else Elsewhere (unwrap_or (address r o) [])
+
+-- in a resource of this URI each text of a reference leads where it was written for; and no two objects have one address
+pub record LeadsBack (r : Reading) (k : ResourceNo) (uri : List ℕ) : Type 0 where
+  pub object : (o : ObjectNo) (j : ResourceNo) → resource_of r.above o ≡ Some j → target (base_of uri) (reference_text r k o) ≡ Some (target_of r k o)
+  pub proxy : (t : List ℕ) → IsProxyText t → (uri_part t ≡ uri → ⊥) → target (base_of uri) t ≡ Some (Elsewhere t)
+  pub one_address : (a b : ObjectNo) (t : List ℕ) → address r a ≡ Some t → address r b ≡ Some t → a ≡ b

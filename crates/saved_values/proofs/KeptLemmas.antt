@@ -1,0 +1,82 @@
+-- What is written of an attribute is kept in the object: where nothing is, the attribute is not set.
+use Rattle.std.proofs.Common.{◌≡◌, ◌∙◌, ◌&&◌, ℕ, zero, suc, Bool, true, false, All, IsTrue, List, [], ◌∷◌, not, slice_get, slice_index_or, Option, Some, None, option_map, unwrap_or, if◌then◌else◌, refl, sym, ap, subst}
+use Rattle.std.specs.List.{list_all}
+use Rattle.std.proofs.lemmas.Bool.{and_parts, false≢true}
+use Rattle.std.proofs.lemmas.List.Elements.{All-head, All-tail}
+use Rattle.std.proofs.lemmas.Option.{none-some, same_Some}
+use Rattle.mm_types.specs.Ends as ends
+use Rattle.mm_types.specs.Ends.{shown, value_in}
+use Rattle.mm_types.specs.Resolved.{Metamodel}
+use Rattle.mm_types.specs.Same.{is_nil, same_value}
+use Rattle.mm_types.specs.SameValues.{same_value-self}
+use Rattle.mm_types.specs.Shapes.{Shape, shape}
+use Rattle.mm_types.specs.declared.numbers.ClassNo.{ClassNo}
+use Rattle.mm_types.specs.declared.numbers.FeatureNo.{FeatureNo}
+use Rattle.mm_types.specs.declared.numbers.Node.TheVariants as node
+use Rattle.mm_types.specs.declared.numbers.ObjectNo.{ObjectNo}
+use Rattle.mm_types.specs.declared.value.Value.{Value}
+use Rattle.mm_values.specs.Values.{ObjectState, object_at, stored_under}
+use Rattle.models.specs.Legal.{IsLegal, IsLegalObject, is_legal_list, is_legal_value}
+use Rattle.models.specs.Model.{Model, attribute_values, kept_flag, kept_values, reading}
+use Rattle.models.specs.Reading.{at_end, is_set}
+
+---------------------------------------------------------------- what an object keeps
+
+all-get : (p : Value → Bool) (vs : List Value) (k : ℕ) (v : Value) → list_all p vs ≡ true → slice_get vs k ≡ Some v → p v ≡ true
+all-get p [] k v all at = absurd (none-some v at)
+all-get p (w ∷ ws) zero v all at = subst (λ (x : Value). p x ≡ true) (same_Some w v at) (and_parts (p w) (list_all p ws) all).0
+all-get p (w ∷ ws) (suc k) v all at = all-get p ws k v (and_parts (p w) (list_all p ws) all).1 at
+
+object-legal : (m : Metamodel) (os : List (Option ObjectState)) (i : ℕ) → All (IsLegalObject m) os → IsLegalObject m (slice_index_or os i None)
+object-legal m [] i all = tt
+object-legal m (o ∷ os) zero all = All-head (IsLegalObject m) o os all
+object-legal m (o ∷ os) (suc i) all = object-legal m os i (All-tail (IsLegalObject m) o os all)
+
+list-legal : (m : Metamodel) (c : ClassNo) (f : FeatureNo) (vs : List Value) → IsTrue (is_legal_list m c f vs) → list_all (is_legal_value m f) vs ≡ true
+list-legal m c f [] h = refl
+list-legal m c f (v ∷ vs) h = (and_parts _ _ (and_parts _ _ h).1).0
+
+-- values of the attribute, and a flag where it is unsettable, single and has one
+record IsKept (m : Metamodel) (f : FeatureNo) (vs : List Value) (flag : Bool) : Type 0 where
+  each : list_all (is_legal_value m f) vs ≡ true
+  flagged : flag ≡ ((shape m f).is_unsettable && ((shape m f).is_single && not (is_nil vs)))
+
+never-flagged : (a b : Bool) → false ≡ (a && (b && false))
+never-flagged true true = refl
+never-flagged true false = refl
+never-flagged false b = refl
+
+object-keeps : (m : Metamodel) (f : FeatureNo) (x : Option ObjectState) → IsLegalObject m x
+    → IsKept m f (unwrap_or (option_map (λ y. (stored_under y f).list) x) []) (unwrap_or (option_map (λ y. (stored_under y f).flag) x) false)
+object-keeps m f None legal = record { each = refl; flagged = never-flagged (shape m f).is_unsettable (shape m f).is_single }
+object-keeps m f (Some y) legal = record { each = list-legal m y.class f (stored_under y f).list (legal.1 f).values; flagged = (legal.1 f).flag }
+
+---------------------------------------------------------------- what is set
+
+-- an attribute that keeps nothing is not set
+nothing-set : (a : Shape) (flag : Bool) → flag ≡ (a.is_unsettable && (a.is_single && false)) → ends.is_set a (record { values = shown a.is_single (attribute_values a []); flag = flag }) ≡ false
+nothing-set a flag flagged = by a.is_single a.is_unsettable flagged
+  where
+    by : (single unsettable : Bool) → flag ≡ (unsettable && (single && false))
+        → (if single then (if unsettable then flag else not (same_value (value_in (shown single (if single then a.default ∷ [] else [])) 0) a.default)) else not (is_nil (shown single (if single then a.default ∷ [] else [])))) ≡ false
+    by true true h = h
+    by true false h = ap not (same_value-self a.default)
+    by false unsettable h = refl
+
+-- each value of an attribute that is set is kept, and so is a legal one
+pub kept-legal : (s : Model) → IsLegal s → (o : ObjectNo) (f : FeatureNo) (i : ℕ) (v : Value) → (shape s.metamodel f).is_reference ≡ false → is_set (reading s) (at_end (node.Object o) f) ≡ true
+    → slice_get ((reading s).values (at_end (node.Object o) f)) i ≡ Some v → is_legal_value s.metamodel f v ≡ true
+kept-legal s legal o f i v attribute set at =
+    let m = s.metamodel in
+    let e = at_end (node.Object o) f in
+    let a = shape m f in
+    let flag = kept_flag s.values (node.Object o) f in
+    let values : (reading s).values e ≡ attribute_values a (kept_values s.values (node.Object o) f) = rw attribute refl in
+    by (kept_values s.values (node.Object o) f) (object-keeps m f (object_at s.values.objects o) (object-legal m s.values.objects o.0 legal.objects))
+    (sym (ap (λ (vs : List Value). ends.is_set a (record { values = shown a.is_single vs; flag = flag })) values) ∙ set) (ap (λ (vs : List Value). slice_get vs i) (sym values) ∙ at)
+  where
+    by : (vs : List Value) → IsKept s.metamodel f vs (kept_flag s.values (node.Object o) f)
+        → ends.is_set (shape s.metamodel f) (record { values = shown (shape s.metamodel f).is_single (attribute_values (shape s.metamodel f) vs); flag = kept_flag s.values (node.Object o) f }) ≡ true
+        → slice_get (attribute_values (shape s.metamodel f) vs) i ≡ Some v → is_legal_value s.metamodel f v ≡ true
+    by [] kept set there = absurd (false≢true (sym (nothing-set (shape s.metamodel f) (kept_flag s.values (node.Object o) f) kept.flagged) ∙ set))
+    by (w ∷ ws) kept set there = all-get (is_legal_value s.metamodel f) (w ∷ ws) i v kept.each there

@@ -1,0 +1,11 @@
+pub mod ListLemmas
+pub mod InsideLemmas
+pub mod PlacedLemmas
+pub mod LiteralLemmas
+pub mod KeptLemmas
+pub mod AttributeLemmas
+pub mod TargetLemmas
+pub mod ContainedLemmas
+pub mod ReferenceLemmas
+pub mod ReadAsLemmas
+pub mod Examples

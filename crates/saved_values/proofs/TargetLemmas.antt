@@ -1,0 +1,81 @@
+-- What stands at a reference: an object whose class conforms, or a proxy where the reference takes proxies.
+use Rattle.std.proofs.Common.{◌≡◌, ◌∙◌, ◌||◌, ℕ, Bool, true, false, List, slice_get, not, is_some, Option, Some, None, if◌then◌else◌, eq-eqb, refl, sym, ap}
+use Rattle.std.specs.Option.{option_map_or}
+use Rattle.std.proofs.lemmas.Bool.{and_parts, false≢true}
+use Rattle.mm_types.specs.Lookups as lookups
+use Rattle.mm_types.specs.Resolved.{Metamodel}
+use Rattle.mm_types.specs.Same.{is_feature}
+use Rattle.mm_types.specs.Shapes.{Shape, contents_shape, is_containment, shape, shape_of}
+use Rattle.mm_types.specs.declared.feature.Feature.{Feature}
+use Rattle.mm_types.specs.declared.feature.Kind.{Kind}
+use Rattle.mm_types.specs.declared.feature.Kind.TheVariants.{Reference}
+use Rattle.mm_types.specs.declared.numbers.ClassNo.{ClassNo}
+use Rattle.mm_types.specs.declared.numbers.FeatureNo.{FeatureNo}
+use Rattle.mm_types.specs.declared.numbers.Node.TheVariants as node
+use Rattle.mm_types.specs.declared.numbers.ObjectNo.{ObjectNo}
+use Rattle.mm_types.specs.declared.value.Value.{Value}
+use Rattle.mm_types.specs.declared.value.Value.TheVariants as value
+use Rattle.link_store.specs.Links.{end}
+use Rattle.web_uris.specs.Addresses.{IsProxyText, is_proxy_text}
+use Rattle.web_uris.proofs.AddressFacts.{proxy_text-from}
+use Rattle.models.specs.Legal.{IsLegal, is_legal_target, takes_proxies}
+use Rattle.models.specs.Model.{Model, reading}
+use Rattle.models.specs.Reading.{at_end, takes}
+use Rattle.containment.proofs.PartLemmas.{legal-at, values-linked}
+
+pub shape-of : (m : Metamodel) (f : FeatureNo) (g : Feature) (x : Kind) → lookups.feature m f ≡ Some g → g.kind ≡ x → shape m f ≡ shape_of m f g x
+shape-of m f g x known kind = ap (λ (o : Option Feature). option_map_or (λ y. shape_of m f y y.kind) o (contents_shape m)) known ∙ ap (shape_of m f g) kind
+
+module _ (m : Metamodel) (f : FeatureNo) (g : Feature) (target : ClassNo) (opposite : Option FeatureNo) (known : lookups.feature m f ≡ Some g) where
+  -- a containment reference contains, and takes no proxies
+  pub contains-parts : g.kind ≡ Reference target true opposite → is_containment m f ≡ true
+  contains-parts kind = ap (λ (a : Shape). is_feature f a.containing) (shape-of m f g (Reference target true opposite) known kind) ∙ eq-eqb f.0 f.0 refl
+
+  never : (b : Bool) → not (b || true) ≡ false
+  never true = refl
+  never false = refl
+
+  no-proxies : g.kind ≡ Reference target true opposite → takes_proxies (shape m f) ≡ false
+  no-proxies kind = ap takes_proxies (shape-of m f g (Reference target true opposite) known kind) ∙ never (is_some opposite)
+
+  -- another reference contains nothing, unless it is a container reference
+  pub links-only : g.kind ≡ Reference target false opposite → lookups.is_container m f ≡ false → is_containment m f ≡ false
+  links-only kind plain =
+      ap (λ (a : Shape). is_feature f a.containing) (shape-of m f g (Reference target false opposite) known kind)
+      ∙ ap (λ (b : Bool). is_feature f (if b then opposite else None)) plain
+
+---------------------------------------------------------------- what a reference holds
+
+module _ (s : Model) (legal : IsLegal s) (o : ObjectNo) (f : FeatureNo) (g : Feature) (i : ℕ) (v : Value) (target : ClassNo) (containment : Bool) (opposite : Option FeatureNo)
+    (known : lookups.feature s.metamodel f ≡ Some g) (kind : g.kind ≡ Reference target containment opposite) (at : slice_get ((reading s).values (at_end (node.Object o) f)) i ≡ Some v) where
+  pub refers : (shape s.metamodel f).is_reference ≡ true
+  refers = ap (λ (a : Shape). a.is_reference) (shape-of s.metamodel f g (Reference target containment opposite) known kind)
+
+  legal-target : is_legal_target (reading s) f v ≡ true
+  legal-target =
+      let e = at_end (node.Object o) f in
+      (legal-at (reading s) e (end s.links e) i v (legal.links.ends e) (ap (λ (vs : List Value). slice_get vs i) (sym (values-linked s e refers)) ∙ at)).1
+
+  -- the class of an object there conforms
+  class-conforms : (b : ObjectNo) → takes (reading s) f (value.Object b) ≡ true → option_map_or (λ c. lookups.conforms s.metamodel c target) ((reading s).class b) false ≡ true
+  class-conforms b taken =
+      let class = (reading s).class in
+      sym (ap (λ (x : Option Feature). option_map_or (λ y. lookups.is_of_kind s.metamodel class (lookups.is_single y) y.kind (value.Object b)) x (lookups.is_live_object class (value.Object b))) known
+      ∙ ap (λ (x : Kind). lookups.is_of_kind s.metamodel class (lookups.is_single g) x (value.Object b)) kind) ∙ taken
+
+  -- what holds of each object that conforms, and of each proxy where they are taken, holds of what stands there
+  pub each-target : (P : Value → Type 0) → ((b : ObjectNo) → v ≡ value.Object b → option_map_or (λ c. lookups.conforms s.metamodel c target) ((reading s).class b) false ≡ true → P (value.Object b))
+      → ((t : List ℕ) → v ≡ value.Proxy t → takes_proxies (shape s.metamodel f) ≡ true → IsProxyText t → P (value.Proxy t)) → P v
+  each-target P object proxy = by v refl legal-target
+    where
+      by : (w : Value) → v ≡ w → is_legal_target (reading s) f w ≡ true → P w
+      by (value.Object b) is taken = object b is (class-conforms b taken)
+      by (value.Proxy t) is taken = let both = and_parts (takes_proxies (shape s.metamodel f)) (is_proxy_text t) taken in proxy t is both.0 (proxy_text-from t both.1)
+      by _ is taken = absurd (false≢true taken)
+
+-- at a containment reference stand objects alone
+pub each-part : (s : Model) → IsLegal s → (o : ObjectNo) (f : FeatureNo) (g : Feature) (i : ℕ) (v : Value) (target : ClassNo) (opposite : Option FeatureNo) → lookups.feature s.metamodel f ≡ Some g
+    → g.kind ≡ Reference target true opposite → slice_get ((reading s).values (at_end (node.Object o) f)) i ≡ Some v → (P : Value → Type 0)
+    → ((b : ObjectNo) → v ≡ value.Object b → option_map_or (λ c. lookups.conforms s.metamodel c target) ((reading s).class b) false ≡ true → P (value.Object b)) → P v
+each-part s legal o f g i v target opposite known kind at P object =
+    each-target s legal o f g i v target true opposite known kind at P object (λ t _ taken text. absurd (false≢true (sym (no-proxies s.metamodel f g target opposite known kind) ∙ taken)))
