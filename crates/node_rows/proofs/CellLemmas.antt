@@ -1,6 +1,5 @@
 -- What a change of one row, or rows that have grown, make of the cells and of the room.
 use Rattle.std.proofs.Common.{◌≡◌, ◌≢◌, ℕ, zero, ◌+◌, ◌≤◌, Bool, true, false, List, Option, Some, None, if◌then◌else◌, refl, sym, ap, ◌∙◌, subst, arith}
-use Rattle.std.specs.List.{slice_get}
 use Rattle.std.proofs.lemmas.Bool.{false≢true}
 use Rattle.mm_types.specs.Same.{same_end, same_feature, same_node}
 use Rattle.mm_types.specs.declared.numbers.Node.{Node}
@@ -16,8 +15,10 @@ use Rattle.node_rows.specs.declared.row.RowEdit.{RowEdit}
 use Rattle.node_rows.specs.declared.row.RowEdit.TheVariants.{Change, Hold, Enter, Leave, ForgetEntries}
 use Rattle.node_rows.specs.declared.node_rows.NodeRows.{NodeRows}
 use Rattle.node_rows.specs.Rows.{AreRowsEdited, AreRowsGrown, IsRowEdited, IsRowGrown, RowFits, entered_after, entries_taken, hold_after, is_row, places_taken, row_entered, row_entries, row_hold, row_pairing, row_places, row_vals, told_after, vals_after}
+use Rattle.node_rows.specs.Tables.{Table, row_in}
 use Rattle.node_rows.specs.Cells.{Cells, Fits, KeepsRoom, cell_edit, cells, object_of, resource_of, room, row_at}
 use Rattle.node_rows.specs.Growth.{HasGained, no_ends, no_values, one_if}
+use Rattle.node_rows.proofs.RowLemmas.{row_same}
 
 pub fits_at : (t : NodeRows) (n : Node) (x : RowEdit) → Fits n x (room t) → RowFits x (row_at t n)
 unfolding room
@@ -71,13 +72,13 @@ module _ (t u : NodeRows) (n : Node) (x : RowEdit) (here : IsRowEdited x (row_at
   }
 
 -- the row of an object is changed
-module _ (t u : NodeRows) (n : Node) (x : RowEdit) (i : ℕ) (is : n ≡ object_of i) (h : AreRowsEdited i x (slice_get t.objects.items) (slice_get u.objects.items)) (same : u.resources.items ≡ t.resources.items) where
+module _ (t u : NodeRows) (n : Node) (x : RowEdit) (i : ℕ) (is : n ≡ object_of i) (h : AreRowsEdited i x (row_in t.objects) (row_in u.objects)) (same : u.resources ≡ t.resources) where
   object_here : IsRowEdited x (row_at t n) (row_at u n)
   object_here = subst (λ (k : Node). IsRowEdited x (row_at t k) (row_at u k)) (sym is) h.here
 
   object_others : (m : Node) → n ≢ m → row_at u m ≡ row_at t m
   object_others (node.Object o) ne = h.others o.0 (λ e. ne (is ∙ ap object_of (sym e)))
-  object_others (node.Resource r) ne = ap (λ (rs : List Row). slice_get rs r.0) same
+  object_others (node.Resource r) ne = ap (λ (x : Table). row_in x r.0) same
 
   pub object_cells : cells u ≡ cell_edit n x (cells t)
   object_cells = cells_edited t u n x object_here object_others
@@ -86,13 +87,13 @@ module _ (t u : NodeRows) (n : Node) (x : RowEdit) (i : ℕ) (is : n ≡ object_
   object_room = room_edited t u n x object_here object_others
 
 -- the row of a resource is changed
-module _ (t u : NodeRows) (n : Node) (x : RowEdit) (i : ℕ) (is : n ≡ resource_of i) (h : AreRowsEdited i x (slice_get t.resources.items) (slice_get u.resources.items)) (same : u.objects.items ≡ t.objects.items) where
+module _ (t u : NodeRows) (n : Node) (x : RowEdit) (i : ℕ) (is : n ≡ resource_of i) (h : AreRowsEdited i x (row_in t.resources) (row_in u.resources)) (same : u.objects ≡ t.objects) where
   resource_here : IsRowEdited x (row_at t n) (row_at u n)
   resource_here = subst (λ (k : Node). IsRowEdited x (row_at t k) (row_at u k)) (sym is) h.here
 
   resource_others : (m : Node) → n ≢ m → row_at u m ≡ row_at t m
   resource_others (node.Resource r) ne = h.others r.0 (λ e. ne (is ∙ ap resource_of (sym e)))
-  resource_others (node.Object o) ne = ap (λ (rs : List Row). slice_get rs o.0) same
+  resource_others (node.Object o) ne = ap (λ (x : Table). row_in x o.0) same
 
   pub resource_cells : cells u ≡ cell_edit n x (cells t)
   resource_cells = cells_edited t u n x resource_here resource_others
@@ -113,23 +114,13 @@ module _ (t u : NodeRows) (each : (n : Node) → IsRowGrown (row_at t n) (row_at
         entered = λ n. (each n).entered i;
       }
 
-row_same : (o : Option Row) → IsRowGrown o o
-row_same o = record {
-  vals = λ g. refl;
-  pairing = λ g. refl;
-  hold = refl;
-  entered = refl;
-  places = λ g. omega arith;
-  entries = omega arith;
-}
-
-pub objects_each : (t u : NodeRows) → AreRowsGrown (slice_get t.objects.items) (slice_get u.objects.items) → u.resources.items ≡ t.resources.items → (n : Node) → IsRowGrown (row_at t n) (row_at u n)
+pub objects_each : (t u : NodeRows) → AreRowsGrown (row_in t.objects) (row_in u.objects) → u.resources ≡ t.resources → (n : Node) → IsRowGrown (row_at t n) (row_at u n)
 objects_each t u h same (node.Object o) = h o.0
-objects_each t u h same (node.Resource r) = subst (λ (rs : List Row). IsRowGrown (slice_get t.resources.items r.0) (slice_get rs r.0)) (sym same) (row_same (slice_get t.resources.items r.0))
+objects_each t u h same (node.Resource r) = subst (λ (x : Table). IsRowGrown (row_in t.resources r.0) (row_in x r.0)) (sym same) (row_same (row_in t.resources r.0))
 
-pub resources_each : (t u : NodeRows) → AreRowsGrown (slice_get t.resources.items) (slice_get u.resources.items) → u.objects.items ≡ t.objects.items → (n : Node) → IsRowGrown (row_at t n) (row_at u n)
+pub resources_each : (t u : NodeRows) → AreRowsGrown (row_in t.resources) (row_in u.resources) → u.objects ≡ t.objects → (n : Node) → IsRowGrown (row_at t n) (row_at u n)
 resources_each t u h same (node.Resource r) = h r.0
-resources_each t u h same (node.Object o) = subst (λ (rs : List Row). IsRowGrown (slice_get t.objects.items o.0) (slice_get rs o.0)) (sym same) (row_same (slice_get t.objects.items o.0))
+resources_each t u h same (node.Object o) = subst (λ (x : Table). IsRowGrown (row_in t.objects o.0) (row_in x o.0)) (sym same) (row_same (row_in t.objects o.0))
 
 ---------------------------------------------------------------- places promised
 

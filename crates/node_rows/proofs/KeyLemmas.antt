@@ -15,16 +15,17 @@ use Rattle.node_rows.specs.declared.slot.Slot.{Slot}
 use Rattle.node_rows.specs.declared.row.Row.{Row}
 use Rattle.node_rows.specs.declared.node_rows.NodeRows.{NodeRows}
 use Rattle.node_rows.specs.Slots.{slot_in, values_of}
-use Rattle.node_rows.specs.Rows.{is_row, row_entered, row_entries, row_hold, row_pairing, row_places, row_vals}
-use Rattle.node_rows.specs.Cells.{HasKeys, cells, ends_of, no_cells, object_of, resource_of, room, row_at, row_ends, slot_ends}
+use Rattle.node_rows.specs.Rows.{is_row, row_entered, row_entries, row_hold, row_pairing, row_places, row_slots, row_vals}
+use Rattle.node_rows.specs.Tables.{place_at, place_in, row_from}
+use Rattle.node_rows.specs.Cells.{HasKeys, cells, ends_of, no_cells, object_of, resource_of, room, row_at, row_ends, slot_ends, table_ends}
 
 ---------------------------------------------------------------- no rows
 
-none_at : (t : NodeRows) → t.objects.items ≡ [] → t.resources.items ≡ [] → (n : Node) → row_at t n ≡ None
-none_at t a b (node.Object o) = ap (λ (rs : List Row). slice_get rs o.0) a
-none_at t a b (node.Resource r) = ap (λ (rs : List Row). slice_get rs r.0) b
+none_at : (t : NodeRows) → t.objects.places ≡ [] → t.resources.places ≡ [] → (n : Node) → row_at t n ≡ None
+none_at t a b (node.Object o) = ap (λ (ps : List ℕ). row_from t.objects.rows (place_in ps o.0)) a
+none_at t a b (node.Resource r) = ap (λ (ps : List ℕ). row_from t.resources.rows (place_in ps r.0)) b
 
-pub none_cells : (t : NodeRows) → t.objects.items ≡ [] → t.resources.items ≡ [] → cells t ≡ no_cells
+pub none_cells : (t : NodeRows) → t.objects.places ≡ [] → t.resources.places ≡ [] → cells t ≡ no_cells
 unfolding cells
 none_cells t a b = λ i.
     record {
@@ -34,9 +35,9 @@ none_cells t a b = λ i.
       entered = λ n. ap row_entered (none_at t a b n) i;
     }
 
-pub none_ends : (t : NodeRows) → t.objects.items ≡ [] → t.resources.items ≡ [] → ends_of t ≡ []
+pub none_ends : (t : NodeRows) → t.objects.places ≡ [] → t.resources.places ≡ [] → ends_of t ≡ []
 unfolding ends_of
-none_ends t a b = λ i. row_ends object_of 0 (a i) ++ row_ends resource_of 0 (b i)
+none_ends t a b = λ i. row_ends object_of 0 t.objects.rows (a i) ++ row_ends resource_of 0 t.resources.rows (b i)
 
 ---------------------------------------------------------------- keys
 
@@ -48,16 +49,18 @@ slot_keys n (s ∷ ss) f e k v is h =
       | false ↦ λ q h. or_right _ _ (slot_keys n ss f e k v is h)
     ] refl h
 
-row_keys : (at : ℕ → Node) (a : ℕ) (rs : List Row) (i : ℕ) (f : FeatureNo) (e : End) (k : ℕ) (v : Value) → e ≡ record { node = at (a + i); feature = f } → slice_get (row_vals (slice_get rs i) f) k ≡ Some v → list_any (same_end e) (row_ends at a rs) ≡ true
-row_keys at a [] i f e k v is h = absurd (none-some v h)
-row_keys at a (r ∷ rs) zero f e k v is h =
+row_keys : (at : ℕ → Node) (a : ℕ) (rs : List Row) (ps : List ℕ) (i : ℕ) (f : FeatureNo) (e : End) (k : ℕ) (v : Value) → e ≡ record { node = at (a + i); feature = f } → slice_get (row_vals (row_from rs (place_in ps i)) f) k ≡ Some v → list_any (same_end e) (row_ends at a rs ps) ≡ true
+row_keys at a rs [] i f e k v is h = absurd (none-some v h)
+row_keys at a rs (p ∷ ps) zero f e k v is h =
+    let here = row_slots (row_from rs (place_at (Some p))) in
     let same : a + 0 ≡ a = omega arith in
-    list_any-append (same_end e) (slot_ends (at a) r.slots.items) (row_ends at (suc a) rs)
-    ∙ or_left _ _ (slot_keys (at a) r.slots.items f e k v (is ∙ λ j. record { node = at (same j); feature = f }) h)
-row_keys at a (r ∷ rs) (suc i) f e k v is h =
+    list_any-append (same_end e) (slot_ends (at a) here) (row_ends at (suc a) rs ps)
+    ∙ or_left _ _ (slot_keys (at a) here f e k v (is ∙ λ j. record { node = at (same j); feature = f }) h)
+row_keys at a rs (p ∷ ps) (suc i) f e k v is h =
+    let here = row_slots (row_from rs (place_at (Some p))) in
     let same : a + suc i ≡ suc a + i = omega arith in
-    list_any-append (same_end e) (slot_ends (at a) r.slots.items) (row_ends at (suc a) rs)
-    ∙ or_right _ _ (row_keys at (suc a) rs i f e k v (is ∙ λ j. record { node = at (same j); feature = f }) h)
+    list_any-append (same_end e) (slot_ends (at a) here) (row_ends at (suc a) rs ps)
+    ∙ or_right _ _ (row_keys at (suc a) rs ps i f e k v (is ∙ λ j. record { node = at (same j); feature = f }) h)
 
 -- each end with a value has a slot
 pub keys_of : (t : NodeRows) → HasKeys (cells t) (ends_of t)
@@ -67,13 +70,13 @@ keys_of t e k v h = at_node e.node refl h
     plus : (k : ℕ) → k ≡ 0 + k
     plus k = omega arith
 
-    at_node : (n : Node) → e.node ≡ n → slice_get (row_vals (row_at t n) e.feature) k ≡ Some v → list_any (same_end e) (row_ends object_of 0 t.objects.items ++ row_ends resource_of 0 t.resources.items) ≡ true
+    at_node : (n : Node) → e.node ≡ n → slice_get (row_vals (row_at t n) e.feature) k ≡ Some v → list_any (same_end e) (table_ends object_of t.objects ++ table_ends resource_of t.resources) ≡ true
     at_node (node.Object o) is h =
-        list_any-append (same_end e) (row_ends object_of 0 t.objects.items) (row_ends resource_of 0 t.resources.items)
-        ∙ or_left _ _ (row_keys object_of 0 t.objects.items o.0 e.feature e k v (λ j. record { node = (is ∙ ap object_of (plus o.0)) j; feature = e.feature }) h)
+        list_any-append (same_end e) (table_ends object_of t.objects) (table_ends resource_of t.resources)
+        ∙ or_left _ _ (row_keys object_of 0 t.objects.rows t.objects.places o.0 e.feature e k v (λ j. record { node = (is ∙ ap object_of (plus o.0)) j; feature = e.feature }) h)
     at_node (node.Resource r) is h =
-        list_any-append (same_end e) (row_ends object_of 0 t.objects.items) (row_ends resource_of 0 t.resources.items)
-        ∙ or_right _ _ (row_keys resource_of 0 t.resources.items r.0 e.feature e k v (λ j. record { node = (is ∙ ap resource_of (plus r.0)) j; feature = e.feature }) h)
+        list_any-append (same_end e) (table_ends object_of t.objects) (table_ends resource_of t.resources)
+        ∙ or_right _ _ (row_keys resource_of 0 t.resources.rows t.resources.places r.0 e.feature e k v (λ j. record { node = (is ∙ ap resource_of (plus r.0)) j; feature = e.feature }) h)
 
 ---------------------------------------------------------------- known nodes
 

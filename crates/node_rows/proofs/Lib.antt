@@ -1,5 +1,6 @@
 pub mod ListLemmas
 pub mod SlotLemmas
 pub mod RowLemmas
+pub mod TableLemmas
 pub mod CellLemmas
 pub mod KeyLemmas

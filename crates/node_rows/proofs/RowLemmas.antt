@@ -11,7 +11,7 @@ use Rattle.node_rows.specs.declared.row.Row.{Row}
 use Rattle.node_rows.specs.declared.row.RowEdit.{RowEdit}
 use Rattle.node_rows.specs.declared.row.RowEdit.TheVariants.{Change, Hold, Enter, Leave, ForgetEntries}
 use Rattle.node_rows.specs.Slots.{AreSlotsEdited, pairing_after, pairing_of, places_of, slot_in, taken, unpaired, values_after, values_of}
-use Rattle.node_rows.specs.Rows.{IsRowEdited, RowFits}
+use Rattle.node_rows.specs.Rows.{IsRowEdited, IsRowGrown, RowFits}
 use Rattle.node_rows.proofs.ListLemmas.{remove_nothing}
 use Rattle.node_rows.proofs.SlotLemmas.{nothing_after, nothing_told, same_slot}
 
@@ -82,3 +82,36 @@ unedited_row (ForgetEntries n) None is fits = record {
   kept = refl;
 }
 unedited_row x (Some r) is fits = cc
+
+---------------------------------------------------------------- growth
+
+pub row_same : (o : Option Row) → IsRowGrown o o
+row_same o = record {
+  vals = λ g. refl;
+  pairing = λ g. refl;
+  hold = refl;
+  entered = refl;
+  places = λ g. omega arith;
+  entries = omega arith;
+}
+
+pub row_grown_twice : (o p q : Option Row) → IsRowGrown o p → IsRowGrown p q → IsRowGrown o q
+row_grown_twice o p q a b = record {
+  vals = λ g. b.vals g ∙ a.vals g;
+  pairing = λ g. b.pairing g ∙ a.pairing g;
+  hold = b.hold ∙ a.hold;
+  entered = b.entered ∙ a.entered;
+  places = λ g. omega (arith, a.places g, b.places g);
+  entries = omega (arith, a.entries, b.entries);
+}
+
+-- a new row grows out of none
+pub row_made : (r : Row) → r.slots.items ≡ [] → r.holder ≡ None → r.entered.items ≡ [] → IsRowGrown None (Some r)
+row_made r slots holder entered = record {
+  vals = λ g. ap (λ (ss : List Slot). values_of (slot_in ss g)) slots;
+  pairing = λ g. ap (λ (ss : List Slot). pairing_of (slot_in ss g)) slots;
+  hold = holder;
+  entered = entered;
+  places = λ g. omega arith;
+  entries = omega arith;
+}

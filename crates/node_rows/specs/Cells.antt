@@ -13,7 +13,8 @@ use Rattle.node_rows.specs.declared.row.RowEdit.{RowEdit}
 use Rattle.node_rows.specs.declared.row.RowEdit.TheVariants.{Change, Hold, Enter, Leave, ForgetEntries}
 use Rattle.node_rows.specs.declared.node_rows.NodeRows.{NodeRows}
 use Rattle.node_rows.specs.Slots.{taken, unpaired}
-use Rattle.node_rows.specs.Rows.{entered_after, entries_taken, hold_after, is_row, places_taken, row_entered, row_entries, row_hold, row_pairing, row_places, row_vals, told_after, vals_after}
+use Rattle.node_rows.specs.Rows.{entered_after, entries_taken, hold_after, is_row, places_taken, row_entered, row_entries, row_hold, row_pairing, row_places, row_slots, row_vals, told_after, vals_after}
+use Rattle.node_rows.specs.Tables.{Table, place_at, row_from, row_in}
 
 -- the values of each end, what puts told of its feature, the end that contains each node, and the ends with no opposite that hold it
 pub record Cells : Type 0 where
@@ -35,8 +36,8 @@ pub record Room : Type 0 where
 ---------------------------------------------------------------- of rows
 
 abbrev pub row_at : NodeRows → Node → Option Row
-row_at t (node.Object o) = slice_get t.objects.items o.0
-row_at t (node.Resource r) = slice_get t.resources.items r.0
+row_at t (node.Object o) = row_in t.objects o.0
+row_at t (node.Resource r) = row_in t.resources r.0
 
 unfoldable pub cells : NodeRows → Cells
 cells t =
@@ -58,10 +59,13 @@ room t =
 abbrev pub slot_ends : Node → List Slot → List End
 slot_ends n ss = map (λ s. record { node = n; feature = s.feature }) ss
 
--- the ends that have a slot among the rows, whose nodes are numbered from k on
-abbrev pub row_ends : (ℕ → Node) → ℕ → List Row → List End
-row_ends at k [] = []
-row_ends at k (r ∷ rs) = slot_ends (at k) r.slots.items ++ row_ends at (suc k) rs
+-- the ends that have a slot in the rows at the places, which are those of the nodes from number k on
+abbrev pub row_ends : (ℕ → Node) → ℕ → List Row → List ℕ → List End
+row_ends at k rs [] = []
+row_ends at k rs (p ∷ ps) = slot_ends (at k) (row_slots (row_from rs (place_at (Some p)))) ++ row_ends at (suc k) rs ps
+
+abbrev pub table_ends : (ℕ → Node) → Table → List End
+table_ends at t = row_ends at 0 t.rows t.places
 
 abbrev pub object_of : ℕ → Node
 object_of k = node.Object (record { 0 = k })
@@ -71,7 +75,7 @@ resource_of k = node.Resource (record { 0 = k })
 
 -- the ends that have a slot
 unfoldable pub ends_of : NodeRows → List End
-ends_of t = row_ends object_of 0 t.objects.items ++ row_ends resource_of 0 t.resources.items
+ends_of t = table_ends object_of t.objects ++ table_ends resource_of t.resources
 
 -- each end with a value is among the ends
 abbrev pub HasKeys : Cells → List End → Type 0

@@ -1,4 +1,5 @@
 pub mod Slots
 pub mod Rows
+pub mod Tables
 pub mod Cells
 pub mod Growth

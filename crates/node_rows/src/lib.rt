@@ -1,10 +1,12 @@
 //! Links by node: for each node its lists of values, the end that contains it, and the ends with no opposite that hold it.
 //!
 //! `NodeRows::reserve_for` makes room for a plan of edits; `NodeRows::edit` then makes one change of a node and takes no memory.
+//! A node has a row once room was made for it; any other takes four bytes of an index (`RowTable`), or nothing.
 #![tactic(auto)]
 
 mod node_rows;
 mod row;
+mod row_table;
 mod slot;
 
 pub use node_rows::NodeRows;

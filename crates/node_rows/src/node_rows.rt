@@ -1,24 +1,25 @@
 //! The rows of all nodes.
-ghost use Rattle.std.specs.Prelude.{◌≡◌, ◌+◌, ◌≤◌, ◌<◌, [], ◌∷◌, length, option_copied, position, slice_get, OnOk, vec_len};
+ghost use Rattle.std.specs.Prelude.{◌≡◌, [], length, option_copied, position, slice_get, OnOk};
 ghost use Rattle.mm_types.specs.Same.{same_end, same_node, same_value};
 ghost use Rattle.mm_types.specs.declared.end.End.{End};
 ghost use Rattle.mm_types.specs.declared.numbers.Node.{Node};
 ghost use Rattle.mm_types.specs.declared.numbers.Node.TheVariants as node;
-ghost use Rattle.node_rows.specs.Rows.{AreRowsEdited, AreRowsGrown, RowFits, row_entries, row_places, row_slot, row_slots};
+ghost use Rattle.node_rows.specs.Rows.{row_slot, row_slots};
 ghost use Rattle.node_rows.specs.Cells.{Fits, KeepsRoom, cell_edit, cells, ends_of, no_cells, room, row_at};
 ghost use Rattle.node_rows.specs.Growth.{HasGained, HasRoom, entry, far_gain, gain, lone_entry, no_ends, no_values, one_if};
 
 use crate::row::{Row, RowEdit};
+use crate::row_table::RowTable;
 use crate::slot::{Pairing, Slot, SlotEdit};
 use link_store::{Edit, Plan};
 use mm_types::{End, FeatureNo, Node, ObjectNo, Value};
 use std::alloc::{AllocError, Global};
 
-/// A row for each node, at its number.
+/// A row for each node that was promised a place for a value, or for an end that holds it.
 #[derive(Drop)]
 pub struct NodeRows {
-    objects: Vec<Row>,
-    resources: Vec<Row>,
+    objects: RowTable,
+    resources: RowTable,
 }
 
 impl NodeRows {
@@ -28,8 +29,8 @@ impl NodeRows {
         ensures ends { ends_of result ≡ [] }
     {
         NodeRows {
-            objects: Vec::new(alloc),
-            resources: Vec::new(alloc),
+            objects: RowTable::new(alloc),
+            resources: RowTable::new(alloc),
         }
     }
 
@@ -143,8 +144,8 @@ impl NodeRows {
         ensures room { KeepsRoom node edit (room self.old) (room self.new) }
     {
         match node {
-            Node::Object(object) => edit_at(&mut self.objects, object.0 as usize, edit),
-            Node::Resource(resource) => edit_at(&mut self.resources, resource.0 as usize, edit),
+            Node::Object(object) => self.objects.edit(object.0 as usize, edit),
+            Node::Resource(resource) => self.resources.edit(resource.0 as usize, edit),
         }
     }
 
@@ -229,12 +230,8 @@ impl NodeRows {
         ensures ok { OnOk result (HasGained (λ e. one_if (same_end end e)) no_ends (room self.old) (room self.new)) }
     {
         match end.node {
-            Node::Object(object) => {
-                promise_at(&mut self.objects, object.0 as usize, end.feature)
-            }
-            Node::Resource(resource) => {
-                promise_at(&mut self.resources, resource.0 as usize, end.feature)
-            }
+            Node::Object(object) => self.objects.promise(object.0 as usize, end.feature),
+            Node::Resource(resource) => self.resources.promise(resource.0 as usize, end.feature),
         }
     }
 
@@ -243,7 +240,7 @@ impl NodeRows {
         ensures cells { cells self.new ≡ cells self.old }
         ensures ok { OnOk result (HasGained no_values (λ n. one_if (same_node (node.Object object) n)) (room self.old) (room self.new)) }
     {
-        promise_entry_at(&mut self.objects, object.0 as usize)
+        self.objects.promise_entry(object.0 as usize)
     }
 
     // Promises the far side of a put its place.
@@ -297,45 +294,4 @@ impl NodeRows {
         }
         Ok(())
     }
-}
-
-// Makes one change of the row at an index.
-fn edit_at(rows: &mut Vec<Row>, index: usize, edit: RowEdit)
-    requires { RowFits edit (slice_get rows.old.items index) }
-    ensures { AreRowsEdited index edit (slice_get rows.old.items) (slice_get rows.new.items) }
-{
-    if index >= rows.len() {
-        return drop(edit);
-    }
-    rows[index].edit(edit);
-}
-
-// Makes rows up to an index.
-fn add_rows(rows: &mut Vec<Row>, index: usize) -> Result<(), AllocError>
-    ensures grown { AreRowsGrown (slice_get rows.old.items) (slice_get rows.new.items) }
-    ensures ok { OnOk result (index < vec_len rows.new) }
-{
-    let alloc = *rows.allocator();
-    while rows.len() <= index {
-        rows.push(Row::new(alloc))?;
-    }
-    Ok(())
-}
-
-// Promises one more value at a feature of the row at an index a place.
-fn promise_at(rows: &mut Vec<Row>, index: usize, feature: FeatureNo) -> Result<(), AllocError>
-    ensures grown { AreRowsGrown (slice_get rows.old.items) (slice_get rows.new.items) }
-    ensures ok { OnOk result (row_places (slice_get rows.old.items index) feature + 1 ≤ row_places (slice_get rows.new.items index) feature) }
-{
-    add_rows(rows, index)?;
-    rows[index].promise(feature)
-}
-
-// Promises one more end that holds the node of the row at an index a place.
-fn promise_entry_at(rows: &mut Vec<Row>, index: usize) -> Result<(), AllocError>
-    ensures grown { AreRowsGrown (slice_get rows.old.items) (slice_get rows.new.items) }
-    ensures ok { OnOk result (row_entries (slice_get rows.old.items index) + 1 ≤ row_entries (slice_get rows.new.items index)) }
-{
-    add_rows(rows, index)?;
-    rows[index].promise_entry()
 }

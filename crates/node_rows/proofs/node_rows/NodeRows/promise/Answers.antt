@@ -7,20 +7,20 @@ use Rattle.node_rows.proofs.node_rows.NodeRows.promise.Goals as goal
 
 pub returns-in-Object-clause-cells : goal.returns-in-Object-clause-cells
 returns-in-Object-clause-cells c =
-    let u : NodeRows = record c.args.self.now { objects = c.promise_at.new.rows } in
-    cells_grown c.args.self.now u (objects_each c.args.self.now u c.promise_at.ensures.grown refl)
+    let u : NodeRows = record c.args.self.now { objects = c.promise.new.self } in
+    cells_grown c.args.self.now u (objects_each c.args.self.now u c.promise.ensures.grown refl)
 
 pub returns-in-Object-clause-ok : goal.returns-in-Object-clause-ok
 returns-in-Object-clause-ok c =
-    let u : NodeRows = record c.args.self.now { objects = c.promise_at.new.rows } in
-    on_ok_weaker c.promise_at.result (promised_value c.args.self.now u (objects_each c.args.self.now u c.promise_at.ensures.grown refl) c.args.end (node.Object c.in-Object.object) c.in-Object.is) c.promise_at.ensures.ok
+    let u : NodeRows = record c.args.self.now { objects = c.promise.new.self } in
+    on_ok_weaker c.promise.result (promised_value c.args.self.now u (objects_each c.args.self.now u c.promise.ensures.grown refl) c.args.end (node.Object c.in-Object.object) c.in-Object.is) c.promise.ensures.ok
 
 pub returns-in-Resource-clause-cells : goal.returns-in-Resource-clause-cells
 returns-in-Resource-clause-cells c =
-    let u : NodeRows = record c.args.self.now { resources = c.promise_at-in-Resource.new.rows } in
-    cells_grown c.args.self.now u (resources_each c.args.self.now u c.promise_at-in-Resource.ensures.grown refl)
+    let u : NodeRows = record c.args.self.now { resources = c.promise-in-Resource.new.self } in
+    cells_grown c.args.self.now u (resources_each c.args.self.now u c.promise-in-Resource.ensures.grown refl)
 
 pub returns-in-Resource-clause-ok : goal.returns-in-Resource-clause-ok
 returns-in-Resource-clause-ok c =
-    let u : NodeRows = record c.args.self.now { resources = c.promise_at-in-Resource.new.rows } in
-    on_ok_weaker c.promise_at-in-Resource.result (promised_value c.args.self.now u (resources_each c.args.self.now u c.promise_at-in-Resource.ensures.grown refl) c.args.end (node.Resource c.in-Resource.resource) c.in-Resource.is) c.promise_at-in-Resource.ensures.ok
+    let u : NodeRows = record c.args.self.now { resources = c.promise-in-Resource.new.self } in
+    on_ok_weaker c.promise-in-Resource.result (promised_value c.args.self.now u (resources_each c.args.self.now u c.promise-in-Resource.ensures.grown refl) c.args.end (node.Resource c.in-Resource.resource) c.in-Resource.is) c.promise-in-Resource.ensures.ok

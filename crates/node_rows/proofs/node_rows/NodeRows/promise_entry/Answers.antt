@@ -7,10 +7,10 @@ use Rattle.node_rows.proofs.node_rows.NodeRows.promise_entry.Goals as goal
 
 pub returns-clause-cells : goal.returns-clause-cells
 returns-clause-cells c =
-    let u : NodeRows = record c.args.self.now { objects = c.promise_entry_at.new.rows } in
-    cells_grown c.args.self.now u (objects_each c.args.self.now u c.promise_entry_at.ensures.grown refl)
+    let u : NodeRows = record c.args.self.now { objects = c.promise_entry.new.self } in
+    cells_grown c.args.self.now u (objects_each c.args.self.now u c.promise_entry.ensures.grown refl)
 
 pub returns-clause-ok : goal.returns-clause-ok
 returns-clause-ok c =
-    let u : NodeRows = record c.args.self.now { objects = c.promise_entry_at.new.rows } in
-    on_ok_weaker c.promise_entry_at.result (promised_entry c.args.self.now u (objects_each c.args.self.now u c.promise_entry_at.ensures.grown refl) (node.Object c.args.object)) c.promise_entry_at.ensures.ok
+    let u : NodeRows = record c.args.self.now { objects = c.promise_entry.new.self } in
+    on_ok_weaker c.promise_entry.result (promised_entry c.args.self.now u (objects_each c.args.self.now u c.promise_entry.ensures.grown refl) (node.Object c.args.object)) c.promise_entry.ensures.ok

@@ -1,0 +1,129 @@
+//! The rows of some numbers, each found by its number.
+ghost use Rattle.std.specs.Prelude.{◌≡◌, ℕ, ◌+◌, ◌<◌, ◌≤◌, [], length, option_copied, vec_len, None, Some, IfOk, OnOk};
+ghost use Rattle.node_rows.specs.Rows.{AreRowsEdited, AreRowsGrown, RowFits, row_entries, row_places};
+ghost use Rattle.node_rows.specs.Tables.{place_in, row_in};
+
+use crate::row::{Row, RowEdit};
+use mm_types::FeatureNo;
+use std::alloc::{AllocError, Global};
+use std::marker::Model;
+
+/// Rows by number. A number with no row takes four bytes where a higher one has a row, and else none: most objects of a model
+/// may have no links. Contracts see both lists, and read them by `row_in`.
+#[derive(Drop)]
+pub(crate) struct RowTable {
+    // By number: zero where it has no row, and else one more than the place of the row.
+    places: Vec<u32>,
+    // In the order in which they were made.
+    rows: Vec<Row>,
+}
+
+impl Model for RowTable {
+    ghost use Rattle.std.specs.Prelude.{length};
+    ghost use Rattle.node_rows.specs.Tables.{Table, ArePlaces};
+
+    ghost Value = { Table };
+
+    ghost view = { λ a. record { places = a.places.items; rows = a.rows.items } };
+
+    ghost invariant = { λ a. ArePlaces a.places.items (length a.rows.items) };
+}
+
+impl RowTable {
+    /// No rows. Takes no memory.
+    pub fn new(alloc: Global) -> Self
+        ensures { result.places ≡ [] }
+    {
+        RowTable {
+            places: Vec::new(alloc),
+            rows: Vec::new(alloc),
+        }
+    }
+
+    /// The row of a number; `None` where it has none.
+    pub fn get(&self, number: usize) -> Option<&Row>
+        ensures { option_copied result ≡ row_in self.now number }
+    {
+        self.rows.get(place_of(&self.places, number)?)
+    }
+
+    /// Makes one change of the row of a number. Takes no memory.
+    pub fn edit(&mut self, number: usize, edit: RowEdit)
+        requires { RowFits edit (row_in self.old number) }
+        ensures { AreRowsEdited number edit (row_in self.old) (row_in self.new) }
+    {
+        match place_of(&self.places, number) {
+            Some(place) => self.rows[place].edit(edit),
+            None => drop(edit),
+        }
+    }
+
+    /// Promises one more value at a feature of the row of a number a place. Errs where memory is refused; no value changes.
+    pub fn promise(&mut self, number: usize, feature: FeatureNo) -> Result<(), AllocError>
+        ensures grown { AreRowsGrown (row_in self.old) (row_in self.new) }
+        ensures ok { OnOk result (row_places (row_in self.old number) feature + 1 ≤ row_places (row_in self.new number) feature) }
+    {
+        let place = self.make_row(number)?;
+        self.rows[place].promise(feature)
+    }
+
+    /// Promises one more end that holds the node of a row a place. Errs where memory is refused; no end changes.
+    pub fn promise_entry(&mut self, number: usize) -> Result<(), AllocError>
+        ensures grown { AreRowsGrown (row_in self.old) (row_in self.new) }
+        ensures ok { OnOk result (row_entries (row_in self.old number) + 1 ≤ row_entries (row_in self.new number)) }
+    {
+        let place = self.make_row(number)?;
+        self.rows[place].promise_entry()
+    }
+
+    // The place of the row of a number, which is made where there is none.
+    fn make_row(&mut self, number: usize) -> Result<usize, AllocError>
+        ensures grown { AreRowsGrown (row_in self.old) (row_in self.new) }
+        ensures ok { IfOk result (λ k. place_in self.new.places number ≡ Some k) }
+    {
+        extend(&mut self.places, number)?;
+        match place_of(&self.places, number) {
+            Some(place) => Ok(place),
+            None => self.push_row(number),
+        }
+    }
+
+    // Makes a row for a number that has none, and answers its place. The row comes first, so that no place is without its row
+    // where memory is refused.
+    fn push_row(&mut self, number: usize) -> Result<usize, AllocError>
+        requires in_range { number < length self.old.places }
+        requires none { place_in self.old.places number ≡ None }
+        ensures grown { AreRowsGrown (row_in self.old) (row_in self.new) }
+        ensures ok { IfOk result (λ k. place_in self.new.places number ≡ Some k) }
+    {
+        let place = self.rows.len();
+        if place >= u32::MAX as usize {
+            return Err(AllocError);
+        }
+        let alloc = *self.rows.allocator();
+        self.rows.push(Row::new(alloc))?;
+        self.places[number] = place as u32 + 1;
+        Ok(place)
+    }
+}
+
+// The place of the row of a number; `None` where it has none.
+fn place_of(places: &[u32], number: usize) -> Option<usize>
+    ensures { result ≡ place_in places.now number }
+{
+    match *places.get(number)? {
+        0 => None,
+        above => Some(above as usize - 1),
+    }
+}
+
+// Makes an entry for each number up to one. No number has a row more.
+fn extend(places: &mut Vec<u32>, number: usize) -> Result<(), AllocError>
+    ensures same { (n : ℕ) → place_in places.new.items n ≡ place_in places.old.items n }
+    ensures ok { OnOk result (number < vec_len places.new) }
+{
+    while places.len() <= number {
+        places.push(0)?;
+    }
+    Ok(())
+}
