@@ -1,4 +1,5 @@
 //! A metamodel of books, and repositories of them.
+use crate::replies::{made, made_attached};
 use adapters::Adapter;
 use link_store::RowStore;
 use mm_check::check;
@@ -62,7 +63,7 @@ pub(crate) fn repository<A: Adapter>(alloc: Global) -> Result<Box<RowRepository<
 /// A repository of one book, which is object 0.
 pub(crate) fn one_book<A: Adapter>(alloc: Global) -> Result<Box<RowRepository<A>>, Fail> {
     let mut repository = repository(alloc)?;
-    repository.create(BOOK)?;
+    made(repository.create(BOOK))?;
     Ok(repository)
 }
 
@@ -72,10 +73,7 @@ pub(crate) fn attach<A: Adapter>(
     no: u32,
     adapter: A,
 ) -> Result<(), Refused> {
-    match repository.attach(AdapterNo(no), object(0), false, adapter) {
-        Ok(_) => Ok(()),
-        Err(failure) => Err(failure.refused),
-    }
+    made_attached(repository.attach(AdapterNo(no), object(0), false, adapter))
 }
 
 /// A repository of one book, with three adapters at it, numbered 5, 6 and 7.

@@ -1,6 +1,6 @@
 //! A metamodel of boxes with lists, repositories of them, and calls that concern one feature.
 use crate::books::{RowRepository, empty, metamodel, object};
-use crate::replies::{got, quiet};
+use crate::replies::{got, made, quiet};
 use adapters::Adapter;
 use mm_types::{ClassNo, FeatureNo, MetaFault, ObjectNo, Refused, Value};
 use repository::Reply;
@@ -42,10 +42,10 @@ fn repository<A: Adapter>(alloc: Global) -> Result<Box<RowRepository<A>>, MetaFa
 }
 
 /// Makes a box; where memory is refused, it is asked for once more.
-fn make_box<A: Adapter>(repository: &mut RowRepository<A>) -> Result<Reply<A>, Refused> {
-    match repository.create(BOX) {
-        Ok(reply) => Ok(reply),
-        Err(_) => repository.create(BOX),
+fn make_box<A: Adapter>(repository: &mut RowRepository<A>) -> Result<(), Refused> {
+    match made(repository.create(BOX)) {
+        Ok(()) => Ok(()),
+        Err(_) => made(repository.create(BOX)),
     }
 }
 

@@ -1,6 +1,6 @@
 //! The calls that concern a repository's adapters, each done and refused.
 use crate::books::{NAME, RowRepository, attach, object, one_book, text};
-use crate::replies::{failure_text, outcome_text, reply_text};
+use crate::replies::{failure_text, given, made, outcome_text};
 use crate::telling::{Kind, adapter};
 use adapters::{Adapter, Counter};
 use mm_types::{AdapterNo, Node, Refused, ResourceNo};
@@ -16,7 +16,9 @@ fn attached<A: Adapter>(
     adapter: A,
 ) -> Result<String, AllocError> {
     let outcome = repository.attach(NO, object(0), true, adapter);
-    outcome_text(alloc, &outcome)
+    let text = outcome_text(alloc, &outcome);
+    drop(outcome);
+    text
 }
 
 /// Names the book, and takes the name back.
@@ -24,8 +26,9 @@ fn name_and_unname<A: Adapter>(
     alloc: Global,
     repository: &mut RowRepository<A>,
 ) -> Result<(), Fail> {
-    repository.e_set(object(0), NAME, text(alloc, "Emma")?)?;
-    repository.e_unset(object(0), NAME)?;
+    let emma = text(alloc, "Emma")?;
+    made(repository.e_set(object(0), NAME, emma))?;
+    made(repository.e_unset(object(0), NAME))?;
     Ok(())
 }
 
@@ -36,8 +39,7 @@ fn counted<A: Adapter>(alloc: Global, repository: &RowRepository<A>) -> Result<S
 }
 
 fn detached<A: Adapter>(alloc: Global, repository: &mut RowRepository<A>) -> Result<String, Fail> {
-    let reply = repository.detach(NO)?;
-    Ok(reply_text(alloc, &reply)?)
+    given(alloc, repository.detach(NO))
 }
 
 /// What the calls give when an adapter is attached to a book, the book is named and unnamed, and the adapter is counted and
@@ -101,7 +103,9 @@ fn command_outcome<A: Adapter>(
     command: Command<A>,
 ) -> Result<String, AllocError> {
     let outcome = repository.execute(command);
-    outcome_text(alloc, &outcome)
+    let text = outcome_text(alloc, &outcome);
+    drop(outcome);
+    text
 }
 
 /// What commands give over a repository, each on a line.
@@ -156,12 +160,17 @@ fn refused_commands(alloc: Global) -> Result<Vec<Command<Counter>>, AllocError> 
 const REFUSED: &str =
     "refused 1, back, 41 told\nrefused 2, back, 41 told\nrefused 26, back, 41 told\nrefused 27, back, 18446744073709551615 told\nrefused 25\nrefused 25\nrefused 25\n";
 
+/// What these commands give.
+fn refused(alloc: Global, repository: &mut RowRepository<Counter>) -> Result<String, Fail> {
+    attach(repository, 5, Counter::new())?;
+    let commands = refused_commands(alloc)?;
+    Ok(executed(alloc, repository, commands)?)
+}
+
 #[test]
 fn refused_commands_give_their_adapter_back(rt: HostRuntime) -> Result<(), Fail> {
     let mut repository: Box<RowRepository<Counter>> = one_book(rt.alloc())?;
-    attach(&mut repository, 5, Counter::new())?;
-    let commands = refused_commands(rt.alloc())?;
-    let found = executed(rt.alloc(), &mut repository, commands)?;
+    let found = refused(rt.alloc(), &mut repository)?;
     assert_eq!(rt; found.as_str(), REFUSED);
     assert_eq!(rt; repository.adapter_told(NO), Ok(0));
     Ok(())
@@ -173,7 +182,7 @@ fn refused_calls_say_why(rt: HostRuntime) -> Result<(), Fail> {
     let no = AdapterNo(9);
     assert_eq!(rt; repository.adapter_told(no), Err(Refused::NoAdapter));
     assert_eq!(rt; repository.adapter_kept(no), Err(Refused::NoAdapter));
-    assert_eq!(rt; repository.detach(no).err(), Some(Refused::NoAdapter));
+    assert_eq!(rt; made(repository.detach(no)), Err(Refused::NoAdapter));
     Ok(())
 }
 
@@ -205,7 +214,8 @@ fn attached_again<A: Adapter>(
     adapter: A,
 ) -> Result<String, Fail> {
     attach(repository, 5, adapter)?;
-    repository.e_set(object(0), NAME, text(alloc, "Emma")?)?;
+    let emma = text(alloc, "Emma")?;
+    made(repository.e_set(object(0), NAME, emma))?;
     let adapter = released(repository)?;
     attached_nowhere(alloc, repository, adapter)
 }

@@ -1,5 +1,6 @@
 //! A metamodel of cups, each the lid of another, and repositories of them.
 use crate::books::{RowRepository, empty, metamodel, object};
+use crate::replies::made;
 use adapters::Adapter;
 use mm_types::{ClassNo, FeatureNo, MetaFault, ObjectNo, Refused, Value};
 use repository::Reply;
@@ -31,10 +32,10 @@ fn repository<A: Adapter>(alloc: Global) -> Result<Box<RowRepository<A>>, MetaFa
 }
 
 /// Makes a cup; where memory is refused, it is asked for once more.
-fn make_cup<A: Adapter>(repository: &mut RowRepository<A>) -> Result<Reply<A>, Refused> {
-    match repository.create(CUP) {
-        Ok(reply) => Ok(reply),
-        Err(_) => repository.create(CUP),
+fn make_cup<A: Adapter>(repository: &mut RowRepository<A>) -> Result<(), Refused> {
+    match made(repository.create(CUP)) {
+        Ok(()) => Ok(()),
+        Err(_) => made(repository.create(CUP)),
     }
 }
 

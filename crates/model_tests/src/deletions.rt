@@ -1,7 +1,7 @@
 //! Objects that are destroyed: many at once, with adapters among them and beside them, and one that many lists hold.
 use crate::books::{RowRepository, object};
 use crate::boxes::{BOX, Edit, LIKES, PARTS, boxes, called};
-use crate::replies::{fail, reply_text};
+use crate::replies::{given, made, made_attached};
 use adapters::{Adapter, Counter};
 use mm_types::{AdapterNo, Node, ObjectNo, Refused, ResourceNo, Value};
 use repository::Answer;
@@ -25,9 +25,9 @@ fn plant<A: Adapter>(alloc: Global, repository: &mut RowRepository<A>) -> Result
         )?;
     }
     called(alloc, repository, TREE, Edit::Add(LIKES, 1000, None))?;
-    repository.create_resource("http://m.example/tree")?;
+    made(repository.create_resource("http://m.example/tree"))?;
     let contents = repository.meta().contents();
-    repository.add(RESOURCE, contents, Value::Object(ObjectNo(0)), None)?;
+    made(repository.add(RESOURCE, contents, Value::Object(ObjectNo(0)), None))?;
     Ok(())
 }
 
@@ -38,9 +38,7 @@ fn watch<A: Adapter>(
     deep: bool,
     adapter: A,
 ) -> Result<(), Fail> {
-    repository
-        .attach(AdapterNo(no), target, deep, adapter)
-        .map_err(fail)?;
+    made_attached(repository.attach(AdapterNo(no), target, deep, adapter))?;
     Ok(())
 }
 
@@ -50,8 +48,7 @@ fn deleted<A: Adapter>(
     repository: &mut RowRepository<A>,
     number: u32,
 ) -> Result<String, Fail> {
-    let reply = repository.delete(ObjectNo(number))?;
-    Ok(reply_text(alloc, &reply)?)
+    given(alloc, repository.delete(ObjectNo(number)))
 }
 
 /// Two adapters stand in the tree, and leave with it in attach order.
@@ -90,8 +87,8 @@ fn check_without_tree<A: Adapter>(
         repository.adapter_told(AdapterNo(8)),
         Err(Refused::NoAdapter)
     );
-    let made = repository.create(BOX)?.answer;
-    assert!(rt; matches!(made, Answer::Object(ObjectNo(2001))));
+    let next = repository.create(BOX)?.answer;
+    assert!(rt; matches!(next, Answer::Object(ObjectNo(2001))));
     Ok(())
 }
 

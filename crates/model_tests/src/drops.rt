@@ -5,7 +5,7 @@ use crate::tally::Tally;
 use crate::telling::three;
 use adapters::Adapter;
 use mm_types::AdapterNo;
-use std::alloc::Global;
+use std::alloc::{AllocError, Global};
 use std::cell::Cell;
 use std::rc::Rc;
 use std::test::Fail;
@@ -30,13 +30,18 @@ fn drops_on_the_way<A: Adapter>(
     Ok([after_detach, after_drop, after_close, drops.get()])
 }
 
+/// A counter in a box whose part is counted when it is dropped.
+fn boxed(alloc: Global, drops: &Rc<Cell<u64>>) -> Result<Box<dyn Adapter>, AllocError> {
+    Ok(Box::new(alloc, Tally::new(drops)?)?)
+}
+
 #[test]
 fn each_part_is_dropped_once(rt: HostRuntime) -> Result<(), Fail> {
     let alloc = rt.alloc();
     let drops = Rc::new(alloc, Cell::new(0))?;
-    let first: Box<dyn Adapter> = Box::new(alloc, Tally::new(&drops)?)?;
-    let second: Box<dyn Adapter> = Box::new(alloc, Tally::new(&drops)?)?;
-    let third: Box<dyn Adapter> = Box::new(alloc, Tally::new(&drops)?)?;
+    let first = boxed(alloc, &drops)?;
+    let second = boxed(alloc, &drops)?;
+    let third = boxed(alloc, &drops)?;
     let found = drops_on_the_way(alloc, first, second, third, &drops)?;
     assert_eq!(rt; found, [0, 1, 1, 3]);
     Ok(())
@@ -66,9 +71,9 @@ fn drops_of_a_repository<A: Adapter>(
 fn each_part_of_a_repository_is_dropped_once(rt: HostRuntime) -> Result<(), Fail> {
     let alloc = rt.alloc();
     let drops = Rc::new(alloc, Cell::new(0))?;
-    let first: Box<dyn Adapter> = Box::new(alloc, Tally::new(&drops)?)?;
-    let second: Box<dyn Adapter> = Box::new(alloc, Tally::new(&drops)?)?;
-    let third: Box<dyn Adapter> = Box::new(alloc, Tally::new(&drops)?)?;
+    let first = boxed(alloc, &drops)?;
+    let second = boxed(alloc, &drops)?;
+    let third = boxed(alloc, &drops)?;
     let found = drops_of_a_repository(alloc, first, second, third, &drops)?;
     assert_eq!(rt; found, [0, 1, 1, 3]);
     Ok(())

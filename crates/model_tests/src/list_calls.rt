@@ -1,7 +1,7 @@
 //! The calls that edit and read lists, each by its method: what it answers, and who is notified of what. A script makes them as commands.
 use crate::books::{RowRepository, object, text};
 use crate::boxes::{COUNTS, Edit, FANS, LIKES, MARKS, PARTS, boxes, called};
-use crate::replies::reply_text;
+use crate::replies::{self, made, made_attached};
 use adapters::{Adapter, Counter, Recorder};
 use mm_types::{AdapterNo, FeatureNo, Node, Refused, ResourceNo, Text, Value};
 use std::alloc::{AllocError, Global};
@@ -18,8 +18,7 @@ fn given<A: Adapter>(
     at: u32,
     edit: Edit,
 ) -> Result<String, Fail> {
-    let reply = called(alloc, repository, at, edit)?;
-    Ok(reply_text(alloc, &reply)?)
+    replies::given(alloc, called(alloc, repository, at, edit))
 }
 
 /// Makes calls by their methods, and checks what each gives.
@@ -43,10 +42,7 @@ pub(crate) fn attach<A: Adapter>(
     deep: bool,
     adapter: A,
 ) -> Result<(), Refused> {
-    match repository.attach(AdapterNo(at), object(at), deep, adapter) {
-        Ok(_) => Ok(()),
-        Err(failure) => Err(failure.refused),
-    }
+    made_attached(repository.attach(AdapterNo(at), object(at), deep, adapter))
 }
 
 /// A repository of four boxes, with a deep adapter at the first, and another at the second; each has the number of its box.
@@ -233,32 +229,41 @@ fn refusals<A: Adapter>(
     first: Value,
     second: Value,
 ) -> [Option<Refused>; 2] {
-    let added = repository.add(node, feature, first, None).err();
-    [added, repository.remove_value(node, feature, second).err()]
+    let added = made(repository.add(node, feature, first, None)).err();
+    let removed = made(repository.remove_value(node, feature, second)).err();
+    [added, removed]
 }
 
 fn proxy(alloc: Global) -> Result<Value, AllocError> {
     Ok(Value::Proxy(Text::from_str(alloc, "a.xmi#/")?))
 }
 
+/// Why a proxy, a literal and an adapter are in no list of a box.
+fn refusals_of_type<A: Adapter>(
+    alloc: Global,
+    repository: &mut RowRepository<A>,
+) -> Result<[[Option<Refused>; 2]; 3], AllocError> {
+    let (node, literal, no) = (object(0), Value::Literal, AdapterNo(0));
+    let (first, second) = (proxy(alloc)?, proxy(alloc)?);
+    Ok([
+        refusals(repository, node, PARTS, first, second),
+        refusals(repository, node, MARKS, literal(0), literal(0)),
+        refusals(
+            repository,
+            node,
+            LIKES,
+            Value::Adapter(no),
+            Value::Adapter(no),
+        ),
+    ])
+}
+
 #[test]
 fn values_that_no_script_names_are_in_no_list(rt: HostRuntime) -> Result<(), Fail> {
-    let alloc = rt.alloc();
-    let mut repository: Box<RowRepository<Counter>> = boxes(alloc, 1)?;
-    let (node, of_type) = (object(0), [Some(Refused::WrongType); 2]);
-    let found = refusals(&mut repository, node, PARTS, proxy(alloc)?, proxy(alloc)?);
-    assert_eq!(rt; found, of_type);
-    let (first, second) = (Value::Literal(0), Value::Literal(0));
-    assert_eq!(rt;
-        refusals(&mut repository, node, MARKS, first, second),
-        of_type
-    );
-    let (first, second) = (Value::Adapter(AdapterNo(0)), Value::Adapter(AdapterNo(0)));
-    assert_eq!(rt;
-        refusals(&mut repository, node, LIKES, first, second),
-        of_type
-    );
-    assert_eq!(rt; repository.e_is_set(node, MARKS), Ok(false));
+    let mut repository: Box<RowRepository<Counter>> = boxes(rt.alloc(), 1)?;
+    let found = refusals_of_type(rt.alloc(), &mut repository)?;
+    assert_eq!(rt; found, [[Some(Refused::WrongType); 2]; 3]);
+    assert_eq!(rt; repository.e_is_set(object(0), MARKS), Ok(false));
     Ok(())
 }
 
@@ -274,14 +279,21 @@ fn numbers_past_the_last_name_nothing(rt: HostRuntime) -> Result<(), Fail> {
     Ok(())
 }
 
+/// Why a list of one number is not read as one value, and not set to one.
+fn refused_as_one<A: Adapter>(
+    alloc: Global,
+    repository: &mut RowRepository<A>,
+) -> Result<[Option<Refused>; 2], Fail> {
+    made(repository.add(object(0), MARKS, Value::Int(7), None))?;
+    let one = repository.value(object(0), MARKS).err();
+    let name = text(alloc, "Emma")?;
+    Ok([one, made(repository.e_set(object(0), MARKS, name)).err()])
+}
+
 #[test]
 fn a_list_is_no_one_value(rt: HostRuntime) -> Result<(), Fail> {
     let mut repository: Box<RowRepository<Counter>> = boxes(rt.alloc(), 1)?;
-    repository.add(object(0), MARKS, Value::Int(7), None)?;
-    let one = repository.value(object(0), MARKS).err();
-    assert_eq!(rt; one, Some(Refused::NotSingle));
-    let name = text(rt.alloc(), "Emma")?;
-    let set = repository.e_set(object(0), MARKS, name).err();
-    assert_eq!(rt; set, Some(Refused::NotSingle));
+    let found = refused_as_one(rt.alloc(), &mut repository)?;
+    assert_eq!(rt; found, [Some(Refused::NotSingle); 2]);
     Ok(())
 }

@@ -3,7 +3,7 @@
 //! These tests are for runs in which the n-th allocation is refused, for every n, and pass in each of them: one is
 //! refused, so what finds no memory is asked for once more.
 use crate::books::{BOOK, NAME, PAGES, RowRepository, TAGS, object, repository, text};
-use crate::replies::{got, quiet, reply_text};
+use crate::replies::{given, got, quiet};
 use adapters::{Adapter, Counter};
 use mm_types::{AdapterNo, FeatureNo, MetaFault, ObjectNo, Refused, Value};
 use repository::{Command, FeatureValue, Reply};
@@ -193,16 +193,16 @@ fn called<A: Adapter>(
     }
 }
 
-/// Makes a call again that was refused memory and has changed nothing.
+/// What a call gives that is made again, as it was refused memory and has changed nothing.
 fn called_again<A: Adapter>(
     alloc: Global,
     repository: &mut RowRepository<A>,
     call: Call,
     before: &str,
     refused: Refused,
-) -> Result<Reply<A>, Fail> {
+) -> Result<String, Fail> {
     unchanged(refused, before, state(alloc, repository)?.as_str())?;
-    Ok(called(alloc, repository, call)?)
+    given(alloc, called(alloc, repository, call))
 }
 
 /// What a call gives, which is made again where it is refused memory.
@@ -212,11 +212,10 @@ fn done<A: Adapter>(
     call: Call,
 ) -> Result<String, Fail> {
     let before = state(alloc, repository)?;
-    let reply = match called(alloc, repository, call) {
-        Ok(reply) => reply,
-        Err(refused) => called_again(alloc, repository, call, before.as_str(), refused)?,
-    };
-    Ok(reply_text(alloc, &reply)?)
+    match called(alloc, repository, call) {
+        Ok(reply) => given(alloc, Ok(reply)),
+        Err(refused) => called_again(alloc, repository, call, before.as_str(), refused),
+    }
 }
 
 /// Checks of each call what it gives, and what is read after it.

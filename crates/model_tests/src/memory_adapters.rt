@@ -3,14 +3,15 @@
 //! These tests are for the same runs as those of `memory`.
 use crate::books::{RowRepository, object};
 use crate::memory::{Call, WATCHER, books, check_calls, state, unchanged};
-use crate::replies::{fail, reply_text};
+use crate::replies::given_attached;
 use adapters::{Adapter, Recorder};
+use mm_types::Refused;
 use repository::{Failure, Reply};
 use std::alloc::Global;
 use std::test::Fail;
 
 /// Attaches an adapter to the first object.
-pub(crate) fn attach_once<A: Adapter>(
+fn attach_once<A: Adapter>(
     repository: &mut RowRepository<A>,
     deep: bool,
     adapter: A,
@@ -18,19 +19,43 @@ pub(crate) fn attach_once<A: Adapter>(
     repository.attach(WATCHER, object(0), deep, adapter)
 }
 
-/// Attaches an adapter again that was refused and has heard nothing.
-pub(crate) fn attach_again<A: Adapter>(
+/// What it gives to attach an adapter again that was refused and has heard nothing.
+fn attach_again<A: Adapter>(
+    alloc: Global,
     repository: &mut RowRepository<A>,
     deep: bool,
-    failure: Failure<A>,
-) -> Result<Reply<A>, Fail> {
-    let Some(adapter) = failure.given_back else {
-        return Err(Fail::new("the adapter is not given back"));
-    };
-    if adapter.told() > 0 {
-        return Err(Fail::new("the adapter is not given back as it was"));
+    given_back: Option<A>,
+) -> Result<String, Fail> {
+    match given_back {
+        Some(adapter) if adapter.told() == 0 => {
+            given_attached(alloc, attach_once(repository, deep, adapter))
+        }
+        Some(_) => Err(Fail::new("the adapter is not given back as it was")),
+        None => Err(Fail::new("the adapter is not given back")),
     }
-    attach_once(repository, deep, adapter).map_err(fail)
+}
+
+/// What it gives to attach an adapter; where it is refused, it is attached once more.
+pub(crate) fn attach_surely<A: Adapter>(
+    alloc: Global,
+    repository: &mut RowRepository<A>,
+    deep: bool,
+    adapter: A,
+) -> Result<String, Fail> {
+    match attach_once(repository, deep, adapter) {
+        Ok(reply) => given_attached(alloc, Ok(reply)),
+        Err(failure) => attach_again(alloc, repository, deep, failure.given_back),
+    }
+}
+
+/// Fails unless a repository is as it was before it refused memory.
+fn still<A: Adapter>(
+    alloc: Global,
+    repository: &RowRepository<A>,
+    refused: Refused,
+    before: &str,
+) -> Result<(), Fail> {
+    unchanged(refused, before, state(alloc, repository)?.as_str())
 }
 
 /// What it gives to attach an adapter, which is attached again where it is refused memory.
@@ -40,15 +65,13 @@ fn attached<A: Adapter>(
     adapter: A,
 ) -> Result<String, Fail> {
     let before = state(alloc, repository)?;
-    let reply = match attach_once(repository, false, adapter) {
-        Ok(reply) => reply,
-        Err(failure) => {
-            let after = state(alloc, repository)?;
-            unchanged(failure.refused, before.as_str(), after.as_str())?;
-            attach_again(repository, false, failure)?
-        }
-    };
-    Ok(reply_text(alloc, &reply)?)
+    match attach_once(repository, false, adapter) {
+        Ok(reply) => given_attached(alloc, Ok(reply)),
+        Err(failure) => match still(alloc, repository, failure.refused, before.as_str()) {
+            Ok(()) => attach_again(alloc, repository, false, failure.given_back),
+            Err(fail) => Err(fail),
+        },
+    }
 }
 
 const MADE: (Call, &str, &str) = (

@@ -5,11 +5,10 @@
 use crate::books::{RowRepository, object};
 use crate::boxes::{Edit, LIKES, PARTS, boxes, called};
 use crate::memory::{WATCHER, shown, unchanged};
-use crate::memory_adapters::{attach_again, attach_once};
-use crate::replies::{fail, reply_text};
+use crate::memory_adapters::attach_surely;
+use crate::replies::{given, made_attached};
 use adapters::{Adapter, Recorder};
 use mm_types::{AdapterNo, ObjectNo, Refused};
-use repository::{Failure, Reply};
 use std::alloc::{AllocError, Global};
 use std::test::Fail;
 
@@ -35,35 +34,28 @@ fn place<A: Adapter>(alloc: Global, repository: &mut RowRepository<A>) -> Result
 }
 
 /// Attaches an adapter to box 2; where memory is refused, it is attached once more.
-fn attach_inside<A: Adapter>(
-    repository: &mut RowRepository<A>,
-    adapter: A,
-) -> Result<Reply<A>, Fail> {
+fn attach_inside<A: Adapter>(repository: &mut RowRepository<A>, adapter: A) -> Result<(), Fail> {
     match repository.attach(INSIDE, object(2), false, adapter) {
-        Ok(reply) => Ok(reply),
-        Err(failure) => attach_inside_again(repository, failure),
+        Ok(_) => Ok(()),
+        Err(failure) => attach_inside_again(repository, failure.given_back),
     }
 }
 
 fn attach_inside_again<A: Adapter>(
     repository: &mut RowRepository<A>,
-    failure: Failure<A>,
-) -> Result<Reply<A>, Fail> {
-    let Some(adapter) = failure.given_back else {
-        return Err(Fail::new("the adapter is not given back"));
-    };
-    repository
-        .attach(INSIDE, object(2), false, adapter)
-        .map_err(fail)
+    given_back: Option<A>,
+) -> Result<(), Fail> {
+    match given_back {
+        Some(adapter) => Ok(made_attached(repository.attach(INSIDE, object(2), false, adapter))?),
+        None => Err(Fail::new("the adapter is not given back")),
+    }
 }
 
 /// The boxes, with a deep adapter at box 0 and one at box 2.
 fn placed<A: Adapter>(alloc: Global, above: A, inside: A) -> Result<Box<RowRepository<A>>, Fail> {
     let mut repository = boxes(alloc, 4)?;
     place(alloc, &mut repository)?;
-    if let Err(failure) = attach_once(&mut repository, true, above) {
-        attach_again(&mut repository, true, failure)?;
-    }
+    attach_surely(alloc, &mut repository, true, above)?;
     attach_inside(&mut repository, inside)?;
     Ok(repository)
 }
@@ -85,18 +77,26 @@ fn state<A: Adapter>(alloc: Global, repository: &RowRepository<A>) -> Result<Str
     shown(alloc, &(classes, filled, told))
 }
 
+/// Fails unless the boxes are as they were before memory was refused.
+fn still<A: Adapter>(
+    alloc: Global,
+    repository: &RowRepository<A>,
+    refused: Refused,
+    before: &str,
+) -> Result<(), Fail> {
+    unchanged(refused, before, state(alloc, repository)?.as_str())
+}
+
 /// What it gives to destroy box 1, which is asked for again where it is refused memory.
 fn deleted<A: Adapter>(alloc: Global, repository: &mut RowRepository<A>) -> Result<String, Fail> {
     let before = state(alloc, repository)?;
-    let reply = match repository.delete(ObjectNo(1)) {
-        Ok(reply) => reply,
+    match repository.delete(ObjectNo(1)) {
+        Ok(reply) => given(alloc, Ok(reply)),
         Err(refused) => {
-            let after = state(alloc, repository)?;
-            unchanged(refused, before.as_str(), after.as_str())?;
-            repository.delete(ObjectNo(1))?
+            still(alloc, repository, refused, before.as_str())?;
+            given(alloc, repository.delete(ObjectNo(1)))
         }
-    };
-    Ok(reply_text(alloc, &reply)?)
+    }
 }
 
 const BEFORE: &str = "([Ok(ClassNo(0)), Ok(ClassNo(0))], [Ok(true), Ok(true)], [Ok(0), Ok(0)])";

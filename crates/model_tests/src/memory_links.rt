@@ -5,8 +5,8 @@
 use crate::books::{RowRepository, object};
 use crate::cups::{LID, ON, cups, put_lid};
 use crate::memory::{WATCHER, shown, unchanged};
-use crate::memory_adapters::{attach_again, attach_once};
-use crate::replies::{quiet, reply_text};
+use crate::memory_adapters::attach_surely;
+use crate::replies::{given, made, quiet};
 use adapters::{Adapter, Recorder};
 use mm_types::{FeatureNo, ObjectNo, Refused};
 use models::Found;
@@ -19,27 +19,24 @@ fn put_surely<A: Adapter>(
     repository: &mut RowRepository<A>,
     cup: u32,
     lid: u32,
-) -> Result<Reply<A>, Refused> {
-    match put_lid(repository, cup, lid) {
-        Ok(reply) => Ok(reply),
-        Err(_) => put_lid(repository, cup, lid),
+) -> Result<(), Refused> {
+    match made(put_lid(repository, cup, lid)) {
+        Ok(()) => Ok(()),
+        Err(_) => made(put_lid(repository, cup, lid)),
     }
 }
 
-/// Makes the second cup the lid of the first, and the fourth that of the third, and attaches a deep adapter to the first.
-fn pair<A: Adapter>(repository: &mut RowRepository<A>, adapter: A) -> Result<Reply<A>, Fail> {
+/// Makes the second cup the lid of the first, and the fourth that of the third.
+fn pair<A: Adapter>(repository: &mut RowRepository<A>) -> Result<(), Refused> {
     put_surely(repository, 0, 1)?;
-    put_surely(repository, 2, 3)?;
-    match attach_once(repository, true, adapter) {
-        Ok(reply) => Ok(reply),
-        Err(failure) => attach_again(repository, true, failure),
-    }
+    put_surely(repository, 2, 3)
 }
 
 /// Two pairs of cups, of which the first has a deep adapter.
 fn pairs<A: Adapter>(alloc: Global, adapter: A) -> Result<Box<RowRepository<A>>, Fail> {
     let mut repository = cups(alloc, 4)?;
-    pair(&mut repository, adapter)?;
+    pair(&mut repository)?;
+    attach_surely(alloc, &mut repository, true, adapter)?;
     Ok(repository)
 }
 
@@ -105,16 +102,16 @@ fn called<A: Adapter>(
     }
 }
 
-/// Makes a call again that was refused memory and has changed nothing.
+/// What a call gives that is made again, as it was refused memory and has changed nothing.
 fn called_again<A: Adapter>(
     alloc: Global,
     repository: &mut RowRepository<A>,
     call: Call,
     before: &str,
     refused: Refused,
-) -> Result<Reply<A>, Fail> {
+) -> Result<String, Fail> {
     unchanged(refused, before, state(alloc, repository)?.as_str())?;
-    Ok(called(alloc, repository, call)?)
+    given(alloc, called(alloc, repository, call))
 }
 
 /// What a call gives, which is made again where it is refused memory.
@@ -124,11 +121,10 @@ fn done<A: Adapter>(
     call: Call,
 ) -> Result<String, Fail> {
     let before = state(alloc, repository)?;
-    let reply = match called(alloc, repository, call) {
-        Ok(reply) => reply,
-        Err(refused) => called_again(alloc, repository, call, before.as_str(), refused)?,
-    };
-    Ok(reply_text(alloc, &reply)?)
+    match called(alloc, repository, call) {
+        Ok(reply) => given(alloc, Ok(reply)),
+        Err(refused) => called_again(alloc, repository, call, before.as_str(), refused),
+    }
 }
 
 /// What each call gives, and what is read after it. When the lid of the first cup, and the cup that the third was on, go, the

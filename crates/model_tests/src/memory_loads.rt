@@ -4,7 +4,7 @@
 //! These tests are for the same runs as those of `memory`.
 use crate::books::{RowRepository, empty, metamodel, object};
 use crate::memory::{WATCHER, shown, unchanged};
-use crate::replies::{fail, reply_text};
+use crate::replies::{given, made, made_attached};
 use adapters::{Adapter, Recorder};
 use mm_types::{FeatureNo, MetaFault, Node, ObjectNo, Refused, ResourceNo};
 use repository::{Failure, Reply};
@@ -44,13 +44,10 @@ fn notes<A: Adapter>(alloc: Global) -> Result<Box<RowRepository<A>>, MetaFault> 
 }
 
 /// Makes a resource; where memory is refused, it is asked for once more.
-fn make_resource<A: Adapter>(
-    repository: &mut RowRepository<A>,
-    uri: &str,
-) -> Result<Reply<A>, Refused> {
-    match repository.create_resource(uri) {
-        Ok(reply) => Ok(reply),
-        Err(_) => repository.create_resource(uri),
+fn make_resource<A: Adapter>(repository: &mut RowRepository<A>, uri: &str) -> Result<(), Refused> {
+    match made(repository.create_resource(uri)) {
+        Ok(()) => Ok(()),
+        Err(_) => made(repository.create_resource(uri)),
     }
 }
 
@@ -62,13 +59,20 @@ fn watch<A: Adapter>(
 }
 
 /// Attaches a deep adapter to the first resource; where memory is refused, it is attached once more.
-fn watched<A: Adapter>(repository: &mut RowRepository<A>, adapter: A) -> Result<Reply<A>, Fail> {
+fn watched<A: Adapter>(repository: &mut RowRepository<A>, adapter: A) -> Result<(), Fail> {
     match watch(repository, adapter) {
-        Ok(reply) => Ok(reply),
-        Err(failure) => match failure.given_back {
-            Some(adapter) => watch(repository, adapter).map_err(fail),
-            None => Err(Fail::new("the adapter is not given back")),
-        },
+        Ok(_) => Ok(()),
+        Err(failure) => watched_again(repository, failure.given_back),
+    }
+}
+
+fn watched_again<A: Adapter>(
+    repository: &mut RowRepository<A>,
+    given_back: Option<A>,
+) -> Result<(), Fail> {
+    match given_back {
+        Some(adapter) => Ok(made_attached(watch(repository, adapter))?),
+        None => Err(Fail::new("the adapter is not given back")),
     }
 }
 
@@ -97,6 +101,16 @@ fn state<A: Adapter>(alloc: Global, repository: &RowRepository<A>) -> Result<Str
     shown(alloc, &(classes, filled, held, told))
 }
 
+/// Fails unless the notes are as they were before memory was refused.
+fn still<A: Adapter>(
+    alloc: Global,
+    repository: &RowRepository<A>,
+    refused: Refused,
+    before: &str,
+) -> Result<(), Fail> {
+    unchanged(refused, before, state(alloc, repository)?.as_str())
+}
+
 /// What it gives to load a document, which is asked for again where it is refused memory.
 fn loaded<A: Adapter>(
     alloc: Global,
@@ -105,29 +119,26 @@ fn loaded<A: Adapter>(
     document: &str,
 ) -> Result<String, Fail> {
     let before = state(alloc, repository)?;
-    let reply = match repository.load(ResourceNo(resource), document.as_bytes()) {
-        Ok(reply) => reply,
+    let resource = ResourceNo(resource);
+    match repository.load(resource, document.as_bytes()) {
+        Ok(reply) => given(alloc, Ok(reply)),
         Err(refused) => {
-            let after = state(alloc, repository)?;
-            unchanged(refused, before.as_str(), after.as_str())?;
-            repository.load(ResourceNo(resource), document.as_bytes())?
+            still(alloc, repository, refused, before.as_str())?;
+            given(alloc, repository.load(resource, document.as_bytes()))
         }
-    };
-    Ok(reply_text(alloc, &reply)?)
+    }
 }
 
 /// What it gives to resolve the first proxy, which is asked for again where it is refused memory.
 fn resolved<A: Adapter>(alloc: Global, repository: &mut RowRepository<A>) -> Result<String, Fail> {
     let before = state(alloc, repository)?;
-    let reply = match repository.resolve(ObjectNo(0), SEES, 0) {
-        Ok(reply) => reply,
+    match repository.resolve(ObjectNo(0), SEES, 0) {
+        Ok(reply) => given(alloc, Ok(reply)),
         Err(refused) => {
-            let after = state(alloc, repository)?;
-            unchanged(refused, before.as_str(), after.as_str())?;
-            repository.resolve(ObjectNo(0), SEES, 0)?
+            still(alloc, repository, refused, before.as_str())?;
+            given(alloc, repository.resolve(ObjectNo(0), SEES, 0))
         }
-    };
-    Ok(reply_text(alloc, &reply)?)
+    }
 }
 
 const LOADED: &str = "Loaded(3)\

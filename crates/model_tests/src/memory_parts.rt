@@ -5,11 +5,11 @@
 use crate::books::{RowRepository, object};
 use crate::boxes::{Edit, PARTS, boxes, called};
 use crate::memory::{WATCHER, shown, unchanged};
-use crate::memory_adapters::{attach_again, attach_once};
-use crate::replies::reply_text;
+use crate::memory_adapters::attach_surely;
+use crate::replies::{given, made};
 use adapters::{Adapter, Recorder};
 use mm_types::{ObjectNo, Refused};
-use repository::{FeatureValue, Reply};
+use repository::FeatureValue;
 use std::alloc::{AllocError, Global};
 use std::test::Fail;
 
@@ -18,31 +18,24 @@ fn surely<A: Adapter>(
     alloc: Global,
     repository: &mut RowRepository<A>,
     edit: Edit,
-) -> Result<Reply<A>, Refused> {
-    match called(alloc, repository, 0, edit) {
-        Ok(reply) => Ok(reply),
-        Err(_) => called(alloc, repository, 0, edit),
+) -> Result<(), Refused> {
+    match made(called(alloc, repository, 0, edit)) {
+        Ok(()) => Ok(()),
+        Err(_) => made(called(alloc, repository, 0, edit)),
     }
 }
 
-/// Puts two boxes into the first, and attaches a deep adapter to it.
-fn pack<A: Adapter>(
-    alloc: Global,
-    repository: &mut RowRepository<A>,
-    adapter: A,
-) -> Result<Reply<A>, Fail> {
+/// Puts two boxes into the first.
+fn pack<A: Adapter>(alloc: Global, repository: &mut RowRepository<A>) -> Result<(), Refused> {
     surely(alloc, repository, Edit::Add(PARTS, 1, None))?;
-    surely(alloc, repository, Edit::Add(PARTS, 2, None))?;
-    match attach_once(repository, true, adapter) {
-        Ok(reply) => Ok(reply),
-        Err(failure) => attach_again(repository, true, failure),
-    }
+    surely(alloc, repository, Edit::Add(PARTS, 2, None))
 }
 
 /// Four boxes, the second and the third in the first, which has a deep adapter.
 fn packed<A: Adapter>(alloc: Global, adapter: A) -> Result<Box<RowRepository<A>>, Fail> {
     let mut repository = boxes(alloc, 4)?;
-    pack(alloc, &mut repository, adapter)?;
+    pack(alloc, &mut repository)?;
+    attach_surely(alloc, &mut repository, true, adapter)?;
     Ok(repository)
 }
 
@@ -64,16 +57,16 @@ fn state<A: Adapter>(alloc: Global, repository: &RowRepository<A>) -> Result<Str
     shown(alloc, &(parts, second, third, told, kept))
 }
 
-/// Makes a call again that was refused memory and has changed nothing.
+/// What a call gives that is made again, as it was refused memory and has changed nothing.
 fn called_again<A: Adapter>(
     alloc: Global,
     repository: &mut RowRepository<A>,
     call: (u32, Edit),
     before: &str,
     refused: Refused,
-) -> Result<Reply<A>, Fail> {
+) -> Result<String, Fail> {
     unchanged(refused, before, state(alloc, repository)?.as_str())?;
-    Ok(called(alloc, repository, call.0, call.1)?)
+    given(alloc, called(alloc, repository, call.0, call.1))
 }
 
 /// What a call gives, which is made again where it is refused memory.
@@ -83,11 +76,10 @@ fn done<A: Adapter>(
     call: (u32, Edit),
 ) -> Result<String, Fail> {
     let before = state(alloc, repository)?;
-    let reply = match called(alloc, repository, call.0, call.1) {
-        Ok(reply) => reply,
-        Err(refused) => called_again(alloc, repository, call, before.as_str(), refused)?,
-    };
-    Ok(reply_text(alloc, &reply)?)
+    match called(alloc, repository, call.0, call.1) {
+        Ok(reply) => given(alloc, Ok(reply)),
+        Err(refused) => called_again(alloc, repository, call, before.as_str(), refused),
+    }
 }
 
 /// What each call gives, and what is read after it. The adapter hears what is below its box before the call: the last box is not, nor

@@ -1,6 +1,6 @@
 //! What adapters are notified of when a book changes.
 use crate::books::{NAME, PAGES, RowRepository, attach, object, one_book, text};
-use crate::replies::reply_text;
+use crate::replies::given;
 use crate::telling::{Kind, adapter};
 use adapters::Adapter;
 use mm_types::{FeatureNo, Value};
@@ -22,12 +22,14 @@ fn edited<A: Adapter>(
     edit: Edit,
 ) -> Result<String, Fail> {
     let book = object(0);
-    let reply = match edit {
-        Edit::Name(name) => repository.e_set(book, NAME, text(alloc, name)?)?,
-        Edit::Pages(pages) => repository.e_set(book, PAGES, Value::Int(pages))?,
-        Edit::Unset(feature) => repository.e_unset(book, feature)?,
-    };
-    Ok(reply_text(alloc, &reply)?)
+    match edit {
+        Edit::Name(name) => {
+            let name = text(alloc, name)?;
+            given(alloc, repository.e_set(book, NAME, name))
+        }
+        Edit::Pages(pages) => given(alloc, repository.e_set(book, PAGES, Value::Int(pages))),
+        Edit::Unset(feature) => given(alloc, repository.e_unset(book, feature)),
+    }
 }
 
 /// Changes in their order, and what each gives. The pages have the default 100.

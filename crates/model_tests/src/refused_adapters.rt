@@ -1,6 +1,6 @@
 //! Changes that an adapter can't hear.
 use crate::books::{NAME, RowRepository, attach, object, one_book, text, watched};
-use crate::replies::reply_text;
+use crate::replies::{given, made};
 use crate::telling::{Kind, adapter};
 use adapters::Adapter;
 use mm_types::{AdapterNo, Refused};
@@ -45,15 +45,14 @@ fn name_book<A: Adapter>(
 /// Why the book is not named, and what the adapters have heard and the book has before and after.
 fn refusal<A: Adapter>(alloc: Global, repository: &mut RowRepository<A>) -> Result<String, Fail> {
     let before = state(alloc, repository)?;
-    let refused = name_book(alloc, repository)?.err();
+    let refused = made(name_book(alloc, repository)?).err();
     let after = state(alloc, repository)?;
     Ok(format!(in alloc; "{before}; {refused:?}; {after}")?)
 }
 
 /// What it gives to name the book.
 fn named<A: Adapter>(alloc: Global, repository: &mut RowRepository<A>) -> Result<String, Fail> {
-    let reply = name_book(alloc, repository)??;
-    Ok(reply_text(alloc, &reply)?)
+    given(alloc, name_book(alloc, repository)?)
 }
 
 /// Names a book with three adapters, twice. Shows why it is refused first, what it gives then, and what the adapters
@@ -96,7 +95,7 @@ fn refused_to_two<A: Adapter>(alloc: Global, first: A, second: A) -> Result<Opti
     let mut repository = one_book(alloc)?;
     attach(&mut repository, 5, first)?;
     attach(&mut repository, 6, second)?;
-    Ok(name_book(alloc, &mut repository)?.err())
+    Ok(made(name_book(alloc, &mut repository)?).err())
 }
 
 #[test]

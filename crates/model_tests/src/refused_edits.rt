@@ -2,7 +2,7 @@
 use crate::books::{RowRepository, object};
 use crate::boxes::{PARTS, boxes, value};
 use crate::list_calls::attach;
-use crate::replies::reply_text;
+use crate::replies::{given, made};
 use crate::telling::{Kind, adapter};
 use adapters::Adapter;
 use mm_types::{AdapterNo, Refused};
@@ -29,7 +29,7 @@ fn put<A: Adapter>(repository: &mut RowRepository<A>, into: u32) -> Result<Reply
 /// A repository of four boxes, the second in the first, with an adapter at each of the two.
 fn packed<A: Adapter>(alloc: Global, first: A, second: A) -> Result<Box<RowRepository<A>>, Fail> {
     let mut repository = boxes(alloc, 4)?;
-    put(&mut repository, 0)?;
+    made(put(&mut repository, 0))?;
     attach(&mut repository, 0, false, first)?;
     attach(&mut repository, 1, false, second)?;
     Ok(repository)
@@ -38,10 +38,9 @@ fn packed<A: Adapter>(alloc: Global, first: A, second: A) -> Result<Box<RowRepos
 /// Why the second box is not put into the last one, what it gives then, and what reads say before, between and after.
 fn put_twice<A: Adapter>(alloc: Global, repository: &mut RowRepository<A>) -> Result<String, Fail> {
     let before = state(alloc, repository)?;
-    let refused = put(repository, 3).err();
+    let refused = made(put(repository, 3)).err();
     let between = state(alloc, repository)?;
-    let reply = put(repository, 3)?;
-    let told = reply_text(alloc, &reply)?;
+    let told = given(alloc, put(repository, 3))?;
     let after = state(alloc, repository)?;
     Ok(format!(in alloc; "{before}\n{refused:?}\n{between}\n{told}\n{after}")?)
 }

@@ -1,6 +1,6 @@
 //! What a repository gives, as texts. Each is asked for once more where memory is refused.
 use adapters::Adapter;
-use mm_types::{AdapterNo, Seq};
+use mm_types::{AdapterNo, Refused, Seq};
 use notice_chain::Notice;
 use repository::{Answer, Failure, FeatureValue, Reply};
 use std::alloc::{AllocError, Global};
@@ -81,6 +81,31 @@ pub(crate) fn reply_text<A: Adapter>(
     }
 }
 
+fn text_of<A: Adapter>(alloc: Global, outcome: &Result<Reply<A>, Refused>) -> Result<String, Fail> {
+    match outcome {
+        Ok(reply) => Ok(reply_text(alloc, reply)?),
+        Err(refused) => Err(Fail::new(*refused)),
+    }
+}
+
+/// What a call gives, as a text; what it gave is dropped. A refusal fails the test.
+pub(crate) fn given<A: Adapter>(
+    alloc: Global,
+    outcome: Result<Reply<A>, Refused>,
+) -> Result<String, Fail> {
+    let text = text_of(alloc, &outcome);
+    drop(outcome);
+    text
+}
+
+/// Whether a call is done; what it gave is dropped.
+pub(crate) fn made<A: Adapter>(outcome: Result<Reply<A>, Refused>) -> Result<(), Refused> {
+    match outcome {
+        Ok(_) => Ok(()),
+        Err(refused) => Err(refused),
+    }
+}
+
 fn failure_once<A: Adapter>(alloc: Global, failure: &Failure<A>) -> Result<String, AllocError> {
     let number = failure.refused.number();
     match &failure.given_back {
@@ -136,7 +161,20 @@ pub(crate) fn outcomes_text<A: Adapter>(
     }
 }
 
-/// A test fails for this refusal.
-pub(crate) fn fail<A: Adapter>(failure: Failure<A>) -> Fail {
-    Fail::new(failure.refused)
+/// Whether an adapter is attached; what it gave is dropped, and a refused adapter with it.
+pub(crate) fn made_attached<A: Adapter>(
+    outcome: Result<Reply<A>, Failure<A>>,
+) -> Result<(), Refused> {
+    match outcome {
+        Ok(_) => Ok(()),
+        Err(failure) => Err(failure.refused),
+    }
+}
+
+/// What it gives to attach an adapter, as a text; what it gave is dropped. A refusal fails the test.
+pub(crate) fn given_attached<A: Adapter>(
+    alloc: Global,
+    outcome: Result<Reply<A>, Failure<A>>,
+) -> Result<String, Fail> {
+    given(alloc, outcome.map_err(|failure| failure.refused))
 }
