@@ -1,16 +1,15 @@
 -- How many values of a list have a hash, as the list changes.
-use Rattle.std.proofs.Common.{◌≡◌, ℕ, zero, suc, ◌+◌, ◌-◌, ◌<◌, ◌≤◌, Bool, true, false, cond, eqb, nat_lt, not, Box, Global, ◌||◌, List, [], ◌∷◌, length, get_or, take, Option, Some, None, unwrap_or, refl, sym, ap, ◌∙◌, arith, eq-eqb}
+use Rattle.std.proofs.Common.{◌≡◌, ℕ, zero, suc, ◌+◌, ◌-◌, ◌<◌, ◌≤◌, Bool, true, false, cond, eqb, nat_lt, not, ◌||◌, List, [], ◌∷◌, length, get_or, take, Option, Some, None, unwrap_or, refl, sym, ap, ◌∙◌, arith, eq-eqb}
 use Rattle.std.specs.Option.{option_map, is_some, IfSome}
 use Rattle.std.specs.List.{insert, remove, slice_get, list_any, position, position_or_len, sum_by, count_by}
 use Rattle.std.proofs.lemmas.List.Sums.{sum_by-cons, sum_by-insert, sum_by-remove, sum_by_more, count_by-le-length}
 use Rattle.std.proofs.lemmas.Bool.Decides.{nat_tests}
 use Rattle.slot_lists.specs.Moved.{moved}
-use Rattle.slot_lists.specs.Places.{Places}
 use Rattle.mm_types.specs.Same.{same_value}
 use Rattle.mm_types.specs.SameValues.{same_value-true}
 use Rattle.mm_types.specs.declared.value.Value.{Value}
 use Rattle.mm_types.specs.declared.value.Value.TheVariants as value
-use Rattle.value_lists.specs.Hashes.{count_in, has_hash, hash_of, places_of, AreCounted, Counts}
+use Rattle.value_lists.specs.Hashes.{count_in, has_hash, hash_of, Counts}
 use Rattle.value_lists.specs.declared.hash_counts.HashCounts.{HashCounts}
 
 abbrev pub one_of : ℕ → Value → ℕ
@@ -94,15 +93,6 @@ any-slice_get p (x ∷ vs) (suc i) v is same = ap (λ b. p x || b) (any-slice_ge
 
 pub count_fits : (t : HashCounts) (vs : List Value) (k n : ℕ) → Counts t vs → length vs + 1 ≤ n → count_in t k + 1 ≤ n
 count_fits t vs k n counts le = omega (arith, counts k, count_by-le-length (has_hash k) vs)
-
-pub counted-moved : (vs : List Value) (o : Option (Box HashCounts Global)) (to from : ℕ) → from < length vs → AreCounted vs o → AreCounted (moved vs to from) o
-counted-moved vs None to from lt counts = tt
-counted-moved vs (Some t) to from lt counts = counts-moved t.value vs to from counts lt
-
--- the table does not change what the list holds
-pub places_items : (p : Places Value) (o : Option (Box HashCounts Global)) → (places_of p o).items ≡ p.items
-places_items p None = refl
-places_items p (Some t) = refl
 
 -- a value has a place where it is there
 position_before : (p : Value → Bool) (vs : List Value) → nat_lt (position_or_len p vs) (length vs) ≡ list_any p vs

@@ -1,6 +1,5 @@
 -- How many values of a list have each hash.
-use Rattle.std.specs.Prelude.{◌≡◌, ℕ, ◌++◌, Bool, List, fold, count_by, nat_eq, min, Option, Some, None, Box}
-use Rattle.std.proofs.Common.{Global}
+use Rattle.std.specs.Prelude.{◌≡◌, ℕ, ◌++◌, Bool, List, fold, count_by, nat_eq, min, Option, Some, None}
 use Rattle.slot_lists.specs.Places.{Places}
 use Rattle.std.specs.Hash as fed
 use Rattle.std.specs.Hash.DefaultHasher as sip
@@ -39,16 +38,10 @@ count_in t h = count_of (get nat_eq t.counts h)
 abbrev pub Counts : HashCounts → List Value → Type 0
 Counts t vs = (h : ℕ) → count_in t h ≡ count_by (has_hash h) vs
 
--- where a list has a table, the table counts its values
-abbrev pub AreCounted : List Value → Option (Box HashCounts Global) → Type 0
-AreCounted vs None = Unit {0}
-AreCounted vs (Some t) = Counts t.value vs
-
 -- a list of values with its places
 abbrev pub ValuePlaces : Type 0
 ValuePlaces = Places Value
 
 -- what a contract sees of a list and its table: each insert needs a place in both
-abbrev pub places_of : ValuePlaces → Option (Box HashCounts Global) → ValuePlaces
-places_of p None = p
-places_of p (Some t) = record { items = p.items; spare = min p.spare (spare t.value.counts) }
+abbrev pub places_in_both : ValuePlaces → HashCounts → ValuePlaces
+places_in_both p t = record { items = p.items; spare = min p.spare (spare t.counts) }

@@ -26,6 +26,15 @@ pub(crate) struct HashCounts {
 }
 
 impl HashCounts {
+    /// No values, and no room. Takes no memory.
+    pub fn new(alloc: Global) -> Self
+        ensures { (h : ℕ) → count_in result h ≡ 0 }
+    {
+        HashCounts {
+            counts: IndexMap::new(alloc),
+        }
+    }
+
     /// No values, with room for some. Errs where memory is refused.
     pub fn with_capacity(alloc: Global, capacity: usize) -> Result<Self, AllocError>
         ensures none { IfOk result (λ t. (h : ℕ) → count_in t h ≡ 0) }

@@ -3,6 +3,7 @@
 //! A list counts how many of its values have each hash, so that a new value is looked up and not looked for. The table takes no copy of a value.
 #![tactic(auto)]
 
+mod counted_list;
 mod hash_counts;
 mod value_list;
 
