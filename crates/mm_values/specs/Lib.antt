@@ -1,4 +1,5 @@
 pub mod Stored
+pub mod Cells
 pub mod Attributes
 pub mod ListEdits
 pub mod Values

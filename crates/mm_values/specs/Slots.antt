@@ -1,40 +1,50 @@
--- How objects stand in a row of slots: those that were made, and from `next` on slots that are ready for more.
-use Rattle.std.specs.Prelude.{◌≡◌, ℕ, ◌-◌, ◌<◌, ◌≤◌, ◌⊎◌, List, Option, None, length, map, nat_eq, take, slice_index_or, if◌then◌else◌}
+-- How objects stand in two columns of slots: those that were made, and from `next` on slots that are ready for more.
+use Rattle.std.specs.Prelude.{◌≡◌, ℕ, ◌-◌, ◌<◌, ◌≤◌, ◌⊎◌, List, [], ◌∷◌, Option, None, length, nat_eq, take, slice_index_or, if◌then◌else◌}
 use Rattle.std.specs.Option.{option_map}
 use Rattle.std.specs.FinMap as map
+use Rattle.mm_types.specs.declared.numbers.ClassNo.{ClassNo}
 use Rattle.mm_types.specs.declared.numbers.FeatureNo.{FeatureNo}
 use Rattle.mm_types.specs.declared.numbers.ObjectNo.{ObjectNo}
-use Rattle.mm_values.specs.declared.objects.Slot.{Slot}
+use Rattle.mm_values.specs.declared.attribute_lists.Entry.{Entry}
 use Rattle.mm_values.specs.Attributes.{stored_in, taken_of, HasPlace}
 use Rattle.mm_values.specs.ListEdits.{IsReadyFor}
 use Rattle.mm_values.specs.declared.list_edit.ListEdit.{ListEdit}
 use Rattle.mm_values.specs.Values.{Objects, ObjectState}
 
+-- by number, the class of the object that is live there, and the attribute lists
 pub record Slots : Type 0 where
-  pub slots : List Slot
+  pub classes : List (Option ClassNo)
+  pub lists : List (List Entry)
   pub next : ℕ
 
-abbrev pub state_of : Slot → Option ObjectState
-state_of s = option_map (λ c. record { class = c; stored = stored_in s.lists }) s.class
+abbrev pub state_of : Option ClassNo → List Entry → Option ObjectState
+state_of class lists = option_map (λ c. record { class = c; stored = stored_in lists }) class
+
+-- at each number what the two columns say of it
+abbrev pub states_of : List (Option ClassNo) → List (List Entry) → Objects
+states_of [] ls = []
+states_of (c ∷ cs) [] = []
+states_of (c ∷ cs) (l ∷ ls) = state_of c l ∷ states_of cs ls
 
 abbrev pub objects_of : Slots → Objects
-objects_of r = map state_of (take r.next r.slots)
+objects_of r = take r.next (states_of r.classes r.lists)
 
--- the slots from `next` on are ready: they hold nothing
+-- the columns are of one length, and the slots from `next` on are ready: they hold nothing
 pub record IsReady (r : Slots) : Type 0 where
-  pub in_range : r.next ≤ length r.slots
-  pub holds_nothing : (i : ℕ) (d : Slot) → r.next ≤ i → i < length r.slots → stored_in (slice_index_or r.slots i d).lists ≡ map.empty
+  pub same_length : length r.classes ≡ length r.lists
+  pub in_range : r.next ≤ length r.lists
+  pub holds_nothing : (i : ℕ) (d : List Entry) → r.next ≤ i → i < length r.lists → stored_in (slice_index_or r.lists i d) ≡ map.empty
 
-abbrev pub IsDead : Slots → ℕ → Slot → Type 0
-IsDead r o s = (o < r.next) × (s.class ≡ None)
+abbrev pub IsDead : Slots → ℕ → Type 0
+IsDead r o = (o < r.next) × (slice_index_or r.classes o None ≡ None)
 
 -- the object has a place for what the attribute will hold, and for n values more, or needs none: it is dead, or never made
 abbrev pub HasPlaceAt : Slots → ℕ → ℕ → ℕ → Type 0
-HasPlaceAt r o f n = (d : Slot) → o < length r.slots → IsDead r o (slice_index_or r.slots o d) ⊎ HasPlace (slice_index_or r.slots o d).lists f n
+HasPlaceAt r o f n = (d : List Entry) → o < length r.lists → IsDead r o ⊎ HasPlace (slice_index_or r.lists o d) f n
 
 -- and so for what an edit of its list needs
 abbrev pub IsReadyAt : Slots → ℕ → ℕ → ListEdit → Type 0
-IsReadyAt r o f e = (d : Slot) → o < length r.slots → IsDead r o (slice_index_or r.slots o d) ⊎ IsReadyFor (slice_index_or r.slots o d).lists f e
+IsReadyAt r o f e = (d : List Entry) → o < length r.lists → IsDead r o ⊎ IsReadyFor (slice_index_or r.lists o d) f e
 
 -- of the places for values of each object and attribute, how many are taken: none, and k of one object's attribute
 abbrev pub none_taken : ℕ → ℕ → ℕ
@@ -45,5 +55,5 @@ taken_at x g k o f = if nat_eq o x.0 then taken_of g.0 k f else 0
 
 -- as many slots as before, and their places but for those that are taken
 pub record KeepsPlaces (taken : ℕ → ℕ → ℕ) (old new : Slots) : Type 0 where
-  pub slots : length new.slots ≡ length old.slots
+  pub slots : length new.lists ≡ length old.lists
   pub places : (o f n : ℕ) → HasPlaceAt old o f n → HasPlaceAt new o f (n - taken o f)

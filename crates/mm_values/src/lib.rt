@@ -6,6 +6,7 @@
 #![tactic(auto)]
 
 mod attribute_lists;
+mod class_cell;
 mod edit;
 mod list_edit;
 mod objects;

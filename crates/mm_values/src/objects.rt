@@ -1,29 +1,26 @@
 //! The objects of a repository, by number.
-ghost use Rattle.std.specs.Prelude.{◌≡◌, ◌+◌, ◌<◌, ◌≤◌, [], length, option_copied, OnOk, OnErr};
-ghost use Rattle.std.specs.Option.{option_map, option_and_then};
+ghost use Rattle.std.specs.Prelude.{◌≡◌, ◌+◌, ◌<◌, ◌≤◌, ◌^◌, [], length, option_copied, OnOk, OnErr};
+ghost use Rattle.std.specs.Option.{option_map};
 ghost use Rattle.mm_values.specs.ListEdits.{changed, taken};
-ghost use Rattle.mm_values.specs.Slots.{objects_of, state_of, none_taken, taken_at, HasPlaceAt, IsReadyAt, KeepsPlaces};
+ghost use Rattle.mm_values.specs.Attributes.{stored_in};
+ghost use Rattle.mm_values.specs.Slots.{objects_of, none_taken, taken_at, HasPlaceAt, IsReadyAt, KeepsPlaces};
 ghost use Rattle.mm_values.specs.Stored.{items_of};
 ghost use Rattle.mm_values.specs.Values.{object_at, stored_under, with_changed, with_object, without_object, with_list};
 
 use crate::attribute_lists::AttributeLists;
+use crate::class_cell::ClassCell;
 use crate::list_edit::ListEdit;
 use mm_types::{ClassNo, FeatureNo, ObjectNo, Seq, Value};
 use std::alloc::{AllocError, Global};
 use std::marker::Model;
 use value_lists::ValueList;
 
-/// An object's class, where it is live, and its attribute lists.
-#[derive(Drop)]
-pub(crate) struct Slot {
-    class: Option<ClassNo>,
-    lists: AttributeLists,
-}
-
-/// The objects by number: `next` of them were made. The slots behind them are ready for objects to come.
+/// The objects by number: `next` of them were made. The slots behind them are ready for objects to come. A slot is a cell and a
+/// row of attribute lists, in two columns: 28 bytes, where a struct of both would be padded to 32.
 #[derive(Drop)]
 pub(crate) struct Objects {
-    slots: Vec<Slot>,
+    classes: Vec<ClassCell>,
+    lists: Vec<AttributeLists>,
     next: usize,
 }
 
@@ -32,19 +29,20 @@ impl Model for Objects {
 
     ghost Value = { Slots };
 
-    ghost view = { λ a. record { slots = a.slots.items; next = a.next } };
+    ghost view = { λ a. record { classes = a.classes.items; lists = a.lists.items; next = a.next } };
 
-    ghost invariant = { λ a. IsReady (record { slots = a.slots.items; next = a.next }) };
+    ghost invariant = { λ a. IsReady (record { classes = a.classes.items; lists = a.lists.items; next = a.next }) };
 }
 
 impl Objects {
     /// No objects. Takes no memory.
     pub fn new(alloc: Global) -> Self
         ensures none { objects_of result ≡ [] }
-        ensures no_slots { result.slots ≡ [] }
+        ensures no_slots { result.lists ≡ [] }
     {
         Objects {
-            slots: Vec::new(alloc),
+            classes: Vec::new(alloc),
+            lists: Vec::new(alloc),
             next: 0,
         }
     }
@@ -57,67 +55,67 @@ impl Objects {
         self.next
     }
 
-    // The slot of an object that was made.
-    fn slot(&self, object: ObjectNo) -> Option<&Slot>
-        ensures { object_at (objects_of self.now) object ≡ option_and_then state_of (option_copied result) }
+    // The class and the attribute lists of a live object.
+    fn live(&self, object: ObjectNo) -> Option<(ClassNo, &AttributeLists)>
+        ensures { object_at (objects_of self.now) object ≡ option_map (λ p. record { class = p.0; stored = stored_in p.1.now }) result }
     {
         let index = object.0 as usize;
-        if index < self.next {
-            Some(&self.slots[index])
-        } else {
-            None
+        if index >= self.next {
+            return None;
         }
+        let class = self.classes[index].get()?;
+        Some((class, &self.lists[index]))
     }
 
     /// The class of a live object.
     pub fn class(&self, object: ObjectNo) -> Option<ClassNo>
         ensures { result ≡ option_map (λ s. s.class) (object_at (objects_of self.now) object) }
     {
-        self.slot(object)?.class
+        let (class, _) = self.live(object)?;
+        Some(class)
     }
 
     /// The list that a live object has under an attribute, where that has a place.
     pub fn list(&self, object: ObjectNo, feature: FeatureNo) -> Option<Option<&ValueList>>
         ensures { option_map (λ l. items_of (option_copied l)) result ≡ option_map (λ s. (stored_under s feature).list) (object_at (objects_of self.now) object) }
     {
-        let slot = self.slot(object)?;
-        slot.class.map(|_| slot.lists.list(feature))
+        let (_, lists) = self.live(object)?;
+        Some(lists.list(feature))
     }
 
     /// Whether an attribute of a live object is set.
     pub fn flag(&self, object: ObjectNo, feature: FeatureNo) -> Option<bool>
         ensures { result ≡ option_map (λ s. (stored_under s feature).flag) (object_at (objects_of self.now) object) }
     {
-        let slot = self.slot(object)?;
-        slot.class.map(|_| slot.lists.flag(feature))
+        let (_, lists) = self.live(object)?;
+        Some(lists.flag(feature))
     }
 
     // Makes one more slot ready. Where memory is refused nothing has changed.
     fn add_slot(&mut self) -> Result<(), AllocError>
         ensures objects { objects_of self.new ≡ objects_of self.old }
         ensures next { self.new.next ≡ self.old.next }
-        ensures ok { OnOk result (length self.new.slots ≡ length self.old.slots + 1) }
+        ensures ok { OnOk result (length self.new.lists ≡ length self.old.lists + 1) }
         ensures err { OnErr result (self.new ≡ self.old) }
     {
-        let alloc = *self.slots.allocator();
-        self.slots.push(Slot {
-            class: None,
-            lists: AttributeLists::new(alloc),
-        })?;
+        let alloc = *self.lists.allocator();
+        self.classes.reserve(1)?;
+        self.lists.push(AttributeLists::new(alloc))?;
+        self.classes.push_reserved(ClassCell::none());
         Ok(())
     }
 
     /// How many objects may be made with no memory taken.
     pub fn ready(&self) -> usize
-        ensures { result + self.now.next ≡ length self.now.slots }
+        ensures { result + self.now.next ≡ length self.now.lists }
     {
-        self.slots.len() - self.next
+        self.lists.len() - self.next
     }
 
     /// Makes slots ready for more objects. Errs where memory is refused.
     pub fn reserve(&mut self, additional: usize) -> Result<(), AllocError>
         ensures objects { objects_of self.new ≡ objects_of self.old }
-        ensures ok { OnOk result (self.new.next + additional ≤ length self.new.slots) }
+        ensures ok { OnOk result (self.new.next + additional ≤ length self.new.lists) }
     {
         for _have in self.ready()..additional {
             self.add_slot()?;
@@ -140,14 +138,13 @@ impl Objects {
         ensures ok { OnOk result (HasPlaceAt self.new object.0 feature.0 additional) }
     {
         let index = object.0 as usize;
-        if index >= self.slots.len() {
+        if index >= self.lists.len() {
             return Ok(());
         }
-        let slot = &mut self.slots[index];
-        if index < self.next && slot.class.is_none() {
+        if index < self.next && self.classes[index].get().is_none() {
             return Ok(());
         }
-        slot.lists.make_place(feature, additional, is_asked)
+        self.lists[index].make_place(feature, additional, is_asked)
     }
 
     /// Puts a long list of an object into pieces, so that it is fast to edit. Errs where memory is refused.
@@ -160,19 +157,18 @@ impl Objects {
         if index >= self.next {
             return Ok(());
         }
-        let slot = &mut self.slots[index];
-        slot.lists.make_pieces(feature)
+        self.lists[index].make_pieces(feature)
     }
 
-    /// Makes an object, in a slot that is ready. Takes no memory.
+    /// Makes an object of a class that has a cell, in a slot that is ready. Takes no memory.
     pub fn add(&mut self, class: ClassNo)
-        requires { self.old.next < length self.old.slots }
+        requires ready { self.old.next < length self.old.lists }
+        requires cell { class.0 + 1 < 2 ^ 32 }
         ensures objects { objects_of self.new ≡ with_object (objects_of self.old) class }
         ensures next { self.new.next ≡ self.old.next + 1 }
         ensures kept { KeepsPlaces none_taken self.old self.new }
     {
-        let slot = &mut self.slots[self.next];
-        slot.class = Some(class);
+        self.classes[self.next] = ClassCell::live(class);
         self.next += 1;
     }
 
@@ -184,11 +180,9 @@ impl Objects {
     {
         let index = object.0 as usize;
         if index < self.next {
-            let alloc = *self.slots.allocator();
-            self.slots[index] = Slot {
-                class: None,
-                lists: AttributeLists::new(alloc),
-            };
+            let alloc = *self.lists.allocator();
+            self.classes[index] = ClassCell::none();
+            self.lists[index] = AttributeLists::new(alloc);
         }
     }
 
@@ -200,11 +194,8 @@ impl Objects {
         ensures kept { KeepsPlaces (taken_at object feature (length list)) self.old self.new }
     {
         let index = object.0 as usize;
-        if index < self.next {
-            let slot = &mut self.slots[index];
-            if slot.class.is_some() {
-                slot.lists.put(feature, list, flag);
-            }
+        if index < self.next && self.classes[index].get().is_some() {
+            self.lists[index].put(feature, list, flag);
         }
     }
 
@@ -216,13 +207,8 @@ impl Objects {
         ensures kept { KeepsPlaces (taken_at object feature (taken edit)) self.old self.new }
     {
         let index = object.0 as usize;
-        if index >= self.next {
-            return drop(edit);
+        if index < self.next && self.classes[index].get().is_some() {
+            self.lists[index].change(feature, edit);
         }
-        let slot = &mut self.slots[index];
-        if slot.class.is_none() {
-            return drop(edit);
-        }
-        slot.lists.change(feature, edit);
     }
 }

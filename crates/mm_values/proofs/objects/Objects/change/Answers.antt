@@ -1,29 +1,34 @@
-use Rattle.std.proofs.Common.{ap, sym, ◌∙◌, ◌<◌, length, arith}
-use Rattle.std.specs.Option.{option_map}
-use Rattle.mm_values.specs.ListEdits.{changed}
+use Rattle.std.proofs.Common.{◌≡◌, ◌<◌, ◌∙◌, ap, sym, length, is_some, true, arith}
+use Rattle.mm_values.specs.ListEdits.{changed, taken, IsReadyFor}
 use Rattle.mm_values.specs.Values.{change_list}
-use Rattle.mm_values.specs.Slots.{objects_of, state_of}
-use Rattle.mm_values.proofs.SlotLemmas.{objects-set, object-get_or, kept_taken, row, state-changed}
-use Rattle.mm_values.proofs.Place.{fewer}
+use Rattle.mm_values.proofs.SlotLemmas.{live_has, objects_changed, objects_dead, kept_taken, none_read}
 use Rattle.mm_values.proofs.objects.Objects.change.Goals as goal
+use Rattle.mm_values.proofs.objects.Objects.change.Goals.{else-index-self-via-then-index-self+else-is_some, else-index-self-via-else-index-self}
 
-pub returns-clause-objects : goal.returns-clause-objects
-returns-clause-objects c =
-    let xs = c.self.inside.slots.items in
-    let n = c.self.inside.next in
-    let o = c.args.object.0 in
-    let slot = c.index_mut-slot.result.now in
-    let within : o < length xs = omega (arith, c.self.invariant.in_range) in
-    let made : o < n = omega arith in
-    rw (← c.self.view_is) (objects-set xs n o _ ∙ ap (λ s. Rattle.std.specs.Prelude.slice_set (objects_of (row xs n)) o s) (state-changed slot.class slot.lists c.change.new.self c.args.feature (changed c.args.edit) c.change.ensures.stored ∙ ap (λ s. option_map (change_list c.args.feature (changed c.args.edit)) s) (ap state_of c.index_mut-slot.ensures.value ∙ sym (object-get_or xs n o slot made within))))
+pub change-requires : goal.change-requires
+change-requires c =
+    let s = c.self.inside in
+    let within : c.args.object.0 < length s.lists.items = omega (arith, c.self.invariant.in_range) in
+    let live : is_some c.index.result.now ≡ true = rw c.get.ensures at (sym c.is_some.ensures ∙ c.if-is_some.true) in
+    live_has s.classes.items s.lists.items s.next c.args.object.0 (λ l. IsReadyFor l c.args.feature.0 c.args.edit) c.index.result.now c.index_mut.result.now c.self.invariant.same_length within c.index.ensures live c.index_mut.ensures.value (rw (← c.self.view_is) at c.requires)
 
-pub returns-clause-kept : goal.returns-clause-kept
-returns-clause-kept c =
-    let within : c.args.object.0 < length c.self.inside.slots.items = omega (arith, c.self.invariant.in_range) in
-    rw (← c.self.view_is) (kept_taken c.self.inside.slots.items c.self.inside.next c.args.object c.args.feature _ c.index_mut-slot.result.now c.change.new.self within c.index_mut-slot.ensures.value c.change.ensures.kept)
+pub returns-then-is_some-clause-objects : goal.returns-then-is_some-clause-objects
+returns-then-is_some-clause-objects c =
+    let s = c.self.inside in
+    let within : c.args.object.0 < length s.lists.items = omega (arith, c.self.invariant.in_range) in
+    rw (← c.self.view_is) (objects_changed s.classes.items s.lists.items s.next c.args.object.0 c.index_mut.result.now _ (change_list c.args.feature (changed c.args.edit)) c.self.invariant.same_length c.if-index-self.true within c.index_mut.ensures.value (λ class. ap (λ m. record { class = class; stored = m }) c.change.ensures.stored))
 
-pub returns-then-is_none-clause-kept : goal.returns-then-is_none-clause-kept
-returns-then-is_none-clause-kept c =
-    let slot = c.index_mut-slot.result.now in
-    let within : c.args.object.0 < length c.self.inside.slots.items = omega (arith, c.self.invariant.in_range) in
-    rw (← c.self.view_is) (kept_taken c.self.inside.slots.items c.self.inside.next c.args.object c.args.feature _ slot slot.lists within c.index_mut-slot.ensures.value (λ f m place. fewer _ f m _ (omega arith) place))
+pub returns-then-is_some-clause-kept : goal.returns-then-is_some-clause-kept
+returns-then-is_some-clause-kept c =
+    let s = c.self.inside in
+    let within : c.args.object.0 < length s.lists.items = omega (arith, c.self.invariant.in_range) in
+    rw (← c.self.view_is) (kept_taken s.classes.items s.lists.items s.next c.args.object c.args.feature (taken c.args.edit) c.index_mut.result.now _ within c.index_mut.ensures.value c.change.ensures.kept)
+
+-- no object is live there
+pub returns-else-index-self-clause-objects : goal.returns-else-index-self-clause-objects
+returns-else-index-self-clause-objects c =
+    let s = c.self.inside in
+    rw (← c.self.view_is) (objects_dead s.classes.items s.lists.items s.next c.args.object.0 (change_list c.args.feature (changed c.args.edit)) c.self.invariant.same_length c.self.invariant.in_range (λ made. elim c.else-index-self.branch [
+      | else-index-self-via-then-index-self+else-is_some w ↦ none_read s.classes.items c.args.object.0 w.index.result.now (omega (arith, c.self.invariant.same_length, c.self.invariant.in_range)) w.index.ensures (rw w.get.ensures at (sym w.is_some.ensures ∙ w.if-is_some.false))
+      | else-index-self-via-else-index-self w ↦ absurd (omega (arith, w.if-index-self.false))
+    ]))

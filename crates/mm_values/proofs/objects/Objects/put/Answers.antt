@@ -1,27 +1,26 @@
-use Rattle.std.proofs.Common.{ap, sym, ◌∙◌, ◌<◌, length, arith}
-use Rattle.std.specs.Option.{option_map}
+use Rattle.std.proofs.Common.{◌<◌, ◌∙◌, ap, sym, length, arith}
 use Rattle.mm_values.specs.Values.{put_stored}
-use Rattle.mm_values.specs.Slots.{state_of}
-use Rattle.mm_values.proofs.SlotLemmas.{objects-set, object-get_or, kept_same, kept_taken, state-put}
-use Rattle.mm_values.proofs.Place.{fewer}
+use Rattle.mm_values.proofs.SlotLemmas.{objects_changed, objects_dead, kept_taken, none_read}
 use Rattle.mm_values.proofs.objects.Objects.put.Goals as goal
+use Rattle.mm_values.proofs.objects.Objects.put.Goals.{else-index-self-via-then-index-self+else-is_some, else-index-self-via-else-index-self}
 
 pub returns-then-is_some-clause-objects : goal.returns-then-is_some-clause-objects
 returns-then-is_some-clause-objects c =
-    let xs = c.self.inside.slots.items in
-    let n = c.self.inside.next in
-    let o = c.args.object.0 in
-    let slot = c.index_mut-slot.result.now in
-    let within : o < length xs = omega (arith, c.self.invariant.in_range) in
-    rw (← c.self.view_is) (objects-set xs n o _ ∙ ap (λ s. Rattle.std.specs.Prelude.slice_set (Rattle.mm_values.specs.Slots.objects_of (Rattle.mm_values.proofs.SlotLemmas.row xs n)) o s) (state-put slot.class slot.lists c.put.new.self c.args.feature _ c.put.ensures.stored ∙ ap (λ s. option_map (put_stored c.args.feature (record { list = c.args.list; flag = c.args.flag })) s) (ap state_of c.index_mut-slot.ensures.value ∙ sym (object-get_or xs n o slot c.if-index-self.true within))))
+    let s = c.self.inside in
+    let within : c.args.object.0 < length s.lists.items = omega (arith, c.self.invariant.in_range) in
+    rw (← c.self.view_is) (objects_changed s.classes.items s.lists.items s.next c.args.object.0 c.index_mut.result.now _ (put_stored c.args.feature (record { list = c.args.list; flag = c.args.flag })) c.self.invariant.same_length c.if-index-self.true within c.index_mut.ensures.value (λ class. ap (λ m. record { class = class; stored = m }) c.put.ensures.stored))
 
 pub returns-then-is_some-clause-kept : goal.returns-then-is_some-clause-kept
 returns-then-is_some-clause-kept c =
-    let within : c.args.object.0 < length c.self.inside.slots.items = omega (arith, c.self.invariant.in_range) in
-    rw (← c.self.view_is) (kept_taken c.self.inside.slots.items c.self.inside.next c.args.object c.args.feature _ c.index_mut-slot.result.now c.put.new.self within c.index_mut-slot.ensures.value c.put.ensures.kept)
+    let s = c.self.inside in
+    let within : c.args.object.0 < length s.lists.items = omega (arith, c.self.invariant.in_range) in
+    rw (← c.self.view_is) (kept_taken s.classes.items s.lists.items s.next c.args.object c.args.feature (length c.args.list) c.index_mut.result.now _ within c.index_mut.ensures.value c.put.ensures.kept)
 
-pub returns-else-is_some-clause-kept : goal.returns-else-is_some-clause-kept
-returns-else-is_some-clause-kept c =
-    let slot = c.index_mut-slot.result.now in
-    let within : c.args.object.0 < length c.self.inside.slots.items = omega (arith, c.self.invariant.in_range) in
-    rw (← c.self.view_is) (kept_taken c.self.inside.slots.items c.self.inside.next c.args.object c.args.feature _ slot slot.lists within c.index_mut-slot.ensures.value (λ f m place. fewer _ f m _ (omega arith) place))
+-- no object is live there
+pub returns-else-index-self-clause-objects : goal.returns-else-index-self-clause-objects
+returns-else-index-self-clause-objects c =
+    let s = c.self.inside in
+    rw (← c.self.view_is) (objects_dead s.classes.items s.lists.items s.next c.args.object.0 (put_stored c.args.feature (record { list = c.args.list; flag = c.args.flag })) c.self.invariant.same_length c.self.invariant.in_range (λ made. elim c.else-index-self.branch [
+      | else-index-self-via-then-index-self+else-is_some w ↦ none_read s.classes.items c.args.object.0 w.index.result.now (omega (arith, c.self.invariant.same_length, c.self.invariant.in_range)) w.index.ensures (rw w.get.ensures at (sym w.is_some.ensures ∙ w.if-is_some.false))
+      | else-index-self-via-else-index-self w ↦ absurd (omega (arith, w.if-index-self.false))
+    ]))

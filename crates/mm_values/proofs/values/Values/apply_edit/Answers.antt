@@ -1,6 +1,6 @@
 use Rattle.std.proofs.Common.{arith}
 use Rattle.mm_values.specs.declared.edit.ValueEdit.TheVariants.{NewObject, DropObject, PutList, InsertValue, RemoveValue, MoveValue, NewUri}
-use Rattle.mm_values.proofs.RoomLemmas.{insert_has_place, room_rest}
+use Rattle.mm_values.proofs.RoomLemmas.{insert_has_place, put_has_place, room_rest}
 use Rattle.mm_values.proofs.SlotLemmas.{kept_none, kept_same}
 use Rattle.mm_values.proofs.values.Values.apply_edit.Goals as goal
 
@@ -12,6 +12,9 @@ returns-in-DropObject-clause-room c rest room = room_rest _ _ (DropObject _) res
 
 pub returns-in-PutList-clause-room : goal.returns-in-PutList-clause-room
 returns-in-PutList-clause-room c rest room = room_rest _ _ (PutList _ _ _ _) rest (rw c.in-PutList.is at room) c.put.ensures.kept (omega (arith, c.put.ensures.next)) (omega arith)
+
+pub put-requires : goal.put-requires
+put-requires c = put_has_place _ _ _ _ _ (rw c.in-PutList.is at c.requires)
 
 pub change-requires : goal.change-requires
 change-requires c = insert_has_place _ _ _ _ _ _ (rw c.in-InsertValue.is at c.requires)
