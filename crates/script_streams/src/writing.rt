@@ -1,0 +1,27 @@
+//! A whole text is written, however few bytes a write takes.
+ghost use Rattle.std.specs.Prelude.{◌≡◌, IfErr, OnErr, OnOk};
+ghost use Rattle.std.specs.Io.KnownBytes.{Appends};
+ghost use Rattle.script_streams.specs.Streams.{AppendsFront};
+
+use crate::run_fault::RunFault;
+use std::io::Write;
+
+/// Writes a whole text.
+///
+/// Errs with `Write` where a write errs or takes no byte; what was written by then is a front of the
+/// text.
+pub fn write_all<W: Write>(writer: &mut W, text: &[u8]) -> Result<(), RunFault>
+    ensures ok { OnOk result (Appends (W.contents writer.old) (W.contents writer.new) text.now) }
+    ensures err { OnErr result (AppendsFront (W.contents writer.old) (W.contents writer.new) text.now) }
+    ensures kind { IfErr result (λ e. e ≡ RunFault.Write) }
+{
+    let mut rest = text;
+    'writing: while !rest.is_empty() {
+        match writer.write(rest) {
+            Ok(0) => return Err(RunFault::Write),
+            Ok(n) => rest = &rest[n..],
+            Err(_) => return Err(RunFault::Write),
+        }
+    }
+    Ok(())
+}
