@@ -10,7 +10,7 @@ use Rattle.script_lines.specs.Forms.{form}
 use Rattle.script_lines.specs.Lines.{lines}
 use Rattle.script_program.specs.Script.{Prints, PrintsFront, RunsLine, RunsLines}
 use Rattle.script_program.specs.Session.{Session}
-use Rattle.script_program.specs.Streams.{AppendsFront}
+use Rattle.script_streams.specs.Streams.{AppendsFront}
 use Rattle.script_program.specs.Summary.{IsWithin}
 use Rattle.script_program.specs.Turns.{Printed, no_lines, summary_of, texts, with_turn}
 use Rattle.script_program.specs.declared.summary.Summary.{Summary}

@@ -1,6 +1,4 @@
 pub mod CommandLine
-pub mod Faults
-pub mod Streams
 pub mod Pool
 pub mod Session
 pub mod Bind

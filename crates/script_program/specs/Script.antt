@@ -24,7 +24,7 @@ use Rattle.script_program.specs.Bind.{bind}
 use Rattle.script_program.specs.Session.{Session, pool_after}
 use Rattle.script_program.specs.declared.request.Request.{Request}
 use Rattle.script_program.specs.declared.request.Request.TheVariants as request
-use Rattle.script_program.specs.Streams.{AppendsFront}
+use Rattle.script_streams.specs.Streams.{AppendsFront}
 use Rattle.script_program.specs.Turns.{Printed, outcome_turn, summary_of, texts}
 use Rattle.script_program.specs.declared.summary.Summary.{Summary}
 use Rattle.script_program.specs.declared.turn.Turn.TheVariants as turned

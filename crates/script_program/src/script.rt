@@ -1,16 +1,13 @@
 //! A script is run.
 ghost use Rattle.std.specs.Prelude.{◌≡◌, ◌≤◌, ◌<◌, IfErr, IfOk, IfSome, IsErrOf, OnErr, OnOk, length};
 ghost use Rattle.std.specs.Io.KnownBytes.{IsAtEnd, Keeps};
-ghost use Rattle.script_program.specs.Faults.{IsReadOrTooLong, IsWriteOrMemory};
+ghost use Rattle.script_streams.specs.Faults.{IsReadOrTooLong, IsWriteOrMemory};
 ghost use Rattle.script_program.specs.Script.{Prints, PrintsFront, PrintsInput, PrintsInputFront};
 ghost use Rattle.script_program.specs.Session.{first_session, session};
 
 use crate::line::run_line;
 use crate::pool::Pool;
-use crate::reading::read_all;
-use crate::run_fault::RunFault;
 use crate::summary::Summary;
-use crate::writing::write_all;
 use adapters::Adapter;
 use link_store::LinkStore;
 use mm_meta::Meta;
@@ -18,6 +15,7 @@ use mm_types::limits::INPUT_BYTES;
 use repository::Repository;
 use script_lines::next_line;
 use script_output::Output;
+use script_streams::{RunFault, read_all, write_all};
 use std::alloc::Global;
 use std::io::{Read, Write};
 

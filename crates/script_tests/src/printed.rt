@@ -1,7 +1,7 @@
 //! Texts that no script makes a repository print, and the names of faults.
 use mm_types::{AdapterNo, DocFault, Node, ObjectNo, Refused, ResourceNo, Text, Value};
 use script_output::Output;
-use script_program::RunFault;
+use script_streams::RunFault;
 use std::alloc::{AllocError, Global};
 use std::test::Fail;
 

@@ -1,5 +1,5 @@
 //! Streams that give or take little, that fail, and that never end.
-use script_program::{RunFault, read_all, write_all};
+use script_streams::{RunFault, read_all, write_all};
 use std::alloc::Global;
 use std::io::{Error, ErrorKind, Read, Write};
 use std::process::Abort;
