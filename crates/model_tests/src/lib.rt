@@ -1,5 +1,5 @@
-//! Tests of the crates of models, by calls that a script can't make: memory that is refused, and adapters with their list
-//! and their repository.
+//! Tests of the crates of models, by calls that a script can't make: values that no script names, adapters of other kinds,
+//! and what is dropped.
 //!
 //! What a script prints stands among the cases.
 #![tactic(auto)]
@@ -19,10 +19,6 @@ mod calls;
 #[cfg(test)]
 mod closing;
 #[cfg(test)]
-mod cups;
-#[cfg(test)]
-mod deletions;
-#[cfg(test)]
 mod drops;
 #[cfg(test)]
 mod latest;
@@ -31,25 +27,7 @@ mod links;
 #[cfg(test)]
 mod list_calls;
 #[cfg(test)]
-mod memory;
-#[cfg(test)]
-mod memory_adapters;
-#[cfg(test)]
-mod memory_deletions;
-#[cfg(test)]
-mod memory_links;
-#[cfg(test)]
-mod memory_lists;
-#[cfg(test)]
-mod memory_loads;
-#[cfg(test)]
-mod memory_parts;
-#[cfg(test)]
-mod memory_values;
-#[cfg(test)]
 mod notices;
-#[cfg(test)]
-mod notified;
 #[cfg(test)]
 mod poor;
 #[cfg(test)]
@@ -60,8 +38,6 @@ mod refused_edits;
 mod replies;
 #[cfg(test)]
 mod repositories;
-#[cfg(test)]
-mod resources;
 #[cfg(test)]
 mod stored_values;
 #[cfg(test)]

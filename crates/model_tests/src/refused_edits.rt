@@ -1,14 +1,22 @@
 //! An edit of a list that one of its adapters can't hear: no link is cut, and nobody is notified.
 use crate::books::{RowRepository, object};
-use crate::boxes::{PARTS, boxes, value};
-use crate::list_calls::attach;
-use crate::replies::{given, made};
+use crate::boxes::{PARTS, boxes};
+use crate::replies::{given, made, made_attached};
 use crate::telling::{Kind, adapter};
 use adapters::Adapter;
-use mm_types::{AdapterNo, Refused};
+use mm_types::{AdapterNo, ObjectNo, Refused, Value};
 use repository::Reply;
 use std::alloc::{AllocError, Global};
 use std::test::Fail;
+
+/// Attaches an adapter to a box, whose number it has; a refused adapter is dropped.
+fn attach<A: Adapter>(
+    repository: &mut RowRepository<A>,
+    at: u32,
+    adapter: A,
+) -> Result<(), Refused> {
+    made_attached(repository.attach(AdapterNo(at), object(at), false, adapter))
+}
 
 /// What is in the first box and in the last, and how many notices the adapters of the first and the second were told.
 fn state<A: Adapter>(alloc: Global, repository: &RowRepository<A>) -> Result<String, AllocError> {
@@ -23,15 +31,15 @@ fn state<A: Adapter>(alloc: Global, repository: &RowRepository<A>) -> Result<Str
 
 /// Puts the second box into a box.
 fn put<A: Adapter>(repository: &mut RowRepository<A>, into: u32) -> Result<Reply<A>, Refused> {
-    repository.add(object(into), PARTS, value(PARTS, 1), None)
+    repository.add(object(into), PARTS, Value::Object(ObjectNo(1)), None)
 }
 
 /// A repository of four boxes, the second in the first, with an adapter at each of the two.
 fn packed<A: Adapter>(alloc: Global, first: A, second: A) -> Result<Box<RowRepository<A>>, Fail> {
     let mut repository = boxes(alloc, 4)?;
     made(put(&mut repository, 0))?;
-    attach(&mut repository, 0, false, first)?;
-    attach(&mut repository, 1, false, second)?;
+    attach(&mut repository, 0, first)?;
+    attach(&mut repository, 1, second)?;
     Ok(repository)
 }
 

@@ -1,27 +1,10 @@
-//! What a repository gives, as texts. Each is asked for once more where memory is refused.
+//! What a repository gives, as texts.
 use adapters::Adapter;
-use mm_types::{AdapterNo, Refused, Seq};
+use mm_types::{AdapterNo, Refused};
 use notice_chain::Notice;
-use repository::{Answer, Failure, FeatureValue, Reply};
+use repository::{Failure, Reply};
 use std::alloc::{AllocError, Global};
 use std::test::Fail;
-
-/// What a feature has, as an answer.
-pub(crate) fn got(found: FeatureValue) -> Answer {
-    match found {
-        FeatureValue::One(value) => Answer::Value(value),
-        FeatureValue::Many(values) => Answer::Values(values),
-    }
-}
-
-/// A reply that notifies nobody.
-pub(crate) fn quiet<A: Adapter>(alloc: Global, answer: Answer) -> Reply<A> {
-    Reply {
-        answer,
-        told: Seq::new(alloc),
-        released: Seq::new(alloc),
-    }
-}
 
 /// Who was notified of what, as `; A5 SET Null Int(3) -1 false`: the adapter, the kind, the value before and the value
 /// after, the position, and whether the feature was set.
@@ -64,21 +47,11 @@ pub(crate) fn back<A: Adapter>(
     Ok(text)
 }
 
-fn reply_once<A: Adapter>(alloc: Global, reply: &Reply<A>) -> Result<String, AllocError> {
+/// The answer, who was notified of what, and the adapters that come back.
+fn reply_text<A: Adapter>(alloc: Global, reply: &Reply<A>) -> Result<String, AllocError> {
     let told = told(alloc, reply.told.as_slice())?;
     let back = back(alloc, reply.released.as_slice())?;
     format!(in alloc; "{:?}{told}{back}", reply.answer)
-}
-
-/// The answer, who was notified of what, and the adapters that come back.
-pub(crate) fn reply_text<A: Adapter>(
-    alloc: Global,
-    reply: &Reply<A>,
-) -> Result<String, AllocError> {
-    match reply_once(alloc, reply) {
-        Ok(text) => Ok(text),
-        Err(_) => reply_once(alloc, reply),
-    }
 }
 
 fn text_of<A: Adapter>(alloc: Global, outcome: &Result<Reply<A>, Refused>) -> Result<String, Fail> {
@@ -106,7 +79,11 @@ pub(crate) fn made<A: Adapter>(outcome: Result<Reply<A>, Refused>) -> Result<(),
     }
 }
 
-fn failure_once<A: Adapter>(alloc: Global, failure: &Failure<A>) -> Result<String, AllocError> {
+/// The refusal by its number, and the adapter that comes back.
+pub(crate) fn failure_text<A: Adapter>(
+    alloc: Global,
+    failure: &Failure<A>,
+) -> Result<String, AllocError> {
     let number = failure.refused.number();
     match &failure.given_back {
         Some(adapter) => {
@@ -114,17 +91,6 @@ fn failure_once<A: Adapter>(alloc: Global, failure: &Failure<A>) -> Result<Strin
             format!(in alloc; "refused {number}, back, {heard}")
         }
         None => format!(in alloc; "refused {number}"),
-    }
-}
-
-/// The refusal by its number, and the adapter that comes back.
-pub(crate) fn failure_text<A: Adapter>(
-    alloc: Global,
-    failure: &Failure<A>,
-) -> Result<String, AllocError> {
-    match failure_once(alloc, failure) {
-        Ok(text) => Ok(text),
-        Err(_) => failure_once(alloc, failure),
     }
 }
 
@@ -138,7 +104,8 @@ pub(crate) fn outcome_text<A: Adapter>(
     }
 }
 
-fn outcomes_once<A: Adapter>(
+/// Each outcome on a line.
+pub(crate) fn outcomes_text<A: Adapter>(
     alloc: Global,
     outcomes: &[Result<Reply<A>, Failure<A>>],
 ) -> Result<String, AllocError> {
@@ -150,17 +117,6 @@ fn outcomes_once<A: Adapter>(
     Ok(text)
 }
 
-/// Each outcome on a line.
-pub(crate) fn outcomes_text<A: Adapter>(
-    alloc: Global,
-    outcomes: &[Result<Reply<A>, Failure<A>>],
-) -> Result<String, AllocError> {
-    match outcomes_once(alloc, outcomes) {
-        Ok(text) => Ok(text),
-        Err(_) => outcomes_once(alloc, outcomes),
-    }
-}
-
 /// Whether an adapter is attached; what it gave is dropped, and a refused adapter with it.
 pub(crate) fn made_attached<A: Adapter>(
     outcome: Result<Reply<A>, Failure<A>>,
@@ -169,12 +125,4 @@ pub(crate) fn made_attached<A: Adapter>(
         Ok(_) => Ok(()),
         Err(failure) => Err(failure.refused),
     }
-}
-
-/// What it gives to attach an adapter, as a text; what it gave is dropped. A refusal fails the test.
-pub(crate) fn given_attached<A: Adapter>(
-    alloc: Global,
-    outcome: Result<Reply<A>, Failure<A>>,
-) -> Result<String, Fail> {
-    given(alloc, outcome.map_err(|failure| failure.refused))
 }
