@@ -112,23 +112,33 @@ depth_in w = if bytes_eq w (codes "flat") then Some false else if bytes_eq w (co
 abbrev pub attach_form : List ℕ → List ℕ → List ℕ → Option Form
 attach_form a n d = option_map (λ p. asks.Attach p.0.0 p.0.1 p.1) (option_zip (option_zip (adapter_in a) (node_in n)) (depth_in d))
 
+-- the forms of a verb and an object
+abbrev pub with_object : List ℕ → List ℕ → Option Form
+with_object verb o =
+    if bytes_eq verb (codes "class") then class_form o
+    else if bytes_eq verb (codes "container") then container_form o
+    else if bytes_eq verb (codes "within") then within_form o
+    else if bytes_eq verb (codes "delete") then delete_form o
+    else if bytes_eq verb (codes "validate") then validate_form o
+    else if bytes_eq verb (codes "fragment") then fragment_form o
+    else None
+
+-- the forms of a verb and one argument that is no string
+abbrev pub with_word : List ℕ → List ℕ → Option Form
+with_word verb a =
+    if bytes_eq verb (codes "save") then save_form a
+    else if bytes_eq verb (codes "contents") then contents_form a
+    else if bytes_eq verb (codes "detach") then detach_form a
+    else if bytes_eq verb (codes "seen") then seen_form a
+    else with_object verb a
+
 -- the forms of a verb and one argument
 abbrev pub with_one : List ℕ → List ℕ → Option Form
 with_one verb a =
     if bytes_eq verb (codes "new") then new_form a
     else if bytes_eq verb (codes "resource") then resource_form a
-    else if bytes_eq verb (codes "class") then class_form a
-    else if bytes_eq verb (codes "container") then container_form a
-    else if bytes_eq verb (codes "within") then within_form a
-    else if bytes_eq verb (codes "delete") then delete_form a
-    else if bytes_eq verb (codes "validate") then validate_form a
-    else if bytes_eq verb (codes "fragment") then fragment_form a
     else if bytes_eq verb (codes "at") then at_form a
-    else if bytes_eq verb (codes "save") then save_form a
-    else if bytes_eq verb (codes "contents") then contents_form a
-    else if bytes_eq verb (codes "detach") then detach_form a
-    else if bytes_eq verb (codes "seen") then seen_form a
-    else None
+    else with_word verb a
 
 -- the forms of a verb and two arguments
 abbrev pub with_two : List ℕ → List ℕ → List ℕ → Option Form

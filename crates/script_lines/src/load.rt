@@ -47,7 +47,7 @@ fn parts_of(rest: &str) -> Option<(ResourceNo, &str)>
 }
 
 /// `load RES REST`, by what follows the verb. Errs where memory is refused for the text.
-pub fn load_of(alloc: Global, rest: &str) -> Result<Option<Form<'static>>, AllocError>
+pub fn load_of<'a>(alloc: Global, rest: &str) -> Result<Option<Form<'a>>, AllocError>
     ensures { IfOk result (λ o. o ≡ load_form (after_spaces rest.now)) }
 {
     match parts_of(rest) {

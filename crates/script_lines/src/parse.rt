@@ -1,6 +1,6 @@
 //! The form that the words of a line fit.
 ghost use Rattle.std.specs.Prelude.{◌≡◌, IfOk, map};
-ghost use Rattle.script_lines.specs.Forms.{add_at_form, add_form, at_form, attach_form, class_form, container_form, contents_form, delete_form, depth_in, detach_form, form_of as the_form_of, fragment_form, get_form, isset_form, move_form, new_form, remove_form, removevalue_form, resolve_form, resource_form, save_form, seen_form, set_form, unset_form, validate_form, with_four, with_one, with_three, with_two, within_form};
+ghost use Rattle.script_lines.specs.Forms.{add_at_form, add_form, at_form, attach_form, class_form, container_form, contents_form, delete_form, depth_in, detach_form, form_of as the_form_of, fragment_form, get_form, isset_form, move_form, new_form, remove_form, removevalue_form, resolve_form, resource_form, save_form, seen_form, set_form, unset_form, validate_form, with_four, with_object, with_one, with_three, with_two, with_word, within_form};
 
 use crate::form::Form;
 use crate::name::Name;
@@ -18,28 +18,28 @@ fn new_of(class: &str) -> Option<Form<'_>>
 }
 
 /// `class OBJ`
-fn class_of(object: &str) -> Option<Form<'static>>
+fn class_of<'a>(object: &str) -> Option<Form<'a>>
     ensures { result ≡ class_form object.now }
 {
     Some(Form::Class(object_of(object)?))
 }
 
 /// `container OBJ`
-fn container_of(object: &str) -> Option<Form<'static>>
+fn container_of<'a>(object: &str) -> Option<Form<'a>>
     ensures { result ≡ container_form object.now }
 {
     Some(Form::Container(object_of(object)?))
 }
 
 /// `within OBJ`
-fn within_of(object: &str) -> Option<Form<'static>>
+fn within_of<'a>(object: &str) -> Option<Form<'a>>
     ensures { result ≡ within_form object.now }
 {
     Some(Form::Within(object_of(object)?))
 }
 
 /// `resource STR`
-fn resource_of(alloc: Global, text: &str) -> Result<Option<Form<'static>>, AllocError>
+fn resource_of<'a>(alloc: Global, text: &str) -> Result<Option<Form<'a>>, AllocError>
     ensures { IfOk result (λ o. o ≡ resource_form text.now) }
 {
     match string_of(alloc, text)? {
@@ -49,28 +49,28 @@ fn resource_of(alloc: Global, text: &str) -> Result<Option<Form<'static>>, Alloc
 }
 
 /// `delete OBJ`
-fn delete_of(object: &str) -> Option<Form<'static>>
+fn delete_of<'a>(object: &str) -> Option<Form<'a>>
     ensures { result ≡ delete_form object.now }
 {
     Some(Form::Delete(object_of(object)?))
 }
 
 /// `validate OBJ`
-fn validate_of(object: &str) -> Option<Form<'static>>
+fn validate_of<'a>(object: &str) -> Option<Form<'a>>
     ensures { result ≡ validate_form object.now }
 {
     Some(Form::Validate(object_of(object)?))
 }
 
 /// `fragment OBJ`
-fn fragment_of(object: &str) -> Option<Form<'static>>
+fn fragment_of<'a>(object: &str) -> Option<Form<'a>>
     ensures { result ≡ fragment_form object.now }
 {
     Some(Form::Fragment(object_of(object)?))
 }
 
 /// `at STR`
-fn at_of(alloc: Global, text: &str) -> Result<Option<Form<'static>>, AllocError>
+fn at_of<'a>(alloc: Global, text: &str) -> Result<Option<Form<'a>>, AllocError>
     ensures { IfOk result (λ o. o ≡ at_form text.now) }
 {
     match string_of(alloc, text)? {
@@ -80,28 +80,28 @@ fn at_of(alloc: Global, text: &str) -> Result<Option<Form<'static>>, AllocError>
 }
 
 /// `save RES`
-fn save_of(resource: &str) -> Option<Form<'static>>
+fn save_of<'a>(resource: &str) -> Option<Form<'a>>
     ensures { result ≡ save_form resource.now }
 {
     Some(Form::Save(resource_no_of(resource)?))
 }
 
 /// `contents NODE`
-fn contents_of(node: &str) -> Option<Form<'static>>
+fn contents_of<'a>(node: &str) -> Option<Form<'a>>
     ensures { result ≡ contents_form node.now }
 {
     Some(Form::Contents(node_of(node)?))
 }
 
 /// `detach AD`
-fn detach_of(adapter: &str) -> Option<Form<'static>>
+fn detach_of<'a>(adapter: &str) -> Option<Form<'a>>
     ensures { result ≡ detach_form adapter.now }
 {
     Some(Form::Detach(adapter_of(adapter)?))
 }
 
 /// `seen AD`
-fn seen_of(adapter: &str) -> Option<Form<'static>>
+fn seen_of<'a>(adapter: &str) -> Option<Form<'a>>
     ensures { result ≡ seen_form adapter.now }
 {
     Some(Form::Seen(adapter_of(adapter)?))
@@ -259,13 +259,51 @@ fn depth_of(word: &str) -> Option<bool>
 }
 
 /// `attach AD NODE flat` or `attach AD NODE deep`
-fn attach_of(adapter: &str, target: &str, depth: &str) -> Option<Form<'static>>
+fn attach_of<'a>(adapter: &str, target: &str, depth: &str) -> Option<Form<'a>>
     ensures { result ≡ attach_form adapter.now target.now depth.now }
 {
     let no = adapter_of(adapter)?;
     let target = node_of(target)?;
     let deep = depth_of(depth)?;
     Some(Form::Attach { no, target, deep })
+}
+
+/// The form of a verb and an object.
+fn with_object_of<'a>(verb: &str, object: &str) -> Option<Form<'a>>
+    ensures { result ≡ with_object verb.now object.now }
+{
+    if verb == "class" {
+        class_of(object)
+    } else if verb == "container" {
+        container_of(object)
+    } else if verb == "within" {
+        within_of(object)
+    } else if verb == "delete" {
+        delete_of(object)
+    } else if verb == "validate" {
+        validate_of(object)
+    } else if verb == "fragment" {
+        fragment_of(object)
+    } else {
+        None
+    }
+}
+
+/// The form of a verb and one argument that is no string.
+fn with_word_of<'a>(verb: &str, word: &str) -> Option<Form<'a>>
+    ensures { result ≡ with_word verb.now word.now }
+{
+    if verb == "save" {
+        save_of(word)
+    } else if verb == "contents" {
+        contents_of(word)
+    } else if verb == "detach" {
+        detach_of(word)
+    } else if verb == "seen" {
+        seen_of(word)
+    } else {
+        with_object_of(verb, word)
+    }
 }
 
 /// The form of a verb and one argument.
@@ -276,30 +314,10 @@ fn with_one_of<'a>(alloc: Global, verb: &str, a: &'a str) -> Result<Option<Form<
         Ok(new_of(a))
     } else if verb == "resource" {
         resource_of(alloc, a)
-    } else if verb == "class" {
-        Ok(class_of(a))
-    } else if verb == "container" {
-        Ok(container_of(a))
-    } else if verb == "within" {
-        Ok(within_of(a))
-    } else if verb == "delete" {
-        Ok(delete_of(a))
-    } else if verb == "validate" {
-        Ok(validate_of(a))
-    } else if verb == "fragment" {
-        Ok(fragment_of(a))
     } else if verb == "at" {
         at_of(alloc, a)
-    } else if verb == "save" {
-        Ok(save_of(a))
-    } else if verb == "contents" {
-        Ok(contents_of(a))
-    } else if verb == "detach" {
-        Ok(detach_of(a))
-    } else if verb == "seen" {
-        Ok(seen_of(a))
     } else {
-        Ok(None)
+        Ok(with_word_of(verb, a))
     }
 }
 
