@@ -3,7 +3,7 @@ use mm_types::{ClassNo, FeatureNo, Node, ObjectNo, ResourceNo, Text, Value};
 use resource_docs::Doc;
 
 /// A change of objects, their values and their links, or of resources.
-#[derive(Debug, Drop)]
+#[derive(Drop)]
 pub enum Change {
     /// Makes an object of a class (EMF: EFactory.create).
     Create(ClassNo),

@@ -2,7 +2,7 @@
 use mm_types::{End, Value};
 
 /// What happens to one end. Whether the end is single or a list is no part of it.
-#[derive(Debug, Drop)]
+#[derive(Drop)]
 pub enum Happening {
     /// A list gains the value at its end; a single end has it in place of what it had.
     Gains(Value),
@@ -21,7 +21,7 @@ pub enum Happening {
 }
 
 /// What happens, and at which end.
-#[derive(Debug, Drop)]
+#[derive(Drop)]
 pub struct Telling {
     pub at: End,
     pub does: Happening,

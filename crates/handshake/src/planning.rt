@@ -5,6 +5,7 @@ ghost use Rattle.mm_types.specs.declared.refused.Refused.TheVariants.{Index, Mem
 ghost use Rattle.models.specs.Model.{reading};
 ghost use Rattle.models.specs.Reading.{takes};
 ghost use Rattle.handshake.specs.Displaced as d;
+ghost use Rattle.handshake.specs.Edits as e;
 ghost use Rattle.handshake.specs.Plans.{HasFittingDocument, HasReadDocument, Plans};
 ghost use Rattle.handshake.specs.Refusals as refusals;
 ghost use Rattle.handshake.specs.Tellings as t;
@@ -20,7 +21,7 @@ use crate::recursion::is_recursive;
 use crate::resolving::resolve_refusal;
 use crate::telling::tellings;
 use crate::tie::{at_end, far_end, opposite_end};
-use link_store::LinkStore;
+use link_store::{LinkStore, Plan};
 use loading::contents_end;
 use mm_types::{End, FeatureNo, ObjectNo, Refused, Text, Value, limits};
 use models::{ModelRef, is_full, is_short, is_short_text};
@@ -52,15 +53,9 @@ pub fn plan<L: LinkStore>(
     if let Some(refused) = late_refusal(model, &change) {
         return Err(refused);
     }
-    let Ok(ties) = cut_ties(alloc, model, &change) else {
-        return Err(Refused::Memory);
-    };
-    let chain = match heard_chain(alloc, model, &change, &ties, is_heard) {
-        Ok(chain) => chain,
+    let (edits, chain) = match links_and_notices(alloc, model, &change, is_heard) {
+        Ok(planned) => planned,
         Err(refused) => return Err(refused),
-    };
-    let Ok(edits) = link_edits(alloc, model, ties, &change) else {
-        return Err(Refused::Memory);
     };
     match value_edits(alloc, model, change) {
         Ok(values) => Ok(Planned {
@@ -69,6 +64,33 @@ pub fn plan<L: LinkStore>(
             chain,
         }),
         Err(refused) => Err(refused),
+    }
+}
+
+/// The edits of links that make a change, and the notices that it tells; none where nobody may hear them.
+fn links_and_notices<L: LinkStore>(
+    alloc: Global,
+    model: &ModelRef<L>,
+    change: &Change,
+    is_heard: bool,
+) -> Result<(Plan, Chain), Refused>
+    requires asked { refusals.early_refusal (reading model.now) change.now ≡ None }
+    requires allowed { refusals.late_refusal (reading model.now) change.now ≡ None }
+    requires fits { HasFittingDocument (reading model.now).next change.now }
+    ensures edits { IfOk result (λ p. p.0 ≡ e.link_edits (reading model.now) change.now) }
+    ensures chain { IfOk result (λ p. p.1 ≡ (if is_heard then t.chain (reading model.now) change.now else [])) }
+    ensures err { IfErr result (λ r. r ≡ Memory) }
+{
+    let Ok(ties) = cut_ties(alloc, model, change) else {
+        return Err(Refused::Memory);
+    };
+    let chain = match heard_chain(alloc, model, change, &ties, is_heard) {
+        Ok(chain) => chain,
+        Err(refused) => return Err(refused),
+    };
+    match link_edits(alloc, model, ties, change) {
+        Ok(edits) => Ok((edits, chain)),
+        Err(_) => Err(Refused::Memory),
     }
 }
 

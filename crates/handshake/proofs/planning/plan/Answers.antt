@@ -3,11 +3,8 @@ use Rattle.handshake.proofs.LoadLemmas.{fits-in}
 use Rattle.handshake.proofs.PlanLemmas.{planned}
 use Rattle.handshake.proofs.planning.plan.Goals as goal
 
-pub heard_chain-requires-clause-fits : goal.heard_chain-requires-clause-fits
-heard_chain-requires-clause-fits g c = fits-in c.args.model.now c.args.change c.is_legal.ensures (sym c.in_default.ensures) c.requires.read
-
-pub link_edits-requires-clause-fits : goal.link_edits-requires-clause-fits
-link_edits-requires-clause-fits g c = fits-in c.args.model.now c.args.change c.is_legal.ensures (sym c.in_default.ensures) c.requires.read
+pub links_and_notices-requires-clause-fits : goal.links_and_notices-requires-clause-fits
+links_and_notices-requires-clause-fits g c = fits-in c.args.model.now c.args.change c.is_legal.ensures (sym c.in_default.ensures) c.requires.read
 
 pub value_edits-requires-clause-fits : goal.value_edits-requires-clause-fits
 value_edits-requires-clause-fits g c = fits-in c.args.model.now c.args.change c.is_legal.ensures (sym c.in_default.ensures) c.requires.read
@@ -15,6 +12,6 @@ value_edits-requires-clause-fits g c = fits-in c.args.model.now c.args.change c.
 pub returns-in-Ok-value_edits : goal.returns-in-Ok-value_edits
 returns-in-Ok-value_edits g c =
     planned c.args.is_heard c.args.model.now c.args.change _ c.is_legal.ensures c.requires.asked (sym c.in_default.ensures) c.requires.read
-    c.in-Ok-link_edits.ensures
+    c.in-Ok.ensures.edits
     c.in-Ok-value_edits.ensures.ok
-    c.in-Ok-heard_chain.ensures.ok
+    c.in-Ok.ensures.chain
