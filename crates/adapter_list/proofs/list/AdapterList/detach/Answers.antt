@@ -1,4 +1,4 @@
-use Rattle.std.proofs.Common.{rules, ◌≡◌, ◌<◌, cond, false, length, ◌∙◌, ap, sym, subst, remove}
+use Rattle.std.proofs.Common.{rules, arith, ◌≡◌, ◌<◌, cond, false, length, ◌∙◌, ap, sym, subst, remove}
 use Rattle.std.proofs.lemmas.List.{length-map}
 use Rattle.std.specs.BTreeSet as tree
 use Rattle.std.specs.List.{IsDistinct}
@@ -15,6 +15,16 @@ notify_changed-requires g c =
     let within : c.in-Some.place < length c.self.inside.attached.items = rw (length-map) at (rw (← c.self.view_is) at c.in-Some.ensures.within) in
     let ready = AreReady-at g.A.Adapter.heard g.A.Adapter.places c.self.inside.attached.items _ _ c.self.invariant.ready within c.remove-target.ensures.value in
     ready.reserve
+
+pub last_notice-requires : goal.last_notice-requires
+last_notice-requires g c =
+    let within : c.in-Some.place < length c.self.inside.attached.items = rw (length-map) at (rw (← c.self.view_is) at c.in-Some.ensures.within) in
+    omega (arith, c.count_before-earlier.ensures.few, within, c.self.invariant.few)
+
+pub last_notice-requires-2 : goal.last_notice-requires-2
+last_notice-requires-2 g c =
+    let within : c.in-Some.place < length c.self.inside.attached.items = rw (length-map) at (rw (← c.self.view_is) at c.in-Some.ensures.within) in
+    omega (arith, c.count_before-earlier.ensures.few, within, c.self.invariant.few)
 
 pub invariant_of-self : goal.invariant_of-self
 invariant_of-self g c =

@@ -1,4 +1,4 @@
-use Rattle.std.proofs.Common.{◌≡◌, ◌+◌, ◌≤◌, ◌++◌, ◌∷◌, [], Bool, suc, true, false, ap, sym, subst, ◌∙◌, arith, append_assoc, drop, filter, length, length-append, vec_len, vec_capacity}
+use Rattle.std.proofs.Common.{◌≡◌, ◌+◌, ◌≤◌, ◌++◌, ◌∷◌, [], Bool, suc, true, false, ap, sym, subst, ◌∙◌, arith, append_assoc, append-nil, drop, filter, length, length-append, vec_len, vec_capacity}
 use Rattle.std.specs.Option.{option_to_list}
 use Rattle.std.proofs.lemmas.List.{drop_all, drop_more}
 use Rattle.std.proofs.lemmas.List.Elements.{All-head}
@@ -59,3 +59,14 @@ pub returns-clause-stay : goal.returns-clause-stay
 returns-clause-stay g c =
     let none : drop c.loop-goes.goes-index c.args.leaves.now ≡ [] = drop_all c.loop-goes.goes-index c.args.leaves.now c.loop-goes-test.false in
     c.into_vec.ensures.items ∙ ap (λ bs. turned bs c.loop-goes.waiting.items) (sym none) ∙ c.loop-goes.invariant.stay ∙ turned-all c.args.leaves.now c.args.attached.items c.requires.as_many
+
+pub returns-clause-told : goal.returns-clause-told
+returns-clause-told g c =
+    let none : drop c.loop-goes.goes-index c.args.leaves.now ≡ [] = drop_all c.loop-goes.goes-index c.args.leaves.now c.loop-goes-test.false in
+    sym (append-nil c.loop-goes.told.items) ∙ ap (λ bs. c.loop-goes.told.items ++ last_told (leaving g.A.Adapter.heard bs c.loop-goes.waiting.items)) (sym none) ∙ c.loop-goes.invariant.told
+
+pub returns-clause-released : goal.returns-clause-released
+returns-clause-released g c =
+    let none : drop c.loop-goes.goes-index c.args.leaves.now ≡ [] = drop_all c.loop-goes.goes-index c.args.leaves.now c.loop-goes-test.false in
+    let heard = g.A.Adapter.heard in
+    sym (append-nil (views_of heard c.loop-goes.released.items)) ∙ ap (λ bs. views_of heard c.loop-goes.released.items ++ release_all (leaving heard bs c.loop-goes.waiting.items)) (sym none) ∙ c.loop-goes.invariant.released
