@@ -1,7 +1,6 @@
 -- What a plan, or its refusal, makes of its command.
 use Rattle.std.proofs.Common.{◌≡◌, inl, inr, Bool, true, false, not, IsTrue, List, [], ◌∷◌, ◌++◌, map, Option, Some, None, Ok, Err, if◌then◌else◌, refl, ap, sym, subst, ◌∙◌}
-use Rattle.std.proofs.lemmas.Bool.{false≢true}
-use Rattle.std.specs.Prelude.{◌+◌, Result, OnOk, is_err, ◌&&◌, nat_le, nat_lt, is_some, ℕ, length, option_map}
+use Rattle.std.specs.Prelude.{◌+◌, Result, ◌&&◌, nat_le, nat_lt, is_some, ℕ, length, option_map}
 use Rattle.std.specs.Option.{option_map_or}
 use Rattle.std.proofs.lemmas.List.{append-nil}
 use Rattle.mm_types.specs.Conditions.{◌else_by◌, ◌unless◌, ◌where_so◌}
@@ -405,10 +404,3 @@ nobody-leaves s _ ns none = released-nobody (tell_chain (reads s).above ns s.ada
 pub targets-tell_chain : (up : Above) (ns : List Notice) (rs : List Listed) (p : Node → Bool) → map (λ r. p r.target) (tell_chain up ns rs) ≡ map (λ r. p r.target) rs
 targets-tell_chain up ns [] p = refl
 targets-tell_chain up ns (r ∷ rs) p = ap (λ (bs : List Bool). p r.target ∷ bs) (targets-tell_chain up ns rs p)
-
----------------------------------------------------------------- what was reserved
-
--- what holds where a call is done, of a call that didn't err
-pub where_done : {T E P : Type 0} (r : Result T E) → is_err r ≡ false → OnOk r P → P
-where_done (Ok x) done holds = holds
-where_done (Err x) done holds = absurd (false≢true (sym done))

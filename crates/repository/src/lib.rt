@@ -6,6 +6,7 @@
 mod command;
 pub mod laws;
 mod leaving;
+mod preparing;
 mod reads;
 mod reply;
 mod repository;

@@ -1,4 +1,4 @@
-use Rattle.std.proofs.Common.{◌≡◌, ◌∙◌, ◌++◌, ℕ, List, [], None, Err, nat_lt, length, if◌then◌else◌, sym, ap, subst}
+use Rattle.std.proofs.Common.{◌≡◌, ◌∙◌, ◌++◌, ℕ, List, None, Err, nat_lt, length, sym, ap, subst}
 use Rattle.mm_values.specs.Values.{ValuesState, applied}
 use Rattle.mm_values.specs.Room.{values_of}
 use Rattle.notice_chain.specs.Listed.{Listed, tell_chain, told_list}
@@ -7,13 +7,12 @@ use Rattle.notice_chain.specs.declared.notice.Notice.{Notice}
 use Rattle.adapter_list.specs.Attached.{views_of}
 use Rattle.adapter_list.specs.Rounds.{RoundView, delivered, round_copies}
 use Rattle.adapter_list.proofs.RoundLemmas.{delivered-round_copies}
-use Rattle.link_store.specs.Holders.{HasNoCycle}
 use Rattle.link_store.specs.Links.{Links}
 use Rattle.link_store.specs.Plans as links
 use Rattle.models.specs.Legal.{kinds_of}
 use Rattle.models.specs.Model.{Model, model_of, reading}
 use Rattle.handshake.specs.Laws.{goes_with}
-use Rattle.handshake.specs.Plans.{HasReadDocument, IsPlanOf, Plans}
+use Rattle.handshake.specs.Plans.{IsPlanOf, Plans}
 use Rattle.handshake.specs.Refusals.{early_refusal}
 use Rattle.handshake.specs.Tellings.{chain}
 use Rattle.repository.specs.Answers.{answer_of}
@@ -25,8 +24,7 @@ use Rattle.repository.specs.Repository.{state}
 use Rattle.repository.specs.State.{IsLegal, State, reads}
 use Rattle.repository.proofs.AdapterLemmas.{Heard, heard_where_attached}
 use Rattle.repository.proofs.LeavingLemmas.{leavers_known}
-use Rattle.repository.proofs.LoadLemmas.{proper-read}
-use Rattle.repository.proofs.PlanLemmas.{chain_err, changed_to, out_of_memory, planned_err, releases_of, where_done}
+use Rattle.repository.proofs.PlanLemmas.{chain_err, changed_to, planned_err, releases_of}
 use Rattle.repository.proofs.LegalLemmas.{stepped-legal, steady-of}
 use Rattle.repository.proofs.repository.Repository.carry_out.Goals as goal
 
@@ -37,84 +35,29 @@ returns-in-Err g c =
     let early : early_refusal (reads s) c.args.change ≡ None = subst (λ (t : State). early_refusal (reads t) c.args.change ≡ None) (sym c.self.view_is) c.requires.asked in
     λ text own.
     let proper : IsProper (reads s) text c.args.change = subst (λ (t : State). IsProper (reads t) text c.args.change) (sym c.self.view_is) own in
-    rw (← c.self.view_is, c.in-Err.ensures.memory) (out_of_memory s text c.args.change proper early)
+    rw (← c.self.view_is) (planned_err s text c.args.change (nat_lt 0 (length s.adapters)) c.in-Err.refused proper early (subst (λ (m : Model). Plans (nat_lt 0 (length s.adapters)) (Err c.in-Err.refused) m c.args.change) is c.in-Err.ensures.refused))
 
-pub plan-requires-clause-read : goal.plan-requires-clause-read
-plan-requires-clause-read g c =
-    let s : State = state g.L.LinkStore.links c.self.inside in
-    let is : c.model-model.result ≡ s.model = c.model-model.ensures ∙ ap (λ (t : State). t.model) (sym c.self.view_is) in
-    let text : List ℕ = c.requires.proper.0 in
-    let proper : IsProper (reads s) text c.args.change = subst (λ (t : State). IsProper (reads t) text c.args.change) (sym c.self.view_is) c.requires.proper.1 in
-    subst (λ (m : Model). HasReadDocument m.metamodel c.args.change) (sym is) (proper-read (reads s) text c.args.change proper)
+pub reserve-requires-clause-no_cycle : goal.reserve-requires-clause-no_cycle
+reserve-requires-clause-no_cycle g c = c.self.invariant.legal.model.links.forest
 
-pub returns-in-Err-plan : goal.returns-in-Err-plan
-returns-in-Err-plan g c =
+pub returns-in-Err-reserve : goal.returns-in-Err-reserve
+returns-in-Err-reserve g c =
     let s : State = state g.L.LinkStore.links c.self.inside in
     let is : c.model-model.result ≡ s.model = c.model-model.ensures ∙ ap (λ (t : State). t.model) (sym c.self.view_is) in
     let early : early_refusal (reads s) c.args.change ≡ None = subst (λ (t : State). early_refusal (reads t) c.args.change ≡ None) (sym c.self.view_is) c.requires.asked in
     λ text own.
     let proper : IsProper (reads s) text c.args.change = subst (λ (t : State). IsProper (reads t) text c.args.change) (sym c.self.view_is) own in
-    rw (← c.self.view_is) (planned_err s text c.args.change (nat_lt 0 c.len-is_heard.result) c.in-Err-plan.refused proper early (subst (λ (m : Model). Plans (nat_lt 0 c.len-is_heard.result) (Err c.in-Err-plan.refused) m c.args.change) is (rw c.in-Err-plan.is at c.plan.ensures)))
-
-pub returns-then-is_err : goal.returns-then-is_err
-returns-then-is_err g c =
-    let s : State = state g.L.LinkStore.links c.self.inside in
-    let is : c.model-model.result ≡ s.model = c.model-model.ensures ∙ ap (λ (t : State). t.model) (sym c.self.view_is) in
-    let early : early_refusal (reads s) c.args.change ≡ None = subst (λ (t : State). early_refusal (reads t) c.args.change ≡ None) (sym c.self.view_is) c.requires.asked in
-    λ text own.
-    let proper : IsProper (reads s) text c.args.change = subst (λ (t : State). IsProper (reads t) text c.args.change) (sym c.self.view_is) own in
-    rw (← c.self.view_is, c.reserve_for.ensures.links) (out_of_memory s text c.args.change proper early)
-
-pub returns-then-is_err-2 : goal.returns-then-is_err-2
-returns-then-is_err-2 g c =
-    let s : State = state g.L.LinkStore.links c.self.inside in
-    let is : c.model-model.result ≡ s.model = c.model-model.ensures ∙ ap (λ (t : State). t.model) (sym c.self.view_is) in
-    let early : early_refusal (reads s) c.args.change ≡ None = subst (λ (t : State). early_refusal (reads t) c.args.change ≡ None) (sym c.self.view_is) c.requires.asked in
-    λ text own.
-    let proper : IsProper (reads s) text c.args.change = subst (λ (t : State). IsProper (reads t) text c.args.change) (sym c.self.view_is) own in
-    rw (← c.self.view_is, c.reserve_for.ensures.links, c.reserve_for-2.ensures.unchanged) (out_of_memory s text c.args.change proper early)
-
-pub reserve_all-requires-clause-no_cycle : goal.reserve_all-requires-clause-no_cycle
-reserve_all-requires-clause-no_cycle g c = subst HasNoCycle (sym c.reserve_for.ensures.links) c.self.invariant.legal.model.links.forest
-
-pub returns-in-Err-reserve_all : goal.returns-in-Err-reserve_all
-returns-in-Err-reserve_all g c =
-    let s : State = state g.L.LinkStore.links c.self.inside in
-    let is : c.model-model.result ≡ s.model = c.model-model.ensures ∙ ap (λ (t : State). t.model) (sym c.self.view_is) in
-    let early : early_refusal (reads s) c.args.change ≡ None = subst (λ (t : State). early_refusal (reads t) c.args.change ≡ None) (sym c.self.view_is) c.requires.asked in
-    λ text own.
-    let proper : IsProper (reads s) text c.args.change = subst (λ (t : State). IsProper (reads t) text c.args.change) (sym c.self.view_is) own in
-    let plan = subst (λ (m : Model). IsPlanOf (nat_lt 0 c.len-is_heard.result) m c.args.change c.in-Ok-plan.planned) is (rw c.in-Ok-plan.is at c.plan.ensures) in
-    let made : c.in-Ok-plan.planned.chain ≡ (if nat_lt 0 (length s.adapters) then chain (reads s) c.args.change else []) = plan.tells ∙ ap (λ (k : ℕ). if nat_lt 0 k then chain (reads s) c.args.change else []) c.len-is_heard.ensures in
-    let heard : Heard (reads s).above c.in-Ok-plan.planned.chain (chain (reads s) c.args.change) s.adapters = heard_where_attached (reads s).above _ _ s.adapters made in
-    rw (← c.self.view_is, c.reserve_for.ensures.links, c.reserve_for-2.ensures.unchanged, c.in-Err-reserve_all.ensures.kept)
-    (chain_err s text c.args.change c.in-Ok-plan.planned.chain c.in-Err-reserve_all.refused proper early plan.allowed heard (rw (c.reserve_for.ensures.links) at c.in-Err-reserve_all.ensures.reason))
-
-pub returns-in_default : goal.returns-in_default
-returns-in_default g c =
-    let s : State = state g.L.LinkStore.links c.self.inside in
-    let early : early_refusal (reads s) c.args.change ≡ None = subst (λ (t : State). early_refusal (reads t) c.args.change ≡ None) (sym c.self.view_is) c.requires.asked in
-    λ text own.
-    let proper : IsProper (reads s) text c.args.change = subst (λ (t : State). IsProper (reads t) text c.args.change) (sym c.self.view_is) own in
-    rw (← c.self.view_is) (out_of_memory s text c.args.change proper early)
-
-pub returns-in_default-room_for : goal.returns-in_default-room_for
-returns-in_default-room_for g c =
-    let s : State = state g.L.LinkStore.links c.self.inside in
-    let early : early_refusal (reads s) c.args.change ≡ None = subst (λ (t : State). early_refusal (reads t) c.args.change ≡ None) (sym c.self.view_is) c.requires.asked in
-    λ text own.
-    let proper : IsProper (reads s) text c.args.change = subst (λ (t : State). IsProper (reads t) text c.args.change) (sym c.self.view_is) own in
-    rw (← c.self.view_is, c.reserve_for.ensures.links, c.reserve_for-2.ensures.unchanged, c.in-Ok-reserve_all.ensures.kept) (out_of_memory s text c.args.change proper early)
-
-pub apply-requires-2 : goal.apply-requires-2
-apply-requires-2 g c = where_done c.reserve_for-2.result (sym c.is_err-2.ensures.value ∙ c.if-is_err-2.false) c.reserve_for-2.ensures.ok
+    let plan = subst (λ (m : Model). IsPlanOf (nat_lt 0 (length s.adapters)) m c.args.change c.in-Ok.prepared.planned) is c.in-Ok.ensures.planned in
+    let heard : Heard (reads s).above c.in-Ok.prepared.planned.chain (chain (reads s) c.args.change) s.adapters = heard_where_attached (reads s).above _ _ s.adapters plan.tells in
+    rw (← c.self.view_is, c.reserve.ensures.links, c.reserve.ensures.values, c.reserve.ensures.adapters)
+    (chain_err s text c.args.change c.in-Ok.prepared.planned.chain c.in-Err-reserve.refused proper early plan.allowed heard c.in-Err-reserve.ensures.reason)
 
 pub notify-told-requires-clause-leavers : goal.notify-told-requires-clause-leavers
 notify-told-requires-clause-leavers g c =
     let s : State = state g.L.LinkStore.links c.self.inside in
     let is : c.model-model.result ≡ s.model = c.model-model.ensures ∙ ap (λ (t : State). t.model) (sym c.self.view_is) in
     let gone = goes_with (reads s) c.args.change in
-    let are = leavers_known s.model c.model-model.result c.args.change _ _ _ _ is c.reserve_all.ensures.kept c.in-Ok-places_of.ensures c.in-Ok-room_for.ensures.places in
+    let are = leavers_known s.model c.model-model.result c.args.change _ _ _ _ is c.reserve.ensures.adapters c.in-Ok.ensures.places c.in-Ok-reserve.ensures.places in
     (gone, are)
 
 pub returns : goal.returns
@@ -124,37 +67,35 @@ returns g c =
     let early : early_refusal (reads s) c.args.change ≡ None = subst (λ (t : State). early_refusal (reads t) c.args.change ≡ None) (sym c.self.view_is) c.requires.asked in
     λ text own.
     let proper : IsProper (reads s) text c.args.change = subst (λ (t : State). IsProper (reads t) text c.args.change) (sym c.self.view_is) own in
-    let plan = subst (λ (m : Model). IsPlanOf (nat_lt 0 c.len-is_heard.result) m c.args.change c.in-Ok-plan.planned) is (rw c.in-Ok-plan.is at c.plan.ensures) in
+    let plan = subst (λ (m : Model). IsPlanOf (nat_lt 0 (length s.adapters)) m c.args.change c.in-Ok.prepared.planned) is c.in-Ok.ensures.planned in
     let up = (reads s).above in
-    let ns : List Notice = c.in-Ok-plan.planned.chain in
-    let made : ns ≡ (if nat_lt 0 (length s.adapters) then chain (reads s) c.args.change else []) = plan.tells ∙ ap (λ (k : ℕ). if nat_lt 0 k then chain (reads s) c.args.change else []) c.len-is_heard.ensures in
-    let heard : Heard up ns (chain (reads s) c.args.change) s.adapters = heard_where_attached up _ _ s.adapters made in
-    let reserved = (rw (c.reserve_for.ensures.links) at c.in-Ok-reserve_all.ensures) in
-    let values = c.apply-2.ensures ∙ ap (λ (v : ValuesState). applied v c.in-Ok-plan.planned.values) c.reserve_for-2.ensures.unchanged ∙ plan.values_made in
-    let made_links = c.apply.ensures.links ∙ ap (λ (l : Links). links.applied l c.in-Ok-plan.planned.edits) c.reserve_for.ensures.links ∙ plan.links_made in
-    let answered = subst (λ (m : Model). c.in-Ok.answer ≡ answer_of (reading m) s.adapters (command_of text c.args.change)) is (c.in-Ok.ensures.ok s.adapters text (subst (λ (m : Model). IsProper (reading m) text c.args.change) (sym is) proper)) in
+    let ns : List Notice = c.in-Ok.prepared.planned.chain in
+    let heard : Heard up ns (chain (reads s) c.args.change) s.adapters = heard_where_attached up _ _ s.adapters plan.tells in
+    let values = c.apply-2.ensures ∙ ap (λ (v : ValuesState). applied v c.in-Ok.prepared.planned.values) c.reserve.ensures.values ∙ plan.values_made in
+    let made_links = c.apply.ensures.links ∙ ap (λ (l : Links). links.applied l c.in-Ok.prepared.planned.edits) c.reserve.ensures.links ∙ plan.links_made in
+    let answered = subst (λ (m : Model). c.in-Ok.prepared.answer ≡ answer_of (reading m) s.adapters (command_of text c.args.change)) is (c.in-Ok.ensures.answer s.adapters text (subst (λ (m : Model). IsProper (reading m) text c.args.change) (sym is) proper)) in
     let gone = goes_with (reads s) c.args.change in
-    let are = leavers_known s.model c.model-model.result c.args.change _ _ _ _ is c.reserve_all.ensures.kept c.in-Ok-places_of.ensures c.in-Ok-room_for.ensures.places in
-    let rs : List Listed = c.reserve_all.new.self.0 in
-    let round : RoundView = c.in-Ok-reserve_all.round in
-    let delivery : delivered round.copies rs ≡ tell_chain up ns s.adapters = ap (λ (r : RoundView). delivered r.copies rs) reserved.round ∙ ap (delivered (round_copies up ns s.adapters)) reserved.kept ∙ delivered-round_copies up ns s.adapters in
+    let are = leavers_known s.model c.model-model.result c.args.change _ _ _ _ is c.reserve.ensures.adapters c.in-Ok.ensures.places c.in-Ok-reserve.ensures.places in
+    let rs : List Listed = c.reserve.new.adapters.0 in
+    let round : RoundView = c.in-Ok-reserve.reserved.0 in
+    let delivery : delivered round.copies rs ≡ tell_chain up ns s.adapters = ap (λ (r : RoundView). delivered r.copies rs) c.in-Ok-reserve.ensures.round ∙ ap (delivered (round_copies up ns s.adapters)) c.reserve.ensures.adapters ∙ delivered-round_copies up ns s.adapters in
     let left : leavers gone round.copies rs ≡ releases_of s c.args.change ns = ap (λ (xs : List Listed). released (λ r. gone r.target) xs) delivery in
-    let told = c.from_vec.ensures ∙ c.notify-told.ensures.told gone are ∙ ap (λ (r : RoundView). r.told ++ (leavers gone round.copies rs).told) reserved.round ∙ ap (λ (x : Released). told_list up ns s.adapters ++ x.told) left in
+    let told = c.from_vec.ensures ∙ c.notify-told.ensures.told gone are ∙ ap (λ (r : RoundView). r.told ++ (leavers gone round.copies rs).told) c.in-Ok-reserve.ensures.round ∙ ap (λ (x : Released). told_list up ns s.adapters ++ x.told) left in
     let views = ap (views_of g.A.Adapter.heard) c.from_vec-2.ensures ∙ c.notify-told.ensures.released gone are ∙ ap (λ (x : Released). x.views) left in
     let adapters = c.notify-told.ensures.others gone are ∙ ap (λ (x : Released). x.others) left in
     let t : State = record { model = model_of c.self.inside.meta (values_of c.apply-2.new.self) (g.L.LinkStore.links c.apply.new.self); adapters = c.notify-told.new.adapters.0 } in
     rw (← c.self.view_is)
-    (changed_to s t text c.args.change ns c.in-Ok.answer c.from_vec.result (views_of g.A.Adapter.heard c.from_vec-2.result) proper early plan.allowed heard reserved.counted answered told views
+    (changed_to s t text c.args.change ns c.in-Ok.prepared.answer c.from_vec.result (views_of g.A.Adapter.heard c.from_vec-2.result) proper early plan.allowed heard c.in-Ok-reserve.ensures.counted answered told views
     (λ i. model_of c.self.inside.meta (values i) (made_links i)) adapters)
 
 pub invariant_of-self-2 : goal.invariant_of-self-2
 invariant_of-self-2 g c =
     let s : State = state g.L.LinkStore.links c.self.inside in
+    let is : c.model-model.result ≡ s.model = c.model-model.ensures ∙ ap (λ (t : State). t.model) (sym c.self.view_is) in
     let text : List ℕ = c.requires.proper.0 in
     let proper : IsProper (reads s) text c.args.change = subst (λ (t : State). IsProper (reads t) text c.args.change) (sym c.self.view_is) c.requires.proper.1 in
-    let is : c.model-model.result ≡ s.model = c.model-model.ensures ∙ ap (λ (t : State). t.model) (sym c.self.view_is) in
-    let of_kind = (subst (λ (m : Model). IsPlanOf (nat_lt 0 c.len-is_heard.result) m c.args.change c.in-Ok-plan.planned) is (rw c.in-Ok-plan.is at c.plan.ensures)).of_kind in
+    let of_kind = (subst (λ (m : Model). IsPlanOf (nat_lt 0 (length s.adapters)) m c.args.change c.in-Ok.prepared.planned) is c.in-Ok.ensures.planned).of_kind in
     record {
       legal = stepped-legal _ _ (command_of text c.args.change) _ (subst (λ (t : State). HasSteadyUris t (command_of text c.args.change)) c.self.view_is (steady-of s text c.args.change proper)) (subst IsLegal c.self.view_is c.self.invariant.legal) (returns g c text c.requires.proper.1);
-      kinds_are = c.apply.ensures.kinds (kinds_of c.self.inside.meta) (c.reserve_for.ensures.kinds (kinds_of c.self.inside.meta) c.self.invariant.kinds_are of_kind) of_kind;
+      kinds_are = c.apply.ensures.kinds (kinds_of c.self.inside.meta) (c.reserve.ensures.kinds (kinds_of c.self.inside.meta) c.self.invariant.kinds_are of_kind) of_kind;
     }

@@ -1,0 +1,198 @@
+//! What is made ready for a change before anything changes.
+ghost use Rattle.std.specs.Prelude.{◌≡◌, ℕ, List, true, false, None, Err, length, nat_lt, option_map, IfOk, IfErr, IfSome, OnOk};
+ghost use Rattle.mm_types.specs.Ends.{value_in};
+ghost use Rattle.mm_types.specs.declared.refused.Refused.TheVariants.{Memory};
+ghost use Rattle.mm_values.specs.Room as values_room;
+ghost use Rattle.notice_chain.specs.Listed.{Listed};
+ghost use Rattle.link_store.specs.Holders.{HasNoCycle, above};
+ghost use Rattle.link_store.specs.LegalSets.{IsLegalSet, Kinds};
+ghost use Rattle.link_store.specs.Plans.{IsPlanOfKind};
+ghost use Rattle.models.specs.Model.{reading};
+ghost use Rattle.models.specs.Reading.{at_end, is_live};
+ghost use Rattle.containment.specs.Forest.{subtree as subtree_of};
+ghost use Rattle.handshake.specs.Laws.{goes_with};
+ghost use Rattle.handshake.specs.Plans.{IsPlanOf, Plans};
+ghost use Rattle.handshake.specs.Refusals.{early_refusal as early_refusal_of};
+ghost use Rattle.adapter_list.specs.Refusals.{IsChainRefusal};
+ghost use Rattle.adapter_list.specs.Rounds.{RoundFits, round_of};
+ghost use Rattle.notice_chain.specs.Listed.{is_chain_full};
+ghost use Rattle.repository.specs.Answers.{answer_of};
+ghost use Rattle.repository.specs.Leaving.{HasRoom, LeaversAre};
+ghost use Rattle.repository.specs.Proper.{IsProper};
+ghost use Rattle.repository.specs.Views.{command_of};
+ghost use Rattle.repository.specs.declared.reply.Answer.TheVariants as answer;
+
+use crate::leaving::{Leaving, places_of, room_for};
+use crate::reply::Answer;
+use adapter_list::{AdapterList, Round};
+use adapters::Adapter;
+use containment::subtree;
+use handshake::{Change, Planned, plan};
+use link_store::LinkStore;
+use mm_types::{End, FeatureNo, Node, ObjectNo, Refused, ResourceNo};
+use mm_values::Values;
+use models::{ModelRef, copied};
+use std::alloc::Global;
+
+/// What a change answers, who leaves with what it destroys, and its plan.
+#[derive(Drop)]
+pub(crate) struct Prepared {
+    pub answer: Answer,
+    /// By places in attach order; `None` where nothing is destroyed.
+    pub places: Option<Vec<bool>>,
+    pub planned: Planned,
+}
+
+/// Prepares a change, or gives the refusal that planning finds. Where no adapter is attached no notice is made.
+pub(crate) fn prepare<L: LinkStore, A: Adapter>(
+    alloc: Global,
+    model: &ModelRef<L>,
+    adapters: &AdapterList<A>,
+    change: Change,
+) -> Result<Prepared, Refused>
+    requires asked { early_refusal_of (reading model.now) change ≡ None }
+    requires proper { (text : List ℕ) × IsProper (reading model.now) text change }
+    ensures answer { IfOk result (λ p. (rs : List Listed) (text : List ℕ) → IsProper (reading model.now) text change → p.answer ≡ answer_of (reading model.now) rs (command_of text change)) }
+    ensures places { IfOk result (λ p. LeaversAre (goes_with (reading model.now) change) adapters.now.0 (option_map (λ bs. bs.items) p.places)) }
+    ensures planned { IfOk result (λ p. IsPlanOf (nat_lt 0 (length adapters.now.0)) model.now change p.planned) }
+    ensures refused { IfErr result (λ r. Plans (nat_lt 0 (length adapters.now.0)) (Err r) model.now change) }
+{
+    let answer = match answered(alloc, model, &change) {
+        Ok(answer) => answer,
+        Err(refused) => return Err(refused),
+    };
+    let Ok(places) = places_of(alloc, model, adapters, &change) else {
+        return Err(Refused::Memory);
+    };
+    match plan(alloc, model, change, adapters.len() > 0) {
+        Ok(planned) => Ok(Prepared {
+            answer,
+            places,
+            planned,
+        }),
+        Err(refused) => Err(refused),
+    }
+}
+
+/// Takes all memory that a plan needs, all places that the adapters need, and room for those that leave. Nothing changes.
+pub(crate) fn reserve<L: LinkStore, A: Adapter>(
+    alloc: Global,
+    store: &mut L,
+    values: &mut Values,
+    adapters: &mut AdapterList<A>,
+    planned: &Planned,
+    places: Option<Vec<bool>>,
+) -> Result<(Round, Option<Leaving<A>>), Refused>
+    requires legal { IsLegalSet (L.links store.old) }
+    requires no_cycle { HasNoCycle (L.links store.old) }
+    ensures links { L.links store.new ≡ L.links store.old }
+    ensures kinds { (m : Kinds) → L.kinds store.old m → IsPlanOfKind m planned.now.edits → L.kinds store.new m }
+    ensures values { values_room.values_of values.new ≡ values_room.values_of values.old }
+    ensures adapters { adapters.new.0 ≡ adapters.old.0 }
+    ensures links_room { OnOk result (L.has_room store.new planned.now.edits) }
+    ensures values_room { OnOk result (values_room.HasRoom values.new planned.now.values) }
+    ensures round { IfOk result (λ p. p.0 ≡ round_of (above (L.links store.old)) planned.now.chain adapters.old.0) }
+    ensures fits { IfOk result (λ p. RoundFits adapters.new.0 adapters.new.1 p.0) }
+    ensures counted { OnOk result (is_chain_full (above (L.links store.old)) planned.now.chain adapters.old.0 ≡ false) }
+    ensures places { IfOk result (λ p. option_map (λ x. x.places.items) p.1 ≡ option_map (λ bs. bs.items) places) }
+    ensures room { IfOk result (λ p. IfSome p.1 (HasRoom (length p.0.told))) }
+    ensures reason { IfErr result (IsChainRefusal (is_chain_full (above (L.links store.old)) planned.now.chain adapters.old.0)) }
+{
+    if store.reserve_for(&planned.edits).is_err() {
+        return Err(Refused::Memory);
+    }
+    if values.reserve_for(&planned.values).is_err() {
+        return Err(Refused::Memory);
+    }
+    let round = match adapters.reserve_all(store, &planned.chain) {
+        Ok(round) => round,
+        Err(refused) => return Err(refused),
+    };
+    match room_for(alloc, places, round.told_len()) {
+        Ok(leaving) => Ok((round, leaving)),
+        Err(_) => Err(Refused::Memory),
+    }
+}
+
+/// What a change answers that is not refused. Errs only with `Memory`.
+fn answered<L: LinkStore>(
+    alloc: Global,
+    model: &ModelRef<L>,
+    change: &Change,
+) -> Result<Answer, Refused>
+    requires asked { early_refusal_of (reading model.now) change.now ≡ None }
+    requires proper { (text : List ℕ) × IsProper (reading model.now) text change.now }
+    ensures ok { IfOk result (λ a. (rs : List Listed) (text : List ℕ) → IsProper (reading model.now) text change.now → a ≡ answer_of (reading model.now) rs (command_of text change.now)) }
+    ensures memory { IfErr result (λ r. r ≡ Memory) }
+{
+    model.is_legal();
+    match change {
+        Change::Create(_) => Ok(Answer::Object(ObjectNo(model.next() as u32))),
+        Change::NewResource(_) => Ok(Answer::Resource(ResourceNo(model.resources() as u32))),
+        Change::Delete(object) => destroyed_answer(alloc, model, *object),
+        Change::Resolve { target, .. } => Ok(Answer::Object(target.unwrap_or(ObjectNo(0)))),
+        Change::Load(_, doc) => Ok(Answer::Loaded(doc.objects.len() as u64)),
+        Change::Set { .. } | Change::Unset { .. } => Ok(Answer::Done),
+        Change::Add {
+            node,
+            feature,
+            value,
+            ..
+        } => Ok(Answer::Flag(!model.is_repeat(at_end(node, feature), value))),
+        Change::RemoveValue {
+            node,
+            feature,
+            value,
+        } => Ok(Answer::Flag(model.has(at_end(node, feature), value))),
+        Change::Remove {
+            node,
+            feature,
+            index,
+        } => value_answer(alloc, model, at_end(node, feature), *index),
+        Change::Move {
+            node,
+            feature,
+            from,
+            ..
+        } => value_answer(alloc, model, at_end(node, feature), *from),
+    }
+}
+
+// How many objects go with one, as an answer. Errs only with `Memory`.
+fn destroyed_answer<L: LinkStore>(
+    alloc: Global,
+    model: &ModelRef<L>,
+    object: ObjectNo,
+) -> Result<Answer, Refused>
+    requires live { is_live (reading model.now) object ≡ true }
+    ensures ok { IfOk result (λ a. a ≡ answer.Destroyed (length (subtree_of (reading model.now) object))) }
+    ensures memory { IfErr result (λ r. r ≡ Memory) }
+{
+    match subtree(alloc, model, object) {
+        Ok(objects) => Ok(Answer::Destroyed(objects.len() as u64)),
+        Err(_) => Err(Refused::Memory),
+    }
+}
+
+// The value at a place of a list, as an answer. Errs only with `Memory`.
+fn value_answer<L: LinkStore>(
+    alloc: Global,
+    model: &ModelRef<L>,
+    end: End,
+    index: u32,
+) -> Result<Answer, Refused>
+    ensures ok { IfOk result (λ a. a ≡ answer.Value (value_in ((reading model.now).values end) index)) }
+    ensures memory { IfErr result (λ r. r ≡ Memory) }
+{
+    let value = copied(alloc, model.value_in(end, index))?;
+    Ok(Answer::Value(value))
+}
+
+fn at_end(node: &Node, feature: &FeatureNo) -> End
+    ensures { result ≡ at_end node.now feature.now }
+{
+    End {
+        node: *node,
+        feature: *feature,
+    }
+}
