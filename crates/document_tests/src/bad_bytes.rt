@@ -1,5 +1,5 @@
 //! Documents with a byte replaced, and documents that are cut: each is read or refused for a cause.
-use crate::library::{library, refusal};
+use crate::resource::{library, refusal};
 use mm_meta::Meta;
 use mm_types::{DocFault, Refused};
 use std::alloc::{AllocError, Global};

@@ -1,5 +1,5 @@
 //! Why documents are refused: each cause by documents to which it is the lowest that applies.
-use crate::library::{library, of_roots, told};
+use crate::resource::{library, of_roots, told};
 use std::test::Fail;
 
 /// Whole documents, and their refusals.

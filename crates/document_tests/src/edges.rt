@@ -1,5 +1,5 @@
 //! Documents at their limits: long texts, deep objects and many of them.
-use crate::library::{library, of_roots, refusal};
+use crate::resource::{library, of_roots, refusal};
 use mm_meta::Meta;
 use mm_types::{DocFault, Refused};
 use std::alloc::{AllocError, Global};

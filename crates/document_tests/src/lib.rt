@@ -1,5 +1,7 @@
-//! Tests of documents of resources, and of the texts that address objects: what documents are read as and why others are
-//! refused, what joining gives, and which texts are fragments.
+//! Tests of the crates that read documents, by calls that a document alone does not make: metamodels and their look-ups,
+//! documents of resources, and the texts that address objects.
+//!
+//! What is told of a metamodel in printed text, accepted or its first fault, stands among the cases.
 #![tactic(auto)]
 
 #[cfg(test)]
@@ -11,10 +13,24 @@ mod edges;
 #[cfg(test)]
 mod fragments;
 #[cfg(test)]
+mod graphs;
+#[cfg(test)]
 mod joining;
 #[cfg(test)]
 mod library;
 #[cfg(test)]
-mod memory;
+mod look_ups;
+#[cfg(test)]
+mod metamodel_keys;
+#[cfg(test)]
+mod printed;
+#[cfg(test)]
+mod raw_metamodels;
 #[cfg(test)]
 mod readings;
+#[cfg(test)]
+mod resource;
+#[cfg(test)]
+mod values;
+#[cfg(test)]
+mod words;

@@ -1,5 +1,5 @@
 //! What documents are read as. The readings are written out by hand.
-use crate::library::{library, of_roots, told};
+use crate::resource::{library, of_roots, told};
 use std::test::Fail;
 
 /// Roots of documents, and what they are read as.

@@ -1,11 +1,13 @@
-//! Tests of the crates of models, by calls that a script can't make: values that no script names, adapters of other kinds,
-//! and what is dropped.
+//! Tests of the crates of models and scripts, by calls that a script can't make: values that no script names, adapters of
+//! other kinds, what is dropped, streams that fail, and what a command line gives.
 //!
 //! What a script prints stands among the cases.
 #![tactic(auto)]
 
 #[cfg(test)]
 mod adapter_kinds;
+#[cfg(test)]
+mod arguments;
 #[cfg(test)]
 mod attached;
 #[cfg(test)]
@@ -31,6 +33,8 @@ mod notices;
 #[cfg(test)]
 mod poor;
 #[cfg(test)]
+mod printed;
+#[cfg(test)]
 mod refused_adapters;
 #[cfg(test)]
 mod refused_edits;
@@ -39,7 +43,13 @@ mod replies;
 #[cfg(test)]
 mod repositories;
 #[cfg(test)]
+mod runs;
+#[cfg(test)]
+mod script_text;
+#[cfg(test)]
 mod stored_values;
+#[cfg(test)]
+mod streams;
 #[cfg(test)]
 mod tally;
 #[cfg(test)]

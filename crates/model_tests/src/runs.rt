@@ -1,11 +1,8 @@
 //! Runs over streams that give or take a byte at a time, and that fail.
+use crate::books::books;
 use crate::streams::{Narrow, OneByte};
 use adapters::Recorder;
 use link_store::{LinkStore, RowStore};
-use mm_check::check;
-use mm_load::load_meta;
-use mm_meta::Meta;
-use mm_types::MetaFault;
 use script_program::{Summary, run};
 use script_streams::RunFault;
 use slot_store::SlotStore;
@@ -13,17 +10,6 @@ use std::alloc::Global;
 use std::io::{Read, Write};
 use std::process::Abort;
 use std::test::Fail;
-
-/// Books with a name and a number of pages.
-const BOOKS: &str = r#"{"classes":[{"name":"Book","features":[
-{"name":"name","kind":"attribute","type":"EString"},
-{"name":"pages","kind":"attribute","type":"EInt","default":"100"}]}]}"#;
-
-fn books(alloc: Global) -> Result<Box<Meta>, MetaFault> {
-    let raw = load_meta(alloc, BOOKS.as_bytes())?;
-    let meta = check(alloc, raw)?;
-    Box::new(alloc, meta).map_err(|_| MetaFault::Memory)
-}
 
 /// Runs a script over an empty repository of books, with a store of links.
 fn run_books<L: LinkStore, R: Read, W: Write>(
