@@ -5,7 +5,7 @@ use link_store::RowStore;
 use mm_check::check;
 use mm_load::load_meta;
 use mm_meta::Meta;
-use mm_types::{AdapterNo, ClassNo, FeatureNo, MetaFault, Node, ObjectNo, Refused, Text, Value};
+use mm_types::{AdapterNo, ClassNo, FeatureNo, Node, ObjectNo, Refused, Text, Value};
 use repository::Repository;
 use std::alloc::{AllocError, Global};
 use std::test::Fail;
@@ -36,13 +36,13 @@ pub(crate) fn text(alloc: Global, text: &str) -> Result<Value, AllocError> {
 }
 
 /// The metamodel of a document.
-pub(crate) fn metamodel(alloc: Global, document: &str) -> Result<Box<Meta>, MetaFault> {
+pub(crate) fn metamodel(alloc: Global, document: &str) -> Result<Box<Meta>, Fail> {
     let raw = load_meta(alloc, document.as_bytes())?;
     let meta = check(alloc, raw)?;
-    Box::new(alloc, meta).map_err(|_| MetaFault::Memory)
+    Ok(Box::new(alloc, meta)?)
 }
 
-pub(crate) fn books(alloc: Global) -> Result<Box<Meta>, MetaFault> {
+pub(crate) fn books(alloc: Global) -> Result<Box<Meta>, Fail> {
     metamodel(alloc, BOOKS)
 }
 
@@ -50,13 +50,13 @@ pub(crate) fn books(alloc: Global) -> Result<Box<Meta>, MetaFault> {
 pub(crate) fn empty<A: Adapter>(
     alloc: Global,
     meta: Box<Meta>,
-) -> Result<Box<RowRepository<A>>, MetaFault> {
-    let meta = Box::into_inner(meta);
-    Box::new(alloc, Repository::new(alloc, meta)).map_err(|_| MetaFault::Memory)
+) -> Result<Box<RowRepository<A>>, Fail> {
+    let repository = Repository::new(alloc, Box::into_inner(meta));
+    Ok(Box::new(alloc, repository)?)
 }
 
 /// An empty repository of books.
-pub(crate) fn repository<A: Adapter>(alloc: Global) -> Result<Box<RowRepository<A>>, MetaFault> {
+pub(crate) fn repository<A: Adapter>(alloc: Global) -> Result<Box<RowRepository<A>>, Fail> {
     empty(alloc, books(alloc)?)
 }
 
