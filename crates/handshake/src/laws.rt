@@ -11,8 +11,8 @@ ghost use Rattle.handshake.specs.Telling.{happened_all, has_flag, told};
 ghost use Rattle.handshake.specs.declared.change.Change.{Change};
 ghost use Rattle.handshake.specs.declared.happening.Telling.{Telling};
 
-/// A change of a legal model, where nothing refuses it, leaves a legal one: both ends of each link agree, no object has two
-/// containers or contains itself, and each end has values of its feature's type or proxies, no more of them than it may.
+/// A change of a legal model, where nothing refuses it, leaves a legal model, if what it brings is as it has to be: the URI of a new
+/// resource as joining gives it, and a document that is loaded one that reading gives, with proxies that have the texts of ones.
 pub fn keeps_legal()
     ensures { (s : Model) (c : Change) → KeepsLegal s c }
 {}
@@ -23,20 +23,21 @@ pub fn the_notices_of_tellings_replay_them()
     ensures { (m : Metamodel) (e : Ends) (ts : List Telling) → replayed_all (has_flag m) e (told m e ts) ≡ happened_all m e ts }
 {}
 
-/// The chain of a change, where nothing refuses it, replays it: from what the ends of a legal model hold it makes what they hold
-/// after the change, at every node that the change does not destroy.
+/// The chain of a change of a legal model, where nothing refuses it, replays it, if a document that it loads is one that reading gives:
+/// from what the ends hold it makes what they hold after the change, at every node but those that the change destroys and, for a load,
+/// the objects from the number on that its first object gets.
 pub fn the_chain_of_a_change_replays_it()
     ensures { (s : Model) (c : Change) → ChainReplays s c }
 {}
 
-/// A chain tells no end twice, but a list that is unset, which loses its values one by one, and the lists that hold what a change
-/// destroys. Where a list is unset no far end is told twice, and none of them is the list.
+/// A change of a legal model, where nothing refuses it, tells no end twice, unless it is an unset of a list, a deletion or a load. An
+/// unset of a list tells no far end twice, and the list is none of the far ends. Of a deletion and a load nothing is said.
 pub fn a_chain_tells_no_end_twice()
     ensures ends { (s : Model) (c : Change) → TellsNoEndTwice s c }
     ensures far_ends { (s : Model) (n : Node) (f : FeatureNo) → FarEndsAreApart s n f }
 {}
 
-/// A change cuts no link twice, by whichever of its ends it is named.
+/// A change of a legal model, where nothing refuses it, cuts no link twice, by whichever of its ends the link is named.
 pub fn a_change_cuts_no_link_twice()
     ensures { (s : Model) (c : Change) → CutsNoLinkTwice s c }
 {}
