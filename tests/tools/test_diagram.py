@@ -1,0 +1,140 @@
+"""diagram: what is drawn of metamodels and of documents."""
+
+import json
+import re
+
+from support import TOP, ToolTest
+
+LIBRARY = TOP / 'examples/library.json'
+CLASSES = """classDiagram
+  class Genre {
+    <<enumeration>>
+    NOVEL
+    POEM
+    PLAY
+  }
+  class Named {
+    <<abstract>>
+    name : EString
+  }
+  class Library
+  class Book {
+    pages : EInt = 100
+    genre : Genre
+    tags : EString [0..*]
+    scores : EInt [0..3]
+    note : EString
+  }
+  class Person
+  class Folder
+  Named <|-- Library
+  Named <|-- Book
+  Named <|-- Person
+  Library "0..1" *-- "0..*" Book : books / library
+  Library *-- "0..*" Person : members
+  Library "0..1" -- "0..2" Person : staff / job
+  Book "0..1" -- "0..1" Book : next / prev
+  Person --> "0..*" Book : likes
+  Person --> "1..1" Book : favourite
+  Folder "0..1" *-- "0..*" Folder : subs / parent
+"""
+DOCUMENT = {'format': 1, 'roots': [{'class': 'Library', 'features': {
+    'name': 'T"}{',
+    'books': [{'class': 'Book', 'features': {'tags': ['a', 'b'], 'genre': 'POEM', 'next': '//@books.1'}},
+              {'class': 'Book', 'features': {'note': None, 'prev': '//@books.0'}}],
+    'members': [{'class': 'Person', 'features': {'job': '/', 'likes': ['//@books.1', 'b#/']}}],
+    'staff': ['//@members.0'],
+}}]}
+OBJECTS = """classDiagram
+  class box_0["/ : Library"] {
+    name = #34;T#92;#34;#125;#123;#34;
+  }
+  class box_1["//#64;books.0 : Book"] {
+    genre = POEM
+    tags = [#34;a#34;, #34;b#34;]
+  }
+  class box_2["//#64;books.1 : Book"] {
+    note = null
+  }
+  class box_3["//#64;members.0 : Person"]
+  class box_4["b#35;/"] {
+    <<proxy>>
+  }
+  box_0 *-- box_1 : books
+  box_0 *-- box_2 : books
+  box_0 *-- box_3 : members
+  box_0 -- box_3 : staff / job
+  box_1 -- box_2 : next / prev
+  box_3 --> box_2 : likes
+  box_3 --> box_4 : likes
+"""
+GRAPH = """digraph model {
+  rankdir=BT;
+  node [shape=record];
+  n0 [label="{«enumeration»\\nE|A\\l}"];
+  n1 [label="{«abstract»\\nA|x\\ :\\ E\\ [1..1]\\l}"];
+  n2 [label="{B}"];
+  n2 -> n1 [arrowhead=empty];
+  n2 -> n1 [dir=both, arrowtail=diamond, arrowhead=none, label="parts", headlabel="0..*"];
+}
+"""
+SMALL = {'enums': [{'name': 'E', 'literals': ['A']}], 'classes': [
+    {'name': 'A', 'abstract': True, 'features': [{'name': 'x', 'kind': 'attribute', 'type': 'E', 'lower': 1}]},
+    {'name': 'B', 'supers': ['A'], 'features': [{'name': 'parts', 'kind': 'reference', 'type': 'A', 'upper': -1, 'containment': True}]},
+]}
+
+# A metamodel document, and the line that is told of it.
+FAULTS = [
+    ('[]', 'ROOM/m.json: the document is no object'),
+    ('{}', 'ROOM/m.json: the document: classes is absent or of another kind'),
+    ('{"classes":[1]}', 'ROOM/m.json: class 0 is no object'),
+    ('{"classes":[{"name":1}]}', 'ROOM/m.json: class 0: name is absent or of another kind'),
+    ('{"classes":[{"name":"A","supers":["B"]}]}', 'ROOM/m.json: class 0: no class B'),
+    ('{"classes":[{"name":"A","features":[{"name":"x","kind":"attribute","type":"A"}]}]}',
+     'ROOM/m.json: class 0 feature 0: no attribute has the type A'),
+    ('{"classes":[{"name":"A","features":[{"name":"x","kind":"reference","type":"A","opposite":"y"}]}]}', 'ROOM/m.json: A.x: no opposite y'),
+]
+
+
+class Diagrams(ToolTest):
+    """Diagrams, letter by letter."""
+
+    def draw(self, meta, *words):
+        """The diagram of a metamodel."""
+        return self.tool('diagram', self.file('m.json', json.dumps(meta)), *words)
+
+    def test_classes(self):
+        self.assertEqual(self.tool('diagram', LIBRARY), CLASSES)
+
+    def test_readme(self):
+        blocks = re.findall(r'```mermaid\n(.*?)```', (TOP / 'README.md').read_text(), re.S)
+        self.assertEqual(blocks, [CLASSES])
+
+    def test_objects(self):
+        self.assertEqual(self.tool('diagram', LIBRARY, self.file('d.json', json.dumps(DOCUMENT))), OBJECTS)
+
+    def test_graphviz(self):
+        self.assertEqual(self.draw(SMALL, '--dot'), GRAPH)
+
+    def test_names_that_say_something(self):
+        names = ['class', 'End', 'A"]\n}', 'box_0', 'box_0']
+        made = self.draw({'classes': [{'name': name} for name in names]})
+        self.assertEqual(
+            made.splitlines()[1:],
+            ['  class box_0_2["class"]', '  class box_1["End"]', '  class box_2["A#34;] #125;"]', '  class box_0', '  class box_4["box_0"]'],
+        )
+
+    def test_texts_in_graphviz(self):
+        document = {'format': 1, 'roots': [{'class': 'Book', 'features': {'name': 'a"\\{|<&lt;\n'}}]}
+        made = self.tool('diagram', '--dot', LIBRARY, self.file('d.json', json.dumps(document)))
+        self.assertIn(r'name\ =\ \"a\\\"\\\\\{\|\<&amp;lt;\\n\"\l', made)
+
+    def test_long_texts(self):
+        document = {'format': 1, 'roots': [{'class': 'Book', 'features': {'name': 'x' * 50}}]}
+        made = self.tool('diagram', LIBRARY, self.file('d.json', json.dumps(document)))
+        self.assertIn('    name = #34;' + 'x' * 38 + '…\n', made)
+
+    def test_faults(self):
+        for text, line in FAULTS:
+            with self.subTest(text=text):
+                self.assert_fault(line, 'diagram', self.file('m.json', text))

@@ -1,0 +1,133 @@
+"""xmi2doc and doc2xmi: of each .xmi of the folder xmi, .json is the document, .args has the arguments before the file, and .notes what is told."""
+
+import json
+
+from support import HERE, URI, ToolTest, load_and_save, run_tool
+
+FOLDER = HERE / 'xmi'
+CASES = sorted(file.stem for file in FOLDER.glob('*.xmi'))
+
+
+def compact(document):
+    """The text that the repository saves: keys in order, no spaces."""
+    return json.dumps(document, ensure_ascii=False, sort_keys=True, separators=(',', ':')) + '\n'
+
+
+def ecore_of(args):
+    """The Ecore files among the arguments."""
+    return [word for word in args if word.endswith('.ecore')]
+
+
+class Instances(ToolTest):
+    """Each case is read, loaded, saved, written and read again."""
+
+    def check(self, name):
+        """Checks a case."""
+        args = (FOLDER / f'{name}.args').read_text().split()
+        ended = run_tool('xmi2doc', *args, f'xmi/{name}.xmi')
+        self.assertEqual(ended.status, 0, ended.err)
+        document = json.loads((FOLDER / f'{name}.json').read_text())
+        self.assertEqual(ended.out, compact(document))
+        told = [line[len('xmi2doc: '):].replace(f'xmi/{name}', name) for line in ended.err.splitlines()]
+        notes = FOLDER / f'{name}.notes'
+        self.assertEqual(sorted(told), sorted(notes.read_text().splitlines() if notes.exists() else []))
+        self.check_round_trip(name, args, ended.out)
+
+    def check_round_trip(self, name, args, document):
+        """Checks that a document is loaded, saved, written as XMI and read again as the same."""
+        meta = run_tool('ecore2mm', *ecore_of(args)).out
+        answer, saved = load_and_save(meta, document)
+        self.assertEqual((answer[:7], saved), ('loaded ', document))
+        options = ['--ecore', *ecore_of(args), '--uri', URI]
+        made = self.tool('doc2xmi', *options, self.file('saved.json', saved))
+        again = run_tool('xmi2doc', *options, self.file(f'{name}.xmi', made))
+        self.assertEqual((again.status, again.out, again.err), (0, document, ''))
+
+
+for case in CASES:
+    setattr(Instances, f'test_{case}', lambda self, name=case: self.check(name))
+
+
+class Written(ToolTest):
+    """What doc2xmi writes, letter by letter."""
+
+    def xmi(self, document, ecore='library', *options):
+        """The XMI of a document."""
+        return self.tool('doc2xmi', '--ecore', f'ecore/{ecore}.ecore', *options, self.file('d.json', json.dumps(document)))
+
+    def test_texts(self):
+        text = 'a<b>&"c"\'\t\n\r é\u2028'
+        features = {'name': text, 'tags': [text, ''], 'note': None, 'genre': 'PLAY', 'pages': 100}
+        made = self.xmi({'format': 1, 'roots': [{'class': 'Book', 'features': features}]})
+        self.assertEqual(
+            made,
+            '<?xml version="1.0" encoding="UTF-8"?>\n'
+            '<library:Book xmi:version="2.0" xmlns:xmi="http://www.omg.org/XMI" '
+            'xmlns:xsi="http://www.w3.org/2001/XMLSchema-instance" xmlns:library="http://m.example/library" '
+            'name="a&lt;b&gt;&amp;&quot;c&quot;\'&#x9;&#xA;&#xD; é\u2028" pages="100" genre="stage play">\n'
+            '  <tags>a&lt;b&gt;&amp;"c"\'\t\n&#xD; é\u2028</tags>\n'
+            '  <tags></tags>\n'
+            '  <note xsi:nil="true"/>\n'
+            '</library:Book>\n',
+        )
+
+    def test_types_and_proxies(self):
+        features = {'part_list': [{'class': 'B', 'features': {}}], 'one': 'b#/', 'many': ['#//@part_list.0', 'c#/0/@x', '/']}
+        made = self.xmi({'format': 1, 'roots': [{'class': 'A', 'features': features}]}, 'kinds')
+        self.assertEqual(
+            made.splitlines()[2:],
+            [
+                '  <part-list xsi:type="kinds:B"/>',
+                '  <one xsi:type="kinds:A" href="b#/"/>',
+                '  <many href="#//@part-list.0"/>',
+                '  <many xsi:type="kinds:A" href="c#/0/@x"/>',
+                '  <many href="#/"/>',
+                '</kinds:A>',
+            ],
+        )
+
+    def test_uri(self):
+        document = {'format': 1, 'roots': [{'class': 'Person', 'features': {
+            'likes': ['http://m.example/b#/', 'http://n.example/b#/', 'http://m.example/d/e#/', 'http://m.example/a#/1'],
+        }}, {'class': 'Book', 'features': {}}]}
+        made = self.xmi(document, 'library', '--uri', URI)
+        self.assertEqual(
+            [line.strip() for line in made.splitlines() if 'href' in line],
+            ['<likes href="b#/"/>', '<likes href="http://n.example/b#/"/>', '<likes href="d/e#/"/>', '<likes href="#/1"/>'],
+        )
+
+
+class Read(ToolTest):
+    """What xmi2doc reads whatever the encoding, and how deep."""
+
+    def folder(self, levels):
+        """A file of folders, one in the other."""
+        head = '<l:Folder xmlns:l="http://m.example/library">'
+        return head + '<subs>' * (levels - 1) + '</subs>' * (levels - 1) + '</l:Folder>'
+
+    def test_forty_levels(self):
+        out = self.tool('xmi2doc', '--ecore', 'ecore/library.ecore', self.file('a.xmi', self.folder(40)))
+        self.assertEqual(out.count('"Folder"'), 40)
+        meta = (HERE / 'ecore/library.json').read_text()
+        self.assertEqual(load_and_save(meta, out), ('loaded 40', out))
+
+    def test_one_level_more(self):
+        self.assert_fault(
+            'ROOM/a.xmi:1: an object at level 41; a document has 40 levels at most',
+            'xmi2doc', '--ecore', 'ecore/library.ecore', self.file('a.xmi', self.folder(41)),
+        )
+
+    def test_encodings(self):
+        text = '<l:Person xmlns:l="http://m.example/library" name="é"/>'
+        for encoding in ('utf-8', 'utf-16', 'iso-8859-1', 'utf-8-sig', 'cp1252'):
+            named = encoding.replace('-sig', '')
+            content = f'<?xml version="1.0" encoding="{named}"?>{text}'.encode(encoding)
+            with self.subTest(encoding=encoding):
+                out = self.tool('xmi2doc', '--ecore', 'ecore/library.ecore', self.file('a.xmi', content))
+                self.assertEqual(out, '{"format":1,"roots":[{"class":"Person","features":{"name":"é"}}]}\n')
+
+    def test_longest_text(self):
+        for text, status in (('é' * 32767 + 'x', 0), ('é' * 32768, 1)):
+            content = f'<l:Person xmlns:l="http://m.example/library" name="{text}"/>'
+            ended = run_tool('xmi2doc', '--ecore', 'ecore/library.ecore', self.file('a.xmi', content))
+            self.assertEqual(ended.status, status, ended.err)

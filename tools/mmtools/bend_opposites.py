@@ -1,0 +1,52 @@
+"""Bends opposites: each end declares its feature in the class that is the type of the other, and names the other."""
+
+from __future__ import annotations
+
+from typing import Dict
+
+from .metamodel import MFeature
+from .notes import Notes
+
+
+def fault_of(one: MFeature, other: MFeature) -> str:
+    """Why two features are no opposites here; empty if they are."""
+    if one is other:
+        return 'it names itself'
+    if other.source is None or one.source is None or other.source.opposite is not one.source:
+        return 'the other end does not name it'
+    if one.containment and other.containment:
+        return 'both ends contain'
+    if one.type is not other.owner or other.type is not one.owner:
+        return 'an end is only inherited by the type of the other'
+    return ''
+
+
+def join_ends(one: MFeature, other: MFeature, notes: Notes) -> None:
+    """Makes two features opposites. The end of the part has one holder at most."""
+    one.opposite = other
+    if other.containment and one.upper != 1:
+        notes.tell('bounds', one.qualified, f'{one.lower}..{one.upper} becomes {min(one.lower, 1)}..1: it leads to a holder')
+        one.lower, one.upper = min(one.lower, 1), 1
+
+
+def leave_out(one: MFeature, why: str, notes: Notes) -> None:
+    """Leaves out the end of a part whose holder's end is no opposite here; its holder is known without."""
+    one.owner.features.remove(one)
+    if one.source is not None:
+        one.owner.left[one.source.name] = 'its opposite is a containment'
+    notes.tell('opposite', one.qualified, f'left out with its opposite: {why}; `container` tells the holder')
+
+
+def bend_opposites(features: Dict[object, MFeature], notes: Notes) -> None:
+    """Joins the ends of all features."""
+    for one in list(features.values()):
+        if one.source is None or one.source.opposite_link is None:
+            continue
+        other = features.get(one.source.opposite)
+        why = 'it is no reference here' if other is None or not other.is_reference or not one.is_reference else fault_of(one, other)
+        if not why and other is not None:
+            join_ends(one, other, notes)
+        elif other is not None and other.containment and not one.containment and why.startswith('an end'):
+            leave_out(one, why, notes)
+        else:
+            notes.tell('opposite', one.qualified, f'has none here: {why}')

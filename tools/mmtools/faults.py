@@ -1,0 +1,65 @@
+"""How a tool ends: with its output, or with one line that says what is wrong."""
+
+from __future__ import annotations
+
+import os
+import sys
+from typing import Callable, NoReturn, Optional
+
+
+class ToolError(Exception):
+    """A fault of the input. Its text is the line that the user reads."""
+
+
+def fault(file: str, line: Optional[int], text: str) -> NoReturn:
+    """Ends with a fault at a line of a file."""
+    place = file if line is None else f'{file}:{line}'
+    raise ToolError(f'{place}: {text}')
+
+
+def one_line(text: str) -> str:
+    """The text without line breaks and other control characters, so that it prints as one line."""
+    return ''.join(char if char.isprintable() else ' ' for char in text)
+
+
+def run(name: str, main: Callable[[], None]) -> NoReturn:
+    """Runs a tool, and ends the process: 0 for its output, 1 for a fault, which is told in one line."""
+    try:
+        main()
+        sys.stdout.flush()
+    except ToolError as found:
+        print(one_line(f'{name}: {found}'), file=sys.stderr)
+        sys.exit(1)
+    except RecursionError:
+        print(f'{name}: the input nests too deep', file=sys.stderr)
+        sys.exit(1)
+    except MemoryError:
+        print(f'{name}: the input is too large for the memory', file=sys.stderr)
+        sys.exit(1)
+    except BrokenPipeError:
+        os.dup2(os.open(os.devnull, os.O_WRONLY), sys.stdout.fileno())
+        sys.exit(1)
+    sys.exit(0)
+
+
+def read_bytes(path: str) -> bytes:
+    """The bytes of a file; `-` is the standard input."""
+    try:
+        if path == '-':
+            return sys.stdin.buffer.read()
+        with open(path, 'rb') as file:
+            return file.read()
+    except (OSError, ValueError) as found:
+        fault(path, None, getattr(found, 'strerror', None) or str(found))
+
+
+def write_text(path: Optional[str], text: str) -> None:
+    """Writes a text in UTF-8 to a file, or to the standard output."""
+    if path is None:
+        sys.stdout.buffer.write(text.encode('utf-8'))
+        return
+    try:
+        with open(path, 'wb') as file:
+            file.write(text.encode('utf-8'))
+    except (OSError, ValueError) as found:
+        fault(path, None, getattr(found, 'strerror', None) or str(found))

@@ -1,0 +1,34 @@
+"""Names as the repository takes them: each is bent to one, and made another than those that are taken."""
+
+from __future__ import annotations
+
+import re
+from typing import Container
+
+from .metamodel import LONGEST_NAME
+
+NAME = re.compile(r'[A-Za-z_][A-Za-z0-9_]*', re.ASCII)
+OTHER = re.compile(r'[^A-Za-z0-9_]', re.ASCII)
+RESERVED = ('EString', 'EInt', 'ELong', 'EBoolean', 'Resource')
+
+
+def is_name(text: str) -> bool:
+    """Whether a text is a name of at most 255 bytes."""
+    return NAME.fullmatch(text) is not None and len(text) <= LONGEST_NAME
+
+
+def bent(text: str) -> str:
+    """The name of a text: `_` for each character that no name has, `_` before a digit, and 255 characters at most."""
+    made = OTHER.sub('_', text)
+    if not made or made[0].isdigit():
+        made = '_' + made
+    return made[:LONGEST_NAME]
+
+
+def numbered(name: str, taken: Container[str]) -> str:
+    """The name, or the first of `name_2`, `name_3` and so on that is not taken."""
+    made, number = name, 2
+    while made in taken:
+        end = f'_{number}'
+        made, number = name[:LONGEST_NAME - len(end)] + end, number + 1
+    return made
