@@ -1,4 +1,4 @@
-"""The .ecore files of Debian's libeclipse-emf-ecore-java: each as a metamodel, and as an instance of Ecore. Without the package: skipped."""
+"""The .ecore files of Debian's libeclipse-emf-ecore-java as metamodels, and as instances of Ecore; skipped without the package."""
 
 import unittest
 import zipfile

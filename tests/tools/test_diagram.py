@@ -92,7 +92,8 @@ FAULTS = [
     ('{"classes":[{"name":"A","supers":["B"]}]}', 'ROOM/m.json: class 0: no class B'),
     ('{"classes":[{"name":"A","features":[{"name":"x","kind":"attribute","type":"A"}]}]}',
      'ROOM/m.json: class 0 feature 0: no attribute has the type A'),
-    ('{"classes":[{"name":"A","features":[{"name":"x","kind":"reference","type":"A","opposite":"y"}]}]}', 'ROOM/m.json: A.x: no opposite y'),
+    ('{"classes":[{"name":"A","features":[{"name":"x","kind":"reference","type":"A","opposite":"y"}]}]}',
+     'ROOM/m.json: A.x: no opposite y'),
 ]
 
 
@@ -121,7 +122,10 @@ class Diagrams(ToolTest):
         made = self.draw({'classes': [{'name': name} for name in names]})
         self.assertEqual(
             made.splitlines()[1:],
-            ['  class box_0_2["class"]', '  class box_1["End"]', '  class box_2["A#34;] #125;"]', '  class box_0', '  class box_4["box_0"]'],
+            [
+                '  class box_0_2["class"]', '  class box_1["End"]', '  class box_2["A#34;] #125;"]', '  class box_0',
+                '  class box_4["box_0"]',
+            ],
         )
 
     def test_texts_in_graphviz(self):

@@ -1,4 +1,4 @@
-"""ecore2mm: each .json of the folder ecore is the document of the .ecore of its name (or of those that .args names), and .notes is what is told."""
+"""ecore2mm: in the folder ecore, NAME.json is the document of NAME.ecore or of the files of NAME.args, NAME.notes what is told."""
 
 import json
 import re
@@ -110,6 +110,9 @@ class Report(ToolTest):
         made = self.file('made.json', '')
         self.assertEqual(self.tool('ecore2mm', 'ecore/library.ecore', '-o', made), '')
         self.assertEqual(json.loads(made.read_text()), json.loads((FOLDER / 'library.json').read_text()))
+
+    def test_file_named_twice(self):
+        self.assertEqual(self.tool('ecore2mm', *['ecore/library.ecore'] * 2), self.tool('ecore2mm', 'ecore/library.ecore'))
 
     def test_library_is_the_example(self):
         example = HERE.parent.parent / 'examples/library.json'

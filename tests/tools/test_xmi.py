@@ -1,6 +1,11 @@
-"""xmi2doc and doc2xmi: of each .xmi of the folder xmi, .json is the document, .args has the arguments before the file, and .notes what is told."""
+"""xmi2doc and doc2xmi: in the folder xmi, NAME.json is the document of NAME.xmi, NAME.args has the arguments, NAME.notes what is told."""
 
 import json
+import os
+import pty
+import re
+import subprocess
+import sys
 
 from support import HERE, URI, ToolTest, load_and_save, run_tool
 
@@ -126,8 +131,55 @@ class Read(ToolTest):
                 out = self.tool('xmi2doc', '--ecore', 'ecore/library.ecore', self.file('a.xmi', content))
                 self.assertEqual(out, '{"format":1,"roots":[{"class":"Person","features":{"name":"é"}}]}\n')
 
+    def test_many_notes(self):
+        content = f'<k:A xmlns:k="http://m.example/kinds">{"<cache/>" * 13}</k:A>'
+        ended = run_tool('xmi2doc', '--ecore', 'ecore/kinds.ecore', self.file('a.xmi', content))
+        told = ['xmi2doc: value A.cache in line 1: left out: transient'] * 10 + ['xmi2doc: value A.cache: 3 more']
+        self.assertEqual((ended.status, ended.err.splitlines()), (0, told))
+
+    def test_report(self):
+        content = '<k:A xmlns:k="http://m.example/kinds" sum="1"/>'
+        ended = run_tool('xmi2doc', '--report', '--ecore', 'ecore/kinds.ecore', self.file('a.xmi', content))
+        self.assertEqual(ended.err.splitlines()[2:], ['| value | A.sum in line 1 | left out: derived |'])
+
     def test_longest_text(self):
         for text, status in (('é' * 32767 + 'x', 0), ('é' * 32768, 1)):
             content = f'<l:Person xmlns:l="http://m.example/library" name="{text}"/>'
             ended = run_tool('xmi2doc', '--ecore', 'ecore/library.ecore', self.file('a.xmi', content))
             self.assertEqual(ended.status, status, ended.err)
+
+
+class HowFar(ToolTest):
+    """A long file says how far it is, if standard error is a terminal, and says nothing else."""
+
+    def run_on_terminal(self, tool, *words):
+        """What a tool prints on a terminal."""
+        terminal, end = pty.openpty()
+        command = [sys.executable, '-B', str(HERE.parent.parent / 'tools' / tool), *map(str, words)]
+        done = subprocess.run(command, cwd=HERE, stdout=subprocess.DEVNULL, stderr=end)
+        os.write(end, b'$')
+        told = ''
+        while not told.endswith('$'):
+            told += os.read(terminal, 100_000).decode()
+        os.close(end)
+        os.close(terminal)
+        self.assertEqual(done.returncode, 0, told)
+        return told[:-1]
+
+    def test_long_file(self):
+        books = ''.join(f'<books name="{"x" * 80}" next="//@books.{number + 1}"/>' for number in range(9999)) + '<books/>'
+        text = f'<l:Library xmlns:l="http://m.example/library">{books}</l:Library>'
+        file = self.file('a.xmi', text)
+        told = self.run_on_terminal('xmi2doc', '--ecore', 'ecore/library.ecore', file)
+        for what in ('reading', 'making the objects of', 'joining the references of', 'writing the objects of'):
+            self.assertRegex(told, f'{what} {re.escape(str(file))}: [0-9]+ %')
+        self.assertEqual(told[-2:], ' \r')
+        ended = run_tool('xmi2doc', '--ecore', 'ecore/library.ecore', file)
+        self.assertEqual((ended.status, ended.err), (0, ''))
+        told = self.run_on_terminal('doc2xmi', '--ecore', 'ecore/library.ecore', self.file('a.json', ended.out))
+        self.assertRegex(told, 'reading the objects of .*: [0-9]+ %')
+        self.assertRegex(told, 'writing the objects: [0-9]+ %')
+
+    def test_short_file(self):
+        words = (FOLDER / 'town.args').read_text().split()
+        self.assertEqual(self.run_on_terminal('xmi2doc', *words, 'xmi/town.xmi'), '')

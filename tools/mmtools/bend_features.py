@@ -124,6 +124,18 @@ def bend_default(bending: 'Bent', made: MFeature, source: EFeature) -> None:
         bending.notes.tell('default', source.qualified, f'left out: {source.default[:80]}')
 
 
+def no_type(feature: EFeature) -> str:
+    """Why the type of a feature has no place."""
+    found = feature.type
+    if not feature.is_reference:
+        return 'its type is a class'
+    if isinstance(found, EClass):
+        return f'class {found.name} is left out'
+    if isinstance(found, (EDataType, EEnum)):
+        return 'its type is a data type'
+    return f'no class of the files given: {feature.type_link}' if feature.type_link else 'it has no type'
+
+
 def bend_feature(bending: 'Bent', owner: MClass, source: EFeature) -> Optional[MFeature]:
     """The feature; None if its type has no place."""
     kind = reference_type if source.is_reference else attribute_type

@@ -2,9 +2,10 @@
 
 from __future__ import annotations
 
+import os
 from typing import Dict, Iterable, List, Optional, Set, Tuple
 
-from .bend_features import bend_feature, reason_to_leave
+from .bend_features import bend_feature, no_type, reason_to_leave
 from .bend_opposites import bend_opposites
 from .ecore_links import join
 from .ecore_model import EClass, EClassifier, EDataType, EEnum, EFile
@@ -113,7 +114,7 @@ class Bent:
             why = reason_to_leave(feature)
             bent_feature = None if why else bend_feature(self, made, feature)
             if bent_feature is None:
-                why = why or 'its type has no place'
+                why = why or no_type(feature)
             elif len(made.features) == MOST_FEATURES:
                 why = f'more than {MOST_FEATURES} features'
             else:
@@ -186,5 +187,6 @@ def bend(files: List[EFile], notes: Notes) -> Bent:
 
 
 def bend_paths(paths: List[str], notes: Notes) -> Bent:
-    """The metamodel of `.ecore` files."""
-    return bend([Reader(path, notes).read() for path in paths], notes)
+    """The metamodel of `.ecore` files; one that is named twice counts once."""
+    once = {os.path.realpath(path): path for path in reversed(paths)}
+    return bend([Reader(path, notes).read() for path in reversed(list(once.values()))], notes)

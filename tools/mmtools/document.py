@@ -9,6 +9,7 @@ from .datatypes import default_of, is_value
 from .faults import fault, read_bytes
 from .metamodel import MClass, MEnum, Metamodel, MFeature
 from .objects import DEEPEST, Graph, Kinds, Obj
+from .progress import Progress
 from .steps import is_fragment, parse_steps
 from .uris import joined
 
@@ -16,7 +17,7 @@ FORMAT = 1
 
 
 def is_set(feature: MFeature, values: List[Any]) -> bool:
-    """Whether a feature is written: a list that has values, an unsettable attribute that was given one, another that differs from its default."""
+    """Whether a feature is written: a list with values, an unsettable attribute that was given one, another value than the default."""
     if not values or feature.is_container:
         return False
     if feature.is_reference or feature.is_many or feature.unsettable:
@@ -41,7 +42,9 @@ def document_text(file: str, graph: Graph) -> str:
     graph.address(False)
     made: Dict[int, Dict[str, Any]] = {}
     order = list(graph.walk())
+    progress = Progress(f'writing the objects of {file}', len(order))
     for level, obj in order:
+        progress.step(1)
         if level > DEEPEST:
             fault(file, obj.line, f'an object at level {level}; a document has {DEEPEST} levels at most')
         made[id(obj)] = written(obj)
@@ -50,6 +53,7 @@ def document_text(file: str, graph: Graph) -> str:
             if feature.containment and values:
                 parts = [made[id(it)] for it in values]
                 made[id(obj)]['features'][feature.name] = parts if feature.is_many else parts[0]
+    progress.end()
     top = {'format': FORMAT, 'roots': [made[id(root)] for root in graph.roots]}
     return json.dumps(top, ensure_ascii=False, sort_keys=True, separators=(',', ':')) + '\n'
 
@@ -68,6 +72,19 @@ def read_json(file: str) -> Any:
         fault(file, None, f'not JSON: {found}')
 
 
+def count_objects(roots: List[Any]) -> int:
+    """How many JSON objects there are in a list, but for the features of each."""
+    found, stack = 0, list(roots)
+    while stack:
+        it = stack.pop()
+        if isinstance(it, list):
+            stack += it
+        elif isinstance(it, dict):
+            found += 'class' in it
+            stack += it.values()
+    return found
+
+
 class DocumentReader:
     """Reads one document into objects."""
 
@@ -76,6 +93,7 @@ class DocumentReader:
         self.file, self.kinds, self.uri = file, kinds, uri
         self.classes = {it.name: it for it in meta.classes}
         self.links: List[Tuple[Obj, MFeature]] = []
+        self.progress = Progress('', 0)
 
     def read(self) -> Graph:
         """The objects of the document."""
@@ -85,8 +103,10 @@ class DocumentReader:
         if top['format'] != FORMAT or isinstance(top['format'], bool):
             fault(self.file, None, f'format {json.dumps(top["format"])[:20]} is another than {FORMAT}')
         graph = Graph()
+        self.progress = Progress(f'reading the objects of {self.file}', count_objects(top['roots']))
         for place, root in enumerate(top['roots']):
             graph.roots.append(self.object(root, f'root {place}', 1))
+        self.progress.end()
         graph.address(False)
         for obj, feature in self.links:
             obj.values[feature] = [self.target(graph, feature, text) for text in obj.values[feature]]
@@ -102,6 +122,7 @@ class DocumentReader:
         if level > DEEPEST:
             fault(self.file, None, f'{where}: deeper than {DEEPEST} levels')
         made = Obj(of)
+        self.progress.step(1)
         for name, content in value['features'].items():
             self.feature(made, name, content, where, level)
         return made

@@ -27,19 +27,19 @@ def run(name: str, main: Callable[[], None]) -> NoReturn:
     try:
         main()
         sys.stdout.flush()
+        sys.exit(0)
     except ToolError as found:
-        print(one_line(f'{name}: {found}'), file=sys.stderr)
-        sys.exit(1)
+        text = str(found)
     except RecursionError:
-        print(f'{name}: the input nests too deep', file=sys.stderr)
-        sys.exit(1)
+        text = 'the input nests too deep'
     except MemoryError:
-        print(f'{name}: the input is too large for the memory', file=sys.stderr)
-        sys.exit(1)
-    except BrokenPipeError:
+        text = 'the input is too large for the memory'
+    except OSError as found:
+        text = f'the output cannot be written: {found.strerror}'
         os.dup2(os.open(os.devnull, os.O_WRONLY), sys.stdout.fileno())
-        sys.exit(1)
-    sys.exit(0)
+    clear = '\r\033[K' if sys.stderr.isatty() else ''
+    print(clear + one_line(f'{name}: {text}'), file=sys.stderr)
+    sys.exit(1)
 
 
 def read_bytes(path: str) -> bytes:

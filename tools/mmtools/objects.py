@@ -14,8 +14,8 @@ DEEPEST = 40  # levels of objects in a document
 class Obj:
     """An object.
 
-    `values` has a list for each feature that was written: values of an attribute, objects of a containment, and objects or the texts of proxies
-    of another reference. `slots` has what XMI contains, by the names of Ecore, with None for what is left out.
+    `values` has a list for each feature that was written: values of an attribute, objects of a containment, and objects or the
+    texts of proxies of another reference. `slots` has what XMI contains, by the names of Ecore, with None for what is left out.
     """
 
     of: MClass
@@ -82,6 +82,11 @@ class Kinds:
         """The feature that the document calls so."""
         self.find(of)
         return self.by_name[of].get(name)
+
+    def features(self, of: MClass) -> List[MFeature]:
+        """All features of a class, in order."""
+        self.find(of)
+        return list(self.by_name[of].values())
 
     def why_left(self, of: MClass, name: str) -> Optional[str]:
         """Why a feature of Ecore is left out; None if it isn't."""

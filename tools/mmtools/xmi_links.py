@@ -10,6 +10,7 @@ from .faults import fault
 from .metamodel import MFeature
 from .notes import Notes
 from .objects import Obj
+from .progress import Progress
 from .steps import Step, is_fragment, parse_steps
 from .uris import is_web, joined
 from .xmi_reader import Pending, XmiReader
@@ -43,8 +44,11 @@ class LinkJoiner:
 
     def join(self) -> None:
         """Joins all references, and completes both ends."""
+        progress = Progress(f'joining the references of {self.file}', len(self.reader.pending))
         for it in self.reader.pending:
             self.join_one(it)
+            progress.step(1)
+        progress.end()
         self.drop_repeats()
         Completion(self.reader, self.notes).complete()
 
@@ -71,7 +75,7 @@ class LinkJoiner:
 
     def leave(self, it: Pending, why: str) -> None:
         """Tells a reference that is left out."""
-        self.notes.tell('reference', f'{it.feature.qualified} in line {it.line}', f'left out: {why}: {it.text[:80]}')
+        self.notes.tell('reference', it.feature.qualified, f'left out: {why}: {it.text[:80]}', it.line)
 
     def is_own(self, uri: str) -> bool:
         """Whether a URI is that of the file itself."""
@@ -106,7 +110,7 @@ class LinkJoiner:
                     for value in values:
                         kept.setdefault(id(value) if isinstance(value, Obj) else (type(value), value), value)
                     if len(kept) < len(values):
-                        self.notes.tell('value', f'{feature.qualified} in line {obj.line}', 'left out: values that the list has already')
+                        self.notes.tell('value', feature.qualified, 'left out: values that the list has already', obj.line)
                         values[:] = kept.values()
                 if feature.upper != -1 and len(values) > feature.upper:
                     fault(self.file, obj.line, f'{feature.qualified} has {len(values)} values, and its upper bound is {feature.upper}')
@@ -142,7 +146,7 @@ class Completion:
             return True
         values = value.values.setdefault(other, [])
         if other.upper != -1 and len(values) >= other.upper:
-            self.notes.tell('link', f'{feature.qualified} in line {obj.line}', f'left out: {other.qualified} names another one')
+            self.notes.tell('link', feature.qualified, f'left out: {other.qualified} names another one', obj.line)
             self.held(obj, feature).discard(id(value))
             return False
         values.append(obj)

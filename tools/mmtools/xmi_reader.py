@@ -11,6 +11,7 @@ from .faults import fault
 from .metamodel import MClass, MEnum, MFeature
 from .notes import Notes
 from .objects import Graph, Kinds, Obj
+from .progress import Progress
 from .xml_reader import XSI, Element, is_xmi, read_xml
 
 XML = 'http://www.w3.org/XML/1998/namespace'
@@ -36,16 +37,19 @@ class XmiReader:
         self.ids: Dict[str, Obj] = {}
         self.xmi_ids = 0
         self.pending: List[Pending] = []
+        self.progress = Progress('', 0)
 
     def read(self) -> Graph:
         """The objects of the file."""
         root = read_xml(self.file)
+        self.progress = Progress(f'making the objects of {self.file}', root.count())
         tops = root.children if root.name == 'XMI' and is_xmi(root.space) else [root]
         for top in tops:
             if is_xmi(top.space):
-                self.notes.tell('element', f'xmi:{top.name}', 'left out')
+                self.notes.tell('element', f'xmi:{top.name}', 'left out', top.line)
             else:
                 self.graph.roots.append(self.object(top, self.class_of(top, top.space, top.name)))
+        self.progress.end()
         if self.xmi_ids:
             self.notes.tell('xmi:id', self.file, f'{self.xmi_ids} ids left out; references go by position')
         return self.graph
@@ -80,6 +84,7 @@ class XmiReader:
     def object(self, element: Element, of: MClass) -> Obj:
         """An object with its attributes and all that it contains."""
         made = Obj(of, element.line)
+        self.progress.step(1 + len(element.children))
         xmi_id = element.xmi('id')
         if xmi_id is not None:
             self.xmi_ids += 1
@@ -88,14 +93,14 @@ class XmiReader:
             if not space:
                 self.attribute(made, element, name, value)
             elif space == XML:
-                self.notes.tell('attribute', f'{of.name}.xml:{name}', 'left out')
+                self.notes.tell('attribute', f'{of.name}.xml:{name}', 'left out', element.line)
             elif space != XSI and not is_xmi(space):
                 fault(self.file, element.line, f'class {of.name} has no feature {name} of {space}')
         if element.text.strip():
-            self.notes.tell('text', f'{of.name} in line {element.line}', 'left out: text between elements')
+            self.notes.tell('text', of.name, 'left out: text between elements', element.line)
         for child in element.children:
             if is_xmi(child.space):
-                self.notes.tell('element', f'xmi:{child.name}', 'left out')
+                self.notes.tell('element', f'xmi:{child.name}', 'left out', child.line)
             else:
                 self.child(made, child)
         return made
@@ -107,7 +112,7 @@ class XmiReader:
             why = self.kinds.why_left(owner.of, name)
             if why is None:
                 fault(self.file, line, f'class {owner.of.name} has no feature {name}')
-            self.notes.tell('value', f'{owner.of.name}.{name} in line {line}', f'left out: {why}')
+            self.notes.tell('value', f'{owner.of.name}.{name}', f'left out: {why}', line)
         return found
 
     def attribute(self, owner: Obj, element: Element, name: str, text: str) -> None:
@@ -156,11 +161,11 @@ class XmiReader:
         if not is_nil:
             self.put(owner, feature, self.value(feature, element.text, element.line), element.line)
         elif feature.is_many:
-            self.notes.tell('value', f'{feature.qualified} in line {element.line}', 'left out: null in a list')
+            self.notes.tell('value', feature.qualified, 'left out: null in a list', element.line)
         elif feature.type == 'EString':
             self.put(owner, feature, None, element.line)
         else:
-            self.notes.tell('value', f'{feature.qualified} in line {element.line}', f'left out: null in {feature.type_name}')
+            self.notes.tell('value', feature.qualified, f'left out: null in {feature.type_name}', element.line)
 
     def contained(self, owner: Obj, feature: MFeature, element: Element, is_nil: bool) -> None:
         """An object that is contained. One of another file has no place."""
@@ -169,7 +174,7 @@ class XmiReader:
             return
         href = element.plain('href')
         if href is not None:
-            self.notes.tell('containment', f'{feature.qualified} in line {element.line}', f'left out: it stands in another file: {href}')
+            self.notes.tell('containment', feature.qualified, f'left out: it stands in another file: {href}', element.line)
             slot.append(None)
             return
         made = self.object(element, self.typed(element, feature))

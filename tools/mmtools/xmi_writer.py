@@ -12,6 +12,7 @@ from .faults import ToolError
 from .metamodel import MClass, MEnum, Metamodel, MFeature
 from .names import is_name
 from .objects import Graph, Kinds, Obj
+from .progress import Progress
 from .xml_reader import XMI_SPACES, XSI
 
 FORBIDDEN = re.compile('[^\t\n\r\u0020-\ud7ff\ue000-\ufffd\U00010000-\U0010ffff]')
@@ -28,11 +29,14 @@ class XmiWriter:
         self.folder = uri.rpartition('/')[0] + '/' if uri else None
         self.prefixes: Dict[EPackage, str] = {}
         self.lines: List[str] = []
+        self.progress = Progress('', 0)
 
     def text(self) -> str:
         """The file."""
         self.graph.address(True)
-        for _, obj in self.graph.walk():
+        objects = [obj for _, obj in self.graph.walk()]
+        self.progress = Progress('writing the objects', len(objects))
+        for obj in objects:
             self.prefix(obj.of)
             for feature, values in obj.values.items():
                 if not feature.containment and any(isinstance(it, str) for it in values) and feature.is_reference:
@@ -45,6 +49,7 @@ class XmiWriter:
             for root in self.graph.roots:
                 self.element(root, self.root_name(root), '', 1)
             self.lines += ['</xmi:XMI>'] if self.graph.roots else []
+        self.progress.end()
         return '\n'.join(self.lines) + '\n'
 
     def head(self) -> str:
@@ -86,7 +91,8 @@ class XmiWriter:
     def element(self, obj: Obj, name: str, head: str, level: int) -> None:
         """The element of an object."""
         attributes, below = head, []
-        for feature in obj.of.all_features():
+        self.progress.step(1)
+        for feature in self.kinds.features(obj.of):
             values = obj.values.get(feature, [])
             if not values or feature.is_container or feature.source is None:
                 continue

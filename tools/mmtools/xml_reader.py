@@ -7,7 +7,7 @@ from typing import Dict, List, Optional, Tuple
 from xml.parsers import expat
 
 from .faults import fault, read_bytes
-from .progress import Progress
+from .progress import MANY_BYTES, Progress
 
 XMI_SPACES = ('http://www.omg.org/XMI', 'http://schema.omg.org/spec/XMI/2.0', 'http://schema.omg.org/spec/XMI/2.1')
 XSI = 'http://www.w3.org/2001/XMLSchema-instance'
@@ -33,6 +33,14 @@ class Element:
     line: int
     children: List['Element'] = field(default_factory=list)
     text: str = ''
+
+    def count(self) -> int:
+        """How many elements there are, with those below it."""
+        found, stack = 0, [self]
+        while stack:
+            found += 1
+            stack += stack.pop().children
+        return found
 
     def plain(self, name: str) -> Optional[str]:
         """The value of an attribute without a namespace."""
@@ -129,7 +137,7 @@ def read_xml(file: str) -> Element:
     """The root element of an XML file."""
     content = read_bytes(file)
     builder = Builder(file)
-    progress = Progress(f'reading {file}', len(content))
+    progress = Progress(f'reading {file}', len(content), MANY_BYTES)
     try:
         for start in range(0, len(content), CHUNK):
             builder.parser.Parse(content[start:start + CHUNK], False)
