@@ -13,6 +13,16 @@ PROGRAM = Path(os.environ.get('MMREPO') or TOP / 'crates/mmrepo/out/mmrepo')
 URI = 'http://m.example/a'
 
 
+COMPILED = tempfile.TemporaryDirectory()  # so that no run leaves files in the project, and none compiles again
+ENVIRONMENT = {name: value for name, value in os.environ.items() if name != 'PYTHONDONTWRITEBYTECODE'}
+ENVIRONMENT['PYTHONPYCACHEPREFIX'] = COMPILED.name
+
+
+def command_of(tool, words):
+    """The command that runs a tool."""
+    return [sys.executable, str(TOP / 'tools' / tool), *map(str, words)]
+
+
 class Ended:
     """How a tool ended: its status, and the text of both streams."""
 
@@ -22,8 +32,10 @@ class Ended:
 
 def run_tool(tool, *words):
     """Runs a tool in the folder of the tests."""
-    command = [sys.executable, '-B', str(TOP / 'tools' / tool), *map(str, words)]
-    return Ended(subprocess.run(command, cwd=HERE, stdout=subprocess.PIPE, stderr=subprocess.PIPE, stdin=subprocess.DEVNULL))
+    done = subprocess.run(
+        command_of(tool, words), cwd=HERE, env=ENVIRONMENT, stdout=subprocess.PIPE, stderr=subprocess.PIPE, stdin=subprocess.DEVNULL
+    )
+    return Ended(done)
 
 
 def run_program(meta, script):

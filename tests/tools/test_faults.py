@@ -156,6 +156,15 @@ class Faults(ToolTest):
             self.assertEqual((ended.status, ended.out), (2, ''))
             self.assertIn('usage: ', ended.err)
 
+    def test_names_that_xml_does_not_have(self):
+        rows = [
+            ({'class': 'A_b', 'features': {}}, 'class A_b is called A b in Ecore, which is no name in XML'),
+            ({'class': 'Sub', 'features': {'_1st': 'x'}}, 'A_b._1st is called 1st in Ecore, which is no name in XML'),
+            ({'class': 'Sub', 'features': {'a_b_2': 1}}, 'A_b.a_b_2 is called a_b in Ecore, as another feature of Sub is'),
+        ]
+        table = [(json.dumps({'format': 1, 'roots': [root]}), line) for root, line in rows]
+        self.check_table(table, 'a.json', 'doc2xmi', '--ecore', 'ecore/names.ecore')
+
     def test_package_without_uri(self):
         ecore = self.file('a.ecore', f'<ecore:EPackage {ECORE}><eClassifiers xsi:type="ecore:EClass" name="A"/></ecore:EPackage>')
         document = self.file('a.json', '{"format":1,"roots":[{"class":"A","features":{}}]}')

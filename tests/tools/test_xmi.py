@@ -5,9 +5,8 @@ import os
 import pty
 import re
 import subprocess
-import sys
 
-from support import HERE, URI, ToolTest, load_and_save, run_tool
+from support import ENVIRONMENT, HERE, URI, ToolTest, command_of, load_and_save, run_tool
 
 FOLDER = HERE / 'xmi'
 CASES = sorted(file.stem for file in FOLDER.glob('*.xmi'))
@@ -155,8 +154,7 @@ class HowFar(ToolTest):
     def run_on_terminal(self, tool, *words):
         """What a tool prints on a terminal."""
         terminal, end = pty.openpty()
-        command = [sys.executable, '-B', str(HERE.parent.parent / 'tools' / tool), *map(str, words)]
-        done = subprocess.run(command, cwd=HERE, stdout=subprocess.DEVNULL, stderr=end)
+        done = subprocess.run(command_of(tool, words), cwd=HERE, env=ENVIRONMENT, stdout=subprocess.DEVNULL, stderr=end)
         os.write(end, b'$')
         told = ''
         while not told.endswith('$'):

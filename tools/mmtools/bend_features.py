@@ -33,8 +33,8 @@ def built_in(feature: EFeature) -> str:
 
 
 def is_stored(feature: EFeature) -> bool:
-    """Whether a feature is neither derived nor transient."""
-    return not (feature.flags['derived'] or feature.flags['transient'])
+    """Whether a feature is neither derived nor transient, or its values stand in a feature map."""
+    return feature.is_grouped or not (feature.flags['derived'] or feature.flags['transient'])
 
 
 def reason_to_leave(feature: EFeature) -> str:

@@ -15,6 +15,7 @@ from .objects import Graph, Kinds, Obj
 from .progress import Progress
 from .xml_reader import XMI_SPACES, XSI
 
+XML_NAME = re.compile(r'[^\W\d][\w.\-\u00b7]*')
 FORBIDDEN = re.compile('[^\t\n\r\u0020-\ud7ff\ue000-\ufffd\U00010000-\U0010ffff]')
 IN_TEXT = {'\r': '&#xD;'}
 IN_ATTRIBUTE = {'"': '&quot;', '\t': '&#x9;', '\n': '&#xA;', '\r': '&#xD;'}
@@ -74,7 +75,10 @@ class XmiWriter:
 
     def type_text(self, of: MClass) -> str:
         """The name of a class with its prefix."""
-        return f'{self.prefix(of)}:{of.source.name if of.source else of.name}'
+        name = of.source.name if of.source else of.name
+        if not XML_NAME.fullmatch(name):
+            raise ToolError(f'class {of.name} is called {name} in Ecore, which is no name in XML')
+        return f'{self.prefix(of)}:{name}'
 
     def root_name(self, root: Obj) -> str:
         """The name of a root element."""
@@ -96,6 +100,7 @@ class XmiWriter:
             values = obj.values.get(feature, [])
             if not values or feature.is_container or feature.source is None:
                 continue
+            self.check_name(obj.of, feature, feature.source.name)
             if feature.containment:
                 below.append((feature, values))
             elif feature.is_many and not feature.is_reference or any(it is None for it in values):
@@ -113,6 +118,13 @@ class XmiWriter:
             for value in values:
                 self.child(feature, value, level + 1)
         self.lines.append(f'{space}</{name}>')
+
+    def check_name(self, of: MClass, feature: MFeature, name: str) -> None:
+        """Refuses a feature whose name in Ecore is none of XML, or that of another feature of the class."""
+        if not XML_NAME.fullmatch(name):
+            raise ToolError(f'{feature.qualified} is called {name} in Ecore, which is no name in XML')
+        if self.kinds.source_feature(of, name) is not feature:
+            raise ToolError(f'{feature.qualified} is called {name} in Ecore, as another feature of {of.name} is')
 
     def joined(self, feature: MFeature, values: List[object]) -> str:
         """The text of an attribute: one value, or fragments with spaces between them."""
