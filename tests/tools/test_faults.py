@@ -100,6 +100,8 @@ FEATURE_FAULTS = [
     ({'one': '/1'}, 'ROOM/a.json: A.one leads to no Base: /1'),
     ({'one': '//@box'}, 'ROOM/a.json: A.one leads to no Base: //@box'),
     ({'text': '\u0001'}, 'A.text has a character that XML cannot write'),
+    ({'text': '\ud800'}, 'A.text has a character that XML cannot write'),
+    ({'one': 'b\ud800#/'}, 'A.one has a character that XML cannot write'),
 ]
 
 

@@ -4,11 +4,11 @@ from __future__ import annotations
 
 import os
 from typing import Dict, List, Optional, Tuple, Union
-from urllib.parse import unquote, urlsplit
 
 from .ecore_model import EClass, EFeature, EFile, EPackage, ETypeParameter, Target
 from .notes import Notes
 from .steps import Step, parse_steps
+from .uris import path_of, real_path
 from .xml_reader import ECORE, Element, is_xmi
 
 CONTAINMENTS = ('eClassifiers', 'eSubpackages', 'eStructuralFeatures', 'eTypeParameters', 'eLiterals')
@@ -58,8 +58,8 @@ class Links:
 
     def file_of(self, file: EFile, uri: str) -> Optional[EFile]:
         """The file of a URI: by its path, or, if the URI is no path, the only file of that last segment."""
-        path = unquote(urlsplit(uri).path if uri.startswith(('file:', 'platform:')) else uri)
-        wanted = os.path.realpath(os.path.join(os.path.dirname(file.path), path))
+        path = path_of(uri)
+        wanted = real_path(os.path.dirname(file.path), path)
         same = [other for other in self.files if os.path.realpath(other.path) == wanted]
         name = path.rpartition('/')[2]
         named = [other for other in self.files if os.path.basename(other.path) == name]

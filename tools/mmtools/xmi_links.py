@@ -12,7 +12,7 @@ from .notes import Notes
 from .objects import Obj
 from .progress import Progress
 from .steps import Step, is_fragment, parse_steps
-from .uris import is_web, joined
+from .uris import is_web, joined, path_of, real_path
 from .xmi_reader import Pending, XmiReader
 from .xml_reader import ECORE
 
@@ -182,7 +182,7 @@ def at(reader: XmiReader, fragment: str) -> Found:
 
 def file_at(readers: List[XmiReader], file: str, uri: str) -> Optional[XmiReader]:
     """The file that a URI leads to from another: by path, by the URI of its root package, or by last segment."""
-    path = os.path.realpath(os.path.join(os.path.dirname(file), uri))
+    path = real_path(os.path.dirname(file), path_of(uri))
     tests = (
         lambda it: os.path.realpath(it.file) == path,
         lambda it: any(attribute(root, 'nsURI') == [uri] for root in it.graph.roots),

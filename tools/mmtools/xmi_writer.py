@@ -160,6 +160,8 @@ class XmiWriter:
         if isinstance(value, Obj):
             return '', '#' + value.fragment
         text = str(value)
+        if FORBIDDEN.search(text):
+            raise ToolError(f'{feature.qualified} has a character that XML cannot write')
         if self.folder and text.startswith(self.folder) and text[len(self.folder):len(self.folder) + 1] not in ('', '#', '/'):
             text = text[len(self.folder):]
         return self.proxy_type(feature), attribute_text(text)
