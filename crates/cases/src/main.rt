@@ -12,9 +12,8 @@ mod outcome;
 
 use case::Case;
 use fault::CaseFault;
-use link_store::{LinkStore, RowStore};
+use link_store::{LinkStore, RowStore, SlotStore};
 use outcome::{document_outcome, script_outcome};
-use slot_store::SlotStore;
 use std::alloc::Global;
 use std::io::{BufWriter, Read, Write};
 use std::process::ExitCode;

@@ -10,10 +10,10 @@ use Rattle.mm_types.specs.declared.numbers.Node.{Node}
 use Rattle.mm_types.specs.declared.numbers.Node.TheVariants as node
 use Rattle.mm_types.specs.declared.numbers.ResourceNo.{ResourceNo}
 use Rattle.containment.specs.Above.{root_of}
-use Rattle.link_store.proofs.AboveLemmas.{above_is, resource_top}
-use Rattle.link_store.specs.Holders.{HasNoCycle, above, holder}
-use Rattle.link_store.specs.LegalSets.{IsLegalSet}
-use Rattle.link_store.specs.Links.{Links}
+use Rattle.links.proofs.AboveLemmas.{above_is, resource_top}
+use Rattle.links.specs.Holders.{HasNoCycle, above, holder}
+use Rattle.links.specs.LegalSets.{IsLegalSet}
+use Rattle.links.specs.Links.{Links}
 
 -- the node that contains a node
 abbrev pub parent : Links → Node → Option Node

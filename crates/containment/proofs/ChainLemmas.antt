@@ -9,9 +9,9 @@ use Rattle.mm_types.specs.declared.end.End.{End}
 use Rattle.mm_types.specs.declared.numbers.ObjectNo.{ObjectNo}
 use Rattle.mm_types.specs.declared.numbers.Node.{Node}
 use Rattle.mm_types.specs.declared.numbers.Node.TheVariants as node
-use Rattle.link_store.proofs.AboveLemmas.{above_held, above_is, not_above_itself}
-use Rattle.link_store.proofs.HolderLemmas.{holder-some, place_held}
-use Rattle.link_store.specs.Holders.{above, holder}
+use Rattle.links.proofs.AboveLemmas.{above_held, above_is, not_above_itself}
+use Rattle.links.proofs.HolderLemmas.{holder-some, place_held}
+use Rattle.links.specs.Holders.{above, holder}
 use Rattle.models.specs.Legal.{IsLegal}
 use Rattle.models.specs.Model.{Model}
 use Rattle.containment.proofs.PartLemmas.{IsMade, IsPart, end-made}

@@ -20,13 +20,13 @@ use Rattle.mm_types.specs.declared.numbers.Node.{Node}
 use Rattle.mm_types.specs.declared.numbers.Node.TheVariants as node
 use Rattle.mm_types.specs.declared.value.Value.{Value}
 use Rattle.mm_types.specs.declared.value.Value.TheVariants as value
-use Rattle.link_store.proofs.AboveLemmas.{above_held}
-use Rattle.link_store.proofs.ClimbLemmas.{climb_step, climb_stop}
-use Rattle.link_store.proofs.ForestLemmas.{climb_on}
-use Rattle.link_store.proofs.PlaceLemmas.{same_node_if}
-use Rattle.link_store.specs.Holders.{above, climb, holder}
-use Rattle.link_store.specs.LegalSets as sets
-use Rattle.link_store.specs.Links.{end}
+use Rattle.links.proofs.AboveLemmas.{above_held}
+use Rattle.links.proofs.ClimbLemmas.{climb_step, climb_stop}
+use Rattle.links.proofs.ForestLemmas.{climb_on}
+use Rattle.links.proofs.PlaceLemmas.{same_node_if}
+use Rattle.links.specs.Holders.{above, climb, holder}
+use Rattle.links.specs.LegalSets as sets
+use Rattle.links.specs.Links.{end}
 use Rattle.models.specs.Legal.{IsLegal}
 use Rattle.models.specs.Model.{Model, reading, values_at}
 use Rattle.models.specs.Reading.{all_features_of, at_end, has_resource, objects_of}

@@ -7,7 +7,7 @@ use Rattle.mm_types.specs.declared.numbers.ObjectNo.{ObjectNo}
 use Rattle.mm_types.specs.declared.numbers.Node.{Node}
 use Rattle.mm_types.specs.declared.value.Value.{Value}
 use Rattle.mm_types.specs.declared.value.Value.TheVariants as value
-use Rattle.link_store.specs.Links as links
+use Rattle.links.specs.Links as links
 use Rattle.models.specs.Reading.{Reading, at_end, objects_of}
 use Rattle.containment.specs.Forest.{parts}
 

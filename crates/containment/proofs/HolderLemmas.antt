@@ -3,16 +3,16 @@ use Rattle.std.proofs.Common.{◌≡◌, false, if◌then◌else◌, ◌≢◌, 
 use Rattle.std.specs.Prelude.{◌&&◌}
 use Rattle.std.proofs.lemmas.Bool.{and_parts, eq-eqb, eqb-true, ne_eqb}
 use Rattle.std.proofs.lemmas.Option.{none-some, some_pair_parts}
-use Rattle.link_store.proofs.CutLemmas.{place_alone, place_at, place_near, place_out, place_proxy}
-use Rattle.link_store.proofs.HolderLemmas.{test_some}
-use Rattle.link_store.proofs.PlaceLemmas.{same_node_if}
-use Rattle.link_store.proofs.PutLemmas.{cases_end}
-use Rattle.link_store.specs.Holders.{far_holding, held_through, holding, is_far_node}
-use Rattle.link_store.specs.LegalSets.{AreKinds, FarOfKind, HasTwoSides, IsOfKind, Kinds}
-use Rattle.link_store.specs.Places.{far_value, place}
-use Rattle.link_store.specs.declared.link.Far.TheVariants.{At, Alone, Proxy}
-use Rattle.link_store.specs.declared.link.Far.{Far}
-use Rattle.link_store.specs.declared.link.Link.{Link}
+use Rattle.links.proofs.CutLemmas.{place_alone, place_at, place_near, place_out, place_proxy}
+use Rattle.links.proofs.HolderLemmas.{test_some}
+use Rattle.links.proofs.PlaceLemmas.{same_node_if}
+use Rattle.links.proofs.PutLemmas.{cases_end}
+use Rattle.links.specs.Holders.{far_holding, held_through, holding, is_far_node}
+use Rattle.links.specs.LegalSets.{AreKinds, FarOfKind, HasTwoSides, IsOfKind, Kinds}
+use Rattle.links.specs.Places.{far_value, place}
+use Rattle.links.specs.declared.link.Far.TheVariants.{At, Alone, Proxy}
+use Rattle.links.specs.declared.link.Far.{Far}
+use Rattle.links.specs.declared.link.Link.{Link}
 use Rattle.mm_types.specs.Same.{node_value, same_feature, same_node}
 use Rattle.mm_types.specs.declared.end.End.{End}
 use Rattle.mm_types.specs.declared.numbers.FeatureNo.{FeatureNo}

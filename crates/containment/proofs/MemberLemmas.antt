@@ -17,11 +17,11 @@ use Rattle.mm_types.specs.declared.numbers.Node.TheVariants as node
 use Rattle.mm_types.specs.declared.end.End.{End}
 use Rattle.mm_types.specs.declared.value.Value.{Value}
 use Rattle.mm_types.specs.declared.value.Value.TheVariants as value
-use Rattle.link_store.proofs.AboveLemmas.{above-under, above_is, above_under, resource_top}
-use Rattle.link_store.proofs.ClimbLemmas.{climb_step, climb_stop, under_holder, under_more}
-use Rattle.link_store.proofs.HolderLemmas.{holder-some, place_held}
-use Rattle.link_store.specs.Holders.{IsUnder, above, climb, holder}
-use Rattle.link_store.specs.Links.{Links, end}
+use Rattle.links.proofs.AboveLemmas.{above-under, above_is, above_under, resource_top}
+use Rattle.links.proofs.ClimbLemmas.{climb_step, climb_stop, under_holder, under_more}
+use Rattle.links.proofs.HolderLemmas.{holder-some, place_held}
+use Rattle.links.specs.Holders.{IsUnder, above, climb, holder}
+use Rattle.links.specs.Links.{Links, end}
 use Rattle.models.specs.Legal.{IsLegal, kinds_of}
 use Rattle.models.specs.Model.{Model, reading, values_at}
 use Rattle.models.specs.Reading.{Reading, all_features_of, at_end, has_feature, has_resource, is_live, is_within, objects_of}

@@ -26,10 +26,10 @@ use Rattle.mm_types.specs.declared.end.End.{End}
 use Rattle.mm_types.specs.declared.value.Value.{Value}
 use Rattle.mm_types.specs.declared.value.Value.TheVariants as value
 use Rattle.mm_values.specs.Values.{ObjectState, class_of}
-use Rattle.link_store.proofs.HolderLemmas.{holder_is}
-use Rattle.link_store.specs.Holders.{holder}
-use Rattle.link_store.specs.LegalSets.{AreKinds}
-use Rattle.link_store.specs.Links.{end}
+use Rattle.links.proofs.HolderLemmas.{holder_is}
+use Rattle.links.specs.Holders.{holder}
+use Rattle.links.specs.LegalSets.{AreKinds}
+use Rattle.links.specs.Links.{end}
 use Rattle.models.specs.Legal.{IsLegal, is_legal_end, is_legal_target, kinds_of}
 use Rattle.models.specs.Model.{Model, reading, values_at}
 use Rattle.models.specs.Reading.{Reading, all_features_of, at_end, has_feature, is_live, objects_of}

@@ -6,8 +6,8 @@ use Rattle.std.proofs.lemmas.List.{append-nil, reverse-append, reverse-reverse}
 use Rattle.mm_types.specs.declared.numbers.ObjectNo.{ObjectNo}
 use Rattle.mm_types.specs.declared.numbers.Node.{Node}
 use Rattle.mm_types.specs.declared.numbers.Node.TheVariants as node
-use Rattle.link_store.proofs.AboveLemmas.{above_held}
-use Rattle.link_store.specs.Holders.{above}
+use Rattle.links.proofs.AboveLemmas.{above_held}
+use Rattle.links.specs.Holders.{above}
 use Rattle.models.specs.Legal.{IsLegal}
 use Rattle.models.specs.Model.{Model, reading}
 use Rattle.models.specs.Reading.{is_live}

@@ -4,11 +4,11 @@ ghost use Rattle.std.specs.List.{list_any};
 ghost use Rattle.std.specs.Option.{option_map};
 ghost use Rattle.mm_types.specs.Same.{same_node};
 ghost use Rattle.mm_types.specs.declared.numbers.Node.TheVariants as node;
-ghost use Rattle.link_store.specs.Holders.{HasNoCycle, above as above_of, holder as holder_of};
-ghost use Rattle.link_store.specs.LegalSets.{IsLegalSet};
+ghost use Rattle.links.specs.Holders.{HasNoCycle, above as above_of, holder as holder_of};
+ghost use Rattle.links.specs.LegalSets.{IsLegalSet};
 ghost use Rattle.containment.specs.Above.{resource_of, root_of as root};
 
-use link_store::LinkStore;
+use links::LinkStore;
 use mm_types::{Node, ObjectNo, ResourceNo};
 use std::alloc::{AllocError, Global};
 

@@ -5,7 +5,7 @@ ghost use Rattle.models.specs.Model.{reading};
 ghost use Rattle.models.specs.Reading.{objects_of};
 ghost use Rattle.containment.specs.Forest as forest;
 
-use link_store::LinkStore;
+use links::LinkStore;
 use mm_types::{End, FeatureNo, Node, ObjectNo};
 use models::ModelRef;
 use std::alloc::{AllocError, Global};

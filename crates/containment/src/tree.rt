@@ -5,7 +5,7 @@ ghost use Rattle.models.specs.Reading.{is_live};
 ghost use Rattle.containment.specs.Forest as forest;
 
 use crate::forest::contents;
-use link_store::LinkStore;
+use links::LinkStore;
 use mm_types::{Node, ObjectNo};
 use models::ModelRef;
 use std::alloc::{AllocError, Global};

@@ -30,10 +30,10 @@ use Rattle.mm_types.specs.declared.numbers.Node.{Node}
 use Rattle.mm_types.specs.declared.numbers.ObjectNo.{ObjectNo}
 use Rattle.mm_types.specs.declared.value.Value.{Value}
 use Rattle.mm_types.specs.declared.value.Value.TheVariants as value
-use Rattle.link_store.specs.Laws.{goes}
-use Rattle.link_store.specs.Links.{Links, end}
-use Rattle.link_store.specs.Plans.{ArePlacesOf, has_end, incoming_end, is_before}
-use Rattle.link_store.specs.declared.incoming.Incoming.{Incoming}
+use Rattle.links.specs.Laws.{goes}
+use Rattle.links.specs.Links.{Links, end}
+use Rattle.links.specs.Plans.{ArePlacesOf, has_end, incoming_end, is_before}
+use Rattle.links.specs.declared.incoming.Incoming.{Incoming}
 use Rattle.models.specs.Legal.{IsLegal, is_legal_target, takes_proxies}
 use Rattle.models.specs.Model.{Model, reading}
 use Rattle.models.specs.Reading.{Reading, is_live}

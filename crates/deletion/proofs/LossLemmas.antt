@@ -15,9 +15,9 @@ use Rattle.mm_types.specs.declared.numbers.Node.TheVariants as node
 use Rattle.mm_types.specs.declared.numbers.ObjectNo.{ObjectNo}
 use Rattle.mm_types.specs.declared.value.Value.{Value}
 use Rattle.mm_types.specs.declared.value.Value.TheVariants as value
-use Rattle.link_store.proofs.HolderLemmas.{holder-some, place_held}
-use Rattle.link_store.specs.Laws.{goes}
-use Rattle.link_store.specs.Links.{end}
+use Rattle.links.proofs.HolderLemmas.{holder-some, place_held}
+use Rattle.links.specs.Laws.{goes}
+use Rattle.links.specs.Links.{end}
 use Rattle.models.specs.Legal.{IsLegal}
 use Rattle.models.specs.Model.{Model, reading}
 use Rattle.models.specs.Reading.{Reading, object_of}

@@ -17,9 +17,9 @@ use Rattle.mm_types.specs.declared.numbers.Node.TheVariants as node
 use Rattle.mm_types.specs.declared.numbers.ObjectNo.{ObjectNo}
 use Rattle.mm_types.specs.declared.value.Value.{Value}
 use Rattle.mm_meta.proofs.OwnerLemmas.{has_none}
-use Rattle.link_store.specs.Laws.{goes}
-use Rattle.link_store.specs.Links.{end}
-use Rattle.link_store.specs.Plans.{AreInOrder, has_end, is_before, node_before}
+use Rattle.links.specs.Laws.{goes}
+use Rattle.links.specs.Links.{end}
+use Rattle.links.specs.Plans.{AreInOrder, has_end, is_before, node_before}
 use Rattle.containment.proofs.PartLemmas.{legal-at, live-made, values-linked}
 use Rattle.models.specs.Legal.{IsLegal}
 use Rattle.models.specs.Model.{Model, reading}

@@ -8,7 +8,7 @@ use Rattle.mm_types.specs.declared.numbers.Node.TheVariants as node
 use Rattle.mm_types.specs.declared.numbers.ObjectNo.{ObjectNo}
 use Rattle.mm_types.specs.declared.value.Value.{Value}
 use Rattle.mm_types.specs.declared.value.Value.TheVariants as value
-use Rattle.link_store.specs.Laws.{goes}
+use Rattle.links.specs.Laws.{goes}
 use Rattle.models.specs.Reading.{Reading}
 use Rattle.deletion.specs.Outer.{gone, touched_ends}
 use Rattle.deletion.specs.declared.loss.Loss.{Loss}

@@ -8,7 +8,7 @@ use Rattle.mm_types.specs.declared.numbers.FeatureNo.{FeatureNo}
 use Rattle.mm_types.specs.declared.numbers.Node.{Node}
 use Rattle.mm_types.specs.declared.numbers.Node.TheVariants as node
 use Rattle.mm_types.specs.declared.numbers.ObjectNo.{ObjectNo}
-use Rattle.link_store.specs.Laws.{goes}
+use Rattle.links.specs.Laws.{goes}
 use Rattle.models.specs.Reading.{Reading, at_end, shape_at}
 use Rattle.containment.specs.Forest.{is_node_among, subtree}
 

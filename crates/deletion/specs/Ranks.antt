@@ -10,9 +10,9 @@ use Rattle.mm_types.specs.declared.numbers.Node.{Node}
 use Rattle.mm_types.specs.declared.numbers.Node.TheVariants as node
 use Rattle.mm_types.specs.declared.numbers.ObjectNo.{ObjectNo}
 use Rattle.mm_types.specs.declared.value.Value.TheVariants as value
-use Rattle.link_store.specs.Links.{Links, end}
-use Rattle.link_store.specs.Plans.{incoming_end}
-use Rattle.link_store.specs.declared.incoming.Incoming.{Incoming}
+use Rattle.links.specs.Links.{Links, end}
+use Rattle.links.specs.Plans.{incoming_end}
+use Rattle.links.specs.declared.incoming.Incoming.{Incoming}
 use Rattle.models.specs.Reading.{Reading}
 use Rattle.deletion.specs.Outer.{gone}
 

@@ -6,7 +6,7 @@ ghost use Rattle.models.specs.Reading.{is_live};
 ghost use Rattle.deletion.specs.Outer as outer;
 
 use containment::is_under;
-use link_store::LinkStore;
+use links::LinkStore;
 use mm_types::{Node, ObjectNo};
 use models::ModelRef;
 

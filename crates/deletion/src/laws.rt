@@ -2,7 +2,7 @@
 ghost use Rattle.std.specs.Prelude.{◌≡◌, ◌&&◌, true, not};
 ghost use Rattle.mm_types.specs.declared.end.End.{End};
 ghost use Rattle.mm_types.specs.declared.numbers.ObjectNo.{ObjectNo};
-ghost use Rattle.link_store.specs.Plans.{AreInOrder, has_end};
+ghost use Rattle.links.specs.Plans.{AreInOrder, has_end};
 ghost use Rattle.models.specs.Legal.{IsLegal};
 ghost use Rattle.models.specs.Model.{Model, reading};
 ghost use Rattle.models.specs.Reading.{is_live};

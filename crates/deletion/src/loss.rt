@@ -14,7 +14,7 @@ ghost use Rattle.deletion.specs.Ranks as ranks;
 use crate::ends::ends_touched_by;
 use crate::numbers::{is_in, numbers_of};
 use containment::subtree;
-use link_store::LinkStore;
+use links::LinkStore;
 use mm_types::{End, Node, ObjectNo, Value};
 use models::ModelRef;
 use std::alloc::{AllocError, Global};

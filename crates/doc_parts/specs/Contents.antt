@@ -1,12 +1,12 @@
 -- Whether the content of a feature is of its type, and the values of attributes.
-use Rattle.std.specs.Prelude.{ℕ, ◌&&◌, ◌||◌, ◌^◌, ◌-◌, pos, neg_ℤ, Bool, true, false, List, length, nat_le, Option, None, is_some, option_map, if◌then◌else◌}
+use Rattle.std.specs.Prelude.{ℕ, ◌&&◌, ◌||◌, Bool, true, false, List, length, nat_le, Option, None, is_some, option_map, if◌then◌else◌}
 use Rattle.std.specs.List.{list_all}
 use Rattle.std.specs.Option.{option_map_or, option_or}
 use Rattle.serde_json.specs.Data.{Data}
 use Rattle.serde_json.specs.Find.{as_array, as_bool, as_null, as_object, as_str}
-use Rattle.json_rows.specs.Rows.{◌>>=◌, ◌such_that◌, whole_number_of_64}
+use Rattle.json_rows.specs.Rows.{◌>>=◌, ◌such_that◌, whole_number, whole_number_of_64}
 use Rattle.mm_types.specs.Lookups as lookups
-use Rattle.mm_types.specs.Resolved.{Metamodel, int_within}
+use Rattle.mm_types.specs.Resolved.{Metamodel}
 use Rattle.mm_types.specs.Shapes.{shape}
 use Rattle.mm_types.specs.declared.feature.DataType.{DataType}
 use Rattle.mm_types.specs.declared.feature.DataType.TheVariants.{EString, EInt, ELong, EBoolean, Enum}
@@ -28,14 +28,10 @@ abbrev pub text_value : Bool → Data → Option Value
 text_value single d =
     option_or (if single then option_map (λ x. value.Null) (as_null d) else None) (option_map value.Text (as_str d such_that is_short))
 
--- a whole number of 32 bits, signed
-abbrev pub int_value : Data → Option Value
-int_value d = whole_number_of_64 d >>= int_within (neg_ℤ (pos (2 ^ 31))) (pos (2 ^ 31 - 1))
-
 -- the value of a data type, under a single attribute or not
 abbrev pub attribute_value : Metamodel → Bool → DataType → Data → Option Value
 attribute_value m single EString d = text_value single d
-attribute_value m single EInt d = int_value d
+attribute_value m single EInt d = option_map value.Int (whole_number d)
 attribute_value m single ELong d = option_map value.Int (whole_number_of_64 d)
 attribute_value m single EBoolean d = option_map value.Bool (as_bool d)
 attribute_value m single (Enum e) d = option_map value.Literal (as_str d >>= lookups.literal_by_name m e)

@@ -8,8 +8,8 @@ use Rattle.json_rows.specs.Rows.{keys_of}
 use Rattle.mm_types.specs.Lookups as lookups
 use Rattle.mm_types.specs.Resolved.{Metamodel}
 use Rattle.mm_types.specs.Shapes.{is_bounded, shape}
+use Rattle.mm_types.specs.declared.limits.TheConstants.{LEVELS}
 use Rattle.mm_types.specs.declared.numbers.ClassNo.{ClassNo}
-use Rattle.doc_parts.specs.declared.limits.TheConstants.{LEVELS}
 use Rattle.doc_parts.specs.Layout.{Written, written}
 use Rattle.doc_parts.specs.Parts.{Entry, Part, entries, level_of, values_of}
 

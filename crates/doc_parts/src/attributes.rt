@@ -1,7 +1,9 @@
 //! The values of attributes are read.
-ghost use Rattle.std.specs.Prelude.{◌≡◌, IfOk, is_some};
+ghost use Rattle.std.specs.Prelude.{◌≡◌, IfOk, is_some, option_map};
+ghost use Rattle.json_rows.specs.Rows.{whole_number};
+ghost use Rattle.mm_types.specs.declared.value.Value.TheVariants as value;
 ghost use Rattle.serde_json.specs.View.{view};
-ghost use Rattle.doc_parts.specs.Contents.{attribute_value as value_meant, int_value as int_meant, text_value as text_meant};
+ghost use Rattle.doc_parts.specs.Contents.{attribute_value as value_meant, text_value as text_meant};
 
 use mm_meta::Meta;
 use mm_types::{DataType, Text, Value, limits};
@@ -23,7 +25,7 @@ fn text_value(alloc: Global, is_single: bool, json: &JsonValue) -> Result<Option
 }
 
 fn int_value(json: &JsonValue) -> Option<Value>
-    ensures { result ≡ int_meant (view json.now) }
+    ensures { result ≡ option_map value.Int (whole_number (view json.now)) }
 {
     match json.as_i64() {
         Some(n) if i64::from(i32::MIN) <= n && n <= i64::from(i32::MAX) => Some(Value::Int(n)),

@@ -11,9 +11,9 @@ ghost use Rattle.doc_parts.specs.Parts.{Part, entries};
 
 use crate::found::{Found, Row};
 use crate::layout::written;
-use crate::limits::LEVELS;
 use crate::objects::{has_long_content, has_no_class, has_other_content, has_other_key};
 use mm_meta::Meta;
+use mm_types::limits::LEVELS;
 
 fn is_misshapen_row(row: &Row) -> bool
     ensures { result ≡ is_misshapen_at row.now.level (view row.now.json.now) }

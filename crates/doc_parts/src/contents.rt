@@ -8,7 +8,7 @@ ghost use Rattle.doc_parts.specs.Contents.{attribute_value, conforms_to as confo
 ghost use Rattle.doc_parts.specs.Parts.{new_entry, values_of as values_meant};
 
 use crate::attributes::is_attribute_value;
-use crate::entries::{class_of, is_single, values_of};
+use crate::entries::{class_of, values_of};
 use mm_meta::Meta;
 use mm_types::{ClassNo, FeatureNo, Kind, limits};
 use serde_json::Value as JsonValue;
@@ -78,7 +78,7 @@ fn is_shaped(is_single: bool, content: &JsonValue) -> bool
 pub(crate) fn is_content(meta: &Meta, feature: FeatureNo, content: &JsonValue) -> bool
     ensures { result ≡ is_meant meta.now (new_entry feature (view content.now)) }
 {
-    let single = is_single(meta, feature);
+    let single = meta.is_single(feature);
     if !is_shaped(single, content) {
         return false;
     }

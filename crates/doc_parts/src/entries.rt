@@ -28,26 +28,6 @@ pub fn known<'v>(meta: &Meta, json: &'v JsonValue) -> Option<(ClassNo, &'v Map<S
     Some((class, object.features))
 }
 
-/// The name of a feature, or nothing where there is no such feature. Takes no memory.
-pub fn feature_name(meta: &Meta, feature: FeatureNo) -> &str
-    ensures { result.now ≡ lookups.feature_name meta.now feature }
-{
-    match meta.feature(feature) {
-        Some(found) => found.name.as_str(),
-        None => "",
-    }
-}
-
-/// Whether a feature has one value at most. Takes no memory.
-pub fn is_single(meta: &Meta, feature: FeatureNo) -> bool
-    ensures { result ≡ (shape meta.now feature).is_single }
-{
-    match meta.feature(feature) {
-        Some(found) => found.upper == 1,
-        None => false,
-    }
-}
-
 /// What is written under a feature, which may be no container reference. Takes no memory.
 pub fn content_at<'v>(
     meta: &Meta,
@@ -59,7 +39,7 @@ pub fn content_at<'v>(
     if meta.is_container(feature) {
         return None;
     }
-    find(members, feature_name(meta, feature))
+    find(members, meta.feature_name(feature))
 }
 
 /// The values of what is written under a feature: the items of an array where the feature is many-valued. Takes no
@@ -67,7 +47,7 @@ pub fn content_at<'v>(
 pub fn values_of<'v>(meta: &Meta, feature: FeatureNo, content: &'v JsonValue) -> &'v [JsonValue]
     ensures { map view result.now ≡ values_meant meta.now (new_entry feature (view content.now)) }
 {
-    if is_single(meta, feature) {
+    if meta.is_single(feature) {
         return slice::from_ref(content);
     }
     match content.as_array() {

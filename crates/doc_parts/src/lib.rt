@@ -12,7 +12,6 @@ mod contents;
 mod entries;
 mod found;
 mod layout;
-pub mod limits;
 mod objects;
 mod walk;
 
@@ -21,7 +20,7 @@ pub use checks::{
     has_deep, has_long_list, has_misshapen, has_other_value, has_unknown_class, has_unknown_feature,
 };
 pub use contents::conforms_to;
-pub use entries::{class_of, content_at, feature_name, is_single, known, values_of};
+pub use entries::{class_of, content_at, known, values_of};
 pub use found::{Found, Numbers, Place, Row};
 pub use layout::{TopMembers, top};
 pub use walk::find_parts;

@@ -19,15 +19,6 @@ use mm_meta::Meta;
 use mm_types::{ClassNo, FeatureNo, limits};
 use serde_json::{Map, Value as JsonValue};
 
-fn is_concrete(meta: &Meta, class: ClassNo) -> bool
-    ensures { result ≡ concrete meta.now class }
-{
-    match meta.class(class) {
-        Some(found) => !found.is_abstract,
-        None => false,
-    }
-}
-
 /// Whether an object names no class, or an abstract one. Takes no memory.
 pub(crate) fn has_no_class(meta: &Meta, json: &JsonValue) -> bool
     ensures { result ≡ option_map_or (no_class meta.now) (written_meant (view json.now)) false }
@@ -36,7 +27,7 @@ pub(crate) fn has_no_class(meta: &Meta, json: &JsonValue) -> bool
         return false;
     };
     match meta.class_by_name(object.class) {
-        Some(class) => !is_concrete(meta, class),
+        Some(class) => !meta.is_concrete(class),
         None => true,
     }
 }

@@ -5,7 +5,7 @@ ghost use Rattle.doc_parts.specs.Found.{FindsBelow, Knows, Walks, parts_at, part
 ghost use Rattle.doc_parts.specs.Parts.{Part, parts_from};
 ghost use Rattle.doc_parts.specs.Places.{UnderKey, key_of};
 
-use crate::entries::{content_at, feature_name, is_single, known, values_of};
+use crate::entries::{content_at, known, values_of};
 use crate::found::{Found, Place};
 use mm_meta::Meta;
 use mm_types::FeatureNo;
@@ -83,14 +83,14 @@ fn walk_feature<'v, 'm>(
     }
     match content_at(meta, members, feature) {
         Some(content) => {
-            let single = is_single(meta, feature);
+            let single = meta.is_single(feature);
             walk_values(
                 found,
                 meta,
                 levels,
                 part,
                 level,
-                feature_name(meta, feature),
+                meta.feature_name(feature),
                 single,
                 values_of(meta, feature, content),
             )

@@ -17,9 +17,9 @@ use Rattle.mm_types.specs.declared.numbers.ObjectNo.{ObjectNo}
 use Rattle.mm_types.specs.declared.numbers.ResourceNo.{ResourceNo}
 use Rattle.mm_types.specs.declared.value.Value.{Value}
 use Rattle.mm_types.specs.declared.value.Value.TheVariants as value
-use Rattle.link_store.proofs.HolderLemmas.{holder-some, place_held}
-use Rattle.link_store.specs.Holders.{holder}
-use Rattle.link_store.specs.Links.{end}
+use Rattle.links.proofs.HolderLemmas.{holder-some, place_held}
+use Rattle.links.specs.Holders.{holder}
+use Rattle.links.specs.Links.{end}
 use Rattle.models.specs.Legal.{IsLegal, kinds_of}
 use Rattle.models.specs.Model.{Model, reading, values_at}
 use Rattle.models.specs.Reading.{at_end, has_feature, has_resource, object_of, objects_of}

@@ -13,7 +13,7 @@ use Rattle.mm_types.specs.declared.numbers.FeatureNo.{FeatureNo}
 use Rattle.mm_types.specs.declared.numbers.ObjectNo.{ObjectNo}
 use Rattle.mm_types.specs.declared.value.Value.{Value}
 use Rattle.mm_types.specs.declared.value.Value.TheVariants as value
-use Rattle.link_store.specs.Links.{end}
+use Rattle.links.specs.Links.{end}
 use Rattle.web_uris.specs.Addresses.{is_proxy_text}
 use Rattle.models.specs.Legal.{IsLegal, is_legal_end, is_legal_target, takes_proxies}
 use Rattle.models.specs.Model.{Model, reading, values_at}

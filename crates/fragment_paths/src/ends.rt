@@ -5,7 +5,7 @@ ghost use Rattle.models.specs.Model.{reading};
 ghost use Rattle.models.specs.Reading.{objects_of};
 ghost use Rattle.fragment_paths.specs.Fragments as fragments;
 
-use link_store::LinkStore;
+use links::LinkStore;
 use mm_types::{End, Node, ObjectNo, ResourceNo};
 use models::ModelRef;
 

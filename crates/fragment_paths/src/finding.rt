@@ -4,10 +4,10 @@ ghost use Rattle.models.specs.Model.{reading};
 ghost use Rattle.fragment_paths.specs.Finding as finding;
 
 use crate::ends::{object_in, root_at};
-use link_store::LinkStore;
+use links::LinkStore;
 use mm_meta::Meta;
 use mm_types::{End, FeatureNo, Node, ObjectNo, ResourceNo};
-use models::{ModelRef, is_single};
+use models::ModelRef;
 use std::alloc::{AllocError, Global};
 use web_uris::{Path, Step, parse, split_address};
 
@@ -17,7 +17,7 @@ fn goes_by<L: LinkStore>(model: &ModelRef<L>, step: &Step, feature: FeatureNo) -
     ensures { result ≡ finding.goes_by (reading model.now) step.now feature }
 {
     let meta = model.meta();
-    meta.is_containment(feature) && is_single(meta, feature) != step.index.is_some()
+    meta.is_containment(feature) && meta.is_single(feature) != step.index.is_some()
 }
 
 /// The feature by which a step goes from an object.

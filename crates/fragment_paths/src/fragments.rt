@@ -7,7 +7,7 @@ ghost use Rattle.fragment_paths.specs.Located.{located_address, located_text};
 use crate::ends::roots_end;
 use crate::paths::{Located, locate};
 use crate::places::Places;
-use link_store::LinkStore;
+use links::LinkStore;
 use mm_types::{ObjectNo, ResourceNo, Text};
 use models::ModelRef;
 use std::alloc::{AllocError, Global};

@@ -5,9 +5,9 @@ ghost use Rattle.fragment_paths.specs.Fragments as fragments;
 ghost use Rattle.fragment_paths.specs.Located.{located as located_in, path_by as path_meant};
 
 use crate::places::Places;
-use link_store::LinkStore;
+use links::LinkStore;
 use mm_types::{End, Node, ObjectNo, ResourceNo, Seq, Text};
-use models::{ModelRef, is_single};
+use models::ModelRef;
 use std::alloc::{AllocError, Global};
 use web_uris::{Path, Step};
 
@@ -39,7 +39,7 @@ fn step_into<L: LinkStore>(
 {
     let model = places.model();
     let name = name_of(alloc, model, end)?;
-    let index = if is_single(model.meta(), end.feature) {
+    let index = if model.meta().is_single(end.feature) {
         None
     } else {
         Some(places.place_in(end, object))

@@ -9,7 +9,7 @@ ghost use Rattle.models.specs.Model.{reading};
 ghost use Rattle.fragment_paths.specs.Fragments as fragments;
 
 use indexmap::IndexMap;
-use link_store::LinkStore;
+use links::LinkStore;
 use mm_types::{End, Node, ObjectNo, Value};
 use models::ModelRef;
 use std::alloc::{AllocError, Global};
@@ -43,7 +43,7 @@ pub struct Places<'m, 'a, L: LinkStore> {
 
 impl<'m, 'a, L: LinkStore> Model for Places<'m, 'a, L> {
     ghost use Rattle.std.specs.Coded.{codes};
-    ghost use Rattle.link_store.specs.Links.{coded_links};
+    ghost use Rattle.links.specs.Links.{coded_links};
     ghost use Rattle.models.specs.Model.{Model, coded_map, reading};
     ghost use Rattle.fragment_paths.specs.Known.{KnowsPlaces};
 

@@ -20,9 +20,9 @@ use Rattle.mm_types.specs.declared.numbers.ObjectNo.{ObjectNo}
 use Rattle.mm_types.specs.declared.numbers.ResourceNo.{ResourceNo}
 use Rattle.mm_types.specs.declared.value.Value.TheVariants as value
 use Rattle.mm_types.specs.declared.value.Value.{Value}
-use Rattle.link_store.proofs.PlaceLemmas.{ne-same_end}
-use Rattle.link_store.specs.Links.{end, far_end}
-use Rattle.link_store.specs.Plans.{Lacks}
+use Rattle.links.proofs.PlaceLemmas.{ne-same_end}
+use Rattle.links.specs.Links.{end, far_end}
+use Rattle.links.specs.Plans.{Lacks}
 use Rattle.models.specs.Legal.{IsLegal}
 use Rattle.models.specs.Model.{Model, reading}
 use Rattle.models.specs.Reading.{Reading, at_end, first_at, held_at, is_repeat}

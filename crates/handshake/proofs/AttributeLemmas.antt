@@ -18,7 +18,7 @@ use Rattle.mm_types.specs.declared.value.Value.{Value}
 use Rattle.mm_values.proofs.StoredIn.{get-with_stored, kept, unwrap_or-kept}
 use Rattle.mm_values.specs.Stored.{Stored, nothing_stored}
 use Rattle.mm_values.specs.Values.{ObjectState, Objects, object_at, put_stored, stored_under, with_list, with_object}
-use Rattle.link_store.specs.Links.{end}
+use Rattle.links.specs.Links.{end}
 use Rattle.models.specs.Model.{Model, attribute_values, reading}
 use Rattle.models.specs.Reading.{at_end, held_at}
 use Rattle.handshake.specs.Effects.{after}

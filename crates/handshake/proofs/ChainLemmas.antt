@@ -25,11 +25,11 @@ use Rattle.mm_types.specs.declared.value.Value.TheVariants as value
 use Rattle.mm_values.specs.Values.{ValuesState, applied}
 use Rattle.mm_values.specs.declared.edit.ValueEdit.{ValueEdit}
 use Rattle.mm_values.specs.declared.edit.ValueEdit.TheVariants.{InsertValue, MoveValue}
-use Rattle.link_store.proofs.CutLemmas.{end-shift_near, end-shift_other}
-use Rattle.link_store.proofs.CutNamedLemmas.{end-without_all}
-use Rattle.link_store.proofs.FilterLemmas.{remove-filter}
-use Rattle.link_store.specs.Laws.{is_named, without_all}
-use Rattle.link_store.specs.Links.{Links, end, put, shift}
+use Rattle.links.proofs.CutLemmas.{end-shift_near, end-shift_other}
+use Rattle.links.proofs.CutNamedLemmas.{end-without_all}
+use Rattle.links.proofs.FilterLemmas.{remove-filter}
+use Rattle.links.specs.Laws.{is_named, without_all}
+use Rattle.links.specs.Links.{Links, end, put, shift}
 use Rattle.models.proofs.PlaceLemmas.{first-below}
 use Rattle.models.specs.Legal.{IsLegal, kinds_of}
 use Rattle.models.specs.Model.{Model, kept_flag, reading}

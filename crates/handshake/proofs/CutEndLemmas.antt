@@ -19,7 +19,7 @@ use Rattle.mm_types.specs.declared.numbers.Node.TheVariants as node
 use Rattle.mm_types.specs.declared.value.Value.{Value}
 use Rattle.mm_types.specs.declared.value.Value.TheVariants as value
 use Rattle.mm_values.specs.Values.{ObjectState, object_at, stored_under}
-use Rattle.link_store.specs.Links.{Links, end}
+use Rattle.links.specs.Links.{Links, end}
 use Rattle.models.specs.Legal.{IsLegal, IsLegalObject}
 use Rattle.models.specs.Model.{Model, attribute_values, kept_flag, kept_values, reading}
 use Rattle.models.specs.Reading.{held_at}

@@ -13,17 +13,17 @@ use Rattle.mm_types.specs.declared.numbers.FeatureNo.{FeatureNo}
 use Rattle.mm_types.specs.declared.numbers.ObjectNo.{ObjectNo}
 use Rattle.mm_types.specs.declared.value.Value.{Value}
 use Rattle.mm_types.specs.declared.value.Value.TheVariants as value
-use Rattle.link_store.proofs.CutNamedLemmas.{end-cut_value, there_after}
-use Rattle.link_store.proofs.KindLemmas.{kinds_cut_value}
-use Rattle.link_store.proofs.LegalLemmas.{cut_value_legal}
-use Rattle.link_store.proofs.FilterLemmas.{filter_alike, filter_all, filter_from, length-filter_le}
+use Rattle.links.proofs.CutNamedLemmas.{end-cut_value, there_after}
+use Rattle.links.proofs.KindLemmas.{kinds_cut_value}
+use Rattle.links.proofs.LegalLemmas.{cut_value_legal}
+use Rattle.links.proofs.FilterLemmas.{filter_alike, filter_all, filter_from, length-filter_le}
 use Rattle.mm_types.specs.SameValues.{same_value-self, same_value-true}
-use Rattle.link_store.specs.Laws.{AreOnce, AreThere, names, names_far, without_all}
-use Rattle.link_store.proofs.SideLemmas.{both_ends_agree}
-use Rattle.link_store.specs.LegalSets.{AreKinds, AreOfKind, IsDistinct, IsLegalSet, Kinds}
-use Rattle.link_store.specs.Links.{Links, cut_value, end, far_end}
+use Rattle.links.specs.Laws.{AreOnce, AreThere, names, names_far, without_all}
+use Rattle.links.proofs.SideLemmas.{both_ends_agree}
+use Rattle.links.specs.LegalSets.{AreKinds, AreOfKind, IsDistinct, IsLegalSet, Kinds}
+use Rattle.links.specs.Links.{Links, cut_value, end, far_end}
 use Rattle.models.proofs.EndLemmas.{values-single}
-use Rattle.link_store.specs.Plans.{Has}
+use Rattle.links.specs.Plans.{Has}
 use Rattle.models.specs.Legal.{IsLegal, kinds_of}
 use Rattle.models.specs.Model.{Model, kept_flag, reading}
 use Rattle.models.specs.Reading.{held_at}

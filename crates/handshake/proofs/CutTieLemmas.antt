@@ -16,16 +16,16 @@ use Rattle.mm_types.specs.declared.numbers.Node.TheVariants as node
 use Rattle.mm_types.specs.declared.end.End.{End}
 use Rattle.mm_types.specs.declared.value.Value.{Value}
 use Rattle.mm_types.specs.declared.value.Value.TheVariants as value
-use Rattle.link_store.proofs.CutNamedLemmas.{end-without_all, holder-without_all}
-use Rattle.link_store.proofs.HolderLemmas.{holder-some, place_held}
+use Rattle.links.proofs.CutNamedLemmas.{end-without_all, holder-without_all}
+use Rattle.links.proofs.HolderLemmas.{holder-some, place_held}
 use Rattle.mm_types.specs.SameValues.{same_value-self, same_value-true}
-use Rattle.link_store.proofs.ScanLemmas.{same_bool}
-use Rattle.link_store.specs.Holders.{contained, holder}
-use Rattle.link_store.specs.Laws.{AreOnce, AreThere, is_named, kept_holder, names, names_far, without_all}
-use Rattle.link_store.specs.LegalSets.{IsDistinct, IsLegalSet}
-use Rattle.link_store.specs.Links.{Links, cut_value, end, far_end}
-use Rattle.link_store.specs.Plans.{Has}
-use Rattle.link_store.proofs.GoneLemmas.{without_all-nodes}
+use Rattle.links.proofs.ScanLemmas.{same_bool}
+use Rattle.links.specs.Holders.{contained, holder}
+use Rattle.links.specs.Laws.{AreOnce, AreThere, is_named, kept_holder, names, names_far, without_all}
+use Rattle.links.specs.LegalSets.{IsDistinct, IsLegalSet}
+use Rattle.links.specs.Links.{Links, cut_value, end, far_end}
+use Rattle.links.specs.Plans.{Has}
+use Rattle.links.proofs.GoneLemmas.{without_all-nodes}
 use Rattle.models.proofs.EndLemmas.{values-single}
 use Rattle.models.specs.Legal.{IsLegal, kinds_of}
 use Rattle.models.specs.Model.{Model, reading}

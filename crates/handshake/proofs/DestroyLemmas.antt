@@ -18,14 +18,14 @@ use Rattle.mm_types.specs.declared.numbers.ObjectNo.{ObjectNo}
 use Rattle.mm_types.specs.declared.value.Value.{Value}
 use Rattle.mm_types.specs.declared.value.Value.TheVariants as value
 use Rattle.mm_values.specs.Values.{ObjectState, stored_under}
-use Rattle.link_store.proofs.AboveLemmas.{above_is, not_above_itself}
-use Rattle.link_store.proofs.FilterLemmas.{filter_alike, filter_keeps}
-use Rattle.link_store.proofs.GoneLemmas.{end-without_nodes}
-use Rattle.link_store.specs.Holders.{above}
-use Rattle.link_store.specs.Laws.{goes}
-use Rattle.link_store.specs.LegalSets.{IsDistinct}
-use Rattle.link_store.specs.Links.{end, without_nodes}
-use Rattle.link_store.specs.Plans.{Has, has_end}
+use Rattle.links.proofs.AboveLemmas.{above_is, not_above_itself}
+use Rattle.links.proofs.FilterLemmas.{filter_alike, filter_keeps}
+use Rattle.links.proofs.GoneLemmas.{end-without_nodes}
+use Rattle.links.specs.Holders.{above}
+use Rattle.links.specs.Laws.{goes}
+use Rattle.links.specs.LegalSets.{IsDistinct}
+use Rattle.links.specs.Links.{end, without_nodes}
+use Rattle.links.specs.Plans.{Has, has_end}
 use Rattle.containment.proofs.MemberLemmas.{subtree-has}
 use Rattle.containment.proofs.PartLemmas.{legal-at}
 use Rattle.containment.specs.Forest.{subtree}

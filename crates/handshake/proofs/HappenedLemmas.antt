@@ -8,7 +8,7 @@ use Rattle.mm_types.specs.Resolved.{Metamodel}
 use Rattle.mm_types.specs.Same.{same_end}
 use Rattle.mm_types.specs.Shapes.{Shape, shape}
 use Rattle.mm_types.specs.declared.end.End.{End}
-use Rattle.link_store.proofs.PlaceLemmas.{ne-same_end}
+use Rattle.links.proofs.PlaceLemmas.{ne-same_end}
 use Rattle.handshake.specs.Telling.{changed, flagged, happened, happened_all}
 use Rattle.handshake.specs.declared.happening.Happening.{Happening}
 use Rattle.handshake.specs.declared.happening.Telling.{Telling}

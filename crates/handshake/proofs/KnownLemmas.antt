@@ -27,8 +27,8 @@ use Rattle.mm_types.specs.declared.refused.Refused.{Refused}
 use Rattle.mm_types.specs.declared.refused.Refused.TheVariants.{NoObject, NoResource, NoFeature, NotSingle, NotMany, WrongType, TextLength, Index, Duplicate, Bound, Recursive, Limit, ResourceExists, NotProxy, Unloaded, Unresolved}
 use Rattle.mm_types.specs.declared.value.Value.{Value}
 use Rattle.mm_types.specs.declared.value.Value.TheVariants as value
-use Rattle.link_store.specs.LegalSets.{AreKinds}
-use Rattle.link_store.specs.Links.{text_of}
+use Rattle.links.specs.LegalSets.{AreKinds}
+use Rattle.links.specs.Links.{text_of}
 use Rattle.web_uris.specs.Addresses.{uri_part}
 use Rattle.models.specs.Legal.{is_short, kinds_of, is_short_text}
 use Rattle.models.specs.Reading.{Reading, at_end, has_feature, is_live, is_node_live, is_repeat, is_value_live, place_for, takes, has_uri}

@@ -26,14 +26,14 @@ use Rattle.mm_types.proofs.SameLemmas.{same_end-self, same_end-true}
 use Rattle.mm_meta.specs.Laws as meta
 use Rattle.mm_meta.proofs.ShapeLemmas.{far_types_fit}
 use Rattle.mm_values.specs.Values.{ValuesState, class_of}
-use Rattle.link_store.specs.Laws.{goes, is_far, is_named, put_end, without_all}
-use Rattle.link_store.specs.Links.{Links, end, far_end, put, shift}
+use Rattle.links.specs.Laws.{goes, is_far, is_named, put_end, without_all}
+use Rattle.links.specs.Links.{Links, end, far_end, put, shift}
 use Rattle.mm_types.specs.Lists.{put_back, shifted}
-use Rattle.link_store.proofs.CutLemmas.{end-shift_near, end-shift_other}
-use Rattle.link_store.proofs.CutNamedLemmas.{end-without_all, without_all_legal}
-use Rattle.link_store.proofs.FilterLemmas.{length-filter_le}
-use Rattle.link_store.proofs.PutEndLemmas.{end-put}
-use Rattle.link_store.specs.LegalSets.{most}
+use Rattle.links.proofs.CutLemmas.{end-shift_near, end-shift_other}
+use Rattle.links.proofs.CutNamedLemmas.{end-without_all, without_all_legal}
+use Rattle.links.proofs.FilterLemmas.{length-filter_le}
+use Rattle.links.proofs.PutEndLemmas.{end-put}
+use Rattle.links.specs.LegalSets.{most}
 use Rattle.models.specs.Legal.{IsLegal, is_legal_end, is_legal_target, kinds_of}
 use Rattle.models.specs.Model.{Model, model_of, reading}
 use Rattle.models.specs.Reading.{Reading, has_feature, shape_at, takes}

@@ -30,14 +30,14 @@ use Rattle.containment.specs.Forest.{is_node_among, subtree}
 use Rattle.deletion.specs.Outer.{gone}
 use Rattle.mm_values.specs.declared.edit.ValueEdit.{ValueEdit}
 use Rattle.mm_values.specs.declared.edit.ValueEdit.TheVariants.{DropObject, InsertValue}
-use Rattle.link_store.specs.Holders.{HasNoCycle}
-use Rattle.link_store.specs.Laws.{goes, without_all}
-use Rattle.link_store.specs.LegalSets.{AreOfKind, IsLegalSet}
-use Rattle.link_store.specs.Links.{Links, end, put, shift}
-use Rattle.link_store.proofs.CycleLemmas.{plan_makes_no_cycle}
-use Rattle.link_store.proofs.GoneLemmas.{end-without_nodes}
-use Rattle.link_store.proofs.KindLemmas.{plan_keeps_kinds}
-use Rattle.link_store.proofs.LegalLemmas.{plan_keeps_legal}
+use Rattle.links.specs.Holders.{HasNoCycle}
+use Rattle.links.specs.Laws.{goes, without_all}
+use Rattle.links.specs.LegalSets.{AreOfKind, IsLegalSet}
+use Rattle.links.specs.Links.{Links, end, put, shift}
+use Rattle.links.proofs.CycleLemmas.{plan_makes_no_cycle}
+use Rattle.links.proofs.GoneLemmas.{end-without_nodes}
+use Rattle.links.proofs.KindLemmas.{plan_keeps_kinds}
+use Rattle.links.proofs.LegalLemmas.{plan_keeps_legal}
 use Rattle.models.specs.Legal.{AreLegalLinks, AreLegalUris, IsLegal, IsLegalObject, IsLegalStored, is_legal_end, is_short_text, kinds_of}
 use Rattle.models.specs.Model.{Model, attribute_values, kept_values, reading}
 use Rattle.models.specs.Reading.{at_end, first_at, has_feature, has_resource, is_repeat, place_for, takes}

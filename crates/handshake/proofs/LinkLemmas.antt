@@ -21,17 +21,17 @@ use Rattle.mm_types.specs.declared.numbers.ObjectNo.{ObjectNo}
 use Rattle.mm_types.specs.declared.value.Value.{Value}
 use Rattle.mm_types.specs.declared.value.Value.TheVariants as value
 use Rattle.mm_meta.proofs.ShapeLemmas.{opposites_are_pairs}
-use Rattle.link_store.specs.declared.plan.Edit.{Edit}
-use Rattle.link_store.specs.Holders.{above, contained, containing, holder}
-use Rattle.link_store.specs.Laws.{without_all}
-use Rattle.link_store.specs.LegalSets.{IsObject, most}
-use Rattle.link_store.specs.Links.{Links, end, far_end}
-use Rattle.link_store.specs.Plans.{EditFits, FarFitsIn, Has, IsFree, Lacks, MakesNoCycle}
-use Rattle.link_store.specs.declared.plan.Edit.TheVariants as edit
-use Rattle.link_store.proofs.CutNamedLemmas.{lacks-without_all, length-without_all, without_all_above, without_all_legal, without_all_no_cycle}
+use Rattle.links.specs.declared.plan.Edit.{Edit}
+use Rattle.links.specs.Holders.{above, contained, containing, holder}
+use Rattle.links.specs.Laws.{without_all}
+use Rattle.links.specs.LegalSets.{IsObject, most}
+use Rattle.links.specs.Links.{Links, end, far_end}
+use Rattle.links.specs.Plans.{EditFits, FarFitsIn, Has, IsFree, Lacks, MakesNoCycle}
+use Rattle.links.specs.declared.plan.Edit.TheVariants as edit
+use Rattle.links.proofs.CutNamedLemmas.{lacks-without_all, length-without_all, without_all_above, without_all_legal, without_all_no_cycle}
 use Rattle.mm_types.specs.SameValues.{same_value-self}
-use Rattle.link_store.proofs.PutEndLemmas.{put_outside}
-use Rattle.link_store.proofs.SideLemmas.{both_ends_agree}
+use Rattle.links.proofs.PutEndLemmas.{put_outside}
+use Rattle.links.proofs.SideLemmas.{both_ends_agree}
 use Rattle.models.proofs.EndLemmas.{value_at-first, values-single}
 use Rattle.models.proofs.PlaceLemmas.{has-at}
 use Rattle.models.specs.Legal.{IsLegal, kinds_of}

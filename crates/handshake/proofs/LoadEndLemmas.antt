@@ -25,7 +25,7 @@ use Rattle.mm_types.specs.declared.value.Value.{Value}
 use Rattle.mm_types.specs.declared.value.Value.TheVariants as value
 use Rattle.mm_meta.proofs.ShapeLemmas.{far_types_fit}
 use Rattle.mm_values.specs.Values.{ValuesState, class_of}
-use Rattle.link_store.specs.Links.{Links, end}
+use Rattle.links.specs.Links.{Links, end}
 use Rattle.web_uris.specs.Addresses.{is_proxy_text}
 use Rattle.web_uris.proofs.AddressFacts.{proxy_text-computed}
 use Rattle.models.specs.Legal.{IsLegal, is_legal_end, is_legal_target, takes_proxies}

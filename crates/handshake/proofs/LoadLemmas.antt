@@ -25,8 +25,8 @@ use Rattle.mm_types.specs.declared.refused.Refused.TheVariants.{Limit, NotEmpty}
 use Rattle.mm_types.specs.declared.value.Value.{Value}
 use Rattle.mm_types.specs.declared.value.Value.TheVariants as value
 use Rattle.mm_values.specs.Values.{Objects, class_of}
-use Rattle.link_store.specs.Links.{end}
-use Rattle.link_store.specs.Plans.{Lacks}
+use Rattle.links.specs.Links.{end}
+use Rattle.links.specs.Plans.{Lacks}
 use Rattle.models.specs.Legal.{IsLegal, is_legal_end, is_legal_target}
 use Rattle.models.specs.Model.{Model, reading}
 use Rattle.models.specs.Reading.{at_end, has_feature}

@@ -13,9 +13,9 @@ use Rattle.mm_types.specs.declared.end.End.{End}
 use Rattle.mm_types.specs.declared.numbers.ObjectNo.{ObjectNo}
 use Rattle.mm_types.specs.declared.value.Value.{Value}
 use Rattle.mm_types.specs.declared.value.Value.TheVariants as value
-use Rattle.link_store.specs.LegalSets.{IsDistinct}
-use Rattle.link_store.specs.Plans.{AreInOrder, has_end}
-use Rattle.link_store.proofs.ListLemmas.{distinct_remove}
+use Rattle.links.specs.LegalSets.{IsDistinct}
+use Rattle.links.specs.Plans.{AreInOrder, has_end}
+use Rattle.links.proofs.ListLemmas.{distinct_remove}
 use Rattle.models.proofs.EndLemmas.{values-single}
 use Rattle.models.proofs.PlaceLemmas.{has-at, index-at}
 use Rattle.models.specs.Legal.{IsLegal}

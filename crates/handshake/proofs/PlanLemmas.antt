@@ -10,13 +10,13 @@ use Rattle.mm_types.specs.declared.numbers.ObjectNo.{ObjectNo}
 use Rattle.mm_types.specs.declared.numbers.ResourceNo.{ResourceNo}
 use Rattle.mm_types.specs.declared.value.Value.{Value}
 use Rattle.mm_types.specs.declared.value.Value.TheVariants as value
-use Rattle.link_store.specs.declared.plan.Edit.{Edit}
-use Rattle.link_store.specs.Laws.{cut_edits, without_all}
-use Rattle.link_store.specs.Links.{Links, end, put, shift}
-use Rattle.link_store.specs.Plans.{IsPlanOfKind, PlanFits, PlanMakesNoCycle, applied}
-use Rattle.link_store.specs.declared.plan.Edit.TheVariants as edit
-use Rattle.link_store.proofs.CutNamedLemmas.{applied-cut_edits, cuts_fit, cuts_of_kind, cuts_without_cycle}
-use Rattle.link_store.proofs.LegalLemmas.{IsPlanOfKind-append, PlanFits-append, PlanMakesNoCycle-append, applied-append}
+use Rattle.links.specs.declared.plan.Edit.{Edit}
+use Rattle.links.specs.Laws.{cut_edits, without_all}
+use Rattle.links.specs.Links.{Links, end, put, shift}
+use Rattle.links.specs.Plans.{IsPlanOfKind, PlanFits, PlanMakesNoCycle, applied}
+use Rattle.links.specs.declared.plan.Edit.TheVariants as edit
+use Rattle.links.proofs.CutNamedLemmas.{applied-cut_edits, cuts_fit, cuts_of_kind, cuts_without_cycle}
+use Rattle.links.proofs.LegalLemmas.{IsPlanOfKind-append, PlanFits-append, PlanMakesNoCycle-append, applied-append}
 use Rattle.mm_values.specs.Values as values
 use Rattle.models.specs.Legal.{IsLegal, kinds_of}
 use Rattle.models.specs.Model.{Model, reading}

@@ -16,12 +16,12 @@ use Rattle.mm_types.specs.declared.numbers.FeatureNo.{FeatureNo}
 use Rattle.mm_types.specs.declared.numbers.ObjectNo.{ObjectNo}
 use Rattle.mm_types.specs.declared.value.Value.{Value}
 use Rattle.mm_types.specs.declared.value.Value.TheVariants as value
-use Rattle.link_store.proofs.CutNamedLemmas.{without_all_legal}
+use Rattle.links.proofs.CutNamedLemmas.{without_all_legal}
 use Rattle.mm_types.specs.SameValues.{same_value-true}
-use Rattle.link_store.proofs.PutEndLemmas.{end-put}
-use Rattle.link_store.specs.Laws.{AreThere, is_far, put_end, without_all}
-use Rattle.link_store.specs.Links.{Links, end, far_end, put}
-use Rattle.link_store.specs.Plans.{Has}
+use Rattle.links.proofs.PutEndLemmas.{end-put}
+use Rattle.links.specs.Laws.{AreThere, is_far, put_end, without_all}
+use Rattle.links.specs.Links.{Links, end, far_end, put}
+use Rattle.links.specs.Plans.{Has}
 use Rattle.models.proofs.EndLemmas.{values-single}
 use Rattle.models.specs.Legal.{IsLegal}
 use Rattle.models.specs.Model.{Model, kept_flag, reading}

@@ -13,15 +13,15 @@ use Rattle.mm_types.specs.declared.numbers.FeatureNo.{FeatureNo}
 use Rattle.mm_types.specs.declared.numbers.ObjectNo.{ObjectNo}
 use Rattle.mm_types.specs.declared.value.Value.{Value}
 use Rattle.mm_types.specs.declared.value.Value.TheVariants as value
-use Rattle.link_store.proofs.CutNamedLemmas.{end-cut_value, lacks-without_all}
-use Rattle.link_store.proofs.FilterLemmas.{filter_all, remove-filter}
-use Rattle.link_store.proofs.LegalLemmas.{cut_value_legal}
-use Rattle.link_store.proofs.PutEndLemmas.{end-put}
-use Rattle.link_store.specs.Holders.{contained}
-use Rattle.link_store.specs.Laws.{is_far, names}
-use Rattle.link_store.specs.LegalSets.{IsLegalSet, most}
-use Rattle.link_store.specs.Links.{Links, cut_value, end, new_link, put}
-use Rattle.link_store.specs.Plans.{EditFits, FarFitsIn, IsFree, IsOutside, Lacks, MakesNoCycle}
+use Rattle.links.proofs.CutNamedLemmas.{end-cut_value, lacks-without_all}
+use Rattle.links.proofs.FilterLemmas.{filter_all, remove-filter}
+use Rattle.links.proofs.LegalLemmas.{cut_value_legal}
+use Rattle.links.proofs.PutEndLemmas.{end-put}
+use Rattle.links.specs.Holders.{contained}
+use Rattle.links.specs.Laws.{is_far, names}
+use Rattle.links.specs.LegalSets.{IsLegalSet, most}
+use Rattle.links.specs.Links.{Links, cut_value, end, new_link, put}
+use Rattle.links.specs.Plans.{EditFits, FarFitsIn, IsFree, IsOutside, Lacks, MakesNoCycle}
 use Rattle.models.proofs.PlaceLemmas.{has-at}
 use Rattle.models.specs.Legal.{IsLegal, is_legal_end, is_legal_target, kinds_of, takes_proxies}
 use Rattle.models.specs.Model.{Model, reading}

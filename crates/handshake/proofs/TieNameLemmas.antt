@@ -16,10 +16,10 @@ use Rattle.mm_types.specs.declared.numbers.Node.{Node}
 use Rattle.mm_types.specs.declared.numbers.ObjectNo.{ObjectNo}
 use Rattle.mm_types.specs.declared.value.Value.TheVariants as value
 use Rattle.mm_types.specs.declared.value.Value.{Value}
-use Rattle.link_store.proofs.SideLemmas.{both_ends_agree}
-use Rattle.link_store.specs.Holders.{contained}
-use Rattle.link_store.specs.Links.{end, far_end}
-use Rattle.link_store.specs.Plans.{Has}
+use Rattle.links.proofs.SideLemmas.{both_ends_agree}
+use Rattle.links.specs.Holders.{contained}
+use Rattle.links.specs.Links.{end, far_end}
+use Rattle.links.specs.Plans.{Has}
 use Rattle.models.proofs.EndLemmas.{values-single}
 use Rattle.models.specs.Legal.{IsLegal, is_legal_end, is_legal_target, kinds_of, takes_proxies}
 use Rattle.models.specs.Model.{Model, reading}

@@ -19,14 +19,14 @@ use Rattle.mm_types.specs.declared.numbers.Node.TheVariants as node
 use Rattle.mm_types.specs.declared.numbers.ObjectNo.{ObjectNo}
 use Rattle.mm_types.specs.declared.value.Value.{Value}
 use Rattle.mm_types.specs.declared.value.Value.TheVariants as value
-use Rattle.link_store.proofs.CutNamedLemmas.{end-without_all}
-use Rattle.link_store.proofs.FilterLemmas.{filter_all}
-use Rattle.link_store.proofs.HolderLemmas.{holder-some, place_held}
+use Rattle.links.proofs.CutNamedLemmas.{end-without_all}
+use Rattle.links.proofs.FilterLemmas.{filter_all}
+use Rattle.links.proofs.HolderLemmas.{holder-some, place_held}
 use Rattle.mm_types.specs.SameValues.{same_value-true}
-use Rattle.link_store.specs.Holders.{contained, holder}
-use Rattle.link_store.specs.Laws.{is_named, without_all}
-use Rattle.link_store.specs.Links.{end, far_end}
-use Rattle.link_store.specs.Plans.{Lacks}
+use Rattle.links.specs.Holders.{contained, holder}
+use Rattle.links.specs.Laws.{is_named, without_all}
+use Rattle.links.specs.Links.{end, far_end}
+use Rattle.links.specs.Plans.{Lacks}
 use Rattle.models.specs.Legal.{IsLegal, kinds_of}
 use Rattle.models.specs.Model.{Model, reading}
 use Rattle.models.specs.Reading.{has_feature}

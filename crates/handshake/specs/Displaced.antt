@@ -12,8 +12,8 @@ use Rattle.mm_types.specs.declared.end.End.{End}
 use Rattle.mm_types.specs.declared.value.Value.{Value}
 use Rattle.mm_types.specs.declared.value.Value.TheVariants as value
 use Rattle.ties.specs.declared.tie.Tie.{Tie}
-use Rattle.link_store.specs.Links.{far_end}
-use Rattle.link_store.specs.Holders.{contained}
+use Rattle.links.specs.Links.{far_end}
+use Rattle.links.specs.Holders.{contained}
 use Rattle.models.specs.Reading.{Reading, at_end, is_repeat, shape_at, first_at, value_at}
 use Rattle.ties.specs.TreeTies.{tie, tree_ties}
 use Rattle.handshake.specs.declared.change.Change.{Change}

@@ -4,9 +4,9 @@ use Rattle.mm_types.specs.declared.end.End.{End}
 use Rattle.mm_types.specs.declared.numbers.Node.TheVariants as node
 use Rattle.mm_types.specs.declared.value.Value.{Value}
 use Rattle.mm_types.specs.declared.value.Value.TheVariants as value
-use Rattle.link_store.specs.declared.plan.Edit.{Edit}
-use Rattle.link_store.specs.declared.plan.Edit.TheVariants.{Put, Shift}
-use Rattle.link_store.specs.Laws.{cut_edit}
+use Rattle.links.specs.declared.plan.Edit.{Edit}
+use Rattle.links.specs.declared.plan.Edit.TheVariants.{Put, Shift}
+use Rattle.links.specs.Laws.{cut_edit}
 use Rattle.models.specs.Reading.{Reading, at_end, place_for, shape_at}
 use Rattle.handshake.specs.declared.change.Change.{Change}
 use Rattle.handshake.specs.declared.change.Change.TheVariants.{Create, Set, Unset, Add, Remove, RemoveValue, Move, Delete, NewResource, Resolve, Load}

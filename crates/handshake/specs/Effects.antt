@@ -11,7 +11,7 @@ use Rattle.mm_types.specs.declared.value.Value.TheVariants as value
 use Rattle.mm_values.specs.Values.{applied}
 use Rattle.mm_values.specs.declared.edit.ValueEdit.{ValueEdit}
 use Rattle.mm_values.specs.declared.edit.ValueEdit.TheVariants.{NewObject, DropObject, PutList, InsertValue, RemoveValue as TakeValue, MoveValue, NewUri}
-use Rattle.link_store.specs.Links.{Links, cut_value, end, put, shift, without_nodes}
+use Rattle.links.specs.Links.{Links, cut_value, end, put, shift, without_nodes}
 use Rattle.models.specs.Reading.{Reading, at_end, first_at, is_repeat, place_for, shape_at}
 use Rattle.models.specs.Model.{Model, reading}
 use Rattle.containment.specs.Forest.{subtree}

@@ -17,7 +17,7 @@ use Rattle.mm_types.specs.declared.refused.Refused.TheVariants.{WrongType, TextL
 use Rattle.mm_types.specs.declared.value.Value.{Value}
 use Rattle.mm_types.specs.declared.value.Value.TheVariants as value
 use Rattle.web_uris.specs.Addresses.{uri_part}
-use Rattle.link_store.specs.Links.{text_of}
+use Rattle.links.specs.Links.{text_of}
 use Rattle.models.specs.Reading.{Reading, at_end, has_uri, is_repeat, is_within, place_for, shape_at, takes}
 use Rattle.models.specs.Legal.{is_short, is_short_text}
 use Rattle.loading.specs.Loading.{is_empty_resource}

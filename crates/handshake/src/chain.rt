@@ -1,8 +1,7 @@
 //! The notices of what happens to ends.
-ghost use Rattle.std.specs.Prelude.{◌≡◌, ◌∷◌, ◌++◌, [], true, map, IfOk, IfErr, OnOk};
+ghost use Rattle.std.specs.Prelude.{◌≡◌, ◌∷◌, ◌++◌, [], true, map, IfOk, OnOk};
 ghost use Rattle.mm_types.specs.Ends.{index_in};
 ghost use Rattle.mm_types.specs.Shapes.{shape};
-ghost use Rattle.mm_types.specs.declared.refused.Refused.TheVariants.{Memory};
 ghost use Rattle.models.specs.Model.{reading};
 ghost use Rattle.deletion.specs.Losses.{losses as losses_of};
 ghost use Rattle.models.specs.Reading.{is_live};
@@ -12,21 +11,20 @@ ghost use Rattle.handshake.specs.declared.happening.Happening.TheVariants.{Gains
 
 use crate::happening::{Happening, Telling};
 use deletion::{Loss, losses};
-use link_store::LinkStore;
+use links::LinkStore;
 use mm_meta::Meta;
-use mm_types::{End, FeatureNo, ObjectNo, Refused, Value};
-use models::{ModelRef, copied, copy_of, is_single};
+use mm_types::{End, FeatureNo, ObjectNo, Value};
+use models::{ModelRef, copied};
 use notice_chain::{Chain, NO_INDEX, Notice, NoticeKind};
-use std::alloc::Global;
+use std::alloc::{AllocError, Global};
 
 /// The notices of what happens to ends, each read in the model as it is.
 pub(crate) fn notices<L: LinkStore>(
     alloc: Global,
     model: &ModelRef<L>,
     tellings: Vec<Telling>,
-) -> Result<Chain, Refused>
-    ensures ok { IfOk result (λ c. c ≡ map (notice_at (reading model.now)) tellings.items) }
-    ensures err { IfErr result (λ r. r ≡ Memory) }
+) -> Result<Chain, AllocError>
+    ensures { IfOk result (λ c. c ≡ map (notice_at (reading model.now)) tellings.items) }
 {
     let mut chain = Chain::new(alloc);
     for telling in tellings {
@@ -41,22 +39,11 @@ fn push_notice<L: LinkStore>(
     model: &ModelRef<L>,
     telling: Telling,
     chain: &mut Chain,
-) -> Result<(), Refused>
-    ensures ok { OnOk result (chain.new ≡ chain.old ++ notice_at (reading model.now) telling ∷ []) }
-    ensures err { IfErr result (λ r. r ≡ Memory) }
+) -> Result<(), AllocError>
+    ensures { OnOk result (chain.new ≡ chain.old ++ notice_at (reading model.now) telling ∷ []) }
 {
-    push(notice(alloc, model, telling)?, chain)
-}
-
-/// Adds a notice.
-pub(crate) fn push(notice: Notice, chain: &mut Chain) -> Result<(), Refused>
-    ensures ok { OnOk result (chain.new ≡ chain.old ++ notice ∷ []) }
-    ensures err { IfErr result (λ r. r ≡ Memory) }
-{
-    match chain.push(notice) {
-        Ok(()) => Ok(()),
-        Err(_) => Err(Refused::Memory),
-    }
+    chain.push(notice(alloc, model, telling)?)?;
+    Ok(())
 }
 
 /// The notices of what is lost with an object and all that is below it.
@@ -64,28 +51,23 @@ pub(crate) fn lost_notices<L: LinkStore>(
     alloc: Global,
     model: &ModelRef<L>,
     object: ObjectNo,
-) -> Result<Chain, Refused>
+) -> Result<Chain, AllocError>
     requires live { is_live (reading model.now) object ≡ true }
-    ensures ok { IfOk result (λ c. c ≡ map (lost_notice_of (reading model.now)) (losses_of (reading model.now) object)) }
-    ensures err { IfErr result (λ r. r ≡ Memory) }
+    ensures { IfOk result (λ c. c ≡ map (lost_notice_of (reading model.now)) (losses_of (reading model.now) object)) }
 {
-    match losses(alloc, model, object) {
-        Ok(losses) => each_lost(alloc, model, losses),
-        Err(_) => Err(Refused::Memory),
-    }
+    each_lost(alloc, model, losses(alloc, model, object)?)
 }
 
 fn each_lost<L: LinkStore>(
     alloc: Global,
     model: &ModelRef<L>,
     losses: Vec<Loss>,
-) -> Result<Chain, Refused>
-    ensures ok { IfOk result (λ c. c ≡ map (lost_notice_of (reading model.now)) losses.items) }
-    ensures err { IfErr result (λ r. r ≡ Memory) }
+) -> Result<Chain, AllocError>
+    ensures { IfOk result (λ c. c ≡ map (lost_notice_of (reading model.now)) losses.items) }
 {
     let mut chain = Chain::new(alloc);
     for loss in losses {
-        push(lost_notice(model, loss), &mut chain)?;
+        chain.push(lost_notice(model, loss))?;
     }
     Ok(chain)
 }
@@ -99,7 +81,7 @@ fn lost_notice<L: LinkStore>(model: &ModelRef<L>, loss: Loss) -> Notice
         value,
         position,
     } = loss;
-    let (kind, position) = if is_single(model.meta(), end.feature) {
+    let (kind, position) = if model.meta().is_single(end.feature) {
         (NoticeKind::Set, NO_INDEX)
     } else {
         (NoticeKind::Remove, i64::from(position))
@@ -129,16 +111,12 @@ fn notice<L: LinkStore>(
     alloc: Global,
     model: &ModelRef<L>,
     telling: Telling,
-) -> Result<Notice, Refused>
-    ensures ok { IfOk result (λ n. n ≡ notice_at (reading model.now) telling) }
-    ensures err { IfErr result (λ r. r ≡ Memory) }
+) -> Result<Notice, AllocError>
+    ensures { IfOk result (λ n. n ≡ notice_at (reading model.now) telling) }
 {
     let Telling { at, does } = telling;
     let was_set = model.is_set(at);
-    let report = match report_of(alloc, model, at, does) {
-        Ok(report) => report,
-        Err(refused) => return Err(refused),
-    };
+    let report = report_of(alloc, model, at, does)?;
     Ok(Notice {
         notifier: at.node,
         feature: Some(at.feature),
@@ -156,9 +134,8 @@ fn report_of<L: LinkStore>(
     model: &ModelRef<L>,
     at: End,
     does: Happening,
-) -> Result<Report, Refused>
-    ensures ok { IfOk result (λ p. reported (reading model.now) at p ≡ notice_at (reading model.now) (telling at does)) }
-    ensures err { IfErr result (λ r. r ≡ Memory) }
+) -> Result<Report, AllocError>
+    ensures { IfOk result (λ p. reported (reading model.now) at p ≡ notice_at (reading model.now) (telling at does)) }
 {
     match does {
         Happening::Gains(value) => gain(alloc, model, at, value),
@@ -193,11 +170,10 @@ fn resolved<L: LinkStore>(
     at: End,
     index: u32,
     value: Value,
-) -> Result<Report, Refused>
-    ensures ok { IfOk result (λ p. reported (reading model.now) at p ≡ notice_at (reading model.now) (telling at (Resolves index value))) }
-    ensures err { IfErr result (λ r. r ≡ Memory) }
+) -> Result<Report, AllocError>
+    ensures { IfOk result (λ p. reported (reading model.now) at p ≡ notice_at (reading model.now) (telling at (Resolves index value))) }
 {
-    let position = if is_single(model.meta(), at.feature) {
+    let position = if model.meta().is_single(at.feature) {
         NO_INDEX
     } else {
         i64::from(index)
@@ -216,11 +192,10 @@ fn gain<L: LinkStore>(
     model: &ModelRef<L>,
     at: End,
     value: Value,
-) -> Result<Report, Refused>
-    ensures ok { IfOk result (λ p. reported (reading model.now) at p ≡ notice_at (reading model.now) (telling at (Gains value))) }
-    ensures err { IfErr result (λ r. r ≡ Memory) }
+) -> Result<Report, AllocError>
+    ensures { IfOk result (λ p. reported (reading model.now) at p ≡ notice_at (reading model.now) (telling at (Gains value))) }
 {
-    if !is_single(model.meta(), at.feature) {
+    if !model.meta().is_single(at.feature) {
         return Ok(Report {
             kind: NoticeKind::Add,
             old_value: Value::Null,
@@ -240,7 +215,7 @@ fn gain<L: LinkStore>(
 fn loss<L: LinkStore>(model: &ModelRef<L>, at: End, value: Value) -> Report
     ensures { reported (reading model.now) at result ≡ notice_at (reading model.now) (telling at (Loses value)) }
 {
-    if is_single(model.meta(), at.feature) {
+    if model.meta().is_single(at.feature) {
         return Report {
             kind: NoticeKind::Set,
             old_value: value,
@@ -268,9 +243,8 @@ fn place_of<L: LinkStore>(model: &ModelRef<L>, at: End, value: &Value) -> u32
 }
 
 /// UNSET, from what a single end has to its default.
-fn unset<L: LinkStore>(alloc: Global, model: &ModelRef<L>, at: End) -> Result<Report, Refused>
-    ensures ok { IfOk result (λ p. reported (reading model.now) at p ≡ notice_at (reading model.now) (telling at Unsets)) }
-    ensures err { IfErr result (λ r. r ≡ Memory) }
+fn unset<L: LinkStore>(alloc: Global, model: &ModelRef<L>, at: End) -> Result<Report, AllocError>
+    ensures { IfOk result (λ p. reported (reading model.now) at p ≡ notice_at (reading model.now) (telling at Unsets)) }
 {
     Ok(Report {
         kind: NoticeKind::Unset,
@@ -281,12 +255,11 @@ fn unset<L: LinkStore>(alloc: Global, model: &ModelRef<L>, at: End) -> Result<Re
 }
 
 /// The default of a feature: null for a reference.
-fn default(meta: &Meta, feature: FeatureNo) -> Result<Value, Refused>
-    ensures ok { IfOk result (λ v. v ≡ (shape meta.now feature).default) }
-    ensures err { IfErr result (λ r. r ≡ Memory) }
+fn default(meta: &Meta, feature: FeatureNo) -> Result<Value, AllocError>
+    ensures { IfOk result (λ v. v ≡ (shape meta.now feature).default) }
 {
     match meta.default(feature) {
-        Some(value) => copy_of(value),
+        Some(value) => value.clone(),
         None => Ok(Value::Null),
     }
 }

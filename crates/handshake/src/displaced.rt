@@ -2,7 +2,7 @@
 ghost use Rattle.std.specs.Prelude.{◌≡◌, ◌++◌, [], true, None, fold, OnOk, IfOk, option_map, option_to_list, if◌then◌else◌};
 ghost use Rattle.std.specs.Option.{option_map_or};
 ghost use Rattle.mm_types.specs.Shapes.{shape};
-ghost use Rattle.link_store.specs.Holders as h;
+ghost use Rattle.links.specs.Holders as h;
 ghost use Rattle.models.specs.Found.{found_value};
 ghost use Rattle.models.specs.Model.{reading};
 ghost use Rattle.ties.specs.TreeTies.{tie};
@@ -11,10 +11,10 @@ ghost use Rattle.handshake.specs.Refusals as refusals;
 
 use crate::change::Change;
 use crate::tie::{at_end, far_end, is_among, node_value, opposite_end};
-use link_store::LinkStore;
+use links::LinkStore;
 use mm_meta::Meta;
 use mm_types::{End, Node, ObjectNo, Value};
-use models::{Found, ModelRef, is_reference, is_single};
+use models::{Found, ModelRef};
 use std::alloc::{AllocError, Global};
 use ties::{Tie, tree_ties};
 
@@ -51,7 +51,7 @@ fn add_held<L: LinkStore>(
     ensures { OnOk result (ties.new.items ≡ fold (d.with_tie (reading model.now)) ties.old.items (d.ties_if_single (reading model.now) end)) }
 {
     model.is_legal();
-    if !is_single(model.meta(), end.feature) {
+    if !model.meta().is_single(end.feature) {
         return Ok(());
     }
     match model.value_in(end, 0) {
@@ -213,7 +213,7 @@ fn ties_backwards<L: LinkStore>(
     ensures { IfOk result (λ ts. ts.items ≡ (if (shape model.now.metamodel end.feature).is_reference then d.ties_backwards end ((reading model.now).values end) else [])) }
 {
     let mut ties = Vec::new(alloc);
-    if !is_reference(model.meta(), end.feature) {
+    if !model.meta().is_reference(end.feature) {
         return Ok(ties);
     }
     for index in (0..model.len(end)).rev() {
@@ -232,7 +232,7 @@ fn tie_in<L: LinkStore>(
     ensures { IfOk result (λ ts. ts.items ≡ (if (shape model.now.metamodel end.feature).is_reference then option_map_or (d.tie_in (reading model.now) end) index [] else [])) }
 {
     let mut ties = Vec::new(alloc);
-    if !is_reference(model.meta(), end.feature) {
+    if !model.meta().is_reference(end.feature) {
         return Ok(ties);
     }
     if let Some(index) = index {
@@ -261,14 +261,14 @@ fn push_tie(
 pub(crate) fn is_plain_add<L: LinkStore>(model: &ModelRef<L>, end: End, value: &Value) -> bool
     ensures { result ≡ d.is_plain_add (reading model.now) end value.now }
 {
-    !is_reference(model.meta(), end.feature) || model.is_repeat(end, value)
+    !model.meta().is_reference(end.feature) || model.is_repeat(end, value)
 }
 
 /// Whether a set makes and cuts no link: of an attribute, or to the value that is there.
 pub(crate) fn is_plain_set<L: LinkStore>(model: &ModelRef<L>, end: End, value: &Value) -> bool
     ensures { result ≡ d.is_plain_set (reading model.now) end value.now }
 {
-    if !is_reference(model.meta(), end.feature) {
+    if !model.meta().is_reference(end.feature) {
         return true;
     }
     has_already(model, end, value)

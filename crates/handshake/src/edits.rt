@@ -1,7 +1,6 @@
 //! The edits of a change.
-ghost use Rattle.std.specs.Prelude.{◌≡◌, ◌∷◌, ◌++◌, [], true, None, Some, map, option_to_list, IfOk, IfErr};
+ghost use Rattle.std.specs.Prelude.{◌≡◌, ◌∷◌, ◌++◌, [], true, None, Some, map, option_to_list, IfOk};
 ghost use Rattle.mm_types.specs.Shapes.{shape};
-ghost use Rattle.mm_types.specs.declared.refused.Refused.TheVariants.{Memory};
 ghost use Rattle.mm_types.specs.declared.value.Value.TheVariants as value;
 ghost use Rattle.models.specs.Model.{reading};
 ghost use Rattle.models.specs.Reading.{at_end, is_live};
@@ -20,10 +19,10 @@ use crate::change::Change;
 use crate::displaced::{is_plain_add, is_plain_set};
 use crate::tie::{at_end, far_end};
 use containment::subtree;
-use link_store::{Edit, LinkStore, Plan};
-use mm_types::{End, FeatureNo, Node, ObjectNo, Refused, Seq, Text, Value};
+use links::{Edit, LinkStore, Plan};
+use mm_types::{End, FeatureNo, Node, ObjectNo, Seq, Text, Value};
 use mm_values::{ValueEdit, ValuePlan};
-use models::{ModelRef, is_reference, is_unique, is_unsettable, opposite};
+use models::ModelRef;
 use resource_docs::Doc;
 use std::alloc::{AllocError, Global};
 use ties::Tie;
@@ -108,7 +107,7 @@ fn made_edit<L: LinkStore>(model: &ModelRef<L>, change: &Change) -> Option<Edit>
             feature,
             to,
             from,
-        } if is_reference(model.meta(), *feature) => Some(Edit::Shift {
+        } if model.meta().is_reference(*feature) => Some(Edit::Shift {
             end: at_end(node, feature),
             to: *to,
             from: *from,
@@ -140,7 +139,7 @@ fn put_object<L: LinkStore>(model: &ModelRef<L>, end: End, index: u32, object: O
         end,
         index,
         object,
-        opposite: opposite(model.meta(), end.feature),
+        opposite: model.meta().opposite(end.feature),
         container: model.meta().containing(end.feature),
     }
 }
@@ -150,11 +149,10 @@ pub(crate) fn value_edits<L: LinkStore>(
     alloc: Global,
     model: &ModelRef<L>,
     change: Change,
-) -> Result<ValuePlan, Refused>
+) -> Result<ValuePlan, AllocError>
     requires asked { refusals.early_refusal (reading model.now) change ≡ None }
     requires fits { HasFittingDocument (reading model.now).next change }
-    ensures ok { IfOk result (λ p. p ≡ value_edits_of (reading model.now) change) }
-    ensures err { IfErr result (λ r. r ≡ Memory) }
+    ensures { IfOk result (λ p. p ≡ value_edits_of (reading model.now) change) }
 {
     match change {
         Change::Create(class) => Ok(ValuePlan::one(ValueEdit::NewObject(class))),
@@ -168,7 +166,7 @@ pub(crate) fn value_edits<L: LinkStore>(
         | Change::Remove { feature, .. }
         | Change::RemoveValue { feature, .. }
         | Change::Move { feature, .. }
-            if is_reference(model.meta(), feature) => { Ok(ValuePlan::none(alloc)) }
+            if model.meta().is_reference(feature) => { Ok(ValuePlan::none(alloc)) }
         Change::Set {
             node,
             feature,
@@ -207,15 +205,12 @@ fn load_edits<L: LinkStore>(
     alloc: Global,
     model: &ModelRef<L>,
     doc: Doc,
-) -> Result<ValuePlan, Refused>
+) -> Result<ValuePlan, AllocError>
     requires fits { IsFitting (reading model.now).next doc }
-    ensures ok { IfOk result (λ p. p ≡ loaded_values model.now.metamodel (reading model.now).next doc) }
-    ensures err { IfErr result (λ r. r ≡ Memory) }
+    ensures { IfOk result (λ p. p ≡ loaded_values model.now.metamodel (reading model.now).next doc) }
 {
-    match loading::value_edits(alloc, model.meta(), model.next(), doc) {
-        Ok(edits) => Ok(ValuePlan::from_seq(Seq::from_vec(edits))),
-        Err(_) => Err(Refused::Memory),
-    }
+    let edits = loading::value_edits(alloc, model.meta(), model.next(), doc)?;
+    Ok(ValuePlan::from_seq(Seq::from_vec(edits)))
 }
 
 /// The edits that destroy an object and all that is below it.
@@ -223,18 +218,12 @@ fn drop_edits<L: LinkStore>(
     alloc: Global,
     model: &ModelRef<L>,
     object: ObjectNo,
-) -> Result<ValuePlan, Refused>
+) -> Result<ValuePlan, AllocError>
     requires live { is_live (reading model.now) object ≡ true }
-    ensures ok { IfOk result (λ p. p ≡ map DropObject (subtree_of (reading model.now) object)) }
-    ensures err { IfErr result (λ r. r ≡ Memory) }
+    ensures { IfOk result (λ p. p ≡ map DropObject (subtree_of (reading model.now) object)) }
 {
-    let Ok(objects) = subtree(alloc, model, object) else {
-        return Err(Refused::Memory);
-    };
-    match drop_each(alloc, objects) {
-        Ok(edits) => Ok(ValuePlan::from_seq(Seq::from_vec(edits))),
-        Err(_) => Err(Refused::Memory),
-    }
+    let edits = drop_each(alloc, subtree(alloc, model, object)?)?;
+    Ok(ValuePlan::from_seq(Seq::from_vec(edits)))
 }
 
 fn drop_each(alloc: Global, objects: Vec<ObjectNo>) -> Result<Vec<ValueEdit>, AllocError>
@@ -266,7 +255,7 @@ fn add_value<L: LinkStore>(
             feature: end.feature,
             index: model.place_for(end, index),
             value,
-            is_unique: is_unique(model.meta(), end.feature),
+            is_unique: model.meta().is_unique(end.feature),
         }),
         Node::Resource(_) => ValuePlan::none(alloc),
     }
@@ -320,14 +309,11 @@ fn set_edits<L: LinkStore>(
     node: Node,
     feature: FeatureNo,
     value: Value,
-) -> Result<ValuePlan, Refused>
-    ensures ok { IfOk result (λ p. p ≡ put_values (at_end node feature) (value ∷ []) (shape model.now.metamodel feature).is_unsettable) }
-    ensures err { IfErr result (λ r. r ≡ Memory) }
+) -> Result<ValuePlan, AllocError>
+    ensures { IfOk result (λ p. p ≡ put_values (at_end node feature) (value ∷ []) (shape model.now.metamodel feature).is_unsettable) }
 {
-    let flag = is_unsettable(model.meta(), feature);
-    let Ok(mut list) = Vec::with_capacity(alloc, 1) else {
-        return Err(Refused::Memory);
-    };
+    let flag = model.meta().is_unsettable(feature);
+    let mut list = Vec::with_capacity(alloc, 1)?;
     list.push_reserved(value);
     Ok(put_list(alloc, node, feature, Seq::from_vec(list), flag))
 }

@@ -1,21 +1,19 @@
 //! What loading a document into a resource makes and tells, and why it can't be loaded.
-ghost use Rattle.std.specs.Prelude.{◌≡◌, ◌≤◌, length, map, IfOk, IfErr};
+ghost use Rattle.std.specs.Prelude.{◌≡◌, ◌≤◌, length, map, IfOk};
 ghost use Rattle.std.specs.List.{All, enumerate_from};
 ghost use Rattle.mm_types.specs.declared.limits.TheConstants.{LIST_VALUES};
-ghost use Rattle.mm_types.specs.declared.refused.Refused.TheVariants.{Memory};
 ghost use Rattle.models.specs.Model.{reading};
 ghost use Rattle.loading.specs.Fits.{IsNumbered};
 ghost use Rattle.handshake.specs.Refusals as refusals;
 ghost use Rattle.handshake.specs.Reports.{root_notice as root_notice_of};
 
-use crate::chain::push;
-use link_store::LinkStore;
+use links::LinkStore;
 use loading::{contents_end, loaded};
 use mm_types::{End, ObjectNo, Refused, ResourceNo, Value, limits};
 use models::ModelRef;
 use notice_chain::{Chain, Notice, NoticeKind};
 use resource_docs::Doc;
-use std::alloc::Global;
+use std::alloc::{AllocError, Global};
 
 /// Why a document can't be loaded into a resource: `Limit` or `NotEmpty`. Takes no memory.
 pub(crate) fn load_refusal<L: LinkStore>(
@@ -42,15 +40,14 @@ pub(crate) fn root_notices(
     next: usize,
     end: End,
     roots: &[ObjectNo],
-) -> Result<Chain, Refused>
+) -> Result<Chain, AllocError>
     requires few { length roots.now ≤ LIST_VALUES }
     requires fits { All (IsNumbered next) roots.now }
-    ensures ok { IfOk result (λ c. c ≡ map (root_notice_of next end) (enumerate_from 0 roots.now)) }
-    ensures err { IfErr result (λ r. r ≡ Memory) }
+    ensures { IfOk result (λ c. c ≡ map (root_notice_of next end) (enumerate_from 0 roots.now)) }
 {
     let mut chain = Chain::new(alloc);
     'roots: for (i, root) in roots.iter().enumerate() {
-        push(root_notice(next, end, i as u32, *root), &mut chain)?;
+        chain.push(root_notice(next, end, i as u32, *root))?;
     }
     Ok(chain)
 }

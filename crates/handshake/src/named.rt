@@ -6,10 +6,10 @@ ghost use Rattle.handshake.specs.Named as named;
 ghost use Rattle.handshake.specs.Refusals as refusals;
 
 use crate::change::Change;
-use link_store::LinkStore;
+use links::LinkStore;
 use mm_meta::Meta;
 use mm_types::{ClassNo, FeatureNo, Node, Refused, Value};
-use models::{ModelRef, is_concrete, is_single};
+use models::ModelRef;
 
 /// The first refusal of a change that needs no memory to be found: what it names is not there.
 ///
@@ -57,7 +57,7 @@ pub fn early_refusal<L: LinkStore>(model: &ModelRef<L>, change: &Change) -> Opti
 fn single_refusal(meta: &Meta, feature: FeatureNo) -> Option<Refused>
     ensures { result ≡ named.single_refusal meta.now feature }
 {
-    if is_single(meta, feature) {
+    if meta.is_single(feature) {
         None
     } else {
         Some(Refused::NotSingle)
@@ -67,7 +67,7 @@ fn single_refusal(meta: &Meta, feature: FeatureNo) -> Option<Refused>
 fn many_refusal(meta: &Meta, feature: FeatureNo) -> Option<Refused>
     ensures { result ≡ named.many_refusal meta.now feature }
 {
-    if is_single(meta, feature) {
+    if meta.is_single(feature) {
         Some(Refused::NotMany)
     } else {
         None
@@ -80,7 +80,7 @@ fn class_refusal(meta: &Meta, class: ClassNo) -> Option<Refused>
     if meta.class(class).is_none() {
         return Some(Refused::NoClass);
     }
-    if !is_concrete(meta, class) {
+    if !meta.is_concrete(class) {
         return Some(Refused::Abstract);
     }
     None

@@ -1,7 +1,7 @@
 //! The plan of a change: its edits, and the notices that it tells.
-ghost use Rattle.std.specs.Prelude.{◌≡◌, [], true, None, IfOk, IfErr, if◌then◌else◌};
+ghost use Rattle.std.specs.Prelude.{◌≡◌, [], true, None, IfOk, if◌then◌else◌};
 ghost use Rattle.mm_types.specs.Conditions.{◌unless◌, ◌else_by◌};
-ghost use Rattle.mm_types.specs.declared.refused.Refused.TheVariants.{Index, Memory};
+ghost use Rattle.mm_types.specs.declared.refused.Refused.TheVariants.{Index};
 ghost use Rattle.models.specs.Model.{reading};
 ghost use Rattle.models.specs.Reading.{takes};
 ghost use Rattle.handshake.specs.Displaced as d;
@@ -21,12 +21,12 @@ use crate::recursion::is_recursive;
 use crate::resolving::resolve_refusal;
 use crate::telling::tellings;
 use crate::tie::{at_end, far_end, opposite_end};
-use link_store::{LinkStore, Plan};
+use links::{LinkStore, Plan};
 use loading::contents_end;
 use mm_types::{End, FeatureNo, ObjectNo, Refused, Text, Value, limits};
-use models::{ModelRef, is_full, is_short, is_short_text};
+use models::{ModelRef, is_short, is_short_text};
 use notice_chain::Chain;
-use std::alloc::Global;
+use std::alloc::{AllocError, Global};
 use ties::Tie;
 
 /// The plan of a change whose class, nodes and features are there, or the first refusal that planning finds. The notices are
@@ -53,18 +53,13 @@ pub fn plan<L: LinkStore>(
     if let Some(refused) = late_refusal(model, &change) {
         return Err(refused);
     }
-    let (edits, chain) = match links_and_notices(alloc, model, &change, is_heard) {
-        Ok(planned) => planned,
-        Err(refused) => return Err(refused),
-    };
-    match value_edits(alloc, model, change) {
-        Ok(values) => Ok(Planned {
-            edits,
-            values,
-            chain,
-        }),
-        Err(refused) => Err(refused),
-    }
+    let (edits, chain) = links_and_notices(alloc, model, &change, is_heard)?;
+    let values = value_edits(alloc, model, change)?;
+    Ok(Planned {
+        edits,
+        values,
+        chain,
+    })
 }
 
 /// The edits of links that make a change, and the notices that it tells; none where nobody may hear them.
@@ -73,25 +68,17 @@ fn links_and_notices<L: LinkStore>(
     model: &ModelRef<L>,
     change: &Change,
     is_heard: bool,
-) -> Result<(Plan, Chain), Refused>
+) -> Result<(Plan, Chain), AllocError>
     requires asked { refusals.early_refusal (reading model.now) change.now ≡ None }
     requires allowed { refusals.late_refusal (reading model.now) change.now ≡ None }
     requires fits { HasFittingDocument (reading model.now).next change.now }
     ensures edits { IfOk result (λ p. p.0 ≡ e.link_edits (reading model.now) change.now) }
     ensures chain { IfOk result (λ p. p.1 ≡ (if is_heard then t.chain (reading model.now) change.now else [])) }
-    ensures err { IfErr result (λ r. r ≡ Memory) }
 {
-    let Ok(ties) = cut_ties(alloc, model, change) else {
-        return Err(Refused::Memory);
-    };
-    let chain = match heard_chain(alloc, model, change, &ties, is_heard) {
-        Ok(chain) => chain,
-        Err(refused) => return Err(refused),
-    };
-    match link_edits(alloc, model, ties, change) {
-        Ok(edits) => Ok((edits, chain)),
-        Err(_) => Err(Refused::Memory),
-    }
+    let ties = cut_ties(alloc, model, change)?;
+    let chain = heard_chain(alloc, model, change, &ties, is_heard)?;
+    let edits = link_edits(alloc, model, ties, change)?;
+    Ok((edits, chain))
 }
 
 /// The first refusal that planning finds. Takes no memory.
@@ -280,7 +267,7 @@ fn is_either_at_limit<L: LinkStore>(model: &ModelRef<L>, end: End, object: Objec
 fn is_full_at<L: LinkStore>(model: &ModelRef<L>, end: End) -> bool
     ensures { result ≡ refusals.is_full_at (reading model.now) end }
 {
-    is_full(model.meta(), end.feature, model.len(end))
+    model.meta().is_full(end.feature, model.len(end))
 }
 
 /// Whether an end has as many values as any list may have.
@@ -307,13 +294,12 @@ fn heard_chain<L: LinkStore>(
     change: &Change,
     ties: &[Tie],
     is_heard: bool,
-) -> Result<Chain, Refused>
+) -> Result<Chain, AllocError>
     requires asked { refusals.early_refusal (reading model.now) change.now ≡ None }
     requires allowed { refusals.late_refusal (reading model.now) change.now ≡ None }
     requires cut { ties.now ≡ d.cut_ties (reading model.now) change.now }
     requires fits { HasFittingDocument (reading model.now).next change.now }
-    ensures ok { IfOk result (λ c. c ≡ (if is_heard then t.chain (reading model.now) change.now else [])) }
-    ensures err { IfErr result (λ r. r ≡ Memory) }
+    ensures { IfOk result (λ c. c ≡ (if is_heard then t.chain (reading model.now) change.now else [])) }
 {
     if !is_heard {
         return Ok(Chain::new(alloc));
@@ -326,9 +312,6 @@ fn heard_chain<L: LinkStore>(
         let roots = contents_end(model.meta(), *resource);
         return root_notices(alloc, model.next(), roots, doc.roots.as_slice());
     }
-    let tellings = match tellings(alloc, model, change, ties) {
-        Ok(tellings) => tellings,
-        Err(refused) => return Err(refused),
-    };
+    let tellings = tellings(alloc, model, change, ties)?;
     notices(alloc, model, tellings)
 }

@@ -4,7 +4,7 @@ ghost use Rattle.models.specs.Model.{reading};
 ghost use Rattle.handshake.specs.Refusals as refusals;
 
 use deletion::is_within;
-use link_store::LinkStore;
+use links::LinkStore;
 use mm_types::{End, Node, ObjectNo};
 use models::ModelRef;
 

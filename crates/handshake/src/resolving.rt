@@ -8,9 +8,9 @@ ghost use Rattle.models.specs.Reading.{has_uri};
 ghost use Rattle.web_uris.specs.Addresses.{uri_part};
 ghost use Rattle.handshake.specs.Refusals as refusals;
 
-use link_store::LinkStore;
+use links::LinkStore;
 use mm_types::{End, ObjectNo, Refused, Value};
-use models::{ModelRef, is_reference};
+use models::ModelRef;
 use web_uris::split_address;
 
 /// Why what stands at an index can't be resolved to the object at its address, if there is one: `WrongType`, `Index`, `Duplicate`,
@@ -42,7 +42,7 @@ pub(crate) fn resolve_refusal<L: LinkStore>(
 fn is_mistyped<L: LinkStore>(model: &ModelRef<L>, end: End, target: Option<ObjectNo>) -> bool
     ensures { result ≡ refusals.is_mistyped (reading model.now) end target }
 {
-    if !is_reference(model.meta(), end.feature) {
+    if !model.meta().is_reference(end.feature) {
         return true;
     }
     match target {

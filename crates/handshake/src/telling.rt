@@ -1,7 +1,6 @@
 //! What a change makes happen, end by end.
-ghost use Rattle.std.specs.Prelude.{◌≡◌, ◌∷◌, ◌++◌, [], None, not, flat_map, filter, IfOk, IfErr, OnOk, OnErr};
+ghost use Rattle.std.specs.Prelude.{◌≡◌, ◌∷◌, ◌++◌, [], None, not, flat_map, filter, IfOk, OnOk};
 ghost use Rattle.mm_types.specs.Shapes.{is_containment};
-ghost use Rattle.mm_types.specs.declared.refused.Refused.TheVariants.{Memory};
 ghost use Rattle.mm_types.specs.declared.value.Value.TheVariants as value;
 ghost use Rattle.models.specs.Model.{reading};
 ghost use Rattle.models.specs.Reading.{at_end};
@@ -12,10 +11,10 @@ use crate::change::Change;
 use crate::displaced::is_plain_set;
 use crate::happening::{Happening, Telling};
 use crate::tie::{at_end, far_end, node_value, opposite_end, turned};
-use link_store::LinkStore;
-use mm_types::{End, ObjectNo, Refused, Value};
-use models::{ModelRef, copy_of, is_single};
-use std::alloc::Global;
+use links::LinkStore;
+use mm_types::{End, ObjectNo, Value};
+use models::ModelRef;
+use std::alloc::{AllocError, Global};
 use ties::Tie;
 
 /// What a change that cuts these links, and destroys and loads nothing, makes happen, in the order in which it is told.
@@ -24,11 +23,10 @@ pub(crate) fn tellings<L: LinkStore>(
     model: &ModelRef<L>,
     change: &Change,
     ties: &[Tie],
-) -> Result<Vec<Telling>, Refused>
+) -> Result<Vec<Telling>, AllocError>
     requires destroys_nothing { destroyed_by change.now ≡ None }
     requires loads_nothing { loaded_by change.now ≡ None }
-    ensures ok { IfOk result (λ ts. ts.items ≡ t.tellings_with (reading model.now) change.now ties.now) }
-    ensures err { IfErr result (λ r. r ≡ Memory) }
+    ensures { IfOk result (λ ts. ts.items ≡ t.tellings_with (reading model.now) change.now ties.now) }
 {
     let mut out = Vec::new(alloc);
     match change {
@@ -93,14 +91,13 @@ fn push_set<L: LinkStore>(
     value: &Value,
     ties: &[Tie],
     out: &mut Vec<Telling>,
-) -> Result<(), Refused>
-    ensures ok { OnOk result (out.new.items ≡ out.old.items ++ t.set_to (reading model.now) end value.now ties.now) }
-    ensures err { IfErr result (λ r. r ≡ Memory) }
+) -> Result<(), AllocError>
+    ensures { OnOk result (out.new.items ≡ out.old.items ++ t.set_to (reading model.now) end value.now ties.now) }
 {
     if !is_plain_set(model, end, value) {
         push_cuts(model, end, value, ties, out)?;
     }
-    push(out, end, Happening::Gains(copy_of(value)?))
+    push(out, end, Happening::Gains(value.clone()?))
 }
 
 /// Adds what happens where a value is added to a list: nothing where the list repeats nothing and has it.
@@ -111,15 +108,14 @@ fn push_added<L: LinkStore>(
     index: Option<u32>,
     ties: &[Tie],
     out: &mut Vec<Telling>,
-) -> Result<(), Refused>
-    ensures ok { OnOk result (out.new.items ≡ out.old.items ++ t.added (reading model.now) end value.now index ties.now) }
-    ensures err { IfErr result (λ r. r ≡ Memory) }
+) -> Result<(), AllocError>
+    ensures { OnOk result (out.new.items ≡ out.old.items ++ t.added (reading model.now) end value.now index ties.now) }
 {
     if model.is_repeat(end, value) {
         return Ok(());
     }
     push_cuts(model, end, value, ties, out)?;
-    push(out, end, gain_at(index, copy_of(value)?))
+    push(out, end, gain_at(index, value.clone()?))
 }
 
 /// A gain at the end of a list, or at an index.
@@ -139,9 +135,8 @@ fn push_taken_out<L: LinkStore>(
     ties: &[Tie],
     index: u32,
     out: &mut Vec<Telling>,
-) -> Result<(), Refused>
-    ensures ok { OnOk result (out.new.items ≡ out.old.items ++ t.taken_out (reading model.now) end ties.now index) }
-    ensures err { IfErr result (λ r. r ≡ Memory) }
+) -> Result<(), AllocError>
+    ensures { OnOk result (out.new.items ≡ out.old.items ++ t.taken_out (reading model.now) end ties.now index) }
 {
     push_far_losses(model, ties, out)?;
     push(out, end, Happening::LosesAt(index))
@@ -154,9 +149,8 @@ fn push_value_taken_out<L: LinkStore>(
     ties: &[Tie],
     value: &Value,
     out: &mut Vec<Telling>,
-) -> Result<(), Refused>
-    ensures ok { OnOk result (out.new.items ≡ out.old.items ++ t.value_taken_out (reading model.now) end ties.now value.now) }
-    ensures err { IfErr result (λ r. r ≡ Memory) }
+) -> Result<(), AllocError>
+    ensures { OnOk result (out.new.items ≡ out.old.items ++ t.value_taken_out (reading model.now) end ties.now value.now) }
 {
     match model.position(end, value) {
         Some(index) => push_taken_out(model, end, ties, index, out),
@@ -169,19 +163,17 @@ fn push_emptied<L: LinkStore>(
     model: &ModelRef<L>,
     end: End,
     out: &mut Vec<Telling>,
-) -> Result<(), Refused>
-    ensures ok { OnOk result (out.new.items ≡ out.old.items ++ t.emptied (reading model.now) end) }
-    ensures err { IfErr result (λ r. r ≡ Memory) }
+) -> Result<(), AllocError>
+    ensures { OnOk result (out.new.items ≡ out.old.items ++ t.emptied (reading model.now) end) }
 {
-    if is_single(model.meta(), end.feature) {
+    if model.meta().is_single(end.feature) {
         return push(out, end, Happening::Unsets);
     }
     push_all_lost(end, model.len(end), out)
 }
 
-fn push_all_lost(end: End, len: u32, out: &mut Vec<Telling>) -> Result<(), Refused>
-    ensures ok { OnOk result (out.new.items ≡ out.old.items ++ t.all_lost end len) }
-    ensures err { IfErr result (λ r. r ≡ Memory) }
+fn push_all_lost(end: End, len: u32, out: &mut Vec<Telling>) -> Result<(), AllocError>
+    ensures { OnOk result (out.new.items ≡ out.old.items ++ t.all_lost end len) }
 {
     for index in (0..len).rev() {
         push(out, end, Happening::LosesAt(index))?;
@@ -196,9 +188,8 @@ fn push_cuts<L: LinkStore>(
     value: &Value,
     ties: &[Tie],
     out: &mut Vec<Telling>,
-) -> Result<(), Refused>
-    ensures ok { OnOk result (out.new.items ≡ out.old.items ++ t.before_gain (reading model.now) end value.now ties.now) }
-    ensures err { IfErr result (λ r. r ≡ Memory) }
+) -> Result<(), AllocError>
+    ensures { OnOk result (out.new.items ≡ out.old.items ++ t.before_gain (reading model.now) end value.now ties.now) }
 {
     match value {
         Value::Object(object) => {
@@ -217,9 +208,8 @@ fn push_far_losses<L: LinkStore>(
     model: &ModelRef<L>,
     ties: &[Tie],
     out: &mut Vec<Telling>,
-) -> Result<(), Refused>
-    ensures ok { OnOk result (out.new.items ≡ out.old.items ++ t.far_losses (reading model.now) ties.now) }
-    ensures err { IfErr result (λ r. r ≡ Memory) }
+) -> Result<(), AllocError>
+    ensures { OnOk result (out.new.items ≡ out.old.items ++ t.far_losses (reading model.now) ties.now) }
 {
     for tie in ties {
         push_far_loss(model, tie, out)?;
@@ -231,9 +221,8 @@ fn push_far_loss<L: LinkStore>(
     model: &ModelRef<L>,
     tie: &Tie,
     out: &mut Vec<Telling>,
-) -> Result<(), Refused>
-    ensures ok { OnOk result (out.new.items ≡ out.old.items ++ t.far_loss (reading model.now) tie.now) }
-    ensures err { IfErr result (λ r. r ≡ Memory) }
+) -> Result<(), AllocError>
+    ensures { OnOk result (out.new.items ≡ out.old.items ++ t.far_loss (reading model.now) tie.now) }
 {
     match turned(model, tie) {
         Some(far) => push_loss(&far, out),
@@ -248,9 +237,8 @@ fn push_other_losses<L: LinkStore>(
     object: ObjectNo,
     ties: &[Tie],
     out: &mut Vec<Telling>,
-) -> Result<(), Refused>
-    ensures ok { OnOk result (out.new.items ≡ out.old.items ++ flat_map (t.other_losses (reading model.now) end object) ties.now) }
-    ensures err { IfErr result (λ r. r ≡ Memory) }
+) -> Result<(), AllocError>
+    ensures { OnOk result (out.new.items ≡ out.old.items ++ flat_map (t.other_losses (reading model.now) end object) ties.now) }
 {
     for tie in ties {
         push_losses(model, end, object, tie, out)?;
@@ -265,9 +253,8 @@ fn push_losses<L: LinkStore>(
     object: ObjectNo,
     tie: &Tie,
     out: &mut Vec<Telling>,
-) -> Result<(), Refused>
-    ensures ok { OnOk result (out.new.items ≡ out.old.items ++ t.other_losses (reading model.now) end object tie.now) }
-    ensures err { IfErr result (λ r. r ≡ Memory) }
+) -> Result<(), AllocError>
+    ensures { OnOk result (out.new.items ≡ out.old.items ++ t.other_losses (reading model.now) end object tie.now) }
 {
     let Some(far) = turned(model, tie) else {
         return push_other_loss(model, end, object, tie, out);
@@ -287,9 +274,8 @@ fn push_both<L: LinkStore>(
     first: &Tie,
     second: &Tie,
     out: &mut Vec<Telling>,
-) -> Result<(), Refused>
-    ensures ok { OnOk result (out.new.items ≡ out.old.items ++ filter (λ x. not (t.is_replaced (reading model.now) end object x.at)) (t.loss first.now ∷ t.loss second.now ∷ [])) }
-    ensures err { IfErr result (λ r. r ≡ Memory) }
+) -> Result<(), AllocError>
+    ensures { OnOk result (out.new.items ≡ out.old.items ++ filter (λ x. not (t.is_replaced (reading model.now) end object x.at)) (t.loss first.now ∷ t.loss second.now ∷ [])) }
 {
     push_other_loss(model, end, object, first, out)?;
     push_other_loss(model, end, object, second, out)?;
@@ -303,9 +289,8 @@ fn push_other_loss<L: LinkStore>(
     object: ObjectNo,
     tie: &Tie,
     out: &mut Vec<Telling>,
-) -> Result<(), Refused>
-    ensures ok { OnOk result (out.new.items ≡ out.old.items ++ filter (λ x. not (t.is_replaced (reading model.now) end object x.at)) (t.loss tie.now ∷ [])) }
-    ensures err { IfErr result (λ r. r ≡ Memory) }
+) -> Result<(), AllocError>
+    ensures { OnOk result (out.new.items ≡ out.old.items ++ filter (λ x. not (t.is_replaced (reading model.now) end object x.at)) (t.loss tie.now ∷ [])) }
 {
     if is_replaced(model, end, object, tie.end) {
         return Ok(());
@@ -317,7 +302,7 @@ fn push_other_loss<L: LinkStore>(
 fn is_replaced<L: LinkStore>(model: &ModelRef<L>, end: End, object: ObjectNo, other: End) -> bool
     ensures { result ≡ t.is_replaced (reading model.now) end object other }
 {
-    if !is_single(model.meta(), other.feature) {
+    if !model.meta().is_single(other.feature) {
         return false;
     }
     match opposite_end(model, end, object) {
@@ -326,20 +311,16 @@ fn is_replaced<L: LinkStore>(model: &ModelRef<L>, end: End, object: ObjectNo, ot
     }
 }
 
-fn push_loss(tie: &Tie, out: &mut Vec<Telling>) -> Result<(), Refused>
-    ensures ok { OnOk result (out.new.items ≡ out.old.items ++ t.loss tie.now ∷ []) }
-    ensures err { IfErr result (λ r. r ≡ Memory) }
+fn push_loss(tie: &Tie, out: &mut Vec<Telling>) -> Result<(), AllocError>
+    ensures { OnOk result (out.new.items ≡ out.old.items ++ t.loss tie.now ∷ []) }
 {
-    let value = copy_of(&tie.value)?;
+    let value = tie.value.clone()?;
     push(out, tie.end, Happening::Loses(value))
 }
 
-fn push(out: &mut Vec<Telling>, at: End, does: Happening) -> Result<(), Refused>
-    ensures ok { OnOk result (out.new.items ≡ out.old.items ++ record { at = at; does = does } ∷ []) }
-    ensures err { IfErr result (λ r. r ≡ Memory) }
+fn push(out: &mut Vec<Telling>, at: End, does: Happening) -> Result<(), AllocError>
+    ensures { OnOk result (out.new.items ≡ out.old.items ++ record { at = at; does = does } ∷ []) }
 {
-    match out.push(Telling { at, does }) {
-        Ok(()) => Ok(()),
-        Err(_) => Err(Refused::Memory),
-    }
+    out.push(Telling { at, does })?;
+    Ok(())
 }

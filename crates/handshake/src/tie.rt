@@ -4,12 +4,12 @@ ghost use Rattle.std.specs.List.{list_any};
 ghost use Rattle.mm_types.specs.Same as same;
 ghost use Rattle.models.specs.Model.{reading};
 ghost use Rattle.models.specs.Reading.{at_end as at_end_of};
-ghost use Rattle.link_store.specs.Links.{far_end as far_end_of};
+ghost use Rattle.links.specs.Links.{far_end as far_end_of};
 ghost use Rattle.handshake.specs.Displaced as d;
 
-use link_store::LinkStore;
+use links::LinkStore;
 use mm_types::{End, FeatureNo, Node, ObjectNo, Value};
-use models::{ModelRef, is_same, opposite};
+use models::{ModelRef, is_same};
 use ties::Tie;
 
 /// An object as a value; a resource is the value of no end.
@@ -50,7 +50,7 @@ pub(crate) fn opposite_end<L: LinkStore>(
 ) -> Option<End>
     ensures { result ≡ d.opposite_end (reading model.now) end object }
 {
-    match opposite(model.meta(), end.feature) {
+    match model.meta().opposite(end.feature) {
         Some(feature) => Some(far_end(object, feature)),
         None => None,
     }

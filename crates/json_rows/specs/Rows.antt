@@ -1,9 +1,10 @@
 -- A layout is rows, one for each key that an object may have: the key, whether it is required, and how its value is read.
-use Rattle.std.specs.Prelude.{ℕ, ◌≡◌, ◌&&◌, ◌++◌, ◌^◌, ℤ, pos, neg_ℤ, int_le, int_lt, Bool, true, false, List, [], ◌∷◌, Option, Some, None, Result, Ok, Err, if◌then◌else◌, option_and_then, option_map}
+use Rattle.std.specs.Prelude.{ℕ, ◌≡◌, ◌&&◌, ◌++◌, ℤ, Bool, true, false, List, [], ◌∷◌, Option, Some, None, Result, Ok, Err, if◌then◌else◌, option_and_then, option_map}
 use Rattle.std.specs.List.{list_any}
 use Rattle.std.specs.Str.{bytes_eq}
 use Rattle.serde_json.specs.Data.{Data, Items, no_items, item, Members, no_members, member}
 use Rattle.serde_json.specs.Find.{as_array, as_bool, as_i64, as_number, as_object, as_str, get, get_member}
+use Rattle.mm_types.specs.Integers.{is_of_bits}
 use Rattle.json_rows.specs.declared.read_fault.ReadFault.{ReadFault}
 use Rattle.json_rows.specs.declared.read_fault.ReadFault.TheVariants.{Layout, Memory}
 
@@ -36,20 +37,13 @@ given reading d = option_map Some (reading d)
 abbrev pub flag : Data → Option Bool
 flag = as_bool
 
--- from -2147483648 to 2147483647
-abbrev pub in_32_bits : ℤ → Bool
-in_32_bits z = int_le (neg_ℤ (pos (2 ^ 31))) z && int_lt z (pos (2 ^ 31))
-
-abbrev pub if_in_32_bits : ℤ → Option ℤ
-if_in_32_bits z = if in_32_bits z then Some z else None
-
 -- a whole number of 32 bits, signed
 abbrev pub whole_number : Data → Option ℤ
-whole_number d = as_number d >>= as_i64 >>= if_in_32_bits
+whole_number d = as_number d >>= as_i64 such_that is_of_bits 32
 
 -- a whole number of 64 bits, signed
 abbrev pub whole_number_of_64 : Data → Option ℤ
-whole_number_of_64 d = as_number d >>= as_i64
+whole_number_of_64 d = as_number d >>= as_i64 such_that is_of_bits 64
 
 -- this text and no other
 abbrev pub word : List ℕ → Data → Option (Unit {0})

@@ -3,20 +3,21 @@ use Rattle.std.proofs.Common.{◌≡◌, ◌≢◌, ℕ, Bool, true, false, List
 use Rattle.std.specs.Prelude.{◌⊎◌}
 use Rattle.std.proofs.lemmas.Bool.{false≢true, or_cases, or_left, or_right}
 use Rattle.std.proofs.lemmas.Option.{none-some, some_pair_parts}
-use Rattle.link_store.proofs.CutLemmas.{place_alone, place_at, place_near, place_out, place_proxy}
-use Rattle.link_store.proofs.EndLemmas.{Among, Among_cases, Among_head, Among_tail, from_list_HasLinks}
-use Rattle.link_store.proofs.HolderLemmas.{is_far_node-true}
-use Rattle.link_store.proofs.PlaceLemmas.{not_proxy, same_node_if, same_node_value}
-use Rattle.link_store.proofs.PutLemmas.{cases_end}
+use Rattle.links.proofs.PlacesLemmas.{has_end_cases, has_end_left, has_end_right}
+use Rattle.links.proofs.CutLemmas.{place_alone, place_at, place_near, place_out, place_proxy}
+use Rattle.links.proofs.EndLemmas.{Among, Among_cases, Among_head, Among_tail, from_list_HasLinks}
+use Rattle.links.proofs.HolderLemmas.{is_far_node-true}
+use Rattle.links.proofs.PlaceLemmas.{not_proxy, same_node_if, same_node_value}
+use Rattle.links.proofs.PutLemmas.{cases_end}
 use Rattle.link_store.proofs.RowLemmas.{of_rows}
-use Rattle.link_store.specs.Holders.{is_far_node}
-use Rattle.link_store.specs.LegalSets.{HasTwoSides, IsPlaced}
-use Rattle.link_store.specs.Places.{far_value, place}
-use Rattle.link_store.specs.Plans.{AreIncoming, has_end}
+use Rattle.links.specs.Holders.{is_far_node}
+use Rattle.links.specs.LegalSets.{HasTwoSides, IsPlaced}
+use Rattle.links.specs.Places.{far_value, place}
+use Rattle.links.specs.Plans.{AreIncoming, has_end}
 use Rattle.link_store.specs.Rows.{ends_to, ends_with, far_ends_to, if_end}
-use Rattle.link_store.specs.declared.link.Far.TheVariants.{At, Alone, Proxy}
-use Rattle.link_store.specs.declared.link.Far.{Far}
-use Rattle.link_store.specs.declared.link.Link.{Link}
+use Rattle.links.specs.declared.link.Far.TheVariants.{At, Alone, Proxy}
+use Rattle.links.specs.declared.link.Far.{Far}
+use Rattle.links.specs.declared.link.Link.{Link}
 use Rattle.mm_types.proofs.SameLemmas.{same_end-self, same_end-true, same_node-true}
 use Rattle.mm_types.specs.Same.{node_value, same_end, same_node}
 use Rattle.mm_types.specs.declared.end.End.{End}
@@ -24,21 +25,6 @@ use Rattle.mm_types.specs.declared.numbers.Node.TheVariants as node
 use Rattle.mm_types.specs.declared.numbers.Node.{Node}
 use Rattle.mm_types.specs.declared.numbers.ObjectNo.{ObjectNo}
 use Rattle.mm_types.specs.declared.value.Value.TheVariants as value
-
-pub has_end_left : (a b : List End) (c : End) → has_end a c ≡ true → has_end (a ++ b) c ≡ true
-has_end_left [] b c h = absurd (false≢true h)
-has_end_left (x ∷ xs) b c h = elim (or_cases (same_end x c) (has_end xs c) h) [ inl here ↦ or_left _ _ here | inr later ↦ or_right _ _ (has_end_left xs b c later) ]
-
-pub has_end_right : (a b : List End) (c : End) → has_end b c ≡ true → has_end (a ++ b) c ≡ true
-has_end_right [] b c h = h
-has_end_right (x ∷ xs) b c h = or_right _ _ (has_end_right xs b c h)
-
-pub has_end_cases : (a b : List End) (c : End) → has_end (a ++ b) c ≡ true → (has_end a c ≡ true) ⊎ (has_end b c ≡ true)
-has_end_cases [] b c h = inr h
-has_end_cases (x ∷ xs) b c h = elim (or_cases (same_end x c) (has_end (xs ++ b) c) h) [
-  | inl here ↦ inl (or_left _ _ here)
-  | inr later ↦ elim (has_end_cases xs b c later) [ inl p ↦ inl (or_right _ _ p) | inr p ↦ inr p ]
-]
 
 if_end-is : (b : Bool) (e c : End) → has_end (if_end b e) c ≡ true → (b ≡ true) × (e ≡ c)
 if_end-is true e c h = elim (or_cases (same_end e c) false h) [ inl here ↦ (refl, same_end-true e c here) | inr later ↦ absurd (false≢true later) ]

@@ -5,16 +5,16 @@ use Rattle.std.specs.List.{slice_get}
 use Rattle.std.specs.FinSet as set
 use Rattle.std.proofs.lemmas.Bool.{true≢false, false≢true}
 use Rattle.std.proofs.lemmas.Option.{none-some, same_Some}
-use Rattle.link_store.proofs.EndLemmas.{Among, Among_cases, Among_head, Among_tail, from_list_HasLinks, items_HasLinks, length_at_end, value_at_end}
+use Rattle.links.proofs.EndLemmas.{Among, Among_cases, Among_head, Among_tail, from_list_HasLinks, items_HasLinks, length_at_end, value_at_end}
 use Rattle.link_store.proofs.RowLemmas.{of_rows}
-use Rattle.link_store.proofs.ScanLemmas.{is_value_at-place, is_value_at-true, same_first_holding}
-use Rattle.link_store.specs.Holders.{first_holding, holder}
-use Rattle.link_store.specs.LegalSets.{IsHeldOnce, IsPlaced}
-use Rattle.link_store.specs.Links.{at_place, end, length_at, object_at, object_of, proxy_at, text_of, value_at}
-use Rattle.link_store.specs.Places.{has_value, place}
-use Rattle.link_store.specs.Plans.{Lacks}
+use Rattle.links.proofs.ScanLemmas.{is_value_at-place, is_value_at-true, same_first_holding}
+use Rattle.links.specs.Holders.{first_holding, holder}
+use Rattle.links.specs.LegalSets.{IsHeldOnce, IsPlaced}
+use Rattle.links.specs.Links.{at_place, end, length_at, object_at, object_of, proxy_at, text_of, value_at}
+use Rattle.links.specs.Places.{has_value, place}
+use Rattle.links.specs.Plans.{Lacks}
 use Rattle.link_store.specs.Rows.{first_object, first_text, index_of, is_index, object_on, position_in, text_on}
-use Rattle.link_store.specs.declared.link.Link.{Link}
+use Rattle.links.specs.declared.link.Link.{Link}
 use Rattle.mm_types.specs.declared.end.End.{End}
 use Rattle.mm_types.specs.declared.numbers.Node.{Node}
 use Rattle.mm_types.specs.declared.numbers.ObjectNo.{ObjectNo}

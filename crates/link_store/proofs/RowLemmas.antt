@@ -6,17 +6,18 @@ use Rattle.std.specs.List.{filter, All}
 use Rattle.std.specs.FinSet as set
 use Rattle.std.proofs.lemmas.Bool.{true≢false, false≢true, cases_Bool, not-true, not_from_false}
 use Rattle.std.proofs.lemmas.Option.{slice_get_within, none-some, same_Some}
-use Rattle.link_store.proofs.EditLemmas.{Among-map, Among_map, In-remove, In-renumbered, In_remove, In_renumbered}
-use Rattle.link_store.proofs.EndLemmas.{Among, Among_cases, Among_head, Among_tail, from_list_HasLinks, items_HasLinks}
-use Rattle.link_store.proofs.ScanLemmas.{find-some, is_value_at-place, is_value_at-true, one_with, same_find, same_links}
-use Rattle.link_store.specs.LegalSets.{IsPlaced}
-use Rattle.link_store.specs.Links.{In, Links, cut, cut_some, cut_value, end, lower, lowered_far, new_link, new_proxy, put, put_proxy, raise, renumbered, shift, shifted_index}
-use Rattle.link_store.specs.Order.{link_cmp_exact, link_cmp_total}
-use Rattle.link_store.specs.Places.{has_value, is_value_at, moved, place}
+use Rattle.links.proofs.AmongLemmas.{Among-filter, Among_filter}
+use Rattle.links.proofs.EditLemmas.{Among-map, Among_map, In-remove, In-renumbered, In_remove, In_renumbered}
+use Rattle.links.proofs.EndLemmas.{Among, Among_cases, Among_head, Among_tail, from_list_HasLinks, items_HasLinks}
+use Rattle.links.proofs.ScanLemmas.{find-some, is_value_at-place, is_value_at-true, one_with, same_find, same_links}
+use Rattle.links.specs.LegalSets.{IsPlaced}
+use Rattle.links.specs.Links.{In, Links, cut, cut_some, cut_value, end, lower, lowered_far, new_link, new_proxy, put, put_proxy, raise, renumbered, shift, shifted_index}
+use Rattle.links.specs.Order.{link_cmp_exact, link_cmp_total}
+use Rattle.links.specs.Places.{has_value, is_value_at, moved, place}
 use Rattle.link_store.specs.Rows.{CanChange, CanMove, far_spot, spot}
-use Rattle.link_store.specs.declared.link.Far.TheVariants.{At, Alone, Proxy}
-use Rattle.link_store.specs.declared.link.Far.{Far}
-use Rattle.link_store.specs.declared.link.Link.{Link}
+use Rattle.links.specs.declared.link.Far.TheVariants.{At, Alone, Proxy}
+use Rattle.links.specs.declared.link.Far.{Far}
+use Rattle.links.specs.declared.link.Link.{Link}
 use Rattle.link_store.specs.declared.renumbering.Renumbering.TheVariants.{Raise, Lower, Shift}
 use Rattle.link_store.specs.declared.renumbering.Renumbering.{Renumbering}
 use Rattle.link_store.specs.declared.rows.Spot.{Spot}
@@ -37,31 +38,6 @@ of_rows-map rows e r =
     same_links _ _
     (λ m h. let from = Among-map f rows m (new.has m h) in subst (λ (x : Link). In x (renumbered (of_rows rows) e r)) from.2 (In_renumbered (of_rows rows) e r from.0 (old.only from.0 from.1)))
     (λ m h. let from = In-renumbered (of_rows rows) e r m h in subst (λ (x : Link). In x (of_rows (map f rows))) from.2 (new.only (f from.0) (Among_map f rows from.0 (old.has from.0 from.1))))
-
-pub Among-filter : (p : Link → Bool) (ls : List Link) (m : Link) → Among m (filter p ls) → Among m ls × (p m ≡ true)
-Among-filter p [] m h = absurd (false≢true h)
-Among-filter p (l ∷ ls) m h =
-    elim (p l) as (λ b. p l ≡ b → Among m (cond b (l ∷ filter p ls) (filter p ls)) → Among m (l ∷ ls) × (p m ≡ true)) [
-      | true ↦ λ e q. elim (Among_cases m l (filter p ls) q) [
-        | inl same ↦ (subst (λ (x : Link). Among x (l ∷ ls)) (sym same) (Among_head l ls), ap p same ∙ e)
-        | inr later ↦ let rest = Among-filter p ls m later in (Among_tail m l ls rest.0, rest.1)
-      ]
-      | false ↦ λ e q. let rest = Among-filter p ls m q in (Among_tail m l ls rest.0, rest.1)
-    ] refl h
-
-pub Among_filter : (p : Link → Bool) (ls : List Link) (m : Link) → Among m ls → p m ≡ true → Among m (filter p ls)
-Among_filter p [] m h e = absurd (false≢true h)
-Among_filter p (l ∷ ls) m h e =
-    elim (p l) as (λ b. p l ≡ b → Among m (cond b (l ∷ filter p ls) (filter p ls))) [
-      | true ↦ λ q. elim (Among_cases m l ls h) [
-        | inl same ↦ subst (λ (x : Link). Among x (l ∷ filter p ls)) (sym same) (Among_head l (filter p ls))
-        | inr later ↦ Among_tail m l (filter p ls) (Among_filter p ls m later e)
-      ]
-      | false ↦ λ q. elim (Among_cases m l ls h) [
-        | inl same ↦ absurd (true≢false (sym e ∙ ap p same ∙ q))
-        | inr later ↦ Among_filter p ls m later e
-      ]
-    ] refl
 
 pub cut_value-rows : (rows : List Link) (e : End) (v : Value) → IsPlaced (of_rows rows) → cut_value (of_rows rows) e v ≡ cut_some (of_rows rows) (find (has_value e v) rows)
 unfolding cut_value

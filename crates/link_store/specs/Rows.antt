@@ -7,17 +7,18 @@ use Rattle.mm_types.specs.declared.numbers.Node.{Node}
 use Rattle.mm_types.specs.declared.numbers.ObjectNo.{ObjectNo}
 use Rattle.mm_types.specs.declared.end.End.{End}
 use Rattle.mm_types.specs.declared.value.Value.{Value}
-use Rattle.link_store.specs.declared.incoming.Incoming.{Incoming}
-use Rattle.link_store.specs.declared.link.Far.{Far}
-use Rattle.link_store.specs.declared.link.Far.TheVariants.{At, Alone, Proxy}
-use Rattle.link_store.specs.declared.link.Link.{Link}
+use Rattle.links.specs.declared.incoming.Incoming.{Incoming}
+use Rattle.links.specs.declared.link.Far.{Far}
+use Rattle.links.specs.declared.link.Far.TheVariants.{At, Alone, Proxy}
+use Rattle.links.specs.declared.link.Link.{Link}
 use Rattle.link_store.specs.declared.renumbering.Renumbering.{Renumbering}
 use Rattle.link_store.specs.declared.renumbering.Renumbering.TheVariants.{Raise, Lower, Shift}
 use Rattle.link_store.specs.declared.rows.Spot.{Spot}
-use Rattle.link_store.specs.Holders.{is_far_node}
-use Rattle.link_store.specs.Links.{lower, object_of, raise, shifted_index, text_of}
-use Rattle.link_store.specs.Places.{has_value, place}
-use Rattle.link_store.specs.Plans.{has_end, is_before}
+use Rattle.links.specs.Holders.{is_far_node}
+use Rattle.links.specs.InOrder.{places_by}
+use Rattle.links.specs.Links.{lower, object_of, raise, shifted_index, text_of}
+use Rattle.links.specs.Places.{has_value, place}
+use Rattle.links.specs.Plans.{has_end, is_before}
 
 abbrev pub changed_index : Renumbering → ℕ → ℕ
 changed_index (Raise i) k = raise i k
@@ -91,27 +92,6 @@ ends_to l n = if_end (is_far_node l.far n) l.end ++ far_ends_to l.end.node l.far
 abbrev pub ends_with : List Link → Node → List End
 ends_with [] n = []
 ends_with (l ∷ ls) n = ends_to l n ++ ends_with ls n
-
--- where e goes in a list in order
-abbrev pub gap_for : List End → End → ℕ
-gap_for es e = prefix_len (λ d. is_before d e) es
-
--- the list in order, and e in it
-abbrev pub with_end : List End → End → List End
-with_end es e = if has_end es e then es else insert es (gap_for es e) e
-
-abbrev pub in_order : List End → List End
-in_order es = fold with_end [] es
-
--- the entry for a position in e, if there is one
-abbrev pub place_if : End → Option ℕ → List Incoming
-place_if e None = []
-place_if e (Some k) = record { feature = e.feature; node = e.node; position = k } ∷ []
-
--- where each of the ends has a value, as a search tells it
-abbrev pub places_by : (End → Option ℕ) → List End → List Incoming
-places_by found [] = []
-places_by found (e ∷ es) = place_if e (found e) ++ places_by found es
 
 -- where each of the ends has v first
 abbrev pub places_in : List Link → List End → Value → List Incoming

@@ -1,20 +1,12 @@
 //! Where an object stands.
 ghost use Rattle.std.specs.Prelude.{◌≡◌, ◌++◌, IfOk, OnOk};
-ghost use Rattle.link_store.specs.Rows.{place_if, places_in};
+ghost use Rattle.link_store.specs.Rows.{places_in};
+ghost use Rattle.links.specs.InOrder.{place_if};
 
-use crate::link::Link;
 use crate::rows::position_of;
-use mm_types::{End, FeatureNo, Node, Value};
+use links::{Incoming, Link};
+use mm_types::{End, Value};
 use std::alloc::{AllocError, Global};
-
-/// A position at which an object stands: in the end of a node's feature.
-#[derive(Clone, Copy)]
-pub struct Incoming {
-    pub feature: FeatureNo,
-    pub node: Node,
-    /// The position, from 0.
-    pub position: u32,
-}
 
 fn push_place(position: Option<u32>, end: End, out: &mut Vec<Incoming>) -> Result<(), AllocError>
     ensures { OnOk result (out.new.items ≡ out.old.items ++ place_if end position) }

@@ -1,20 +1,12 @@
-//! Links between objects, and proxies: what a set of them is, its edits and their laws, and what a store of one is. A plan of
-//! edits that fits a legal set keeps it legal, and a store that has room for a plan applies it and cannot fail.
+//! The stores of links: `RowStore`, rows that are scanned, and `SlotStore`, lists at both ends of each link.
 #![tactic(auto)]
 
 mod incoming;
-pub mod laws;
-mod link;
-mod plan;
 mod renumbering;
 mod row_edits;
 mod row_store;
 mod rows;
-mod store;
 
-pub use incoming::Incoming;
-pub use link::{Far, Link};
-pub use plan::{Edit, Plan};
+pub use links::{Edit, Incoming, LinkStore, Plan};
 pub use row_store::RowStore;
-pub use rows::ordered;
-pub use store::LinkStore;
+pub use slot_store::SlotStore;

@@ -1,6 +1,6 @@
 //! How the positions of one end change.
 ghost use Rattle.std.specs.Prelude.{◌≡◌, ◌+◌, ◌<◌, ◌^◌};
-ghost use Rattle.link_store.specs.Links.{lower, raise};
+ghost use Rattle.links.specs.Links.{lower, raise};
 
 /// One renumbering of an end's positions.
 #[derive(Clone, Copy)]

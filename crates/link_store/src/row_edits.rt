@@ -2,16 +2,15 @@
 ghost use Rattle.std.specs.FinSet as set;
 ghost use Rattle.std.specs.List.{All};
 ghost use Rattle.std.specs.Prelude.{◌≡◌, ◌+◌, ◌<◌, ◌≤◌, not, map, filter, vec_len, vec_capacity};
-ghost use Rattle.link_store.specs.LegalSets.{IsPlaced};
-ghost use Rattle.link_store.specs.Links.{cut_value, joined, new_link, put, put_proxy, shift};
-ghost use Rattle.link_store.specs.Places.{has_value, moved};
-ghost use Rattle.link_store.specs.Plans.{edited};
+ghost use Rattle.links.specs.LegalSets.{IsPlaced};
+ghost use Rattle.links.specs.Links.{cut_value, joined, new_link, put, put_proxy, shift};
+ghost use Rattle.links.specs.Places.{has_value, moved};
+ghost use Rattle.links.specs.Plans.{edited};
 ghost use Rattle.link_store.specs.Rows.{CanMove, changed_index};
 
-use crate::link::{Far, Link};
-use crate::plan::Edit;
 use crate::renumbering::Renumbering;
 use crate::rows::{has, len_of, spot_of};
+use links::{Edit, Far, Link};
 use mm_types::{End, FeatureNo, Node, ObjectNo, Text, Value};
 
 // Changes the row's position in an end.

@@ -2,12 +2,10 @@
 ghost use Rattle.std.specs.Prelude.{◌≡◌, ◌+◌, ◌≤◌, length, vec_len, vec_capacity};
 ghost use Rattle.std.specs.FinSet as set;
 
-use crate::incoming::{Incoming, places_of};
-use crate::link::Link;
-use crate::plan::Plan;
+use crate::incoming::places_of;
 use crate::row_edits::edit_rows;
 use crate::rows::{ends_of, holder_in, len_of, object_in, ordered, position_of, text_in};
-use crate::store::LinkStore;
+use links::{Incoming, Link, LinkStore, Plan};
 use mm_types::{End, Node, ObjectNo, Value};
 use std::alloc::{AllocError, Global};
 

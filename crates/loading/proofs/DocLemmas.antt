@@ -1,6 +1,6 @@
 -- What is known of a content of a document that is read, by the shape of its feature.
-use Rattle.std.proofs.Common.{◌≡◌, ◌∙◌, ◌-◌, ◌^◌, ℕ, ℤ, zero, suc, Bool, true, false, cond, List, [], ◌∷◌, Option, Some, None, refl, sym, ap, subst}
-use Rattle.std.specs.Prelude.{◌&&◌, IfSome, filter_map, int_le, is_some, neg_ℤ, option_map, pos, slice_get}
+use Rattle.std.proofs.Common.{◌≡◌, ◌∙◌, ℕ, zero, suc, Bool, true, false, cond, List, [], ◌∷◌, Option, Some, None, refl, sym, ap, subst}
+use Rattle.std.specs.Prelude.{◌&&◌, IfSome, filter_map, is_some, option_map, slice_get}
 use Rattle.std.specs.List.{AllByRecursion, enumerate_from, list_any}
 use Rattle.std.specs.Option.{option_map_or, option_or}
 use Rattle.std.proofs.lemmas.Bool.{false≢true, or_parts, true≢false}
@@ -8,7 +8,7 @@ use Rattle.std.proofs.lemmas.Option.{none-some, same_Some}
 use Rattle.serde_json.specs.Data.{Data}
 use Rattle.serde_json.specs.Find.{as_bool, as_null, as_str}
 use Rattle.mm_types.specs.Lookups as lookups
-use Rattle.mm_types.specs.Resolved.{Metamodel, int_within}
+use Rattle.mm_types.specs.Resolved.{Metamodel}
 use Rattle.mm_types.specs.Same.{is_nil, same_value}
 use Rattle.mm_types.specs.SameValues.{same_value-self}
 use Rattle.mm_types.specs.Shapes.{Shape, contents_shape, shape, shape_of}
@@ -22,11 +22,11 @@ use Rattle.mm_types.specs.declared.numbers.FeatureNo.{FeatureNo}
 use Rattle.mm_types.specs.declared.numbers.ObjectNo.{ObjectNo}
 use Rattle.mm_types.specs.declared.value.Value.{Value}
 use Rattle.mm_types.specs.declared.value.Value.TheVariants as value
-use Rattle.link_store.specs.LegalSets.{IsDistinct}
+use Rattle.links.specs.LegalSets.{IsDistinct}
 use Rattle.web_uris.specs.Paths.{with_step}
 use Rattle.web_uris.specs.declared.path.Path.{Path}
 use Rattle.web_uris.specs.declared.path.Step.{Step}
-use Rattle.json_rows.specs.Rows.{◌>>=◌, ◌such_that◌, whole_number_of_64}
+use Rattle.json_rows.specs.Rows.{◌>>=◌, ◌such_that◌, whole_number, whole_number_of_64}
 use Rattle.doc_parts.specs.Contents.{attribute_value, conforms_to, is_short}
 use Rattle.doc_parts.specs.Parts.{Entry, Part, number_of, step_to, values_of}
 use Rattle.resource_docs.specs.Causes.{has_cross, is_proxy, repeats_value}
@@ -58,18 +58,10 @@ null-plain false o = tt
 null-plain true None = tt
 null-plain true (Some x) = tt
 
-int-plain : (b : Bool) (i : ℤ) → IfSome (cond b (Some (value.Int i)) None) IsPlain
-int-plain true i = tt
-int-plain false i = tt
-
-bounded-plain : (low high : ℤ) (o : Option ℤ) → IfSome (o >>= int_within low high) IsPlain
-bounded-plain low high None = tt
-bounded-plain low high (Some i) = int-plain (int_le low i && int_le i high) i
-
 attribute-plain : (m : Metamodel) (single : Bool) (t : DataType) (d : Data) → IfSome (attribute_value m single t d) IsPlain
 attribute-plain m single EString d =
     either-plain (cond single (option_map (λ x. value.Null) (as_null d)) None) (option_map value.Text (as_str d such_that is_short)) (null-plain single (as_null d)) (mapped-plain value.Text (as_str d such_that is_short) (λ x. tt))
-attribute-plain m single EInt d = bounded-plain (neg_ℤ (pos (2 ^ 31))) (pos (2 ^ 31 - 1)) (whole_number_of_64 d)
+attribute-plain m single EInt d = mapped-plain value.Int (whole_number d) (λ x. tt)
 attribute-plain m single ELong d = mapped-plain value.Int (whole_number_of_64 d) (λ x. tt)
 attribute-plain m single EBoolean d = mapped-plain value.Bool (as_bool d) (λ x. tt)
 attribute-plain m single (Enum e) d = mapped-plain value.Literal (as_str d >>= lookups.literal_by_name m e) (λ x. tt)

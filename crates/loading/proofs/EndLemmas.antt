@@ -11,14 +11,14 @@ use Rattle.mm_types.specs.declared.numbers.ObjectNo.{ObjectNo}
 use Rattle.mm_types.specs.declared.numbers.ResourceNo.{ResourceNo}
 use Rattle.mm_types.specs.declared.value.Value.{Value}
 use Rattle.mm_types.specs.declared.value.Value.TheVariants as value
-use Rattle.link_store.proofs.CycleLemmas.{plan_makes_no_cycle}
-use Rattle.link_store.proofs.KindLemmas.{plan_keeps_kinds}
-use Rattle.link_store.proofs.LegalLemmas.{PlanFits-append, PlanMakesNoCycle-append, applied-append, plan_keeps_legal}
-use Rattle.link_store.specs.Holders.{HasNoCycle}
-use Rattle.link_store.specs.LegalSets.{AreOfKind, IsLegalSet}
-use Rattle.link_store.specs.Links.{Links, end}
-use Rattle.link_store.specs.Plans.{PlanFits, PlanMakesNoCycle, applied}
-use Rattle.link_store.specs.declared.plan.Edit.{Edit}
+use Rattle.links.proofs.CycleLemmas.{plan_makes_no_cycle}
+use Rattle.links.proofs.KindLemmas.{plan_keeps_kinds}
+use Rattle.links.proofs.LegalLemmas.{PlanFits-append, PlanMakesNoCycle-append, applied-append, plan_keeps_legal}
+use Rattle.links.specs.Holders.{HasNoCycle}
+use Rattle.links.specs.LegalSets.{AreOfKind, IsLegalSet}
+use Rattle.links.specs.Links.{Links, end}
+use Rattle.links.specs.Plans.{PlanFits, PlanMakesNoCycle, applied}
+use Rattle.links.specs.declared.plan.Edit.{Edit}
 use Rattle.models.specs.Legal.{kinds_of}
 use Rattle.resource_docs.specs.Read.{values_in, values_under}
 use Rattle.resource_docs.specs.declared.doc.Doc.{Doc}

@@ -8,10 +8,10 @@ use Rattle.mm_types.specs.declared.numbers.Node.TheVariants as node
 use Rattle.mm_types.specs.declared.value.Value.{Value}
 use Rattle.mm_types.specs.declared.value.Value.TheVariants as value
 use Rattle.mm_values.specs.declared.edit.ValueEdit.TheVariants.{NewObject, PutList}
-use Rattle.link_store.specs.declared.link.Link.{Link}
-use Rattle.link_store.specs.declared.plan.Edit.{Edit}
-use Rattle.link_store.specs.declared.plan.Edit.TheVariants.{Cut, Put}
-use Rattle.link_store.specs.Links.{values}
+use Rattle.links.specs.declared.link.Link.{Link}
+use Rattle.links.specs.declared.plan.Edit.{Edit}
+use Rattle.links.specs.declared.plan.Edit.TheVariants.{Cut, Put}
+use Rattle.links.specs.Links.{values}
 use Rattle.models.specs.Reading.{at_end}
 use Rattle.resource_docs.specs.declared.doc.Content.{Content}
 use Rattle.resource_docs.specs.declared.doc.Doc.{Doc}

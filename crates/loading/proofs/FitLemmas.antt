@@ -1,6 +1,6 @@
 -- A document that is read has no longer lists than it may have, and names no object that it does not have.
-use Rattle.std.proofs.Common.{◌≡◌, ◌+◌, ◌-◌, ◌^◌, ◌<◌, ◌≤◌, Bool, true, false, List, [], ◌∷◌, Option, Some, None, ℕ, ℤ, arith, cond, length, map, refl, subst, sym}
-use Rattle.std.specs.Prelude.{◌&&◌, ◌||◌, filter_map, int_le, nat_le, neg_ℤ, not, option_map, pos, slice_get, IfSome}
+use Rattle.std.proofs.Common.{◌≡◌, ◌+◌, ◌<◌, ◌≤◌, Bool, true, false, List, [], ◌∷◌, Option, Some, None, ℕ, arith, cond, length, map, refl, subst, sym}
+use Rattle.std.specs.Prelude.{◌&&◌, ◌||◌, filter_map, int_le, nat_le, not, option_map, pos, slice_get, IfSome}
 use Rattle.std.specs.List.{All, cons_option, enumerate_from, list_any}
 use Rattle.std.specs.Option.{option_map_or, option_or}
 use Rattle.std.proofs.lemmas.Bool.{false≢true}
@@ -11,7 +11,7 @@ use Rattle.std.proofs.lemmas.List.Elements.{All-cons, All-nil}
 use Rattle.serde_json.specs.Data.{Data}
 use Rattle.serde_json.specs.Find.{as_bool, as_null, as_str}
 use Rattle.mm_types.specs.Lookups as lookups
-use Rattle.mm_types.specs.Resolved.{Metamodel, int_within}
+use Rattle.mm_types.specs.Resolved.{Metamodel}
 use Rattle.mm_types.specs.Same.{is_nil}
 use Rattle.mm_types.specs.Shapes.{Shape, contents_shape, is_bounded, shape}
 use Rattle.mm_types.specs.declared.feature.DataType.{DataType}
@@ -26,7 +26,7 @@ use Rattle.mm_types.specs.declared.value.Value.{Value}
 use Rattle.mm_types.specs.declared.value.Value.TheVariants as value
 use Rattle.web_uris.specs.Paths.{with_step}
 use Rattle.web_uris.specs.declared.path.Path.{Path}
-use Rattle.json_rows.specs.Rows.{◌>>=◌, ◌such_that◌, whole_number_of_64}
+use Rattle.json_rows.specs.Rows.{◌>>=◌, ◌such_that◌, whole_number, whole_number_of_64}
 use Rattle.doc_parts.specs.Contents.{attribute_value, conforms_to, is_short}
 use Rattle.doc_parts.specs.Faults.{is_long, of_entry}
 use Rattle.doc_parts.specs.Parts.{Entry, Part, entries, number_of, parts, root_parts, step_to, values_of}
@@ -101,19 +101,11 @@ null-numbered n false o = tt
 null-numbered n true None = tt
 null-numbered n true (Some x) = tt
 
-int-numbered : (n : ℕ) (b : Bool) (i : ℤ) → IfSome (cond b (Some (value.Int i)) None) (IsValueNumbered n)
-int-numbered n true i = tt
-int-numbered n false i = tt
-
-bounded-numbered : (n : ℕ) (low high : ℤ) (o : Option ℤ) → IfSome (o >>= int_within low high) (IsValueNumbered n)
-bounded-numbered n low high None = tt
-bounded-numbered n low high (Some i) = int-numbered n (int_le low i && int_le i high) i
-
 attribute-numbered : (m : Metamodel) (n : ℕ) (single : Bool) (t : DataType) (d : Data) → IfSome (attribute_value m single t d) (IsValueNumbered n)
 attribute-numbered m n single EString d =
     either-numbered n (cond single (option_map (λ x. value.Null) (as_null d)) None) (option_map value.Text (as_str d such_that is_short)) (null-numbered n single (as_null d))
     (mapped-numbered n value.Text (as_str d such_that is_short) (λ x. tt))
-attribute-numbered m n single EInt d = bounded-numbered n (neg_ℤ (pos (2 ^ 31))) (pos (2 ^ 31 - 1)) (whole_number_of_64 d)
+attribute-numbered m n single EInt d = mapped-numbered n value.Int (whole_number d) (λ x. tt)
 attribute-numbered m n single ELong d = mapped-numbered n value.Int (whole_number_of_64 d) (λ x. tt)
 attribute-numbered m n single EBoolean d = mapped-numbered n value.Bool (as_bool d) (λ x. tt)
 attribute-numbered m n single (Enum e) d = mapped-numbered n value.Literal (as_str d >>= lookups.literal_by_name m e) (λ x. tt)

@@ -4,22 +4,22 @@ use Rattle.std.specs.Prelude.{flat_map}
 use Rattle.std.specs.List.{AllByRecursion, insert, list_any, slice_get}
 use Rattle.std.proofs.lemmas.Bool.{eq-eqb, false_from_ne_true, true≢false}
 use Rattle.std.proofs.lemmas.Option.{none-some, same_Some, slice_get_within}
-use Rattle.link_store.proofs.AboveLemmas.{above-under, resource_top}
-use Rattle.link_store.proofs.ClimbLemmas.{climb_step, climb_stop}
-use Rattle.link_store.proofs.CycleLemmas.{plan_makes_no_cycle}
-use Rattle.link_store.proofs.KindLemmas.{plan_keeps_kinds}
-use Rattle.link_store.proofs.LegalLemmas.{edited_legal}
-use Rattle.link_store.proofs.ListLemmas.{insert_end_is}
-use Rattle.link_store.proofs.PlaceLemmas.{ne-same_end}
-use Rattle.link_store.proofs.PutLemmas.{end-put_proxy_near, end-put_proxy_other}
-use Rattle.link_store.proofs.PutEndLemmas.{end-put, put_outside}
-use Rattle.link_store.specs.Holders.{HasNoCycle, IsUnder, above, climb, contained, containing, holder}
-use Rattle.link_store.specs.Laws.{IsPutOutside, is_far}
-use Rattle.link_store.specs.LegalSets.{AreKinds, AreOfKind, IsDistinct, IsLegalSet, IsObject, Kinds, most}
-use Rattle.link_store.specs.Links.{Links, end, far_end, put, put_proxy}
-use Rattle.link_store.specs.Plans.{EditFits, FarFitsIn, IsFree, IsPlanOfKind, MakesNoCycle, PlanFits, PlanMakesNoCycle, PutFits, applied, edited}
-use Rattle.link_store.specs.declared.plan.Edit.TheVariants as edit
-use Rattle.link_store.specs.declared.plan.Edit.{Edit}
+use Rattle.links.proofs.AboveLemmas.{above-under, resource_top}
+use Rattle.links.proofs.ClimbLemmas.{climb_step, climb_stop}
+use Rattle.links.proofs.CycleLemmas.{plan_makes_no_cycle}
+use Rattle.links.proofs.KindLemmas.{plan_keeps_kinds}
+use Rattle.links.proofs.LegalLemmas.{edited_legal}
+use Rattle.links.proofs.ListLemmas.{insert_end_is}
+use Rattle.links.proofs.PlaceLemmas.{ne-same_end}
+use Rattle.links.proofs.PutLemmas.{end-put_proxy_near, end-put_proxy_other}
+use Rattle.links.proofs.PutEndLemmas.{end-put, put_outside}
+use Rattle.links.specs.Holders.{HasNoCycle, IsUnder, above, climb, contained, containing, holder}
+use Rattle.links.specs.Laws.{IsPutOutside, is_far}
+use Rattle.links.specs.LegalSets.{AreKinds, AreOfKind, IsDistinct, IsLegalSet, IsObject, Kinds, most}
+use Rattle.links.specs.Links.{Links, end, far_end, put, put_proxy}
+use Rattle.links.specs.Plans.{EditFits, FarFitsIn, IsFree, IsPlanOfKind, MakesNoCycle, PlanFits, PlanMakesNoCycle, PutFits, applied, edited}
+use Rattle.links.specs.declared.plan.Edit.TheVariants as edit
+use Rattle.links.specs.declared.plan.Edit.{Edit}
 use Rattle.mm_types.proofs.SameLemmas.{same_end-self, same_end-true, same_node-true}
 use Rattle.mm_types.specs.Same.{node_value, same_end, same_node}
 use Rattle.mm_types.specs.declared.end.End.{End}

@@ -19,9 +19,9 @@ use Rattle.mm_types.specs.declared.numbers.ResourceNo.{ResourceNo}
 use Rattle.mm_types.specs.declared.end.End.{End}
 use Rattle.mm_types.specs.declared.value.Value.{Value}
 use Rattle.mm_types.specs.declared.value.Value.TheVariants as value
-use Rattle.link_store.specs.declared.plan.Edit.{Edit}
-use Rattle.link_store.specs.Plans.{IsPlanOfKind}
-use Rattle.link_store.proofs.LegalLemmas.{IsPlanOfKind-append}
+use Rattle.links.specs.declared.plan.Edit.{Edit}
+use Rattle.links.specs.Plans.{IsPlanOfKind}
+use Rattle.links.proofs.LegalLemmas.{IsPlanOfKind-append}
 use Rattle.models.specs.Legal.{kinds_of}
 use Rattle.web_uris.specs.Paths.{with_step}
 use Rattle.web_uris.specs.declared.path.Path.{Path}

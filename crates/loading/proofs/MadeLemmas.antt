@@ -16,15 +16,15 @@ use Rattle.mm_types.specs.declared.numbers.ObjectNo.{ObjectNo}
 use Rattle.mm_types.specs.declared.numbers.ResourceNo.{ResourceNo}
 use Rattle.mm_types.specs.declared.value.Value.{Value}
 use Rattle.mm_types.specs.declared.value.Value.TheVariants as value
-use Rattle.link_store.proofs.CutLemmas.{place_at, place_near}
-use Rattle.link_store.proofs.EditLemmas.{In-insert, In_insert_new, In_insert_old}
-use Rattle.link_store.specs.Holders.{HasNoCycle}
-use Rattle.link_store.specs.LegalSets.{AreKinds, AreOfKind, HasTwoSides, IsLegalSet, IsObject, Kinds}
-use Rattle.link_store.specs.Links.{In, Links, end, far_end, joined}
-use Rattle.link_store.specs.Places.{far_value, place}
-use Rattle.link_store.specs.declared.link.Far.{Far}
-use Rattle.link_store.specs.declared.link.Far.TheVariants.{At, Alone, Proxy}
-use Rattle.link_store.specs.declared.link.Link.{Link}
+use Rattle.links.proofs.CutLemmas.{place_at, place_near}
+use Rattle.links.proofs.EditLemmas.{In-insert, In_insert_new, In_insert_old}
+use Rattle.links.specs.Holders.{HasNoCycle}
+use Rattle.links.specs.LegalSets.{AreKinds, AreOfKind, HasTwoSides, IsLegalSet, IsObject, Kinds}
+use Rattle.links.specs.Links.{In, Links, end, far_end, joined}
+use Rattle.links.specs.Places.{far_value, place}
+use Rattle.links.specs.declared.link.Far.{Far}
+use Rattle.links.specs.declared.link.Far.TheVariants.{At, Alone, Proxy}
+use Rattle.links.specs.declared.link.Link.{Link}
 use Rattle.models.specs.Legal.{kinds_of}
 use Rattle.doc_parts.proofs.WayLemmas.{position_cons}
 use Rattle.resource_docs.specs.Read.{values_in, values_under}

@@ -18,11 +18,11 @@ use Rattle.mm_types.specs.declared.numbers.ObjectNo.{ObjectNo}
 use Rattle.mm_types.specs.declared.numbers.ResourceNo.{ResourceNo}
 use Rattle.mm_types.specs.declared.value.Value.{Value}
 use Rattle.mm_types.specs.declared.value.Value.TheVariants as value
-use Rattle.link_store.proofs.PutLemmas.{cases_end}
-use Rattle.link_store.specs.Holders.{HasNoCycle}
-use Rattle.link_store.specs.LegalSets.{AreOfKind, IsDistinct, IsLegalSet, most}
-use Rattle.link_store.specs.Links.{Links, end}
-use Rattle.link_store.specs.declared.plan.Edit.{Edit}
+use Rattle.links.proofs.PutLemmas.{cases_end}
+use Rattle.links.specs.Holders.{HasNoCycle}
+use Rattle.links.specs.LegalSets.{AreOfKind, IsDistinct, IsLegalSet, most}
+use Rattle.links.specs.Links.{Links, end}
+use Rattle.links.specs.declared.plan.Edit.{Edit}
 use Rattle.models.specs.Legal.{kinds_of}
 use Rattle.resource_docs.specs.Read.{values_in, values_under}
 use Rattle.resource_docs.specs.declared.doc.Content.{Content}

@@ -5,22 +5,22 @@ use Rattle.std.specs.List.{AllByRecursion, insert, list_any, remove, slice_get}
 use Rattle.std.proofs.lemmas.Bool.{false≢true, false_from_ne_true, or_cases, or_left, or_right, true≢false}
 use Rattle.std.proofs.lemmas.Option.{none-some, same_Some, slice_get_within}
 use Rattle.std.proofs.lemmas.List.Elements.{filter-append, filter_agree}
-use Rattle.link_store.proofs.CutNamedLemmas.{end-cut_value}
-use Rattle.link_store.proofs.CycleLemmas.{cut_value_no_cycle, plan_makes_no_cycle}
-use Rattle.link_store.proofs.FilterLemmas.{filter_passes, filter_twice, remove-filter}
-use Rattle.link_store.proofs.KindLemmas.{plan_keeps_kinds}
-use Rattle.link_store.proofs.LegalLemmas.{edited_legal}
-use Rattle.link_store.proofs.ListLemmas.{length_remove, removed_absent}
-use Rattle.link_store.proofs.PlaceLemmas.{ne-same_end}
-use Rattle.link_store.proofs.PutEndLemmas.{end-put, put_outside}
-use Rattle.link_store.proofs.SideLemmas.{both_ends_agree}
-use Rattle.link_store.specs.Holders.{HasNoCycle}
-use Rattle.link_store.specs.Laws.{names, names_far}
-use Rattle.link_store.specs.LegalSets.{AreKinds, AreOfKind, IsDistinct, IsLegalSet, IsObject, Kinds, most}
-use Rattle.link_store.specs.Links.{Links, cut_value, end, far_end, put}
-use Rattle.link_store.specs.Plans.{EditFits, IsPlanOfKind, MakesNoCycle, PlanFits, PlanMakesNoCycle, applied}
-use Rattle.link_store.specs.declared.plan.Edit.TheVariants as edit
-use Rattle.link_store.specs.declared.plan.Edit.{Edit}
+use Rattle.links.proofs.CutNamedLemmas.{end-cut_value}
+use Rattle.links.proofs.CycleLemmas.{cut_value_no_cycle, plan_makes_no_cycle}
+use Rattle.links.proofs.FilterLemmas.{filter_passes, filter_twice, remove-filter}
+use Rattle.links.proofs.KindLemmas.{plan_keeps_kinds}
+use Rattle.links.proofs.LegalLemmas.{edited_legal}
+use Rattle.links.proofs.ListLemmas.{length_remove, removed_absent}
+use Rattle.links.proofs.PlaceLemmas.{ne-same_end}
+use Rattle.links.proofs.PutEndLemmas.{end-put, put_outside}
+use Rattle.links.proofs.SideLemmas.{both_ends_agree}
+use Rattle.links.specs.Holders.{HasNoCycle}
+use Rattle.links.specs.Laws.{names, names_far}
+use Rattle.links.specs.LegalSets.{AreKinds, AreOfKind, IsDistinct, IsLegalSet, IsObject, Kinds, most}
+use Rattle.links.specs.Links.{Links, cut_value, end, far_end, put}
+use Rattle.links.specs.Plans.{EditFits, IsPlanOfKind, MakesNoCycle, PlanFits, PlanMakesNoCycle, applied}
+use Rattle.links.specs.declared.plan.Edit.TheVariants as edit
+use Rattle.links.specs.declared.plan.Edit.{Edit}
 use Rattle.mm_types.proofs.SameLemmas.{same_end-self, same_end-true}
 use Rattle.mm_types.specs.Same.{node_value, same_end, same_value}
 use Rattle.mm_types.specs.SameValues.{same_value-self, same_value-true}

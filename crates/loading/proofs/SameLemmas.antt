@@ -15,15 +15,15 @@ use Rattle.mm_types.specs.declared.numbers.ObjectNo.{ObjectNo}
 use Rattle.mm_types.specs.declared.numbers.ResourceNo.{ResourceNo}
 use Rattle.mm_types.specs.declared.value.Value.{Value}
 use Rattle.mm_types.specs.declared.value.Value.TheVariants as value
-use Rattle.link_store.proofs.CutLemmas.{place_near}
-use Rattle.link_store.proofs.PutLemmas.{place-joined_far, place-joined_near}
-use Rattle.link_store.proofs.ScanLemmas.{same_links}
-use Rattle.link_store.specs.Holders.{HasNoCycle}
-use Rattle.link_store.specs.LegalSets.{AreOfKind, IsLegalSet}
-use Rattle.link_store.specs.Links.{In, Links, end, far_end}
-use Rattle.link_store.specs.Places.{far_value, place}
-use Rattle.link_store.specs.declared.link.Far.TheVariants.{Proxy}
-use Rattle.link_store.specs.declared.link.Link.{Link}
+use Rattle.links.proofs.CutLemmas.{place_near}
+use Rattle.links.proofs.PutLemmas.{place-joined_far, place-joined_near}
+use Rattle.links.proofs.ScanLemmas.{same_links}
+use Rattle.links.specs.Holders.{HasNoCycle}
+use Rattle.links.specs.LegalSets.{AreOfKind, IsLegalSet}
+use Rattle.links.specs.Links.{In, Links, end, far_end}
+use Rattle.links.specs.Places.{far_value, place}
+use Rattle.links.specs.declared.link.Far.TheVariants.{Proxy}
+use Rattle.links.specs.declared.link.Link.{Link}
 use Rattle.models.specs.Legal.{kinds_of}
 use Rattle.resource_docs.specs.Causes.{IsRead}
 use Rattle.resource_docs.specs.Read.{values_in, values_under}

@@ -12,7 +12,7 @@ use Rattle.mm_types.specs.declared.feature.Feature.{Feature}
 use Rattle.mm_types.specs.declared.feature.Kind.{Kind}
 use Rattle.mm_types.specs.declared.feature.Kind.TheVariants.{Attribute, Reference}
 use Rattle.mm_types.specs.declared.numbers.FeatureNo.{FeatureNo}
-use Rattle.link_store.specs.LegalSets.{AreKinds}
+use Rattle.links.specs.LegalSets.{AreKinds}
 use Rattle.models.specs.Legal.{kinds_of}
 use Rattle.loading.specs.Pairs.{if_below, is_below, is_near, lower_of}
 

@@ -12,7 +12,7 @@ use Rattle.mm_types.specs.declared.numbers.FeatureNo.{FeatureNo}
 use Rattle.mm_types.specs.declared.numbers.ObjectNo.{ObjectNo}
 use Rattle.mm_types.specs.declared.value.Value.{Value}
 use Rattle.mm_types.specs.declared.value.Value.TheVariants as value
-use Rattle.link_store.specs.LegalSets.{IsDistinct}
+use Rattle.links.specs.LegalSets.{IsDistinct}
 use Rattle.resource_docs.specs.declared.doc.Content.{Content}
 use Rattle.loading.specs.LoadEdits.{is_ascending_from}
 use Rattle.loading.specs.Loading.{loaded}

@@ -4,17 +4,17 @@ use Rattle.std.specs.Prelude.{◌&&◌}
 use Rattle.std.specs.List.{slice_get}
 use Rattle.std.proofs.lemmas.Bool.{and_parts}
 use Rattle.std.proofs.lemmas.Option.{none-some, same_Some, some_pair_parts}
-use Rattle.link_store.proofs.CutLemmas.{place_alone, place_at, place_near, place_out, place_proxy}
-use Rattle.link_store.proofs.HolderLemmas.{holder-some, place_held, test_some}
-use Rattle.link_store.proofs.PlaceLemmas.{not_proxy, same_feature-true, same_node_value}
-use Rattle.link_store.proofs.PutLemmas.{cases_end}
-use Rattle.link_store.specs.Holders.{far_holding, held_through, holder, is_far_node}
-use Rattle.link_store.specs.LegalSets.{AreKinds, AreOfKind, FarOfKind, HasTwoSides, IsLegalSet, IsOfKind, IsPlaced, Kinds}
-use Rattle.link_store.specs.Links.{In, Links, end}
-use Rattle.link_store.specs.Places.{far_value, place}
-use Rattle.link_store.specs.declared.link.Far.TheVariants.{At, Alone, Proxy}
-use Rattle.link_store.specs.declared.link.Far.{Far}
-use Rattle.link_store.specs.declared.link.Link.{Link}
+use Rattle.links.proofs.CutLemmas.{place_alone, place_at, place_near, place_out, place_proxy}
+use Rattle.links.proofs.HolderLemmas.{holder-some, place_held, test_some}
+use Rattle.links.proofs.PlaceLemmas.{not_proxy, same_feature-true, same_node_value}
+use Rattle.links.proofs.PutLemmas.{cases_end}
+use Rattle.links.specs.Holders.{far_holding, held_through, holder, is_far_node}
+use Rattle.links.specs.LegalSets.{AreKinds, AreOfKind, FarOfKind, HasTwoSides, IsLegalSet, IsOfKind, IsPlaced, Kinds}
+use Rattle.links.specs.Links.{In, Links, end}
+use Rattle.links.specs.Places.{far_value, place}
+use Rattle.links.specs.declared.link.Far.TheVariants.{At, Alone, Proxy}
+use Rattle.links.specs.declared.link.Far.{Far}
+use Rattle.links.specs.declared.link.Link.{Link}
 use Rattle.mm_types.specs.Same.{node_value, same_feature, same_node}
 use Rattle.mm_types.specs.declared.end.End.{End}
 use Rattle.mm_types.specs.declared.numbers.FeatureNo.{FeatureNo}

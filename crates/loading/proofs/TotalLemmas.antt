@@ -16,11 +16,11 @@ use Rattle.mm_types.specs.declared.numbers.ObjectNo.{ObjectNo}
 use Rattle.mm_types.specs.declared.numbers.ResourceNo.{ResourceNo}
 use Rattle.mm_types.specs.declared.value.Value.{Value}
 use Rattle.mm_types.specs.declared.value.Value.TheVariants as value
-use Rattle.link_store.proofs.PlaceLemmas.{ne-same_end}
-use Rattle.link_store.specs.Laws.{is_far}
-use Rattle.link_store.specs.LegalSets.{IsDistinct}
-use Rattle.link_store.specs.Links.{far_end}
-use Rattle.link_store.specs.declared.plan.Edit.{Edit}
+use Rattle.links.proofs.PlaceLemmas.{ne-same_end}
+use Rattle.links.specs.Laws.{is_far}
+use Rattle.links.specs.LegalSets.{IsDistinct}
+use Rattle.links.specs.Links.{far_end}
+use Rattle.links.specs.declared.plan.Edit.{Edit}
 use Rattle.resource_docs.specs.Read.{values_in, values_under}
 use Rattle.resource_docs.specs.declared.doc.Content.{Content}
 use Rattle.resource_docs.specs.declared.doc.Doc.{Doc}

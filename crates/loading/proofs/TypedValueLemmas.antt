@@ -1,16 +1,17 @@
 -- The values that are read under a feature are of its type.
-use Rattle.std.proofs.Common.{◌≡◌, ◌∙◌, ◌-◌, ◌^◌, ◌<◌, ℕ, ℤ, suc, Bool, true, false, cond, List, [], ◌∷◌, Option, Some, None, length, refl, sym, ap, subst, arith, nat_lt}
-use Rattle.std.specs.Prelude.{◌&&◌, IfSome, filter_map, int_le, neg_ℤ, option_and_then, option_map, pos, position, slice_get, unwrap_or}
+use Rattle.std.proofs.Common.{◌≡◌, ◌∙◌, ◌<◌, ℕ, ℤ, suc, Bool, true, false, cond, List, [], ◌∷◌, Option, Some, None, length, refl, sym, ap, subst, arith, nat_lt}
+use Rattle.std.specs.Prelude.{IfSome, filter_map, option_and_then, option_map, position, slice_get, unwrap_or}
 use Rattle.std.specs.List.{AllByRecursion, enumerate_from}
 use Rattle.std.specs.Option.{option_map_or, option_or}
 use Rattle.std.specs.Str.{bytes_eq}
 use Rattle.std.proofs.lemmas.Bool.{and_from, false≢true, lt-ltb}
 use Rattle.std.proofs.lemmas.Option.{none-some, same_Some}
 use Rattle.serde_json.specs.Data.{Data}
-use Rattle.serde_json.specs.Find.{as_bool, as_null, as_str}
-use Rattle.json_rows.specs.Rows.{◌>>=◌, ◌such_that◌, whole_number_of_64}
+use Rattle.serde_json.specs.Find.{as_bool, as_i64, as_null, as_number, as_str}
+use Rattle.json_rows.specs.Rows.{◌>>=◌, ◌such_that◌}
+use Rattle.mm_types.specs.Integers.{is_of_bits}
 use Rattle.mm_types.specs.Lookups as lookups
-use Rattle.mm_types.specs.Resolved.{Metamodel, int_within}
+use Rattle.mm_types.specs.Resolved.{Metamodel}
 use Rattle.mm_types.specs.Shapes.{Shape, shape, shape_of}
 use Rattle.mm_types.specs.declared.class.Enumeration.{Enumeration}
 use Rattle.mm_types.specs.declared.feature.DataType.{DataType}
@@ -78,12 +79,12 @@ text-kept m single (Some t) = by (is_short t) refl
     by true h = (refl, h)
     by false h = tt
 
-int-kept : (m : Metamodel) (single : Bool) (o : Option ℤ) → IfSome (o >>= int_within (neg_ℤ (pos (2 ^ 31))) (pos (2 ^ 31 - 1))) (IsKept m single EInt)
-int-kept m single None = tt
-int-kept m single (Some n) = by (int_le (neg_ℤ (pos (2 ^ 31))) n && int_le n (pos (2 ^ 31 - 1))) refl
+int-kept : (m : Metamodel) (single : Bool) (t : DataType) (bits : ℕ) (o : Option ℤ) → ((n : ℤ) → is_of_bits bits n ≡ true → IsKept m single t (value.Int n)) → IfSome (option_map value.Int (o such_that is_of_bits bits)) (IsKept m single t)
+int-kept m single t bits None each = tt
+int-kept m single t bits (Some n) each = by (is_of_bits bits n) refl
   where
-    by : (b : Bool) → (int_le (neg_ℤ (pos (2 ^ 31))) n && int_le n (pos (2 ^ 31 - 1))) ≡ b → IfSome (cond b (Some (value.Int n)) None) (IsKept m single EInt)
-    by true h = (h, refl)
+    by : (b : Bool) → is_of_bits bits n ≡ b → IfSome (option_map value.Int (cond b (Some n) None)) (IsKept m single t)
+    by true h = each n h
     by false h = tt
 
 literal-kept : (m : Metamodel) (single : Bool) (e : ℕ) (o : Option (List ℕ)) → IfSome (option_map value.Literal (o >>= lookups.literal_by_name m e)) (IsKept m single (Enum e))
@@ -103,8 +104,8 @@ literal-kept m single e (Some name) = by (slice_get m.enums e) refl
 attribute-kept : (m : Metamodel) (single : Bool) (t : DataType) (d : Data) → IfSome (attribute_value m single t d) (IsKept m single t)
 attribute-kept m single EString d =
     either-kept m single EString (cond single (option_map (λ x. value.Null) (as_null d)) None) (option_map value.Text (as_str d such_that is_short)) (null-kept m single (as_null d)) (text-kept m single (as_str d))
-attribute-kept m single EInt d = int-kept m single (whole_number_of_64 d)
-attribute-kept m single ELong d = mapped-kept m single ELong value.Int (whole_number_of_64 d) (λ x. (refl, refl))
+attribute-kept m single EInt d = int-kept m single EInt 32 (as_number d >>= as_i64) (λ n h. (h, refl))
+attribute-kept m single ELong d = int-kept m single ELong 64 (as_number d >>= as_i64) (λ n h. (h, refl))
 attribute-kept m single EBoolean d = mapped-kept m single EBoolean value.Bool (as_bool d) (λ x. (refl, refl))
 attribute-kept m single (Enum e) d = literal-kept m single e (as_str d)
 

@@ -6,8 +6,8 @@ use Rattle.mm_types.specs.declared.numbers.FeatureNo.{FeatureNo}
 use Rattle.mm_types.specs.declared.numbers.ObjectNo.{ObjectNo}
 use Rattle.mm_types.specs.declared.numbers.ResourceNo.{ResourceNo}
 use Rattle.mm_types.specs.declared.value.Value.TheVariants as value
-use Rattle.link_store.specs.Links.{Links, end}
-use Rattle.link_store.specs.Plans.{Lacks, PlanFits, PlanMakesNoCycle, applied}
+use Rattle.links.specs.Links.{Links, end}
+use Rattle.links.specs.Plans.{Lacks, PlanFits, PlanMakesNoCycle, applied}
 use Rattle.resource_docs.specs.declared.doc.Doc.{Doc}
 use Rattle.loading.specs.LoadEdits.{load_edits}
 use Rattle.loading.specs.Loading.{contents_end, loaded, loaded_links, object_end, with_links}

@@ -16,9 +16,9 @@ use Rattle.mm_types.specs.declared.value.Value.{Value}
 use Rattle.mm_types.specs.declared.value.Value.TheVariants as value
 use Rattle.mm_values.specs.declared.edit.ValueEdit.{ValueEdit}
 use Rattle.mm_values.specs.declared.edit.ValueEdit.TheVariants.{NewObject, PutList}
-use Rattle.link_store.specs.declared.link.Far.TheVariants.{Alone, Proxy}
-use Rattle.link_store.specs.declared.link.Link.{Link}
-use Rattle.link_store.specs.Links.{Links, far_end, joined}
+use Rattle.links.specs.declared.link.Far.TheVariants.{Alone, Proxy}
+use Rattle.links.specs.declared.link.Link.{Link}
+use Rattle.links.specs.Links.{Links, far_end, joined}
 use Rattle.models.specs.Reading.{Reading, at_end}
 use Rattle.resource_docs.specs.declared.doc.Content.{Content}
 use Rattle.resource_docs.specs.declared.doc.Doc.{Doc}

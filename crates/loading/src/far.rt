@@ -11,7 +11,7 @@ use crate::near::put_at;
 use crate::numbers::{loaded, object_end};
 use crate::pairs::lower_of;
 use crate::places::{Naming, Places};
-use link_store::Edit;
+use links::Edit;
 use mm_meta::Meta;
 use mm_types::{FeatureNo, ObjectNo, Value};
 use resource_docs::{Content, DocObject};

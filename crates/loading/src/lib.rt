@@ -5,13 +5,13 @@
 
 mod far;
 pub mod laws;
-mod links;
+mod linking;
 mod near;
 mod numbers;
 mod pairs;
 mod places;
 mod values;
 
-pub use links::{contents_end, link_edits};
+pub use linking::{contents_end, link_edits};
 pub use numbers::loaded;
 pub use values::value_edits;

@@ -8,10 +8,9 @@ ghost use Rattle.loading.specs.Loading.{of_object};
 
 use crate::numbers::{loaded, object_end};
 use crate::pairs::is_near;
-use link_store::Edit;
+use links::Edit;
 use mm_meta::Meta;
 use mm_types::{End, ObjectNo, Value};
-use models::opposite;
 use resource_docs::{Content, DocObject};
 use std::alloc::AllocError;
 
@@ -24,7 +23,7 @@ pub(crate) fn put_at(meta: &Meta, next: usize, end: End, index: u32, object: Obj
         end,
         index,
         object: loaded(next, object),
-        opposite: opposite(meta, end.feature),
+        opposite: meta.opposite(end.feature),
         container: meta.containing(end.feature),
     }
 }

@@ -5,7 +5,6 @@ ghost use Rattle.loading.specs.Pairs as p;
 
 use mm_meta::Meta;
 use mm_types::FeatureNo;
-use models::{is_reference, opposite};
 
 /// The opposite of a feature, where that is the lower of the two and neither contains. Takes no memory.
 pub(crate) fn lower_of(meta: &Meta, feature: FeatureNo) -> Option<FeatureNo>
@@ -14,7 +13,7 @@ pub(crate) fn lower_of(meta: &Meta, feature: FeatureNo) -> Option<FeatureNo>
     if meta.containing(feature).is_some() {
         return None;
     }
-    match opposite(meta, feature) {
+    match meta.opposite(feature) {
         Some(other) if other.0 < feature.0 => Some(other),
         _ => None,
     }
@@ -27,7 +26,7 @@ pub(crate) fn is_lower(meta: &Meta, feature: FeatureNo) -> bool
     if meta.containing(feature).is_some() {
         return false;
     }
-    match opposite(meta, feature) {
+    match meta.opposite(feature) {
         Some(other) => feature.0 < other.0,
         None => false,
     }
@@ -37,5 +36,5 @@ pub(crate) fn is_lower(meta: &Meta, feature: FeatureNo) -> bool
 pub(crate) fn is_near(meta: &Meta, feature: FeatureNo) -> bool
     ensures { result ≡ p.is_near (shape meta.now feature) feature }
 {
-    is_reference(meta, feature) && lower_of(meta, feature).is_none()
+    meta.is_reference(feature) && lower_of(meta, feature).is_none()
 }

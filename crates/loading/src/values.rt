@@ -10,7 +10,6 @@ use crate::numbers::loaded;
 use mm_meta::Meta;
 use mm_types::ObjectNo;
 use mm_values::ValueEdit;
-use models::{is_reference, is_single, is_unsettable};
 use resource_docs::{Content, Doc, DocObject};
 use std::alloc::{AllocError, Global};
 
@@ -90,12 +89,12 @@ fn push_list(
     ensures { OnOk result (edits.new.items ≡ edits.old.items ++ l.attribute_edits meta.now next object content) }
 {
     let Content { feature, values } = content;
-    if !is_reference(meta, feature) {
+    if !meta.is_reference(feature) {
         edits.push(ValueEdit::PutList {
             object: loaded(next, object),
             feature,
             list: values,
-            flag: is_unsettable(meta, feature) && is_single(meta, feature),
+            flag: meta.is_unsettable(feature) && meta.is_single(feature),
         })?;
     }
     Ok(())

@@ -9,6 +9,7 @@ mod meta;
 mod name_table;
 mod resolution;
 mod resolver;
+mod shapes;
 mod tables;
 
 pub use meta::Meta;

@@ -1,14 +1,14 @@
 //! The values that literals write.
-ghost use Rattle.std.specs.Prelude.{◌≡◌, ◌-◌, ◌^◌, neg_ℤ, option_and_then, pos};
+ghost use Rattle.std.specs.Prelude.{◌≡◌, option_and_then};
 ghost use Rattle.mm_types.specs.Integers.{integer};
-ghost use Rattle.mm_types.specs.Resolved.{int_within, truth_value, type_default as default_of_type};
+ghost use Rattle.mm_types.specs.Resolved.{int_of_bits, truth_value, type_default as default_of_type};
 
 use mm_types::integers::integer_of;
 use mm_types::{DataType, Value};
 
 /// The value of 32 bits, signed, that a literal writes.
 pub fn int_value(text: &str) -> Option<Value>
-    ensures { result ≡ option_and_then (int_within (neg_ℤ (pos (2 ^ 31))) (pos (2 ^ 31 - 1))) (integer text.now) }
+    ensures { result ≡ option_and_then (int_of_bits 32) (integer text.now) }
 {
     match integer_of(text) {
         Some(n) if i64::from(i32::MIN) <= n && n <= i64::from(i32::MAX) => Some(Value::Int(n)),

@@ -157,7 +157,8 @@ impl Meta {
 
     /// The opposite of a reference (EReference.getEOpposite).
     pub fn opposite(&self, feature: FeatureNo) -> Option<FeatureNo>
-        ensures { result ≡ m.opposite self.now feature }
+        ensures opposite { result ≡ m.opposite self.now feature }
+        ensures shape { result ≡ (shapes.shape self.now feature).opposite }
     {
         match &self.feature(feature)?.kind {
             Kind::Attribute { .. } => None,

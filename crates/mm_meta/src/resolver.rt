@@ -4,7 +4,7 @@ ghost use Rattle.std.specs.List.{list_all, range_with_len};
 ghost use Rattle.std.specs.Str.{bytes_eq};
 ghost use Rattle.mm_types.specs.Integers.{integer};
 ghost use Rattle.mm_types.specs.Raw.{RawMetamodel, class_fits, is_within_limits};
-ghost use Rattle.mm_types.specs.Resolved.{class_named, data_type_named, default_of, enum_named, int_within, literal_named, literal_value, own_named, own_position, own_of, target_named, type_named};
+ghost use Rattle.mm_types.specs.Resolved.{class_named, data_type_named, default_of, enum_named, int_of_bits, literal_named, literal_value, own_named, own_position, own_of, target_named, type_named};
 ghost use Rattle.mm_meta.specs.NameTable.{AreTablesOf, IsTableOf};
 
 use crate::literals::{boolean_value, int_value};

@@ -1,10 +1,11 @@
 -- What a resolved metamodel says of its classes, features and enumerations by number and by name.
-use Rattle.std.specs.Prelude.{ℕ, zero, suc, ◌<◌, ◌&&◌, ◌||◌, pos, neg_ℤ, ◌^◌, ◌-◌, Bool, true, false, not, List, [], length, map, position, slice_get, nat_lt, Option, None, is_some, option_map, option_and_then, nat_eq, int_le}
+use Rattle.std.specs.Prelude.{ℕ, zero, suc, ◌<◌, ◌&&◌, ◌||◌, pos, Bool, true, false, not, List, [], length, map, position, slice_get, nat_lt, Option, None, is_some, option_map, option_and_then, nat_eq}
 use Rattle.std.specs.List.{find, list_any}
 use Rattle.std.specs.Option.{option_map_or}
 use Rattle.std.specs.Ordering.{int_eq}
 use Rattle.std.specs.Str.{bytes_eq}
 use Rattle.mm_types.specs.Graph.{Conforms, row}
+use Rattle.mm_types.specs.Integers.{is_of_bits}
 use Rattle.mm_types.specs.Resolved.{Metamodel, class_no, feature_no, literal_named}
 use Rattle.mm_types.specs.declared.class.Class.{Class}
 use Rattle.mm_types.specs.declared.feature.Feature.{Feature}
@@ -42,6 +43,10 @@ has_feature m c f = option_map_or (λ all. list_any (λ g. nat_eq g.0 f.0) all) 
 -- the name of the feature of a number among some, nothing where there is none
 abbrev pub name_in : List Feature → FeatureNo → List ℕ
 name_in fs f = option_map_or (λ g. g.name) (slice_get fs f.0) []
+
+-- the name of a class, nothing where there is none of the number
+abbrev pub class_name : Metamodel → ClassNo → List ℕ
+class_name m c = option_map_or (λ k. k.name) (class m c) []
 
 abbrev pub feature_name : Metamodel → FeatureNo → List ℕ
 feature_name m = name_in m.features
@@ -107,8 +112,8 @@ is_single f = int_eq f.upper (pos 1)
 -- a value is one of a data type; null is one of no type here
 abbrev pub is_of_type : Metamodel → DataType → Value → Bool
 is_of_type m EString (value.Text text) = true
-is_of_type m EInt (value.Int n) = int_le (neg_ℤ (pos (2 ^ 31))) n && int_le n (pos (2 ^ 31 - 1))
-is_of_type m ELong (value.Int n) = true
+is_of_type m EInt (value.Int n) = is_of_bits 32 n
+is_of_type m ELong (value.Int n) = is_of_bits 64 n
 is_of_type m EBoolean (value.Bool b) = true
 is_of_type m (Enum e) (value.Literal i) = option_map_or (λ en. nat_lt i (length en.literals)) (slice_get m.enums e) false
 is_of_type m _ _ = false

@@ -3,13 +3,13 @@
 
 use adapters::{Adapter, Counter, Recorder, Window};
 use clap::error::ErrorKind;
+use link_store::SlotStore;
 use mm_check::check;
 use mm_load::load_meta;
 use mm_meta::Meta;
 use mm_types::MetaFault;
 use script_program::{meta_file, run};
 use script_streams::{RunFault, read_all};
-use slot_store::SlotStore;
 use std::alloc::{AllocError, AllocFailed};
 use std::io::{BufWriter, Write};
 use std::process::ExitCode;

@@ -1,5 +1,5 @@
 //! Adapters that are attached, notified, refused and detached.
-use crate::links::without_links;
+use crate::no_links::without_links;
 use crate::notices::added;
 use crate::telling::{Kind, NEARLY_FULL, adapter, attach, tell, three, three_notices};
 use adapter_list::AdapterList;

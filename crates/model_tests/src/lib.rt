@@ -25,9 +25,9 @@ mod drops;
 #[cfg(test)]
 mod latest;
 #[cfg(test)]
-mod links;
-#[cfg(test)]
 mod list_calls;
+#[cfg(test)]
+mod no_links;
 #[cfg(test)]
 mod notices;
 #[cfg(test)]

@@ -2,10 +2,9 @@
 use crate::books::books;
 use crate::streams::{Narrow, OneByte};
 use adapters::Recorder;
-use link_store::{LinkStore, RowStore};
+use link_store::{LinkStore, RowStore, SlotStore};
 use script_program::{Summary, run};
 use script_streams::RunFault;
-use slot_store::SlotStore;
 use std::alloc::Global;
 use std::io::{Read, Write};
 use std::process::Abort;

@@ -1,7 +1,7 @@
 //! Lists of attached adapters, and a chain that is delivered to one.
 ghost use Rattle.std.specs.Prelude.{◌≡◌, OnOk, IfOk, OnErr};
-ghost use Rattle.link_store.specs.Holders.{HasNoCycle, above};
-ghost use Rattle.link_store.specs.LegalSets.{IsLegalSet};
+ghost use Rattle.links.specs.Holders.{HasNoCycle, above};
+ghost use Rattle.links.specs.LegalSets.{IsLegalSet};
 ghost use Rattle.notice_chain.specs.Listed.{tell_chain, told_list};
 
 use crate::books::object;

@@ -9,10 +9,10 @@ use Rattle.mm_types.specs.OfDocument.{IsOfDocument}
 use Rattle.mm_types.specs.Resolved.{Metamodel}
 use Rattle.mm_types.specs.declared.end.End.{End}
 use Rattle.mm_types.specs.declared.value.Value.{Value}
-use Rattle.link_store.specs.Links.{end, no_links}
-use Rattle.link_store.specs.Order.{link_cmp}
-use Rattle.link_store.proofs.CycleLemmas.{none_no_cycle}
-use Rattle.link_store.proofs.LegalLemmas.{none_kinds, none_legal}
+use Rattle.links.specs.Links.{end, no_links}
+use Rattle.links.specs.Order.{link_cmp}
+use Rattle.links.proofs.CycleLemmas.{none_no_cycle}
+use Rattle.links.proofs.LegalLemmas.{none_kinds, none_legal}
 use Rattle.web_uris.specs.Joined.{IsWebUri}
 use Rattle.models.specs.Legal.{IsLegal, IsLegalObject, is_short_text, kinds_of}
 use Rattle.models.specs.Model.{empty_model}

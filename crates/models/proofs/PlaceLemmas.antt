@@ -19,9 +19,9 @@ use Rattle.mm_types.specs.declared.numbers.ObjectNo.{ObjectNo}
 use Rattle.mm_types.specs.declared.value.Value.{Value}
 use Rattle.mm_types.specs.declared.value.Value.TheVariants as value
 use Rattle.mm_values.specs.Values.{ObjectState, object_at, stored_under}
-use Rattle.link_store.specs.Links as links
-use Rattle.link_store.specs.Links.{end}
-use Rattle.link_store.specs.Plans.{Lacks}
+use Rattle.links.specs.Links as links
+use Rattle.links.specs.Links.{end}
+use Rattle.links.specs.Plans.{Lacks}
 use Rattle.mm_types.specs.SameValues.{same_value-self, same_value-true}
 use Rattle.web_uris.specs.Addresses.{is_proxy_text}
 use Rattle.models.specs.Legal.{IsLegal, IsLegalObject, is_legal_end, is_legal_list, is_legal_target, takes_proxies}

@@ -17,9 +17,9 @@ use Rattle.web_uris.specs.Addresses.{is_proxy_text}
 use Rattle.web_uris.specs.Joined.{IsWebUri}
 use Rattle.mm_values.specs.Stored.{Stored}
 use Rattle.mm_values.specs.Values.{ObjectState, stored_under}
-use Rattle.link_store.specs.Holders.{HasNoCycle}
-use Rattle.link_store.specs.LegalSets.{AreOfKind, IsLegalSet, Kinds}
-use Rattle.link_store.specs.Links.{Links, end}
+use Rattle.links.specs.Holders.{HasNoCycle}
+use Rattle.links.specs.LegalSets.{AreOfKind, IsLegalSet, Kinds}
+use Rattle.links.specs.Links.{Links, end}
 use Rattle.models.specs.Reading.{Reading, has_feature, shape_at, takes}
 use Rattle.models.specs.Model.{Model, reading}
 

@@ -9,9 +9,6 @@ mod lists;
 mod model_ref;
 mod reads;
 
-pub use features::{
-    is_concrete, is_full, is_reference, is_short, is_short_text, is_single, is_unique,
-    is_unsettable, opposite,
-};
+pub use features::{is_short, is_short_text};
 pub use model_ref::ModelRef;
-pub use reads::{Found, copied, copy_of, is_same};
+pub use reads::{Found, copied, is_same};

@@ -11,10 +11,9 @@ ghost use Rattle.models.specs.Legal.{takes_proxies};
 ghost use Rattle.models.specs.Model.{attribute_values, kept_values, reading};
 ghost use Rattle.models.specs.Reading as r;
 
-use crate::features::{is_reference, is_single, is_unique};
 use crate::model_ref::ModelRef;
 use crate::reads::{Found, found_kept, found_proxy, kept_at, kept_len};
-use link_store::LinkStore;
+use links::LinkStore;
 use mm_meta::Meta;
 use mm_types::{End, FeatureNo, Node, ObjectNo, Value};
 use mm_values::Values;
@@ -25,7 +24,7 @@ impl<'a, L: LinkStore> ModelRef<'a, L> {
         ensures { result ≡ length ((reading self.now).values end) }
     {
         self.is_legal();
-        if is_reference(self.meta(), end.feature) {
+        if self.meta().is_reference(end.feature) {
             return self.store().len(end) as u32;
         }
         attribute_len(self.meta(), self.values(), end) as u32
@@ -35,7 +34,7 @@ impl<'a, L: LinkStore> ModelRef<'a, L> {
     pub fn value_in(&self, end: End, index: u32) -> Option<Found<'a>>
         ensures { option_map found_value result ≡ slice_get ((reading self.now).values end) index }
     {
-        if is_reference(self.meta(), end.feature) {
+        if self.meta().is_reference(end.feature) {
             return self.target_in(end, index);
         }
         let (meta, values) = (self.meta(), self.values());
@@ -94,7 +93,7 @@ impl<'a, L: LinkStore> ModelRef<'a, L> {
         ensures { result ≡ first_in ((reading self.now).values end) value.now }
     {
         self.is_legal();
-        if is_reference(self.meta(), end.feature) {
+        if self.meta().is_reference(end.feature) {
             return match value {
                 Value::Object(object) => self.store().position(end, *object),
                 Value::Proxy(_) => self.target_position(end, value),
@@ -109,7 +108,7 @@ impl<'a, L: LinkStore> ModelRef<'a, L> {
     pub fn has(&self, end: End, value: &Value) -> bool
         ensures { result ≡ has_value ((reading self.now).values end) value.now }
     {
-        if is_reference(self.meta(), end.feature) {
+        if self.meta().is_reference(end.feature) {
             return self.position(end, value).is_some();
         }
         attribute_has(self.meta(), self.values(), end, value)
@@ -119,7 +118,7 @@ impl<'a, L: LinkStore> ModelRef<'a, L> {
     pub fn is_repeat(&self, end: End, value: &Value) -> bool
         ensures { result ≡ r.is_repeat (reading self.now) end value.now }
     {
-        is_unique(self.meta(), end.feature) && self.has(end, value)
+        self.meta().is_unique(end.feature) && self.has(end, value)
     }
 
     /// The place that is named at an end, and else the one behind the last value.
@@ -137,7 +136,7 @@ impl<'a, L: LinkStore> ModelRef<'a, L> {
 fn has_default(meta: &Meta, values: &Values, end: End) -> bool
     ensures { result ≡ (is_nil (kept_values (values_of values.now) end.node end.feature) && (shape meta.now end.feature).is_single) }
 {
-    kept_len(values, end) == 0 && is_single(meta, end.feature)
+    kept_len(values, end) == 0 && meta.is_single(end.feature)
 }
 
 // The default of an attribute.

@@ -1,13 +1,13 @@
 //! A model in its parts.
 ghost use Rattle.std.specs.Prelude.{◌≡◌, length, option_copied, slice_get};
 ghost use Rattle.mm_values.specs.Room.{values_of};
-ghost use Rattle.link_store.specs.Holders.{HasNoCycle};
-ghost use Rattle.link_store.specs.LegalSets.{IsLegalSet};
+ghost use Rattle.links.specs.Holders.{HasNoCycle};
+ghost use Rattle.links.specs.LegalSets.{IsLegalSet};
 ghost use Rattle.models.specs.Legal.{IsLegal};
 ghost use Rattle.models.specs.Model.{model_of, reading};
 ghost use Rattle.models.specs.Reading as r;
 
-use link_store::LinkStore;
+use links::LinkStore;
 use mm_meta::Meta;
 use mm_types::{ClassNo, End, FeatureNo, Node, ObjectNo, ResourceNo};
 use mm_values::Values;
@@ -26,7 +26,7 @@ pub struct ModelRef<'a, L: LinkStore> {
 impl<'a, L: LinkStore> Model for ModelRef<'a, L> {
     ghost use Rattle.std.specs.Coded.{codes};
     ghost use Rattle.mm_values.specs.Room.{values_of};
-    ghost use Rattle.link_store.specs.Links.{coded_links};
+    ghost use Rattle.links.specs.Links.{coded_links};
     ghost use Rattle.models.specs.Legal.{IsLegal};
     ghost use Rattle.models.specs.Model.{Model, coded_map, model_of};
 

@@ -1,24 +1,23 @@
 //! What ends hold.
-ghost use Rattle.std.specs.Prelude.{◌≡◌, [], true, false, Bool, Option, unwrap_or, option_map, option_copied, length, slice_get, IfOk, IfErr};
+ghost use Rattle.std.specs.Prelude.{◌≡◌, [], true, false, Bool, Option, unwrap_or, option_map, option_copied, length, slice_get, IfOk};
 ghost use Rattle.mm_types.specs.Ends as ends;
 ghost use Rattle.mm_types.specs.Ends.{value_in};
 ghost use Rattle.mm_types.specs.Lookups as m;
 ghost use Rattle.mm_types.specs.Same.{same_value};
 ghost use Rattle.mm_types.specs.Shapes.{shape};
-ghost use Rattle.mm_types.specs.declared.refused.Refused.TheVariants.{Memory};
 ghost use Rattle.mm_types.specs.declared.value.Value.TheVariants as value;
 ghost use Rattle.mm_types.specs.declared.value.Value.TheVariants.{Null};
 ghost use Rattle.mm_values.specs.Room.{values_of};
-ghost use Rattle.link_store.specs.Links.{text_of};
+ghost use Rattle.links.specs.Links.{text_of};
 ghost use Rattle.models.specs.Found.{found_value};
 ghost use Rattle.models.specs.Model.{attribute_held, kept_flag, kept_values, reading};
 ghost use Rattle.models.specs.Reading as r;
 
-use crate::features::{is_attribute_value, is_reference, is_single, is_unsettable};
+use crate::features::is_attribute_value;
 use crate::model_ref::ModelRef;
-use link_store::LinkStore;
+use links::LinkStore;
 use mm_meta::Meta;
-use mm_types::{ClassNo, End, FeatureNo, Kind, Node, ObjectNo, Refused, Text, Value};
+use mm_types::{ClassNo, End, FeatureNo, Kind, Node, ObjectNo, Text, Value};
 use mm_values::Values;
 use std::alloc::{AllocError, Global};
 
@@ -95,7 +94,7 @@ impl<'a, L: LinkStore> ModelRef<'a, L> {
     pub fn value_at(&self, end: End) -> Option<Found<'a>>
         ensures { unwrap_or (option_map found_value result) Null ≡ r.value_at (reading self.now) end }
     {
-        if is_reference(self.meta(), end.feature) {
+        if self.meta().is_reference(end.feature) {
             return self.target_in(end, 0);
         }
         found_kept(attribute_at(self.meta(), self.values(), end))
@@ -105,7 +104,7 @@ impl<'a, L: LinkStore> ModelRef<'a, L> {
     pub fn is_set(&self, end: End) -> bool
         ensures { result ≡ r.is_set (reading self.now) end }
     {
-        if is_reference(self.meta(), end.feature) {
+        if self.meta().is_reference(end.feature) {
             return self.store().len(end) > 0;
         }
         is_attribute_set(self.meta(), self.values(), end)
@@ -200,7 +199,7 @@ fn attribute_at<'a>(meta: &'a Meta, values: &'a Values, end: End) -> Option<&'a 
 {
     match kept_at(values, end, 0) {
         Some(value) => Some(value),
-        None if is_single(meta, end.feature) => meta.default(end.feature),
+        None if meta.is_single(end.feature) => meta.default(end.feature),
         None => None,
     }
 }
@@ -211,10 +210,10 @@ fn is_attribute_set(meta: &Meta, values: &Values, end: End) -> bool
     requires attribute { (shape meta.now end.feature).is_reference ≡ false }
     ensures { result ≡ ends.is_set (shape meta.now end.feature) (attribute_held meta.now (values_of values.now) end) }
 {
-    if !is_single(meta, end.feature) {
+    if !meta.is_single(end.feature) {
         return kept_len(values, end) > 0;
     }
-    if is_unsettable(meta, end.feature) {
+    if meta.is_unsettable(end.feature) {
         return flag_at(values, end);
     }
     let value = attribute_at(meta, values, end).unwrap_or(&Value::Null);
@@ -229,27 +228,12 @@ pub fn is_same(a: &Value, b: &Value) -> bool
     a == b
 }
 
-/// A copy of what was found; `None` stands for null. Errs only with `Memory`.
-pub fn copied(alloc: Global, found: Option<Found>) -> Result<Value, Refused>
-    ensures ok { IfOk result (λ w. w ≡ unwrap_or (option_map found_value found.entry) Null) }
-    ensures memory { IfErr result (λ r. r ≡ Memory) }
+/// A copy of what was found; `None` stands for null. Errs only when out of memory.
+pub fn copied(alloc: Global, found: Option<Found>) -> Result<Value, AllocError>
+    ensures { IfOk result (λ w. w ≡ unwrap_or (option_map found_value found.entry) Null) }
 {
-    let Some(found) = found else {
-        return Ok(Value::Null);
-    };
-    match found.to_value(alloc) {
-        Ok(value) => Ok(value),
-        Err(_) => Err(Refused::Memory),
-    }
-}
-
-/// A copy of a value. Errs only with `Memory`.
-pub fn copy_of(value: &Value) -> Result<Value, Refused>
-    ensures ok { IfOk result (λ w. w ≡ value.now) }
-    ensures memory { IfErr result (λ r. r ≡ Memory) }
-{
-    match value.clone() {
-        Ok(value) => Ok(value),
-        Err(_) => Err(Refused::Memory),
+    match found {
+        Some(found) => found.to_value(alloc),
+        None => Ok(Value::Null),
     }
 }

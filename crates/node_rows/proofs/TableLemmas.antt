@@ -4,7 +4,7 @@ use Rattle.std.specs.List.{slice_get}
 use Rattle.std.proofs.lemmas.Bool.{cases_eq}
 use Rattle.std.proofs.lemmas.List.{length-append, length-set}
 use Rattle.std.proofs.lemmas.Option.{same_Some, slice_get-get_or}
-use Rattle.link_store.proofs.ListLemmas.{slice_get-push, slice_get-push_below}
+use Rattle.links.proofs.ListLemmas.{slice_get-push, slice_get-push_below}
 use Rattle.node_rows.specs.declared.row.Row.{Row}
 use Rattle.node_rows.specs.declared.row.RowEdit.{RowEdit}
 use Rattle.node_rows.specs.Rows.{AreRowsEdited, AreRowsGrown, IsRowEdited, IsRowGrown}

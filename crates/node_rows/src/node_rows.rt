@@ -11,7 +11,7 @@ ghost use Rattle.node_rows.specs.Growth.{HasGained, HasRoom, entry, far_gain, ga
 use crate::row::{Row, RowEdit};
 use crate::row_table::RowTable;
 use crate::slot::{Pairing, Slot, SlotEdit};
-use link_store::{Edit, Plan};
+use links::{Edit, Plan};
 use mm_types::{End, FeatureNo, Node, ObjectNo, Value};
 use std::alloc::{AllocError, Global};
 

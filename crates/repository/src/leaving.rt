@@ -15,7 +15,7 @@ use adapter_list::{AdapterList, Round};
 use adapters::Adapter;
 use deletion::is_gone;
 use handshake::Change;
-use link_store::LinkStore;
+use links::LinkStore;
 use mm_types::{AdapterNo, ObjectNo};
 use models::ModelRef;
 use notice_chain::Notice;

@@ -1,12 +1,10 @@
 //! What is made ready for a change before anything changes.
 ghost use Rattle.std.specs.Prelude.{◌≡◌, ℕ, List, true, false, None, Err, length, nat_lt, option_map, IfOk, IfErr, IfSome, OnOk};
 ghost use Rattle.mm_types.specs.Ends.{value_in};
-ghost use Rattle.mm_types.specs.declared.refused.Refused.TheVariants.{Memory};
 ghost use Rattle.mm_values.specs.Room as values_room;
 ghost use Rattle.notice_chain.specs.Listed.{Listed};
-ghost use Rattle.link_store.specs.Holders.{HasNoCycle, above};
-ghost use Rattle.link_store.specs.LegalSets.{IsLegalSet, Kinds};
-ghost use Rattle.link_store.specs.Plans.{IsPlanOfKind};
+ghost use Rattle.links.specs.Holders.{HasNoCycle, above};
+ghost use Rattle.links.specs.LegalSets.{IsLegalSet, Kinds};
 ghost use Rattle.models.specs.Model.{reading};
 ghost use Rattle.models.specs.Reading.{at_end, is_live};
 ghost use Rattle.containment.specs.Forest.{subtree as subtree_of};
@@ -28,11 +26,11 @@ use adapter_list::{AdapterList, Round};
 use adapters::Adapter;
 use containment::subtree;
 use handshake::{Change, Planned, plan};
-use link_store::LinkStore;
+use links::LinkStore;
 use mm_types::{End, FeatureNo, Node, ObjectNo, Refused, ResourceNo};
 use mm_values::Values;
 use models::{ModelRef, copied};
-use std::alloc::Global;
+use std::alloc::{AllocError, Global};
 
 /// What a change answers, who leaves with what it destroys, and its plan.
 #[derive(Drop)]
@@ -57,21 +55,14 @@ pub(crate) fn prepare<L: LinkStore, A: Adapter>(
     ensures planned { IfOk result (λ p. IsPlanOf (nat_lt 0 (length adapters.now.0)) model.now change p.planned) }
     ensures refused { IfErr result (λ r. Plans (nat_lt 0 (length adapters.now.0)) (Err r) model.now change) }
 {
-    let answer = match answered(alloc, model, &change) {
-        Ok(answer) => answer,
-        Err(refused) => return Err(refused),
-    };
-    let Ok(places) = places_of(alloc, model, adapters, &change) else {
-        return Err(Refused::Memory);
-    };
-    match plan(alloc, model, change, adapters.len() > 0) {
-        Ok(planned) => Ok(Prepared {
-            answer,
-            places,
-            planned,
-        }),
-        Err(refused) => Err(refused),
-    }
+    let answer = answered(alloc, model, &change)?;
+    let places = places_of(alloc, model, adapters, &change)?;
+    let planned = plan(alloc, model, change, adapters.len() > 0)?;
+    Ok(Prepared {
+        answer,
+        places,
+        planned,
+    })
 }
 
 /// Takes all memory that a plan needs, all places that the adapters need, and room for those that leave. Nothing changes.
@@ -86,7 +77,7 @@ pub(crate) fn reserve<L: LinkStore, A: Adapter>(
     requires legal { IsLegalSet (L.links store.old) }
     requires no_cycle { HasNoCycle (L.links store.old) }
     ensures links { L.links store.new ≡ L.links store.old }
-    ensures kinds { (m : Kinds) → L.kinds store.old m → IsPlanOfKind m planned.now.edits → L.kinds store.new m }
+    ensures kinds { (m : Kinds) → L.kinds store.old m → L.kinds store.new m }
     ensures values { values_room.values_of values.new ≡ values_room.values_of values.old }
     ensures adapters { adapters.new.0 ≡ adapters.old.0 }
     ensures links_room { OnOk result (L.has_room store.new planned.now.edits) }
@@ -98,32 +89,22 @@ pub(crate) fn reserve<L: LinkStore, A: Adapter>(
     ensures room { IfOk result (λ p. IfSome p.1 (HasRoom (length p.0.told))) }
     ensures reason { IfErr result (IsChainRefusal (is_chain_full (above (L.links store.old)) planned.now.chain adapters.old.0)) }
 {
-    if store.reserve_for(&planned.edits).is_err() {
-        return Err(Refused::Memory);
-    }
-    if values.reserve_for(&planned.values).is_err() {
-        return Err(Refused::Memory);
-    }
-    let round = match adapters.reserve_all(store, &planned.chain) {
-        Ok(round) => round,
-        Err(refused) => return Err(refused),
-    };
-    match room_for(alloc, places, round.told_len()) {
-        Ok(leaving) => Ok((round, leaving)),
-        Err(_) => Err(Refused::Memory),
-    }
+    store.reserve_for(&planned.edits)?;
+    values.reserve_for(&planned.values)?;
+    let round = adapters.reserve_all(store, &planned.chain)?;
+    let leaving = room_for(alloc, places, round.told_len())?;
+    Ok((round, leaving))
 }
 
-/// What a change answers that is not refused. Errs only with `Memory`.
+/// What a change answers that is not refused. Errs only when out of memory.
 fn answered<L: LinkStore>(
     alloc: Global,
     model: &ModelRef<L>,
     change: &Change,
-) -> Result<Answer, Refused>
+) -> Result<Answer, AllocError>
     requires asked { early_refusal_of (reading model.now) change.now ≡ None }
     requires proper { (text : List ℕ) × IsProper (reading model.now) text change.now }
-    ensures ok { IfOk result (λ a. (rs : List Listed) (text : List ℕ) → IsProper (reading model.now) text change.now → a ≡ answer_of (reading model.now) rs (command_of text change.now)) }
-    ensures memory { IfErr result (λ r. r ≡ Memory) }
+    ensures { IfOk result (λ a. (rs : List Listed) (text : List ℕ) → IsProper (reading model.now) text change.now → a ≡ answer_of (reading model.now) rs (command_of text change.now)) }
 {
     model.is_legal();
     match change {
@@ -158,31 +139,27 @@ fn answered<L: LinkStore>(
     }
 }
 
-// How many objects go with one, as an answer. Errs only with `Memory`.
+// How many objects go with one, as an answer. Errs only when out of memory.
 fn destroyed_answer<L: LinkStore>(
     alloc: Global,
     model: &ModelRef<L>,
     object: ObjectNo,
-) -> Result<Answer, Refused>
+) -> Result<Answer, AllocError>
     requires live { is_live (reading model.now) object ≡ true }
-    ensures ok { IfOk result (λ a. a ≡ answer.Destroyed (length (subtree_of (reading model.now) object))) }
-    ensures memory { IfErr result (λ r. r ≡ Memory) }
+    ensures { IfOk result (λ a. a ≡ answer.Destroyed (length (subtree_of (reading model.now) object))) }
 {
-    match subtree(alloc, model, object) {
-        Ok(objects) => Ok(Answer::Destroyed(objects.len() as u64)),
-        Err(_) => Err(Refused::Memory),
-    }
+    let objects = subtree(alloc, model, object)?;
+    Ok(Answer::Destroyed(objects.len() as u64))
 }
 
-// The value at a place of a list, as an answer. Errs only with `Memory`.
+// The value at a place of a list, as an answer. Errs only when out of memory.
 fn value_answer<L: LinkStore>(
     alloc: Global,
     model: &ModelRef<L>,
     end: End,
     index: u32,
-) -> Result<Answer, Refused>
-    ensures ok { IfOk result (λ a. a ≡ answer.Value (value_in ((reading model.now).values end) index)) }
-    ensures memory { IfErr result (λ r. r ≡ Memory) }
+) -> Result<Answer, AllocError>
+    ensures { IfOk result (λ a. a ≡ answer.Value (value_in ((reading model.now).values end) index)) }
 {
     let value = copied(alloc, model.value_in(end, index))?;
     Ok(Answer::Value(value))

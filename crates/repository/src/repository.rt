@@ -15,7 +15,7 @@ mod validation;
 
 use adapter_list::AdapterList;
 use adapters::Adapter;
-use link_store::LinkStore;
+use links::LinkStore;
 use mm_meta::Meta;
 use mm_values::Values;
 use models::ModelRef;
@@ -39,7 +39,7 @@ pub struct Repository<L: LinkStore, A: Adapter = Box<dyn Adapter>> {
 
 impl<L: LinkStore, A: Adapter> Model for Repository<L, A> {
     ghost use Rattle.std.specs.Coded.{codes};
-    ghost use Rattle.link_store.specs.Links.{coded_links};
+    ghost use Rattle.links.specs.Links.{coded_links};
     ghost use Rattle.models.specs.Model.{coded_map};
     ghost use Rattle.repository.specs.State.{State};
     ghost use Rattle.repository.specs.Repository.{state, IsLegalInside};

@@ -12,6 +12,7 @@ use Rattle.mm_types.specs.Same.{same_value}
 use Rattle.mm_types.specs.Shapes.{contents_shape, is_bounded, is_containment, shape}
 use Rattle.mm_types.specs.declared.document_fault.DocFault.{DocFault}
 use Rattle.mm_types.specs.declared.document_fault.DocFault.TheVariants as cause
+use Rattle.mm_types.specs.declared.limits.TheConstants.{DOCUMENT_FORMAT}
 use Rattle.mm_types.specs.declared.numbers.FeatureNo.{FeatureNo}
 use Rattle.mm_types.specs.declared.numbers.ObjectNo.{ObjectNo}
 use Rattle.mm_types.specs.declared.refused.Refused.{Refused}
@@ -32,7 +33,7 @@ use Rattle.resource_docs.specs.declared.doc.Doc.{Doc}
 ---------------------------------------------------------------- 3: the format
 
 abbrev pub has_other_format : Top → Bool
-has_other_format t = not (int_eq t.format (pos 1))  -- opposites across resources: another than 1 and 2
+has_other_format t = not (int_eq t.format (pos DOCUMENT_FORMAT))  -- opposites across resources: another than 1 and 2
 
 ---------------------------------------------------------------- 9: roots
 

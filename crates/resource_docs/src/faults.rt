@@ -24,9 +24,6 @@ use mm_meta::Meta;
 use mm_types::{DocFault, limits};
 use std::alloc::AllocError;
 
-/// The format that is read.
-const FORMAT: i64 = 1;
-
 /// What is wrong with the shape of what is written, or with its names and types. Takes no memory.
 pub(crate) fn shape_cause(meta: &Meta, top: TopMembers, found: &Found) -> Option<DocFault>
     ensures { (ps : List Part) → Knows found.now ps → result ≡ shape_meant meta.now (Some (new_top top.entry.format (items_view top.entry.roots.now.items))) ps }
@@ -34,7 +31,7 @@ pub(crate) fn shape_cause(meta: &Meta, top: TopMembers, found: &Found) -> Option
     if has_misshapen(found) {
         return Some(DocFault::Layout);
     }
-    if top.format != FORMAT {
+    if top.format != i64::from(limits::DOCUMENT_FORMAT) {
         return Some(DocFault::Format);
     }
     if has_unknown_class(meta, found) {

@@ -18,6 +18,5 @@ mod target;
 mod values;
 
 pub use doc::{Content, Doc, DocObject};
-pub use doc_parts::limits;
 pub use reading::read_doc;
 pub use target::Target;

@@ -55,23 +55,11 @@ fn repeats_value(alloc: Global, values: &[Value]) -> Result<bool, AllocError>
     Ok(false)
 }
 
-fn is_unique(meta: &Meta, content: &Content) -> bool
-    ensures { result ≡ (shape meta.now content.now.feature).is_unique }
-{
-    match meta.feature(content.feature) {
-        Some(found) => match &found.kind {
-            Kind::Attribute { unique, .. } => *unique,
-            Kind::Reference { .. } => true,
-        },
-        None => true,
-    }
-}
-
 /// Whether a list that has each value once has one twice. Errs only where memory is refused.
 fn has_repeat(alloc: Global, meta: &Meta, content: &Content) -> Result<bool, AllocError>
     ensures { IfOk result (λ b. b ≡ repeat_meant meta.now content.now) }
 {
-    if !is_unique(meta, content) {
+    if !meta.is_unique(content.feature) {
         return Ok(false);
     }
     repeats_value(alloc, content.values.as_slice())

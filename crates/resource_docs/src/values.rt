@@ -11,7 +11,7 @@ ghost use Rattle.resource_docs.specs.Values.{IsProxyValue, is_link as link_meant
 
 use crate::references::reference_value;
 use crate::source::Source;
-use doc_parts::{Place, attribute_value, feature_name, is_single, values_of};
+use doc_parts::{Place, attribute_value, values_of};
 use mm_types::{FeatureNo, Kind, ObjectNo, Seq, Value};
 use serde_json::Value as JsonValue;
 use std::alloc::AllocError;
@@ -43,13 +43,13 @@ fn part_of(source: &Source, number: u32, feature: FeatureNo, position: u32) -> O
     ensures value { Numbered source.now.found.now number (λ ps path. result ≡ option_map object_of (number_of ps (with_step path (step_to source.now.meta.now feature position)))) }
     ensures proxy { IfSome result IsProxyValue }
 {
-    if is_single(source.meta, feature) {
-        return part_at(source, number, feature_name(source.meta, feature), None);
+    if source.meta.is_single(feature) {
+        return part_at(source, number, source.meta.feature_name(feature), None);
     }
     part_at(
         source,
         number,
-        feature_name(source.meta, feature),
+        source.meta.feature_name(feature),
         Some(position),
     )
 }
@@ -70,7 +70,7 @@ fn value_of(
         Kind::Attribute { value_type, .. } => attribute_value(
             source.alloc,
             source.meta,
-            is_single(source.meta, feature),
+            source.meta.is_single(feature),
             *value_type,
             json,
         ),

@@ -24,8 +24,8 @@ use Rattle.mm_types.specs.declared.value.Value.{Value}
 use Rattle.mm_types.specs.declared.value.Value.TheVariants as value
 use Rattle.mm_meta.proofs.OwnerLemmas.{has_none}
 use Rattle.mm_values.specs.Values.{ObjectState, object_at, stored_under}
-use Rattle.link_store.specs.LegalSets as sets
-use Rattle.link_store.specs.Links.{end}
+use Rattle.links.specs.LegalSets as sets
+use Rattle.links.specs.Links.{end}
 use Rattle.models.specs.Legal.{IsLegal, IsLegalObject, IsUniqueList, is_legal_end, is_legal_list}
 use Rattle.models.specs.Model.{Model, attribute_values, kept_values, reading, values_at}
 use Rattle.models.specs.Reading.{at_end, is_set}

@@ -22,8 +22,8 @@ use Rattle.mm_types.specs.declared.refused.Refused.{Refused}
 use Rattle.mm_types.specs.declared.refused.Refused.TheVariants.{CrossOpposite, Dangling, TooDeep}
 use Rattle.mm_types.specs.declared.value.Value.{Value}
 use Rattle.mm_types.specs.declared.value.Value.TheVariants as value
-use Rattle.link_store.specs.LegalSets as sets
-use Rattle.link_store.specs.Links.{text_of}
+use Rattle.links.specs.LegalSets as sets
+use Rattle.links.specs.Links.{text_of}
 use Rattle.models.specs.Legal.{IsLegal}
 use Rattle.models.specs.Model.{Model, reading, values_at}
 use Rattle.models.specs.Reading.{Reading, at_end}

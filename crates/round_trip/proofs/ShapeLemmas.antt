@@ -26,7 +26,7 @@ use Rattle.mm_types.specs.declared.numbers.Node.TheVariants as node
 use Rattle.mm_types.specs.declared.numbers.ObjectNo.{ObjectNo}
 use Rattle.mm_types.specs.declared.numbers.ResourceNo.{ResourceNo}
 use Rattle.mm_values.specs.Values.{ObjectState, object_at}
-use Rattle.link_store.specs.Holders.{holder}
+use Rattle.links.specs.Holders.{holder}
 use Rattle.models.specs.Legal.{IsLegal, IsLegalObject}
 use Rattle.models.specs.Model.{Model, reading, values_at}
 use Rattle.models.specs.Reading.{at_end, is_live, objects_of}

@@ -5,8 +5,8 @@ use Rattle.std.specs.Option.{option_map_or}
 use Rattle.std.proofs.lemmas.Bool.Decides.{nat_tests}
 use Rattle.mm_types.specs.declared.end.End.{End}
 use Rattle.mm_types.specs.declared.numbers.Node.{Node}
-use Rattle.link_store.proofs.AboveLemmas.{above_held, above_is}
-use Rattle.link_store.specs.Holders.{above, holder}
+use Rattle.links.proofs.AboveLemmas.{above_held, above_is}
+use Rattle.links.specs.Holders.{above, holder}
 use Rattle.models.specs.Legal.{IsLegal}
 use Rattle.models.specs.Model.{Model}
 

@@ -12,6 +12,7 @@ use Rattle.mm_types.specs.Ends.{value_in}
 use Rattle.mm_types.specs.declared.feature.DataType.TheVariants.{Enum}
 use Rattle.mm_types.specs.declared.feature.Kind.{Kind}
 use Rattle.mm_types.specs.declared.feature.Kind.TheVariants.{Attribute}
+use Rattle.mm_types.specs.declared.limits.TheConstants.{DOCUMENT_FORMAT}
 use Rattle.mm_types.specs.declared.numbers.FeatureNo.{FeatureNo}
 use Rattle.mm_types.specs.declared.numbers.ObjectNo.{ObjectNo}
 use Rattle.mm_types.specs.declared.numbers.ResourceNo.{ResourceNo}
@@ -22,7 +23,6 @@ use Rattle.models.specs.Reading.{Reading, at_end, shape_at}
 use Rattle.fragment_paths.specs.Finding.{roots}
 use Rattle.fragment_paths.specs.Fragments.{reference}
 use Rattle.saved_docs.specs.Written.{written_features}
-use Rattle.saved_docs.specs.declared.document.TheConstants.{FORMAT}
 
 -- the text of a reference from resource k to an object
 abbrev pub reference_text : Reading → ResourceNo → ObjectNo → List ℕ
@@ -93,7 +93,7 @@ object_data r k (suc n) o =
 -- no tree has more levels than objects were made
 unfoldable pub document : Reading → ResourceNo → Data
 document r k =
-    two (codes "format") (number (unsigned FORMAT))
+    two (codes "format") (number (unsigned DOCUMENT_FORMAT))
     (codes "roots") (array (items_of (map (object_data r k r.next) (roots r k))))
 
 -- the text that is saved: serde_json's compact text

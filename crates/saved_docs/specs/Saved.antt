@@ -6,6 +6,7 @@ use Rattle.serde_json.specs.Data.{depth}
 use Rattle.serde_json.specs.Read.{max_depth, read}
 use Rattle.mm_types.specs.Conditions.{◌where_so◌, ◌else_by◌}
 use Rattle.mm_types.specs.Shapes.{is_containment, shape}
+use Rattle.mm_types.specs.declared.limits.TheConstants.{LEVELS}
 use Rattle.mm_types.specs.declared.numbers.FeatureNo.{FeatureNo}
 use Rattle.mm_types.specs.declared.numbers.ObjectNo.{ObjectNo}
 use Rattle.mm_types.specs.declared.numbers.ResourceNo.{ResourceNo}
@@ -17,7 +18,6 @@ use Rattle.containment.specs.Above.{resource_of}
 use Rattle.fragment_paths.specs.Fragments.{is_in}
 use Rattle.saved_docs.specs.Document.{document, saved}
 use Rattle.saved_docs.specs.Written.{is_written, level, objects_in, written_features}
-use Rattle.saved_docs.specs.declared.levels.TheConstants.{LEVELS}
 use Rattle.saved_docs.specs.declared.targets.Condition.{Condition}
 use Rattle.saved_docs.specs.declared.targets.Condition.TheVariants.{InNone, Across}
 

@@ -9,13 +9,10 @@ ghost use Rattle.saved_docs.specs.Saved.{IsReadAs};
 
 use crate::values::{object_value, two};
 use fragment_paths::Places;
-use link_store::LinkStore;
-use mm_types::{ObjectNo, ResourceNo};
+use links::LinkStore;
+use mm_types::{ObjectNo, ResourceNo, limits};
 use serde_json::Value as JsonValue;
 use std::alloc::{AllocError, Global};
-
-/// The number of the format that is written.
-pub const FORMAT: u32 = 1;
 
 /// The roots of a resource and all in them.
 fn roots_value<L: LinkStore>(
@@ -44,7 +41,13 @@ fn document<L: LinkStore>(
     ensures { IfOk result (λ v. view v ≡ spec.document (reading places.now) resource) }
 {
     let roots = roots_value(alloc, places, resource, roots)?;
-    two(alloc, "format", JsonValue::from(FORMAT), "roots", roots)
+    two(
+        alloc,
+        "format",
+        JsonValue::from(limits::DOCUMENT_FORMAT),
+        "roots",
+        roots,
+    )
 }
 
 /// The text of the document of a resource that has these roots. Errs only where memory is refused.

@@ -4,12 +4,10 @@ ghost use Rattle.std.specs.List.{list_any};
 ghost use Rattle.models.specs.Model.{reading};
 ghost use Rattle.saved_docs.specs.Saved as saved;
 
-use link_store::LinkStore;
+use links::LinkStore;
+use mm_types::limits::LEVELS;
 use mm_types::{Node, ObjectNo};
 use models::ModelRef;
-
-/// How many levels of objects a document has at most: a root stands at level 1.
-pub const LEVELS: usize = 40;
 
 /// Whether an object stands deeper than a document goes. Takes no memory.
 pub(crate) fn is_too_deep<L: LinkStore>(model: &ModelRef<L>, object: ObjectNo) -> bool

@@ -4,30 +4,17 @@ ghost use Rattle.mm_types.specs.Lookups as lookups;
 ghost use Rattle.models.specs.Model.{reading};
 ghost use Rattle.saved_docs.specs.Document as spec;
 
-use link_store::LinkStore;
+use links::LinkStore;
 use mm_meta::Meta;
 use mm_types::{DataType, FeatureNo, Kind, ObjectNo};
 use models::ModelRef;
-
-/// The name of a feature.
-pub(crate) fn feature_name(meta: &Meta, feature: FeatureNo) -> &str
-    ensures { result.now ≡ lookups.feature_name meta.now feature }
-{
-    match meta.feature(feature) {
-        Some(found) => found.name.as_str(),
-        None => "",
-    }
-}
 
 /// The name of an object's class.
 pub(crate) fn class_name<'a, L: LinkStore>(model: &ModelRef<'a, L>, object: ObjectNo) -> &'a str
     ensures { result.now ≡ spec.class_name (reading model.now) object }
 {
     match model.class(object) {
-        Some(class) => match model.meta().class(class) {
-            Some(found) => found.name.as_str(),
-            None => "",
-        },
+        Some(class) => model.meta().class_name(class),
         None => "",
     }
 }

@@ -8,7 +8,7 @@ ghost use Rattle.models.specs.Reading.{is_live};
 
 use containment::subtree;
 use fragment_paths::roots_end;
-use link_store::LinkStore;
+use links::LinkStore;
 use mm_types::{ObjectNo, ResourceNo};
 use models::ModelRef;
 use std::alloc::{AllocError, Global};

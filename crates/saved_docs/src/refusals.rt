@@ -6,7 +6,7 @@ ghost use Rattle.saved_docs.specs.Written.{objects_in};
 
 use crate::levels::any_too_deep;
 use crate::targets::{Condition, any_refers};
-use link_store::LinkStore;
+use links::LinkStore;
 use mm_types::{ObjectNo, Refused, ResourceNo};
 use models::ModelRef;
 

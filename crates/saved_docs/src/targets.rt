@@ -10,9 +10,9 @@ ghost use Rattle.saved_docs.specs.Saved as saved;
 
 use crate::written::is_written;
 use containment::holder_resource;
-use link_store::LinkStore;
+use links::LinkStore;
 use mm_types::{End, FeatureNo, Node, ObjectNo, ResourceNo, Value};
-use models::{Found, ModelRef, opposite};
+use models::{Found, ModelRef};
 
 /// Why a reference can't be written.
 #[derive(Clone, Copy, Debug)]
@@ -46,7 +46,7 @@ fn holds<L: LinkStore>(
     match condition {
         Condition::InNone => holder_resource(model.store(), object).is_none(),
         Condition::Across => {
-            opposite(model.meta(), feature).is_some() && !is_in(model, resource, object)
+            model.meta().opposite(feature).is_some() && !is_in(model, resource, object)
         }
     }
 }

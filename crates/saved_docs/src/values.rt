@@ -8,13 +8,13 @@ ghost use Rattle.serde_json.specs.View.{items_of, members_view, view};
 ghost use Rattle.saved_docs.specs.Document as spec;
 ghost use Rattle.saved_docs.specs.Written as written;
 
-use crate::names::{class_name, feature_name, literal_text};
+use crate::names::{class_name, literal_text};
 use crate::written::is_written;
 use fragment_paths::{Places, reference};
-use link_store::LinkStore;
+use links::LinkStore;
 use mm_meta::Meta;
 use mm_types::{End, FeatureNo, Node, ObjectNo, ResourceNo, Value};
-use models::{Found, is_single};
+use models::Found;
 use serde_json::{Map, Value as JsonValue, put};
 use std::alloc::{AllocError, Global};
 
@@ -166,7 +166,7 @@ fn content_value<L: LinkStore>(
 {
     let node = Node::Object(object);
     let end = End { node, feature };
-    if is_single(places.model().meta(), feature) {
+    if places.model().meta().is_single(feature) {
         item_value(alloc, places, resource, levels, end, 0)
     } else {
         items_value(alloc, places, resource, levels, end)
@@ -193,7 +193,7 @@ fn put_feature<L: LinkStore>(
     put(
         members,
         alloc,
-        feature_name(places.model().meta(), feature),
+        places.model().meta().feature_name(feature),
         content,
     )
 }

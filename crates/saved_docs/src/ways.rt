@@ -3,9 +3,8 @@ ghost use Rattle.std.specs.Prelude.{◌≡◌};
 
 use crate::written::is_written;
 use fragment_paths::Places;
-use link_store::LinkStore;
+use links::LinkStore;
 use mm_types::{End, FeatureNo, Node, ObjectNo};
-use models::is_reference;
 use std::alloc::AllocError;
 
 /// Notes the way to the object at a position of an end.
@@ -40,7 +39,7 @@ fn note_feature<L: LinkStore>(
     ensures { places.new ≡ places.old }
 {
     let model = places.model();
-    let refers = is_reference(model.meta(), feature) && !model.meta().is_containment(feature);
+    let refers = model.meta().is_reference(feature) && !model.meta().is_containment(feature);
     if refers && is_written(model, object, feature) {
         let node = Node::Object(object);
         return note_end(places, End { node, feature });

@@ -13,7 +13,7 @@ use crate::objects::{objects_below, roots};
 use crate::refusals::refusal;
 use crate::ways::note_ways;
 use fragment_paths::Places;
-use link_store::LinkStore;
+use links::LinkStore;
 use mm_types::{ObjectNo, Refused, ResourceNo};
 use models::ModelRef;
 use std::alloc::{AllocError, Global};
@@ -51,10 +51,8 @@ fn written<L: LinkStore>(
         return Err(refused);
     }
     let mut places = Places::new(alloc, model);
-    match text_by(alloc, &mut places, resource, roots, objects) {
-        Ok(text) => Ok(text),
-        Err(_) => Err(Refused::Memory),
-    }
+    let text = text_by(alloc, &mut places, resource, roots, objects)?;
+    Ok(text)
 }
 
 /// The text of a resource that has these roots, or why it can't be saved.
@@ -69,10 +67,8 @@ fn written_below<L: LinkStore>(
     ensures writes { saved.Writes result (reading model.now) resource }
     ensures reads { IfOk result (λ t. saved.IsReadAs (reading model.now) resource (string_bytes t)) }
 {
-    match objects_below(alloc, model, roots) {
-        Ok(objects) => written(alloc, model, resource, roots, objects.as_slice()),
-        Err(_) => Err(Refused::Memory),
-    }
+    let objects = objects_below(alloc, model, roots)?;
+    written(alloc, model, resource, roots, objects.as_slice())
 }
 
 /// The text of a resource (EMF: XMLResource.save): `serde_json`'s compact text of its document. Written are the features that are

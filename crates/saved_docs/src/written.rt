@@ -3,7 +3,7 @@ ghost use Rattle.std.specs.Prelude.{◌≡◌};
 ghost use Rattle.models.specs.Model.{reading};
 ghost use Rattle.saved_docs.specs.Written as spec;
 
-use link_store::LinkStore;
+use links::LinkStore;
 use mm_types::{End, FeatureNo, Node, ObjectNo};
 use models::ModelRef;
 

@@ -13,8 +13,8 @@ use Rattle.mm_types.specs.declared.numbers.ObjectNo.{ObjectNo}
 use Rattle.mm_types.specs.declared.numbers.ResourceNo.{ResourceNo}
 use Rattle.mm_types.specs.declared.value.Value.{Value}
 use Rattle.mm_types.specs.declared.value.Value.TheVariants as value
-use Rattle.link_store.proofs.AboveLemmas.{above_held}
-use Rattle.link_store.specs.Holders.{above}
+use Rattle.links.proofs.AboveLemmas.{above_held}
+use Rattle.links.specs.Holders.{above}
 use Rattle.models.specs.Legal.{IsLegal}
 use Rattle.models.specs.Model.{Model, reading, values_at}
 use Rattle.models.specs.Reading.{Reading, at_end, is_live, object_of, objects_of}

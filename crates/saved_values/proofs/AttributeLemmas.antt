@@ -5,10 +5,10 @@ use Rattle.std.proofs.lemmas.Bool.{and_parts, false≢true}
 use Rattle.std.proofs.lemmas.Bool.Decides.{nat_tests}
 use Rattle.serde_json.specs.Data.{Data, null, string}
 use Rattle.serde_json.specs.Find.{as_i64, of_integer}
-use Rattle.json_rows.specs.Rows.{◌>>=◌}
+use Rattle.json_rows.specs.Rows.{◌such_that◌}
+use Rattle.mm_types.specs.Integers.{is_of_bits}
 use Rattle.mm_types.specs.Lookups as lookups
 use Rattle.mm_types.specs.OfDocument.{IsOfDocument}
-use Rattle.mm_types.specs.Resolved.{int_within}
 use Rattle.mm_types.specs.declared.feature.DataType.{DataType}
 use Rattle.mm_types.specs.declared.feature.DataType.TheVariants.{EString, EInt, ELong, EBoolean, Enum}
 use Rattle.mm_types.specs.declared.feature.Feature.{Feature}
@@ -25,7 +25,6 @@ use Rattle.doc_parts.specs.Contents.{attribute_value, is_short, text_value}
 use Rattle.saved_docs.specs.Document.{literal_in, value_data}
 use Rattle.saved_values.proofs.LiteralLemmas.{literal-read}
 use Rattle.saved_values.specs.Copied.{renamed}
-use Rattle.saved_values.specs.Readable.{is_of_64_bits}
 
 ---------------------------------------------------------------- numbers
 
@@ -37,10 +36,15 @@ whole : (z : ℤ) → int_lt z (pos (2 ^ 63)) ≡ true → as_i64 (of_integer z)
 whole (pos n) h = ap (λ (b : Bool). if b then Some (pos n) else None) h
 whole (negsuc n) h = refl
 
--- so is one of 32 bits
-below-64 : (z : ℤ) → int_le z (pos (2 ^ 31 - 1)) ≡ true → int_lt z (pos (2 ^ 63)) ≡ true
-below-64 (pos n) h = low-number n (2 ^ 31 - 1) (omega arith) h
-below-64 (negsuc n) h = refl
+below-64 : (b : ℕ) → b < 2 ^ 63 → (z : ℤ) → int_le z (pos b) ≡ true → int_lt z (pos (2 ^ 63)) ≡ true
+below-64 b low (pos n) h = low-number n b low h
+below-64 b low (negsuc n) h = refl
+
+-- so is one of so many bits, where they are 64 at most
+int-read : (bits : ℕ) → 2 ^ (bits - 1) - 1 < 2 ^ 63 → (z : ℤ) → is_of_bits bits z ≡ true → (as_i64 (of_integer z) such_that is_of_bits bits) ≡ Some z
+int-read bits low z h =
+    let both = and_parts (int_le (neg_ℤ (pos (2 ^ (bits - 1)))) z) (int_le z (pos (2 ^ (bits - 1) - 1))) h in
+    ap (λ (o : Option ℤ). o such_that is_of_bits bits) (whole z (below-64 (2 ^ (bits - 1) - 1) low z both.1)) ∙ ap (λ (b : Bool). if b then Some z else None) h
 
 ---------------------------------------------------------------- texts
 
@@ -77,18 +81,13 @@ module _ (r : Reading) (k : ResourceNo) (part : ObjectNo → Data) (os : List Ob
 
   int-back : (v : Value) → IsBack EInt v
   int-back value.Null typed short = absurd (no-null single typed)
-  int-back (value.Int z) typed short =
-      let both = and_parts (int_le (neg_ℤ (pos (2 ^ 31))) z) (int_le z (pos (2 ^ 31 - 1))) typed in
-      record {
-        reads = ap (λ (o : Option ℤ). o >>= int_within (neg_ℤ (pos (2 ^ 31))) (pos (2 ^ 31 - 1))) (whole z (below-64 z both.1)) ∙ ap (λ (b : Bool). if b then Some (value.Int z) else None) typed;
-        same = refl;
-      }
+  int-back (value.Int z) typed short = record { reads = ap (option_map value.Int) (int-read 32 (omega arith) z typed); same = refl }
   int-back _ typed short = absurd (false≢true typed)
 
-  long-back : (v : Value) → ((z : ℤ) → v ≡ value.Int z → is_of_64_bits z ≡ true) → IsBack ELong v
-  long-back value.Null numbers typed short = absurd (no-null single typed)
-  long-back (value.Int z) numbers typed short = record { reads = ap (option_map value.Int) (whole z (and_parts (int_le (neg_ℤ (pos (2 ^ 63))) z) (int_lt z (pos (2 ^ 63))) (numbers z refl)).1); same = refl }
-  long-back _ numbers typed short = absurd (false≢true typed)
+  long-back : (v : Value) → IsBack ELong v
+  long-back value.Null typed short = absurd (no-null single typed)
+  long-back (value.Int z) typed short = record { reads = ap (option_map value.Int) (int-read 64 (omega arith) z typed); same = refl }
+  long-back _ typed short = absurd (false≢true typed)
 
   bool-back : (v : Value) → IsBack EBoolean v
   bool-back value.Null typed short = absurd (no-null single typed)
@@ -104,9 +103,9 @@ module _ (r : Reading) (k : ResourceNo) (part : ObjectNo → Data) (os : List Ob
         record { reads = ap (λ (w : List ℕ). option_map value.Literal (lookups.literal_by_name m e w)) name ∙ ap (option_map value.Literal) (literal-read m d e i typed); same = refl }
     literal-back e unique unsettable default kind _ typed short = absurd (false≢true typed)
 
-    pub attribute-back : (t : DataType) (unique unsettable : Bool) (default : Value) → g.kind ≡ Attribute t unique unsettable default → (v : Value) → ((z : ℤ) → v ≡ value.Int z → is_of_64_bits z ≡ true) → IsBack t v
-    attribute-back EString unique unsettable default kind v numbers = text-back v
-    attribute-back EInt unique unsettable default kind v numbers = int-back v
-    attribute-back ELong unique unsettable default kind v numbers = long-back v numbers
-    attribute-back EBoolean unique unsettable default kind v numbers = bool-back v
-    attribute-back (Enum e) unique unsettable default kind v numbers = literal-back e unique unsettable default kind v
+    pub attribute-back : (t : DataType) (unique unsettable : Bool) (default : Value) → g.kind ≡ Attribute t unique unsettable default → (v : Value) → IsBack t v
+    attribute-back EString unique unsettable default kind v = text-back v
+    attribute-back EInt unique unsettable default kind v = int-back v
+    attribute-back ELong unique unsettable default kind v = long-back v
+    attribute-back EBoolean unique unsettable default kind v = bool-back v
+    attribute-back (Enum e) unique unsettable default kind v = literal-back e unique unsettable default kind v

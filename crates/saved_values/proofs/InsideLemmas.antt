@@ -16,8 +16,8 @@ use Rattle.mm_types.specs.declared.numbers.ObjectNo.{ObjectNo}
 use Rattle.mm_types.specs.declared.numbers.ResourceNo.{ResourceNo}
 use Rattle.mm_types.specs.declared.value.Value.TheVariants as value
 use Rattle.std.specs.Option.{option_map_or}
-use Rattle.link_store.proofs.AboveLemmas.{above_held}
-use Rattle.link_store.specs.Holders.{above, holder}
+use Rattle.links.proofs.AboveLemmas.{above_held}
+use Rattle.links.specs.Holders.{above, holder}
 use Rattle.models.specs.Legal.{IsLegal}
 use Rattle.models.specs.Model.{Model, reading, values_at}
 use Rattle.models.specs.Reading.{at_end, is_live, is_within}

@@ -9,8 +9,8 @@ use Rattle.mm_types.specs.declared.numbers.Node.{Node}
 use Rattle.mm_types.specs.declared.numbers.Node.TheVariants as node
 use Rattle.mm_types.specs.declared.numbers.ObjectNo.{ObjectNo}
 use Rattle.mm_types.specs.declared.numbers.ResourceNo.{ResourceNo}
-use Rattle.link_store.proofs.AboveLemmas.{above_held, above_is, resource_top}
-use Rattle.link_store.specs.Holders.{above, holder}
+use Rattle.links.proofs.AboveLemmas.{above_held, above_is, resource_top}
+use Rattle.links.specs.Holders.{above, holder}
 use Rattle.models.specs.Legal.{IsLegal}
 use Rattle.models.specs.Model.{Model, reading}
 use Rattle.containment.proofs.MemberLemmas.{same-object}

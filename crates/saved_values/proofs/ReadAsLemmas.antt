@@ -1,5 +1,5 @@
 -- Each value that is written is read as it was, whatever the kind of its feature.
-use Rattle.std.proofs.Common.{◌≡◌, ◌∙◌, ℕ, ℤ, Bool, true, false, Contains, List, slice_get, not, is_some, Option, Some, if◌then◌else◌, refl, sym, ap}
+use Rattle.std.proofs.Common.{◌≡◌, ◌∙◌, ℕ, Bool, true, false, Contains, List, slice_get, not, is_some, Option, Some, if◌then◌else◌, refl, sym, ap}
 use Rattle.std.specs.Option.{option_map_or}
 use Rattle.std.proofs.lemmas.Bool.{and_parts}
 use Rattle.serde_json.specs.Data.{Data, string}
@@ -31,13 +31,13 @@ use Rattle.saved_texts.specs.Laws.{LeadsBack}
 use Rattle.saved_values.proofs.AttributeLemmas.{attribute-back}
 use Rattle.saved_values.proofs.ContainedLemmas.{part-good, part-read}
 use Rattle.saved_values.proofs.KeptLemmas.{kept-legal}
-use Rattle.saved_values.proofs.ListLemmas.{passes-kept, stands}
+use Rattle.saved_values.proofs.ListLemmas.{passes-kept}
 use Rattle.saved_values.proofs.PlacedLemmas.{placed-object}
 use Rattle.saved_values.proofs.ReferenceLemmas.{object-read, proxy-read, proxy-short, text-short}
 use Rattle.saved_values.proofs.TargetLemmas.{each-part, each-target, links-only, refers, shape-of}
 use Rattle.saved_values.specs.Copied.{renamed}
 use Rattle.saved_values.specs.Laws.{AreReadAs, parts_of}
-use Rattle.saved_values.specs.Readable.{IsReadable, is_of_64_bits}
+use Rattle.saved_values.specs.Readable.{IsReadable}
 
 not-true : (b : Bool) → not b ≡ true → b ≡ false
 not-true true h = sym h
@@ -67,8 +67,7 @@ module _ (s : Model) (good : IsLegal s) (k : ResourceNo) (uri : List ℕ) (parts
         let typed = ap (λ (b : Bool). lookups.is_attribute_value m b t v) single
         ∙ sym (ap (λ (x : Option Feature). option_map_or (λ y. lookups.is_of_attribute m (lookups.is_single y) y.kind v) x false) known ∙ ap (λ (x : Kind). lookups.is_of_attribute m (lookups.is_single g) x v) kind)
         ∙ kept.0 in
-        let numbers : (z : ℤ) → v ≡ value.Int z → is_of_64_bits z ≡ true = λ z is. ok.numbers z (record { object = o; feature = f; inside = inside; there = stands (r.values (at_end (node.Object o) f)) i (value.Int z) (at ∙ ap Some is) }) in
-        let read = attribute-back r k (data_of r k) (objects_in r k) f (shape m f).is_single good.metamodel g known t unique unsettable default kind v numbers typed kept.1 in
+        let read = attribute-back r k (data_of r k) (objects_in r k) f (shape m f).is_single good.metamodel g known t unique unsettable default kind v typed kept.1 in
         (ap (λ (x : Option Value). is_some x) read.reads, read.reads ∙ ap Some (sym read.same))
 
     contained-read : (target : ClassNo) (opposite : Option FeatureNo) → g.kind ≡ Reference target true opposite → IsReadBy (Reference target true opposite) v

@@ -15,7 +15,7 @@ use Rattle.mm_types.specs.declared.numbers.Node.TheVariants as node
 use Rattle.mm_types.specs.declared.numbers.ObjectNo.{ObjectNo}
 use Rattle.mm_types.specs.declared.value.Value.{Value}
 use Rattle.mm_types.specs.declared.value.Value.TheVariants as value
-use Rattle.link_store.specs.Links.{end}
+use Rattle.links.specs.Links.{end}
 use Rattle.web_uris.specs.Addresses.{IsProxyText, is_proxy_text}
 use Rattle.web_uris.proofs.AddressFacts.{proxy_text-from}
 use Rattle.models.specs.Legal.{IsLegal, is_legal_target, takes_proxies}

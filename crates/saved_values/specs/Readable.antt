@@ -1,5 +1,5 @@
 -- What a resource must be for its document to be read again as that resource.
-use Rattle.std.specs.Prelude.{◌≡◌, ℕ, ◌≤◌, ◌^◌, ◌&&◌, ℤ, pos, neg_ℤ, int_le, int_lt, Bool, false, true, List, Contains, length, slice_get, Some, None}
+use Rattle.std.specs.Prelude.{◌≡◌, ℕ, ◌≤◌, false, List, Contains, length, slice_get, Some, None}
 use Rattle.mm_types.specs.declared.limits.TheConstants.{TEXT_BYTES}
 use Rattle.mm_types.specs.declared.numbers.FeatureNo.{FeatureNo}
 use Rattle.mm_types.specs.declared.numbers.ObjectNo.{ObjectNo}
@@ -29,9 +29,6 @@ pub record Refers (r : Reading) (k : ResourceNo) (o : ObjectNo) : Type 0 where
   pub written : Contains (reference_features r object) feature
   pub there : Contains (targets_under r object feature) o
 
-abbrev pub is_of_64_bits : ℤ → Bool
-is_of_64_bits z = int_le (neg_ℤ (pos (2 ^ 63))) z && int_lt z (pos (2 ^ 63))
-
 -- no end of the resource has both an object of another one and a proxy of that object's address
 abbrev pub HasNoneTwice : Reading → ResourceNo → Type 0
 HasNoneTwice r k =
@@ -39,7 +36,7 @@ HasNoneTwice r k =
     → Contains (r.values (at_end (node.Object o) f)) (value.Proxy t) → is_in r k b ≡ false → address r b ≡ Some t → ⊥
 
 -- the resource is there and saving it is not refused, no text of a reference is too long, no proxy names the resource itself, and none
--- stands beside the object whose address it is; the numbers are of 64 bits, as they are in the code
+-- stands beside the object whose address it is
 pub record IsReadable (r : Reading) (k : ResourceNo) (uri : List ℕ) : Type 0 where
   pub there : slice_get r.uris k.0 ≡ Some uri
   pub allowed : save_refusal r k ≡ None
@@ -47,4 +44,3 @@ pub record IsReadable (r : Reading) (k : ResourceNo) (uri : List ℕ) : Type 0 w
   pub short_proxies : (t : List ℕ) → Holds r k (value.Proxy t) → length t ≤ TEXT_BYTES
   pub elsewhere : (t : List ℕ) → Holds r k (value.Proxy t) → uri_part t ≡ uri → ⊥
   pub none_twice : HasNoneTwice r k
-  pub numbers : (z : ℤ) → Holds r k (value.Int z) → is_of_64_bits z ≡ true

@@ -12,9 +12,6 @@ use Rattle.mm_types.specs.declared.numbers.FeatureNo.{FeatureNo}
 use Rattle.mm_types.specs.declared.value.Value.{Value}
 use Rattle.mm_types.specs.declared.value.Value.TheVariants as value
 
-abbrev pub class_name : Metamodel → ClassNo → List ℕ
-class_name m c = option_map_or (λ k. k.name) (lookups.class m c) []
-
 -- the name of a feature of the metamodel; any other number is that of the one feature of resources
 abbrev pub feature_name : Metamodel → FeatureNo → List ℕ
 feature_name m f = option_map_or (λ g. g.name) (lookups.feature m f) (codes "contents")

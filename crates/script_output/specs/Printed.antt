@@ -17,7 +17,8 @@ use Rattle.mm_types.specs.declared.refused.Refused.{Refused}
 use Rattle.mm_types.specs.declared.value.Value.{Value}
 use Rattle.mm_types.specs.declared.value.Value.TheVariants as value
 use Rattle.script_lines.specs.declared.grammar.TheConstants.{ADAPTER_MARK, LITERAL_MARK, OBJECT_MARK, RESOURCE_MARK, SPACE}
-use Rattle.script_output.specs.Names.{class_name, feature_name, literal_name}
+use Rattle.mm_types.specs.Lookups.{class_name}
+use Rattle.script_output.specs.Names.{feature_name, literal_name}
 
 -- a text as a JSON string
 abbrev pub json_text : List ℕ → List ℕ

@@ -4,5 +4,5 @@
 mod names;
 mod output;
 
-pub use names::{class_name, enum_of, feature_name, literal_name};
+pub use names::{enum_of, feature_name, literal_name};
 pub use output::Output;

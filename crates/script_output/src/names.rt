@@ -7,16 +7,6 @@ ghost use Rattle.script_output.specs.Names as n;
 use mm_meta::Meta;
 use mm_types::{ClassNo, DataType, FeatureNo, Kind, Value};
 
-/// The name of a class; no name where the metamodel has no class of the number.
-pub fn class_name(meta: &Meta, class: ClassNo) -> &str
-    ensures { result.now ≡ n.class_name meta.now class }
-{
-    match meta.class(class) {
-        Some(class) => class.name.as_str(),
-        None => "",
-    }
-}
-
 /// The name of a feature of the metamodel; `contents` for any other number, as that of the one feature of resources.
 pub fn feature_name(meta: &Meta, feature: FeatureNo) -> &str
     ensures { result.now ≡ n.feature_name meta.now feature }

@@ -10,7 +10,6 @@ mod lists;
 mod objects;
 mod told;
 
-use crate::names::class_name;
 use json::Writer;
 use mm_meta::Meta;
 use mm_types::{AdapterNo, ClassNo, DocFault, Node, Refused, Value};
@@ -204,7 +203,7 @@ impl Output {
         ensures err { OnErr result (StartsWith self.new self.old) }
     {
         self.text("class ")?;
-        self.text(class_name(meta, class))
+        self.text(meta.class_name(class))
     }
 
     /// Adds a class by its name: `class Book`.

@@ -7,7 +7,7 @@ ghost use Rattle.script_program.specs.Session.{session};
 use crate::pool::Pool;
 use crate::request::Request;
 use adapters::Adapter;
-use link_store::LinkStore;
+use links::LinkStore;
 use mm_meta::Meta;
 use mm_types::{AdapterNo, ClassNo, FeatureNo, Node, ObjectNo, Value};
 use repository::{Command, Repository};

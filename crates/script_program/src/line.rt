@@ -17,9 +17,8 @@ use crate::pool::Pool;
 use crate::request::Request;
 use crate::turn::Turn;
 use adapters::Adapter;
-use link_store::LinkStore;
+use links::LinkStore;
 use mm_types::{AdapterNo, FeatureNo, Node, Refused};
-use models::is_single;
 use repository::{Command, Failure, Reply, Repository};
 use script_lines::{Line, parse_line};
 use script_output::Output;
@@ -132,7 +131,7 @@ fn run_request<L: LinkStore, A: Adapter>(
         (printed output.new t) (session repository.new pool.new)) }
 {
     match request {
-        Request::Execute(Command::Get { node, feature }) if is_single(repository.meta(), feature) =>
+        Request::Execute(Command::Get { node, feature }) if repository.meta().is_single(feature) =>
             { run_get(repository, output, node, feature) }
         Request::Execute(command) => run_command(repository, pool, output, command),
         Request::Seen(no) => run_seen(repository, output, no),

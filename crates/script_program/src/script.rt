@@ -9,7 +9,7 @@ use crate::line::run_line;
 use crate::pool::Pool;
 use crate::summary::Summary;
 use adapters::Adapter;
-use link_store::LinkStore;
+use links::LinkStore;
 use mm_meta::Meta;
 use mm_types::limits::INPUT_BYTES;
 use repository::Repository;

@@ -5,11 +5,11 @@ use Rattle.std.proofs.lemmas.List.Sums.{sum_by-append}
 use Rattle.std.specs.Coded.{Coded-set}
 use Rattle.mm_types.specs.declared.numbers.Node.{Node}
 use Rattle.mm_types.specs.declared.end.End.{End}
-use Rattle.link_store.specs.LegalSets.{AreOfKind, Kinds}
-use Rattle.link_store.specs.Links.{Links, coded_links}
-use Rattle.link_store.specs.Plans.{HasPlanOfKind, IsPlanOfKind, PlanFits, applied, edited}
-use Rattle.link_store.specs.declared.plan.Edit.{Edit}
-use Rattle.link_store.proofs.KindLemmas.{plan_keeps_kinds}
+use Rattle.links.specs.LegalSets.{AreOfKind, Kinds}
+use Rattle.links.specs.Links.{Links, coded_links}
+use Rattle.links.specs.Plans.{HasPlanOfKind, IsPlanOfKind, PlanFits, applied, edited}
+use Rattle.links.specs.declared.plan.Edit.{Edit}
+use Rattle.links.proofs.KindLemmas.{plan_keeps_kinds}
 use Rattle.node_rows.specs.declared.node_rows.NodeRows.{NodeRows}
 use Rattle.node_rows.specs.Cells.{Cells, HasKeys, Room, cells, ends_of}
 use Rattle.node_rows.specs.Growth.{HasRoom, entries, entry, gain, gains}

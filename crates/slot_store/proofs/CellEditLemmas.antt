@@ -10,7 +10,7 @@ use Rattle.mm_types.specs.declared.numbers.Node.TheVariants as node
 use Rattle.mm_types.specs.declared.numbers.ObjectNo.{ObjectNo}
 use Rattle.mm_types.specs.declared.end.End.{End}
 use Rattle.mm_types.proofs.SameLemmas.{same_end-self, same_node-true}
-use Rattle.link_store.proofs.PlaceLemmas.{ne-same_end, same_node_if}
+use Rattle.links.proofs.PlaceLemmas.{ne-same_end, same_node_if}
 use Rattle.node_rows.specs.declared.row.RowEdit.TheVariants.{Leave}
 use Rattle.node_rows.specs.Cells.{Cells, cell_edit}
 pub use Rattle.node_rows.proofs.CellLemmas.{same_twice}

@@ -16,12 +16,12 @@ use Rattle.mm_types.specs.declared.end.End.{End}
 use Rattle.mm_types.specs.declared.value.Value.{Value}
 use Rattle.mm_types.specs.declared.value.Value.TheVariants as value
 use Rattle.mm_types.proofs.SameLemmas.{same_end-self, same_end-true}
-use Rattle.link_store.specs.Links.{end, far_end}
-use Rattle.link_store.specs.Plans.{AreIncoming, AreInOrder, ArePlacesOf, Lacks, has_end, incoming_end}
-use Rattle.link_store.specs.LegalSets.{IsLegalSet}
-use Rattle.link_store.specs.Rows.{in_order, places_by}
-use Rattle.link_store.proofs.PlacesLemmas.{places_all}
-use Rattle.link_store.proofs.IncomingLemmas.{has_end_cases, has_end_left, has_end_right}
+use Rattle.links.specs.Links.{end, far_end}
+use Rattle.links.specs.Plans.{AreIncoming, AreInOrder, ArePlacesOf, Lacks, has_end, incoming_end}
+use Rattle.links.specs.LegalSets.{IsLegalSet}
+use Rattle.links.specs.InOrder.{in_order, places_by}
+use Rattle.links.proofs.PlacesLemmas.{places_all}
+use Rattle.links.proofs.PlacesLemmas.{has_end_cases, has_end_left, has_end_right}
 use Rattle.node_rows.specs.declared.node_rows.NodeRows.{NodeRows}
 use Rattle.node_rows.specs.declared.slot.Slot.{Slot}
 use Rattle.node_rows.specs.Slots.{slot_in, values_of}

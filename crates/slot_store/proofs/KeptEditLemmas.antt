@@ -10,17 +10,17 @@ use Rattle.mm_types.specs.declared.numbers.ObjectNo.{ObjectNo}
 use Rattle.mm_types.specs.declared.end.End.{End}
 use Rattle.mm_types.specs.declared.value.Value.{Value}
 use Rattle.mm_types.specs.declared.value.Value.TheVariants as value
-use Rattle.link_store.specs.Holders.{holder, holding}
-use Rattle.link_store.specs.LegalSets.{AreKinds, AreOfKind, IsHeldOnce, IsLegalSet, Kinds}
-use Rattle.link_store.specs.Links.{Links, cut_value, end}
-use Rattle.link_store.specs.Plans.{EditFits, FarFitsIn, Has, IsEditOfKind, edited}
-use Rattle.link_store.specs.declared.plan.Edit.{Edit}
-use Rattle.link_store.specs.declared.plan.Edit.TheVariants as edit
-use Rattle.link_store.proofs.ContainedLemmas.{free_new}
-use Rattle.link_store.proofs.HolderLemmas.{holder-cut, holder-put, holder-put_proxy, holder-shift, unheld}
-use Rattle.link_store.proofs.KindLemmas.{plan_keeps_kinds}
-use Rattle.link_store.proofs.LegalLemmas.{edited_legal}
-use Rattle.link_store.proofs.PutLemmas.{apart_of}
+use Rattle.links.specs.Holders.{holder, holding}
+use Rattle.links.specs.LegalSets.{AreKinds, AreOfKind, IsHeldOnce, IsLegalSet, Kinds}
+use Rattle.links.specs.Links.{Links, cut_value, end}
+use Rattle.links.specs.Plans.{EditFits, FarFitsIn, Has, IsEditOfKind, edited}
+use Rattle.links.specs.declared.plan.Edit.{Edit}
+use Rattle.links.specs.declared.plan.Edit.TheVariants as edit
+use Rattle.links.proofs.ContainedLemmas.{free_new}
+use Rattle.links.proofs.HolderLemmas.{holder-cut, holder-put, holder-put_proxy, holder-shift, unheld}
+use Rattle.links.proofs.KindLemmas.{plan_keeps_kinds}
+use Rattle.links.proofs.LegalLemmas.{edited_legal}
+use Rattle.links.proofs.PutLemmas.{apart_of}
 use Rattle.node_rows.specs.Cells.{Cells, HasKeys}
 use Rattle.slot_store.specs.CellLinks.{IsKept, Stands, StandsAlone, cell_links, link_from}
 use Rattle.slot_store.specs.EditedCells.{cells_after, held}

@@ -13,18 +13,18 @@ use Rattle.mm_types.specs.declared.end.End.{End}
 use Rattle.mm_types.specs.declared.value.Value.{Value}
 use Rattle.mm_types.specs.declared.value.Value.TheVariants as value
 use Rattle.mm_types.proofs.SameLemmas.{same_end-true}
-use Rattle.link_store.specs.Laws.{is_far}
-use Rattle.link_store.specs.LegalSets.{IsDistinct, IsLegalSet, IsPlaced}
-use Rattle.link_store.specs.Links.{In, Links, cut, cut_value, end, far_end, joined, put, put_proxy, shift, without}
-use Rattle.link_store.specs.Places.{place}
-use Rattle.link_store.specs.Plans.{EditFits, PutFits}
-use Rattle.link_store.specs.declared.link.Link.{Link}
-use Rattle.link_store.specs.declared.plan.Edit.TheVariants as edit
-use Rattle.link_store.proofs.CutLemmas.{end-cut, end-shift_near, end-shift_other}
-use Rattle.link_store.proofs.PlaceLemmas.{ne-same_end}
-use Rattle.link_store.proofs.PutEndLemmas.{end-put}
-use Rattle.link_store.proofs.PutLemmas.{cases_end, end-put_proxy_near, end-put_proxy_other, place-joined_far, place-joined_other}
-use Rattle.link_store.proofs.ScanLemmas.{cut_value_is}
+use Rattle.links.specs.Laws.{is_far}
+use Rattle.links.specs.LegalSets.{IsDistinct, IsLegalSet, IsPlaced}
+use Rattle.links.specs.Links.{In, Links, cut, cut_value, end, far_end, joined, put, put_proxy, shift, without}
+use Rattle.links.specs.Places.{place}
+use Rattle.links.specs.Plans.{EditFits, PutFits}
+use Rattle.links.specs.declared.link.Link.{Link}
+use Rattle.links.specs.declared.plan.Edit.TheVariants as edit
+use Rattle.links.proofs.CutLemmas.{end-cut, end-shift_near, end-shift_other}
+use Rattle.links.proofs.PlaceLemmas.{ne-same_end}
+use Rattle.links.proofs.PutEndLemmas.{end-put}
+use Rattle.links.proofs.PutLemmas.{cases_end, end-put_proxy_near, end-put_proxy_other, place-joined_far, place-joined_other}
+use Rattle.links.proofs.ScanLemmas.{cut_value_is}
 use Rattle.node_rows.specs.declared.row.RowEdit.TheVariants.{Change}
 use Rattle.node_rows.specs.declared.slot.SlotEdit.TheVariants.{Move, Remove}
 use Rattle.node_rows.specs.Cells.{Cells, cell_edit}

@@ -13,14 +13,14 @@ use Rattle.mm_types.specs.declared.numbers.ObjectNo.{ObjectNo}
 use Rattle.mm_types.specs.declared.end.End.{End}
 use Rattle.mm_types.specs.declared.value.Value.{Value}
 use Rattle.mm_types.specs.declared.value.Value.TheVariants as value
-use Rattle.link_store.specs.Laws.{IsFar}
-use Rattle.link_store.specs.LegalSets.{AreKinds, IsDistinct, Kinds}
-use Rattle.link_store.specs.Links.{far_end}
-use Rattle.link_store.specs.Plans.{has_end}
-use Rattle.link_store.proofs.IncomingLemmas.{has_end_left}
-use Rattle.link_store.proofs.ListLemmas.{distinct_remove, removed_absent}
-use Rattle.link_store.proofs.PlaceLemmas.{not_proxy, same_node_value}
-use Rattle.link_store.proofs.PutLemmas.{cases_end}
+use Rattle.links.specs.Laws.{IsFar}
+use Rattle.links.specs.LegalSets.{AreKinds, IsDistinct, Kinds}
+use Rattle.links.specs.Links.{far_end}
+use Rattle.links.specs.Plans.{has_end}
+use Rattle.links.proofs.PlacesLemmas.{has_end_left}
+use Rattle.links.proofs.ListLemmas.{distinct_remove, removed_absent}
+use Rattle.links.proofs.PlaceLemmas.{not_proxy, same_node_value}
+use Rattle.links.proofs.PutLemmas.{cases_end}
 use Rattle.node_rows.specs.declared.row.RowEdit.TheVariants.{Change}
 use Rattle.node_rows.specs.declared.slot.SlotEdit.TheVariants.{Move, Remove}
 use Rattle.node_rows.specs.Cells.{Cells, cell_edit}

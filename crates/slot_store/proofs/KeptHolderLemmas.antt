@@ -12,10 +12,10 @@ use Rattle.mm_types.specs.declared.numbers.ObjectNo.{ObjectNo}
 use Rattle.mm_types.specs.declared.end.End.{End}
 use Rattle.mm_types.specs.declared.value.Value.{Value}
 use Rattle.mm_types.specs.declared.value.Value.TheVariants as value
-use Rattle.link_store.specs.declared.link.Far.TheVariants.{At, Alone}
-use Rattle.link_store.specs.Holders.{holding}
-use Rattle.link_store.specs.Links.{Links, end, far_end, joined, new_link}
-use Rattle.link_store.proofs.HolderLemmas.{unheld}
+use Rattle.links.specs.declared.link.Far.TheVariants.{At, Alone}
+use Rattle.links.specs.Holders.{holding}
+use Rattle.links.specs.Links.{Links, end, far_end, joined, new_link}
+use Rattle.links.proofs.HolderLemmas.{unheld}
 use Rattle.node_rows.specs.declared.row.RowEdit.TheVariants.{Change}
 use Rattle.node_rows.specs.declared.slot.SlotEdit.TheVariants.{Remove}
 use Rattle.node_rows.specs.Cells.{Cells, cell_edit}

@@ -15,15 +15,15 @@ use Rattle.mm_types.specs.declared.end.End.{End}
 use Rattle.mm_types.specs.declared.value.Value.{Value}
 use Rattle.mm_types.specs.declared.value.Value.TheVariants as value
 use Rattle.mm_types.proofs.SameLemmas.{same_end-self, same_end-true}
-use Rattle.link_store.specs.declared.link.Far.TheVariants.{At}
-use Rattle.link_store.specs.declared.link.Link.{Link}
-use Rattle.link_store.specs.LegalSets.{HasTwoSides, IsEnd, IsObject, IsPlaced}
-use Rattle.link_store.specs.Links.{In, end, far_end, joined}
-use Rattle.link_store.specs.Places.{place}
-use Rattle.link_store.proofs.EditLemmas.{IsOnce}
-use Rattle.link_store.proofs.EndLemmas.{Among, Among_cases, Among_head, Among_tail, end_is, from_list_HasLinks}
-use Rattle.link_store.proofs.PlaceLemmas.{ne-same_end}
-use Rattle.link_store.proofs.PutLemmas.{cases_end, place-joined_far, place-joined_near, place-joined_other, placed_from}
+use Rattle.links.specs.declared.link.Far.TheVariants.{At}
+use Rattle.links.specs.declared.link.Link.{Link}
+use Rattle.links.specs.LegalSets.{HasTwoSides, IsEnd, IsObject, IsPlaced}
+use Rattle.links.specs.Links.{In, end, far_end, joined}
+use Rattle.links.specs.Places.{place}
+use Rattle.links.proofs.EditLemmas.{IsOnce}
+use Rattle.links.proofs.EndLemmas.{Among, Among_cases, Among_head, Among_tail, end_is, from_list_HasLinks}
+use Rattle.links.proofs.PlaceLemmas.{ne-same_end}
+use Rattle.links.proofs.PutLemmas.{cases_end, place-joined_far, place-joined_near, place-joined_other, placed_from}
 use Rattle.node_rows.specs.Cells.{Cells}
 use Rattle.slot_store.specs.CellLinks.{AreLists, all_links, cell_links, link_from, link_to, links_from}
 

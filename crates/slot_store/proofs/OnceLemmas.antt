@@ -8,9 +8,9 @@ use Rattle.std.proofs.lemmas.Option.{none-some, same_Some, slice_get_within}
 use Rattle.mm_types.specs.Same.{same_end}
 use Rattle.mm_types.specs.declared.end.End.{End}
 use Rattle.mm_types.proofs.SameLemmas.{same_end-self, same_end-true}
-use Rattle.link_store.specs.Links.{raise}
-use Rattle.link_store.specs.Plans.{has_end}
-use Rattle.link_store.proofs.ListLemmas.{raise_above, raise_below, raise_injective, raise_other, slice_get-push, slice_get-push_below, slice_get-remove_above, slice_get-remove_below, length_push}
+use Rattle.links.specs.Links.{raise}
+use Rattle.links.specs.Plans.{has_end}
+use Rattle.links.proofs.ListLemmas.{raise_above, raise_below, raise_injective, raise_other, slice_get-push, slice_get-push_below, slice_get-remove_above, slice_get-remove_below, length_push}
 use Rattle.slot_store.specs.CellLinks.{IsOnce}
 use Rattle.slot_store.proofs.PositionLemmas.{end_at, end_lacks}
 

@@ -12,7 +12,7 @@ use Rattle.mm_types.specs.Same.{same_end, same_value}
 use Rattle.mm_types.specs.SameValues.{same_value-self, same_value-true}
 use Rattle.mm_types.specs.declared.end.End.{End}
 use Rattle.mm_types.specs.declared.value.Value.{Value}
-use Rattle.link_store.specs.LegalSets.{IsDistinct}
+use Rattle.links.specs.LegalSets.{IsDistinct}
 use Rattle.slot_store.specs.CellLinks.{IsOnce}
 
 past_all : {X : Type 0} (p : X → Bool) (xs : List X) → position p xs ≡ None → length xs ≤ position_or_len p xs

@@ -11,16 +11,16 @@ use Rattle.mm_types.specs.declared.numbers.ObjectNo.{ObjectNo}
 use Rattle.mm_types.specs.declared.end.End.{End}
 use Rattle.mm_types.specs.declared.value.Value.{Value}
 use Rattle.mm_types.specs.declared.value.Value.TheVariants as value
-use Rattle.link_store.specs.declared.link.Far.{Far}
-use Rattle.link_store.specs.declared.link.Far.TheVariants.{At, Alone, Proxy}
-use Rattle.link_store.specs.declared.link.Link.{Link}
-use Rattle.link_store.specs.LegalSets.{AreKinds, AreOfKind, HasTwoSides, IsDistinct, IsObject, IsOfKind, IsPlaced, Kinds, most}
-use Rattle.link_store.specs.Links.{Links, end, far_end, joined}
-use Rattle.link_store.specs.Places.{far_place, far_value, place}
-use Rattle.link_store.proofs.EndLemmas.{from_list_HasLinks}
-use Rattle.link_store.proofs.KindLemmas.{kind_joined}
-use Rattle.link_store.proofs.SameLinksLemmas.{same_by_ends}
-use Rattle.link_store.proofs.SideLemmas.{both_ends, paired}
+use Rattle.links.specs.declared.link.Far.{Far}
+use Rattle.links.specs.declared.link.Far.TheVariants.{At, Alone, Proxy}
+use Rattle.links.specs.declared.link.Link.{Link}
+use Rattle.links.specs.LegalSets.{AreKinds, AreOfKind, HasTwoSides, IsDistinct, IsObject, IsOfKind, IsPlaced, Kinds, most}
+use Rattle.links.specs.Links.{Links, end, far_end, joined}
+use Rattle.links.specs.Places.{far_place, far_value, place}
+use Rattle.links.proofs.EndLemmas.{from_list_HasLinks}
+use Rattle.links.proofs.KindLemmas.{kind_joined}
+use Rattle.links.proofs.SameLinksLemmas.{same_by_ends}
+use Rattle.links.proofs.SideLemmas.{both_ends, paired}
 use Rattle.node_rows.specs.Cells.{Cells, HasKeys}
 use Rattle.slot_store.specs.CellLinks.{AreLists, IsMutual, IsReference, all_links, cell_links, link_from, link_to}
 use Rattle.slot_store.proofs.LinkLemmas.{all_back, end-lists, lists_placed}

@@ -6,9 +6,9 @@ use Rattle.mm_types.specs.declared.numbers.Node.TheVariants as node
 use Rattle.mm_types.specs.declared.numbers.ObjectNo.{ObjectNo}
 use Rattle.mm_types.specs.declared.end.End.{End}
 use Rattle.mm_types.proofs.SameLemmas.{same_end-self, same_node-self}
-use Rattle.link_store.specs.declared.plan.Edit.{Edit}
-use Rattle.link_store.specs.declared.plan.Edit.TheVariants as edit
-use Rattle.link_store.specs.Links.{far_end}
+use Rattle.links.specs.declared.plan.Edit.{Edit}
+use Rattle.links.specs.declared.plan.Edit.TheVariants as edit
+use Rattle.links.specs.Links.{far_end}
 use Rattle.node_rows.specs.declared.node_rows.NodeRows.{NodeRows}
 use Rattle.node_rows.specs.Cells.{room}
 use Rattle.node_rows.specs.Growth.{HasRoom, far_gain, lone_entry, one_if}

@@ -9,8 +9,8 @@ use Rattle.mm_types.specs.Same.{node_value, same_end, same_value}
 use Rattle.mm_types.specs.declared.numbers.FeatureNo.{FeatureNo}
 use Rattle.mm_types.specs.declared.numbers.ObjectNo.{ObjectNo}
 use Rattle.mm_types.specs.declared.value.Value.TheVariants as value
-use Rattle.link_store.proofs.CycleLemmas.{none_holder}
-use Rattle.link_store.proofs.LegalLemmas.{none_legal}
+use Rattle.links.proofs.CycleLemmas.{none_holder}
+use Rattle.links.proofs.LegalLemmas.{none_legal}
 use Rattle.slot_store.specs.Entering.{AreFew}
 use Rattle.slot_store.proofs.OnceLemmas.{has_end_at}
 use Rattle.slot_store.proofs.PositionLemmas.{end_lacks, position_lacks}
@@ -18,12 +18,12 @@ use Rattle.mm_types.specs.declared.numbers.Node.{Node}
 use Rattle.mm_types.specs.declared.numbers.Node.TheVariants as node
 use Rattle.mm_types.specs.declared.end.End.{End}
 use Rattle.mm_types.specs.declared.value.Value.{Value}
-use Rattle.link_store.specs.Holders.{holder}
-use Rattle.link_store.specs.LegalSets.{IsHeldOnce}
-use Rattle.link_store.specs.Links.{In, Links, end, far_end, no_links}
-use Rattle.link_store.specs.declared.link.Link.{Link}
-use Rattle.link_store.proofs.EndLemmas.{from_list_HasLinks}
-use Rattle.link_store.proofs.ScanLemmas.{same_links}
+use Rattle.links.specs.Holders.{holder}
+use Rattle.links.specs.LegalSets.{IsHeldOnce}
+use Rattle.links.specs.Links.{In, Links, end, far_end, no_links}
+use Rattle.links.specs.declared.link.Link.{Link}
+use Rattle.links.proofs.EndLemmas.{from_list_HasLinks}
+use Rattle.links.proofs.ScanLemmas.{same_links}
 use Rattle.node_rows.specs.declared.node_rows.NodeRows.{NodeRows}
 use Rattle.node_rows.specs.Cells.{Cells, HasKeys, cells, ends_of, no_cells}
 use Rattle.node_rows.proofs.KeyLemmas.{keys_of}

@@ -11,10 +11,10 @@ use Rattle.mm_types.specs.declared.numbers.ObjectNo.{ObjectNo}
 use Rattle.mm_types.specs.declared.end.End.{End}
 use Rattle.mm_types.specs.declared.value.Value.{Value}
 use Rattle.mm_types.specs.declared.value.Value.TheVariants as value
-use Rattle.link_store.specs.LegalSets.{AreKinds, AreOfKind, IsOfKind, Kinds}
-use Rattle.link_store.specs.Links.{far_end, joined}
-use Rattle.link_store.specs.declared.link.Far.TheVariants.{At}
-use Rattle.link_store.proofs.PutLemmas.{cases_end}
+use Rattle.links.specs.LegalSets.{AreKinds, AreOfKind, IsOfKind, Kinds}
+use Rattle.links.specs.Links.{far_end, joined}
+use Rattle.links.specs.declared.link.Far.TheVariants.{At}
+use Rattle.links.proofs.PutLemmas.{cases_end}
 use Rattle.node_rows.specs.declared.slot.Pairing.{Pairing}
 use Rattle.node_rows.specs.declared.slot.SlotEdit.{SlotEdit}
 use Rattle.node_rows.specs.declared.slot.SlotEdit.TheVariants.{Insert, Push, Remove, Move}

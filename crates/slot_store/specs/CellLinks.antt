@@ -10,12 +10,12 @@ use Rattle.mm_types.specs.declared.numbers.ObjectNo.{ObjectNo}
 use Rattle.mm_types.specs.declared.end.End.{End}
 use Rattle.mm_types.specs.declared.value.Value.{Value}
 use Rattle.mm_types.specs.declared.value.Value.TheVariants as value
-use Rattle.link_store.specs.declared.link.Far.TheVariants.{Alone, Proxy}
-use Rattle.link_store.specs.declared.link.Link.{Link}
-use Rattle.link_store.specs.Holders.{holder}
-use Rattle.link_store.specs.LegalSets.{AreKinds, AreOfKind, IsDistinct, IsHeldOnce, IsObject, Kinds, most}
-use Rattle.link_store.specs.Links.{Links, far_end, joined}
-use Rattle.link_store.specs.Plans.{has_end}
+use Rattle.links.specs.declared.link.Far.TheVariants.{Alone, Proxy}
+use Rattle.links.specs.declared.link.Link.{Link}
+use Rattle.links.specs.Holders.{holder}
+use Rattle.links.specs.LegalSets.{AreKinds, AreOfKind, IsDistinct, IsHeldOnce, IsObject, Kinds, most}
+use Rattle.links.specs.Links.{Links, far_end, joined}
+use Rattle.links.specs.Plans.{has_end}
 use Rattle.node_rows.specs.declared.node_rows.NodeRows.{NodeRows}
 use Rattle.node_rows.specs.Cells.{Cells, HasKeys, cells, ends_of}
 

@@ -7,8 +7,8 @@ use Rattle.mm_types.specs.declared.numbers.ObjectNo.{ObjectNo}
 use Rattle.mm_types.specs.declared.end.End.{End}
 use Rattle.mm_types.specs.declared.value.Value.{Value}
 use Rattle.mm_types.specs.declared.value.Value.TheVariants as value
-use Rattle.link_store.specs.LegalSets.{most}
-use Rattle.link_store.specs.Links.{far_end}
+use Rattle.links.specs.LegalSets.{most}
+use Rattle.links.specs.Links.{far_end}
 use Rattle.node_rows.specs.declared.slot.Slot.{Slot}
 use Rattle.node_rows.specs.Cells.{Cells}
 

@@ -2,15 +2,15 @@
 ghost use Rattle.std.specs.Prelude.{◌≡◌, ◌≤◌, ◌∷◌, []};
 ghost use Rattle.mm_types.specs.Same.{node_value, same_end};
 ghost use Rattle.mm_types.specs.declared.numbers.Node.TheVariants as node;
-ghost use Rattle.link_store.specs.LegalSets.{IsDistinct};
+ghost use Rattle.links.specs.LegalSets.{IsDistinct};
 ghost use Rattle.node_rows.specs.Cells.{cells, room};
 ghost use Rattle.node_rows.specs.Growth.{HasRoom, entry, far_gain, gain, lone_entry, no_ends, no_values, one_if};
-ghost use Rattle.link_store.specs.declared.plan.Edit.TheVariants as edit;
+ghost use Rattle.links.specs.declared.plan.Edit.TheVariants as edit;
 ghost use Rattle.slot_store.specs.CellLinks.{IsOnce, RepeatNothing};
 ghost use Rattle.slot_store.specs.EditedCells.{FarHasRoom, HasHeldRow, TakesAtMost, cells_after, cut_far, held, held_far, holds, put_cells, put_far, put_near, released, without_entry, without_value};
 
 use crate::search::{entry_found, found};
-use link_store::Edit;
+use links::Edit;
 use mm_types::{End, FeatureNo, Node, ObjectNo, Value};
 use node_rows::{NodeRows, Pairing, RowEdit, SlotEdit};
 

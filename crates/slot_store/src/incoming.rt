@@ -2,15 +2,15 @@
 ghost use Rattle.std.specs.Prelude.{◌≡◌, ◌++◌, IfOk, OnOk};
 ghost use Rattle.std.specs.Option.{option_copied, option_to_list};
 ghost use Rattle.mm_types.specs.declared.numbers.Node.TheVariants as node;
-ghost use Rattle.link_store.specs.LegalSets.{IsDistinct};
-ghost use Rattle.link_store.specs.Rows.{place_if, places_by};
+ghost use Rattle.links.specs.LegalSets.{IsDistinct};
+ghost use Rattle.links.specs.InOrder.{place_if, places_by};
 ghost use Rattle.node_rows.specs.Cells.{cells, row_at};
 ghost use Rattle.node_rows.specs.Rows.{row_slots};
 ghost use Rattle.slot_store.specs.CellLinks.{RepeatNothing};
 ghost use Rattle.slot_store.specs.Entering.{AreFew, ends_at, entering_ends, far_ends, far_of, found_in, paired_ends};
 
 use crate::search::found;
-use link_store::Incoming;
+use links::Incoming;
 use mm_types::{End, FeatureNo, Node, ObjectNo, Value};
 use node_rows::{NodeRows, Slot};
 use std::alloc::{AllocError, Global};

@@ -5,7 +5,7 @@
 ghost use Rattle.std.specs.Prelude.{◌≡◌, position};
 ghost use Rattle.mm_types.specs.Same.{same_end};
 ghost use Rattle.mm_types.specs.declared.numbers.Node.TheVariants as node;
-ghost use Rattle.link_store.specs.LegalSets.{IsDistinct};
+ghost use Rattle.links.specs.LegalSets.{IsDistinct};
 ghost use Rattle.node_rows.specs.Cells.{cells};
 ghost use Rattle.slot_store.specs.CellLinks.{IsOnce};
 ghost use Rattle.slot_store.specs.Entering.{found_in};

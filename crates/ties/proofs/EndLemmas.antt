@@ -22,10 +22,10 @@ use Rattle.mm_types.specs.declared.numbers.Node.TheVariants as node
 use Rattle.mm_types.specs.declared.numbers.ObjectNo.{ObjectNo}
 use Rattle.mm_types.specs.declared.value.Value.{Value}
 use Rattle.mm_types.specs.declared.value.Value.TheVariants as value
-use Rattle.link_store.specs.LegalSets as sets
-use Rattle.link_store.specs.LegalSets.{IsObject}
-use Rattle.link_store.specs.Links.{end}
-use Rattle.link_store.specs.Plans.{Has}
+use Rattle.links.specs.LegalSets as sets
+use Rattle.links.specs.LegalSets.{IsObject}
+use Rattle.links.specs.Links.{end}
+use Rattle.links.specs.Plans.{Has}
 use Rattle.models.specs.Legal.{IsLegal, is_legal_target, takes_proxies}
 use Rattle.models.specs.Model.{Model, reading}
 use Rattle.models.specs.Reading.{Reading, all_features_of, has_feature, has_resource}

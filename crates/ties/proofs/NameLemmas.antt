@@ -16,14 +16,14 @@ use Rattle.mm_types.specs.declared.numbers.Node.TheVariants as node
 use Rattle.mm_types.specs.declared.numbers.ObjectNo.{ObjectNo}
 use Rattle.mm_types.specs.declared.value.Value.{Value}
 use Rattle.mm_types.specs.declared.value.Value.TheVariants as value
-use Rattle.link_store.proofs.FilterLemmas.{filter_keeps}
-use Rattle.link_store.proofs.NamedLemmas.{names-true}
-use Rattle.link_store.proofs.ScanLemmas.{same_bool}
-use Rattle.link_store.proofs.SideLemmas.{both_ends_agree}
-use Rattle.link_store.specs.Laws.{NameLinksOf, goes, is_named, names, names_far}
-use Rattle.link_store.specs.LegalSets.{Kinds}
-use Rattle.link_store.specs.Links.{far_end}
-use Rattle.link_store.specs.Plans.{Has, has_end}
+use Rattle.links.proofs.FilterLemmas.{filter_keeps}
+use Rattle.links.proofs.NamedLemmas.{names-true}
+use Rattle.links.proofs.ScanLemmas.{same_bool}
+use Rattle.links.proofs.SideLemmas.{both_ends_agree}
+use Rattle.links.specs.Laws.{NameLinksOf, goes, is_named, names, names_far}
+use Rattle.links.specs.LegalSets.{Kinds}
+use Rattle.links.specs.Links.{far_end}
+use Rattle.links.specs.Plans.{Has, has_end}
 use Rattle.models.specs.Legal.{IsLegal, kinds_of}
 use Rattle.models.specs.Model.{Model, reading}
 use Rattle.models.specs.Reading.{all_features_of, at_end}

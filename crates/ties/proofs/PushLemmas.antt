@@ -12,7 +12,7 @@ use Rattle.mm_types.specs.declared.numbers.Node.{Node}
 use Rattle.mm_types.specs.declared.numbers.Node.TheVariants as node
 use Rattle.mm_types.specs.declared.numbers.ObjectNo.{ObjectNo}
 use Rattle.mm_types.specs.declared.value.Value.TheVariants as value
-use Rattle.link_store.specs.Laws.{goes}
+use Rattle.links.specs.Laws.{goes}
 use Rattle.models.specs.Reading.{Reading, all_features_of, at_end, object_of}
 use Rattle.containment.specs.Forest.{subtree}
 use Rattle.deletion.specs.Outer.{gone, holds_some, outer_ends, touched_ends}

@@ -16,11 +16,11 @@ use Rattle.mm_types.specs.declared.numbers.Node.TheVariants as node
 use Rattle.mm_types.specs.declared.numbers.ObjectNo.{ObjectNo}
 use Rattle.mm_types.specs.declared.value.Value.{Value}
 use Rattle.mm_types.specs.declared.value.Value.TheVariants as value
-use Rattle.link_store.proofs.NamedLemmas.{NamesFar, names-true}
-use Rattle.link_store.specs.Laws.{AreOnce, AreThere, goes, names}
-use Rattle.link_store.specs.LegalSets.{AreKinds}
-use Rattle.link_store.specs.Links.{end, far_end}
-use Rattle.link_store.specs.Plans.{AreInOrder, Has, has_end}
+use Rattle.links.proofs.NamedLemmas.{NamesFar, names-true}
+use Rattle.links.specs.Laws.{AreOnce, AreThere, goes, names}
+use Rattle.links.specs.LegalSets.{AreKinds}
+use Rattle.links.specs.Links.{end, far_end}
+use Rattle.links.specs.Plans.{AreInOrder, Has, has_end}
 use Rattle.models.specs.Legal.{IsLegal, kinds_of}
 use Rattle.models.specs.Model.{Model, reading}
 use Rattle.models.specs.Reading.{all_features_of, at_end}

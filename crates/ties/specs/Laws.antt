@@ -3,7 +3,7 @@ use Rattle.std.specs.Prelude.{List, map}
 use Rattle.mm_types.specs.declared.end.End.{End}
 use Rattle.mm_types.specs.declared.value.Value.{Value}
 use Rattle.mm_types.specs.declared.numbers.ObjectNo.{ObjectNo}
-use Rattle.link_store.specs.Laws.{AreOnce, AreThere, NameLinksOf}
+use Rattle.links.specs.Laws.{AreOnce, AreThere, NameLinksOf}
 use Rattle.models.specs.Legal.{kinds_of}
 use Rattle.models.specs.Model.{Model, reading}
 use Rattle.deletion.specs.Outer.{gone}

@@ -1,7 +1,7 @@
 //! The links of nodes that go with an object, told apart by the numbers of what goes.
 ghost use Rattle.std.specs.Prelude.{◌≡◌, ◌++◌, [], true, filter, flat_map, map, OnOk, option_map, option_to_list, if◌then◌else◌};
 ghost use Rattle.mm_types.specs.Shapes.{shape};
-ghost use Rattle.link_store.specs.Laws.{goes as goes_with};
+ghost use Rattle.links.specs.Laws.{goes as goes_with};
 ghost use Rattle.models.specs.Found.{found_value};
 ghost use Rattle.models.specs.Model.{reading};
 ghost use Rattle.deletion.specs.Ranks as ranks;
@@ -9,9 +9,9 @@ ghost use Rattle.ties.specs.TreeTies as t;
 
 use crate::tie::Tie;
 use deletion::is_in;
-use link_store::LinkStore;
+use links::LinkStore;
 use mm_types::{End, FeatureNo, Node, ObjectNo};
-use models::{Found, ModelRef, is_reference, opposite};
+use models::{Found, ModelRef};
 use std::alloc::{AllocError, Global};
 use std::collections::BTreeSet;
 
@@ -63,7 +63,7 @@ fn push_reference<L: LinkStore>(
 ) -> Result<(), AllocError>
     ensures { OnOk result (ties.new.items ≡ ties.old.items ++ (if (shape model.now.metamodel end.feature).is_reference then t.end_ties (reading model.now) (ranks.is_in numbers.now) end else [])) }
 {
-    if !is_reference(model.meta(), end.feature) {
+    if !model.meta().is_reference(end.feature) {
         return Ok(());
     }
     push_end(alloc, model, end, numbers, ties)
@@ -119,7 +119,7 @@ fn is_named_here<L: LinkStore>(
     if !goes(found, numbers) {
         return true;
     }
-    match opposite(model.meta(), feature) {
+    match model.meta().opposite(feature) {
         Some(far) => feature.0 < far.0,
         None => true,
     }

@@ -2,16 +2,16 @@
 ghost use Rattle.std.specs.Prelude.{◌≡◌, ◌++◌, true, All, filter, flat_map, map, OnOk, option_map, option_to_list};
 ghost use Rattle.mm_types.specs.Shapes.{shape};
 ghost use Rattle.mm_types.specs.declared.value.Value.TheVariants as value;
-ghost use Rattle.link_store.specs.Laws.{goes};
+ghost use Rattle.links.specs.Laws.{goes};
 ghost use Rattle.models.specs.Model.{reading};
 ghost use Rattle.deletion.specs.Ranks as ranks;
 ghost use Rattle.ties.specs.TreeTies as t;
 
 use crate::tie::Tie;
 use deletion::is_in;
-use link_store::LinkStore;
+use links::LinkStore;
 use mm_types::{End, Node, ObjectNo, Value};
-use models::{ModelRef, opposite};
+use models::ModelRef;
 use std::alloc::AllocError;
 use std::collections::BTreeSet;
 
@@ -41,7 +41,7 @@ fn push_alone<L: LinkStore>(
     requires reference { (shape model.now.metamodel end.feature).is_reference ≡ true }
     ensures { OnOk result (ties.new.items ≡ ties.old.items ++ t.outer_ties (reading model.now) (ranks.is_in numbers.now) end) }
 {
-    if opposite(model.meta(), end.feature).is_some() {
+    if model.meta().opposite(end.feature).is_some() {
         return Ok(());
     }
     push_gone(model, end, numbers, ties)

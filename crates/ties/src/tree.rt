@@ -9,7 +9,7 @@ use crate::outer::push_outer;
 use crate::tie::Tie;
 use containment::subtree;
 use deletion::{ends_touched_by, numbers_of};
-use link_store::LinkStore;
+use links::LinkStore;
 use mm_types::ObjectNo;
 use models::ModelRef;
 use std::alloc::{AllocError, Global};

@@ -1,7 +1,7 @@
 //! Which adapters hear a notice, what is reserved for a chain, and its delivery.
 ghost use Rattle.std.specs.Prelude.{◌≡◌, ◌≤◌, ◌<◌, ◌∷◌, [], ◌++◌, length, slice_index, false, All, OnOk, IfOk, IfErr};
-ghost use Rattle.link_store.specs.Holders.{HasNoCycle, above};
-ghost use Rattle.link_store.specs.LegalSets.{IsLegalSet};
+ghost use Rattle.links.specs.Holders.{HasNoCycle, above};
+ghost use Rattle.links.specs.LegalSets.{IsLegalSet};
 ghost use Rattle.notice_chain.specs.Listed.{audience_numbers, is_chain_full};
 ghost use Rattle.adapter_list.specs.Hearing.{copies_at};
 ghost use Rattle.adapter_list.specs.Refusals.{IsChainRefusal};
@@ -12,7 +12,7 @@ use crate::hearers::Hearers;
 use crate::refusal::refusal;
 use crate::round::Round;
 use adapters::Adapter;
-use link_store::LinkStore;
+use links::LinkStore;
 use mm_types::{AdapterNo, Refused};
 use notice_chain::{Chain, Notice};
 use std::alloc::AllocError;

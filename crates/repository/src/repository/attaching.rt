@@ -14,7 +14,7 @@ use crate::reply::{Answer, Failure, Reply};
 use adapter_list::AttachRefused;
 use adapters::Adapter;
 use handshake::node_refusal;
-use link_store::LinkStore;
+use links::LinkStore;
 use mm_types::{AdapterNo, Node, Refused, Seq};
 
 impl<L: LinkStore, A: Adapter> Repository<L, A> {

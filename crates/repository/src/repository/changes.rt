@@ -13,7 +13,7 @@ use crate::preparing::{Prepared, prepare, reserve};
 use crate::reply::Reply;
 use adapters::Adapter;
 use handshake::{Change, early_refusal};
-use link_store::LinkStore;
+use links::LinkStore;
 use mm_types::{ClassNo, FeatureNo, Node, ObjectNo, Refused, Seq, Value};
 
 impl<L: LinkStore, A: Adapter> Repository<L, A> {

@@ -12,7 +12,7 @@ use crate::reads::{
 };
 use crate::reply::{Failure, Reply};
 use adapters::Adapter;
-use link_store::LinkStore;
+use links::LinkStore;
 
 impl<L: LinkStore, A: Adapter> Repository<L, A> {
     /// Does a command.

@@ -8,7 +8,7 @@ use super::Repository;
 use adapters::Adapter;
 use fragment_paths::{object_at, write};
 use handshake::node_refusal;
-use link_store::LinkStore;
+use links::LinkStore;
 use mm_types::{Node, ObjectNo, Refused, ResourceNo, Text};
 use models::is_short_text;
 use saved_docs::write_doc;
@@ -27,10 +27,9 @@ impl<L: LinkStore, A: Adapter> Repository<L, A> {
         if model.class(object).is_none() {
             return Err(Refused::NoObject);
         }
-        match write(self.alloc, &model, object) {
-            Ok(Some(fragment)) => Ok(fragment),
-            Ok(None) => Err(Refused::Dangling),
-            Err(_) => Err(Refused::Memory),
+        match write(self.alloc, &model, object)? {
+            Some(fragment) => Ok(fragment),
+            None => Err(Refused::Dangling),
         }
     }
 
@@ -48,10 +47,8 @@ impl<L: LinkStore, A: Adapter> Repository<L, A> {
         if split_address(address).is_none() {
             return Err(Refused::BadUri);
         }
-        match object_at(self.alloc, &self.model(), address) {
-            Ok(object) => Ok(object),
-            Err(_) => Err(Refused::Memory),
-        }
+        let object = object_at(self.alloc, &self.model(), address)?;
+        Ok(object)
     }
 
     /// The document of a resource (EMF: Resource.save), as JSON without spaces: its roots with all that they contain, each with the features

@@ -7,7 +7,7 @@ use super::Repository;
 use crate::reply::Reply;
 use adapters::Adapter;
 use handshake::Change;
-use link_store::LinkStore;
+use links::LinkStore;
 use mm_types::{FeatureNo, Node, Refused, Value};
 
 impl<L: LinkStore, A: Adapter> Repository<L, A> {

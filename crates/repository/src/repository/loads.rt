@@ -10,7 +10,7 @@ use super::Repository;
 use crate::reply::Reply;
 use adapters::Adapter;
 use handshake::Change;
-use link_store::LinkStore;
+use links::LinkStore;
 use loading::contents_end;
 use mm_types::{DocFault, Refused, ResourceNo};
 use models::ModelRef;

@@ -1,7 +1,7 @@
 //! Reads of objects and their values.
 ghost use Rattle.std.specs.Prelude.{◌≡◌, false, unwrap_or, ok_or, option_map, Ok, IfOk, IfErr};
 ghost use Rattle.handshake.specs.Plans.{is_memory_refusal};
-ghost use Rattle.mm_types.specs.declared.refused.Refused.TheVariants.{Memory, NoObject};
+ghost use Rattle.mm_types.specs.declared.refused.Refused.TheVariants.{NoObject};
 ghost use Rattle.mm_types.specs.declared.value.Value.TheVariants.{Null};
 ghost use Rattle.models.specs.Found.{found_value};
 ghost use Rattle.models.specs.Model.{reading};
@@ -17,10 +17,10 @@ use crate::reply::FeatureValue;
 use adapters::Adapter;
 use containment::{container, contents, holder_resource};
 use handshake::{feature_refusal, node_refusal};
-use link_store::LinkStore;
+use links::LinkStore;
 use mm_types::{ClassNo, End, FeatureNo, Node, ObjectNo, Refused, ResourceNo, Seq, Value};
-use models::{Found, ModelRef, copied, is_single};
-use std::alloc::Global;
+use models::{Found, ModelRef, copied};
+use std::alloc::{AllocError, Global};
 
 impl<L: LinkStore, A: Adapter> Repository<L, A> {
     /// What a feature of an object has (EMF: EObject.eGet): one value, which was set, or the default, or the object of a reference; or the
@@ -36,7 +36,7 @@ impl<L: LinkStore, A: Adapter> Repository<L, A> {
             return Err(refused);
         }
         let end = End { node, feature };
-        if is_single(model.meta(), feature) {
+        if model.meta().is_single(feature) {
             let value = copied(self.alloc, model.value_at(end))?;
             return Ok(FeatureValue::One(value));
         }
@@ -56,7 +56,7 @@ impl<L: LinkStore, A: Adapter> Repository<L, A> {
         if let Some(refused) = feature_refusal(&model, node, feature) {
             return Err(refused);
         }
-        if !is_single(model.meta(), feature) {
+        if !model.meta().is_single(feature) {
             return Err(Refused::NotSingle);
         }
         Ok(model.value_at(End { node, feature }))
@@ -118,10 +118,8 @@ impl<L: LinkStore, A: Adapter> Repository<L, A> {
         if let Some(refused) = node_refusal(&model, node) {
             return Err(refused);
         }
-        match contents(self.alloc, &model, node) {
-            Ok(objects) => Ok(Seq::from_vec(objects)),
-            Err(_) => Err(Refused::Memory),
-        }
+        let objects = contents(self.alloc, &model, node)?;
+        Ok(Seq::from_vec(objects))
     }
 
     /// The class of an object (EMF: EObject.eClass). Takes no memory. Refused with `NoObject` where none lives.
@@ -137,19 +135,16 @@ impl<L: LinkStore, A: Adapter> Repository<L, A> {
     }
 }
 
-// A copy of the values that stand at an end. Errs only with `Memory`.
+// A copy of the values that stand at an end. Errs only when out of memory.
 fn list_at<L: LinkStore>(
     alloc: Global,
     model: &ModelRef<L>,
     end: End,
-) -> Result<Seq<Value>, Refused>
-    ensures ok { IfOk result (λ vs. vs ≡ (reading model.now).values end) }
-    ensures memory { IfErr result (λ r. r ≡ Memory) }
+) -> Result<Seq<Value>, AllocError>
+    ensures { IfOk result (λ vs. vs ≡ (reading model.now).values end) }
 {
     let len = model.len(end);
-    let Ok(mut values) = Vec::with_capacity(alloc, len as usize) else {
-        return Err(Refused::Memory);
-    };
+    let mut values = Vec::with_capacity(alloc, len as usize)?;
     for index in 0..len {
         values.push_reserved(copied(alloc, model.value_in(end, index))?);
     }

@@ -12,7 +12,7 @@ use crate::reply::Reply;
 use adapters::Adapter;
 use fragment_paths::object_at;
 use handshake::{Change, feature_refusal, proxy_at};
-use link_store::LinkStore;
+use links::LinkStore;
 use mm_types::{End, FeatureNo, Node, ObjectNo, Refused};
 use models::ModelRef;
 use std::alloc::{AllocError, Global};
@@ -37,9 +37,7 @@ impl<L: LinkStore, A: Adapter> Repository<L, A> {
         if let Some(refused) = feature_refusal(&model, Node::Object(object), feature) {
             return Err(refused);
         }
-        let Ok(target) = target_at(self.alloc, &model, object, feature, index) else {
-            return Err(Refused::Memory);
-        };
+        let target = target_at(self.alloc, &model, object, feature, index)?;
         self.carry_out(Change::Resolve {
             object,
             feature,

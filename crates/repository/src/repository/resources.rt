@@ -8,7 +8,7 @@ use super::Repository;
 use crate::reply::Reply;
 use adapters::Adapter;
 use handshake::Change;
-use link_store::LinkStore;
+use links::LinkStore;
 use mm_types::{Refused, Text, limits};
 use models::is_short_text;
 use web_uris::{UriFault, joined};

@@ -12,10 +12,10 @@ ghost use Rattle.repository.specs.declared.reply.Answer.TheVariants as answer;
 
 use super::Repository;
 use adapters::Adapter;
-use link_store::LinkStore;
+use links::LinkStore;
 use mm_meta::Meta;
 use mm_types::{End, FeatureNo, Node, ObjectNo, Refused, Seq, Value};
-use models::{Found, ModelRef, is_same, is_single, is_unsettable};
+use models::{Found, ModelRef, is_same};
 use std::alloc::{AllocError, Global};
 
 impl<L: LinkStore, A: Adapter> Repository<L, A> {
@@ -32,10 +32,8 @@ impl<L: LinkStore, A: Adapter> Repository<L, A> {
         if model.class(object).is_none() {
             return Err(Refused::NoObject);
         }
-        match short_features(self.alloc, &model, object) {
-            Ok(features) => Ok(Seq::from_vec(features)),
-            Err(_) => Err(Refused::Memory),
-        }
+        let features = short_features(self.alloc, &model, object)?;
+        Ok(Seq::from_vec(features))
     }
 }
 
@@ -67,7 +65,7 @@ fn is_too_few<L: LinkStore>(model: &ModelRef<L>, end: End) -> bool
     ensures { result ≡ a.is_too_few (reading model.now) end }
 {
     let lower = lower_bound(model.meta(), end.feature);
-    if is_single(model.meta(), end.feature) {
+    if model.meta().is_single(end.feature) {
         return lower >= 1 && is_missing(model, end);
     }
     i64::from(model.len(end)) < i64::from(lower)
@@ -87,7 +85,7 @@ fn lower_bound(meta: &Meta, feature: FeatureNo) -> i32
 fn is_missing<L: LinkStore>(model: &ModelRef<L>, end: End) -> bool
     ensures { result ≡ a.is_missing (reading model.now) end }
 {
-    is_null(model.value_at(end)) || is_unsettable(model.meta(), end.feature) && !model.is_set(end)
+    is_null(model.value_at(end)) || model.meta().is_unsettable(end.feature) && !model.is_set(end)
 }
 
 fn is_null(found: Option<Found<'_>>) -> bool

@@ -1,7 +1,7 @@
 use Rattle.std.proofs.Common.{◌≡◌, length}
 use Rattle.std.specs.List.{list_any}
 use Rattle.mm_types.specs.Same.{same_node}
-use Rattle.link_store.specs.Holders.{above}
+use Rattle.links.specs.Holders.{above}
 use Rattle.containment.proofs.above.is_under.Given as goal
 
 abbrev pub invariant-loop-next : goal.invariant-loop-next

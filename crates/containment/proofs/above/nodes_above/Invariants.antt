@@ -1,5 +1,5 @@
 use Rattle.std.proofs.Common.{◌≡◌, ◌++◌, length}
-use Rattle.link_store.specs.Holders.{above}
+use Rattle.links.specs.Holders.{above}
 use Rattle.containment.proofs.above.nodes_above.Given as goal
 
 -- what is found, and then what is above the last of it

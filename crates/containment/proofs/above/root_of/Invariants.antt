@@ -1,6 +1,6 @@
 use Rattle.std.proofs.Common.{◌≡◌, length, Some}
 use Rattle.std.specs.List.{last_or}
-use Rattle.link_store.specs.Holders.{above}
+use Rattle.links.specs.Holders.{above}
 use Rattle.containment.proofs.above.root_of.Given as goal
 
 abbrev pub invariant-loop-next : goal.invariant-loop-next

@@ -1,7 +1,7 @@
 use Rattle.std.proofs.Common.{◌≡◌, ◌&&◌, not, take}
 use Rattle.std.specs.List.{list_any}
 use Rattle.mm_types.specs.declared.end.End.{End}
-use Rattle.link_store.specs.Plans.{has_end}
+use Rattle.links.specs.Plans.{has_end}
 use Rattle.deletion.specs.Ranks.{holds, is_in}
 use Rattle.deletion.proofs.ends.ends_that_hold.Given as goal
 

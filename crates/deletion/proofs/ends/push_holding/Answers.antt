@@ -1,8 +1,8 @@
 use Rattle.std.proofs.Common.{List, ◌++◌, ap, subst, ◌∙◌}
 use Rattle.std.proofs.lemmas.Result.{on_ok_weaker}
-use Rattle.link_store.specs.Links.{Links}
-use Rattle.link_store.specs.Plans.{ArePlacesOf}
-use Rattle.link_store.specs.declared.incoming.Incoming.{Incoming}
+use Rattle.links.specs.Links.{Links}
+use Rattle.links.specs.Plans.{ArePlacesOf}
+use Rattle.links.specs.declared.incoming.Incoming.{Incoming}
 use Rattle.deletion.specs.Ranks.{staying}
 use Rattle.deletion.proofs.HoldLemmas.{holding-step}
 use Rattle.deletion.proofs.ends.push_holding.Goals as goal

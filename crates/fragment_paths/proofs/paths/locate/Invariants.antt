@@ -1,6 +1,6 @@
 use Rattle.std.proofs.Common.{◌≡◌, length, option_map}
 use Rattle.mm_types.specs.declared.numbers.Node.TheVariants as node
-use Rattle.link_store.specs.Holders.{above}
+use Rattle.links.specs.Holders.{above}
 use Rattle.models.specs.Model.{reading}
 use Rattle.fragment_paths.specs.Located.{located}
 use Rattle.fragment_paths.proofs.UpLemmas.{further}

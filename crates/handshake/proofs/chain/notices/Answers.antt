@@ -10,5 +10,5 @@ loop-telling-preserved g c =
     let steps = c.in-Some.ensures.steps.0 in (
       tt,
       tt,
-      made-step (notice_at r) _ _ c.in-Some.telling _ _ _ steps c.in_ok-push_notice.ensures.ok c.loop-telling.invariant.2,
+      made-step (notice_at r) _ _ c.in-Some.telling _ _ _ steps c.in_ok-push_notice.ensures c.loop-telling.invariant.2,
     )

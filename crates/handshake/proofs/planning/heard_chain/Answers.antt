@@ -13,13 +13,13 @@ use Rattle.handshake.proofs.planning.heard_chain.Goals as goal
 pub lost_notices-requires : goal.lost_notices-requires
 lost_notices-requires g c = record { live = destroyed-live c.args.model.now c.args.change.now c.destroyed_by.result c.in-Some.object c.requires.asked c.destroyed_by.ensures (sym c.in-Some.is) }
 
-pub returns-in-Some-clause-ok : goal.returns-in-Some-clause-ok
-returns-in-Some-clause-ok g c =
+pub returns-in-Some : goal.returns-in-Some
+returns-in-Some g c =
     let is = destroyed-heard c.args.model.now c.args.change.now c.destroyed_by.result c.in-Some.object c.is_legal.ensures c.requires.asked c.destroyed_by.ensures (sym c.in-Some.is) c.args.is_heard c.if-not-is_heard.false in
-    subst (λ x. IfOk c.lost_notices.result (λ y. y ≡ x)) is c.lost_notices.ensures.ok
+    subst (λ x. IfOk c.lost_notices.result (λ y. y ≡ x)) is c.lost_notices.ensures
 
-pub returns-in-Load-clause-ok : goal.returns-in-Load-clause-ok
-returns-in-Load-clause-ok g c =
+pub returns-in-Load : goal.returns-in-Load
+returns-in-Load g c =
     let s : Model = c.args.model.now in
     let k = c.in-Load.resource in
     let doc = c.in-Load.doc in
@@ -27,11 +27,11 @@ returns-in-Load-clause-ok g c =
     let late = subst (λ x. late_refusal (reading s) x ≡ None) c.in-Load.is c.requires.allowed in
     let is = (λ i. map (root_notice (c.next.ensures i) (end i)) (enumerate_from 0 (c.as_slice.ensures i)))
     ∙ loaded-heard s k doc c.is_legal.ensures late c.args.is_heard c.if-not-is_heard.false ∙ ap (λ x. if c.args.is_heard then chain (reading s) x else []) (sym c.in-Load.is) in
-    subst (λ x. IfOk c.root_notices.result (λ y. y ≡ x)) is c.root_notices.ensures.ok
+    subst (λ x. IfOk c.root_notices.result (λ y. y ≡ x)) is c.root_notices.ensures
 
-pub returns-clause-ok : goal.returns-clause-ok
-returns-clause-ok g c =
+pub returns : goal.returns
+returns g c =
     let none = nothing-destroyed c.args.change.now c.destroyed_by.result c.destroyed_by.ensures c.in_default.not-Some in
     let unloaded = nothing-loaded c.args.change.now c.in_default-change.not-Load in
-    let is = made-chain c.args.model.now c.args.change.now c.args.ties.now c.in-Ok.tellings.items c.is_legal.ensures none unloaded c.requires.asked c.requires.allowed c.requires.cut c.in-Ok.ensures.ok c.args.is_heard c.if-not-is_heard.false in
-    subst (λ x. IfOk c.notices.result (λ y. y ≡ x)) is c.notices.ensures.ok
+    let is = made-chain c.args.model.now c.args.change.now c.args.ties.now c.in_ok-tellings.tellings.items c.is_legal.ensures none unloaded c.requires.asked c.requires.allowed c.requires.cut c.in_ok-tellings.ensures c.args.is_heard c.if-not-is_heard.false in
+    subst (λ x. IfOk c.notices.result (λ y. y ≡ x)) is c.notices.ensures

@@ -9,9 +9,9 @@ links_and_notices-requires-clause-fits g c = fits-in c.args.model.now c.args.cha
 pub value_edits-requires-clause-fits : goal.value_edits-requires-clause-fits
 value_edits-requires-clause-fits g c = fits-in c.args.model.now c.args.change c.is_legal.ensures (sym c.in_default.ensures) c.requires.read
 
-pub returns-in-Ok-value_edits : goal.returns-in-Ok-value_edits
-returns-in-Ok-value_edits g c =
+pub returns : goal.returns
+returns g c =
     planned c.args.is_heard c.args.model.now c.args.change _ c.is_legal.ensures c.requires.asked (sym c.in_default.ensures) c.requires.read
-    c.in-Ok.ensures.edits
-    c.in-Ok-value_edits.ensures.ok
-    c.in-Ok.ensures.chain
+    c.in_ok-edits.ensures.edits
+    c.in_ok-values.ensures
+    c.in_ok-edits.ensures.chain

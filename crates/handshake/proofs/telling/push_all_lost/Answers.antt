@@ -6,7 +6,7 @@ pub loop-index-init : goal.loop-index-init
 loop-index-init c = refl
 
 pub loop-index-preserved : goal.loop-index-preserved
-loop-index-preserved c = lost-before c.args.end c.loop-index.index _ _ _ c.loop-index-test.true c.in_ok-push.ensures.ok c.loop-index.invariant
+loop-index-preserved c = lost-before c.args.end c.loop-index.index _ _ _ c.loop-index-test.true c.in_ok-push.ensures c.loop-index.invariant
 
-pub returns-clause-ok : goal.returns-clause-ok
-returns-clause-ok c = lost-end c.args.end c.loop-index.index _ _ c.loop-index-test.false c.loop-index.invariant
+pub returns : goal.returns
+returns c = lost-end c.args.end c.loop-index.index _ _ c.loop-index-test.false c.loop-index.invariant

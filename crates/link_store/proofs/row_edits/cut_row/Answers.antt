@@ -1,8 +1,8 @@
 use Rattle.std.proofs.Common.{◌∙◌, sym, ap, List}
 use Rattle.std.specs.Prelude.{find}
 use Rattle.std.specs.Option.{option_map}
-use Rattle.link_store.specs.declared.link.Link.{Link}
-use Rattle.link_store.specs.Places.{has_value}
+use Rattle.links.specs.declared.link.Link.{Link}
+use Rattle.links.specs.Places.{has_value}
 use Rattle.link_store.specs.Rows.{spot}
 use Rattle.link_store.proofs.RowLemmas.{spot_cut_far, spot_cut_near, spot_cut_none}
 use Rattle.link_store.proofs.row_edits.cut_row.Goals as goal

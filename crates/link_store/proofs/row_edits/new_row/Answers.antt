@@ -1,7 +1,7 @@
 use Rattle.std.proofs.Common.{ℕ, ◌∙◌, sym, ap, arith, Option}
 use Rattle.mm_types.specs.declared.numbers.FeatureNo.{FeatureNo}
-use Rattle.link_store.specs.Links.{end, far_end, joined, new_link}
-use Rattle.link_store.proofs.EndLemmas.{from_list_HasLinks, length_at_end}
+use Rattle.links.specs.Links.{end, far_end, joined, new_link}
+use Rattle.links.proofs.EndLemmas.{from_list_HasLinks, length_at_end}
 use Rattle.link_store.proofs.RowLemmas.{of_rows}
 use Rattle.link_store.proofs.row_edits.new_row.Goals as goal
 

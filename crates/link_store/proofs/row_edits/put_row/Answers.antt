@@ -1,6 +1,6 @@
 use Rattle.std.proofs.Common.{◌∙◌, ap, List}
-use Rattle.link_store.specs.Links.{new_link}
-use Rattle.link_store.specs.declared.link.Link.{Link}
+use Rattle.links.specs.Links.{new_link}
+use Rattle.links.specs.declared.link.Link.{Link}
 use Rattle.link_store.specs.declared.renumbering.Renumbering.TheVariants.{Raise}
 use Rattle.link_store.proofs.RowLemmas.{of_rows, rows_can_move, rows_put}
 use Rattle.link_store.proofs.row_edits.put_row.Goals as goal

@@ -1,7 +1,7 @@
 use Rattle.std.proofs.Common.{ap, ◌∙◌, length, arith}
-use Rattle.link_store.specs.Places.{moved}
+use Rattle.links.specs.Places.{moved}
 use Rattle.link_store.specs.Rows.{changed_index}
-use Rattle.link_store.proofs.ListLemmas.{map_more_at}
+use Rattle.links.proofs.ListLemmas.{map_more_at}
 use Rattle.link_store.proofs.row_edits.renumber.Goals as goal
 
 pub loop-row-preserved : goal.loop-row-preserved

@@ -1,5 +1,5 @@
 use Rattle.std.proofs.Common.{◌≡◌, ◌++◌, map, take, drop}
-use Rattle.link_store.specs.Places.{moved}
+use Rattle.links.specs.Places.{moved}
 use Rattle.link_store.specs.Rows.{changed_index}
 use Rattle.link_store.proofs.row_edits.renumber.Given as goal
 

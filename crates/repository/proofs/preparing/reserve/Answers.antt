@@ -1,5 +1,5 @@
 use Rattle.std.proofs.Common.{subst, sym}
-use Rattle.link_store.specs.Holders.{HasNoCycle}
+use Rattle.links.specs.Holders.{HasNoCycle}
 use Rattle.repository.proofs.preparing.reserve.Goals as goal
 
 pub reserve_all-requires-clause-no_cycle : goal.reserve_all-requires-clause-no_cycle

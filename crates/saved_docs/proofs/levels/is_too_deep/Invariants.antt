@@ -1,6 +1,6 @@
 use Rattle.std.proofs.Common.{◌≡◌, ◌+◌, length}
 use Rattle.mm_types.specs.declared.numbers.Node.TheVariants as node
-use Rattle.link_store.specs.Holders.{above}
+use Rattle.links.specs.Holders.{above}
 use Rattle.saved_docs.proofs.levels.is_too_deep.Given as goal
 
 abbrev pub invariant-up : goal.invariant-up

@@ -1,7 +1,7 @@
 use Rattle.std.proofs.Common.{List, ◌∷◌, ◌∙◌, sym, ap, subst}
 use Rattle.std.specs.Vec.Iter.{into_iter_items}
-use Rattle.link_store.specs.declared.plan.Edit.{Edit}
-use Rattle.link_store.specs.Plans.{HasPlanOfKind, PlanFits, applied}
+use Rattle.links.specs.declared.plan.Edit.{Edit}
+use Rattle.links.specs.Plans.{HasPlanOfKind, PlanFits, applied}
 use Rattle.node_rows.specs.Cells.{room}
 use Rattle.node_rows.specs.Growth.{HasRoom}
 use Rattle.slot_store.specs.CellLinks.{IsStoreOfKind, store_links}

@@ -1,6 +1,6 @@
 use Rattle.std.proofs.Common.{◌≡◌}
 use Rattle.std.specs.Vec.Iter.{into_iter_items}
-use Rattle.link_store.specs.Plans.{HasPlanOfKind, PlanFits, applied}
+use Rattle.links.specs.Plans.{HasPlanOfKind, PlanFits, applied}
 use Rattle.node_rows.specs.Cells.{room}
 use Rattle.node_rows.specs.Growth.{HasRoom}
 use Rattle.slot_store.specs.CellLinks.{IsStore, IsStoreOfKind, store_links}

@@ -2,7 +2,7 @@ use Rattle.std.proofs.Common.{◌∙◌, sym, ap}
 use Rattle.std.specs.List.{position}
 use Rattle.mm_types.specs.Same.{same_value}
 use Rattle.mm_types.specs.declared.value.Value.{Value}
-use Rattle.link_store.specs.Links.{far_end}
+use Rattle.links.specs.Links.{far_end}
 use Rattle.node_rows.specs.Cells.{cells}
 use Rattle.slot_store.proofs.PositionLemmas.{none_of}
 use Rattle.slot_store.proofs.StoreLemmas.{alone_absent, far_absent, kept_once}

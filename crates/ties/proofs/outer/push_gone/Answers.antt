@@ -1,6 +1,6 @@
 use Rattle.std.proofs.Common.{refl, ℕ, ◌<◌, ◌≤◌, ◌++◌, List, map, slice_get, subst, ap, ◌∙◌}
 use Rattle.mm_types.specs.declared.value.Value.{Value}
-use Rattle.link_store.specs.Laws.{goes}
+use Rattle.links.specs.Laws.{goes}
 use Rattle.models.specs.Model.{reading}
 use Rattle.deletion.specs.Ranks.{is_in}
 use Rattle.ties.specs.TreeTies.{tie}

@@ -1,5 +1,5 @@
 use Rattle.std.proofs.Common.{◌≡◌, ◌++◌, drop, filter, map}
-use Rattle.link_store.specs.Laws.{goes}
+use Rattle.links.specs.Laws.{goes}
 use Rattle.models.specs.Model.{reading}
 use Rattle.deletion.specs.Ranks.{is_in}
 use Rattle.ties.specs.TreeTies.{tie}

@@ -3,7 +3,7 @@ use Rattle.std.specs.BTreeSet.{contains}
 use Rattle.std.specs.List.{list_any}
 use Rattle.std.specs.Ordering.{is_eq, nat_cmp}
 use Rattle.mm_types.specs.declared.numbers.Node.{Node}
-use Rattle.link_store.specs.Holders.{above}
+use Rattle.links.specs.Holders.{above}
 use Rattle.adapter_list.specs.Hearing.{hearers}
 use Rattle.adapter_list.specs.Spots.{is_attached_at}
 use Rattle.adapter_list.proofs.HearingLemmas.{within-hearers}

@@ -1,5 +1,5 @@
 use Rattle.std.proofs.Common.{◌≡◌, ◌<◌, List, ℕ, length, slice_index, true, ap, sym, subst, ◌∙◌}
-use Rattle.link_store.specs.Holders.{above}
+use Rattle.links.specs.Holders.{above}
 use Rattle.adapters.specs.declared.adapter.NoRoom.TheVariants as room
 use Rattle.notice_chain.specs.Listed.{Listed, is_chain_full}
 use Rattle.notice_chain.specs.declared.notice.Notice.{Notice}

@@ -1,10 +1,10 @@
 use Rattle.std.proofs.Common.{List, ◌∷◌, length, ◌∙◌, sym, ap, subst, arith}
 use Rattle.std.specs.Vec.Iter.{into_iter_items}
-use Rattle.link_store.specs.declared.plan.Edit.{Edit}
-use Rattle.link_store.specs.LegalSets.{IsLegalSet}
-use Rattle.link_store.specs.Links.{Links}
-use Rattle.link_store.specs.Plans.{PlanFits, applied}
-use Rattle.link_store.proofs.LegalLemmas.{edited_legal}
+use Rattle.links.specs.declared.plan.Edit.{Edit}
+use Rattle.links.specs.LegalSets.{IsLegalSet}
+use Rattle.links.specs.Links.{Links}
+use Rattle.links.specs.Plans.{PlanFits, applied}
+use Rattle.links.proofs.LegalLemmas.{edited_legal}
 use Rattle.link_store.proofs.RowLemmas.{of_rows}
 use Rattle.link_store.proofs.row_store.RowStoreLinkStore.apply.Goals as goal
 

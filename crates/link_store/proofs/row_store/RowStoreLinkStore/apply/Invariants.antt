@@ -1,7 +1,7 @@
 use Rattle.std.proofs.Common.{◌≡◌, ◌+◌, ◌≤◌, length, vec_len, vec_capacity}
 use Rattle.std.specs.Vec.Iter.{into_iter_items}
-use Rattle.link_store.specs.LegalSets.{IsLegalSet}
-use Rattle.link_store.specs.Plans.{PlanFits, applied}
+use Rattle.links.specs.LegalSets.{IsLegalSet}
+use Rattle.links.specs.Plans.{PlanFits, applied}
 use Rattle.link_store.proofs.RowLemmas.{of_rows}
 use Rattle.link_store.proofs.row_store.RowStoreLinkStore.apply.Given as goal
 

@@ -1,5 +1,5 @@
 use Rattle.std.proofs.Common.{◌∙◌, ap, List}
-use Rattle.link_store.specs.declared.link.Link.{Link}
+use Rattle.links.specs.declared.link.Link.{Link}
 use Rattle.link_store.specs.Rows.{first_object}
 use Rattle.link_store.proofs.ReadLemmas.{rows_object}
 use Rattle.link_store.proofs.row_store.RowStoreLinkStore.at.Goals as goal

@@ -1,7 +1,7 @@
 use Rattle.std.proofs.Common.{◌∙◌, ap, List}
-use Rattle.link_store.specs.declared.link.Link.{Link}
+use Rattle.links.specs.declared.link.Link.{Link}
 use Rattle.mm_types.specs.declared.numbers.Node.TheVariants as node
-use Rattle.link_store.specs.Holders.{first_holding}
+use Rattle.links.specs.Holders.{first_holding}
 use Rattle.link_store.proofs.ReadLemmas.{rows_holder}
 use Rattle.link_store.proofs.row_store.RowStoreLinkStore.holder.Goals as goal
 

@@ -2,10 +2,11 @@ use Rattle.std.proofs.Common.{◌≡◌, ◌∙◌, sym, ap, map, subst, List}
 use Rattle.std.proofs.lemmas.Result.{IfOk-weaker}
 use Rattle.mm_types.specs.declared.numbers.Node.TheVariants as node
 use Rattle.mm_types.specs.declared.value.Value.TheVariants as value
-use Rattle.link_store.specs.declared.incoming.Incoming.{Incoming}
-use Rattle.link_store.specs.declared.link.Link.{Link}
-use Rattle.link_store.specs.Plans.{AreInOrder, ArePlacesOf, incoming_end}
-use Rattle.link_store.specs.Rows.{ends_with, in_order, places_in}
+use Rattle.links.specs.declared.incoming.Incoming.{Incoming}
+use Rattle.links.specs.declared.link.Link.{Link}
+use Rattle.links.specs.Plans.{AreInOrder, ArePlacesOf, incoming_end}
+use Rattle.link_store.specs.Rows.{ends_with, places_in}
+use Rattle.links.specs.InOrder.{in_order}
 use Rattle.link_store.proofs.PlacesLemmas.{rows_places_all}
 use Rattle.link_store.proofs.RowLemmas.{of_rows}
 use Rattle.link_store.proofs.row_store.RowStoreLinkStore.incoming.Goals as goal

@@ -1,6 +1,6 @@
 use Rattle.std.proofs.Common.{◌∙◌, ap, List}
-use Rattle.link_store.specs.declared.link.Link.{Link}
-use Rattle.link_store.specs.Links.{length_at}
+use Rattle.links.specs.declared.link.Link.{Link}
+use Rattle.links.specs.Links.{length_at}
 use Rattle.link_store.proofs.ReadLemmas.{rows_len}
 use Rattle.link_store.proofs.row_store.RowStoreLinkStore.len.Goals as goal
 

@@ -1,9 +1,9 @@
 use Rattle.std.proofs.Common.{◌≡◌, ◌∙◌, sym, ap, subst, List, ℕ, Option, Some, MatchOption}
-use Rattle.link_store.specs.declared.link.Link.{Link}
+use Rattle.links.specs.declared.link.Link.{Link}
 use Rattle.std.specs.List.{slice_get}
 use Rattle.mm_types.specs.declared.value.Value.TheVariants as value
-use Rattle.link_store.specs.Links.{end}
-use Rattle.link_store.specs.Plans.{Lacks}
+use Rattle.links.specs.Links.{end}
+use Rattle.links.specs.Plans.{Lacks}
 use Rattle.link_store.specs.Rows.{position_in}
 use Rattle.link_store.proofs.RowLemmas.{of_rows}
 use Rattle.link_store.proofs.ReadLemmas.{rows_position}

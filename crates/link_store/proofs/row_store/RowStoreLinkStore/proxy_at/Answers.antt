@@ -1,6 +1,6 @@
 use Rattle.std.proofs.Common.{◌∙◌, ap, List}
 use Rattle.link_store.specs.Rows.{first_text}
-use Rattle.link_store.specs.declared.link.Link.{Link}
+use Rattle.links.specs.declared.link.Link.{Link}
 use Rattle.link_store.proofs.ReadLemmas.{rows_text}
 use Rattle.link_store.proofs.row_store.RowStoreLinkStore.proxy_at.Goals as goal
 

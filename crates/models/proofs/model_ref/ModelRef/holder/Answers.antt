@@ -1,5 +1,5 @@
 use Rattle.std.proofs.Common.{sym}
-use Rattle.link_store.proofs.AboveLemmas.{resource_top}
+use Rattle.links.proofs.AboveLemmas.{resource_top}
 use Rattle.models.proofs.model_ref.ModelRef.holder.Goals as goal
 
 -- src/model_ref.rt:116:5

@@ -5,8 +5,8 @@ use Rattle.mm_types.specs.Shapes.{shape}
 use Rattle.mm_types.specs.declared.numbers.ObjectNo.{ObjectNo}
 use Rattle.mm_types.specs.declared.value.Value.{Value}
 use Rattle.mm_types.specs.declared.value.Value.TheVariants as value
-use Rattle.link_store.specs.Links.{Links, end}
-use Rattle.link_store.specs.Plans.{Lacks}
+use Rattle.links.specs.Links.{Links, end}
+use Rattle.links.specs.Plans.{Lacks}
 use Rattle.models.proofs.PlaceLemmas.{first-few, is_target, position-other, position-target}
 use Rattle.models.proofs.model_ref.ModelRef.position.Goals as goal
 

@@ -1,6 +1,6 @@
 use Rattle.std.proofs.Common.{◌≡◌, sym, ◌∙◌}
 use Rattle.std.specs.Prelude.{None}
-use Rattle.link_store.specs.Links.{object_at}
+use Rattle.links.specs.Links.{object_at}
 use Rattle.models.proofs.PlaceLemmas.{value_in-proxy}
 use Rattle.models.proofs.model_ref.ModelRef.target_in.Goals as goal
 

@@ -7,8 +7,8 @@ use Rattle.notice_chain.specs.declared.notice.Notice.{Notice}
 use Rattle.adapter_list.specs.Attached.{views_of}
 use Rattle.adapter_list.specs.Rounds.{RoundView, delivered, round_copies}
 use Rattle.adapter_list.proofs.RoundLemmas.{delivered-round_copies}
-use Rattle.link_store.specs.Links.{Links}
-use Rattle.link_store.specs.Plans as links
+use Rattle.links.specs.Links.{Links}
+use Rattle.links.specs.Plans as links
 use Rattle.models.specs.Legal.{kinds_of}
 use Rattle.models.specs.Model.{Model, model_of, reading}
 use Rattle.handshake.specs.Laws.{goes_with}
@@ -97,5 +97,5 @@ invariant_of-self-2 g c =
     let of_kind = (subst (λ (m : Model). IsPlanOf (nat_lt 0 (length s.adapters)) m c.args.change c.in-Ok.prepared.planned) is c.in-Ok.ensures.planned).of_kind in
     record {
       legal = stepped-legal _ _ (command_of text c.args.change) _ (subst (λ (t : State). HasSteadyUris t (command_of text c.args.change)) c.self.view_is (steady-of s text c.args.change proper)) (subst IsLegal c.self.view_is c.self.invariant.legal) (returns g c text c.requires.proper.1);
-      kinds_are = c.apply.ensures.kinds (kinds_of c.self.inside.meta) (c.reserve.ensures.kinds (kinds_of c.self.inside.meta) c.self.invariant.kinds_are of_kind) of_kind;
+      kinds_are = c.apply.ensures.kinds (kinds_of c.self.inside.meta) (c.reserve.ensures.kinds (kinds_of c.self.inside.meta) c.self.invariant.kinds_are) of_kind;
     }

@@ -2,7 +2,7 @@ use Rattle.std.proofs.Common.{◌∙◌, List, Option, sym, ap}
 use Rattle.std.specs.Prelude.{option_and_then}
 use Rattle.std.specs.List.{slice_get}
 use Rattle.mm_types.specs.declared.value.Value.{Value}
-use Rattle.link_store.specs.Links.{object_of}
+use Rattle.links.specs.Links.{object_of}
 use Rattle.slot_store.proofs.StoreLemmas.{ends_kept}
 use Rattle.slot_store.proofs.slot_store.SlotStoreLinkStore.at.Goals as goal
 

@@ -1,7 +1,7 @@
 use Rattle.std.proofs.Common.{sym, subst}
-use Rattle.link_store.specs.LegalSets.{AreOfKind}
-use Rattle.link_store.specs.Links.{Links}
-use Rattle.link_store.proofs.LegalLemmas.{none_kinds}
+use Rattle.links.specs.LegalSets.{AreOfKind}
+use Rattle.links.specs.Links.{Links}
+use Rattle.links.proofs.LegalLemmas.{none_kinds}
 use Rattle.slot_store.proofs.StoreLemmas.{empty_kept, empty_links}
 use Rattle.slot_store.proofs.slot_store.SlotStoreLinkStore.empty.Goals as goal
 

@@ -2,9 +2,9 @@ use Rattle.std.proofs.Common.{◌≡◌, ◌∙◌, sym, ap, map, subst, List}
 use Rattle.std.proofs.lemmas.Result.{IfOk-weaker}
 use Rattle.mm_types.specs.declared.end.End.{End}
 use Rattle.mm_types.specs.declared.value.Value.TheVariants as value
-use Rattle.link_store.specs.declared.incoming.Incoming.{Incoming}
-use Rattle.link_store.specs.Plans.{AreInOrder, ArePlacesOf, incoming_end}
-use Rattle.link_store.specs.Rows.{in_order, places_by}
+use Rattle.links.specs.declared.incoming.Incoming.{Incoming}
+use Rattle.links.specs.Plans.{AreInOrder, ArePlacesOf, incoming_end}
+use Rattle.links.specs.InOrder.{in_order, places_by}
 use Rattle.node_rows.specs.Cells.{cells}
 use Rattle.slot_store.specs.CellLinks.{store_links}
 use Rattle.slot_store.specs.Entering.{found_in}

@@ -9,4 +9,4 @@ pub returns-clause-links : goal.returns-clause-links
 returns-clause-links c = grown_links c.args.self.now.rows c.reserve_for.new.self c.reserve_for.ensures.cells
 
 pub returns-clause-kinds : goal.returns-clause-kinds
-returns-clause-kinds c = λ m of plan. kinds_same c.args.self.now.rows c.reserve_for.new.self (grown_links c.args.self.now.rows c.reserve_for.new.self c.reserve_for.ensures.cells) m of
+returns-clause-kinds c = λ m of. kinds_same c.args.self.now.rows c.reserve_for.new.self (grown_links c.args.self.now.rows c.reserve_for.new.self c.reserve_for.ensures.cells) m of

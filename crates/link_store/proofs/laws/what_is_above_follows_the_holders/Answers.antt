@@ -1,5 +1,0 @@
-use Rattle.link_store.proofs.AboveLemmas.{above_is}
-use Rattle.link_store.proofs.laws.what_is_above_follows_the_holders.Goals as goal
-
-pub returns : goal.returns
-returns c = λ s legal free n. above_is s legal free n

@@ -1,0 +1,84 @@
+-- Which end contains a node, and what is above a node: the containment forest (MOF 2.5.1: Element.container).
+use Rattle.std.specs.Prelude.{◌≡◌, ℕ, zero, suc, ◌&&◌, Bool, false, List, [], ◌∷◌, Option, Some, None, option_and_then, if◌then◌else◌}
+use Rattle.std.specs.Option.{option_or, option_map_or}
+use Rattle.std.specs.FinSet as set
+use Rattle.mm_types.specs.Same.{same_feature, same_node}
+use Rattle.mm_types.specs.declared.numbers.FeatureNo.{FeatureNo}
+use Rattle.mm_types.specs.declared.numbers.ObjectNo.{ObjectNo}
+use Rattle.mm_types.specs.declared.numbers.Node.{Node}
+use Rattle.mm_types.specs.declared.numbers.Node.TheVariants as node
+use Rattle.mm_types.specs.declared.end.End.{End}
+use Rattle.links.specs.declared.link.Far.{Far}
+use Rattle.links.specs.declared.link.Far.TheVariants.{At, Alone, Proxy}
+use Rattle.links.specs.declared.link.Link.{Link}
+use Rattle.links.specs.Links.{Links, far_end}
+
+-- the far side is that node
+abbrev pub is_far_node : Far → Node → Bool
+is_far_node (At d j) n = same_node d.node n
+is_far_node (Alone o) n = same_node (node.Object o) n
+is_far_node (Proxy t) n = false
+
+-- the far side's end, where it is of the containing feature h and n is on the near side
+abbrev pub far_holding : Far → FeatureNo → Node → Node → Option End
+far_holding (At d j) h near n = if same_feature d.feature h && same_node near n then Some d else None
+far_holding (Alone o) h near n = None
+far_holding (Proxy t) h near n = None
+
+abbrev pub held_through : Option FeatureNo → Link → Node → Option End
+held_through None l n = None
+held_through (Some h) l n =
+    if same_feature l.end.feature h
+    then (if is_far_node l.far n then Some l.end else None)
+    else far_holding l.far h l.end.node n
+
+-- the end through which a link contains n, if it does
+abbrev pub holding : Link → Node → Option End
+holding l n = held_through l.container l n
+
+-- the first of the links that contains n gives its end
+abbrev pub first_holding : List Link → Node → Option End
+first_holding [] n = None
+first_holding (l ∷ ls) n = option_or (holding l n) (first_holding ls n)
+
+-- the end that contains n
+unfoldable pub holder : Links → Node → Option End
+holder s n = first_holding (set.items s) n
+
+-- the node that becomes contained when an object is put into e, where h is the containing feature of the pair
+abbrev pub contained : End → ObjectNo → Option FeatureNo → Option Node
+contained e o None = None
+contained e o (Some h) = Some (if same_feature h e.feature then node.Object o else e.node)
+
+-- the end that then contains it
+abbrev pub containing : End → ObjectNo → Option FeatureNo → Option End
+containing e o None = None
+containing e o (Some h) = Some (if same_feature h e.feature then e else far_end o h)
+
+---------------------------------------------------------------- above
+
+-- the nodes above n, the nearest first, by a function that gives holders: n's holder, its holder, and so on, for so many steps
+abbrev pub climbed : (Node → Option End) → ℕ → Node → List Node
+climbed up zero n = []
+climbed up (suc k) n = option_map_or (λ (e : End). e.node ∷ climbed up k e.node) (up n) []
+
+-- no chain of holders is longer than there are links
+unfoldable pub above : Links → Node → List Node
+above s n = climbed (holder s) (set.len s) n
+
+-- y is reached from x by so many steps of `holder`
+abbrev pub climb : Links → ℕ → Node → Option Node
+climb s zero x = Some x
+climb s (suc n) x = option_and_then (λ (e : End). climb s n e.node) (holder s x)
+
+-- y is reached from x by one or more steps of `holder`
+abbrev pub IsUnder : Links → Node → Node → Type 0
+IsUnder s x y = (n : ℕ) × (climb s (suc n) x ≡ Some y)
+
+-- no node is under itself
+abbrev pub HasNoCycle : Links → Type 0
+HasNoCycle s = (x : Node) → IsUnder s x x → ⊥
+
+-- no chain of holders is longer than the number of links
+abbrev pub IsForest : Links → Type 0
+IsForest s = (x : Node) → climb s (suc (set.len s)) x ≡ None

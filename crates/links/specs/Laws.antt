@@ -1,0 +1,164 @@
+-- What each edit makes of a legal set: of its ends, and of who holds what.
+use Rattle.std.specs.Prelude.{◌≡◌, ◌&&◌, ◌||◌, ℕ, ◌≤◌, Bool, false, List, [], ◌∷◌, ◌++◌, filter, fold, insert, length, map, not, Option, Some, None, option_and_then, if◌then◌else◌}
+use Rattle.std.specs.List.{AllByRecursion, list_any}
+use Rattle.std.specs.Option.{option_map_or, option_or}
+use Rattle.mm_types.specs.Same.{is_feature, node_value, same_end, same_feature, same_node, same_value}
+use Rattle.mm_types.specs.declared.numbers.FeatureNo.{FeatureNo}
+use Rattle.mm_types.specs.declared.numbers.ObjectNo.{ObjectNo}
+use Rattle.mm_types.specs.declared.numbers.Node.{Node}
+use Rattle.mm_types.specs.declared.numbers.Node.TheVariants as node
+use Rattle.mm_types.specs.declared.end.End.{End}
+use Rattle.mm_types.specs.declared.value.Value.{Value}
+use Rattle.mm_types.specs.declared.value.Value.TheVariants as value
+use Rattle.links.specs.declared.link.Link.{Link}
+use Rattle.links.specs.declared.plan.Edit.{Edit}
+use Rattle.links.specs.declared.plan.Edit.TheVariants as edit
+use Rattle.links.specs.Holders.{above, contained, containing, holder, holding}
+use Rattle.links.specs.LegalSets.{Kinds}
+use Rattle.links.specs.Links.{In, Links, cut, cut_value, end, far_end, new_link, put, put_proxy, shift, touches, without, without_nodes}
+use Rattle.mm_types.specs.Lists.{shifted}
+use Rattle.links.specs.Places.{place}
+use Rattle.links.specs.Plans.{Has, Lacks}
+
+-- d is the end of the opposite, which gains too
+abbrev pub IsFar : ObjectNo → Option FeatureNo → End → Type 0
+IsFar o None d = ⊥
+IsFar o (Some g) d = far_end o g ≡ d
+
+-- the object stands at its position, the far end gains last, and each other end is as it was; what the link contains has its end
+pub record PutMakes (s : Links) (e : End) (i : ℕ) (o : ObjectNo) (g c : Option FeatureNo) : Type 0 where
+  pub near : end (put s e i o g c) e ≡ insert (end s e) i (value.Object o)
+  pub far : (d : End) → IsFar o g d → end (put s e i o g c) d ≡ end s d ++ node_value e.node ∷ []
+  pub others : (d : End) → (e ≡ d → ⊥) → (IsFar o g d → ⊥) → end (put s e i o g c) d ≡ end s d
+  pub holders : (n : Node) → holder (put s e i o g c) n ≡ option_or (holding (new_link s e i o g c) n) (holder s n)
+
+-- d is the end of the opposite, as a test
+abbrev pub is_far : ObjectNo → Option FeatureNo → End → Bool
+is_far o None d = false
+is_far o (Some g) d = same_end (far_end o g) d
+
+-- what an end has once an object is put at i in e, where g is the opposite of e's feature
+abbrev pub put_end : Links → End → ℕ → ObjectNo → Option FeatureNo → End → List Value
+put_end s e i o g d =
+    if same_end e d then insert (end s d) i (value.Object o)
+    else if is_far o g d then end s d ++ node_value e.node ∷ []
+    else end s d
+
+-- the containing feature is f or its opposite
+abbrev pub is_of_pair : FeatureNo → Option FeatureNo → Option FeatureNo → Bool
+is_of_pair f g c = option_map_or (λ h. same_feature h f || is_feature h g) c false
+
+abbrev pub is_contained : End → ObjectNo → Option FeatureNo → Node → Bool
+is_contained e o c n = option_map_or (λ x. same_node x n) (contained e o c) false
+
+-- the end that contains n once an object is put into e, where g is the opposite and c the containing feature of the pair
+abbrev pub put_holder : Links → End → ObjectNo → Option FeatureNo → Option FeatureNo → Node → Option End
+put_holder s e o g c n =
+    if is_of_pair e.feature g c && is_contained e o c n then containing e o c else holder s n
+
+-- each end and each holder, computed
+pub record PutGives (s : Links) (e : End) (i : ℕ) (o : ObjectNo) (g c : Option FeatureNo) : Type 0 where
+  pub ends : (d : End) → end (put s e i o g c) d ≡ put_end s e i o g d
+  pub holders : (n : Node) → holder (put s e i o g c) n ≡ put_holder s e o g c n
+
+-- the node that would contain the other is neither that one nor below it
+abbrev pub IsPutOutside : Links → End → ObjectNo → Option FeatureNo → Type 0
+IsPutOutside s e o c =
+    (x : Node) (d : End) → contained e o c ≡ Some x → containing e o c ≡ Some d
+    → (same_node d.node x ≡ false) × (list_any (same_node x) (above s d.node) ≡ false)
+
+-- the proxy stands at its position, and all else is as it was
+pub record PutProxyMakes (s : Links) (e : End) (i : ℕ) (t : List ℕ) : Type 0 where
+  pub near : end (put_proxy s e i t) e ≡ insert (end s e) i (value.Proxy t)
+  pub others : (d : End) → (e ≡ d → ⊥) → end (put_proxy s e i t) d ≡ end s d
+  pub holders : (n : Node) → holder (put_proxy s e i t) n ≡ holder s n
+
+-- each end loses what the link had there, and what it contained has no holder; a value at a position of an end names the link
+pub record CutMakes (s : Links) (l : Link) : Type 0 where
+  pub named : (e : End) (k : ℕ) (v : Value) → place l e ≡ Some (k, v) → cut_value s e v ≡ cut s l
+  pub ends : (d : End) → end (cut s l) d ≡ without (end s d) (place l d)
+  pub holders : (n : Node) → holder (cut s l) n ≡ option_map_or (λ x. None) (holding l n) (holder s n)
+
+-- one value of one end moves, and all else is as it was
+pub record ShiftMakes (s : Links) (e : End) (to from : ℕ) : Type 0 where
+  pub near : end (shift s e to from) e ≡ shifted (end s e) to from
+  pub others : (d : End) → (e ≡ d → ⊥) → end (shift s e to from) d ≡ end s d
+  pub holders : (n : Node) → holder (shift s e to from) n ≡ holder s n
+
+-- of a pair of features, what one end has, the other has
+abbrev pub BothEndsAgree : Kinds → Links → Type 0
+BothEndsAgree m s = (x y : End) → m.opposite x.feature ≡ Some y.feature → Has s x (node_value y.node) → Has s y (node_value x.node)
+
+abbrev pub HaveSameEnds : Links → Links → Type 0
+HaveSameEnds s t = (e : End) → end s e ≡ end t e
+
+---------------------------------------------------------------- cuts by name
+
+-- the far end of the link of e and v, where g is the opposite of e's feature, is d, with the value w
+abbrev pub names_far : End → Value → Option FeatureNo → End → Value → Bool
+names_far e (value.Object o) (Some g) d w = same_end (far_end o g) d && same_value (node_value e.node) w
+names_far e _ _ d w = false
+
+-- the link that stands in e with the value v is the one that stands in d with the value w
+abbrev pub names : Kinds → End → Value → End → Value → Bool
+names m e v d w = (same_end e d && same_value v w) || names_far e v (m.opposite e.feature) d w
+
+-- some end and value of a list name the link that stands in d with the value w
+abbrev pub is_named : Kinds → List (End × Value) → End → Value → Bool
+is_named m ts d w = list_any (λ t. names m t.0 t.1 d w) ts
+
+-- cuts links one after another, each by an end and the value there
+abbrev pub without_all : Links → List (End × Value) → Links
+without_all s ts = fold (λ t x. cut_value t x.0 x.1) s ts
+
+-- who still holds n, of the end that did
+abbrev pub kept_holder : Kinds → List (End × Value) → Node → Option End → Option End
+kept_holder m ts n o = option_and_then (λ (d : End). if is_named m ts d (node_value n) then None else Some d) o
+
+-- each end loses what the name names, and what is held by that link its holder
+pub record CutByNameMakes (m : Kinds) (s : Links) (e : End) (v : Value) : Type 0 where
+  pub ends : (d : End) → end (cut_value s e v) d ≡ filter (λ w. not (names m e v d w)) (end s d)
+  pub holders : (n : Node) → holder (cut_value s e v) n ≡ option_and_then (λ (d : End). if names m e v d (node_value n) then None else Some d) (holder s n)
+
+-- each end loses what some name names and gains nothing, and no node gets another holder
+pub record CutsByNameMake (m : Kinds) (s : Links) (ts : List (End × Value)) : Type 0 where
+  pub ends : (d : End) → end (without_all s ts) d ≡ filter (λ w. not (is_named m ts d w)) (end s d)
+  pub holders : (n : Node) → holder (without_all s ts) n ≡ kept_holder m ts n (holder s n)
+  pub less : (n : Node) (e : End) → holder (without_all s ts) n ≡ Some e → holder s n ≡ Some e
+  pub lacks : (d : End) (w : Value) → Lacks s d w → Lacks (without_all s ts) d w
+  pub shorter : (d : End) → length (end (without_all s ts) d) ≤ length (end s d)
+
+-- the edit that cuts the link of a value; only objects and proxies stand in an end
+abbrev pub cut_edit : End → Value → Edit
+cut_edit e (value.Object o) = edit.Cut e o
+cut_edit e (value.Proxy t) = edit.CutProxy e t
+cut_edit e _ = edit.CutProxy e []
+
+abbrev pub cut_edits : List (End × Value) → List Edit
+cut_edits ts = map (λ t. cut_edit t.0 t.1) ts
+
+-- each of the values is in its end
+abbrev pub AreThere : Links → List (End × Value) → Type 0
+AreThere s ts = AllByRecursion (λ (t : End × Value). Has s t.0 t.1) ts
+
+-- none of them names the link of an earlier one
+abbrev pub AreOnce : Kinds → List (End × Value) → Type 0
+AreOnce m [] = Unit {0}
+AreOnce m (t ∷ ts) = AllByRecursion (λ (u : End × Value). names m t.0 t.1 u.0 u.1 ≡ false) ts × AreOnce m ts
+
+---------------------------------------------------------------- nodes that go
+
+-- the value is an object of those that go
+abbrev pub goes : (Node → Bool) → Value → Bool
+goes gone (value.Object o) = gone (node.Object o)
+goes gone _ = false
+
+-- what is left of each end and of each holder, and that no link names a node that went
+pub record WithoutNodesMakes (s : Links) (gone : Node → Bool) : Type 0 where
+  pub ends : (d : End) → end (without_nodes s gone) d ≡ (if gone d.node then [] else filter (λ v. not (goes gone v)) (end s d))
+  pub holders : (n : Node) → holder (without_nodes s gone) n ≡ option_and_then (λ (d : End). if gone d.node || gone n then None else Some d) (holder s n)
+  pub untouched : (l : Link) → In l (without_nodes s gone) → touches gone l ≡ false
+
+-- the names are those of the links that name a node that goes
+abbrev pub NameLinksOf : Kinds → Links → (Node → Bool) → List (End × Value) → Type 0
+NameLinksOf m s gone ts = (d : End) (w : Value) → Has s d w → is_named m ts d w ≡ (gone d.node || goes gone w)

@@ -1,0 +1,144 @@
+-- Edits as a list: what each makes of a set of links, and when it fits.
+use Rattle.std.specs.Prelude.{◌≡◌, ◌↔◌, ◌||◌, ◌&&◌, ℕ, ◌<◌, ◌≤◌, Bool, true, false, List, [], ◌∷◌, fold, length, nat_lt, slice_get, Option, Some, None}
+use Rattle.std.specs.List.{Contains}
+use Rattle.mm_types.specs.Same.{node_value, same_end, same_feature}
+use Rattle.mm_types.specs.declared.numbers.FeatureNo.{FeatureNo}
+use Rattle.mm_types.specs.declared.numbers.ObjectNo.{ObjectNo}
+use Rattle.mm_types.specs.declared.numbers.Node.{Node}
+use Rattle.mm_types.specs.declared.numbers.Node.TheVariants as node
+use Rattle.mm_types.specs.declared.end.End.{End}
+use Rattle.mm_types.specs.declared.value.Value.{Value}
+use Rattle.mm_types.specs.declared.value.Value.TheVariants as value
+use Rattle.links.specs.declared.incoming.Incoming.{Incoming}
+use Rattle.links.specs.declared.link.Link.{Link}
+use Rattle.links.specs.declared.plan.Edit.{Edit}
+use Rattle.links.specs.declared.plan.Edit.TheVariants as edit
+use Rattle.links.specs.Links.{Links, cut_value, end, far_end, new_link, put, put_proxy, shift}
+use Rattle.links.specs.Holders.{IsUnder, contained, holder, holding}
+use Rattle.links.specs.LegalSets.{IsObject, Kinds, most}
+
+abbrev pub edited : Links → Edit → Links
+edited s (edit.Cut e o) = cut_value s e (value.Object o)
+edited s (edit.Put e i o g c) = put s e i o g c
+edited s (edit.Shift e to from) = shift s e to from
+edited s (edit.PutProxy e i t) = put_proxy s e i t
+edited s (edit.CutProxy e t) = cut_value s e (value.Proxy t)
+
+-- the edits, one after another
+abbrev pub applied : Links → List Edit → Links
+applied = fold edited
+
+---------------------------------------------------------------- what fits
+
+-- v is in e
+abbrev pub Has : Links → End → Value → Type 0
+Has s e v = (k : ℕ) × (slice_get (end s e) k ≡ Some v)
+
+-- v is not in e
+abbrev pub Lacks : Links → End → Value → Type 0
+Lacks s e v = (k : ℕ) → slice_get (end s e) k ≡ Some v → ⊥
+
+-- the opposite end can gain too
+pub record FarFits (s : Links) (e : End) (o : ObjectNo) (g : FeatureNo) : Type 0 where
+  pub apart : (g.0 ≡ e.feature.0) → ⊥
+  pub object : IsObject e.node
+  pub absent : Lacks s (far_end o g) (node_value e.node)
+  pub room : length (end s (far_end o g)) < most
+
+abbrev pub FarFitsIn : Links → End → ObjectNo → Option FeatureNo → Type 0
+FarFitsIn s e o None = Unit {0}
+FarFitsIn s e o (Some g) = FarFits s e o g
+
+pub record PutFits (s : Links) (e : End) (i : ℕ) (v : Value) : Type 0 where
+  pub in_range : i ≤ length (end s e)
+  pub absent : Lacks s e v
+  pub room : length (end s e) < most
+
+-- what becomes contained is contained by nothing
+abbrev pub IsFree : Links → Option Node → Type 0
+IsFree s None = Unit {0}
+IsFree s (Some n) = holder s n ≡ None
+
+abbrev pub EditFits : Links → Edit → Type 0
+EditFits s (edit.Cut e o) = Has s e (value.Object o)
+EditFits s (edit.Put e i o g c) = PutFits s e i (value.Object o) × FarFitsIn s e o g × IsFree s (contained e o c)
+EditFits s (edit.Shift e to from) = (from < length (end s e)) × (to < length (end s e))
+EditFits s (edit.PutProxy e i t) = PutFits s e i (value.Proxy t)
+EditFits s (edit.CutProxy e t) = Has s e (value.Proxy t)
+
+-- each edit fits in its turn
+abbrev pub PlanFits : Links → List Edit → Type 0
+PlanFits s [] = Unit {0}
+PlanFits s (x ∷ xs) = EditFits s x × PlanFits (edited s x) xs
+
+---------------------------------------------------------------- kinds and cycles
+
+-- an edit is of the kinds of its features; a proxy contains nothing
+abbrev pub IsEditOfKind : Kinds → Edit → Type 0
+IsEditOfKind m (edit.Cut e o) = Unit {0}
+IsEditOfKind m (edit.Put e i o g c) = (g ≡ m.opposite e.feature) × (c ≡ m.container e.feature)
+IsEditOfKind m (edit.Shift e to from) = Unit {0}
+IsEditOfKind m (edit.PutProxy e i t) = m.container e.feature ≡ None
+IsEditOfKind m (edit.CutProxy e t) = Unit {0}
+
+abbrev pub IsPlanOfKind : Kinds → List Edit → Type 0
+IsPlanOfKind m [] = Unit {0}
+IsPlanOfKind m (x ∷ xs) = IsEditOfKind m x × IsPlanOfKind m xs
+
+-- the plan is of kinds that the store is of
+abbrev pub HasPlanOfKind : (Kinds → Type 0) → List Edit → Type 0
+HasPlanOfKind kinds plan = (m : Kinds) × kinds m × IsPlanOfKind m plan
+
+-- the container of what the link contains is neither that node nor below it
+abbrev pub IsOutside : Links → Link → Type 0
+IsOutside s l = (x : Node) (d : End) → holding l x ≡ Some d → ((d.node ≡ x) → ⊥) × (IsUnder s d.node x → ⊥)
+
+abbrev pub MakesNoCycle : Links → Edit → Type 0
+MakesNoCycle s (edit.Cut e o) = Unit {0}
+MakesNoCycle s (edit.Put e i o g c) = IsOutside s (new_link s e i o g c)
+MakesNoCycle s (edit.Shift e to from) = Unit {0}
+MakesNoCycle s (edit.PutProxy e i t) = Unit {0}
+MakesNoCycle s (edit.CutProxy e t) = Unit {0}
+
+-- no edit, in its turn, puts a node below itself
+abbrev pub PlanMakesNoCycle : Links → List Edit → Type 0
+PlanMakesNoCycle s [] = Unit {0}
+PlanMakesNoCycle s (x ∷ xs) = MakesNoCycle s x × PlanMakesNoCycle (edited s x) xs
+
+---------------------------------------------------------------- what has an object
+
+abbrev pub has_end : List End → End → Bool
+has_end [] d = false
+has_end (e ∷ es) d = same_end e d || has_end es d
+
+-- the ends are those that hold the object
+abbrev pub AreIncoming : Links → ObjectNo → List End → Type 0
+AreIncoming s o es = (e : End) → (has_end es e ≡ true) ↔ Has s e (value.Object o)
+
+-- the end at which an object comes in
+abbrev pub incoming_end : Incoming → End
+incoming_end i = record { node = i.node; feature = i.feature }
+
+-- the places are those where the object stands, and no others
+abbrev pub ArePlacesOf : Links → ObjectNo → List Incoming → Type 0
+ArePlacesOf s o is = (i : Incoming) → Contains is i ↔ (slice_get (end s (incoming_end i)) i.position ≡ Some (value.Object o))
+
+-- objects come before resources, each by number
+abbrev pub node_before : Node → Node → Bool
+node_before (node.Object x) (node.Object y) = nat_lt x.0 y.0
+node_before (node.Object x) (node.Resource y) = true
+node_before (node.Resource x) (node.Object y) = false
+node_before (node.Resource x) (node.Resource y) = nat_lt x.0 y.0
+
+-- e comes before d: by the feature, then by the node
+abbrev pub is_before : End → End → Bool
+is_before e d = nat_lt e.feature.0 d.feature.0 || (same_feature e.feature d.feature && node_before e.node d.node)
+
+abbrev pub IsNext : End → List End → Type 0
+IsNext e [] = Unit {0}
+IsNext e (d ∷ ds) = is_before e d ≡ true
+
+-- each end comes before the next: so none comes twice
+abbrev pub AreInOrder : List End → Type 0
+AreInOrder [] = Unit {0}
+AreInOrder (e ∷ es) = IsNext e es × AreInOrder es

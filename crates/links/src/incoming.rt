@@ -1,0 +1,11 @@
+//! Where an object stands.
+use mm_types::{FeatureNo, Node};
+
+/// A position at which an object stands: in the end of a node's feature.
+#[derive(Clone, Copy)]
+pub struct Incoming {
+    pub feature: FeatureNo,
+    pub node: Node,
+    /// The position, from 0.
+    pub position: u32,
+}

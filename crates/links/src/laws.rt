@@ -1,0 +1,160 @@
+//! Laws of the definitions, each the contract of a function that does nothing.
+ghost use Rattle.std.specs.Prelude.{◌≡◌, ◌↔◌, ◌<◌, ℕ, Bool, true, false, List, [], ◌∷◌, ◌++◌, length, Option, Some, None};
+ghost use Rattle.std.specs.List.{list_any};
+ghost use Rattle.std.specs.Option.{option_map_or};
+ghost use Rattle.mm_types.specs.Same.{node_value, same_node};
+ghost use Rattle.mm_types.specs.declared.numbers.FeatureNo.{FeatureNo};
+ghost use Rattle.mm_types.specs.declared.numbers.Node.{Node};
+ghost use Rattle.mm_types.specs.declared.numbers.Node.TheVariants as node;
+ghost use Rattle.mm_types.specs.declared.numbers.ObjectNo.{ObjectNo};
+ghost use Rattle.mm_types.specs.declared.numbers.ResourceNo.{ResourceNo};
+ghost use Rattle.mm_types.specs.declared.end.End.{End};
+ghost use Rattle.mm_types.specs.declared.value.Value.{Value};
+ghost use Rattle.links.specs.declared.link.Link.{Link};
+ghost use Rattle.links.specs.declared.plan.Edit.{Edit};
+ghost use Rattle.links.specs.declared.plan.Edit.TheVariants as edit;
+ghost use Rattle.links.specs.Holders.{HasNoCycle, IsForest, IsUnder, above, holder};
+ghost use Rattle.links.specs.Laws.{AreOnce, AreThere, BothEndsAgree, CutByNameMakes, CutMakes, CutsByNameMake, HaveSameEnds, IsPutOutside, NameLinksOf, PutGives, PutMakes, PutProxyMakes, ShiftMakes, WithoutNodesMakes, cut_edits, without_all};
+ghost use Rattle.links.specs.LegalSets.{AreKinds, AreOfKind, IsLegalSet, Kinds};
+ghost use Rattle.links.specs.Links.{In, Links, cut_value, no_links, put, without_nodes};
+ghost use Rattle.links.specs.Plans.{EditFits, IsPlanOfKind, MakesNoCycle, PlanFits, PlanMakesNoCycle, applied};
+
+/// No links are a legal set, of any kinds of features, without cycles.
+pub fn no_links_are_legal()
+    ensures legal { IsLegalSet no_links }
+    ensures kinds { (m : Kinds) → AreOfKind m no_links }
+    ensures no_cycle { HasNoCycle no_links }
+{}
+
+/// A plan that fits keeps a legal set legal.
+pub fn a_plan_that_fits_keeps_a_set_legal()
+    ensures { (s : Links) (plan : List Edit) → IsLegalSet s → PlanFits s plan → IsLegalSet (applied s plan) }
+{}
+
+/// A plan of the kinds of features keeps links of those kinds.
+pub fn a_plan_keeps_the_kinds()
+    ensures { (m : Kinds) → AreKinds m → (s : Links) (plan : List Edit) → AreOfKind m s → IsPlanOfKind m plan → AreOfKind m (applied s plan) }
+{}
+
+/// A plan that puts nothing below itself makes no cycle.
+pub fn a_plan_makes_no_cycle()
+    ensures { (s : Links) (plan : List Edit) → IsLegalSet s → PlanFits s plan → PlanMakesNoCycle s plan → HasNoCycle s → HasNoCycle (applied s plan) }
+{}
+
+/// Where no node is under itself, no chain of holders is longer than there are links.
+pub fn chains_of_holders_end()
+    ensures { (s : Links) → IsLegalSet s → HasNoCycle s → IsForest s }
+{}
+
+/// What is above a node is the node of its holder, and then what is above that (EMF: eContainer, again and again).
+pub fn what_is_above_follows_the_holders()
+    ensures { (s : Links) → IsLegalSet s → HasNoCycle s → (n : Node) → above s n ≡ option_map_or (λ (e : End). e.node ∷ above s e.node) (holder s n) [] }
+{}
+
+/// Fewer nodes are above a holder's node than above what it holds: a loop that walks up ends.
+pub fn fewer_are_above_a_holder()
+    ensures { (s : Links) → IsLegalSet s → HasNoCycle s → (n : Node) (e : End) → holder s n ≡ Some e → length (above s e.node) < length (above s n) }
+{}
+
+/// A node is under those above it and no other, and is not above itself.
+pub fn a_node_is_under_those_above_it()
+    ensures under { (s : Links) → IsLegalSet s → HasNoCycle s → (x y : Node) → (list_any (same_node y) (above s x) ≡ true) ↔ IsUnder s x y }
+    ensures itself { (s : Links) → IsLegalSet s → HasNoCycle s → (x : Node) → list_any (same_node x) (above s x) ≡ false }
+{}
+
+/// No end contains a resource.
+pub fn a_resource_has_no_holder()
+    ensures { (s : Links) (r : ResourceNo) → IsLegalSet s → holder s (node.Resource r) ≡ None }
+{}
+
+/// What a put makes of each end, and of the holders.
+pub fn a_put_gains_at_both_ends()
+    ensures { (s : Links) (e : End) (i : ℕ) (o : ObjectNo) (g c : Option FeatureNo) → IsLegalSet s → EditFits s (edit.Put e i o g c) → PutMakes s e i o g c }
+{}
+
+/// What a put makes of each end, and of the holders, computed.
+pub fn a_put_gives_each_end_and_holder()
+    ensures { (s : Links) (e : End) (i : ℕ) (o : ObjectNo) (g c : Option FeatureNo) → IsLegalSet s → EditFits s (edit.Put e i o g c) → PutGives s e i o g c }
+{}
+
+/// A put that fits keeps a legal set legal, of its kinds, and, where the node that contains is neither the other nor below it, without cycles.
+pub fn a_put_keeps_a_set_legal()
+    ensures legal { (s : Links) (e : End) (i : ℕ) (o : ObjectNo) (g c : Option FeatureNo) → IsLegalSet s → EditFits s (edit.Put e i o g c) → IsLegalSet (put s e i o g c) }
+    ensures kinds { (m : Kinds) → AreKinds m → (s : Links) (e : End) (i : ℕ) (o : ObjectNo) → AreOfKind m s → AreOfKind m (put s e i o (m.opposite e.feature) (m.container e.feature)) }
+    ensures outside { (s : Links) (e : End) (i : ℕ) (o : ObjectNo) (g c : Option FeatureNo) → IsLegalSet s → EditFits s (edit.Put e i o g c) → HasNoCycle s → IsPutOutside s e o c → MakesNoCycle s (edit.Put e i o g c) }
+    ensures no_cycle { (s : Links) (e : End) (i : ℕ) (o : ObjectNo) (g c : Option FeatureNo) → IsLegalSet s → EditFits s (edit.Put e i o g c) → HasNoCycle s → IsPutOutside s e o c → HasNoCycle (put s e i o g c) }
+{}
+
+/// What a put of a proxy makes of each end, and of the holders.
+pub fn a_proxy_stands_in_one_end()
+    ensures { (s : Links) (e : End) (i : ℕ) (t : List ℕ) → IsLegalSet s → EditFits s (edit.PutProxy e i t) → PutProxyMakes s e i t }
+{}
+
+/// What a cut makes of each end, and of the holders.
+pub fn a_cut_loses_at_both_ends()
+    ensures { (s : Links) (l : Link) → IsLegalSet s → In l s → CutMakes s l }
+{}
+
+/// What a cut by an end and a value there makes of each end, and of the holders. A value that is not there cuts nothing.
+pub fn a_cut_by_name_loses_what_it_names()
+    ensures { (m : Kinds) → AreKinds m → (s : Links) (e : End) (v : Value) → IsLegalSet s → AreOfKind m s → CutByNameMakes m s e v }
+{}
+
+/// What several cuts, each by an end and a value there, make of each end, and of the holders.
+pub fn cuts_by_name_lose_what_they_name()
+    ensures { (m : Kinds) → AreKinds m → (s : Links) (ts : List (End × Value)) → IsLegalSet s → AreOfKind m s → CutsByNameMake m s ts }
+{}
+
+/// Cuts keep a legal set legal, of its kinds, and without cycles.
+pub fn cuts_by_name_keep_a_set_legal()
+    ensures legal { (s : Links) (ts : List (End × Value)) → IsLegalSet s → IsLegalSet (without_all s ts) }
+    ensures kinds { (m : Kinds) (s : Links) (ts : List (End × Value)) → AreOfKind m s → AreOfKind m (without_all s ts) }
+    ensures no_cycle { (s : Links) (ts : List (End × Value)) → IsLegalSet s → HasNoCycle s → HasNoCycle (without_all s ts) }
+    ensures above { (s : Links) (ts : List (End × Value)) → IsLegalSet s → HasNoCycle s → (x y : Node) → list_any (same_node y) (above s x) ≡ false → list_any (same_node y) (above (without_all s ts) x) ≡ false }
+{}
+
+/// What is cut from the end that contains it is contained by nothing.
+pub fn what_is_cut_from_its_holder_is_free()
+    ensures { (s : Links) (n : Node) (e : End) → IsLegalSet s → holder s n ≡ Some e → holder (cut_value s e (node_value n)) n ≡ None }
+{}
+
+/// A plan that cuts links, each there and each named once, fits, makes what the cuts make, is of any kind and makes no cycle.
+pub fn a_plan_of_cuts_fits()
+    ensures fits { (m : Kinds) → AreKinds m → (s : Links) (ts : List (End × Value)) → IsLegalSet s → AreOfKind m s → AreThere s ts → AreOnce m ts → PlanFits s (cut_edits ts) }
+    ensures makes { (m : Kinds) → AreKinds m → (s : Links) (ts : List (End × Value)) → IsLegalSet s → AreOfKind m s → AreThere s ts → AreOnce m ts → applied s (cut_edits ts) ≡ without_all s ts }
+    ensures of_kind { (m : Kinds) (ts : List (End × Value)) → IsPlanOfKind m (cut_edits ts) }
+    ensures no_cycle { (s : Links) (ts : List (End × Value)) → PlanMakesNoCycle s (cut_edits ts) }
+{}
+
+/// Plans one behind the other: what they make, and that they fit.
+pub fn plans_follow_one_another()
+    ensures makes { (s : Links) (xs ys : List Edit) → applied s (xs ++ ys) ≡ applied (applied s xs) ys }
+    ensures fits { (s : Links) (xs ys : List Edit) → PlanFits s xs → PlanFits (applied s xs) ys → PlanFits s (xs ++ ys) }
+    ensures of_kind { (m : Kinds) (xs ys : List Edit) → IsPlanOfKind m xs → IsPlanOfKind m ys → IsPlanOfKind m (xs ++ ys) }
+    ensures no_cycle { (s : Links) (xs ys : List Edit) → PlanMakesNoCycle s xs → PlanMakesNoCycle (applied s xs) ys → PlanMakesNoCycle s (xs ++ ys) }
+{}
+
+/// What is left when nodes go, with each link that names one of them: of each end, and of the holders. No link left names one.
+pub fn a_set_without_nodes_names_none_of_them()
+    ensures makes { (s : Links) (gone : Node → Bool) → IsLegalSet s → WithoutNodesMakes s gone }
+    ensures legal { (s : Links) (gone : Node → Bool) → IsLegalSet s → IsLegalSet (without_nodes s gone) }
+    ensures kinds { (m : Kinds) (s : Links) (gone : Node → Bool) → AreOfKind m s → AreOfKind m (without_nodes s gone) }
+    ensures no_cycle { (s : Links) (gone : Node → Bool) → IsLegalSet s → HasNoCycle s → HasNoCycle (without_nodes s gone) }
+    // cuts that name each link of a node that goes, and no other, leave the same
+    ensures by_cuts { (m : Kinds) → AreKinds m → (s : Links) (gone : Node → Bool) (ts : List (End × Value)) → IsLegalSet s → AreOfKind m s → NameLinksOf m s gone ts → without_all s ts ≡ without_nodes s gone }
+{}
+
+/// What a shift makes of each end, and of the holders.
+pub fn a_shift_moves_in_one_end()
+    ensures { (s : Links) (e : End) (to from : ℕ) → IsLegalSet s → EditFits s (edit.Shift e to from) → ShiftMakes s e to from }
+{}
+
+/// Links of the kinds of features agree at both ends.
+pub fn both_ends_agree()
+    ensures { (m : Kinds) (s : Links) → IsLegalSet s → AreOfKind m s → BothEndsAgree m s }
+{}
+
+/// Links of the kinds of features are told by their ends: two legal sets with the same ends are one.
+pub fn the_ends_determine_the_links()
+    ensures { (m : Kinds) (s t : Links) → IsLegalSet s → IsLegalSet t → AreOfKind m s → AreOfKind m t → HaveSameEnds s t → s ≡ t }
+{}

@@ -1,0 +1,14 @@
+//! Links between objects, and proxies: what a set of them is, its edits and their laws, and what a store of one is. A plan of
+//! edits that fits a legal set keeps it legal, and a store that has room for a plan applies it and cannot fail.
+#![tactic(auto)]
+
+mod incoming;
+pub mod laws;
+mod link;
+mod plan;
+mod store;
+
+pub use incoming::Incoming;
+pub use link::{Far, Link};
+pub use plan::{Edit, Plan};
+pub use store::LinkStore;

@@ -1,0 +1,82 @@
+//! Stores of links.
+ghost use Rattle.std.specs.Prelude.{◌≡◌, List, length, map, slice_get, IfOk, OnOk, MatchOption, Some};
+ghost use Rattle.std.specs.Option.{option_copied};
+ghost use Rattle.mm_types.specs.declared.numbers.Node.TheVariants as node;
+ghost use Rattle.mm_types.specs.declared.value.Value.TheVariants as value;
+ghost use Rattle.links.specs.declared.plan.Edit.{Edit};
+ghost use Rattle.links.specs.Holders.{holder as holder_of};
+ghost use Rattle.links.specs.LegalSets.{AreKinds, IsLegalSet, Kinds};
+ghost use Rattle.links.specs.Links.{Links, end as end_of, no_links, object_at, proxy_at as proxy_of};
+ghost use Rattle.links.specs.Plans.{AreInOrder, ArePlacesOf, HasPlanOfKind, IsPlanOfKind, Lacks, PlanFits, applied, incoming_end};
+
+use crate::incoming::Incoming;
+use crate::plan::Plan;
+use mm_types::{End, ObjectNo};
+use std::alloc::{AllocError, Global};
+
+/// A set of links, however it is kept.
+///
+/// A store may keep for each feature its opposite and what contains, as puts name them. So it is of the kinds of some
+/// metamodel: an empty store of any, and `apply` keeps those of which the plan is.
+pub trait LinkStore: Drop {
+    /// The links.
+    ghost links: { Self → Links };
+
+    /// The kinds of features that it can be of.
+    ghost kinds: { Self → Kinds → Type 0 };
+
+    /// Whether there is room for a plan.
+    ghost has_room: { Self → List Edit → Type 0 };
+
+    /// A store with no link. Takes no memory.
+    fn empty(alloc: Global) -> Self
+        ensures links { links result ≡ no_links }
+        ensures kinds { (m : Kinds) → AreKinds m → kinds result m };
+
+    /// How many values an end has.
+    fn len(&self, end: End) -> usize
+        requires legal { IsLegalSet (links self.now) }
+        ensures { result ≡ length (end_of (links self.now) end) };
+
+    /// The object at a position of an end; `None` past the last, and where a proxy stands.
+    fn at(&self, end: End, index: u32) -> Option<ObjectNo>
+        requires legal { IsLegalSet (links self.now) }
+        ensures { result ≡ object_at (links self.now) end index };
+
+    /// The text of the proxy at a position of an end; `None` past the last, and where an object stands.
+    fn proxy_at(&self, end: End, index: u32) -> Option<&str>
+        requires legal { IsLegalSet (links self.now) }
+        ensures { option_copied result ≡ proxy_of (links self.now) end index };
+
+    /// Where an object stands in an end; `None` where it stands nowhere in it.
+    fn position(&self, end: End, object: ObjectNo) -> Option<u32>
+        requires legal { IsLegalSet (links self.now) }
+        ensures { MatchOption result (Lacks (links self.now) end (value.Object object)) (λ k. slice_get (end_of (links self.now) end) k ≡ Some (value.Object object)) };
+
+    /// The end that contains an object (EMF: eContainer, eContainmentFeature); `None` where none does.
+    fn holder(&self, object: ObjectNo) -> Option<End>
+        requires legal { IsLegalSet (links self.now) }
+        ensures { result ≡ holder_of (links self.now) (node.Object object) };
+
+    /// Where an object stands: each position of each end that has it, by the numbers of the features, then the nodes, objects
+    /// before resources, each by number. An end has an object once. Errs only where memory is refused.
+    fn incoming(&self, alloc: Global, object: ObjectNo) -> Result<Vec<Incoming>, AllocError>
+        requires legal { IsLegalSet (links self.now) }
+        ensures places { IfOk result (λ r. ArePlacesOf (links self.now) object r.items) }
+        ensures order { IfOk result (λ r. AreInOrder (map incoming_end r.items)) };
+
+    /// Takes all the memory that a plan needs. Errs where memory is refused; no link changes.
+    fn reserve_for(&mut self, plan: &Plan) -> Result<(), AllocError>
+        ensures links { links self.new ≡ links self.old }
+        ensures kinds { (m : Kinds) → kinds self.old m → kinds self.new m }
+        ensures ok { OnOk result (has_room self.new plan.now) };
+
+    /// Makes the edits of a plan, in their order. Takes no memory.
+    fn apply(&mut self, plan: Plan)
+        requires legal { IsLegalSet (links self.old) }
+        requires fits { PlanFits (links self.old) plan }
+        requires of_kind { HasPlanOfKind (kinds self.old) plan }
+        requires reserved { has_room self.old plan }
+        ensures links { links self.new ≡ applied (links self.old) plan }
+        ensures kinds { (m : Kinds) → kinds self.old m → IsPlanOfKind m plan → kinds self.new m };
+}

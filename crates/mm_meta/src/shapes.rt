@@ -1,0 +1,99 @@
+//! What a metamodel says of the shape of a feature, also of the one of resources, and the names of its classes and features.
+ghost use Rattle.std.specs.Prelude.{◌≡◌};
+ghost use Rattle.mm_types.specs.Lookups as m;
+ghost use Rattle.mm_types.specs.Shapes.{is_full_list, shape};
+
+use crate::meta::Meta;
+use mm_types::{ClassNo, FeatureNo, Kind};
+
+impl Meta {
+    /// Whether a class is there and is concrete.
+    pub fn is_concrete(&self, class: ClassNo) -> bool
+        ensures { result ≡ m.is_concrete self.now class }
+    {
+        match self.class(class) {
+            Some(class) => !class.is_abstract,
+            None => false,
+        }
+    }
+
+    /// Whether a feature holds one value at most (EMF: ETypedElement.isMany, negated). Takes no memory.
+    pub fn is_single(&self, feature: FeatureNo) -> bool
+        ensures { result ≡ (shape self.now feature).is_single }
+    {
+        match self.feature(feature) {
+            Some(feature) => feature.upper == 1,
+            None => false,
+        }
+    }
+
+    /// Whether the values of a feature are distinct (EMF: ETypedElement.isUnique); those of a reference are. Takes no memory.
+    pub fn is_unique(&self, feature: FeatureNo) -> bool
+        ensures { result ≡ (shape self.now feature).is_unique }
+    {
+        match self.feature(feature) {
+            Some(found) => match &found.kind {
+                Kind::Attribute { unique, .. } => *unique,
+                Kind::Reference { .. } => true,
+            },
+            None => true,
+        }
+    }
+
+    /// Whether a list of so many values is full: its feature has an upper bound above 1, and no more values may stand in it. Takes no
+    /// memory.
+    pub fn is_full(&self, feature: FeatureNo, len: u32) -> bool
+        ensures { result ≡ is_full_list (shape self.now feature) len }
+    {
+        match self.feature(feature) {
+            Some(found) => found.upper > 1 && i64::from(found.upper) <= i64::from(len),
+            None => false,
+        }
+    }
+
+    /// Whether a feature holds objects (EMF: EReference); so does the one of resources. Takes no memory.
+    pub fn is_reference(&self, feature: FeatureNo) -> bool
+        ensures { result ≡ (shape self.now feature).is_reference }
+    {
+        match self.feature(feature) {
+            Some(found) => match &found.kind {
+                Kind::Attribute { .. } => false,
+                Kind::Reference { .. } => true,
+            },
+            None => true,
+        }
+    }
+
+    /// Whether being set is a state of its own of a feature (EMF: EStructuralFeature.isUnsettable). Takes no memory.
+    pub fn is_unsettable(&self, feature: FeatureNo) -> bool
+        ensures { result ≡ (shape self.now feature).is_unsettable }
+    {
+        match self.feature(feature) {
+            Some(found) => match &found.kind {
+                Kind::Attribute { unsettable, .. } => *unsettable,
+                Kind::Reference { .. } => false,
+            },
+            None => false,
+        }
+    }
+
+    /// The name of a class; no name if there is no class of the number. Takes no memory.
+    pub fn class_name(&self, class: ClassNo) -> &str
+        ensures { result.now ≡ m.class_name self.now class }
+    {
+        match self.class(class) {
+            Some(class) => class.name.as_str(),
+            None => "",
+        }
+    }
+
+    /// The name of a feature; no name if there is no feature of the number. Takes no memory.
+    pub fn feature_name(&self, feature: FeatureNo) -> &str
+        ensures { result.now ≡ m.feature_name self.now feature }
+    {
+        match self.feature(feature) {
+            Some(feature) => feature.name.as_str(),
+            None => "",
+        }
+    }
+}
