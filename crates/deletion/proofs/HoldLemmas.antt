@@ -5,7 +5,7 @@ use Rattle.std.specs.List.{Contains, list_any}
 use Rattle.std.specs.List.Sorted.{IsStrictlySortedBy}
 use Rattle.std.specs.Option.{option_map_or}
 use Rattle.std.specs.Ordering.{eq_by_cmp, is_eq}
-use Rattle.std.specs.declared.cmp.Ordering.TheVariants.{Equal, Less}
+use Rattle.std.specs.declared.cmp.Ordering.TheVariants.{Equal}
 use Rattle.std.proofs.lemmas.Bool.{and_parts, false≢true, or_cases, or_left, or_right}
 use Rattle.std.proofs.lemmas.Cmp.{eq_by_cmp_equiv}
 use Rattle.std.proofs.lemmas.List.Folds.{list_any_more}
@@ -32,17 +32,18 @@ use Rattle.mm_types.specs.declared.value.Value.{Value}
 use Rattle.mm_types.specs.declared.value.Value.TheVariants as value
 use Rattle.links.specs.Laws.{goes}
 use Rattle.links.specs.Links.{Links, end}
-use Rattle.links.specs.Plans.{ArePlacesOf, has_end, incoming_end, is_before}
-use Rattle.links.specs.declared.incoming.Incoming.{Incoming}
+use Rattle.links.specs.Plans.{AreIncoming, AreInOrder, has_end}
+use Rattle.links.specs.Ranks.{rank_cmp}
 use Rattle.models.specs.Legal.{IsLegal, is_legal_target, takes_proxies}
 use Rattle.models.specs.Model.{Model, reading}
 use Rattle.models.specs.Reading.{Reading, is_live}
 use Rattle.containment.proofs.PartLemmas.{legal-at, values-linked}
 use Rattle.containment.specs.Forest.{is_node_among, subtree}
-use Rattle.deletion.proofs.OuterLemmas.{IsSorted, all_weaker, has_end-append, has_end-filter, touched-all, touched-sorted}
-use Rattle.deletion.proofs.RankLemmas.{before-less, rank_cmp-total, same-tests, ties-same}
+use Rattle.deletion.proofs.OuterLemmas.{has_end-append, has_end-filter, touched-all, touched-in_order}
+use Rattle.links.proofs.OrderLemmas.{strict-of_order}
+use Rattle.links.proofs.RankLemmas.{rank_cmp-total, same-tests, ties-same}
 use Rattle.deletion.specs.Outer.{gone, holds_some, touched_ends}
-use Rattle.deletion.specs.Ranks.{HasGone, holds, is_in, rank_cmp, staying}
+use Rattle.deletion.specs.Ranks.{HasGone, holds, is_in, staying}
 
 ---------------------------------------------------------------- values
 
@@ -61,42 +62,25 @@ at-passes p (w ∷ ws) (suc k) v h passes = or_right _ _ (at-passes p ws k v h p
 
 ---------------------------------------------------------------- one object
 
-find-place : (is : List Incoming) (e : End) → has_end (map incoming_end is) e ≡ true → (i : Incoming) × Contains is i × (incoming_end i ≡ e)
-find-place [] e h = absurd (false≢true h)
-find-place (i ∷ is) e h = elim (or_cases (same_end (incoming_end i) e) (has_end (map incoming_end is) e) h) [
-  | inl here ↦ (i, (zero, omega arith, refl), same_end-true (incoming_end i) e here)
-  | inr later ↦ let at = find-place is e later in (at.0, (suc at.1.0, (let low = at.1.1 in omega (arith, low)), at.1.2), at.2)
-]
-
-place-found : (is : List Incoming) (i : Incoming) (k : ℕ) → k < length is → slice_index_or is k i ≡ i → has_end (map incoming_end is) (incoming_end i) ≡ true
-place-found [] i k low h = absurd (omega (arith, low))
-place-found (j ∷ js) i zero low h = or_left _ _ (subst (λ (x : Incoming). same_end (incoming_end j) (incoming_end x) ≡ true) h (same_end-self (incoming_end j)))
-place-found (j ∷ js) i (suc k) low h = or_right _ _ (place-found js i k (omega (arith, low)) h)
-
 same-self : (x : ObjectNo) → same_value (value.Object x) (value.Object x) ≡ true
 same-self x = eq-eqb x.0 x.0 refl
 
--- the ends of the places of an object are those that hold it
-places-hold : (s : Links) (x : ObjectNo) (is : List Incoming) → ArePlacesOf s x is → (e : End) → has_end (map incoming_end is) e ≡ holds s e x
-places-hold s x is are e =
-    same-tests (has_end (map incoming_end is) e) (holds s e x)
-    (λ h.
-    let at = find-place is e h in
-    let there = subst (λ (d : End). slice_get (end s d) at.0.position ≡ Some (value.Object x)) at.2 ((are at.0).0 at.1) in
-    at-passes (same_value (value.Object x)) (end s e) at.0.position (value.Object x) there (same-self x))
+-- the ends that an object stands in are those that hold it
+incoming-hold : (s : Links) (x : ObjectNo) (ds : List End) → AreIncoming s x ds → (e : End) → has_end ds e ≡ holds s e x
+incoming-hold s x ds are e =
+    same-tests (has_end ds e) (holds s e x)
+    (λ h. let at = (are e).0 h in at-passes (same_value (value.Object x)) (end s e) at.0 (value.Object x) at.1 (same-self x))
     (λ h.
     let at = passes-at (same_value (value.Object x)) (end s e) h in
-    let i : Incoming = record { feature = e.feature; node = e.node; position = at.0 } in
-    let among = (are i).1 (at.2 ∙ ap Some (sym (same_value-true (value.Object x) at.1 at.3))) in
-    place-found is i among.0 among.1 among.2)
+    (are e).1 (at.0, at.2 ∙ ap Some (sym (same_value-true (value.Object x) at.1 at.3))))
 
 -- what one object adds
-pub holding-step : (s : Links) (x : ObjectNo) (is : List Incoming) (numbers : BTreeSet ℕ) (old new : List End) → ArePlacesOf s x is → new ≡ old ++ staying numbers is
+pub holding-step : (s : Links) (x : ObjectNo) (ds : List End) (numbers : BTreeSet ℕ) (old new : List End) → AreIncoming s x ds → new ≡ old ++ staying numbers ds
     → (e : End) → has_end new e ≡ (has_end old e || (not (is_in numbers e.node) && holds s e x))
-holding-step s x is numbers old new are made e =
+holding-step s x ds numbers old new are made e =
     ap (λ (es : List End). has_end es e) made
-    ∙ has_end-append old (staying numbers is) e
-    ∙ ap (λ (b : Bool). has_end old e || b) (has_end-filter (λ (d : End). not (is_in numbers d.node)) (map incoming_end is) e ∙ ap (λ (b : Bool). not (is_in numbers e.node) && b) (places-hold s x is are e))
+    ∙ has_end-append old (staying numbers ds) e
+    ∙ ap (λ (b : Bool). has_end old e || b) (has_end-filter (λ (d : End). not (is_in numbers d.node)) ds e ∙ ap (λ (b : Bool). not (is_in numbers e.node) && b) (incoming-hold s x ds are e))
 
 -- one object further
 pub objects-step : (stays : Bool) (p : ObjectNo → Bool) (os : List ObjectNo) (i : ℕ) (d : ObjectNo) (old new : Bool) → i < length os → new ≡ (old || (stays && p (slice_index_or os i d))) → old ≡ (stays && list_any p (take i os))
@@ -194,11 +178,6 @@ any-end : (es : List End) (q : End) → list_any (λ (k : End). eq_by_cmp rank_c
 any-end [] q = refl
 any-end (e ∷ es) q = λ i. ((eq_by_cmp_equiv rank_cmp-total).symm q e ∙ ties-same e q) i || any-end es q i
 
-strictly-sorted : (es : List End) → IsSorted is_before es → IsStrictlySortedBy rank_cmp es
-unfolding IsStrictlySortedBy
-strictly-sorted [] sorted = tt
-strictly-sorted (e ∷ es) sorted = (all_weaker (λ (d : End). is_before e d ≡ true) (λ (d : End). rank_cmp e d ≡ Less) es (before-less e) sorted.0, strictly-sorted es sorted.1)
-
 tie-same : (d e : End) → rank_cmp d e ≡ Equal → d ≡ e
 tie-same d e h = same_end-true d e (sym (ties-same d e) ∙ ap is_eq h)
 
@@ -213,10 +192,10 @@ same-ends xs ys a b same =
 pub touched-found : (s : Model) → IsLegal s → (o : ObjectNo) → is_live (reading s) o ≡ true → (os : List ObjectNo) (numbers : BTreeSet ℕ) (found es : List End)
     → os ≡ subtree (reading s) o → HasGone (reading s) o numbers
     → ((e : End) → has_end found e ≡ (not (is_in numbers e.node) && list_any (holds s.links e) os))
-    → IsStrictlySortedBy rank_cmp es → ((e : End) → has_end es e ≡ has_end found e) → es ≡ touched_ends (reading s) o
+    → AreInOrder es → ((e : End) → has_end es e ≡ has_end found e) → es ≡ touched_ends (reading s) o
 touched-found s legal o live os numbers found es all has held sorted same =
     let r = reading s in
     let g = gone r o in
-    same-ends es (touched_ends r o) sorted (strictly-sorted (touched_ends r o) (touched-sorted s o)) (λ e.
+    same-ends es (touched_ends r o) (strict-of_order es sorted) (strict-of_order (touched_ends r o) (touched-in_order s o)) (λ e.
     let some : list_any (holds s.links e) os ≡ holds_some r g e = ap (list_any (holds s.links e)) all ∙ sym (any-turn (subtree r o) (end s.links e)) ∙ sym (linked-some s legal g e) in
     same e ∙ held e ∙ (λ i. not (has e.node i) && some i) ∙ sym (touched-all s legal o live e))

@@ -25,7 +25,7 @@ use Rattle.notice_chain.specs.Kinds.{no_index}
 use Rattle.notice_chain.specs.Replay.{removed, replayed_in}
 use Rattle.notice_chain.specs.declared.kind.NoticeKind.TheVariants as kind
 use Rattle.notice_chain.specs.declared.notice.Notice.{Notice}
-use Rattle.deletion.proofs.OrderLemmas.{order-apart}
+use Rattle.links.proofs.OrderLemmas.{order-apart}
 use Rattle.deletion.specs.Losses.{is_lost, kept_at, loss, lost_at, lost_from}
 use Rattle.deletion.specs.declared.loss.Loss.{Loss}
 use Rattle.handshake.specs.Reports.{lost_notice}

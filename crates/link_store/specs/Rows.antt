@@ -15,10 +15,9 @@ use Rattle.link_store.specs.declared.renumbering.Renumbering.{Renumbering}
 use Rattle.link_store.specs.declared.renumbering.Renumbering.TheVariants.{Raise, Lower, Shift}
 use Rattle.link_store.specs.declared.rows.Spot.{Spot}
 use Rattle.links.specs.Holders.{is_far_node}
-use Rattle.links.specs.InOrder.{places_by}
+use Rattle.links.specs.Found.{places_by}
 use Rattle.links.specs.Links.{lower, object_of, raise, shifted_index, text_of}
 use Rattle.links.specs.Places.{has_value, place}
-use Rattle.links.specs.Plans.{has_end, is_before}
 
 abbrev pub changed_index : Renumbering → ℕ → ℕ
 changed_index (Raise i) k = raise i k

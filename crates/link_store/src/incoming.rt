@@ -1,7 +1,7 @@
 //! Where an object stands.
 ghost use Rattle.std.specs.Prelude.{◌≡◌, ◌++◌, IfOk, OnOk};
 ghost use Rattle.link_store.specs.Rows.{places_in};
-ghost use Rattle.links.specs.InOrder.{place_if};
+ghost use Rattle.links.specs.Found.{place_if};
 
 use crate::rows::position_of;
 use links::{Incoming, Link};

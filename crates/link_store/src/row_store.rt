@@ -4,8 +4,8 @@ ghost use Rattle.std.specs.FinSet as set;
 
 use crate::incoming::places_of;
 use crate::row_edits::edit_rows;
-use crate::rows::{ends_of, holder_in, len_of, object_in, ordered, position_of, text_in};
-use links::{Incoming, Link, LinkStore, Plan};
+use crate::rows::{ends_of, holder_in, len_of, object_in, position_of, text_in};
+use links::{Incoming, Link, LinkStore, Plan, put_in_order};
 use mm_types::{End, Node, ObjectNo, Value};
 use std::alloc::{AllocError, Global};
 
@@ -49,9 +49,13 @@ impl LinkStore for RowStore {
     }
 
     fn incoming(&self, alloc: Global, object: ObjectNo) -> Result<Vec<Incoming>, AllocError> {
-        let ends = ends_of(alloc, &self.rows, Node::Object(object))?;
-        let ends = ordered(alloc, &ends)?;
+        let mut ends = ends_of(alloc, &self.rows, Node::Object(object))?;
+        put_in_order(&mut ends);
         places_of(alloc, &self.rows, &ends, &Value::Object(object))
+    }
+
+    fn ends_holding(&self, alloc: Global, object: ObjectNo) -> Result<Vec<End>, AllocError> {
+        ends_of(alloc, &self.rows, Node::Object(object))
     }
 
     fn reserve_for(&mut self, plan: &Plan) -> Result<(), AllocError> {

@@ -23,6 +23,7 @@ pub mod CutNamedLemmas
 pub mod PutEndLemmas
 pub mod BareLemmas
 pub mod GoneLemmas
+pub mod RankLemmas
 pub mod OrderLemmas
 pub mod PlacesLemmas
 mod Examples

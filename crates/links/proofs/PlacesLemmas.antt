@@ -1,14 +1,13 @@
 -- Lists of ends joined, and the places that a search finds in ends.
-use Rattle.std.proofs.Common.{◌≡◌, ℕ, true, List, [], ◌∷◌, ◌++◌, map, Option, Some, None, MatchOption, refl, sym, ap, subst, inl, inr, arith}
+use Rattle.std.proofs.Common.{◌≡◌, ℕ, true, List, [], ◌∷◌, ◌++◌, map, Option, Some, None, MatchOption, refl, sym, ap, ◌∙◌, subst, inl, inr, arith}
 use Rattle.std.specs.Prelude.{◌⊎◌}
 use Rattle.std.specs.List.{Contains, slice_get}
 use Rattle.std.proofs.lemmas.Bool.{false≢true, or_cases, or_left, or_right}
 use Rattle.std.proofs.lemmas.List.Elements.{Contains-append_cases, Contains-append_left, Contains-append_right, Contains-push, Contains-push_cases}
-use Rattle.links.proofs.OrderLemmas.{incoming_in_order, order_all}
 use Rattle.links.specs.LegalSets.{IsDistinct}
 use Rattle.links.specs.Links.{Links, end}
 use Rattle.links.specs.Plans.{AreIncoming, AreInOrder, ArePlacesOf, Has, Lacks, has_end, incoming_end}
-use Rattle.links.specs.InOrder.{in_order, place_if, places_by}
+use Rattle.links.specs.Found.{place_if, places_by}
 use Rattle.links.specs.declared.incoming.Incoming.{Incoming}
 use Rattle.mm_types.proofs.SameLemmas.{same_end-self, same_end-true}
 use Rattle.mm_types.specs.Same.{same_end}
@@ -86,15 +85,17 @@ module _ (s : Links) (distinct : (e : End) → IsDistinct (end s e)) (v : Value)
       let rest = ends_of_places es (λ d h. all d (or_right (same_end e d) _ h)) in
       rw is (ap (λ (ds : List End). e ∷ ds) rest)
 
--- all places of an object, the ends in order
-pub places_all : (s : Links) → ((e : End) → IsDistinct (end s e)) → (o : ObjectNo) (search : End → Option ℕ) → ((e : End) → MatchOption (search e) (Lacks s e (value.Object o)) (λ k. slice_get (end s e) k ≡ Some (value.Object o))) → (es : List End) → AreIncoming s o es → (let is = places_by search (in_order es) in ArePlacesOf s o is × AreInOrder (map incoming_end is))
-places_all s distinct o search law es all =
-    let v = value.Object o in
-    let ds = in_order es in
-    let are = incoming_in_order s o es all in (
+-- ends that have the same members hold the object alike
+pub incoming-same : (s : Links) (o : ObjectNo) (es ds : List End) → ((e : End) → has_end ds e ≡ has_end es e) → AreIncoming s o es → AreIncoming s o ds
+incoming-same s o es ds same are e = (λ h. (are e).0 (sym (same e) ∙ h), λ has. same e ∙ (are e).1 has)
+
+-- all places of an object, in ends in order
+pub places_all : (s : Links) → ((e : End) → IsDistinct (end s e)) → (o : ObjectNo) (search : End → Option ℕ) → ((e : End) → MatchOption (search e) (Lacks s e (value.Object o)) (λ k. slice_get (end s e) k ≡ Some (value.Object o))) → (es : List End) → AreIncoming s o es → AreInOrder es → (let is = places_by search es in ArePlacesOf s o is × AreInOrder (map incoming_end is))
+places_all s distinct o search law es are order =
+    let v = value.Object o in (
       λ i. (
-        λ h. places-stand s distinct v search law ds i h,
-        λ at. stand-places s distinct v search law ds i ((are (incoming_end i)).1 (i.position, at)) at,
+        λ h. places-stand s distinct v search law es i h,
+        λ at. stand-places s distinct v search law es i ((are (incoming_end i)).1 (i.position, at)) at,
       ),
-      subst (λ (fs : List End). AreInOrder fs) (sym (ends_of_places s distinct v search law ds (λ e h. (are e).0 h))) (order_all es),
+      subst (λ (fs : List End). AreInOrder fs) (sym (ends_of_places s distinct v search law es (λ e h. (are e).0 h))) order,
     )

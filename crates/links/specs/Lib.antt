@@ -4,5 +4,6 @@ pub mod Links
 pub mod Holders
 pub mod LegalSets
 pub mod Plans
-pub mod InOrder
+pub mod Found
+pub mod Ranks
 pub mod Laws

@@ -5,10 +5,12 @@
 mod incoming;
 pub mod laws;
 mod link;
+mod order;
 mod plan;
 mod store;
 
 pub use incoming::Incoming;
 pub use link::{Far, Link};
+pub use order::put_in_order;
 pub use plan::{Edit, Plan};
 pub use store::LinkStore;

@@ -7,7 +7,7 @@ ghost use Rattle.links.specs.declared.plan.Edit.{Edit};
 ghost use Rattle.links.specs.Holders.{holder as holder_of};
 ghost use Rattle.links.specs.LegalSets.{AreKinds, IsLegalSet, Kinds};
 ghost use Rattle.links.specs.Links.{Links, end as end_of, no_links, object_at, proxy_at as proxy_of};
-ghost use Rattle.links.specs.Plans.{AreInOrder, ArePlacesOf, HasPlanOfKind, IsPlanOfKind, Lacks, PlanFits, applied, incoming_end};
+ghost use Rattle.links.specs.Plans.{AreIncoming, AreInOrder, ArePlacesOf, HasPlanOfKind, IsPlanOfKind, Lacks, PlanFits, applied, incoming_end};
 
 use crate::incoming::Incoming;
 use crate::plan::Plan;
@@ -64,6 +64,11 @@ pub trait LinkStore: Drop {
         requires legal { IsLegalSet (links self.now) }
         ensures places { IfOk result (λ r. ArePlacesOf (links self.now) object r.items) }
         ensures order { IfOk result (λ r. AreInOrder (map incoming_end r.items)) };
+
+    /// The ends that an object stands in, in no order; one end may come twice. Errs only where memory is refused.
+    fn ends_holding(&self, alloc: Global, object: ObjectNo) -> Result<Vec<End>, AllocError>
+        requires legal { IsLegalSet (links self.now) }
+        ensures { IfOk result (λ r. AreIncoming (links self.now) object r.items) };
 
     /// Takes all the memory that a plan needs. Errs where memory is refused; no link changes.
     fn reserve_for(&mut self, plan: &Plan) -> Result<(), AllocError>

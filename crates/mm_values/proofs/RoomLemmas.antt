@@ -11,7 +11,7 @@ use Rattle.mm_values.specs.declared.edit.ValueEdit.{ValueEdit}
 use Rattle.mm_values.specs.declared.edit.ValueEdit.TheVariants.{NewObject, DropObject, PutList, InsertValue, RemoveValue, MoveValue, NewUri}
 use Rattle.mm_values.specs.declared.values.Values.{Values}
 use Rattle.mm_values.specs.Slots.{Slots, HasPlaceAt, KeepsPlaces}
-use Rattle.mm_values.specs.Room.{HasRoom, HasPlaceFor, HasPlacesIn, has_class_cell, inserted_in, is_insert, is_insert_at, is_insert_in, is_new_object, is_new_uri, needed, places_taken}
+use Rattle.mm_values.specs.Room.{HasRoom, HasPlaceFor, HasPlacesIn, inserted_in, is_insert, is_insert_at, is_insert_in, is_new_object, is_new_uri, needed, places_taken}
 use Rattle.mm_values.proofs.Place.{fewer}
 
 -- a place for many is one for fewer
@@ -112,7 +112,6 @@ place_for_same r plan plan' same = place_for_less r r plan plan' (λ o f has. su
 pub room_first : (v : Values) (e : ValueEdit) (es : List ValueEdit) → HasRoom v (e ∷ es) → HasRoom v (e ∷ [])
 room_first v e es room = record {
   slots = omega (arith, room.slots, sum_by-cons (λ x. cond (is_new_object x) 1 0) e es);
-  classes = All-cons (λ x. has_class_cell x ≡ true) e [] (All-head (λ x. has_class_cell x ≡ true) e es room.classes) (All-nil (λ x. has_class_cell x ≡ true));
   places =
       let first = All-head (HasPlaceFor v.objects (e ∷ es)) e es room.places in
       let alone = place_for_less v.objects v.objects (e ∷ es) (e ∷ []) (λ o f has. fewer_at v.objects o f (needed (e ∷ es) o f) (needed (e ∷ []) o f) (needed_first o f e es) has) e first in
@@ -138,7 +137,6 @@ put_has_place v o f list flag room =
 pub room_rest : (v w : Values) (e : ValueEdit) (es : List ValueEdit) → HasRoom v (e ∷ es) → KeepsPlaces (places_taken e) v.objects w.objects → w.objects.next ≡ v.objects.next + cond (is_new_object e) 1 0 → v.uris.room ≤ w.uris.room + cond (is_new_uri e) 1 0 → HasRoom w es
 room_rest v w e es room kept next uris = record {
   slots = omega (arith, room.slots, sum_by-cons (λ x. cond (is_new_object x) 1 0) e es, kept.slots, next);
-  classes = All-tail (λ x. has_class_cell x ≡ true) e es room.classes;
   places =
       let less = place_for_less v.objects w.objects (e ∷ es) es (λ o f has. fewer_at w.objects o f (needed (e ∷ es) o f - places_taken e o f) (needed es o f) (needed_behind o f e es) (kept.places o f (needed (e ∷ es) o f) has)) in
       All-weaker (HasPlaceFor v.objects (e ∷ es)) (HasPlaceFor w.objects es) less es (All-tail (HasPlaceFor v.objects (e ∷ es)) e es room.places);

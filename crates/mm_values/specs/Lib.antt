@@ -1,5 +1,4 @@
 pub mod Stored
-pub mod Cells
 pub mod Attributes
 pub mod ListEdits
 pub mod Values

@@ -1,12 +1,11 @@
 -- What a repository's values are, and when there is room for what a plan makes.
 use Rattle.std.specs.Prelude.{ℕ, ◌+◌, ◌≤◌, ◌&&◌, Bool, true, false, List, Option, Some, None, is_some, IfSome, length, count_by, sum_by, nat_eq, All, if◌then◌else◌}
-use Rattle.std.specs.List.{list_any, AllPass}
+use Rattle.std.specs.List.{list_any}
 use Rattle.mm_types.specs.declared.numbers.FeatureNo.{FeatureNo}
 use Rattle.mm_types.specs.declared.numbers.ObjectNo.{ObjectNo}
 use Rattle.mm_values.specs.declared.edit.ValueEdit.{ValueEdit}
 use Rattle.mm_values.specs.declared.edit.ValueEdit.TheVariants.{NewObject, PutList, InsertValue, NewUri}
 use Rattle.mm_values.specs.declared.values.Values.{Values}
-use Rattle.mm_values.specs.Cells.{has_cell}
 use Rattle.mm_values.specs.Values.{ValuesState}
 use Rattle.mm_values.specs.Slots.{Slots, objects_of, none_taken, taken_at, HasPlaceAt}
 
@@ -16,11 +15,6 @@ values_of v = record { objects = objects_of v.objects; uris = v.uris.uris }
 abbrev pub is_new_object : ValueEdit → Bool
 is_new_object (NewObject c) = true
 is_new_object _ = false
-
--- an object that is made is of a class that has a cell
-abbrev pub has_class_cell : ValueEdit → Bool
-has_class_cell (NewObject c) = has_cell c
-has_class_cell _ = true
 
 abbrev pub is_new_uri : ValueEdit → Bool
 is_new_uri (NewUri u) = true
@@ -67,6 +61,5 @@ HasPlacesIn r plan list = IfSome list (λ p. HasPlaceAt r p.0.0 p.1.0 (needed pl
 -- the plan can be applied with no memory taken
 pub record HasRoom (v : Values) (plan : List ValueEdit) : Type 0 where
   pub slots : v.objects.next + count_by is_new_object plan ≤ length v.objects.lists
-  pub classes : AllPass has_class_cell plan
   pub places : All (HasPlaceFor v.objects plan) plan
   pub uris : count_by is_new_uri plan ≤ v.uris.room

@@ -1,7 +1,6 @@
 //! Edits of what a repository holds besides links.
 ghost use Rattle.std.specs.Prelude.{◌≡◌};
 
-use crate::class_cell::ClassCell;
 use mm_types::{ClassNo, FeatureNo, ObjectNo, Seq, Text, Value};
 
 /// One edit. At a number that names no live object it changes nothing.
@@ -46,22 +45,12 @@ pub enum ValueEdit {
 
 impl ValueEdit {
     ghost use Rattle.std.specs.Prelude.{length};
-    ghost use Rattle.mm_values.specs.Room.{has_class_cell, inserted_in, is_insert, is_insert_at, is_insert_in, is_new_object, is_new_uri, places_taken};
+    ghost use Rattle.mm_values.specs.Room.{inserted_in, is_insert, is_insert_at, is_insert_in, is_new_object, is_new_uri, places_taken};
 
     pub(crate) fn is_new_object(&self) -> bool
         ensures { result ≡ is_new_object self.now }
     {
         matches!(self, ValueEdit::NewObject(_))
-    }
-
-    // Whether an object that is made is of a class that has a cell.
-    pub(crate) fn has_class_cell(&self) -> bool
-        ensures { result ≡ has_class_cell self.now }
-    {
-        match self {
-            ValueEdit::NewObject(class) => ClassCell::fits(*class),
-            _ => true,
-        }
     }
 
     pub(crate) fn is_new_uri(&self) -> bool

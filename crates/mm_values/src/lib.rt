@@ -6,7 +6,6 @@
 #![tactic(auto)]
 
 mod attribute_lists;
-mod class_cell;
 mod edit;
 mod list_edit;
 mod objects;

@@ -1,5 +1,5 @@
 //! The objects of a repository, by number.
-ghost use Rattle.std.specs.Prelude.{◌≡◌, ◌+◌, ◌<◌, ◌≤◌, ◌^◌, [], length, option_copied, OnOk, OnErr};
+ghost use Rattle.std.specs.Prelude.{◌≡◌, ◌+◌, ◌<◌, ◌≤◌, [], length, option_copied, OnOk, OnErr};
 ghost use Rattle.std.specs.Option.{option_map};
 ghost use Rattle.mm_values.specs.ListEdits.{changed, taken};
 ghost use Rattle.mm_values.specs.Attributes.{stored_in};
@@ -8,18 +8,17 @@ ghost use Rattle.mm_values.specs.Stored.{items_of};
 ghost use Rattle.mm_values.specs.Values.{object_at, stored_under, with_changed, with_object, without_object, with_list};
 
 use crate::attribute_lists::AttributeLists;
-use crate::class_cell::ClassCell;
 use crate::list_edit::ListEdit;
 use mm_types::{ClassNo, FeatureNo, ObjectNo, Seq, Value};
 use std::alloc::{AllocError, Global};
 use std::marker::Model;
 use value_lists::ValueList;
 
-/// The objects by number: `next` of them were made. The slots behind them are ready for objects to come. A slot is a cell and a
-/// row of attribute lists, in two columns: 28 bytes, where a struct of both would be padded to 32.
+/// The objects by number: `next` of them were made. The slots behind them are ready for objects to come. A slot is a class, where an
+/// object is live, and a row of attribute lists, in two columns, so that a look at the class reads no lists.
 #[derive(Drop)]
 pub(crate) struct Objects {
-    classes: Vec<ClassCell>,
+    classes: Vec<Option<ClassNo>>,
     lists: Vec<AttributeLists>,
     next: usize,
 }
@@ -63,7 +62,7 @@ impl Objects {
         if index >= self.next {
             return None;
         }
-        let class = self.classes[index].get()?;
+        let class = self.classes[index]?;
         Some((class, &self.lists[index]))
     }
 
@@ -101,7 +100,7 @@ impl Objects {
         let alloc = *self.lists.allocator();
         self.classes.reserve(1)?;
         self.lists.push(AttributeLists::new(alloc))?;
-        self.classes.push_reserved(ClassCell::none());
+        self.classes.push_reserved(None);
         Ok(())
     }
 
@@ -141,7 +140,7 @@ impl Objects {
         if index >= self.lists.len() {
             return Ok(());
         }
-        if index < self.next && self.classes[index].get().is_none() {
+        if index < self.next && self.classes[index].is_none() {
             return Ok(());
         }
         self.lists[index].make_place(feature, additional, is_asked)
@@ -160,15 +159,14 @@ impl Objects {
         self.lists[index].make_pieces(feature)
     }
 
-    /// Makes an object of a class that has a cell, in a slot that is ready. Takes no memory.
+    /// Makes an object of a class, in a slot that is ready. Takes no memory.
     pub fn add(&mut self, class: ClassNo)
-        requires ready { self.old.next < length self.old.lists }
-        requires cell { class.0 + 1 < 2 ^ 32 }
+        requires { self.old.next < length self.old.lists }
         ensures objects { objects_of self.new ≡ with_object (objects_of self.old) class }
         ensures next { self.new.next ≡ self.old.next + 1 }
         ensures kept { KeepsPlaces none_taken self.old self.new }
     {
-        self.classes[self.next] = ClassCell::live(class);
+        self.classes[self.next] = Some(class);
         self.next += 1;
     }
 
@@ -181,7 +179,7 @@ impl Objects {
         let index = object.0 as usize;
         if index < self.next {
             let alloc = *self.lists.allocator();
-            self.classes[index] = ClassCell::none();
+            self.classes[index] = None;
             self.lists[index] = AttributeLists::new(alloc);
         }
     }
@@ -194,7 +192,7 @@ impl Objects {
         ensures kept { KeepsPlaces (taken_at object feature (length list)) self.old self.new }
     {
         let index = object.0 as usize;
-        if index < self.next && self.classes[index].get().is_some() {
+        if index < self.next && self.classes[index].is_some() {
             self.lists[index].put(feature, list, flag);
         }
     }
@@ -207,7 +205,7 @@ impl Objects {
         ensures kept { KeepsPlaces (taken_at object feature (taken edit)) self.old self.new }
     {
         let index = object.0 as usize;
-        if index < self.next && self.classes[index].get().is_some() {
+        if index < self.next && self.classes[index].is_some() {
             self.lists[index].change(feature, edit);
         }
     }

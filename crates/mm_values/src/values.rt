@@ -1,8 +1,8 @@
 //! What a repository holds besides links.
 ghost use Rattle.std.specs.Prelude.{◌≡◌, ℕ, List, [], ◌∷◌, length, option_and_then, option_copied, option_map, count_by, position, slice_get, All, IfOk, OnOk};
 ghost use Rattle.mm_types.specs.Same.{same_value};
-ghost use Rattle.std.specs.List.{list_all, list_any};
-ghost use Rattle.mm_values.specs.Room.{has_class_cell, is_insert, is_insert_at, is_new_object, is_new_uri, needed};
+ghost use Rattle.std.specs.List.{list_any};
+ghost use Rattle.mm_values.specs.Room.{is_insert, is_insert_at, is_new_object, is_new_uri, needed};
 
 use crate::edit::ValueEdit;
 use crate::list_edit::ListEdit;
@@ -122,17 +122,13 @@ impl Values {
         self.uris.find(uri)
     }
 
-    /// Takes all the memory that a plan needs. Errs where memory is refused, where there would be more than 2^32 resources, or for
-    /// an object of class number 2^32 - 1, for which there is no place; `apply` may be called only after `Ok`. Nothing that is seen
-    /// changes.
+    /// Takes all the memory that a plan needs. Errs where memory is refused, or where there would be more than 2^32 resources; `apply`
+    /// may be called only after `Ok`. Nothing that is seen changes.
     pub fn reserve_for(&mut self, plan: &ValuePlan) -> Result<(), AllocError>
         ensures unchanged { values_of self.new ≡ values_of self.old }
         ensures ok { OnOk result (HasRoom self.new plan.now) }
     {
         let edits = plan.as_slice();
-        if !have_class_cells(edits) {
-            return Err(AllocError);
-        }
         let new_objects = objects_made(edits);
         self.objects.reserve(new_objects)?;
         self.make_places(edits)?;
@@ -290,13 +286,6 @@ fn uris_added(plan: &[ValueEdit]) -> usize
     ensures { result ≡ count_by is_new_uri plan.now }
 {
     plan.iter().filter(|e| e.is_new_uri()).count()
-}
-
-// Whether each object that a plan makes is of a class that has a cell.
-fn have_class_cells(plan: &[ValueEdit]) -> bool
-    ensures { result ≡ list_all has_class_cell plan.now }
-{
-    plan.iter().all(|e| e.has_class_cell())
 }
 
 // Whether a plan puts a value into any list.

@@ -19,9 +19,8 @@ use Rattle.mm_types.proofs.SameLemmas.{same_end-self, same_end-true}
 use Rattle.links.specs.Links.{end, far_end}
 use Rattle.links.specs.Plans.{AreIncoming, AreInOrder, ArePlacesOf, Lacks, has_end, incoming_end}
 use Rattle.links.specs.LegalSets.{IsLegalSet}
-use Rattle.links.specs.InOrder.{in_order, places_by}
-use Rattle.links.proofs.PlacesLemmas.{places_all}
-use Rattle.links.proofs.PlacesLemmas.{has_end_cases, has_end_left, has_end_right}
+use Rattle.links.specs.Found.{places_by}
+use Rattle.links.proofs.PlacesLemmas.{has_end_cases, has_end_left, has_end_right, incoming-same, places_all}
 use Rattle.node_rows.specs.declared.node_rows.NodeRows.{NodeRows}
 use Rattle.node_rows.specs.declared.slot.Slot.{Slot}
 use Rattle.node_rows.specs.Slots.{slot_in, values_of}
@@ -172,6 +171,6 @@ module _ (t : NodeRows) (kept : ∥ IsStore t ∥₁) (o : ObjectNo) where
       by None q = λ k h. position_lacks ((cells t).vals e) (value.Object o) k q (sym (same k) ∙ h)
       by (Some i) q = same i ∙ position_at ((cells t).vals e) (value.Object o) i q
 
-  -- all places of the object, the ends in order
-  pub entering_places : IsLegalSet (store_links t) → (let is = places_by (found_in (cells t) (value.Object o)) (in_order all) in ArePlacesOf (store_links t) o is × AreInOrder (map incoming_end is))
-  entering_places legal = places_all (store_links t) legal.placed.distinct o (found_in (cells t) (value.Object o)) search_law all entering_is
+  -- all places of the object, in the ends that have it in order
+  pub entering_places : IsLegalSet (store_links t) → (es : List End) → AreInOrder es → ((e : End) → has_end es e ≡ has_end all e) → (let is = places_by (found_in (cells t) (value.Object o)) es in ArePlacesOf (store_links t) o is × AreInOrder (map incoming_end is))
+  entering_places legal es order same = places_all (store_links t) legal.placed.distinct o (found_in (cells t) (value.Object o)) search_law es (incoming-same (store_links t) o all es same entering_is) order

@@ -4,7 +4,6 @@ pub mod StoreLemmas
 pub mod PositionLemmas
 pub mod StandLemmas
 pub mod OnceLemmas
-pub mod GapLemmas
 pub mod CellEditLemmas
 pub mod TellingLemmas
 pub mod RebuiltLemmas

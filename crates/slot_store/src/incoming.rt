@@ -3,7 +3,7 @@ ghost use Rattle.std.specs.Prelude.{◌≡◌, ◌++◌, IfOk, OnOk};
 ghost use Rattle.std.specs.Option.{option_copied, option_to_list};
 ghost use Rattle.mm_types.specs.declared.numbers.Node.TheVariants as node;
 ghost use Rattle.links.specs.LegalSets.{IsDistinct};
-ghost use Rattle.links.specs.InOrder.{place_if, places_by};
+ghost use Rattle.links.specs.Found.{place_if, places_by};
 ghost use Rattle.node_rows.specs.Cells.{cells, row_at};
 ghost use Rattle.node_rows.specs.Rows.{row_slots};
 ghost use Rattle.slot_store.specs.CellLinks.{RepeatNothing};

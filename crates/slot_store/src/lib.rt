@@ -3,7 +3,6 @@
 
 mod edits;
 mod incoming;
-mod order;
 mod search;
 mod slot_store;
 

@@ -10,9 +10,8 @@ ghost use Rattle.slot_store.specs.CellLinks.{IsStore, IsStoreOfKind, Stands, sto
 
 use crate::edits::{edit_rows, value_of};
 use crate::incoming::{entering, places_of};
-use crate::order::ordered;
 use crate::search::{entry_found, found};
-use links::{Incoming, LinkStore, Plan};
+use links::{Incoming, LinkStore, Plan, put_in_order};
 use mm_types::{End, Node, ObjectNo, Value};
 use node_rows::NodeRows;
 use std::alloc::{AllocError, Global};
@@ -65,9 +64,13 @@ impl LinkStore for SlotStore {
     }
 
     fn incoming(&self, alloc: Global, object: ObjectNo) -> Result<Vec<Incoming>, AllocError> {
-        let ends = entering(alloc, &self.rows, object)?;
-        let ends = ordered(alloc, &ends)?;
+        let mut ends = entering(alloc, &self.rows, object)?;
+        put_in_order(&mut ends);
         places_of(alloc, &self.rows, &ends, &Value::Object(object))
+    }
+
+    fn ends_holding(&self, alloc: Global, object: ObjectNo) -> Result<Vec<End>, AllocError> {
+        entering(alloc, &self.rows, object)
     }
 
     fn reserve_for(&mut self, plan: &Plan) -> Result<(), AllocError> {

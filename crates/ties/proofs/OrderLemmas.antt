@@ -4,7 +4,7 @@ use Rattle.std.specs.List.{IsDistinct, list_any}
 use Rattle.mm_types.specs.Same.{same_end}
 use Rattle.mm_types.specs.declared.end.End.{End}
 use Rattle.links.specs.Plans.{AreInOrder, has_end}
-use Rattle.deletion.proofs.OrderLemmas.{order-apart}
+use Rattle.links.proofs.OrderLemmas.{order-apart}
 
 pub ordered-distinct : (es : List End) → AreInOrder es → IsDistinct same_end es
 unfolding IsDistinct

@@ -3,5 +3,5 @@ use Rattle.deletion.specs.Ranks.{staying}
 use Rattle.deletion.proofs.ends.push_staying.Given as goal
 
 -- what is added, and then what is left to add
-abbrev pub invariant-loop-place : goal.invariant-loop-place
-invariant-loop-place l = l.ends.items ++ staying l.numbers (drop l.place-index l.places) ≡ l.fn.ends.items ++ staying l.numbers l.places
+abbrev pub invariant-loop-end : goal.invariant-loop-end
+invariant-loop-end l = l.ends.items ++ staying l.numbers (drop l.end-index l.held_by) ≡ l.fn.ends.items ++ staying l.numbers l.held_by

@@ -1,5 +1,5 @@
 use Rattle.std.proofs.Common.{◌≡◌, ◌++◌, drop}
-use Rattle.links.specs.InOrder.{places_by}
+use Rattle.links.specs.Found.{places_by}
 use Rattle.node_rows.specs.Cells.{cells}
 use Rattle.slot_store.specs.Entering.{found_in}
 use Rattle.slot_store.proofs.incoming.places_of.Given as goal

@@ -9,7 +9,7 @@ pub change-requires : goal.change-requires
 change-requires c =
     let s = c.self.inside in
     let within : c.args.object.0 < length s.lists.items = omega (arith, c.self.invariant.in_range) in
-    let live : is_some c.index.result.now ≡ true = rw c.get.ensures at (sym c.is_some.ensures ∙ c.if-is_some.true) in
+    let live : is_some c.index.result.now ≡ true = sym c.is_some.ensures ∙ c.if-is_some.true in
     live_has s.classes.items s.lists.items s.next c.args.object.0 (λ l. IsReadyFor l c.args.feature.0 c.args.edit) c.index.result.now c.index_mut.result.now c.self.invariant.same_length within c.index.ensures live c.index_mut.ensures.value (rw (← c.self.view_is) at c.requires)
 
 pub returns-then-is_some-clause-objects : goal.returns-then-is_some-clause-objects
@@ -29,6 +29,6 @@ pub returns-else-index-self-clause-objects : goal.returns-else-index-self-clause
 returns-else-index-self-clause-objects c =
     let s = c.self.inside in
     rw (← c.self.view_is) (objects_dead s.classes.items s.lists.items s.next c.args.object.0 (change_list c.args.feature (changed c.args.edit)) c.self.invariant.same_length c.self.invariant.in_range (λ made. elim c.else-index-self.branch [
-      | else-index-self-via-then-index-self+else-is_some w ↦ none_read s.classes.items c.args.object.0 w.index.result.now (omega (arith, c.self.invariant.same_length, c.self.invariant.in_range)) w.index.ensures (rw w.get.ensures at (sym w.is_some.ensures ∙ w.if-is_some.false))
+      | else-index-self-via-then-index-self+else-is_some w ↦ none_read s.classes.items c.args.object.0 w.index.result.now (omega (arith, c.self.invariant.same_length, c.self.invariant.in_range)) w.index.ensures (sym w.is_some.ensures ∙ w.if-is_some.false)
       | else-index-self-via-else-index-self w ↦ absurd (omega (arith, w.if-index-self.false))
     ]))

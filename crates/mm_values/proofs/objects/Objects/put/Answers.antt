@@ -21,6 +21,6 @@ pub returns-else-index-self-clause-objects : goal.returns-else-index-self-clause
 returns-else-index-self-clause-objects c =
     let s = c.self.inside in
     rw (← c.self.view_is) (objects_dead s.classes.items s.lists.items s.next c.args.object.0 (put_stored c.args.feature (record { list = c.args.list; flag = c.args.flag })) c.self.invariant.same_length c.self.invariant.in_range (λ made. elim c.else-index-self.branch [
-      | else-index-self-via-then-index-self+else-is_some w ↦ none_read s.classes.items c.args.object.0 w.index.result.now (omega (arith, c.self.invariant.same_length, c.self.invariant.in_range)) w.index.ensures (rw w.get.ensures at (sym w.is_some.ensures ∙ w.if-is_some.false))
+      | else-index-self-via-then-index-self+else-is_some w ↦ none_read s.classes.items c.args.object.0 w.index.result.now (omega (arith, c.self.invariant.same_length, c.self.invariant.in_range)) w.index.ensures (sym w.is_some.ensures ∙ w.if-is_some.false)
       | else-index-self-via-else-index-self w ↦ absurd (omega (arith, w.if-index-self.false))
     ]))
