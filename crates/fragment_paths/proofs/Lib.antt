@@ -6,3 +6,7 @@ pub mod NameLemmas
 pub mod HeldLemmas
 pub mod FoundLemmas
 pub mod AddressLemmas
+pub mod InsideLemmas
+pub mod ImageLemmas
+pub mod StayLemmas
+pub mod KeptLemmas

@@ -1,9 +1,20 @@
--- What holds of fragments in a legal model: each object that is in a resource has a path, a fragment and an address, and each of
--- them leads to that object.
-use Rattle.std.specs.Prelude.{◌≡◌, Some, option_and_then}
+-- What holds of fragments in legal models: each object that is in a resource has a path, a fragment and an address, and each of
+-- them leads to that object. They follow from what contains what.
+use Rattle.std.specs.Prelude.{◌≡◌, ℕ, true, slice_get, Some, option_and_then}
+use Rattle.mm_types.specs.Lookups as lookups
+use Rattle.mm_types.specs.Resolved.{Metamodel}
+use Rattle.mm_types.specs.Shapes.{is_containment}
+use Rattle.mm_types.specs.declared.numbers.FeatureNo.{FeatureNo}
+use Rattle.mm_types.specs.declared.numbers.Node.{Node}
+use Rattle.mm_types.specs.declared.numbers.Node.TheVariants as node
 use Rattle.mm_types.specs.declared.numbers.ObjectNo.{ObjectNo}
 use Rattle.mm_types.specs.declared.numbers.ResourceNo.{ResourceNo}
-use Rattle.models.specs.Reading.{Reading}
+use Rattle.mm_types.specs.declared.value.Value.TheVariants as value
+use Rattle.mm_values.specs.Values.{ValuesState}
+use Rattle.links.specs.Holders.{above}
+use Rattle.links.specs.Links.{Links}
+use Rattle.models.specs.Model.{model_of, reading, values_at}
+use Rattle.models.specs.Reading.{Reading, at_end}
 use Rattle.containment.specs.Above.{resource_of}
 use Rattle.fragment_paths.specs.Finding.{at, find, found_by}
 use Rattle.fragment_paths.specs.Fragments as fragments
@@ -16,3 +27,33 @@ pub record IsFound (r : Reading) (o : ObjectNo) (k : ResourceNo) : Type 0 where
 -- each object in its resource
 abbrev pub FindsEach : Reading → Type 0
 FindsEach r = (o : ObjectNo) (k : ResourceNo) → resource_of r.above o ≡ Some k → IsFound r o k
+
+---------------------------------------------------------------- two models of one metamodel
+
+-- each end that contains holds the same in both
+abbrev pub HaveSameParts : Metamodel → ValuesState → ValuesState → Links → Links → Type 0
+HaveSameParts m v w a b = (n : Node) (f : FeatureNo) → is_containment m f ≡ true → values_at (model_of m w b) (at_end n f) ≡ values_at (model_of m v a) (at_end n f)
+
+-- then the nodes above each node are the same, and each object keeps its fragment, and, where the URIs are the same, its address
+pub record LeavesAddresses (m : Metamodel) (v w : ValuesState) (a b : Links) : Type 0 where
+  pub above : (n : Node) → above b n ≡ above a n
+  pub fragment : (o : ObjectNo) → fragments.fragment (reading (model_of m w b)) o ≡ fragments.fragment (reading (model_of m v a)) o
+  pub address : w.uris ≡ v.uris → (o : ObjectNo) → fragments.address (reading (model_of m w b)) o ≡ fragments.address (reading (model_of m v a)) o
+
+-- where an object stands as a root of resource k of the first model, its image stands as one of resource j of the second
+abbrev pub HasImagesOfRoots : Metamodel → ValuesState → ValuesState → Links → Links → ResourceNo → ResourceNo → (ObjectNo → ObjectNo) → Type 0
+HasImagesOfRoots m v w a b k j image =
+    (i : ℕ) (c : ObjectNo) → slice_get (values_at (model_of m v a) (at_end (node.Resource k) (lookups.contents m))) i ≡ Some (value.Object c)
+    → slice_get (values_at (model_of m w b) (at_end (node.Resource j) (lookups.contents m))) i ≡ Some (value.Object (image c))
+
+-- where an object of resource k contains another, its image contains the other's image, at the same place
+abbrev pub HasImagesOfParts : Metamodel → ValuesState → ValuesState → Links → Links → ResourceNo → (ObjectNo → ObjectNo) → Type 0
+HasImagesOfParts m v w a b k image =
+    (o : ObjectNo) (f : FeatureNo) (i : ℕ) (c : ObjectNo) → resource_of (above a) o ≡ Some k → is_containment m f ≡ true
+    → slice_get (values_at (model_of m v a) (at_end (node.Object o) f)) i ≡ Some (value.Object c)
+    → slice_get (values_at (model_of m w b) (at_end (node.Object (image o)) f)) i ≡ Some (value.Object (image c))
+
+-- then the image of each object of resource k is in resource j, at the same path
+pub record IsImageAt (m : Metamodel) (v w : ValuesState) (a b : Links) (j : ResourceNo) (image : ObjectNo → ObjectNo) (o : ObjectNo) : Type 0 where
+  pub inside : resource_of (above b) (image o) ≡ Some j
+  pub path : fragments.path_of (reading (model_of m w b)) (image o) ≡ fragments.path_of (reading (model_of m v a)) o

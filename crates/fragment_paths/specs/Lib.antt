@@ -1,5 +1,6 @@
 pub mod Fragments
 pub mod Finding
+pub mod Kept
 pub mod Known
 pub mod Located
 pub mod Laws

@@ -8,11 +8,13 @@ mod ends;
 mod finding;
 mod fragments;
 pub mod laws;
+mod path_cache;
 mod paths;
 mod places;
 
 pub use ends::roots_end;
 pub use finding::{find, object_at};
 pub use fragments::{address, reference, write};
+pub use path_cache::PathCache;
 pub use places::Places;
 pub use web_uris::{Path, Step, parse};

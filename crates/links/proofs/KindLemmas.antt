@@ -87,7 +87,7 @@ module _ (m : Kinds) where
   kinds_cut_value s e v ks = kinds_cut_some s (find (has_value e v) (set.items s)) ks
 
 module _ (m : Kinds) (ok : AreKinds m) where
-  edited_kinds : (s : Links) (x : Edit) → AreOfKind m s → IsEditOfKind m x → AreOfKind m (edited s x)
+  pub edited_kinds : (s : Links) (x : Edit) → AreOfKind m s → IsEditOfKind m x → AreOfKind m (edited s x)
   edited_kinds s (edit.Cut e n) ks is = kinds_cut_value m s e (value.Object n) ks
   edited_kinds s (edit.Put e i n g c) ks is = subst (λ (t : Links). AreOfKind m t) (λ j. put s e i n (sym is.0 j) (sym is.1 j)) (kinds_put m ok s e i n ks)
   edited_kinds s (edit.Shift e to from) ks is = kinds_shift m s e to from ks

@@ -26,4 +26,5 @@ pub mod GoneLemmas
 pub mod RankLemmas
 pub mod OrderLemmas
 pub mod PlacesLemmas
+pub mod TouchLemmas
 mod Examples

@@ -1,5 +1,5 @@
 -- What each edit makes of a legal set: of its ends, and of who holds what.
-use Rattle.std.specs.Prelude.{◌≡◌, ◌&&◌, ◌||◌, ℕ, ◌≤◌, Bool, false, List, [], ◌∷◌, ◌++◌, filter, fold, insert, length, map, not, Option, Some, None, option_and_then, if◌then◌else◌}
+use Rattle.std.specs.Prelude.{◌≡◌, ◌&&◌, ◌||◌, ℕ, ◌≤◌, Bool, false, List, [], ◌∷◌, ◌++◌, filter, fold, insert, length, map, not, Option, Some, None, is_some, option_and_then, if◌then◌else◌}
 use Rattle.std.specs.List.{AllByRecursion, list_any}
 use Rattle.std.specs.Option.{option_map_or, option_or}
 use Rattle.mm_types.specs.Same.{is_feature, node_value, same_end, same_feature, same_node, same_value}
@@ -162,3 +162,21 @@ pub record WithoutNodesMakes (s : Links) (gone : Node → Bool) : Type 0 where
 -- the names are those of the links that name a node that goes
 abbrev pub NameLinksOf : Kinds → Links → (Node → Bool) → List (End × Value) → Type 0
 NameLinksOf m s gone ts = (d : End) (w : Value) → Has s d w → is_named m ts d w ≡ (gone d.node || goes gone w)
+
+---------------------------------------------------------------- containment
+
+-- the end at which an edit is named
+abbrev pub edit_end : Edit → End
+edit_end (edit.Cut e o) = e
+edit_end (edit.Put e i o g c) = e
+edit_end (edit.Shift e to from) = e
+edit_end (edit.PutProxy e i t) = e
+edit_end (edit.CutProxy e t) = e
+
+-- a feature is one of a pair that contains, or contains alone
+abbrev pub contains_by : Kinds → FeatureNo → Bool
+contains_by m f = is_some (m.container f)
+
+-- some edit is one of a link that contains
+abbrev pub touches_containment : Kinds → List Edit → Bool
+touches_containment m plan = list_any (λ x. contains_by m (edit_end x).feature) plan

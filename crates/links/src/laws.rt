@@ -14,9 +14,9 @@ ghost use Rattle.links.specs.declared.link.Link.{Link};
 ghost use Rattle.links.specs.declared.plan.Edit.{Edit};
 ghost use Rattle.links.specs.declared.plan.Edit.TheVariants as edit;
 ghost use Rattle.links.specs.Holders.{HasNoCycle, IsForest, IsUnder, above, holder};
-ghost use Rattle.links.specs.Laws.{AreOnce, AreThere, BothEndsAgree, CutByNameMakes, CutMakes, CutsByNameMake, HaveSameEnds, IsPutOutside, NameLinksOf, PutGives, PutMakes, PutProxyMakes, ShiftMakes, WithoutNodesMakes, cut_edits, without_all};
+ghost use Rattle.links.specs.Laws.{AreOnce, AreThere, BothEndsAgree, CutByNameMakes, CutMakes, CutsByNameMake, HaveSameEnds, IsPutOutside, NameLinksOf, PutGives, PutMakes, PutProxyMakes, ShiftMakes, WithoutNodesMakes, contains_by, cut_edits, touches_containment, without_all};
 ghost use Rattle.links.specs.LegalSets.{AreKinds, AreOfKind, IsLegalSet, Kinds};
-ghost use Rattle.links.specs.Links.{In, Links, cut_value, no_links, put, without_nodes};
+ghost use Rattle.links.specs.Links.{In, Links, cut_value, end, no_links, put, without_nodes};
 ghost use Rattle.links.specs.Plans.{EditFits, IsPlanOfKind, MakesNoCycle, PlanFits, PlanMakesNoCycle, applied};
 
 /// No links are a legal set, of any kinds of features, without cycles.
@@ -147,6 +147,11 @@ pub fn a_set_without_nodes_names_none_of_them()
 /// What a shift makes of each end, and of the holders.
 pub fn a_shift_moves_in_one_end()
     ensures { (s : Links) (e : End) (to from : ℕ) → IsLegalSet s → EditFits s (edit.Shift e to from) → ShiftMakes s e to from }
+{}
+
+/// A plan that edits no link that contains leaves each end of a feature that contains, or whose opposite contains, as it was.
+pub fn a_plan_of_other_links_leaves_what_contains()
+    ensures { (m : Kinds) → AreKinds m → (s : Links) (plan : List Edit) → IsLegalSet s → AreOfKind m s → PlanFits s plan → IsPlanOfKind m plan → touches_containment m plan ≡ false → (d : End) → contains_by m d.feature ≡ true → end (applied s plan) d ≡ end s d }
 {}
 
 /// Links of the kinds of features agree at both ends.

@@ -1,4 +1,7 @@
 //! Edits of links.
+ghost use Rattle.std.specs.Prelude.{◌≡◌};
+ghost use Rattle.links.specs.Laws.{edit_end};
+
 use mm_types::{End, FeatureNo, ObjectNo, Seq, Text};
 
 /// One edit. A cut names its link by an end and the value there, which no other edit renumbers.
@@ -34,6 +37,21 @@ pub enum Edit {
         end: End,
         text: Text,
     },
+}
+
+impl Edit {
+    /// The end that it names. Takes no memory.
+    pub fn end(&self) -> End
+        ensures { result ≡ edit_end self.now }
+    {
+        match self {
+            Edit::Cut { end, .. }
+            | Edit::Put { end, .. }
+            | Edit::Shift { end, .. }
+            | Edit::PutProxy { end, .. }
+            | Edit::CutProxy { end, .. } => *end,
+        }
+    }
 }
 
 /// Edits, which are made in their order.

@@ -11,3 +11,4 @@ pub mod ResourceLemmas
 pub mod DocumentLemmas
 pub mod ReadLemmas
 pub mod RunLemmas
+pub mod RememberedLemmas

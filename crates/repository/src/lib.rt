@@ -8,6 +8,7 @@ pub mod laws;
 mod leaving;
 mod preparing;
 mod reads;
+mod remembered;
 mod reply;
 mod repository;
 

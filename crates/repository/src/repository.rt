@@ -15,6 +15,7 @@ mod validation;
 
 use adapter_list::AdapterList;
 use adapters::Adapter;
+use fragment_paths::PathCache;
 use links::LinkStore;
 use mm_meta::Meta;
 use mm_values::Values;
@@ -35,6 +36,8 @@ pub struct Repository<L: LinkStore, A: Adapter = Box<dyn Adapter>> {
     values: Values,
     store: L,
     adapters: AdapterList<A>,
+    /// Fragments that were asked for, until a containing link changes.
+    paths: PathCache,
 }
 
 impl<L: LinkStore, A: Adapter> Model for Repository<L, A> {
@@ -65,6 +68,7 @@ impl<L: LinkStore, A: Adapter> Repository<L, A> {
             values: Values::new(alloc),
             store: L::empty(alloc),
             adapters: AdapterList::new(alloc),
+            paths: PathCache::new(alloc),
         }
     }
 

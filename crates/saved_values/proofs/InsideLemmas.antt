@@ -26,18 +26,13 @@ use Rattle.containment.proofs.PartLemmas.{IsPart, all-objects, contents-parts, h
 use Rattle.containment.specs.Above.{resource_of}
 use Rattle.containment.specs.Forest.{contents, subtree, tree}
 use Rattle.fragment_paths.proofs.HeldLemmas.{held, root-found}
-use Rattle.fragment_paths.proofs.UpLemmas.{locate-falls, resource-none, resource-part, resource-root}
+use Rattle.fragment_paths.proofs.InsideLemmas.{contents-contains, each-inside}
+use Rattle.fragment_paths.proofs.UpLemmas.{resource-part, resource-root}
 use Rattle.fragment_paths.specs.Finding.{roots}
 use Rattle.fragment_paths.specs.Fragments.{place_in, roots_end}
 use Rattle.saved_docs.proofs.RootLemmas.{live-at, roots-live}
 use Rattle.saved_docs.specs.Written.{objects_in}
 use Rattle.saved_values.proofs.ListLemmas.{among-found, found-among, in-all}
-
--- the feature that holds a resource's roots contains
-pub contents-contains : (m : Metamodel) → is_containment m (lookups.contents m) ≡ true
-contents-contains m =
-    let f = lookups.contents m in
-    ap (λ (x : Option Feature). is_feature f (option_map_or (λ g. shape_of m f g g.kind) x (contents_shape m)).containing) (slice_get_past m.features (length m.features) (omega arith)) ∙ eq-eqb f.0 f.0 refl
 
 -- a root of a resource, and an object in its tree
 record IsUnderRoot (s : Model) (k : ResourceNo) (o : ObjectNo) : Type 0 where
@@ -78,28 +73,6 @@ module _ (s : Model) (legal : IsLegal s) where
 
   ---------------------------------------------------------------- up the holders
 
-  -- what holds of each root of a resource, and of an object where it holds of its holder, holds of each object of the resource
-  module _ (P : ObjectNo → Type 0) (k : ResourceNo) (at_root : (o : ObjectNo) (e : End) → holder s.links (node.Object o) ≡ Some e → e.node ≡ node.Resource k → P o)
-      (at_part : (o : ObjectNo) (e : End) (p : ObjectNo) → holder s.links (node.Object o) ≡ Some e → e.node ≡ node.Object p → resource_of (reading s).above p ≡ Some k → P p → P o) where
-    by-holder : (o : ObjectNo) (e : End) → holder s.links (node.Object o) ≡ Some e → resource_of (reading s).above o ≡ Some k
-        → ((p : ObjectNo) → e.node ≡ node.Object p → resource_of (reading s).above p ≡ Some k → P p) → P o
-    by-holder o e h inside up = by e.node refl
-      where
-        by : (n : Node) → e.node ≡ n → P o
-        by (node.Object p) is = let above = sym (resource-part s legal o e p h is) ∙ inside in at_part o e p h is above (up p is above)
-        by (node.Resource j) is = at_root o e h (is ∙ ap node.Resource (same_Some j k (sym (resource-root s legal o e j h is) ∙ inside)))
-
-    up-from : (n : ℕ) (o : ObjectNo) → length (above s.links (node.Object o)) < n → resource_of (reading s).above o ≡ Some k → P o
-    up-from zero o low inside = absurd (omega (arith, low))
-    up-from (suc n) o low inside =
-        elim (holder s.links (node.Object o)) as (λ x. holder s.links (node.Object o) ≡ x → P o) [
-          | None ↦ λ none. absurd (none-some k (sym (resource-none s legal o none) ∙ inside))
-          | Some e ↦ λ h. by-holder o e h inside (λ p is within. let less = locate-falls s legal o e p (sym h) is in up-from n p (omega (arith, less, low)) within)
-        ] refl
-
-    pub each-inside : (o : ObjectNo) → resource_of (reading s).above o ≡ Some k → P o
-    each-inside o inside = up-from (suc (length (above s.links (node.Object o)))) o (omega arith) inside
-
   -- each object of a resource is a root of it or below one
   root-under : (k : ResourceNo) (o : ObjectNo) (e : End) → holder s.links (node.Object o) ≡ Some e → e.node ≡ node.Resource k → IsUnderRoot s k o
   root-under k o e h is = record {
@@ -123,7 +96,7 @@ module _ (s : Model) (legal : IsLegal s) where
   pub inside-written : (k : ResourceNo) (o : ObjectNo) → resource_of (reading s).above o ≡ Some k → Contains (objects_in (reading s) k) o
   inside-written k o inside =
       let r = reading s in
-      let under = each-inside (IsUnderRoot s k) k (root-under k) (λ c e p h is _ up. part-under k c e p h is up) o inside in
+      let under = each-inside s legal (IsUnderRoot s k) k (root-under k) (λ c e p h is _ up. part-under k c e p h is up) o inside in
       let low = slice_get_within (roots r k) under.place under.root under.there in
       let live : is_live r under.root ≡ true = subst (λ (x : ObjectNo). is_live r x ≡ true) (get_or_from_slice_get (roots r k) under.place under.root under.root under.there) (live-at r (roots r k) under.place under.root low (roots-live s k legal)) in
       in-all (subtree r) (roots r k) under.place under.root o under.there (among-found (subtree r under.root) o (subtree-has s legal under.root (node.Object o) live ∙ under.below))

@@ -25,7 +25,8 @@ use Rattle.doc_parts.proofs.WayLemmas.{same_path_self, same_path_tells}
 use Rattle.doc_parts.specs.Parts.{Part}
 use Rattle.saved_docs.specs.Written.{objects_in}
 use Rattle.saved_parts.specs.Parts.{part_of, path_in}
-use Rattle.saved_values.proofs.InsideLemmas.{each-inside, written-inside}
+use Rattle.fragment_paths.proofs.InsideLemmas.{each-inside}
+use Rattle.saved_values.proofs.InsideLemmas.{written-inside}
 use Rattle.saved_values.proofs.ListLemmas.{position-map}
 use Rattle.saved_values.specs.Laws.{IsPlaced}
 

@@ -10,6 +10,7 @@ ghost use Rattle.repository.specs.Proper.{IsProper};
 use super::Repository;
 use crate::leaving::notify;
 use crate::preparing::{Prepared, prepare, reserve};
+use crate::remembered::forget_touched;
 use crate::reply::Reply;
 use adapters::Adapter;
 use handshake::{Change, early_refusal};
@@ -113,6 +114,7 @@ impl<L: LinkStore, A: Adapter> Repository<L, A> {
             Ok(reserved) => reserved,
             Err(refused) => return Err(refused),
         };
+        forget_touched(&mut self.paths, &self.meta, &planned.edits);
         // The edits.
         self.store.apply(planned.edits);
         self.values.apply(planned.values);

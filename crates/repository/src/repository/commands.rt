@@ -77,7 +77,9 @@ impl<L: LinkStore, A: Adapter> Repository<L, A> {
             Command::Resource(object) => outcome(replied_resource(alloc, self.e_resource(object))),
             Command::Contents(node) => outcome(replied_objects(alloc, self.e_contents(node))),
             Command::Validate(object) => outcome(replied_features(alloc, self.validate(object))),
-            Command::Fragment(object) => outcome(replied_fragment(alloc, self.fragment(object))),
+            Command::Fragment(object) => {
+                outcome(replied_fragment(alloc, self.remembered_fragment(object)))
+            }
             Command::ObjectAt(text) => {
                 outcome(replied_found(alloc, self.object_at(text.as_str())))
             }

@@ -1,6 +1,8 @@
 //! Fragments, addresses and the texts of resources.
-ghost use Rattle.std.specs.Prelude.{◌≡◌};
+ghost use Rattle.std.specs.Prelude.{◌≡◌, IfOk};
+ghost use Rattle.fragment_paths.specs.Fragments.{fragment as fragment_in};
 ghost use Rattle.repository.specs.Run.{Executed, read_outcome};
+ghost use Rattle.repository.specs.State.{reads};
 ghost use Rattle.repository.specs.declared.command.Command.TheVariants.{Fragment, ObjectAt, Save};
 ghost use Rattle.repository.specs.declared.reply.Answer.TheVariants as answer;
 
@@ -12,6 +14,7 @@ use links::LinkStore;
 use mm_types::{Node, ObjectNo, Refused, ResourceNo, Text};
 use models::is_short_text;
 use saved_docs::write_doc;
+use std::alloc::AllocError;
 use web_uris::split_address;
 
 impl<L: LinkStore, A: Adapter> Repository<L, A> {
@@ -27,10 +30,35 @@ impl<L: LinkStore, A: Adapter> Repository<L, A> {
         if model.class(object).is_none() {
             return Err(Refused::NoObject);
         }
-        match write(self.alloc, &model, object)? {
+        match self.fragment_of(object)? {
             Some(fragment) => Ok(fragment),
             None => Err(Refused::Dangling),
         }
+    }
+
+    // The fragment of an object, as it is remembered or computed; `None` where the object is in no resource.
+    fn fragment_of(&self, object: ObjectNo) -> Result<Option<Text>, AllocError>
+        ensures { IfOk result (λ t. t ≡ fragment_in (reads self.now) object) }
+    {
+        match self.paths.get(object) {
+            Some(kept) => {
+                let fragment = Text::from_str(self.alloc, kept)?;
+                Ok(Some(fragment))
+            }
+            None => write(self.alloc, &self.model(), object),
+        }
+    }
+
+    /// The same as `fragment`. Besides, the answer is remembered while no containing link changes, for up to 1,024 objects, so that it need not
+    /// be computed again.
+    pub(super) fn remembered_fragment(&mut self, object: ObjectNo) -> Result<Text, Refused>
+        ensures { Executed self.old (Fragment object) (read_outcome answer.Fragment result) self.new }
+    {
+        let fragment = self.fragment(object)?;
+        if self.paths.get(object).is_none() {
+            self.paths.keep(object, fragment.as_str());
+        }
+        Ok(fragment)
     }
 
     /// The object at an address, the URI of a resource, `#` and a fragment (EMF: ResourceSet.getEObject, without loading); `None` where no resource

@@ -9,6 +9,10 @@ use Rattle.adapter_list.specs.Rounds.{RoundView, delivered, round_copies}
 use Rattle.adapter_list.proofs.RoundLemmas.{delivered-round_copies}
 use Rattle.links.specs.Links.{Links}
 use Rattle.links.specs.Plans as links
+use Rattle.std.specs.FinMap as map
+use Rattle.std.specs.Prelude.{if◌then◌else◌}
+use Rattle.links.specs.Laws.{touches_containment}
+use Rattle.models.specs.Legal as models
 use Rattle.models.specs.Legal.{kinds_of}
 use Rattle.models.specs.Model.{Model, model_of, reading}
 use Rattle.handshake.specs.Laws.{goes_with}
@@ -20,10 +24,11 @@ use Rattle.repository.specs.Leaving.{leavers}
 use Rattle.repository.specs.Laws.{HasSteadyUris}
 use Rattle.repository.specs.Proper.{IsProper}
 use Rattle.repository.specs.Views.{command_of}
-use Rattle.repository.specs.Repository.{state}
+use Rattle.repository.specs.Repository.{KeepsFragments, state}
 use Rattle.repository.specs.State.{IsLegal, State, reads}
 use Rattle.repository.proofs.AdapterLemmas.{Heard, heard_where_attached}
 use Rattle.repository.proofs.LeavingLemmas.{leavers_known}
+use Rattle.repository.proofs.RememberedLemmas.{kept-after}
 use Rattle.repository.proofs.PlanLemmas.{chain_err, changed_to, planned_err, releases_of}
 use Rattle.repository.proofs.LegalLemmas.{stepped-legal, steady-of}
 use Rattle.repository.proofs.repository.Repository.carry_out.Goals as goal
@@ -94,8 +99,17 @@ invariant_of-self-2 g c =
     let is : c.model-model.result ≡ s.model = c.model-model.ensures ∙ ap (λ (t : State). t.model) (sym c.self.view_is) in
     let text : List ℕ = c.requires.proper.0 in
     let proper : IsProper (reads s) text c.args.change = subst (λ (t : State). IsProper (reads t) text c.args.change) (sym c.self.view_is) c.requires.proper.1 in
-    let of_kind = (subst (λ (m : Model). IsPlanOf (nat_lt 0 (length s.adapters)) m c.args.change c.in-Ok.prepared.planned) is c.in-Ok.ensures.planned).of_kind in
+    let plan = subst (λ (m : Model). IsPlanOf (nat_lt 0 (length s.adapters)) m c.args.change c.in-Ok.prepared.planned) is c.in-Ok.ensures.planned in
+    let edits = c.in-Ok.prepared.planned.edits in
+    let legal = stepped-legal _ _ (command_of text c.args.change) _ (subst (λ (t : State). HasSteadyUris t (command_of text c.args.change)) c.self.view_is (steady-of s text c.args.change proper)) (subst IsLegal c.self.view_is c.self.invariant.legal) (returns g c text c.requires.proper.1) in
+    let m = c.self.inside.meta in
+    let w = values_of c.apply-2.new.self in
+    let made = c.apply.ensures.links ∙ ap (λ (l : Links). links.applied l edits) c.reserve.ensures.links in
+    let after = subst (λ (l : Links). models.IsLegal (model_of m w l)) made legal.model in
     record {
-      legal = stepped-legal _ _ (command_of text c.args.change) _ (subst (λ (t : State). HasSteadyUris t (command_of text c.args.change)) c.self.view_is (steady-of s text c.args.change proper)) (subst IsLegal c.self.view_is c.self.invariant.legal) (returns g c text c.requires.proper.1);
-      kinds_are = c.apply.ensures.kinds (kinds_of c.self.inside.meta) (c.reserve.ensures.kinds (kinds_of c.self.inside.meta) c.self.invariant.kinds_are) of_kind;
+      legal = legal;
+      kinds_are = c.apply.ensures.kinds (kinds_of m) (c.reserve.ensures.kinds (kinds_of m) c.self.invariant.kinds_are) plan.of_kind;
+      paths = subst (KeepsFragments (reading (model_of m w (g.L.LinkStore.links c.apply.new.self)))) (sym c.forget_touched.ensures)
+        (subst (λ (l : Links). KeepsFragments (reading (model_of m w l)) (if touches_containment (kinds_of m) edits then map.empty else c.self.inside.paths)) (sym made)
+        (kept-after m (values_of c.self.inside.values) w (g.L.LinkStore.links c.self.inside.store) edits c.self.invariant.legal.model after plan.fits plan.of_kind c.self.inside.paths c.self.invariant.paths));
     }

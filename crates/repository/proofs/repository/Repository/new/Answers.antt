@@ -3,6 +3,7 @@ use Rattle.std.specs.List.{IsDistinct}
 use Rattle.models.specs.Legal.{kinds_of}
 use Rattle.models.proofs.EmptyLemmas.{empty-legal}
 use Rattle.handshake.proofs.KnownLemmas.{kinds-are}
+use Rattle.repository.proofs.RememberedLemmas.{none-kept}
 use Rattle.repository.proofs.repository.Repository.new.Goals as goal
 
 pub invariant_of-result : goal.invariant_of-result
@@ -12,4 +13,5 @@ invariant_of-result g c =
     record {
       legal = rw (c.new.ensures, c.new-2.ensures, c.empty.ensures.links) (record { model = empty-legal c.args.meta accepted; few = omega arith; distinct = tt; adapters = search rules });
       kinds_are = c.empty.ensures.kinds (kinds_of c.args.meta) (kinds-are c.args.meta accepted);
+      paths = rw c.new-4.ensures (none-kept _);
     }

@@ -1,0 +1,98 @@
+//! Fragments that are remembered.
+ghost use Rattle.std.specs.FinMap as map;
+ghost use Rattle.std.specs.Option.{option_copied};
+ghost use Rattle.std.specs.Prelude.{◌≡◌, ◌⊎◌, false};
+ghost use Rattle.fragment_paths.specs.Kept as kept;
+
+use indexmap::IndexMap;
+use mm_types::{ObjectNo, Text};
+use std::alloc::Global;
+use std::marker::Model;
+
+/// How many fragments are remembered at most.
+const MOST: usize = 1_024;
+
+/// Fragments of objects, remembered so that one that is asked for again is not computed again. Contracts see it as a finite map from
+/// the numbers of objects to texts. It holds at most 1,024 texts.
+#[derive(Drop)]
+pub struct PathCache {
+    texts: IndexMap<u32, Text>,
+}
+
+impl Model for PathCache {
+    ghost use Rattle.std.specs.Coded.{codes};
+    ghost use Rattle.std.specs.FinMap as map;
+    ghost use Rattle.std.specs.Prelude.{◌≡◌, ◌≤◌, length};
+    ghost use Rattle.fragment_paths.specs.Kept.{Kept, kept_map};
+
+    ghost Value = { Kept };
+
+    ghost coded = { map.code (Prim.hlevel codes) (Prim.hlevel codes) };
+
+    ghost view = { λ c. kept_map c.texts.entries };
+
+    ghost invariant = { λ c. (map.len (kept_map c.texts.entries) ≡ length c.texts.entries) × (length c.texts.entries ≤ 1024) };
+}
+
+impl PathCache {
+    /// No texts. Takes no memory.
+    pub fn new(alloc: Global) -> Self
+        ensures { result ≡ map.empty }
+    {
+        PathCache {
+            texts: IndexMap::new(alloc),
+        }
+    }
+
+    /// The text that is kept of an object, if there is one. Takes no memory.
+    pub fn get(&self, object: ObjectNo) -> Option<&str>
+        ensures { option_copied result ≡ map.get self.now object.0 }
+    {
+        let text = self.texts.get(&object.0)?;
+        Some(text.as_str())
+    }
+
+    /// Keeps the text of an object, in the place of the one that was kept of it. Where 1,024 texts are kept, and none of the object,
+    /// they all go first. Where memory is refused the text is not kept.
+    pub fn keep(&mut self, object: ObjectNo, text: &str)
+        ensures { kept.MayKeep self.old object text.now self.new }
+    {
+        self.make_room(object);
+        let alloc = *self.texts.allocator();
+        match Text::from_str(alloc, text) {
+            Ok(text) => self.put(object, text),
+            Err(_) => {}
+        }
+    }
+
+    /// Lets all texts go. Takes no memory.
+    pub fn clear(&mut self)
+        ensures { self.new ≡ map.empty }
+    {
+        self.texts.clear();
+    }
+
+    // Whether there is no room for the text of an object.
+    fn is_full_for(&self, object: ObjectNo) -> bool
+        ensures { result ≡ kept.is_full_for self.now object }
+    {
+        self.texts.len() >= MOST && !self.texts.contains_key(&object.0)
+    }
+
+    // Makes room for the text of an object.
+    fn make_room(&mut self, object: ObjectNo)
+        ensures { self.new ≡ kept.with_room self.old object }
+    {
+        if self.is_full_for(object) {
+            self.clear();
+        }
+    }
+
+    // Keeps a text, for which there is room.
+    fn put(&mut self, object: ObjectNo, text: Text)
+        requires { kept.is_full_for self.old object ≡ false }
+        ensures { (self.new ≡ map.insert self.old object.0 text) ⊎ (self.new ≡ self.old) }
+    {
+        let _ = self.texts.insert(object.0, text);
+    }
+}
