@@ -1,17 +1,22 @@
 -- How many copies each place gets, and whether its adapter is ready for them.
-use Rattle.std.proofs.Common.{◌≡◌, ℕ, ◌+◌, ◌≤◌, ◌<◌, ◌^◌, zero, suc, Bool, true, false, cond, ◌&&◌, ◌||◌, nat_eq, nat_lt, nat_le, List, [], ◌∷◌, map, filter, length, drop, get_or, slice_get, slice_index, Some, None, Option, unwrap_or, refl, sym, ap, subst, inl, inr, ◌∙◌, arith, le-leb, leb-true, eqb-true, if◌then◌else◌}
-use Rattle.std.specs.List.{list_any}
-use Rattle.std.specs.Option.{IfSome, IsSomeAnd, option_map_or}
-use Rattle.std.proofs.lemmas.Bool.{eqb-false}
+use Rattle.std.proofs.Common.{◌≡◌, ℕ, ◌+◌, ◌≤◌, ◌<◌, ◌^◌, zero, suc, Bool, true, false, cond, ◌&&◌, ◌||◌, nat_eq, nat_lt, nat_le, List, [], ◌∷◌, map, filter, length, drop, get_or, slice_get, slice_index, Some, None, Option, unwrap_or, refl, sym, ap, subst, inl, inr, ◌∙◌, arith, le-leb, leb-true, eqb-true, eq-eqb, if◌then◌else◌}
+use Rattle.std.specs.List.{AllByRecursion, list_any}
+use Rattle.std.specs.List.Sorted.{IsStrictlySortedBy}
+use Rattle.std.specs.Ordering.{is_eq, nat_cmp}
+use Rattle.std.specs.declared.cmp.Ordering.TheVariants.{Less}
+use Rattle.std.proofs.lemmas.Bool.Decides.{nat_tests}
+use Rattle.std.specs.Option.{option_map_or}
+use Rattle.std.proofs.lemmas.Bool.{eqb-false, false≢true, ne_eqb}
 use Rattle.std.proofs.lemmas.List.{drop_all, drop_more}
 use Rattle.std.proofs.lemmas.List.Elements.{All-get_or}
 use Rattle.adapters.specs.declared.adapter.NoRoom.{NoRoom}
 use Rattle.adapters.specs.declared.adapter.NoRoom.TheVariants as room
+use Rattle.mm_types.specs.declared.refused.Refused.TheVariants as refused
 use Rattle.notice_chain.specs.View.{View}
 use Rattle.notice_chain.specs.Listed.{Above, Listed, heard_of, is_full, is_chain_full}
 use Rattle.notice_chain.specs.declared.notice.Notice.{Notice}
 use Rattle.adapter_list.specs.Attached.{HasReserve}
-use Rattle.adapter_list.specs.Counts.{IsCounted, IsFullFor, IsReadyFor, copies_len, told_at_place}
+use Rattle.adapter_list.specs.Counts.{IsCounted, IsFirstFull, IsFullFor, IsReadyFor, copies_len, is_place_of, told_at_place}
 use Rattle.adapter_list.specs.Refusals.{IsChainRefusal, refusal_of}
 use Rattle.adapter_list.specs.Rounds.{round_copies}
 use Rattle.adapter_list.proofs.DeliveryLemmas.{copies_for-here, copies_for-other}
@@ -65,59 +70,130 @@ module _ (cs : List (ℕ × Notice)) (i : ℕ) (x : ℕ × Notice) (low : i < le
 pub counted-all : (cs : List (ℕ × Notice)) (i k : ℕ) (o : Option ℕ) → length cs ≤ i → IsCounted o (copies_len (drop i cs) k) (copies_len cs k) → IsCounted o 0 (copies_len cs k)
 counted-all cs i k o past h = subst (λ (ds : List (ℕ × Notice)). IsCounted o (copies_len ds k) (copies_len cs k)) (drop_all i cs past) h
 
+----------------------------------------------------------------- the places that get copies
+
+set-is : (ks : List ℕ) (k : ℕ) → list_any (nat_eq k) ks ≡ list_any (λ y. is_eq (nat_cmp k y)) ks
+set-is [] k = refl
+set-is (y ∷ ks) k = ap (λ b. b || list_any (nat_eq k) ks) (sym (eq-is k y)) ∙ ap (λ b. is_eq (nat_cmp k y) || b) (set-is ks k)
+  where
+    eq-is : (i j : ℕ) → is_eq (nat_cmp i j) ≡ nat_eq i j
+    eq-is i j = grind (arith, nat_tests)
+
+pub place-more : (cs : List (ℕ × Notice)) (i k : ℕ) (x : ℕ × Notice) (b new all : Bool) → i < length cs → x ≡ get_or cs i x → new ≡ cond (is_eq (nat_cmp x.0 k)) true b → (b || is_place_of (drop i cs) k) ≡ all → (new || is_place_of (drop (i + 1) cs) k) ≡ all
+place-more cs i k x b new all low is now whole =
+    ap (λ c. c || is_place_of (drop (i + 1) cs) k) (now ∙ ap (λ c. cond c true b) (eq-is x.0 k))
+    ∙ step b (nat_eq x.0 k) (is_place_of (drop (i + 1) cs) k)
+    ∙ ap (λ (ds : List (ℕ × Notice)). b || is_place_of ds k) (sym (first cs i x low is))
+    ∙ whole
+  where
+    eq-is : (m n : ℕ) → is_eq (nat_cmp m n) ≡ nat_eq m n
+    eq-is m n = grind (arith, nat_tests)
+
+    step : (c p r : Bool) → (cond p true c || r) ≡ (c || (p || r))
+    step true true r = refl
+    step true false r = refl
+    step false true r = refl
+    step false false r = refl
+
+pub places-all : (cs : List (ℕ × Notice)) (i k : ℕ) (ks found : List ℕ) (all : Bool) → length cs ≤ i → found ≡ ks → (list_any (λ y. is_eq (nat_cmp k y)) ks || is_place_of (drop i cs) k) ≡ all → list_any (nat_eq k) found ≡ all
+places-all cs i k ks found all past is whole =
+    ap (list_any (nat_eq k)) is ∙ set-is ks k ∙ or-false (list_any (λ y. is_eq (nat_cmp k y)) ks) ∙ ap (λ (ds : List (ℕ × Notice)). list_any (λ y. is_eq (nat_cmp k y)) ks || is_place_of ds k) (sym (drop_all i cs past)) ∙ whole
+  where
+    or-false : (b : Bool) → b ≡ (b || false)
+    or-false true = refl
+    or-false false = refl
+
 ----------------------------------------------------------------- asking each adapter
 
--- of the copies for the adapter at place k, where `rest` of them are still to come: it is ready for all, or it is still to be asked
-abbrev pub IsAsked : List Listed → List ℕ → ℕ → Option ℕ → ℕ → ℕ → Type 0
-IsAsked rs ps k None rest all = IsReadyFor rs ps k all
-IsAsked rs ps k (Some n) rest all = (0 < rest) × (0 < all) × (n ≡ all)
+counted-nothing : (o : Option ℕ) (all : ℕ) → IsCounted o 0 all → unwrap_or o 0 ≡ all
+counted-nothing None all h = h
+counted-nothing (Some n) all h = omega (arith, h.1)
 
-pub asked-first : (rs : List Listed) (ps : List ℕ) (k : ℕ) (o : Option ℕ) (all : ℕ) → HasReserve ps → IsCounted o 0 all → IsAsked rs ps k o all all
-asked-first rs ps k None all reserve counted =
-    record { places = λ low. let one = All-get_or (λ p. 1 ≤ p) ps k 0 low reserve in omega (arith, one, counted); countable = λ some. absurd (omega (arith, some, counted)) }
-asked-first rs ps k (Some n) all reserve counted = (omega (arith, counted.0, counted.1), omega (arith, counted.0, counted.1), omega (arith, counted.1))
+-- what is counted is all
+pub count-is : (cs : List (ℕ × Notice)) (k : ℕ) (o : Option ℕ) → IsCounted o 0 (copies_len cs k) → unwrap_or o 0 ≡ copies_len cs k
+count-is cs k o h = counted-nothing o (copies_len cs k) h
+
+is_place-more : (cs : List (ℕ × Notice)) (k : ℕ) → is_place_of cs k ≡ true → 0 < copies_len cs k
+is_place-more [] k h = absurd (false≢true h)
+is_place-more (c ∷ cs) k h =
+    elim (nat_eq c.0 k) as (λ b. (b || is_place_of cs k) ≡ true → 0 < length (map (λ (d : ℕ × Notice). d.1) (cond b (c ∷ filter (λ d. nat_eq d.0 k) cs) (filter (λ d. nat_eq d.0 k) cs)))) [
+      | true ↦ λ _. omega arith
+      | false ↦ λ later. is_place-more cs k later
+    ] h
+
+is_place-none : (cs : List (ℕ × Notice)) (k : ℕ) → is_place_of cs k ≡ false → copies_len cs k ≡ 0
+is_place-none [] k h = refl
+is_place-none (c ∷ cs) k h =
+    elim (nat_eq c.0 k) as (λ b. (b || is_place_of cs k) ≡ false → length (map (λ (d : ℕ × Notice). d.1) (cond b (c ∷ filter (λ d. nat_eq d.0 k) cs) (filter (λ d. nat_eq d.0 k) cs))) ≡ 0) [
+      | true ↦ λ other. absurd (false≢true (sym other))
+      | false ↦ λ later. is_place-none cs k later
+    ] h
+
+is_place-within : (n : ℕ) (cs : List (ℕ × Notice)) (k : ℕ) → AllByRecursion (λ c. c.0 < n) cs → is_place_of cs k ≡ true → k < n
+is_place-within n [] k h e = absurd (false≢true e)
+is_place-within n (c ∷ cs) k h e =
+    elim (nat_eq c.0 k) as (λ b. nat_eq c.0 k ≡ b → (b || is_place_of cs k) ≡ true → k < n) [
+      | true ↦ λ same _. subst (λ (j : ℕ). j < n) (eqb-true c.0 k same) h.0
+      | false ↦ λ _ later. is_place-within n cs k h.1 later
+    ] refl e
 
 -- more places do no harm
 ready-more : (rs : List Listed) (ps qs : List ℕ) (k n : ℕ) → length qs ≡ length ps → slice_index ps k ≤ slice_index qs k → IsReadyFor rs ps k n → IsReadyFor rs qs k n
 ready-more rs ps qs k n same more h = record { places = λ low. let few = h.places (omega (arith, low, same)) in omega (arith, few, more); countable = h.countable }
 
-asked-kept : (rs : List Listed) (ps qs : List ℕ) (k : ℕ) (o : Option ℕ) (rest all : ℕ) → length qs ≡ length ps → slice_index ps k ≤ slice_index qs k → IsAsked rs ps k o rest all → IsAsked rs qs k o rest all
-asked-kept rs ps qs k None rest all same more h = ready-more rs ps qs k all same more h
-asked-kept rs ps qs k (Some n) rest all same more h = h
+-- those of the adapters that are asked, or get no copies, are ready
+abbrev pub AreAsked : List Listed → List ℕ → List (ℕ × Notice) → List ℕ → Type 0
+AreAsked rs ps cs rest = (k : ℕ) → list_any (nat_eq k) rest ≡ false → IsReadyFor rs ps k (copies_len cs k)
 
--- what is asked of the adapter of the next copy makes it ready for all of its copies
-asked-here : (rs : List Listed) (ps qs : List ℕ) (k : ℕ) (o : Option ℕ) (rest all : ℕ) → length qs ≡ length ps → slice_index ps k ≤ slice_index qs k → IfSome o (IsReadyFor rs qs k) → IsAsked rs ps k o rest all → IsReadyFor rs qs k all
-asked-here rs ps qs k None rest all same more ready h = ready-more rs ps qs k all same more h
-asked-here rs ps qs k (Some n) rest all same more ready h = subst (IsReadyFor rs qs k) h.2 ready
+pub asked-none : (rs : List Listed) (ps : List ℕ) (cs : List (ℕ × Notice)) (all : List ℕ) → HasReserve ps → ((k : ℕ) → list_any (nat_eq k) all ≡ is_place_of cs k) → AreAsked rs ps cs all
+asked-none rs ps cs all reserve places = λ k other.
+    let none : copies_len cs k ≡ 0 = is_place-none cs k (sym (places k) ∙ other) in
+    record { places = λ low. let one = All-get_or (λ p. 1 ≤ p) ps k 0 low reserve in omega (arith, none, one); countable = λ some. absurd (omega (arith, none, some)) }
 
-module _ (rs : List Listed) (cs : List (ℕ × Notice)) (i : ℕ) (x : ℕ × Notice) (low : i < length cs) (is : x ≡ get_or cs i x) (counts : ℕ → Option ℕ) where
-  pub asked-more : (ps qs : List ℕ) → ((k : ℕ) → IsAsked rs ps k (counts k) (copies_len (drop i cs) k) (copies_len cs k)) → length qs ≡ length ps → ((k : ℕ) → slice_index ps k ≤ slice_index qs k) → IfSome (counts x.0) (IsReadyFor rs qs x.0)
-      → (k : ℕ) (new : Option ℕ) → new ≡ cond (nat_eq x.0 k) None (counts k) → IsAsked rs qs k new (copies_len (drop (i + 1) cs) k) (copies_len cs k)
-  asked-more ps qs asked same more ready k new now =
-      elim (nat_eq x.0 k) as (λ b. nat_eq x.0 k ≡ b → new ≡ cond b None (counts k) → IsAsked rs qs k new (copies_len (drop (i + 1) cs) k) (copies_len cs k)) [
-        | true ↦ λ yes e.
-            subst (λ (o : Option ℕ). IsAsked rs qs k o (copies_len (drop (i + 1) cs) k) (copies_len cs k)) (sym e)
-            (subst (λ (j : ℕ). IsReadyFor rs qs j (copies_len cs j)) (eqb-true x.0 k yes) (asked-here rs ps qs x.0 (counts x.0) _ _ same (more x.0) ready (asked x.0)))
-        | false ↦ λ no e.
-            subst (λ (o : Option ℕ). IsAsked rs qs k o (copies_len (drop (i + 1) cs) k) (copies_len cs k)) (sym e)
-            (subst (λ (rest : ℕ). IsAsked rs qs k (counts k) rest (copies_len cs k)) (copies_len-other cs i x low is k no) (asked-kept rs ps qs k (counts k) _ _ same (more k) (asked k)))
-      ] refl now
+in-at : (all : List ℕ) (i : ℕ) → i < length all → list_any (nat_eq (get_or all i 0)) all ≡ true
+in-at [] i low = absurd (omega (arith, low))
+in-at (x ∷ all) zero low = let same : nat_eq x x ≡ true = eq-eqb x x refl in ap (λ b. b || list_any (nat_eq x) all) same
+in-at (x ∷ all) (suc i) low = elim (nat_eq (get_or all i 0) x) as (λ b. (b || list_any (nat_eq (get_or all i 0)) all) ≡ true) [ true ↦ refl | false ↦ in-at all i (omega (arith, low)) ]
 
--- the next adapter has a count of its copies, which fits, or none
-pub count-asked : (rs : List Listed) (ps : List ℕ) (cs : List (ℕ × Notice)) (k n rest : ℕ) (o : Option ℕ) → o ≡ Some n → IsAsked rs ps k o rest (copies_len cs k) → n ≤ length cs
-count-asked rs ps cs k n rest o is asked =
-    let all : (0 < rest) × (0 < copies_len cs k) × (n ≡ copies_len cs k) = subst (λ (q : Option ℕ). IsAsked rs ps k q rest (copies_len cs k)) is asked in
-    omega (arith, all.2, copies_len-le cs k)
+module _ (cs : List (ℕ × Notice)) (all : List ℕ) (places : (k : ℕ) → list_any (nat_eq k) all ≡ is_place_of cs k) (i : ℕ) (low : i < length all) where
+  -- the adapter that is asked next gets copies
+  pub asked-some : 0 < copies_len cs (get_or all i 0)
+  asked-some = is_place-more cs (get_or all i 0) (sym (places (get_or all i 0)) ∙ in-at all i low)
 
-pub full-asked : (rs : List Listed) (ps : List ℕ) (cs : List (ℕ × Notice)) (k rest : ℕ) (o : Option ℕ) → IsSomeAnd o (λ n. 2 ^ 64 ≤ told_at_place rs k + (n + 1)) → IsAsked rs ps k o rest (copies_len cs k) → k < length rs → IsFullFor rs cs k
-full-asked rs ps cs k rest None full asked within = absurd full
-full-asked rs ps cs k rest (Some n) full asked within = record { within = within; some = asked.1; full = omega (arith, full, asked.2) }
+  pub asked-within : (n : ℕ) → AllByRecursion (λ c. c.0 < n) cs → get_or all i 0 < n
+  asked-within n within = is_place-within n cs (get_or all i 0) within (sym (places (get_or all i 0)) ∙ in-at all i low)
 
-pub asked-all : (rs : List Listed) (ps : List ℕ) (cs : List (ℕ × Notice)) (i k : ℕ) (o : Option ℕ) → length cs ≤ i → IsAsked rs ps k o (copies_len (drop i cs) k) (copies_len cs k) → IsReadyFor rs ps k (copies_len cs k)
-asked-all rs ps cs i k None past h = h
-asked-all rs ps cs i k (Some n) past h =
-    let none : copies_len (drop i cs) k ≡ 0 = ap (λ (ds : List (ℕ × Notice)). copies_len ds k) (drop_all i cs past) in
-    absurd (omega (arith, none, h.0))
+-- once one more is asked, one more is ready
+pub asked-more : (rs : List Listed) (ps qs : List ℕ) (cs : List (ℕ × Notice)) (all : List ℕ) (i : ℕ) → i < length all → length qs ≡ length ps → ((k : ℕ) → slice_index ps k ≤ slice_index qs k) → IsReadyFor rs qs (get_or all i 0) (copies_len cs (get_or all i 0)) → AreAsked rs ps cs (drop i all) → AreAsked rs qs cs (drop (i + 1) all)
+asked-more rs ps qs cs all i low same more ready asked = λ k other.
+    elim (nat_eq k (get_or all i 0)) as (λ b. nat_eq k (get_or all i 0) ≡ b → IsReadyFor rs qs k (copies_len cs k)) [
+      | true ↦ λ yes. subst (λ (j : ℕ). IsReadyFor rs qs j (copies_len cs j)) (sym (eqb-true k (get_or all i 0) yes)) ready
+      | false ↦ λ no. ready-more rs ps qs k (copies_len cs k) same (more k) (asked k (ap (list_any (nat_eq k)) (drop_more all i 0 low) ∙ ap (λ b. b || list_any (nat_eq k) (drop (i + 1) all)) no ∙ other))
+    ] refl
+
+pub asked-all : (rs : List Listed) (ps : List ℕ) (cs : List (ℕ × Notice)) (all : List ℕ) (i k : ℕ) → length all ≤ i → AreAsked rs ps cs (drop i all) → IsReadyFor rs ps k (copies_len cs k)
+asked-all rs ps cs all i k past asked = asked k (ap (list_any (nat_eq k)) (drop_all i all past))
+
+less-than : (j x : ℕ) → nat_cmp j x ≡ Less → j < x
+less-than j x h = grind (arith, nat_tests, h)
+
+none-less : (j x : ℕ) (xs : List ℕ) → j < x → AllByRecursion (λ y. nat_cmp x y ≡ Less) xs → list_any (nat_eq j) xs ≡ false
+none-less j x [] h all = refl
+none-less j x (y ∷ xs) h all =
+    let above : x < y = less-than x y all.0 in
+    ap (λ b. b || list_any (nat_eq j) xs) (ne_eqb j y (λ (e : j ≡ y). omega (arith, h, above, e))) ∙ none-less j x xs h all.1
+
+-- no place before the next one in order is among those still to be asked
+none-before : (j : ℕ) (xs : List ℕ) (i : ℕ) → IsStrictlySortedBy nat_cmp xs → i < length xs → j < get_or xs i 0 → list_any (nat_eq j) (drop i xs) ≡ false
+unfolding IsStrictlySortedBy
+none-before j [] i sorted low h = absurd (omega (arith, low))
+none-before j (x ∷ xs) zero sorted low h = ap (λ b. b || list_any (nat_eq j) xs) (ne_eqb j x (λ (e : j ≡ x). omega (arith, h, e))) ∙ none-less j x xs h sorted.0
+none-before j (x ∷ xs) (suc i) sorted low h = none-before j xs i sorted.1 (omega (arith, low)) h
+
+-- the adapter that is asked next and refuses is the first in attach order that does
+pub first-full : (rs : List Listed) (ps qs : List ℕ) (cs : List (ℕ × Notice)) (all : List ℕ) (i : ℕ) → IsStrictlySortedBy nat_cmp all → i < length all → length qs ≡ length ps → ((k : ℕ) → slice_index ps k ≤ slice_index qs k) → AreAsked rs ps cs (drop i all) → IsFullFor rs cs (get_or all i 0) → IsFirstFull rs qs cs (get_or all i 0)
+first-full rs ps qs cs all i sorted low same more asked full =
+    record { full = full; earlier = λ j less. ready-more rs ps qs j (copies_len cs j) same (more j) (asked j (none-before j all i sorted low less)) }
 
 ----------------------------------------------------------------- full
 
@@ -184,3 +260,8 @@ module _ (up : Above) (ns : List Notice) (rs : List Listed) where
 pub refusal-is : (full : Bool) (e : NoRoom) → (e ≡ room.Full → full ≡ true) → IsChainRefusal full (refusal_of e)
 refusal-is full room.Memory h = inl refl
 refusal-is full room.Full h = inr (refl, h refl)
+
+-- only a full adapter is answered so
+pub full-from : (e : NoRoom) → refusal_of e ≡ refused.AdapterFull → e ≡ room.Full
+full-from room.Memory h = cc
+full-from room.Full h = refl

@@ -1,5 +1,6 @@
--- How many copies each adapter gets, and whether it is ready for them.
-use Rattle.std.specs.Prelude.{◌≡◌, ℕ, ◌+◌, ◌^◌, ◌<◌, ◌≤◌, List, length, map, slice_index, Option, Some, None}
+-- How many copies each adapter gets, whether it is ready for them, and which adapter refuses them.
+use Rattle.std.specs.Prelude.{◌≡◌, ℕ, Bool, nat_eq, ◌+◌, ◌^◌, ◌<◌, ◌≤◌, List, length, map, slice_index, Option, Some, None}
+use Rattle.std.specs.List.{list_any}
 use Rattle.notice_chain.specs.Listed.{Listed}
 use Rattle.notice_chain.specs.declared.notice.Notice.{Notice}
 use Rattle.adapter_list.specs.Rounds.{copies_for}
@@ -27,3 +28,12 @@ pub record IsFullFor (rs : List Listed) (cs : List (ℕ × Notice)) (k : ℕ) : 
   pub within : k < length rs
   pub some : 0 < copies_len cs k
   pub full : 2 ^ 64 ≤ told_at_place rs k + (copies_len cs k + 1)
+
+-- it is the first in attach order that refuses its copies: each before it is ready for those that it gets
+pub record IsFirstFull (rs : List Listed) (ps : List ℕ) (cs : List (ℕ × Notice)) (k : ℕ) : Type 0 where
+  pub full : IsFullFor rs cs k
+  pub earlier : (j : ℕ) → j < k → IsReadyFor rs ps j (copies_len cs j)
+
+-- some copy is for place k
+abbrev pub is_place_of : List (ℕ × Notice) → ℕ → Bool
+is_place_of cs k = list_any (λ c. nat_eq c.0 k) cs

@@ -21,6 +21,8 @@ mod calls;
 #[cfg(test)]
 mod closing;
 #[cfg(test)]
+mod deciding;
+#[cfg(test)]
 mod drops;
 #[cfg(test)]
 mod latest;

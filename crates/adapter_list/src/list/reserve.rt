@@ -1,54 +1,54 @@
 //! What the adapters reserve for the copies of a round.
-ghost use Rattle.std.specs.Prelude.{◌≡◌, ◌≤◌, ◌<◌, ◌+◌, ◌^◌, ◌↔◌, ℕ, map, length, slice_index, IfSome, IsSomeAnd, OnOk, IfErr, IsErrOf};
+ghost use Rattle.std.specs.Prelude.{◌≡◌, ◌≤◌, ◌<◌, ◌+◌, ◌^◌, ◌↔◌, ℕ, map, length, slice_index, OnOk, IfErr, IsErrOf};
 ghost use Rattle.std.specs.List.{AllByRecursion};
-ghost use Rattle.std.specs.Option.{ForSome};
-ghost use Rattle.adapter_list.specs.Counts.{IsFullFor, IsReadyFor, copies_len, told_at_place};
+ghost use Rattle.adapter_list.specs.Counts.{IsFirstFull, IsReadyFor, copies_len, told_at_place};
 
 use super::AdapterList;
-use crate::counts::counts_of;
+use crate::counts::{counts_of, places_of};
 use adapters::{Adapter, NoRoom};
 use notice_chain::Notice;
 
 impl<A: Adapter> AdapterList<A> {
     /// Makes sure that each adapter has a place for each of the copies that it gets, and one more for its last notice. Each that
-    /// gets some is asked once.
+    /// gets some is asked once, in attach order, and the first that refuses decides. None loses a place.
     pub(super) fn reserve_places(&mut self, copies: &[(usize, Notice)]) -> Result<(), NoRoom>
         requires within { AllByRecursion (λ c. c.0 < length self.old.1) copies.now }
         ensures kept { self.new.0 ≡ self.old.0 }
         ensures as_many { length self.new.1 ≡ length self.old.1 }
+        ensures no_fewer { (k : ℕ) → slice_index self.old.1 k ≤ slice_index self.new.1 k }
         ensures ok { OnOk result ((k : ℕ) → IsReadyFor self.old.0 self.new.1 k (copies_len copies.now k)) }
-        ensures full { IfErr result (λ e. e ≡ NoRoom.Full → (k : ℕ) × IsFullFor self.old.0 copies.now k) }
+        ensures full { IfErr result (λ e. e ≡ NoRoom.Full → (k : ℕ) × IsFirstFull self.old.0 self.new.1 copies.now k) }
     {
         self.keeps_its_rules();
         if copies.is_empty() {
             return Ok(());
         }
-        let Ok(mut counts) = counts_of(self.alloc, copies) else {
+        let Ok(counts) = counts_of(self.alloc, copies) else {
             return Err(NoRoom::Memory);
         };
-        for (place, _) in copies {
-            let count = counts.swap_remove(place);
-            if let Err(reason) = self.reserve_counted(*place, count) {
+        let Ok(places) = places_of(self.alloc, copies) else {
+            return Err(NoRoom::Memory);
+        };
+        for place in &places {
+            let count = counts.get(place).copied().unwrap_or(0);
+            if let Err(reason) = self.reserve_for(*place, count) {
                 return Err(reason);
             }
         }
         Ok(())
     }
 
-    /// Makes sure that the adapter at `place` has a place for each of as many copies as were counted, if any, and one more.
-    fn reserve_counted(&mut self, place: usize, count: Option<usize>) -> Result<(), NoRoom>
+    /// Makes sure that the adapter at `place` has a place for each of so many copies, and one more.
+    fn reserve_for(&mut self, place: usize, count: usize) -> Result<(), NoRoom>
         requires within { place < length self.old.1 }
-        requires fits { ForSome count (λ n. n + 1 < 2 ^ 64) }
+        requires fits { count < 2 ^ 63 }
         ensures kept { self.new.0 ≡ self.old.0 }
         ensures as_many { length self.new.1 ≡ length self.old.1 }
         ensures no_fewer { (k : ℕ) → slice_index self.old.1 k ≤ slice_index self.new.1 k }
-        ensures ok { OnOk result (IfSome count (IsReadyFor self.old.0 self.new.1 place)) }
-        ensures full { IfErr result (λ e. e ≡ NoRoom.Full → IsSomeAnd count (λ n. 2 ^ 64 ≤ told_at_place self.old.0 place + (n + 1))) }
+        ensures ok { OnOk result (IsReadyFor self.old.0 self.new.1 place count) }
+        ensures full { IsErrOf result NoRoom.Full ↔ (2 ^ 64 ≤ told_at_place self.old.0 place + (count + 1)) }
     {
-        match count {
-            Some(count) => self.reserve_at(place, count as u64 + 1),
-            None => Ok(()),
-        }
+        self.reserve_at(place, count as u64 + 1)
     }
 
     /// Makes sure that the adapter at `place` has `n` places.

@@ -1,11 +1,12 @@
 //! Which adapters hear a notice, what is reserved for a chain, and its delivery.
-ghost use Rattle.std.specs.Prelude.{◌≡◌, ◌≤◌, ◌<◌, ◌∷◌, [], ◌++◌, length, slice_index, false, All, OnOk, IfOk, IfErr};
+ghost use Rattle.std.specs.Prelude.{◌≡◌, ℕ, ◌≤◌, ◌<◌, ◌∷◌, [], ◌++◌, length, slice_index, false, All, OnOk, IfOk, IfErr};
 ghost use Rattle.links.specs.Holders.{HasNoCycle, above};
 ghost use Rattle.links.specs.LegalSets.{IsLegalSet};
 ghost use Rattle.notice_chain.specs.Listed.{audience_numbers, is_chain_full};
+ghost use Rattle.adapter_list.specs.Counts.{IsFirstFull};
 ghost use Rattle.adapter_list.specs.Hearing.{copies_at};
 ghost use Rattle.adapter_list.specs.Refusals.{IsChainRefusal};
-ghost use Rattle.adapter_list.specs.Rounds.{RoundFits, round_of, delivered, tell_at, told_by, use_place};
+ghost use Rattle.adapter_list.specs.Rounds.{RoundFits, RoundView, round_copies, round_of, delivered, tell_at, told_by, use_place};
 
 use super::AdapterList;
 use crate::hearers::Hearers;
@@ -39,10 +40,11 @@ impl<A: Adapter> AdapterList<A> {
 
     /// Reserves all that a chain needs: for each adapter a place for each notice of it that it hears, and one more for its last
     /// notice; and the copies of the notices. Who hears them goes by the containers that `store` has now, so it is called before
-    /// the change. Whatever the answer, the adapters have heard and keep what they did.
+    /// the change. Whatever the answer, the adapters have heard and keep what they did, and none has fewer places: a round that
+    /// fitted them still does.
     ///
     /// Refused with AdapterFull where an adapter can't count the notices that it hears, or with Memory when out of memory. The
-    /// first that refuses decides, in the order in which the chain reaches them.
+    /// first that refuses decides, in attach order: with AdapterFull each one before it has the places that it needs.
     pub fn reserve_all<L: LinkStore>(&mut self, store: &L, chain: &Chain) -> Result<Round, Refused>
         requires legal { IsLegalSet (L.links store.now) }
         requires no_cycle { HasNoCycle (L.links store.now) }
@@ -51,6 +53,9 @@ impl<A: Adapter> AdapterList<A> {
         ensures fits { IfOk result (λ r. RoundFits self.new.0 self.new.1 r) }
         ensures counted { OnOk result (is_chain_full (above (L.links store.now)) chain.now self.old.0 ≡ false) }
         ensures reason { IfErr result (λ e. IsChainRefusal (is_chain_full (above (L.links store.now)) chain.now self.old.0) e) }
+        ensures first { IfErr result (λ e. e ≡ Refused.AdapterFull → (k : ℕ) × IsFirstFull self.old.0 self.new.1 (round_copies (above (L.links store.now)) chain.now self.old.0) k) }
+        ensures no_fewer { (k : ℕ) → slice_index self.old.1 k ≤ slice_index self.new.1 k }
+        ensures still_fits { (r : RoundView) → RoundFits self.old.0 self.old.1 r → RoundFits self.new.0 self.new.1 r }
     {
         self.keeps_its_rules();
         let Ok(round) = self.round(store, chain.as_slice()) else {

@@ -3,10 +3,10 @@ use Rattle.links.specs.Holders.{above}
 use Rattle.adapters.specs.declared.adapter.NoRoom.TheVariants as room
 use Rattle.notice_chain.specs.Listed.{Listed, is_chain_full}
 use Rattle.notice_chain.specs.declared.notice.Notice.{Notice}
-use Rattle.adapter_list.specs.Counts.{IsFullFor, IsReadyFor, copies_len}
+use Rattle.adapter_list.specs.Counts.{IsFirstFull, IsFullFor, IsReadyFor, copies_len}
 use Rattle.adapter_list.specs.Rounds.{RoundView, RoundFits, heard_at, round_copies, round_of}
 use Rattle.adapter_list.proofs.DeliveryLemmas.{AreWithin}
-use Rattle.adapter_list.proofs.ReserveLemmas.{chain-counted, chain-full, refusal-is}
+use Rattle.adapter_list.proofs.ReserveLemmas.{chain-counted, chain-full, full-from, refusal-is}
 use Rattle.adapter_list.proofs.RoundLemmas.{CopiesFit-round_copies, copies_for-round_copies, told_by-round_copies, within-round_copies}
 use Rattle.adapter_list.proofs.list.AdapterList.reserve_all.Goals as goal
 
@@ -49,5 +49,14 @@ returns-in-Err-clause-reason g c =
     let copies : c.copies.result.now ≡ round_copies up ns rs = c.copies.ensures ∙ ap (λ (r : RoundView). r.copies) c.in-Ok.ensures in
     let full : c.in-Err.reason ≡ room.Full → is_chain_full up c.args.chain.now rs ≡ true =
     λ is. let one = c.in-Err.ensures.full is in
-    ap (λ (ms : List Notice). is_chain_full up ms rs) (sym c.as_slice.ensures) ∙ chain-full up ns rs one.0 (subst (λ (cs : List (ℕ × Notice)). IsFullFor rs cs one.0) copies one.1) in
+    ap (λ (ms : List Notice). is_chain_full up ms rs) (sym c.as_slice.ensures) ∙ chain-full up ns rs one.0 (subst (λ (cs : List (ℕ × Notice)). IsFullFor rs cs one.0) copies one.1.full) in
     rw c.refusal.ensures (refusal-is (is_chain_full up c.args.chain.now rs) c.in-Err.reason full)
+
+pub returns-in-Err-clause-first : goal.returns-in-Err-clause-first
+returns-in-Err-clause-first g c = λ is.
+    let up = above (g.L.LinkStore.links c.args.store.now) in
+    let rs = c.args.self.now.0 in
+    let qs = c.reserve_places.new.self.1 in
+    let copies : c.copies.result.now ≡ round_copies up c.args.chain.now rs = c.copies.ensures ∙ ap (λ (r : RoundView). r.copies) c.in-Ok.ensures ∙ ap (λ (ms : List Notice). round_copies up ms rs) c.as_slice.ensures in
+    let one = c.in-Err.ensures.full (full-from c.in-Err.reason (sym c.refusal.ensures ∙ is)) in
+    (one.0, subst (λ (cs : List (ℕ × Notice)). IsFirstFull rs qs cs one.0) copies one.1)

@@ -1,43 +1,62 @@
-use Rattle.std.proofs.Common.{◌+◌, ◌<◌, ◌≤◌, ◌^◌, ℕ, List, nat_eq, arith, sym, subst, length, ◌∙◌, Option}
-use Rattle.std.specs.Option.{IfSome, IsSomeAnd}
-use Rattle.std.proofs.lemmas.List.Elements.{All-from_recursion, All-get_or}
-use Rattle.indexmap.specs.IndexMap.{get}
+use Rattle.std.proofs.Common.{◌≡◌, ◌+◌, ◌≤◌, ◌^◌, ℕ, List, nat_eq, unwrap_or, get_or, Err, arith, refl, sym, ap, subst, length, ◌∙◌}
+use Rattle.std.specs.List.{list_any}
+use Rattle.std.specs.List.Sorted.{IsStrictlySortedBy}
+use Rattle.std.specs.Ordering.{nat_cmp}
 use Rattle.notice_chain.specs.Listed.{Listed}
-use Rattle.notice_chain.specs.declared.notice.Notice.{Notice}
-use Rattle.adapter_list.specs.Counts.{IsReadyFor, told_at_place}
-use Rattle.adapter_list.proofs.ReserveLemmas.{asked-all, asked-more, count-asked, full-asked}
+use Rattle.adapter_list.specs.Counts.{IsFullFor, IsReadyFor, copies_len, is_place_of, told_at_place}
+use Rattle.adapter_list.proofs.ReserveLemmas.{asked-all, asked-more, asked-none, asked-some, asked-within, copies_len-le, count-is, first-full}
 use Rattle.adapter_list.proofs.list.AdapterList.reserve_places.Goals as goal
 
-pub reserve_counted-requires-clause-fits : goal.reserve_counted-requires-clause-fits
-reserve_counted-requires-clause-fits g c = λ n is.
-    let few = count-asked c.args.self.now.0 c.loop-place.self.1 c.args.copies.now c.loop-place-item.result.0 n _ _ (sym c.swap_remove-count.ensures.value ∙ is) (c.loop-place.invariant.asked c.loop-place-item.result.0) in
-    omega (arith, few)
+pub loop-place-init : goal.loop-place-init
+loop-place-init g c =
+    let places : (k : ℕ) → list_any (nat_eq k) c.deref-place-items.result.now ≡ is_place_of c.args.copies.now k = λ k. ap (list_any (nat_eq k)) c.deref-place-items.ensures.value ∙ c.in-Ok-places_of.ensures.places k in
+    record { kept = refl; as_many = refl; no_fewer = λ k. omega arith; asked = asked-none c.args.self.now.0 c.args.self.now.1 c.args.copies.now c.deref-place-items.result.now c.keeps_its_rules.ensures.reserve places }
+
+pub reserve_for-requires-clause-within : goal.reserve_for-requires-clause-within
+reserve_for-requires-clause-within g c =
+    let places : (k : ℕ) → list_any (nat_eq k) c.deref-place-items.result.now ≡ is_place_of c.args.copies.now k = λ k. ap (list_any (nat_eq k)) c.deref-place-items.ensures.value ∙ c.in-Ok-places_of.ensures.places k in
+    let within = asked-within c.args.copies.now c.deref-place-items.result.now places c.loop-place.place-index c.loop-place-test.true (length c.args.self.now.1) c.requires.within in
+    omega (arith, within, c.loop-place.invariant.as_many)
+
+pub reserve_for-requires-clause-fits : goal.reserve_for-requires-clause-fits
+reserve_for-requires-clause-fits g c =
+    let x = get_or c.deref-place-items.result.now c.loop-place.place-index 0 in
+    let is : c.unwrap_or-count.result ≡ copies_len c.args.copies.now x = c.unwrap_or-count.ensures ∙ ap (λ o. unwrap_or o 0) (c.copied.ensures ∙ c.get.ensures.value) ∙ count-is c.args.copies.now x _ (c.in-Ok.ensures x) in
+    omega (arith, is, copies_len-le c.args.copies.now x)
 
 pub returns-in-Err-clause-full : goal.returns-in-Err-clause-full
 returns-in-Err-clause-full g c = λ is.
     let rs = c.args.self.now.0 in
-    let x = c.loop-place-item.result in
-    let is_within : (ℕ × Notice) → Type 0 = λ d. d.0 < length c.args.self.now.1 in
-    let low : is_within x = subst is_within (sym c.loop-place-item.is) (All-get_or is_within c.args.copies.now c.loop-place.place-index x c.loop-place-test.true (All-from_recursion is_within c.args.copies.now c.requires.within)) in
-    let within : x.0 < length rs = omega (arith, low, c.keeps_its_rules.ensures.places) in
-    let told : (o : Option ℕ) → Type 0 = λ o. IsSomeAnd o (λ n. 2 ^ 64 ≤ told_at_place rs x.0 + (n + 1)) in
-    let past : told c.swap_remove-count.result = subst (λ (ss : List Listed). IsSomeAnd c.swap_remove-count.result (λ n. 2 ^ 64 ≤ told_at_place ss x.0 + (n + 1))) c.loop-place.invariant.kept (c.in-Err.ensures.full is) in
-    (x.0, full-asked rs c.loop-place.self.1 c.args.copies.now x.0 _ (get nat_eq c.loop-place.counts x.0) (subst told c.swap_remove-count.ensures.value past) (c.loop-place.invariant.asked x.0) within)
+    let cs = c.args.copies.now in
+    let all = c.deref-place-items.result.now in
+    let i = c.loop-place.place-index in
+    let x = get_or all i 0 in
+    let places : (k : ℕ) → list_any (nat_eq k) all ≡ is_place_of cs k = λ k. ap (list_any (nat_eq k)) c.deref-place-items.ensures.value ∙ c.in-Ok-places_of.ensures.places k in
+    let count : c.unwrap_or-count.result ≡ copies_len cs x = c.unwrap_or-count.ensures ∙ ap (λ o. unwrap_or o 0) (c.copied.ensures ∙ c.get.ensures.value) ∙ count-is cs x _ (c.in-Ok.ensures x) in
+    let within = asked-within cs all places i c.loop-place-test.true (length c.args.self.now.1) c.requires.within in
+    let past : 2 ^ 64 ≤ told_at_place c.loop-place.self.0 x + (c.unwrap_or-count.result + 1) = c.in-Err.ensures.full.0 (ap Err is) in
+    let here : 2 ^ 64 ≤ told_at_place rs x + (c.unwrap_or-count.result + 1) = subst (λ (ss : List Listed). 2 ^ 64 ≤ told_at_place ss x + (c.unwrap_or-count.result + 1)) c.loop-place.invariant.kept past in
+    let sorted : IsStrictlySortedBy nat_cmp all = subst (IsStrictlySortedBy nat_cmp) (sym c.deref-place-items.ensures.value) c.in-Ok-places_of.ensures.sorted in
+    let full : IsFullFor rs cs x = record { within = omega (arith, within, c.keeps_its_rules.ensures.places); some = asked-some cs all places i c.loop-place-test.true; full = omega (arith, here, count) } in
+    (x, first-full rs c.loop-place.self.1 c.reserve_for.new.self.1 cs all i sorted c.loop-place-test.true c.in-Err.ensures.as_many c.in-Err.ensures.no_fewer c.loop-place.invariant.asked full)
 
 pub loop-place-preserved : goal.loop-place-preserved
 loop-place-preserved g c =
     let rs = c.args.self.now.0 in
-    let qs = c.reserve_counted.new.self.1 in
-    let x = c.loop-place-item.result in
-    let found = λ (k : ℕ). get nat_eq c.loop-place.counts k in
-    let asked = c.in_default-reserve_counted.ensures in
-    let ready : IfSome (found x.0) (IsReadyFor rs qs x.0) =
-    subst (λ (o : Option ℕ). IfSome o (IsReadyFor rs qs x.0)) c.swap_remove-count.ensures.value (subst (λ (ss : List Listed). IfSome c.swap_remove-count.result (IsReadyFor ss qs x.0)) c.loop-place.invariant.kept asked.ok) in
+    let qs = c.reserve_for.new.self.1 in
+    let cs = c.args.copies.now in
+    let all = c.deref-place-items.result.now in
+    let i = c.loop-place.place-index in
+    let x = get_or all i 0 in
+    let asked = c.in_default-reserve_for.ensures in
+    let count : c.unwrap_or-count.result ≡ copies_len cs x = c.unwrap_or-count.ensures ∙ ap (λ o. unwrap_or o 0) (c.copied.ensures ∙ c.get.ensures.value) ∙ count-is cs x _ (c.in-Ok.ensures x) in
+    let ready : IsReadyFor rs qs x (copies_len cs x) = subst (IsReadyFor rs qs x) count (subst (λ (ss : List Listed). IsReadyFor ss qs x c.unwrap_or-count.result) c.loop-place.invariant.kept asked.ok) in
     record {
       kept = asked.kept ∙ c.loop-place.invariant.kept;
       as_many = asked.as_many ∙ c.loop-place.invariant.as_many;
-      asked = λ k. asked-more rs c.args.copies.now c.loop-place.place-index x c.loop-place-test.true c.loop-place-item.is found c.loop-place.self.1 qs c.loop-place.invariant.asked asked.as_many asked.no_fewer ready k (get nat_eq c.swap_remove-count.new.self k) (c.swap_remove-count.ensures.updates.0 k);
+      no_fewer = λ k. let more = asked.no_fewer k in let before = c.loop-place.invariant.no_fewer k in omega (arith, more, before);
+      asked = asked-more rs c.loop-place.self.1 qs cs all i c.loop-place-test.true asked.as_many asked.no_fewer ready c.loop-place.invariant.asked;
     }
 
 pub returns-clause-ok : goal.returns-clause-ok
-returns-clause-ok g c = λ k. asked-all c.args.self.now.0 c.loop-place.self.1 c.args.copies.now c.loop-place.place-index k (get nat_eq c.loop-place.counts k) c.loop-place-test.false (c.loop-place.invariant.asked k)
+returns-clause-ok g c = λ k. asked-all c.args.self.now.0 c.loop-place.self.1 c.args.copies.now c.deref-place-items.result.now c.loop-place.place-index k c.loop-place-test.false c.loop-place.invariant.asked
