@@ -9,10 +9,3 @@ pub one_string : (out old before t : List ℕ) (start new : List Token) → out 
 unfolding print_from
 one_string out old before t start new is kept empty one =
     is ∙ (ap (λ x. x ++ print new) kept ∙ ap (λ x. old ++ print x) (one ∙ ap (λ x. x ++ string t ∷ []) empty)) ∙ ap (λ x. old ++ x) (append-nil (quoted t))
-
--- and no token as nothing
-pub no_string : (out old before : List ℕ) (start new : List Token) → out ≡ before ++ print new → before ≡ old → start ≡ []
-    → new ≡ start → out ≡ old
-unfolding print_from
-no_string out old before start new is kept empty none =
-    is ∙ (ap (λ x. x ++ print new) kept ∙ ap (λ x. old ++ print x) (none ∙ empty)) ∙ append-nil old

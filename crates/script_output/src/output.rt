@@ -1,6 +1,5 @@
 //! A text that grows at its end, by values, answers and refusals.
-ghost use Rattle.std.specs.Prelude.{◌≡◌, ◌++◌, ◌∷◌, [], OnErr, OnOk, take, length};
-ghost use Rattle.std.specs.Io.{StartsWith};
+ghost use Rattle.std.specs.Prelude.{◌≡◌, ◌++◌, ◌∷◌, [], OnOk};
 ghost use Rattle.std.specs.Fmt.{decimal, signed_decimal};
 ghost use Rattle.mm_types.specs.Refusals.{refusal_detail};
 ghost use Rattle.script_output.specs.Printed.{adapter_text, cause_detail, class_text, json_text, node_text, proxy_text, refused_text, value_text};
@@ -18,7 +17,7 @@ use std::alloc::{AllocError, Global};
 use std::marker::Model;
 use std::mem;
 
-/// A text that grows at its end, seen as its bytes. Where memory is refused it stays as it was.
+/// A text that grows at its end, seen as its bytes. A call that is refused memory may have added a part of its text.
 #[derive(Drop)]
 pub struct Output {
     alloc: Global,
@@ -61,14 +60,12 @@ impl Output {
     /// Adds a text as it stands.
     pub fn text(&mut self, text: &str) -> Result<(), AllocError>
         ensures ok { OnOk result (self.new ≡ self.old ++ text.now) }
-        ensures err { OnErr result (self.new ≡ self.old) }
     {
         self.bytes.extend_from_slice(text.as_bytes())
     }
 
     fn byte(&mut self, byte: u8) -> Result<(), AllocError>
         ensures ok { OnOk result (self.new ≡ self.old ++ byte ∷ []) }
-        ensures err { OnErr result (self.new ≡ self.old) }
     {
         self.bytes.push(byte)?;
         Ok(())
@@ -77,7 +74,6 @@ impl Output {
     /// Adds a number in decimal.
     pub fn natural(&mut self, n: u64) -> Result<(), AllocError>
         ensures ok { OnOk result (self.new ≡ self.old ++ decimal n) }
-        ensures err { OnErr result (self.new ≡ self.old) }
     {
         let mut buffer = itoa::Buffer::new();
         self.text(buffer.format(n))
@@ -85,7 +81,6 @@ impl Output {
 
     fn integer(&mut self, n: i64) -> Result<(), AllocError>
         ensures ok { OnOk result (self.new ≡ self.old ++ signed_decimal n) }
-        ensures err { OnErr result (self.new ≡ self.old) }
     {
         let mut buffer = itoa::Buffer::new();
         self.text(buffer.format(n))
@@ -94,7 +89,6 @@ impl Output {
     /// Adds a text as a JSON string, with the escapes that `serde_json` writes.
     pub fn json(&mut self, text: &str) -> Result<(), AllocError>
         ensures ok { OnOk result (self.new ≡ self.old ++ json_text text.now) }
-        ensures err { OnErr result (self.new ≡ self.old) }
     {
         let bytes = mem::replace(&mut self.bytes, Vec::new(self.alloc));
         let mut writer = Writer::new(bytes);
@@ -103,21 +97,9 @@ impl Output {
         result
     }
 
-    /// Takes back what was added behind `start` where memory was refused.
-    fn whole(&mut self, start: usize, added: Result<(), AllocError>) -> Result<(), AllocError>
-        ensures same { result ≡ added }
-        ensures ok { OnOk result (self.new ≡ self.old) }
-        ensures err { OnErr result (self.new ≡ take start self.old) }
-    {
-        if added.is_err() {
-            self.bytes.truncate(start);
-        }
-        added
-    }
-
-    fn node_parts(&mut self, node: Node) -> Result<(), AllocError>
+    /// Adds a node: `#3` for an object, `r0` for a resource.
+    pub fn node(&mut self, node: Node) -> Result<(), AllocError>
         ensures ok { OnOk result (self.new ≡ self.old ++ node_text node) }
-        ensures err { OnErr result (StartsWith self.new self.old) }
     {
         match node {
             Node::Object(object) => {
@@ -131,45 +113,25 @@ impl Output {
         }
     }
 
-    /// Adds a node: `#3` for an object, `r0` for a resource.
-    pub fn node(&mut self, node: Node) -> Result<(), AllocError>
-        ensures ok { OnOk result (self.new ≡ self.old ++ node_text node) }
-        ensures err { OnErr result (self.new ≡ self.old) }
-    {
-        let start = self.bytes.len();
-        let added = self.node_parts(node);
-        self.whole(start, added)
-    }
-
-    fn adapter_parts(&mut self, no: AdapterNo) -> Result<(), AllocError>
+    fn adapter(&mut self, no: AdapterNo) -> Result<(), AllocError>
         ensures ok { OnOk result (self.new ≡ self.old ++ adapter_text no) }
-        ensures err { OnErr result (StartsWith self.new self.old) }
     {
         self.byte(ADAPTER_MARK)?;
         self.natural(u64::from(no.0))
     }
 
-    fn proxy_parts(&mut self, text: &str) -> Result<(), AllocError>
+    /// Adds a proxy by its text: `proxy "http://m.example/b#/0"`.
+    pub fn proxy(&mut self, text: &str) -> Result<(), AllocError>
         ensures ok { OnOk result (self.new ≡ self.old ++ proxy_text text.now) }
-        ensures err { OnErr result (StartsWith self.new self.old) }
     {
         self.text("proxy ")?;
         self.json(text)
     }
 
-    /// Adds a proxy by its text: `proxy "http://m.example/b#/0"`.
-    pub fn proxy(&mut self, text: &str) -> Result<(), AllocError>
-        ensures ok { OnOk result (self.new ≡ self.old ++ proxy_text text.now) }
-        ensures err { OnErr result (self.new ≡ self.old) }
-    {
-        let start = self.bytes.len();
-        let added = self.proxy_parts(text);
-        self.whole(start, added)
-    }
-
-    fn value_parts(&mut self, value: &Value, literal: &str) -> Result<(), AllocError>
+    /// Adds a value: `null`, `true`, `-12`, `"Emma"`, `:NOVEL`, `#3`, `proxy "http://m.example/b#/0"`
+    /// or `A7`. Where it is a literal, `literal` is its name; else `literal` is not looked at.
+    pub fn value(&mut self, value: &Value, literal: &str) -> Result<(), AllocError>
         ensures ok { OnOk result (self.new ≡ self.old ++ value_text literal.now value.now) }
-        ensures err { OnErr result (StartsWith self.new self.old) }
     {
         match value {
             Value::Null => self.text("null"),
@@ -182,43 +144,21 @@ impl Output {
                 self.text(literal)
             }
             Value::Object(object) => self.node(Node::Object(*object)),
-            Value::Proxy(text) => self.proxy_parts(text.as_str()),
-            Value::Adapter(adapter) => self.adapter_parts(*adapter),
+            Value::Proxy(text) => self.proxy(text.as_str()),
+            Value::Adapter(adapter) => self.adapter(*adapter),
         }
-    }
-
-    /// Adds a value: `null`, `true`, `-12`, `"Emma"`, `:NOVEL`, `#3`, `proxy "http://m.example/b#/0"`
-    /// or `A7`. Where it is a literal, `literal` is its name; else `literal` is not looked at.
-    pub fn value(&mut self, value: &Value, literal: &str) -> Result<(), AllocError>
-        ensures ok { OnOk result (self.new ≡ self.old ++ value_text literal.now value.now) }
-        ensures err { OnErr result (self.new ≡ self.old) }
-    {
-        let start = self.bytes.len();
-        let added = self.value_parts(value, literal);
-        self.whole(start, added)
-    }
-
-    fn class_parts(&mut self, meta: &Meta, class: ClassNo) -> Result<(), AllocError>
-        ensures ok { OnOk result (self.new ≡ self.old ++ class_text meta.now class) }
-        ensures err { OnErr result (StartsWith self.new self.old) }
-    {
-        self.text("class ")?;
-        self.text(meta.class_name(class))
     }
 
     /// Adds a class by its name: `class Book`.
     pub fn class(&mut self, meta: &Meta, class: ClassNo) -> Result<(), AllocError>
         ensures ok { OnOk result (self.new ≡ self.old ++ class_text meta.now class) }
-        ensures err { OnErr result (self.new ≡ self.old) }
     {
-        let start = self.bytes.len();
-        let added = self.class_parts(meta, class);
-        self.whole(start, added)
+        self.text("class ")?;
+        self.text(meta.class_name(class))
     }
 
-    fn cause_parts(&mut self, cause: DocFault) -> Result<(), AllocError>
+    fn cause(&mut self, cause: DocFault) -> Result<(), AllocError>
         ensures ok { OnOk result (self.new ≡ self.old ++ cause_detail cause) }
-        ensures err { OnErr result (StartsWith self.new self.old) }
     {
         self.byte(SPACE)?;
         self.natural(u64::from(cause.number()))?;
@@ -228,36 +168,21 @@ impl Output {
 
     fn detail(&mut self, refused: Refused) -> Result<(), AllocError>
         ensures ok { OnOk result (self.new ≡ self.old ++ refusal_detail refused) }
-        ensures err { OnErr result (self.new ≡ self.old) }
     {
         match refused {
-            Refused::Document(cause) => {
-                let start = self.bytes.len();
-                let added = self.cause_parts(cause);
-                self.whole(start, added)
-            }
+            Refused::Document(cause) => self.cause(cause),
             _ => Ok(()),
         }
     }
 
-    fn refused_parts(&mut self, refused: Refused) -> Result<(), AllocError>
+    /// Adds why a command is refused: `refused 8 TYPE`, or `refused 18 DOCUMENT 10 ONE_SIDED`.
+    pub fn refused(&mut self, refused: Refused) -> Result<(), AllocError>
         ensures ok { OnOk result (self.new ≡ self.old ++ refused_text refused) }
-        ensures err { OnErr result (StartsWith self.new self.old) }
     {
         self.text("refused ")?;
         self.natural(u64::from(refused.number()))?;
         self.byte(SPACE)?;
         self.text(refused.name())?;
         self.detail(refused)
-    }
-
-    /// Adds why a command is refused: `refused 8 TYPE`, or `refused 18 DOCUMENT 10 ONE_SIDED`.
-    pub fn refused(&mut self, refused: Refused) -> Result<(), AllocError>
-        ensures ok { OnOk result (self.new ≡ self.old ++ refused_text refused) }
-        ensures err { OnErr result (self.new ≡ self.old) }
-    {
-        let start = self.bytes.len();
-        let added = self.refused_parts(refused);
-        self.whole(start, added)
     }
 }

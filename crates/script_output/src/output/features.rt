@@ -1,6 +1,5 @@
 //! What is printed of the features that a command answers.
-ghost use Rattle.std.specs.Prelude.{◌≡◌, ◌++◌, OnErr, OnOk};
-ghost use Rattle.std.specs.Io.{StartsWith};
+ghost use Rattle.std.specs.Prelude.{◌≡◌, ◌++◌, OnOk};
 ghost use Rattle.script_output.specs.Printed.{features_text, spaced_features};
 
 use super::Output;
@@ -14,16 +13,6 @@ impl Output {
     /// Adds a list of features by their names: `[name favourite]`.
     pub fn features(&mut self, meta: &Meta, features: &[FeatureNo]) -> Result<(), AllocError>
         ensures ok { OnOk result (self.new ≡ self.old ++ features_text meta.now features.now) }
-        ensures err { OnErr result (self.new ≡ self.old) }
-    {
-        let start = self.bytes.len();
-        let added = self.features_parts(meta, features);
-        self.whole(start, added)
-    }
-
-    fn features_parts(&mut self, meta: &Meta, features: &[FeatureNo]) -> Result<(), AllocError>
-        ensures ok { OnOk result (self.new ≡ self.old ++ features_text meta.now features.now) }
-        ensures err { OnErr result (StartsWith self.new self.old) }
     {
         match features {
             [] => self.text("[]"),
@@ -38,7 +27,6 @@ impl Output {
 
     fn spaced_features(&mut self, meta: &Meta, features: &[FeatureNo]) -> Result<(), AllocError>
         ensures ok { OnOk result (self.new ≡ self.old ++ spaced_features meta.now features.now) }
-        ensures err { OnErr result (StartsWith self.new self.old) }
     {
         for feature in features {
             self.byte(SPACE)?;

@@ -1,6 +1,5 @@
 //! What is printed of the list of a feature.
-ghost use Rattle.std.specs.Prelude.{◌≡◌, ◌++◌, OnErr, OnOk};
-ghost use Rattle.std.specs.Io.{StartsWith};
+ghost use Rattle.std.specs.Prelude.{◌≡◌, ◌++◌, OnOk};
 ghost use Rattle.script_output.specs.Printed.{feature_value_text, list_text, spaced_values};
 
 use super::Output;
@@ -19,21 +18,6 @@ impl Output {
         values: &[Value],
     ) -> Result<(), AllocError>
         ensures ok { OnOk result (self.new ≡ self.old ++ list_text meta.now feature values.now) }
-        ensures err { OnErr result (self.new ≡ self.old) }
-    {
-        let start = self.bytes.len();
-        let added = self.list_parts(meta, feature, values);
-        self.whole(start, added)
-    }
-
-    fn list_parts(
-        &mut self,
-        meta: &Meta,
-        feature: FeatureNo,
-        values: &[Value],
-    ) -> Result<(), AllocError>
-        ensures ok { OnOk result (self.new ≡ self.old ++ list_text meta.now feature values.now) }
-        ensures err { OnErr result (StartsWith self.new self.old) }
     {
         match values {
             [] => self.text("[]"),
@@ -53,7 +37,6 @@ impl Output {
         values: &[Value],
     ) -> Result<(), AllocError>
         ensures ok { OnOk result (self.new ≡ self.old ++ spaced_values meta.now feature values.now) }
-        ensures err { OnErr result (StartsWith self.new self.old) }
     {
         for value in values {
             self.byte(SPACE)?;
@@ -69,7 +52,6 @@ impl Output {
         value: &Value,
     ) -> Result<(), AllocError>
         ensures ok { OnOk result (self.new ≡ self.old ++ feature_value_text meta.now feature value.now) }
-        ensures err { OnErr result (self.new ≡ self.old) }
     {
         self.value(value, literal_name(meta, feature, value))
     }

@@ -1,6 +1,5 @@
 //! What is printed of the objects that a command answers.
-ghost use Rattle.std.specs.Prelude.{◌≡◌, ◌++◌, OnErr, OnOk};
-ghost use Rattle.std.specs.Io.{StartsWith};
+ghost use Rattle.std.specs.Prelude.{◌≡◌, ◌++◌, OnOk};
 ghost use Rattle.script_output.specs.Printed.{holder_text, objects_text, spaced_objects};
 
 use super::Output;
@@ -12,7 +11,6 @@ impl Output {
     /// Adds an object or a resource, or `null` where there is none.
     pub fn node_or_null(&mut self, node: Option<Node>) -> Result<(), AllocError>
         ensures ok { OnOk result (self.new ≡ self.old ++ holder_text node) }
-        ensures err { OnErr result (self.new ≡ self.old) }
     {
         match node {
             Some(node) => self.node(node),
@@ -23,16 +21,6 @@ impl Output {
     /// Adds a list of objects: `[#1 #4]`.
     pub fn objects(&mut self, objects: &[ObjectNo]) -> Result<(), AllocError>
         ensures ok { OnOk result (self.new ≡ self.old ++ objects_text objects.now) }
-        ensures err { OnErr result (self.new ≡ self.old) }
-    {
-        let start = self.bytes.len();
-        let added = self.objects_parts(objects);
-        self.whole(start, added)
-    }
-
-    fn objects_parts(&mut self, objects: &[ObjectNo]) -> Result<(), AllocError>
-        ensures ok { OnOk result (self.new ≡ self.old ++ objects_text objects.now) }
-        ensures err { OnErr result (StartsWith self.new self.old) }
     {
         match objects {
             [] => self.text("[]"),
@@ -47,7 +35,6 @@ impl Output {
 
     fn spaced_objects(&mut self, objects: &[ObjectNo]) -> Result<(), AllocError>
         ensures ok { OnOk result (self.new ≡ self.old ++ spaced_objects objects.now) }
-        ensures err { OnErr result (StartsWith self.new self.old) }
     {
         for object in objects {
             self.byte(SPACE)?;

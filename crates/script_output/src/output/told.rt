@@ -1,6 +1,5 @@
 //! What is printed of adapters: the notices that they are told, and how many.
-ghost use Rattle.std.specs.Prelude.{◌≡◌, ◌++◌, ◌∷◌, [], OnErr, OnOk};
-ghost use Rattle.std.specs.Io.{StartsWith};
+ghost use Rattle.std.specs.Prelude.{◌≡◌, ◌++◌, ◌∷◌, [], OnOk};
 ghost use Rattle.script_lines.specs.declared.grammar.TheConstants.{NEWLINE};
 ghost use Rattle.script_output.specs.Notified.{change_text, counts_text, notice_text, place_text, released_text, report_text, seen_text, told_value_text, values_text};
 
@@ -16,9 +15,8 @@ use std::alloc::AllocError;
 const FEATURE_MARK: u8 = b'.';
 
 impl Output {
-    fn place_parts(&mut self, meta: &Meta, notice: &Notice) -> Result<(), AllocError>
+    fn place(&mut self, meta: &Meta, notice: &Notice) -> Result<(), AllocError>
         ensures ok { OnOk result (self.new ≡ self.old ++ place_text meta.now notice.now) }
-        ensures err { OnErr result (StartsWith self.new self.old) }
     {
         self.node(notice.notifier)?;
         match notice.feature {
@@ -32,7 +30,6 @@ impl Output {
 
     fn told_value(&mut self, meta: &Meta, notice: &Notice, value: &Value) -> Result<(), AllocError>
         ensures ok { OnOk result (self.new ≡ self.old ++ told_value_text meta.now notice.now value.now) }
-        ensures err { OnErr result (self.new ≡ self.old) }
     {
         match notice.feature {
             Some(feature) => self.value(value, literal_name(meta, feature, value)),
@@ -40,9 +37,8 @@ impl Output {
         }
     }
 
-    fn values_parts(&mut self, meta: &Meta, notice: &Notice) -> Result<(), AllocError>
+    fn told_values(&mut self, meta: &Meta, notice: &Notice) -> Result<(), AllocError>
         ensures ok { OnOk result (self.new ≡ self.old ++ values_text meta.now notice.now) }
-        ensures err { OnErr result (StartsWith self.new self.old) }
     {
         self.told_value(meta, notice, &notice.old_value)?;
         self.byte(SPACE)?;
@@ -51,38 +47,20 @@ impl Output {
         self.integer(notice.position)
     }
 
-    fn change_parts(&mut self, meta: &Meta, notice: &Notice) -> Result<(), AllocError>
+    fn change(&mut self, meta: &Meta, notice: &Notice) -> Result<(), AllocError>
         ensures ok { OnOk result (self.new ≡ self.old ++ change_text meta.now notice.now) }
-        ensures err { OnErr result (StartsWith self.new self.old) }
     {
-        self.place_parts(meta, notice)?;
+        self.place(meta, notice)?;
         self.byte(SPACE)?;
-        self.values_parts(meta, notice)
+        self.told_values(meta, notice)
     }
 
-    fn report_parts(&mut self, meta: &Meta, notice: &Notice) -> Result<(), AllocError>
+    fn report(&mut self, meta: &Meta, notice: &Notice) -> Result<(), AllocError>
         ensures ok { OnOk result (self.new ≡ self.old ++ report_text meta.now notice.now) }
-        ensures err { OnErr result (StartsWith self.new self.old) }
     {
         self.text(notice.kind.name())?;
         self.byte(SPACE)?;
-        self.change_parts(meta, notice)
-    }
-
-    fn notice_parts(
-        &mut self,
-        meta: &Meta,
-        no: AdapterNo,
-        notice: &Notice,
-    ) -> Result<(), AllocError>
-        ensures ok { OnOk result (self.new ≡ self.old ++ notice_text meta.now no notice.now ++ NEWLINE ∷ []) }
-        ensures err { OnErr result (StartsWith self.new self.old) }
-    {
-        self.text("told ")?;
-        self.adapter_parts(no)?;
-        self.byte(SPACE)?;
-        self.report_parts(meta, notice)?;
-        self.byte(NEWLINE)
+        self.change(meta, notice)
     }
 
     /// Adds the line of a notice that an adapter is told, with its newline: `told A1 SET #0.pages 100 1 -1`. These are
@@ -94,59 +72,39 @@ impl Output {
         notice: &Notice,
     ) -> Result<(), AllocError>
         ensures ok { OnOk result (self.new ≡ self.old ++ notice_text meta.now no notice.now ++ NEWLINE ∷ []) }
-        ensures err { OnErr result (self.new ≡ self.old) }
     {
-        let start = self.bytes.len();
-        let added = self.notice_parts(meta, no, notice);
-        self.whole(start, added)
+        self.text("told ")?;
+        self.adapter(no)?;
+        self.byte(SPACE)?;
+        self.report(meta, notice)?;
+        self.byte(NEWLINE)
     }
 
-    fn counts_parts(&mut self, told: u64, kept: u64) -> Result<(), AllocError>
+    fn counts(&mut self, told: u64, kept: u64) -> Result<(), AllocError>
         ensures ok { OnOk result (self.new ≡ self.old ++ counts_text told kept) }
-        ensures err { OnErr result (StartsWith self.new self.old) }
     {
         self.natural(told)?;
         self.text(" kept ")?;
         self.natural(kept)
     }
 
-    fn released_parts(&mut self, no: AdapterNo, told: u64, kept: u64) -> Result<(), AllocError>
-        ensures ok { OnOk result (self.new ≡ self.old ++ released_text no told kept ++ NEWLINE ∷ []) }
-        ensures err { OnErr result (StartsWith self.new self.old) }
-    {
-        self.text("released ")?;
-        self.adapter_parts(no)?;
-        self.text(" told ")?;
-        self.counts_parts(told, kept)?;
-        self.byte(NEWLINE)
-    }
-
     /// Adds the line of a released adapter, with its newline: `released A1 told 1 kept 1`. These are how many notices it
     /// was told, and how many it keeps.
     pub fn released(&mut self, no: AdapterNo, told: u64, kept: u64) -> Result<(), AllocError>
         ensures ok { OnOk result (self.new ≡ self.old ++ released_text no told kept ++ NEWLINE ∷ []) }
-        ensures err { OnErr result (self.new ≡ self.old) }
     {
-        let start = self.bytes.len();
-        let added = self.released_parts(no, told, kept);
-        self.whole(start, added)
-    }
-
-    fn seen_parts(&mut self, told: u64, kept: u64) -> Result<(), AllocError>
-        ensures ok { OnOk result (self.new ≡ self.old ++ seen_text told kept) }
-        ensures err { OnErr result (StartsWith self.new self.old) }
-    {
-        self.text("seen ")?;
-        self.counts_parts(told, kept)
+        self.text("released ")?;
+        self.adapter(no)?;
+        self.text(" told ")?;
+        self.counts(told, kept)?;
+        self.byte(NEWLINE)
     }
 
     /// Adds how many notices an adapter was told, and how many it keeps: `seen 3 kept 2`.
     pub fn seen(&mut self, told: u64, kept: u64) -> Result<(), AllocError>
         ensures ok { OnOk result (self.new ≡ self.old ++ seen_text told kept) }
-        ensures err { OnErr result (self.new ≡ self.old) }
     {
-        let start = self.bytes.len();
-        let added = self.seen_parts(told, kept);
-        self.whole(start, added)
+        self.text("seen ")?;
+        self.counts(told, kept)
     }
 }
