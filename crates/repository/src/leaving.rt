@@ -1,5 +1,5 @@
 //! The adapters that leave with what a change destroys.
-ghost use Rattle.std.specs.Prelude.{◌≡◌, ◌+◌, ◌≤◌, ◌++◌, Bool, true, None, count_by, length, map, option_map, vec_capacity, vec_len, IfOk, IfSome, MatchOption};
+ghost use Rattle.std.specs.Prelude.{◌≡◌, ◌+◌, ◌^◌, ◌<◌, ◌≤◌, ◌++◌, Bool, true, None, count_by, length, map, option_map, vec_capacity, vec_len, IfOk, IfSome, MatchOption};
 ghost use Rattle.handshake.specs.Laws.{goes_with};
 ghost use Rattle.handshake.specs.Refusals.{early_refusal};
 ghost use Rattle.mm_types.specs.declared.numbers.Node.{Node};
@@ -72,12 +72,12 @@ impl<A: Adapter> Leaving<A> {
         places: Vec<bool>,
         chain_told: usize,
     ) -> Result<Self, AllocError>
+        requires { chain_told < 2 ^ 63 }
         ensures places { IfOk result (λ x. x.places.items ≡ places.items) }
         ensures room { IfOk result (HasRoom chain_told) }
     {
         let count = count(&places);
-        let told_len = chain_told.checked_add(count).ok_or(AllocError)?;
-        let told = Vec::with_capacity(alloc, told_len)?;
+        let told = Vec::with_capacity(alloc, chain_told + count)?;
         let released = Vec::with_capacity(alloc, count)?;
         Ok(Leaving {
             places,
@@ -89,7 +89,8 @@ impl<A: Adapter> Leaving<A> {
 
 /// How many leave.
 fn count(places: &[bool]) -> usize
-    ensures { result ≡ count_by (λ b. b) places.now }
+    ensures count { result ≡ count_by (λ b. b) places.now }
+    ensures small { result < 2 ^ 63 }
 {
     places.iter().filter(|leaves| **leaves).count()
 }
@@ -100,6 +101,7 @@ pub(crate) fn room_for<A: Adapter>(
     leaves: Option<Vec<bool>>,
     chain_told: usize,
 ) -> Result<Option<Leaving<A>>, AllocError>
+    requires { chain_told < 2 ^ 63 }
     ensures places { IfOk result (λ q. option_map (λ x. x.places.items) q ≡ option_map (λ bs. bs.items) leaves) }
     ensures room { IfOk result (λ q. IfSome q (HasRoom chain_told)) }
 {
