@@ -31,7 +31,7 @@ fn printed_with<L: LinkStore, A: Adapter>(
     let mut reader = script;
     let mut found = Vec::new(alloc);
     let meta = Box::into_inner(meta);
-    let outcome = run::<L, _, _, _>(alloc, &mut reader, &mut found, meta, boxes);
+    let outcome = run::<_, _, L, _>(alloc, &mut reader, &mut found, meta, boxes);
     match outcome {
         Err(fault) if writeln!(found, "stopped: {fault}").is_err() => Err(AllocError),
         _ => Ok(found),

@@ -112,7 +112,7 @@ fn run_script<A: Adapter>(rt: &HostRuntime, meta: Box<Meta>, boxes: Vec<A>) -> R
         return Err(Stop::Run(RunFault::Memory));
     };
     let meta = Box::into_inner(meta);
-    let outcome = run::<SlotStore, _, _, _>(rt.alloc(), &mut rt.reader(), &mut writer, meta, boxes);
+    let outcome = run::<_, _, SlotStore, _>(rt.alloc(), &mut rt.reader(), &mut writer, meta, boxes);
     let flushed = writer.flush();
     outcome?;
     if flushed.is_err() {

@@ -3,8 +3,7 @@ use crate::books::books;
 use crate::streams::{Narrow, OneByte};
 use adapters::Recorder;
 use link_store::{LinkStore, RowStore, SlotStore};
-use script_program::{Summary, run};
-use script_streams::RunFault;
+use script_program::{RunFault, Summary, run};
 use std::alloc::Global;
 use std::io::{Read, Write};
 use std::process::Abort;
@@ -18,7 +17,7 @@ fn run_books<L: LinkStore, R: Read, W: Write>(
 ) -> Result<Result<Summary, RunFault>, Fail> {
     let meta = books(alloc)?;
     let boxes: Vec<Recorder> = Vec::new(alloc);
-    Ok(run::<L, _, _, _>(alloc, reader, writer, Box::into_inner(meta), boxes))
+    Ok(run::<_, _, L, _>(alloc, reader, writer, Box::into_inner(meta), boxes))
 }
 
 const SCRIPT: &str = "new Book\nget #0 pages";

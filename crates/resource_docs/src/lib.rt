@@ -20,3 +20,4 @@ mod values;
 pub use doc::{Content, Doc, DocObject};
 pub use reading::read_doc;
 pub use target::Target;
+pub use web_uris::{UriFault, joined};

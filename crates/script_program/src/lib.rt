@@ -14,4 +14,6 @@ mod turn;
 
 pub use arguments::meta_file;
 pub use script::run;
+pub use script_lines::parse_line;
+pub use script_streams::RunFault;
 pub use summary::Summary;

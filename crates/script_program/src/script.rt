@@ -48,7 +48,7 @@ fn run_lines<W: Write, L: LinkStore, A: Adapter>(
 }
 
 /// Runs a script over an empty repository of a metamodel, and writes what each line prints.
-fn run_input<L: LinkStore, W: Write, A: Adapter>(
+fn run_input<W: Write, L: LinkStore, A: Adapter>(
     alloc: Global,
     writer: &mut W,
     meta: Meta,
@@ -76,7 +76,7 @@ fn run_input<L: LinkStore, W: Write, A: Adapter>(
 /// was run. Errs with `Write` where a write errs or takes no byte, and with `Memory` where memory is refused to the run
 /// itself: then what was written is a front of what the first lines print. Where memory is refused to the repository, the
 /// line prints `refused 28 MEMORY`, and the run goes on.
-pub fn run<L: LinkStore, R: Read, W: Write, A: Adapter>(
+pub fn run<R: Read, W: Write, L: LinkStore, A: Adapter>(
     alloc: Global,
     reader: &mut R,
     writer: &mut W,
@@ -95,7 +95,7 @@ pub fn run<L: LinkStore, R: Read, W: Write, A: Adapter>(
     ensures long { IsErrOf result RunFault.TooLong → IfSome (R.remaining reader.old) (λ input. INPUT_BYTES < length input) }
 {
     match read_all(alloc, reader) {
-        Ok(input) => run_input::<L, W, A>(alloc, writer, meta, boxes, input.as_slice()),
+        Ok(input) => run_input::<W, L, A>(alloc, writer, meta, boxes, input.as_slice()),
         Err(fault) => Err(fault),
     }
 }
