@@ -1,7 +1,7 @@
 //! Each adapter is dropped once: after it was detached, after its owner was closed, and with its owner, which is a list or a
 //! repository.
 use crate::books::watched;
-use crate::tally::Tally;
+use crate::tally::{Drops, NO_DROPS, Tally};
 use crate::telling::three;
 use adapters::Adapter;
 use mm_types::AdapterNo;
@@ -17,28 +17,28 @@ fn drops_on_the_way<A: Adapter>(
     first: A,
     second: A,
     third: A,
-    drops: &Cell<u64>,
+    drops: &Cell<Drops>,
 ) -> Result<[u64; 4], Fail> {
     let mut list = three(alloc, [1, 2, 1], first, second, third)?;
     let detached = list.detach(AdapterNo(6));
-    let after_detach = drops.get();
+    let after_detach = drops.get().all;
     drop(detached);
-    let after_drop = drops.get();
+    let after_drop = drops.get().all;
     let closed = Box::into_inner(list).close();
-    let after_close = drops.get();
+    let after_close = drops.get().all;
     drop(closed);
-    Ok([after_detach, after_drop, after_close, drops.get()])
+    Ok([after_detach, after_drop, after_close, drops.get().all])
 }
 
 /// A counter in a box whose part is counted when it is dropped.
-fn boxed(alloc: Global, drops: &Rc<Cell<u64>>) -> Result<Box<dyn Adapter>, AllocError> {
+fn boxed(alloc: Global, drops: &Rc<Cell<Drops>>) -> Result<Box<dyn Adapter>, AllocError> {
     Ok(Box::new(alloc, Tally::new(drops)?)?)
 }
 
 #[test]
 fn each_part_is_dropped_once(rt: HostRuntime) -> Result<(), Fail> {
     let alloc = rt.alloc();
-    let drops = Rc::new(alloc, Cell::new(0))?;
+    let drops = Rc::new(alloc, Cell::new(NO_DROPS))?;
     let first = boxed(alloc, &drops)?;
     let second = boxed(alloc, &drops)?;
     let third = boxed(alloc, &drops)?;
@@ -54,23 +54,23 @@ fn drops_of_a_repository<A: Adapter>(
     first: A,
     second: A,
     third: A,
-    drops: &Cell<u64>,
+    drops: &Cell<Drops>,
 ) -> Result<[u64; 4], Fail> {
     let mut repository = watched(alloc, first, second, third)?;
     let reply = repository.detach(AdapterNo(6))?;
-    let after_detach = drops.get();
+    let after_detach = drops.get().all;
     drop(reply);
-    let after_drop = drops.get();
+    let after_drop = drops.get().all;
     let closed = Box::into_inner(repository).close();
-    let after_close = drops.get();
+    let after_close = drops.get().all;
     drop(closed);
-    Ok([after_detach, after_drop, after_close, drops.get()])
+    Ok([after_detach, after_drop, after_close, drops.get().all])
 }
 
 #[test]
 fn each_part_of_a_repository_is_dropped_once(rt: HostRuntime) -> Result<(), Fail> {
     let alloc = rt.alloc();
-    let drops = Rc::new(alloc, Cell::new(0))?;
+    let drops = Rc::new(alloc, Cell::new(NO_DROPS))?;
     let first = boxed(alloc, &drops)?;
     let second = boxed(alloc, &drops)?;
     let third = boxed(alloc, &drops)?;
@@ -81,22 +81,22 @@ fn each_part_of_a_repository_is_dropped_once(rt: HostRuntime) -> Result<(), Fail
 
 #[test]
 fn a_dropped_list_drops_its_adapters(rt: HostRuntime) -> Result<(), Fail> {
-    let drops = Rc::new(rt.alloc(), Cell::new(0))?;
+    let drops = Rc::new(rt.alloc(), Cell::new(NO_DROPS))?;
     let (first, second) = (Tally::new(&drops)?, Tally::new(&drops)?);
     let list = three(rt.alloc(), [1, 2, 1], first, second, Tally::new(&drops)?)?;
-    assert_eq!(rt; drops.get(), 0);
+    assert_eq!(rt; drops.get().all, 0);
     drop(list);
-    assert_eq!(rt; drops.get(), 3);
+    assert_eq!(rt; drops.get().all, 3);
     Ok(())
 }
 
 #[test]
 fn a_dropped_repository_drops_its_adapters(rt: HostRuntime) -> Result<(), Fail> {
-    let drops = Rc::new(rt.alloc(), Cell::new(0))?;
+    let drops = Rc::new(rt.alloc(), Cell::new(NO_DROPS))?;
     let (first, second) = (Tally::new(&drops)?, Tally::new(&drops)?);
     let repository = watched(rt.alloc(), first, second, Tally::new(&drops)?)?;
-    assert_eq!(rt; drops.get(), 0);
+    assert_eq!(rt; drops.get().all, 0);
     drop(repository);
-    assert_eq!(rt; drops.get(), 3);
+    assert_eq!(rt; drops.get().all, 3);
     Ok(())
 }

@@ -45,6 +45,8 @@ mod replies;
 #[cfg(test)]
 mod repositories;
 #[cfg(test)]
+mod run_ends;
+#[cfg(test)]
 mod runs;
 #[cfg(test)]
 mod script_text;

@@ -1,21 +1,36 @@
-//! An adapter that is counted when it is dropped.
+//! An adapter that is counted when it is dropped, and again if REMOVING_ADAPTER was its last notice.
 ghost use Rattle.std.specs.Prelude.{◌-◌, [], Some};
 
 use adapters::{Adapter, NoRoom};
-use notice_chain::Notice;
+use notice_chain::{Notice, NoticeKind};
 use std::alloc::AllocError;
 use std::cell::Cell;
 use std::rc::Rc;
 
+/// How many were dropped, and how many of them after REMOVING_ADAPTER, their last notice.
+#[derive(Clone, Copy)]
+pub(crate) struct Drops {
+    pub all: u64,
+    pub removed: u64,
+}
+
+/// No drop yet.
+pub(crate) const NO_DROPS: Drops = Drops { all: 0, removed: 0 };
+
 /// What is counted when it is dropped.
 struct Part {
-    drops: Rc<Cell<u64>>,
+    drops: Rc<Cell<Drops>>,
+    is_removed: bool,
 }
 
 impl Drop for Part {
     fn drop(self) {
-        let Part { drops } = self;
-        drops.set(drops.get().wrapping_add(1));
+        let Part { drops, is_removed } = self;
+        let Drops { all, removed } = drops.get();
+        drops.set(Drops {
+            all: all.wrapping_add(1),
+            removed: removed.wrapping_add(u64::from(is_removed)),
+        });
     }
 }
 
@@ -27,10 +42,13 @@ pub(crate) struct Tally {
 }
 
 impl Tally {
-    pub(crate) fn new(drops: &Rc<Cell<u64>>) -> Result<Tally, AllocError> {
+    pub(crate) fn new(drops: &Rc<Cell<Drops>>) -> Result<Tally, AllocError> {
         let drops = drops.clone()?;
         Ok(Tally {
-            part: Part { drops },
+            part: Part {
+                drops,
+                is_removed: false,
+            },
             told: 0,
         })
     }
@@ -48,7 +66,8 @@ impl Adapter for Tally {
         Ok(())
     }
 
-    fn notify_changed(&mut self, _notice: Notice) {
+    fn notify_changed(&mut self, notice: Notice) {
+        self.part.is_removed = notice.kind == NoticeKind::RemovingAdapter;
         self.told += 1;
     }
 
