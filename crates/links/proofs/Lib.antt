@@ -8,6 +8,7 @@ pub mod ScanLemmas
 pub mod PutLemmas
 pub mod CutLemmas
 pub mod SideLemmas
+pub mod ShownLemmas
 pub mod SameLinksLemmas
 pub mod HolderLemmas
 pub mod ClimbLemmas

@@ -39,7 +39,7 @@ use Rattle.loading.proofs.PairLemmas.{numbered-all, all-append, all-at, all-filt
 use Rattle.loading.proofs.SideLemmas.{IsFarSide, IsNearSide, IsPlainFeature, contents-shape, near-contained, opposite-reference, sides}
 use Rattle.loading.proofs.SoundLemmas.{at-map, first-of, object-there, AreSoundContents, IsSort, IsSound, IsSoundContent}
 use Rattle.loading.proofs.SourceLemmas.{at-source, loaded-at, loaded_value, sources_from}
-use Rattle.loading.proofs.StandLemmas.{IsShown, shown_in}
+use Rattle.links.proofs.ShownLemmas.{IsShown, shown_in}
 
 ---------------------------------------------------------------- links inserted
 
