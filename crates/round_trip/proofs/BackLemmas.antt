@@ -43,19 +43,19 @@ use Rattle.resource_docs.specs.Read.{doc_read}
 use Rattle.resource_docs.specs.Texts.{Base, base_of}
 use Rattle.resource_docs.specs.Values.{has_lost, is_lost, value_of}
 use Rattle.resource_docs.specs.declared.doc.Doc.{Doc}
-use Rattle.saved_parts.specs.Laws.{AreParts}
-use Rattle.saved_parts.specs.Parts.{data_of, entry_of, part_of, path_in}
-use Rattle.saved_texts.specs.Laws.{LeadsBack}
-use Rattle.saved_values.specs.Copied.{copied, renamed}
-use Rattle.saved_values.specs.Laws.{AreReadAs, parts_of}
-use Rattle.saved_values.specs.Readable.{IsReadable}
-use Rattle.saved_parts.proofs.DocumentLemmas.{parts-saved}
-use Rattle.saved_texts.proofs.LeadsLemmas.{leads-back}
-use Rattle.saved_values.proofs.ReadAsLemmas.{all-read}
+use Rattle.round_trip.specs.PartsLaws.{AreParts}
+use Rattle.round_trip.specs.Parts.{data_of, entry_of, part_of, path_in}
+use Rattle.round_trip.specs.TextsLaws.{LeadsBack}
+use Rattle.round_trip.specs.Copied.{copied, renamed}
+use Rattle.round_trip.specs.ValuesLaws.{AreReadAs, parts_of}
+use Rattle.round_trip.specs.Readable.{IsReadable}
+use Rattle.round_trip.proofs.DocumentLemmas.{parts-saved}
+use Rattle.round_trip.proofs.LeadsLemmas.{leads-back}
+use Rattle.round_trip.proofs.ReadAsLemmas.{all-read}
 use Rattle.round_trip.proofs.CopyLemmas.{doc-copied, values-written}
 use Rattle.round_trip.proofs.DepthLemmas.{document-depth}
 use Rattle.round_trip.proofs.EndLemmas.{apart-values, some-values, written-of}
-use Rattle.saved_values.proofs.ListLemmas.{none-passes, stands}
+use Rattle.round_trip.proofs.ValuesListLemmas.{none-passes, stands}
 use Rattle.round_trip.proofs.ListLemmas.{any-none, each-at}
 use Rattle.round_trip.proofs.NamedLemmas.{allowed, names-apart}
 use Rattle.round_trip.proofs.ShapeLemmas.{no-shape_cause, none-entry, none-part}

@@ -33,12 +33,12 @@ use Rattle.resource_docs.specs.Values.{value_of}
 use Rattle.resource_docs.specs.declared.doc.Content.{Content}
 use Rattle.resource_docs.specs.declared.doc.Doc.{Doc}
 use Rattle.resource_docs.specs.declared.doc.DocObject.{DocObject}
-use Rattle.saved_parts.specs.Laws.{AreParts}
-use Rattle.saved_parts.specs.Parts.{data_of, entry_of, part_of, path_in}
-use Rattle.saved_values.specs.Copied.{content_copied, copied, object_copied, renamed, root_copied}
-use Rattle.saved_values.specs.Laws.{AreReadAs, parts_of}
+use Rattle.round_trip.specs.PartsLaws.{AreParts}
+use Rattle.round_trip.specs.Parts.{data_of, entry_of, part_of, path_in}
+use Rattle.round_trip.specs.Copied.{content_copied, copied, object_copied, renamed, root_copied}
+use Rattle.round_trip.specs.ValuesLaws.{AreReadAs, parts_of}
 use Rattle.round_trip.proofs.EndLemmas.{IsWrittenOf, some-values, written-of}
-use Rattle.saved_values.proofs.ListLemmas.{found-among, in-all, in-front, object-at, place-of}
+use Rattle.round_trip.proofs.ValuesListLemmas.{found-among, in-all, in-front, object-at, place-of}
 use Rattle.round_trip.proofs.ListLemmas.{all-kept, all-passed, each-mapped, each-of, filter_map-each, filter_map-mapped, map-each, map-twice, of-each, read-each}
 
 ---------------------------------------------------------------- values

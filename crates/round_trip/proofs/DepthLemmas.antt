@@ -23,11 +23,11 @@ use Rattle.fragment_paths.specs.Finding.{roots}
 use Rattle.fragment_paths.proofs.UpLemmas.{above-node}
 use Rattle.saved_docs.specs.Document.{reference_text, class_name, content_data, document, feature_member, members_with, two, value_data}
 use Rattle.saved_docs.specs.Written.{level, objects_in, written_features}
-use Rattle.saved_parts.specs.Parts.{data_of, features_data}
-use Rattle.saved_parts.proofs.LevelLemmas.{data-is}
-use Rattle.saved_parts.specs.Laws.{AreParts}
-use Rattle.saved_values.specs.Laws.{AreReadAs}
-use Rattle.saved_values.proofs.InsideLemmas.{part-written}
+use Rattle.round_trip.specs.Parts.{data_of, features_data}
+use Rattle.round_trip.proofs.LevelLemmas.{data-is}
+use Rattle.round_trip.specs.PartsLaws.{AreParts}
+use Rattle.round_trip.specs.ValuesLaws.{AreReadAs}
+use Rattle.round_trip.proofs.InsideLemmas.{part-written}
 use Rattle.round_trip.proofs.CopyLemmas.{root-inside}
 use Rattle.round_trip.proofs.EndLemmas.{some-values, written-of}
 use Rattle.round_trip.proofs.ListLemmas.{each-at, each-mapped, each-of}

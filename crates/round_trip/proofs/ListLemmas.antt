@@ -5,7 +5,7 @@ use Rattle.std.specs.List.{AllByRecursion, cons_option, enumerate_from, list_all
 use Rattle.std.proofs.lemmas.Bool.{and_parts}
 use Rattle.std.proofs.lemmas.List.Folds.{list_any_at}
 use Rattle.std.proofs.lemmas.Option.{none-some, same_Some}
-use Rattle.saved_values.proofs.ListLemmas.{behind, in-front, passes-kept}
+use Rattle.round_trip.proofs.ValuesListLemmas.{behind, in-front, passes-kept}
 
 ---------------------------------------------------------------- being in a list
 

@@ -40,13 +40,13 @@ use Rattle.doc_parts.specs.Parts.{number_of, step_to}
 use Rattle.saved_docs.specs.Document.{value_data}
 use Rattle.resource_docs.specs.Texts.{base_of}
 use Rattle.resource_docs.specs.Values.{object_of, value_of}
-use Rattle.saved_parts.specs.Parts.{data_of, path_in}
-use Rattle.saved_texts.specs.Laws.{LeadsBack}
-use Rattle.saved_values.specs.Copied.{renamed}
-use Rattle.saved_values.specs.Laws.{AreReadAs, parts_of}
-use Rattle.saved_values.specs.Readable.{IsReadable}
-use Rattle.saved_values.proofs.InsideLemmas.{inside-written}
-use Rattle.saved_values.proofs.ListLemmas.{found-among, is-kept, none-passes, object-among, object-at, stands}
+use Rattle.round_trip.specs.Parts.{data_of, path_in}
+use Rattle.round_trip.specs.TextsLaws.{LeadsBack}
+use Rattle.round_trip.specs.Copied.{renamed}
+use Rattle.round_trip.specs.ValuesLaws.{AreReadAs, parts_of}
+use Rattle.round_trip.specs.Readable.{IsReadable}
+use Rattle.round_trip.proofs.InsideLemmas.{inside-written}
+use Rattle.round_trip.proofs.ValuesListLemmas.{found-among, is-kept, none-passes, object-among, object-at, stands}
 use Rattle.round_trip.proofs.EndLemmas.{written-of}
 use Rattle.round_trip.proofs.ListLemmas.{mapped-at}
 use Rattle.round_trip.proofs.OrderLemmas.{position-there}

@@ -32,7 +32,7 @@ use Rattle.fragment_paths.proofs.UpLemmas.{path-part, path-root}
 use Rattle.saved_docs.specs.Written.{objects_in}
 use Rattle.doc_parts.proofs.WayLemmas.{position_cons}
 use Rattle.fragment_paths.proofs.InsideLemmas.{contents-contains}
-use Rattle.saved_values.proofs.ListLemmas.{among-found, behind, in-front, stands}
+use Rattle.round_trip.proofs.ValuesListLemmas.{among-found, behind, in-front, stands}
 use Rattle.round_trip.proofs.ListLemmas.{of-each}
 
 ---------------------------------------------------------------- lists of objects

@@ -43,12 +43,12 @@ use Rattle.saved_docs.specs.Document.{class_name, document, feature_member, memb
 use Rattle.saved_docs.specs.Written.{objects_in, written_features}
 use Rattle.saved_docs.proofs.RootLemmas.{all-live}
 use Rattle.resource_docs.specs.Causes.{has_other_format, shape_cause}
-use Rattle.saved_parts.specs.Laws.{AreParts}
-use Rattle.saved_parts.specs.Parts.{data_of, entry_of, features_data, part_of}
-use Rattle.saved_values.specs.Laws.{AreReadAs}
+use Rattle.round_trip.specs.PartsLaws.{AreParts}
+use Rattle.round_trip.specs.Parts.{data_of, entry_of, features_data, part_of}
+use Rattle.round_trip.specs.ValuesLaws.{AreReadAs}
 use Rattle.round_trip.proofs.CopyLemmas.{values-written}
 use Rattle.round_trip.proofs.EndLemmas.{legal-at, written-of}
-use Rattle.saved_values.proofs.ListLemmas.{stands}
+use Rattle.round_trip.proofs.ValuesListLemmas.{stands}
 use Rattle.round_trip.proofs.ListLemmas.{all-pass, all-passed, any-none, each-at, each-mapped, each-of, of-each}
 
 ---------------------------------------------------------------- keys

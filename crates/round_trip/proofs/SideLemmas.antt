@@ -40,12 +40,12 @@ use Rattle.resource_docs.specs.Causes.{has_cross, is_one_sided, is_proxy, is_una
 use Rattle.resource_docs.specs.Read.{values_in, values_under}
 use Rattle.resource_docs.specs.declared.doc.Content.{Content}
 use Rattle.resource_docs.specs.declared.doc.DocObject.{DocObject}
-use Rattle.saved_texts.specs.Laws.{LeadsBack}
-use Rattle.saved_values.specs.Copied.{content_copied, copied, object_copied, renamed}
-use Rattle.saved_values.specs.Laws.{AreReadAs}
-use Rattle.saved_values.specs.Readable.{IsReadable}
-use Rattle.saved_parts.proofs.ContainLemmas.{reference-plain}
-use Rattle.saved_values.proofs.ListLemmas.{behind, in-front, is-kept, stands}
+use Rattle.round_trip.specs.TextsLaws.{LeadsBack}
+use Rattle.round_trip.specs.Copied.{content_copied, copied, object_copied, renamed}
+use Rattle.round_trip.specs.ValuesLaws.{AreReadAs}
+use Rattle.round_trip.specs.Readable.{IsReadable}
+use Rattle.round_trip.proofs.ContainLemmas.{reference-plain}
+use Rattle.round_trip.proofs.ValuesListLemmas.{behind, in-front, is-kept, stands}
 use Rattle.round_trip.proofs.EndLemmas.{IsWrittenOf, written-of}
 use Rattle.round_trip.proofs.ListLemmas.{any-in, any-none, each-at, each-of, mapped-in}
 use Rattle.round_trip.proofs.NamedLemmas.{Addressed, IsNamed, Numbered, allowed, name-addressed, name-numbered, named, not-contained, target-not}

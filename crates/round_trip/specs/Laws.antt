@@ -8,8 +8,8 @@ use Rattle.saved_docs.specs.Document.{document}
 use Rattle.saved_docs.specs.Saved.{IsReadAs}
 use Rattle.resource_docs.specs.Causes.{reads, reads_bytes}
 use Rattle.resource_docs.specs.Texts.{base_of}
-use Rattle.saved_values.specs.Copied.{copied}
-use Rattle.saved_values.specs.Readable.{IsReadable}
+use Rattle.round_trip.specs.Copied.{copied}
+use Rattle.round_trip.specs.Readable.{IsReadable}
 
 -- the JSON value of a resource is read as that resource
 abbrev pub ReadsBack : Model → Type 0

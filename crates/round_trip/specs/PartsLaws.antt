@@ -1,0 +1,25 @@
+-- What is found in the document of a resource: the objects of the resource, each with the features that are written of it.
+use Rattle.std.specs.Prelude.{◌≡◌, pos, Contains, Some, map}
+use Rattle.serde_json.specs.View.{items_of}
+use Rattle.mm_types.specs.declared.numbers.ObjectNo.{ObjectNo}
+use Rattle.mm_types.specs.declared.numbers.ResourceNo.{ResourceNo}
+use Rattle.models.specs.Reading.{Reading}
+use Rattle.fragment_paths.specs.Finding.{roots}
+use Rattle.doc_parts.specs.Layout.{new_top, new_written, top, written}
+use Rattle.doc_parts.specs.Parts.{class_of, entries, parts, root_parts}
+use Rattle.saved_docs.specs.Document.{class_name, document}
+use Rattle.saved_docs.specs.Written.{objects_in, written_features}
+use Rattle.round_trip.specs.Parts.{data_of, entry_of, features_data, part_of}
+
+-- an object is read with its class and, in order, the features that are written of it
+pub record IsPart (r : Reading) (k : ResourceNo) (o : ObjectNo) : Type 0 where
+  pub written : written (data_of r k o) ≡ Some (new_written (class_name r o) (features_data r k o))
+  pub class : class_of r.metamodel (data_of r k o) ≡ r.class o
+  pub entries : entries r.metamodel (data_of r k o) ≡ map (entry_of r k o) (written_features r o)
+
+-- the roots and the parts of the document are those of the resource, in loading order
+pub record AreParts (r : Reading) (k : ResourceNo) : Type 0 where
+  pub top : top (document r k) ≡ Some (new_top (pos 1) (items_of (map (data_of r k) (roots r k))))
+  pub roots : root_parts (document r k) ≡ map (part_of r k) (roots r k)
+  pub parts : parts r.metamodel (document r k) ≡ map (part_of r k) (objects_in r k)
+  pub each : (o : ObjectNo) → Contains (objects_in r k) o → IsPart r k o

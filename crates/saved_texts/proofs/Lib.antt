@@ -1,3 +1,0 @@
-pub mod UnmarkedLemmas
-pub mod TargetLemmas
-pub mod LeadsLemmas
