@@ -150,7 +150,8 @@ features-distinct s legal (node.Object o) = by ((reading s).class o)
 
 ---------------------------------------------------------------- contents
 
-objects-distinct : (vs : List Value) → sets.IsDistinct vs → IsDistinct same_object (objects_of vs)
+-- where each value stands once, so does each object
+pub objects-distinct : (vs : List Value) → sets.IsDistinct vs → IsDistinct same_object (objects_of vs)
 unfolding IsDistinct
 objects-distinct [] d = tt
 objects-distinct (value.Object c ∷ vs) d = (

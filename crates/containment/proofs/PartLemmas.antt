@@ -85,7 +85,7 @@ legal-at r e (w ∷ ws) k v h at = let two = and_parts _ _ h in (two.0, all-get 
 pub end-made : (s : Model) (e : End) (k : ℕ) (v : Value) → IsLegal s → slice_get (end s.links e) k ≡ Some v → IsMade s e.node
 end-made s e k v legal at = has-made s e.node e.feature (legal-at (reading s) e (end s.links e) k v (legal.links.ends e) at).0
 
-object-typed : (m : Metamodel) (single : Bool) (t : DataType) (o : ObjectNo) → lookups.is_attribute_value m single t (value.Object o) ≡ false
+pub object-typed : (m : Metamodel) (single : Bool) (t : DataType) (o : ObjectNo) → lookups.is_attribute_value m single t (value.Object o) ≡ false
 object-typed m single EString o = refl
 object-typed m single EInt o = refl
 object-typed m single ELong o = refl
@@ -93,7 +93,7 @@ object-typed m single EBoolean o = refl
 object-typed m single (Enum e) o = refl
 
 -- what a feature takes lives
-taken-live : (m : Metamodel) (class : ObjectNo → Option ClassNo) (f : FeatureNo) (o : ObjectNo) → lookups.takes m class f (value.Object o) ≡ true → is_some (class o) ≡ true
+pub taken-live : (m : Metamodel) (class : ObjectNo → Option ClassNo) (f : FeatureNo) (o : ObjectNo) → lookups.takes m class f (value.Object o) ≡ true → is_some (class o) ≡ true
 taken-live m class f o = by (lookups.feature m f)
   where
     by_kind : (single : Bool) (k : Kind) → lookups.is_of_kind m class single k (value.Object o) ≡ true → is_some (class o) ≡ true

@@ -24,16 +24,17 @@ abbrev pub waiting-trees : Model → List ObjectNo → List ObjectNo
 waiting-trees s os = flat_map (subtree (reading s)) (reverse os)
 
 module _ (s : Model) (legal : IsLegal s) where
-  depth : ObjectNo → ℕ
+  -- how many objects are above one
+  pub depth : ObjectNo → ℕ
   depth o = length (numbers (above s.links (node.Object o)))
 
-  part-deeper : (o c : ObjectNo) → IsPart s (node.Object o) c → depth c ≡ suc (depth o)
+  pub part-deeper : (o c : ObjectNo) → IsPart s (node.Object o) c → depth c ≡ suc (depth o)
   unfolding depth
   part-deeper o c part =
       ap (λ (ns : List Node). length (numbers ns)) (above_held s.links legal.links.set legal.links.forest (node.Object c) part.by part.held)
       ∙ ap (λ (n : Node). length (numbers (n ∷ above s.links n))) part.here
 
-  part-shallow : (o c : ObjectNo) → IsPart s (node.Object o) c → depth c < length s.values.objects
+  pub part-shallow : (o c : ObjectNo) → IsPart s (node.Object o) c → depth c < length s.values.objects
   unfolding depth
   part-shallow o c part = part-depth s legal (node.Object o) c part
 

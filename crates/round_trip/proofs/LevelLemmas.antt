@@ -13,14 +13,11 @@ use Rattle.mm_types.specs.declared.numbers.ObjectNo.{ObjectNo}
 use Rattle.mm_types.specs.declared.numbers.ResourceNo.{ResourceNo}
 use Rattle.mm_types.specs.declared.value.Value.{Value}
 use Rattle.mm_types.specs.declared.value.Value.TheVariants as value
-use Rattle.links.proofs.AboveLemmas.{above_held}
-use Rattle.links.specs.Holders.{above}
 use Rattle.models.specs.Legal.{IsLegal}
 use Rattle.models.specs.Model.{Model, reading, values_at}
 use Rattle.models.specs.Reading.{Reading, at_end, is_live, object_of, objects_of}
-use Rattle.containment.proofs.ChainLemmas.{numbers, part-depth}
 use Rattle.containment.proofs.PartLemmas.{IsPart, contains-itself, contains-reference, end-made, holder-at, live-made, values-linked}
-use Rattle.containment.proofs.TreeLemmas.{some-made}
+use Rattle.containment.proofs.TreeLemmas.{depth, part-deeper, part-shallow, some-made}
 use Rattle.fragment_paths.proofs.ObjectLemmas.{all-objects, objects-get}
 use Rattle.saved_docs.proofs.RootLemmas.{all-live}
 use Rattle.saved_docs.specs.Document.{class_name, content_data, feature_member, members, object_data, reference_text, two, value_data}
@@ -91,30 +88,16 @@ module _ (s : Model) (legal : IsLegal s) where
         here = refl;
       }
 
-  -- how many objects are above one
-  depth : ObjectNo → ℕ
-  depth o = length (numbers (above s.links (node.Object o)))
-
-  part-deeper : (o c : ObjectNo) → IsPart s (node.Object o) c → depth c ≡ suc (depth o)
-  unfolding depth
-  part-deeper o c part =
-      ap (λ (ns : List Node). length (numbers ns)) (above_held s.links legal.links.set legal.links.forest (node.Object c) part.by part.held)
-      ∙ ap (λ (n : Node). length (numbers (n ∷ above s.links n))) part.here
-
-  part-shallow : (o c : ObjectNo) → IsPart s (node.Object o) c → depth c < length s.values.objects
-  unfolding depth
-  part-shallow o c part = part-depth s legal (node.Object o) c part
-
   -- once the levels go past the deepest object, one more writes nothing else
-  more-levels : (k : ResourceNo) (n : ℕ) (o : ObjectNo) → 0 < n → length s.values.objects ≤ n + depth o → object_data (reading s) k (suc n) o ≡ object_data (reading s) k n o
+  more-levels : (k : ResourceNo) (n : ℕ) (o : ObjectNo) → 0 < n → length s.values.objects ≤ n + depth s legal o → object_data (reading s) k (suc n) o ≡ object_data (reading s) k n o
   more-levels k zero o some far = absurd (omega (arith, some))
   more-levels k (suc n) o some far =
       let r = reading s in
       ap (λ ms. two (codes "class") (string (class_name r o)) (codes "features") (object (members ms)))
       (same-members r k (object_data r k (suc n)) (object_data r k n) o (written_features r o) (λ f i c contains at.
       let part = part-under (node.Object o) f i c contains at in
-      let deeper = part-deeper o c part in
-      let shallow = part-shallow o c part in
+      let deeper = part-deeper s legal o c part in
+      let shallow = part-shallow s legal o c part in
       more-levels k n c (omega (arith, deeper, shallow, far)) (omega (arith, deeper, far))))
 
   -- an object that lives is written with its features

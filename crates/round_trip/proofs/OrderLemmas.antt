@@ -1,5 +1,5 @@
 -- The objects of a resource are all different, so each one's number is its place among them.
-use Rattle.std.proofs.Common.{◌≡◌, ◌∙◌, ℕ, zero, suc, Bool, true, false, cond, List, [], ◌∷◌, ◌++◌, Option, Some, None, ap, arith, eq-eqb, inl, inr, option_map, refl, slice_get, sym, subst}
+use Rattle.std.proofs.Common.{◌≡◌, ◌∙◌, ℕ, zero, suc, Bool, true, false, cond, List, [], ◌∷◌, ◌++◌, Option, Some, None, ap, eq-eqb, inl, inr, option_map, refl, slice_get, sym, subst}
 use Rattle.std.specs.Prelude.{Contains, flat_map, position}
 use Rattle.std.specs.List.{AllByRecursion, IsDistinct, list_any}
 use Rattle.std.proofs.lemmas.Bool.{false≢true, or_cases, or_left, or_right}
@@ -13,13 +13,12 @@ use Rattle.mm_types.specs.declared.numbers.ResourceNo.{ResourceNo}
 use Rattle.mm_types.specs.declared.value.Value.{Value}
 use Rattle.mm_types.specs.declared.value.Value.TheVariants as value
 use Rattle.links.specs.Holders.{holder}
-use Rattle.links.specs.LegalSets as sets
 use Rattle.links.specs.Links.{end}
 use Rattle.models.specs.Legal.{IsLegal}
 use Rattle.models.specs.Model.{Model, reading, values_at}
 use Rattle.models.specs.Reading.{object_of, objects_of}
 use Rattle.containment.specs.Forest.{contents, subtree, tree}
-use Rattle.containment.proofs.DistinctLemmas.{subtree-distinct}
+use Rattle.containment.proofs.DistinctLemmas.{objects-distinct, subtree-distinct}
 use Rattle.containment.proofs.MemberLemmas.{all-among, flat_map-from, same-object}
 use Rattle.containment.proofs.PartLemmas.{IsPart, all-objects, contains-itself, contains-reference, contents-parts, holder-at, values-linked}
 use Rattle.web_uris.specs.Paths.{with_step}
@@ -108,18 +107,6 @@ there-position (x ∷ xs) o (suc n) d at =
 root-kept : (x : Option Path) (t : Step) → option_map (λ (q : Path). q.root) (option_map (λ q. with_step q t) x) ≡ option_map (λ (q : Path). q.root) x
 root-kept None t = refl
 root-kept (Some q) t = refl
-
--- where each value stands once, so does each object
-objects-distinct : (vs : List Value) → sets.IsDistinct vs → IsDistinct same_object (objects_of vs)
-unfolding IsDistinct
-objects-distinct [] d = tt
-objects-distinct (value.Object c ∷ vs) d = (
-  all-objects (λ y. same_object c y ≡ false) vs (λ k y at. not-true (same_object c y) (λ q.
-      let again = d 0 (suc k) (value.Object c) refl (at ∙ ap (λ (x : ObjectNo). Some (value.Object x)) (sym (same-object c y q))) in
-      absurd (omega (arith, again)))),
-  objects-distinct vs (λ j k v a b. (let same = d (suc j) (suc k) v a b in omega (arith, same))),
-)
-objects-distinct (v ∷ vs) d = objects-distinct vs (λ j k w a b. (let same = d (suc j) (suc k) w a b in omega (arith, same)))
 
 module _ (s : Model) (legal : IsLegal s) (k : ResourceNo) where
   -- all in a tree are reached from one root

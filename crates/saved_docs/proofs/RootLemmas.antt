@@ -1,20 +1,14 @@
 -- The roots of a resource are its objects in order, and live.
-use Rattle.std.proofs.Common.{◌≡◌, ℕ, zero, suc, ◌<◌, Bool, true, false, List, [], ◌∷◌, ◌++◌, length, slice_get, slice_index_or, Option, Some, None, option_map, option_to_list, arith, refl, sym, ap, ◌∙◌}
-use Rattle.std.specs.Prelude.{IsTrue, is_some, option_and_then}
+use Rattle.std.proofs.Common.{◌≡◌, ℕ, zero, suc, ◌<◌, true, List, [], ◌∷◌, ◌++◌, length, slice_get, slice_index_or, Option, option_to_list, arith, refl, ap, ◌∙◌}
+use Rattle.std.specs.Prelude.{IsTrue, option_and_then}
 use Rattle.std.specs.List.{list_all}
 use Rattle.std.specs.Option.{option_map_or}
-use Rattle.std.proofs.lemmas.Bool.{and_parts, false≢true}
+use Rattle.std.proofs.lemmas.Bool.{and_parts}
 use Rattle.std.proofs.lemmas.Option.{slice_get_past}
 use Rattle.mm_types.specs.Lookups as lookups
 use Rattle.mm_types.specs.Resolved.{Metamodel}
 use Rattle.mm_types.specs.Shapes.{contents_shape, shape, shape_of}
-use Rattle.mm_types.specs.declared.feature.DataType.{DataType}
-use Rattle.mm_types.specs.declared.feature.DataType.TheVariants.{EString, EInt, ELong, EBoolean, Enum}
 use Rattle.mm_types.specs.declared.feature.Feature.{Feature}
-use Rattle.mm_types.specs.declared.feature.Kind.{Kind}
-use Rattle.mm_types.specs.declared.feature.Kind.TheVariants.{Attribute, Reference}
-use Rattle.mm_types.specs.declared.numbers.ClassNo.{ClassNo}
-use Rattle.mm_types.specs.declared.numbers.FeatureNo.{FeatureNo}
 use Rattle.mm_types.specs.declared.end.End.{End}
 use Rattle.mm_types.specs.declared.numbers.ObjectNo.{ObjectNo}
 use Rattle.mm_types.specs.declared.value.Value.{Value}
@@ -28,36 +22,13 @@ use Rattle.models.specs.Reading.{Reading, is_live, objects_of}
 use Rattle.mm_types.specs.declared.numbers.ResourceNo.{ResourceNo}
 use Rattle.fragment_paths.specs.Finding.{roots}
 use Rattle.fragment_paths.specs.Fragments.{roots_end}
-use Rattle.containment.proofs.PartLemmas.{values-linked}
+use Rattle.containment.proofs.PartLemmas.{taken-live, values-linked}
 
 -- an object that is pushed is the one at its place
 pub pushed-at : (vs : List Value) (k : ℕ) (x : Option ObjectNo) (out new : List ObjectNo) → x ≡ option_and_then links.object_of (slice_get vs k) → new ≡ out ++ option_to_list x → new ≡ out ++ option_to_list (option_and_then links.object_of (slice_get vs k))
 pushed-at vs k x out new at made = made ∙ ap (λ (y : Option ObjectNo). out ++ option_to_list y) at
 
 ---------------------------------------------------------------- who lives
-
-object-typed : (m : Metamodel) (single : Bool) (t : DataType) (o : ObjectNo) → lookups.is_attribute_value m single t (value.Object o) ≡ false
-object-typed m single EString o = refl
-object-typed m single EInt o = refl
-object-typed m single ELong o = refl
-object-typed m single EBoolean o = refl
-object-typed m single (Enum e) o = refl
-
-some-of : (p : ClassNo → Bool) (x : Option ClassNo) → option_map_or p x false ≡ true → is_some x ≡ true
-some-of p None h = absurd (false≢true h)
-some-of p (Some c) h = refl
-
--- what a feature takes lives
-taken-live : (m : Metamodel) (class : ObjectNo → Option ClassNo) (f : FeatureNo) (o : ObjectNo) → lookups.takes m class f (value.Object o) ≡ true → is_some (class o) ≡ true
-taken-live m class f o = by (lookups.feature m f)
-  where
-    by_kind : (single : Bool) (k : Kind) → lookups.is_of_kind m class single k (value.Object o) ≡ true → is_some (class o) ≡ true
-    by_kind single (Attribute t unique unsettable default) h = absurd (false≢true (sym (object-typed m single t o) ∙ h))
-    by_kind single (Reference target containment opposite) h = some-of (λ c. lookups.conforms m c target) (class o) h
-
-    by : (x : Option Feature) → option_map_or (λ g. lookups.is_of_kind m class (lookups.is_single g) g.kind (value.Object o)) x (is_some (class o)) ≡ true → is_some (class o) ≡ true
-    by None h = h
-    by (Some g) h = by_kind (lookups.is_single g) g.kind h
 
 live-objects : (m : Model) (e : End) (vs : List Value) → list_all (is_legal_target (reading m) e.feature) vs ≡ true → list_all (is_live (reading m)) (objects_of vs) ≡ true
 live-objects m e [] h = refl
