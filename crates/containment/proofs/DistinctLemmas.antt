@@ -259,4 +259,4 @@ module _ (s : Model) (legal : IsLegal s) where
       )
 
   pub subtree-distinct : (o : ObjectNo) → IsDistinct same_object (subtree (reading s) o)
-  subtree-distinct o = tree-distinct (length s.values.objects) o
+  subtree-distinct o = tree-distinct (suc (length s.values.objects)) o

@@ -32,7 +32,7 @@ parts-step r n fs i d out new all low made whole =
 
 ---------------------------------------------------------------- the objects of one end
 
-get-within : (vs : List Value) (k : ℕ) (d : Value) → k < length vs → slice_get vs k ≡ Some (slice_index_or vs k d)
+pub get-within : (vs : List Value) (k : ℕ) (d : Value) → k < length vs → slice_get vs k ≡ Some (slice_index_or vs k d)
 get-within [] k d h = absurd (omega (arith, h))
 get-within (w ∷ ws) zero d h = refl
 get-within (w ∷ ws) (suc k) d h = get-within ws k d (omega (arith, h))

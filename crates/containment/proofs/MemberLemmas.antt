@@ -24,10 +24,10 @@ use Rattle.links.specs.Holders.{IsUnder, above, climb, holder}
 use Rattle.links.specs.Links.{Links, end}
 use Rattle.models.specs.Legal.{IsLegal, kinds_of}
 use Rattle.models.specs.Model.{Model, reading, values_at}
-use Rattle.models.specs.Reading.{Reading, all_features_of, at_end, has_feature, has_resource, is_live, is_within, objects_of}
+use Rattle.models.specs.Reading.{Reading, all_features_of, at_end, has_feature, has_resource, is_within, objects_of}
 use Rattle.containment.proofs.HolderLemmas.{container_at, holding-feature}
 use Rattle.containment.proofs.PartLemmas.{IsPart, contains-reference, contents-parts, kinds-are, legal-at, values-linked}
-use Rattle.containment.proofs.TreeLemmas.{some-made, subtree-levels, subtree-parts}
+use Rattle.containment.proofs.TreeLemmas.{subtree-levels}
 use Rattle.containment.specs.Forest.{contents, is_node_among, subtree, tree}
 
 ---------------------------------------------------------------- lists
@@ -35,7 +35,7 @@ use Rattle.containment.specs.Forest.{contents, is_node_among, subtree, tree}
 pub same-object : (x y : ObjectNo) → same_object x y ≡ true → x ≡ y
 same-object x y h = let e = eqb-true x.0 y.0 h in λ i. record { 0 = e i }
 
-same-feature : (x y : FeatureNo) → same_feature x y ≡ true → x ≡ y
+pub same-feature : (x y : FeatureNo) → same_feature x y ≡ true → x ≡ y
 same-feature x y h = let e = eqb-true x.0 y.0 h in λ i. record { 0 = e i }
 
 in-flat_map : {X : Type 0} (same : X → X → Bool) → ((x y : X) → same x y ≡ true → x ≡ y) → (f : X → List ObjectNo) (xs : List X) (x : X) (c : ObjectNo)
@@ -98,7 +98,7 @@ turned (g ∷ gs) f h = elim (or_cases (nat_eq g.0 f.0) (list_any (λ (g : Featu
 ]
 
 -- a feature that a node has is among all its features
-own-feature : (r : Reading) (n : Node) (f : FeatureNo) → has_feature r n f ≡ true → list_any (same_feature f) (all_features_of r n) ≡ true
+pub own-feature : (r : Reading) (n : Node) (f : FeatureNo) → has_feature r n f ≡ true → list_any (same_feature f) (all_features_of r n) ≡ true
 own-feature r (node.Resource k) f h = by (has_resource r k) h
   where
     by : (b : Bool) → (b && same_feature f (lookups.contents r.metamodel)) ≡ true → list_any (same_feature f) (if b then lookups.contents r.metamodel ∷ [] else []) ≡ true
@@ -180,17 +180,17 @@ module _ (s : Model) (legal : IsLegal s) where
       ]
 
   -- all from which an object is reached is in its subtree
-  reaches-in : (o : ObjectNo) → 0 < length s.values.objects → (n : ℕ) (x : Node) → climb s.links n x ≡ Some (node.Object o) → is_node_among (subtree (reading s) o) x ≡ true
-  reaches-in o some zero x at = subst (λ (y : Node). is_node_among (subtree (reading s) o) y ≡ true) (sym (same_Some x (node.Object o) at)) (ap (list_any (same_object o)) (subtree-parts s legal o some) ∙ or_left _ _ (eq-eqb o.0 o.0 refl))
-  reaches-in o some (suc n) (node.Resource k) at = absurd (none-some _ (sym (climb_stop s.links (node.Resource k) n (resource_top s.links k legal.links.set)) ∙ at))
-  reaches-in o some (suc n) (node.Object c) at =
+  reaches-in : (o : ObjectNo) (n : ℕ) (x : Node) → climb s.links n x ≡ Some (node.Object o) → is_node_among (subtree (reading s) o) x ≡ true
+  reaches-in o zero x at = subst (λ (y : Node). is_node_among (subtree (reading s) o) y ≡ true) (sym (same_Some x (node.Object o) at)) (or_left _ _ (eq-eqb o.0 o.0 refl))
+  reaches-in o (suc n) (node.Resource k) at = absurd (none-some _ (sym (climb_stop s.links (node.Resource k) n (resource_top s.links k legal.links.set)) ∙ at))
+  reaches-in o (suc n) (node.Object c) at =
       elim (holder s.links (node.Object c)) as (λ q. holder s.links (node.Object c) ≡ q → list_any (same_object c) (subtree (reading s) o) ≡ true) [
         | None ↦ λ h. absurd (none-some _ (sym (climb_stop s.links (node.Object c) n h) ∙ at))
-        | Some e ↦ λ h. up e.node (held-contents c e h) (reaches-in o some n e.node (sym (climb_step s.links (node.Object c) e n h) ∙ at))
+        | Some e ↦ λ h. up e.node (held-contents c e h) (reaches-in o n e.node (sym (climb_step s.links (node.Object c) e n h) ∙ at))
       ] refl
     where
       up : (p : Node) → list_any (same_object c) (contents (reading s) p) ≡ true → is_node_among (subtree (reading s) o) p ≡ true → list_any (same_object c) (subtree (reading s) o) ≡ true
-      up (node.Object p) q h = ap (list_any (same_object c)) (sym (subtree-levels s legal o some)) ∙ parts-in (length s.values.objects) o p c h q
+      up (node.Object p) q h = ap (list_any (same_object c)) (sym (subtree-levels s legal o)) ∙ parts-in (suc (length s.values.objects)) o p c h q
       up (node.Resource k) q h = absurd (false≢true h)
 
   same-test : (a b : Bool) → (a ≡ true → b ≡ true) → (b ≡ true → a ≡ true) → a ≡ b
@@ -199,12 +199,12 @@ module _ (s : Model) (legal : IsLegal s) where
   same-test false false f g = refl
 
   -- a node is in the subtree of an object just where it is that object or below it
-  pub subtree-has : (o : ObjectNo) (n : Node) → is_live (reading s) o ≡ true → is_node_among (subtree (reading s) o) n ≡ is_within (reading s) (node.Object o) n
-  subtree-has o (node.Resource k) live =
+  pub subtree-has : (o : ObjectNo) (n : Node) → is_node_among (subtree (reading s) o) n ≡ is_within (reading s) (node.Object o) n
+  subtree-has o (node.Resource k) =
       sym (ap (list_any (same_node (node.Object o))) (above_is s.links legal.links.set legal.links.forest (node.Resource k) ∙ ap (λ (x : Option End). option_map_or (λ (e : End). e.node ∷ above s.links e.node) x []) (resource_top s.links k legal.links.set)))
-  subtree-has o (node.Object c) live =
+  subtree-has o (node.Object c) =
       let among = list_any (same_object c) (subtree (reading s) o) in
-      same-test among (is_within (reading s) (node.Object o) (node.Object c)) (λ h. tree-within (length s.values.objects) o c h) (λ h. elim (or_cases (same_object o c) (list_any (same_node (node.Object o)) (above s.links (node.Object c))) h) [
-        | inl here ↦ reaches-in o (some-made s o live) 0 (node.Object c) (ap (λ x. Some (node.Object x)) (sym (same-object o c here)))
-        | inr low ↦ let u = above-under s.links (node.Object c) (node.Object o) low in reaches-in o (some-made s o live) (suc u.0) (node.Object c) u.1
+      same-test among (is_within (reading s) (node.Object o) (node.Object c)) (λ h. tree-within (suc (length s.values.objects)) o c h) (λ h. elim (or_cases (same_object o c) (list_any (same_node (node.Object o)) (above s.links (node.Object c))) h) [
+        | inl here ↦ reaches-in o 0 (node.Object c) (ap (λ x. Some (node.Object x)) (sym (same-object o c here)))
+        | inr low ↦ let u = above-under s.links (node.Object c) (node.Object o) low in reaches-in o (suc u.0) (node.Object c) u.1
       ])

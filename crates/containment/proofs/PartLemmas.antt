@@ -30,7 +30,7 @@ use Rattle.links.proofs.HolderLemmas.{holder_is}
 use Rattle.links.specs.Holders.{holder}
 use Rattle.links.specs.LegalSets.{AreKinds}
 use Rattle.links.specs.Links.{end}
-use Rattle.models.specs.Legal.{IsLegal, is_legal_end, is_legal_target, kinds_of}
+use Rattle.models.specs.Legal.{IsLegal, is_legal_end, is_legal_target, kinds_of, takes_proxies}
 use Rattle.models.specs.Model.{Model, reading, values_at}
 use Rattle.models.specs.Reading.{Reading, all_features_of, at_end, has_feature, is_live, objects_of}
 use Rattle.containment.proofs.ForestLemmas.{parts-first}
@@ -85,6 +85,7 @@ legal-at r e (w ∷ ws) k v h at = let two = and_parts _ _ h in (two.0, all-get 
 pub end-made : (s : Model) (e : End) (k : ℕ) (v : Value) → IsLegal s → slice_get (end s.links e) k ≡ Some v → IsMade s e.node
 end-made s e k v legal at = has-made s e.node e.feature (legal-at (reading s) e (end s.links e) k v (legal.links.ends e) at).0
 
+-- no attribute takes an object
 pub object-typed : (m : Metamodel) (single : Bool) (t : DataType) (o : ObjectNo) → lookups.is_attribute_value m single t (value.Object o) ≡ false
 object-typed m single EString o = refl
 object-typed m single EInt o = refl
@@ -103,6 +104,25 @@ taken-live m class f o = by (lookups.feature m f)
     by : (x : Option Feature) → option_map_or (λ g. lookups.is_of_kind m class (lookups.is_single g) g.kind (value.Object o)) x (is_some (class o)) ≡ true → is_some (class o) ≡ true
     by None h = h
     by (Some g) h = by_kind (lookups.is_single g) g.kind h
+
+-- what takes an object is a reference
+pub object-reference : (m : Metamodel) (class : ObjectNo → Option ClassNo) (f : FeatureNo) (o : ObjectNo) → lookups.takes m class f (value.Object o) ≡ true → (shape m f).is_reference ≡ true
+object-reference m class f o h = by (lookups.feature m f) h
+  where
+    by_kind : (x : Feature) (k : Kind) → lookups.is_of_kind m class (lookups.is_single x) k (value.Object o) ≡ true → (shape_of m f x k).is_reference ≡ true
+    by_kind x (Attribute t unique unsettable default) q = absurd (false≢true (sym (object-typed m (lookups.is_single x) t o) ∙ q))
+    by_kind x (Reference target containment opposite) q = refl
+
+    by : (x : Option Feature) → option_map_or (λ g. lookups.is_of_kind m class (lookups.is_single g) g.kind (value.Object o)) x (lookups.is_live_object class (value.Object o)) ≡ true
+        → (option_map_or (λ g. shape_of m f g g.kind) x (contents_shape m)).is_reference ≡ true
+    by None q = refl
+    by (Some x) q = by_kind x x.kind q
+
+-- a feature with legal links is a reference
+pub legal-reference : (r : Reading) (f : FeatureNo) (v : Value) → is_legal_target r f v ≡ true → (shape r.metamodel f).is_reference ≡ true
+legal-reference r f (value.Object o) h = object-reference r.metamodel r.class f o h
+legal-reference r f (value.Proxy t) h = (and_parts (shape r.metamodel f).is_reference _ (and_parts (takes_proxies (shape r.metamodel f)) _ h).0).0
+legal-reference r f _ h = absurd (false≢true h)
 
 ---------------------------------------------------------------- parts
 

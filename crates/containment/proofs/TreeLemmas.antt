@@ -1,11 +1,12 @@
 -- A tree has no more levels than objects were made, so a subtree is an object and the subtrees of its parts.
-use Rattle.std.proofs.Common.{◌≡◌, ℕ, zero, suc, ◌+◌, ◌<◌, ◌≤◌, true, length, List, [], ◌∷◌, ◌++◌, flat_map, reverse, append_assoc, refl, sym, ap, ◌∙◌, arith}
+use Rattle.std.proofs.Common.{◌≡◌, ℕ, zero, suc, ◌+◌, ◌<◌, ◌≤◌, true, length, List, [], ◌∷◌, ◌++◌, flat_map, reverse, append_assoc, refl, sym, ap, ◌∙◌, subst, arith}
 use Rattle.std.specs.List.{AllByRecursion}
 use Rattle.std.proofs.lemmas.Grind.{flat_map-append}
 use Rattle.std.proofs.lemmas.List.{append-nil, reverse-append, reverse-reverse}
 use Rattle.mm_types.specs.declared.numbers.ObjectNo.{ObjectNo}
 use Rattle.mm_types.specs.declared.numbers.Node.{Node}
 use Rattle.mm_types.specs.declared.numbers.Node.TheVariants as node
+use Rattle.mm_types.specs.declared.numbers.ResourceNo.{ResourceNo}
 use Rattle.links.proofs.AboveLemmas.{above_held}
 use Rattle.links.specs.Holders.{above}
 use Rattle.models.specs.Legal.{IsLegal}
@@ -13,7 +14,7 @@ use Rattle.models.specs.Model.{Model, reading}
 use Rattle.models.specs.Reading.{is_live}
 use Rattle.containment.proofs.ChainLemmas.{numbers, part-depth}
 use Rattle.containment.proofs.PartLemmas.{IsPart, contents-parts, live-made}
-use Rattle.containment.specs.Forest.{contents, subtree, tree}
+use Rattle.containment.specs.Forest.{contents, node_subtree, subtree, tree}
 
 same-flat_map : {P : ObjectNo → Type 0} (f g : ObjectNo → List ObjectNo) (xs : List ObjectNo) → AllByRecursion P xs → ((c : ObjectNo) → P c → f c ≡ g c) → flat_map f xs ≡ flat_map g xs
 same-flat_map f g [] all same = refl
@@ -47,53 +48,68 @@ module _ (s : Model) (legal : IsLegal s) where
       let shallow = part-shallow o c part in
       more-levels k c (omega (arith, deeper, shallow, far)) (omega (arith, deeper, far))))
 
-  pub subtree-levels : (o : ObjectNo) → 0 < length s.values.objects → tree (reading s) (suc (length s.values.objects)) o ≡ subtree (reading s) o
-  subtree-levels o some = more-levels (length s.values.objects) o some (omega arith)
+  pub subtree-levels : (o : ObjectNo) → tree (reading s) (suc (suc (length s.values.objects))) o ≡ subtree (reading s) o
+  subtree-levels o = more-levels (suc (length s.values.objects)) o (omega arith) (omega arith)
+
+  -- where objects were made, as many levels are enough
+  pub enough-levels : (o : ObjectNo) → 0 < length s.values.objects → tree (reading s) (length s.values.objects) o ≡ subtree (reading s) o
+  enough-levels o some = sym (more-levels (length s.values.objects) o some (omega arith))
 
   -- an object, and then the subtrees of what it contains
-  pub subtree-parts : (o : ObjectNo) → 0 < length s.values.objects → subtree (reading s) o ≡ o ∷ flat_map (subtree (reading s)) (contents (reading s) (node.Object o))
-  subtree-parts o some = sym (subtree-levels o some)
+  pub subtree-parts : (o : ObjectNo) → subtree (reading s) o ≡ o ∷ flat_map (subtree (reading s)) (contents (reading s) (node.Object o))
+  subtree-parts o = sym (subtree-levels o)
 
   ---------------------------------------------------------------- the walk
 
   -- the next one is found, and its parts wait in its place
-  next-tree : (os : List ObjectNo) (o : ObjectNo) → 0 < length s.values.objects
-      → waiting-trees s (os ++ o ∷ []) ≡ o ∷ waiting-trees s (os ++ reverse (contents (reading s) (node.Object o)))
-  next-tree os o some =
+  next-tree : (os : List ObjectNo) (o : ObjectNo) → waiting-trees s (os ++ o ∷ []) ≡ o ∷ waiting-trees s (os ++ reverse (contents (reading s) (node.Object o)))
+  next-tree os o =
       let trees = flat_map (subtree (reading s)) in
       let parts = contents (reading s) (node.Object o) in
       ap trees (reverse-append os (o ∷ []))
-      ∙ ap (λ ts. ts ++ trees (reverse os)) (subtree-parts o some)
+      ∙ ap (λ ts. ts ++ trees (reverse os)) (subtree-parts o)
       ∙ ap (λ ts. o ∷ ts) (sym (flat_map-append (subtree (reading s)) parts (reverse os))
       ∙ ap trees (sym (reverse-append os (reverse parts) ∙ ap (λ ps. ps ++ reverse os) (reverse-reverse parts))))
 
   -- the last one that waits gives way to its parts
-  step : (old rest parts back now : List ObjectNo) (o : ObjectNo) → 0 < length s.values.objects → old ≡ rest ++ o ∷ [] → now ≡ rest ++ back → back ≡ reverse parts
-      → parts ≡ contents (reading s) (node.Object o) → waiting-trees s old ≡ o ∷ waiting-trees s now
-  step old rest parts back now o some was is turned here =
+  step : (old rest parts back now : List ObjectNo) (o : ObjectNo) → old ≡ rest ++ o ∷ [] → now ≡ rest ++ back → back ≡ reverse parts → parts ≡ contents (reading s) (node.Object o)
+      → waiting-trees s old ≡ o ∷ waiting-trees s now
+  step old rest parts back now o was is turned here =
       ap (waiting-trees s) was
-      ∙ next-tree rest o some
+      ∙ next-tree rest o
       ∙ ap (λ os. o ∷ waiting-trees s os) (sym (is ∙ ap (λ ps. rest ++ ps) turned ∙ ap (λ ps. rest ++ reverse ps) here))
 
-  pub walk-falls : (old rest parts back now : List ObjectNo) (o : ObjectNo) → 0 < length s.values.objects → old ≡ rest ++ o ∷ [] → now ≡ rest ++ back → back ≡ reverse parts
-      → parts ≡ contents (reading s) (node.Object o) → length (waiting-trees s now) < length (waiting-trees s old)
-  walk-falls old rest parts back now o some was is turned here = let one = ap length (step old rest parts back now o some was is turned here) in omega (arith, one)
+  pub walk-falls : (old rest parts back now : List ObjectNo) (o : ObjectNo) → old ≡ rest ++ o ∷ [] → now ≡ rest ++ back → back ≡ reverse parts → parts ≡ contents (reading s) (node.Object o)
+      → length (waiting-trees s now) < length (waiting-trees s old)
+  walk-falls old rest parts back now o was is turned here = let one = ap length (step old rest parts back now o was is turned here) in omega (arith, one)
 
-  pub walk-on : (old rest parts back now found more all : List ObjectNo) (o : ObjectNo) → 0 < length s.values.objects → old ≡ rest ++ o ∷ [] → now ≡ rest ++ back → back ≡ reverse parts
-      → parts ≡ contents (reading s) (node.Object o) → more ≡ found ++ o ∷ [] → found ++ waiting-trees s old ≡ all → more ++ waiting-trees s now ≡ all
-  walk-on old rest parts back now found more all o some was is turned here pushed whole =
+  pub walk-on : (old rest parts back now found more all : List ObjectNo) (o : ObjectNo) → old ≡ rest ++ o ∷ [] → now ≡ rest ++ back → back ≡ reverse parts → parts ≡ contents (reading s) (node.Object o)
+      → more ≡ found ++ o ∷ [] → found ++ waiting-trees s old ≡ all → more ++ waiting-trees s now ≡ all
+  walk-on old rest parts back now found more all o was is turned here pushed whole =
       ap (λ os. os ++ waiting-trees s now) pushed
       ∙ append_assoc found (o ∷ []) (waiting-trees s now)
-      ∙ ap (λ os. found ++ os) (sym (step old rest parts back now o some was is turned here))
+      ∙ ap (λ os. found ++ os) (sym (step old rest parts back now o was is turned here))
       ∙ whole
 
--- the object itself waits first
-pub walk-starts : (s : Model) (found waiting : List ObjectNo) (o : ObjectNo) → found ≡ [] → waiting ≡ o ∷ [] → found ++ waiting-trees s waiting ≡ subtree (reading s) o
-walk-starts s found waiting o none one = (λ i. none i ++ waiting-trees s (one i)) ∙ append-nil (subtree (reading s) o)
+-- at first none is found
+pub walk-starts : (s : Model) (found waiting : List ObjectNo) → found ≡ [] → found ++ waiting-trees s waiting ≡ waiting-trees s waiting
+walk-starts s found waiting none = ap (λ os. os ++ waiting-trees s waiting) none
 
 -- where none waits all is found
 pub walk-ends : (s : Model) (found waiting all : List ObjectNo) → waiting ≡ [] → found ++ waiting-trees s waiting ≡ all → found ≡ all
 walk-ends s found waiting all none whole = sym (append-nil found) ∙ ap (λ os. found ++ waiting-trees s os) (sym none) ∙ whole
+
+-- where one object waits, what is found is its subtree
+pub one-waits : (s : Model) (waiting : List ObjectNo) (o : ObjectNo) → waiting ≡ o ∷ [] → waiting-trees s waiting ≡ subtree (reading s) o
+one-waits s waiting o one = ap (waiting-trees s) one ∙ append-nil (subtree (reading s) o)
+
+-- where the roots of a resource wait, it is all objects in it
+pub roots-wait : (s : Model) (n : Node) (k : ResourceNo) (waiting roots : List ObjectNo) → n ≡ node.Resource k → waiting ≡ reverse roots → roots ≡ contents (reading s) n → waiting-trees s waiting ≡ node_subtree (reading s) n
+roots-wait s n k waiting roots is turned here =
+    let trees = flat_map (subtree (reading s)) in
+    ap (waiting-trees s) (turned ∙ ap reverse here)
+    ∙ ap trees (reverse-reverse (contents (reading s) n))
+    ∙ subst (λ (m : Node). trees (contents (reading s) m) ≡ node_subtree (reading s) m) (sym is) refl
 
 pub some-made : (s : Model) (o : ObjectNo) → is_live (reading s) o ≡ true → 0 < length s.values.objects
 some-made s o live = let low = live-made s o live in omega (arith, low)

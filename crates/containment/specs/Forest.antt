@@ -32,9 +32,15 @@ abbrev pub tree : Reading → ℕ → ObjectNo → List ObjectNo
 tree r zero o = []
 tree r (suc k) o = o ∷ flat_map (tree r k) (contents r (node.Object o))
 
--- no object has more levels below it than objects were made
+-- an object and all that is below it: no object has more levels below it than objects were made. Nothing is below a number that no
+-- object has
 abbrev pub subtree : Reading → ObjectNo → List ObjectNo
-subtree r o = tree r r.next o
+subtree r o = tree r (suc r.next) o
+
+-- of an object, it and all that is below it; of a resource, all objects in it
+abbrev pub node_subtree : Reading → Node → List ObjectNo
+node_subtree r (node.Object o) = subtree r o
+node_subtree r (node.Resource k) = flat_map (subtree r) (contents r (node.Resource k))
 
 -- a node is an object of a list
 abbrev pub is_node_among : List ObjectNo → Node → Bool

@@ -1,5 +1,5 @@
 //! Laws of the definitions, each the contract of a function that does nothing.
-ghost use Rattle.std.specs.Prelude.{◌≡◌, true};
+ghost use Rattle.std.specs.Prelude.{◌≡◌};
 ghost use Rattle.std.specs.List.{IsDistinct};
 ghost use Rattle.mm_types.specs.Same.{same_object};
 ghost use Rattle.mm_types.specs.declared.numbers.Node.{Node};
@@ -7,12 +7,12 @@ ghost use Rattle.mm_types.specs.declared.numbers.Node.TheVariants as node;
 ghost use Rattle.mm_types.specs.declared.numbers.ObjectNo.{ObjectNo};
 ghost use Rattle.models.specs.Legal.{IsLegal};
 ghost use Rattle.models.specs.Model.{Model, reading};
-ghost use Rattle.models.specs.Reading.{is_live, is_within};
+ghost use Rattle.models.specs.Reading.{is_within};
 ghost use Rattle.containment.specs.Forest.{contents, is_node_among, subtree};
 
-/// A node is in the subtree of a live object just where it is that object, or that object is among the nodes above it.
+/// A node is in the subtree of an object just where it is that object, or that object is among the nodes above it.
 pub fn a_subtree_has_what_is_below()
-    ensures { (s : Model) → IsLegal s → (o : ObjectNo) (n : Node) → is_live (reading s) o ≡ true → is_node_among (subtree (reading s) o) n ≡ is_within (reading s) (node.Object o) n }
+    ensures { (s : Model) → IsLegal s → (o : ObjectNo) (n : Node) → is_node_among (subtree (reading s) o) n ≡ is_within (reading s) (node.Object o) n }
 {}
 
 /// No node contains an object twice, and no subtree has an object twice.

@@ -1,4 +1,5 @@
-//! Containment: what is above a node, in which resource an object is, what a node contains, and all that is below an object.
+//! Containment: what is above a node, in which resource an object is, what a node contains, all that is below a node, and
+//! whether a node is below another.
 #![tactic(auto)]
 
 mod above;
@@ -8,4 +9,4 @@ mod tree;
 
 pub use above::{holder_resource, is_under, nodes_above, root_of};
 pub use forest::{container, contents};
-pub use tree::subtree;
+pub use tree::{is_within, node_subtree, subtree};

@@ -29,15 +29,16 @@ use Rattle.models.specs.Reading.{Reading, at_end, first_at, held_at, is_repeat}
 use Rattle.notice_chain.specs.Replay.{removed, replayed_in}
 use Rattle.notice_chain.specs.declared.kind.NoticeKind.TheVariants as kind
 use Rattle.notice_chain.specs.declared.notice.Notice.{Notice}
+use Rattle.containment.proofs.PartLemmas.{object-reference}
 use Rattle.handshake.proofs.CutTieLemmas.{Stands, all_append, all_front, all_map, all_push, all_weaker, backwards-different, plain-not, tie_in-different, tie_in-stand, ties_at-different, ties_at-stand, ties_backwards-stand, values-linked, yields-different, yields-stand}
-use Rattle.handshake.proofs.KnownLemmas.{add-taken, object-reference, set-named}
+use Rattle.handshake.proofs.KnownLemmas.{add-taken, set-named}
 use Rattle.handshake.proofs.LinkLemmas.{IsNewLink, far-lacks}
 use Rattle.handshake.proofs.PlanLemmas.{add-new, set-new}
 use Rattle.handshake.proofs.YieldLemmas.{Origin, yields-origin}
 use Rattle.handshake.proofs.ReplayLemmas.{replayed_all-told}
 use Rattle.handshake.proofs.TieNameLemmas.{IsNameOf, IsYielded, name-stands, names-apart, turned-apart, yielded, yielded-agree, yielded-far, yielded-near}
 use Rattle.handshake.specs.Displaced.{cut_by_new, cut_by_set, cut_ties, has_already, is_plain_add, is_plain_set, other_side, same_link, tie_in, ties_at, ties_backwards, turned, yields}
-use Rattle.ties.specs.TreeTies.{tie}
+use Rattle.removal.specs.TreeTies.{tie}
 use Rattle.handshake.specs.Laws.{AreApart, AreDifferent, takes_many}
 use Rattle.handshake.specs.Refusals.{early_refusal, late_refusal}
 use Rattle.handshake.specs.Telling.{changed, flagged, happened, happened_all, has_flag, notice_at, notice_of, telling, told}
@@ -48,7 +49,7 @@ use Rattle.handshake.specs.declared.change.Change.{Change}
 use Rattle.handshake.specs.declared.happening.Happening.TheVariants.{Gains, LosesAt, Moves, Resolves, Unsets}
 use Rattle.handshake.specs.declared.happening.Happening.{Happening}
 use Rattle.handshake.specs.declared.happening.Telling.{Telling}
-use Rattle.ties.specs.declared.tie.Tie.{Tie}
+use Rattle.removal.specs.declared.tie.Tie.{Tie}
 
 ---------------------------------------------------------------- lists
 

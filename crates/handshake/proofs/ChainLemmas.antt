@@ -36,8 +36,9 @@ use Rattle.models.specs.Model.{Model, kept_flag, reading}
 use Rattle.models.specs.Reading.{Reading, at_end, first_at, has_feature, held_at, is_repeat, object_of, place_for}
 use Rattle.notice_chain.specs.Replay as replay
 use Rattle.notice_chain.specs.Replay.{moved, resolved as list-resolved}
+use Rattle.containment.proofs.PartLemmas.{object-reference}
 use Rattle.handshake.specs.Displaced.{cut_by_new, cut_by_set, has_already, is_plain_add, is_plain_set, same_link, tie_in, ties_at, ties_backwards, yields}
-use Rattle.ties.specs.TreeTies.{tie}
+use Rattle.removal.specs.TreeTies.{tie}
 use Rattle.handshake.specs.Effects.{add_value, after, of_object, put_values, take_value, value_edits, with_value, without_ties}
 use Rattle.handshake.specs.Laws.{AreDifferent, ChainReplays, comes_with, goes_with}
 use Rattle.handshake.specs.Plans.{HasReadDocument}
@@ -49,7 +50,7 @@ use Rattle.handshake.specs.declared.change.Change.TheVariants.{Create, Set, Unse
 use Rattle.handshake.specs.declared.happening.Happening.{Happening}
 use Rattle.handshake.specs.declared.happening.Happening.TheVariants.{Gains, LosesAt, Moves, Resolves, Unsets}
 use Rattle.handshake.specs.declared.happening.Telling.{Telling}
-use Rattle.ties.specs.declared.tie.Tie.{Tie}
+use Rattle.removal.specs.declared.tie.Tie.{Tie}
 use Rattle.handshake.proofs.ApartLemmas.{backwards-here, tie_in-here, ties_at-here}
 use Rattle.handshake.proofs.AttributeLemmas.{Replays, create-replays}
 use Rattle.handshake.proofs.CutEndLemmas.{held-none, held-one, reference-flag, reference-plain, same-held}
@@ -57,10 +58,10 @@ use Rattle.handshake.proofs.CutHeldLemmas.{all-left, held_in, near-gives}
 use Rattle.mm_types.specs.Same.{same_end}
 use Rattle.mm_types.specs.Lists.{put_back, shifted}
 use Rattle.handshake.proofs.CutTieLemmas.{Stands, all_at, any_append_left, any_push, backwards-different, filter_none, is_named-same_link, plain-not, same_link-self, tie_in-different, tie_in-stand, ties_at-different, ties_at-stand, ties_backwards-stand, values-linked, without_ties-names_of}
-use Rattle.ties.specs.Laws.{names_of}
+use Rattle.removal.specs.Laws.{names_of}
 use Rattle.handshake.proofs.DestroyLemmas.{destroyed-replays}
 use Rattle.handshake.proofs.HappenedLemmas.{at-own, done, happened_all-at, happened_at}
-use Rattle.handshake.proofs.KnownLemmas.{IsResolvable, add-named, add-taken, delete-named, kinds-are, move-named, move-placed, object-reference, remove-named, remove-placed, resolvable, resource-keeps-none, set-named, set-taken, take-named, unresolved, unset-there}
+use Rattle.handshake.proofs.KnownLemmas.{IsResolvable, add-named, add-taken, delete-named, kinds-are, move-named, move-placed, remove-named, remove-placed, resolvable, resource-keeps-none, set-named, set-taken, take-named, unresolved, unset-there}
 use Rattle.handshake.proofs.ResolveLemmas.{alone-there, end-resolved, one-cut, resolved, set-there, there}
 use Rattle.handshake.proofs.LoadChainLemmas.{load-replays}
 use Rattle.handshake.proofs.LinkLemmas.{IsNewLink, near-empty, without_displaced}

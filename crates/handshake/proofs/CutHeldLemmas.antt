@@ -28,18 +28,18 @@ use Rattle.models.specs.Legal.{IsLegal, kinds_of}
 use Rattle.models.specs.Model.{Model, kept_flag, reading}
 use Rattle.models.specs.Reading.{held_at}
 use Rattle.handshake.proofs.CutTieLemmas.{once-of_different, same_end-symmetric, values-linked}
-use Rattle.ties.specs.Laws.{names_of}
+use Rattle.removal.specs.Laws.{names_of}
 use Rattle.handshake.proofs.HappenedLemmas.{done, done-other, done_at, happened_at, happened_at-append}
 use Rattle.handshake.proofs.KnownLemmas.{kinds-are}
 use Rattle.handshake.proofs.TieNameLemmas.{open-of}
 use Rattle.handshake.specs.Displaced.{other_side}
-use Rattle.ties.specs.TreeTies.{tie}
+use Rattle.removal.specs.TreeTies.{tie}
 use Rattle.handshake.specs.Laws.{AreDifferent}
 use Rattle.handshake.specs.Telling.{without}
 use Rattle.handshake.specs.Tellings.{loss, losses}
 use Rattle.handshake.specs.declared.happening.Happening.TheVariants.{Loses}
 use Rattle.handshake.specs.declared.happening.Telling.{Telling}
-use Rattle.ties.specs.declared.tie.Tie.{Tie}
+use Rattle.removal.specs.declared.tie.Tie.{Tie}
 use Rattle.handshake.proofs.CutEndLemmas.{reference-flag, reference-plain, same-held}
 
 ---------------------------------------------------------------- lists

@@ -33,12 +33,12 @@ use Rattle.models.specs.Reading.{Reading, at_end, first_at, is_repeat}
 use Rattle.handshake.proofs.KnownLemmas.{delete-named, far-reference, kinds-are, set-named}
 use Rattle.handshake.specs.declared.change.Change.{Change}
 use Rattle.handshake.specs.declared.change.Change.TheVariants.{Create, Set, Unset, Add, Remove, RemoveValue, Move, Delete, NewResource, Resolve, Load}
-use Rattle.ties.specs.declared.tie.Tie.{Tie}
+use Rattle.removal.specs.declared.tie.Tie.{Tie}
 use Rattle.handshake.specs.Displaced.{cut_by_new, cut_by_set, cut_ties, is_plain_add, tie_in, ties_backwards, has_already, in_the_way, is_plain_set, once, opposite_end, holding_tie, other_side, same_link, same_tie, ties_at, ties_if_single, with_tie, yields}
-use Rattle.ties.specs.TreeTies.{tie, tree_ties}
-use Rattle.ties.specs.Laws.{names_of}
-use Rattle.deletion.specs.Outer.{gone}
-use Rattle.ties.proofs.TreeLemmas.{tree-named}
+use Rattle.removal.specs.TreeTies.{tie, tree_ties}
+use Rattle.removal.specs.Laws.{names_of}
+use Rattle.removal.specs.Outer.{gone}
+use Rattle.removal.proofs.TreeLemmas.{tree-named}
 use Rattle.handshake.specs.Effects.{links_left, without_ties}
 use Rattle.handshake.specs.Laws.{AreDifferent}
 use Rattle.handshake.specs.Refusals.{early_refusal, late_refusal}

@@ -27,7 +27,7 @@ use Rattle.links.specs.LegalSets.{IsDistinct}
 use Rattle.links.specs.Links.{end, without_nodes}
 use Rattle.links.specs.Plans.{Has, has_end}
 use Rattle.containment.proofs.MemberLemmas.{subtree-has}
-use Rattle.containment.proofs.PartLemmas.{legal-at}
+use Rattle.containment.proofs.PartLemmas.{legal-at, object-reference}
 use Rattle.containment.specs.Forest.{subtree}
 use Rattle.models.proofs.EndLemmas.{values-single}
 use Rattle.models.proofs.PlaceLemmas.{has-at, index-at}
@@ -37,8 +37,9 @@ use Rattle.models.specs.Reading.{Reading, held_at, is_live, takes}
 use Rattle.notice_chain.specs.Kinds.{no_index}
 use Rattle.notice_chain.specs.declared.kind.NoticeKind.TheVariants as kind
 use Rattle.notice_chain.specs.declared.notice.Notice.{Notice}
-use Rattle.deletion.specs.Losses.{is_held_by, is_lost, kept_at, last_loss, loss, losses, lost_at}
-use Rattle.deletion.specs.Outer.{gone, holds_some, outer_ends, touched_ends}
+use Rattle.removal.specs.Losses.{is_held_by, is_lost, kept_at, last_loss, loss, losses, lost_at}
+use Rattle.removal.specs.Outer.{gone, holds_some, outer_ends, touched_ends}
+use Rattle.removal.specs.declared.gone.Removal.{Removal}
 use Rattle.handshake.specs.Effects.{after}
 use Rattle.handshake.specs.Refusals.{early_refusal}
 use Rattle.handshake.specs.Reports.{lost_notice}
@@ -52,10 +53,10 @@ use Rattle.handshake.proofs.ApartLemmas.{told-append}
 use Rattle.handshake.proofs.CutEndLemmas.{reference-flag, reference-plain}
 use Rattle.handshake.proofs.CutTieLemmas.{held_stands, same_end-symmetric, same_value-symmetric, values-linked}
 use Rattle.handshake.proofs.HappenedLemmas.{done, happened_all-at, happened_at, happened_at-append}
-use Rattle.handshake.proofs.KnownLemmas.{delete-named, object-reference}
+use Rattle.handshake.proofs.KnownLemmas.{delete-named}
 use Rattle.handshake.proofs.LegalLemmas.{left-object}
 use Rattle.handshake.proofs.LostLemmas.{end-held, ends-away, ends-here, ends-notices, loses}
-use Rattle.deletion.proofs.OuterLemmas.{touched-all, touched-in_order}
+use Rattle.removal.proofs.OuterLemmas.{touched-all, touched-in_order}
 
 ---------------------------------------------------------------- lists
 
@@ -151,7 +152,7 @@ module _ (s : Model) (legal : IsLegal s) (o : ObjectNo) (live : is_live (reading
 
   -- the object goes
   goes-itself : g (node.Object o) ≡ true
-  goes-itself = subtree-has s legal o (node.Object o) live ∙ or_left (same_node (node.Object o) (node.Object o)) _ (same_node-self (node.Object o))
+  goes-itself = subtree-has s legal o (node.Object o) ∙ or_left (same_node (node.Object o) (node.Object o)) _ (same_node-self (node.Object o))
 
   -- the node that contains it does not
   holder-stays : (d : End) → r.holder (node.Object o) ≡ Some d → g d.node ≡ false
@@ -159,7 +160,7 @@ module _ (s : Model) (legal : IsLegal s) (o : ObjectNo) (live : is_live (reading
       let t = s.links in
       let up = above_is t legal.links.set legal.links.forest (node.Object o) in
       let itself = not_above_itself t legal.links.set legal.links.forest (node.Object o) in
-      subtree-has s legal o d.node live
+      subtree-has s legal o d.node
       ∙ sym (ap (λ (ns : List Node). list_any (same_node (node.Object o)) ns) (up ∙ ap (λ (q : Option End). option_map_or (λ (e : End). e.node ∷ above t e.node) q []) held))
       ∙ itself
 
@@ -372,10 +373,6 @@ module _ (s : Model) (legal : IsLegal s) (o : ObjectNo) (live : is_live (reading
       ] refl
 
 -- what a change destroys lives
-pub destroyed-live : (s : Model) (c : Change) (q : Option ObjectNo) (o : ObjectNo) → early_refusal (reading s) c ≡ None → q ≡ destroyed_by c → Some o ≡ q → is_live (reading s) o ≡ true
-destroyed-live s (Delete p) q o early is some = let same = same_Some o p (some ∙ is) in subst (λ (x : ObjectNo). is_live (reading s) x ≡ true) (sym same) (delete-named (reading s) p early)
-destroyed-live s _ q o early is some = absurd (none-some o (sym (some ∙ is)))
-
 -- the notices of its losses are its chain
 pub destroyed-heard : (s : Model) (c : Change) (q : Option ObjectNo) (o : ObjectNo) → IsLegal s → early_refusal (reading s) c ≡ None → q ≡ destroyed_by c → Some o ≡ q → (heard : Bool) → heard ≡ true
     → map (lost_notice (reading s)) (losses (reading s) o) ≡ (if heard then chain (reading s) c else [])
@@ -385,6 +382,6 @@ destroyed-heard s (Delete p) q o legal early is some heard on =
     ∙ sym (destroyed-chain s legal p (delete-named (reading s) p early)) ∙ ap (λ (b : Bool). if b then chain (reading s) (Delete p) else []) (sym on)
 destroyed-heard s _ q o legal early is some heard on = absurd (none-some o (sym (some ∙ is)))
 
-pub nothing-destroyed : (c : Change) (q : Option ObjectNo) → q ≡ destroyed_by c → ((o : ObjectNo) → q ≡ Some o → ⊥) → destroyed_by c ≡ None
+pub nothing-destroyed : (c : Change) (q : Option Removal) → option_map (λ (x : Removal). x.object) q ≡ destroyed_by c → ((x : Removal) → q ≡ Some x → ⊥) → destroyed_by c ≡ None
 nothing-destroyed c None is none = sym is
-nothing-destroyed c (Some o) is none = absurd (none o refl)
+nothing-destroyed c (Some x) is none = absurd (none x refl)

@@ -32,6 +32,7 @@ use Rattle.links.specs.Links.{text_of}
 use Rattle.web_uris.specs.Addresses.{uri_part}
 use Rattle.models.specs.Legal.{is_short, kinds_of, is_short_text}
 use Rattle.models.specs.Reading.{Reading, at_end, has_feature, is_live, is_node_live, is_repeat, is_value_live, place_for, takes, has_uri}
+use Rattle.containment.proofs.PartLemmas.{object-reference}
 use Rattle.handshake.specs.Named.{feature_refusal, many_refusal, node_refusal, single_refusal, value_refusal}
 use Rattle.handshake.specs.Refusals.{add_refusal, early_refusal, gain_refusal, is_at_limit, is_full_at, is_recursive, is_mistyped, is_there_already, late_refusal, link_refusal, of_either, proxy_at, resolve_refusal, set_refusal, type_refusal, uri_refusal}
 use Rattle.handshake.specs.declared.change.Change.TheVariants.{Set, Unset, Add, Remove, RemoveValue, Move, Delete, Resolve}
@@ -53,28 +54,6 @@ near-reference m d f g h = (opposites_are_pairs m d f g h).near_refers
 
 pub far-reference : (m : Metamodel) → IsOfDocument m → (f g : FeatureNo) → (shape m f).opposite ≡ Some g → (shape m g).is_reference ≡ true
 far-reference m d f g h = (opposites_are_pairs m d f g h).far_refers
-
--- no attribute takes an object
-pub object-typed : (m : Metamodel) (single : Bool) (t : DataType) (o : ObjectNo) → lookups.is_attribute_value m single t (value.Object o) ≡ false
-object-typed m single EString o = refl
-object-typed m single EInt o = refl
-object-typed m single ELong o = refl
-object-typed m single EBoolean o = refl
-object-typed m single (Enum e) o = refl
-
-object-of_kind : (m : Metamodel) (class : ObjectNo → Option ClassNo) (f : FeatureNo) (x : Feature) (k : Kind) (o : ObjectNo)
-    → lookups.is_of_kind m class (lookups.is_single x) k (value.Object o) ≡ true → (shape_of m f x k).is_reference ≡ true
-object-of_kind m class f x (Attribute t unique unsettable default) o h = absurd (false≢true (sym (object-typed m (lookups.is_single x) t o) ∙ h))
-object-of_kind m class f x (Reference target containment opposite) o h = refl
-
--- what takes an object is a reference
-pub object-reference : (m : Metamodel) (class : ObjectNo → Option ClassNo) (f : FeatureNo) (o : ObjectNo) → lookups.takes m class f (value.Object o) ≡ true → (shape m f).is_reference ≡ true
-object-reference m class f o h = by (lookups.feature m f) h
-  where
-    by : (x : Option Feature) → option_map_or (λ g. lookups.is_of_kind m class (lookups.is_single g) g.kind (value.Object o)) x (lookups.is_live_object class (value.Object o)) ≡ true
-        → (option_map_or (λ g. shape_of m f g g.kind) x (contents_shape m)).is_reference ≡ true
-    by None h = refl
-    by (Some x) h = object-of_kind m class f x x.kind o h
 
 ---------------------------------------------------------------- refusals in order
 

@@ -27,7 +27,7 @@ use Rattle.mm_values.specs.Values.{ObjectState, Objects, ValuesState, applied, c
 use Rattle.mm_types.specs.Lists.{shifted}
 use Rattle.mm_types.specs.Same.{same_object}
 use Rattle.containment.specs.Forest.{is_node_among, subtree}
-use Rattle.deletion.specs.Outer.{gone}
+use Rattle.removal.specs.Outer.{gone}
 use Rattle.mm_values.specs.declared.edit.ValueEdit.{ValueEdit}
 use Rattle.mm_values.specs.declared.edit.ValueEdit.TheVariants.{DropObject, InsertValue}
 use Rattle.links.specs.Holders.{HasNoCycle}
@@ -43,6 +43,7 @@ use Rattle.models.specs.Model.{Model, attribute_values, kept_values, reading}
 use Rattle.models.specs.Reading.{at_end, first_at, has_feature, has_resource, is_repeat, place_for, takes}
 use Rattle.resource_docs.specs.declared.doc.Doc.{Doc}
 use Rattle.loading.proofs.TypedLemmas.{read-typed}
+use Rattle.containment.proofs.PartLemmas.{object-reference}
 use Rattle.handshake.specs.declared.change.Change.{Change}
 use Rattle.handshake.specs.declared.change.Change.TheVariants.{Create, Set, Unset, Add, Remove, RemoveValue, Move, Delete, NewResource, Resolve, Load}
 use Rattle.handshake.specs.Displaced.{cut_by_new, cut_by_set, cut_ties, is_plain_add, is_plain_set, tie_in}
@@ -53,10 +54,10 @@ use Rattle.handshake.specs.Plans.{HasReadDocument, IsDocument}
 use Rattle.handshake.specs.Tellings.{loaded_by}
 use Rattle.handshake.specs.Refusals.{early_refusal, gain_refusal, is_at_limit, is_full_at, late_refusal}
 use Rattle.handshake.proofs.CutTieLemmas.{left-cuts, values-linked}
-use Rattle.ties.specs.Laws.{names_of}
+use Rattle.removal.specs.Laws.{names_of}
 use Rattle.handshake.proofs.ResolveLemmas.{one-cut, resolved-legal}
-use Rattle.ties.specs.declared.tie.Tie.{Tie}
-use Rattle.handshake.proofs.KnownLemmas.{add-gains, add-named, add-taken, kinds-are, move-named, move-placed, none-else_by, none-unless, none-where_so, object-reference, remove-named, resolvable, resource-keeps-none, set-named, set-taken, set-there, take-named, uri-taken, unresolved}
+use Rattle.removal.specs.declared.tie.Tie.{Tie}
+use Rattle.handshake.proofs.KnownLemmas.{add-gains, add-named, add-taken, kinds-are, move-named, move-placed, none-else_by, none-unless, none-where_so, remove-named, resolvable, resource-keeps-none, set-named, set-taken, set-there, take-named, uri-taken, unresolved}
 use Rattle.handshake.proofs.LegalEndLemmas.{HaveClasses, IsUntouched, cut-end, legal-end-kept, none_goes, put-end, shifted-end, untouched-end}
 use Rattle.handshake.proofs.LinkLemmas.{below-limit, near-empty, without_displaced}
 use Rattle.handshake.proofs.LoadEndLemmas.{linked-legal, no-fewer, same-classes}

@@ -7,6 +7,8 @@ pub mod CutTieLemmas
 mod YieldLemmas
 pub mod HappenedLemmas
 pub mod KnownLemmas
+pub mod RefusalLemmas
+pub mod RemovalLemmas
 pub mod LegalEndLemmas
 pub mod LegalLemmas
 mod LinkLemmas

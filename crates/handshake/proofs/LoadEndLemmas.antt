@@ -44,11 +44,11 @@ use Rattle.loading.proofs.PairLemmas.{all-at}
 use Rattle.loading.proofs.SideLemmas.{IsFarSide, IsPlainFeature, contents-shape, opposite-reference}
 use Rattle.loading.proofs.SoundLemmas.{IsThere, has-content, there-object}
 use Rattle.loading.proofs.SourceLemmas.{ascending-distinct, loaded_value, loaded_values, source-at, sources-ascending, sources_from}
+use Rattle.containment.proofs.PartLemmas.{object-typed}
 use Rattle.handshake.specs.Laws.{comes_with}
 use Rattle.handshake.specs.Plans.{IsDocument}
 use Rattle.handshake.specs.Refusals.{late_refusal}
 use Rattle.handshake.specs.declared.change.Change.TheVariants.{Load}
-use Rattle.handshake.proofs.KnownLemmas.{object-typed}
 use Rattle.handshake.proofs.LegalEndLemmas.{HaveClasses, end-from, legal-end-kept, none_goes, one-bounded, untouched-end}
 use Rattle.handshake.proofs.LoadLemmas.{few, load-makes, room, sound, unborn}
 use Rattle.handshake.proofs.LoadValueLemmas.{AreLoaded}

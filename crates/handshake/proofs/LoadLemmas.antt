@@ -38,12 +38,13 @@ use Rattle.loading.proofs.FitLemmas.{read-fits}
 use Rattle.loading.proofs.SameLemmas.{links-made}
 use Rattle.loading.proofs.SideLemmas.{contents-shape}
 use Rattle.loading.proofs.SoundLemmas.{IsSound}
+use Rattle.containment.proofs.PartLemmas.{object-typed}
 use Rattle.handshake.specs.Plans.{HasFittingDocument, HasReadDocument, IsDocument}
 use Rattle.handshake.specs.Refusals.{late_refusal}
 use Rattle.handshake.specs.declared.change.Change.{Change}
 use Rattle.handshake.specs.declared.change.Change.TheVariants.{Load}
 use Rattle.handshake.proofs.CutTieLemmas.{values-linked}
-use Rattle.handshake.proofs.KnownLemmas.{none-else_by, none-unless, object-typed}
+use Rattle.handshake.proofs.KnownLemmas.{none-else_by, none-unless}
 
 ---------------------------------------------------------------- numbers that no object has
 

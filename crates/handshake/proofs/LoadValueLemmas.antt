@@ -26,7 +26,7 @@ use Rattle.resource_docs.specs.declared.doc.DocObject.{DocObject}
 use Rattle.loading.specs.Loading.{attribute_edits, loaded, loaded_values, of_contents, of_object}
 use Rattle.loading.specs.Typed.{IsTyped, IsTypedContent, IsTypedObject, IsTypedValue, class_in}
 use Rattle.loading.proofs.PairLemmas.{all-at, all-flat_map, numbered-all}
-use Rattle.handshake.proofs.KnownLemmas.{object-reference}
+use Rattle.containment.proofs.PartLemmas.{object-reference}
 use Rattle.handshake.proofs.ObjectLegalLemmas.{class-put, created, legal-at, put-at}
 
 ---------------------------------------------------------------- lists of objects

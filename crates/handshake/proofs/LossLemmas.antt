@@ -12,7 +12,7 @@ use Rattle.models.specs.Reading.{Reading}
 use Rattle.handshake.specs.Displaced.{turned}
 use Rattle.handshake.specs.Tellings.{far_loss, is_replaced, loss, losses, other_losses}
 use Rattle.handshake.specs.declared.happening.Happening.TheVariants.{Gains, Loses}
-use Rattle.ties.specs.declared.tie.Tie.{Tie}
+use Rattle.removal.specs.declared.tie.Tie.{Tie}
 use Rattle.handshake.proofs.HappenedLemmas.{done, happened_at, happened_at-append, happened_at-filter}
 
 -- what a single end holds after a gain, and after a loss

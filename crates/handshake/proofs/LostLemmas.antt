@@ -26,8 +26,8 @@ use Rattle.notice_chain.specs.Replay.{removed, replayed_in}
 use Rattle.notice_chain.specs.declared.kind.NoticeKind.TheVariants as kind
 use Rattle.notice_chain.specs.declared.notice.Notice.{Notice}
 use Rattle.links.proofs.OrderLemmas.{order-apart}
-use Rattle.deletion.specs.Losses.{is_lost, kept_at, loss, lost_at, lost_from}
-use Rattle.deletion.specs.declared.loss.Loss.{Loss}
+use Rattle.removal.specs.Losses.{is_lost, kept_at, loss, lost_at, lost_from}
+use Rattle.removal.specs.declared.loss.Loss.{Loss}
 use Rattle.handshake.specs.Reports.{lost_notice}
 use Rattle.handshake.specs.Telling.{has_flag, happened_all, notice, notice_of, telling, told, without}
 use Rattle.handshake.specs.Tellings.{lost_with}

@@ -28,7 +28,7 @@ use Rattle.loading.proofs.KindLemmas.{read-kind}
 use Rattle.handshake.specs.declared.change.Change.{Change}
 use Rattle.handshake.specs.declared.change.Change.TheVariants.{Create, Set, Unset, Add, Remove, RemoveValue, Move, Delete, NewResource, Resolve, Load}
 use Rattle.handshake.specs.declared.planned.Planned.{Planned}
-use Rattle.ties.specs.declared.tie.Tie.{Tie}
+use Rattle.removal.specs.declared.tie.Tie.{Tie}
 use Rattle.handshake.specs.Tellings.{chain}
 use Rattle.handshake.specs.Displaced.{cut_by_new, cut_by_set, cut_ties, has_already, is_plain_add, is_plain_set, tie_in}
 use Rattle.handshake.specs.Edits.{cut_of, link_edits, made_edits, new_put}
@@ -40,7 +40,7 @@ use Rattle.handshake.proofs.LoadLemmas.{load-makes}
 use Rattle.handshake.proofs.LinkLemmas.{IsNewLink, many-lacks, near-empty, near-same, new-fits, new-outside, new_edit, single-lacks, without_displaced}
 use Rattle.handshake.proofs.ResolveLemmas.{one-cut, resolve-fits, resolve-outside}
 use Rattle.handshake.proofs.CutTieLemmas.{cuts-once, cuts-there, left-cuts, plain-not, values-linked}
-use Rattle.ties.specs.Laws.{names_of}
+use Rattle.removal.specs.Laws.{names_of}
 
 ---------------------------------------------------------------- new links
 

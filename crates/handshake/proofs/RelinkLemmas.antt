@@ -33,13 +33,13 @@ use Rattle.handshake.specs.Tellings.{far_gain, far_loss, far_losses, gain_at, is
 use Rattle.handshake.specs.declared.happening.Happening.{Happening}
 use Rattle.handshake.specs.declared.happening.Happening.TheVariants.{Gains}
 use Rattle.handshake.specs.declared.happening.Telling.{Telling}
-use Rattle.ties.specs.declared.tie.Tie.{Tie}
+use Rattle.removal.specs.declared.tie.Tie.{Tie}
 use Rattle.handshake.proofs.AttributeLemmas.{Replays}
 use Rattle.handshake.proofs.ApartLemmas.{far_losses-away}
 use Rattle.handshake.proofs.CutEndLemmas.{held-one, reference-flag, reference-plain, same-held}
 use Rattle.handshake.proofs.CutHeldLemmas.{held_in, losses-cut}
 use Rattle.handshake.proofs.CutTieLemmas.{Stands, all_map, far-emptied, same_end-symmetric, yields-different, yields-stand}
-use Rattle.ties.specs.Laws.{names_of}
+use Rattle.removal.specs.Laws.{names_of}
 use Rattle.handshake.proofs.HappenedLemmas.{at-others, at-own, done, done-here, done-other, done_at, happened_at, happened_at-append}
 use Rattle.handshake.proofs.KnownLemmas.{far-reference}
 use Rattle.handshake.proofs.LossLemmas.{gained, gained-single, happened_at-far_loss, happened_at-other_losses}

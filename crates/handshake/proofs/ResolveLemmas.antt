@@ -27,7 +27,7 @@ use Rattle.models.specs.Legal.{IsLegal, is_legal_end, is_legal_target, kinds_of,
 use Rattle.models.specs.Model.{Model, reading}
 use Rattle.models.specs.Reading.{has_feature, shape_at}
 use Rattle.containment.proofs.PartLemmas.{legal-at}
-use Rattle.ties.specs.TreeTies.{tie}
+use Rattle.removal.specs.TreeTies.{tie}
 use Rattle.handshake.specs.Displaced.{tie_in}
 use Rattle.handshake.proofs.CutHeldLemmas.{all-left, near-gives}
 use Rattle.handshake.proofs.CutTieLemmas.{values-linked}

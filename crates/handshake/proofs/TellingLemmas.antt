@@ -9,12 +9,12 @@ use Rattle.mm_types.specs.declared.end.End.{End}
 use Rattle.mm_types.specs.declared.value.Value.{Value}
 use Rattle.mm_types.specs.declared.value.Value.TheVariants as value
 use Rattle.handshake.specs.Displaced.{ties_backwards}
-use Rattle.ties.specs.TreeTies.{tie}
+use Rattle.removal.specs.TreeTies.{tie}
 use Rattle.handshake.specs.Telling.{telling}
 use Rattle.handshake.specs.Tellings.{all_lost}
 use Rattle.handshake.specs.declared.happening.Happening.TheVariants.{LosesAt}
 use Rattle.handshake.specs.declared.happening.Telling.{Telling}
-use Rattle.ties.specs.declared.tie.Tie.{Tie}
+use Rattle.removal.specs.declared.tie.Tie.{Tie}
 
 filter-two : {X : Type 0} (p : X → Bool) (x y : X) → filter p (x ∷ []) ++ filter p (y ∷ []) ≡ filter p (x ∷ y ∷ [])
 filter-two p x y = elim (p x) as (λ b. cond b (x ∷ []) [] ++ filter p (y ∷ []) ≡ cond b (x ∷ filter p (y ∷ [])) (filter p (y ∷ []))) [ true ↦ refl | false ↦ refl ]

@@ -24,12 +24,13 @@ use Rattle.models.proofs.EndLemmas.{values-single}
 use Rattle.models.specs.Legal.{IsLegal, is_legal_end, is_legal_target, kinds_of, takes_proxies}
 use Rattle.models.specs.Model.{Model, reading}
 use Rattle.models.specs.Reading.{Reading, at_end, has_feature}
+use Rattle.containment.proofs.PartLemmas.{object-reference}
 use Rattle.handshake.proofs.CutTieLemmas.{Stands, same_tie-self, values-linked}
-use Rattle.handshake.proofs.KnownLemmas.{object-reference, resource-alone}
+use Rattle.handshake.proofs.KnownLemmas.{resource-alone}
 use Rattle.handshake.proofs.YieldLemmas.{Origin, holder-contains}
 use Rattle.handshake.specs.Displaced.{other_side, same_link, same_tie, turned}
-use Rattle.ties.specs.TreeTies.{tie}
-use Rattle.ties.specs.declared.tie.Tie.{Tie}
+use Rattle.removal.specs.TreeTies.{tie}
+use Rattle.removal.specs.declared.tie.Tie.{Tie}
 
 ---------------------------------------------------------------- what stands in legal ends
 

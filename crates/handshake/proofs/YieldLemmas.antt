@@ -32,11 +32,11 @@ use Rattle.models.specs.Model.{Model, reading}
 use Rattle.models.specs.Reading.{has_feature}
 use Rattle.containment.proofs.HolderLemmas.{container_at, holding-feature}
 use Rattle.handshake.proofs.CutTieLemmas.{all_append, all_once, all_weaker, is_named-same_link}
-use Rattle.ties.specs.Laws.{names_of}
+use Rattle.removal.specs.Laws.{names_of}
 use Rattle.handshake.proofs.KnownLemmas.{kinds-are}
 use Rattle.handshake.specs.Displaced.{holding_tie, in_the_way, opposite_end, other_side, same_link, same_tie, ties_at, ties_if_single, yields}
-use Rattle.ties.specs.TreeTies.{tie}
-use Rattle.ties.specs.declared.tie.Tie.{Tie}
+use Rattle.removal.specs.TreeTies.{tie}
+use Rattle.removal.specs.declared.tie.Tie.{Tie}
 
 ---------------------------------------------------------------- where they come from
 

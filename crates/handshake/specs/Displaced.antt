@@ -11,11 +11,11 @@ use Rattle.mm_types.specs.declared.numbers.Node.TheVariants as node
 use Rattle.mm_types.specs.declared.end.End.{End}
 use Rattle.mm_types.specs.declared.value.Value.{Value}
 use Rattle.mm_types.specs.declared.value.Value.TheVariants as value
-use Rattle.ties.specs.declared.tie.Tie.{Tie}
+use Rattle.removal.specs.declared.tie.Tie.{Tie}
 use Rattle.links.specs.Links.{far_end}
 use Rattle.links.specs.Holders.{contained}
 use Rattle.models.specs.Reading.{Reading, at_end, is_repeat, shape_at, first_at, value_at}
-use Rattle.ties.specs.TreeTies.{tie, tree_ties}
+use Rattle.removal.specs.TreeTies.{tie, tree_ties}
 use Rattle.handshake.specs.declared.change.Change.{Change}
 use Rattle.handshake.specs.declared.change.Change.TheVariants.{Create, Set, Unset, Add, Remove, RemoveValue, Move, Delete, NewResource, Resolve, Load}
 

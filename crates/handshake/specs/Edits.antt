@@ -10,7 +10,7 @@ use Rattle.links.specs.Laws.{cut_edit}
 use Rattle.models.specs.Reading.{Reading, at_end, place_for, shape_at}
 use Rattle.handshake.specs.declared.change.Change.{Change}
 use Rattle.handshake.specs.declared.change.Change.TheVariants.{Create, Set, Unset, Add, Remove, RemoveValue, Move, Delete, NewResource, Resolve, Load}
-use Rattle.ties.specs.declared.tie.Tie.{Tie}
+use Rattle.removal.specs.declared.tie.Tie.{Tie}
 use Rattle.loading.specs.LoadEdits.{load_edits}
 use Rattle.handshake.specs.Displaced.{cut_ties, is_plain_add, is_plain_set}
 

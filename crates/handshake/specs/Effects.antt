@@ -15,10 +15,10 @@ use Rattle.links.specs.Links.{Links, cut_value, end, put, shift, without_nodes}
 use Rattle.models.specs.Reading.{Reading, at_end, first_at, is_repeat, place_for, shape_at}
 use Rattle.models.specs.Model.{Model, reading}
 use Rattle.containment.specs.Forest.{subtree}
-use Rattle.deletion.specs.Outer.{gone}
+use Rattle.removal.specs.Outer.{gone}
 use Rattle.handshake.specs.declared.change.Change.{Change}
 use Rattle.handshake.specs.declared.change.Change.TheVariants.{Create, Set, Unset, Add, Remove, RemoveValue, Move, Delete, NewResource, Resolve, Load}
-use Rattle.ties.specs.declared.tie.Tie.{Tie}
+use Rattle.removal.specs.declared.tie.Tie.{Tie}
 use Rattle.loading.specs.Loading.{loaded_links, loaded_values, with_links}
 use Rattle.handshake.specs.Displaced.{cut_ties, is_plain_add, is_plain_set}
 

@@ -10,13 +10,13 @@ use Rattle.resource_docs.specs.Causes.{HasProxyTexts}
 use Rattle.models.specs.Legal.{IsLegal}
 use Rattle.models.specs.Model.{Model, reading}
 use Rattle.models.specs.Reading.{Reading, at_end, held_at, shape_at}
-use Rattle.deletion.specs.Outer.{gone}
+use Rattle.removal.specs.Outer.{gone}
 use Rattle.notice_chain.specs.Replay.{replayed_all}
 use Rattle.handshake.specs.declared.change.Change.{Change}
 use Rattle.handshake.specs.declared.change.Change.TheVariants.{Delete, Load, NewResource, Unset}
 use Rattle.handshake.specs.declared.happening.Happening.TheVariants.{Unsets}
 use Rattle.handshake.specs.declared.happening.Telling.{Telling}
-use Rattle.ties.specs.declared.tie.Tie.{Tie}
+use Rattle.removal.specs.declared.tie.Tie.{Tie}
 use Rattle.handshake.specs.Displaced.{cut_ties, same_link}
 use Rattle.handshake.specs.Effects.{after}
 use Rattle.handshake.specs.Plans.{HasReadDocument}

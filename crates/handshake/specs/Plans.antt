@@ -1,5 +1,5 @@
 -- What planning a change gives.
-use Rattle.std.specs.Prelude.{◌≡◌, ℕ, Bool, true, false, MatchBool, List, [], Some, None, Result, Ok, Err, if◌then◌else◌}
+use Rattle.std.specs.Prelude.{◌≡◌, ℕ, Bool, true, false, List, [], Option, Some, None, IfSome, Result, Ok, Err, option_map, if◌then◌else◌}
 use Rattle.mm_types.specs.Resolved.{Metamodel}
 use Rattle.mm_types.specs.declared.refused.Refused.{Refused}
 use Rattle.mm_types.specs.declared.refused.Refused.TheVariants.{Memory}
@@ -7,6 +7,9 @@ use Rattle.mm_values.specs.Values as values
 use Rattle.links.specs.Plans as links
 use Rattle.models.specs.Legal.{kinds_of}
 use Rattle.models.specs.Model.{Model, reading}
+use Rattle.models.specs.Reading.{Reading}
+use Rattle.removal.specs.Removals.{IsRemoval}
+use Rattle.removal.specs.declared.gone.Removal.{Removal}
 use Rattle.loading.specs.Fits.{IsFitting}
 use Rattle.resource_docs.specs.Causes.{IsRead}
 use Rattle.resource_docs.specs.declared.doc.Doc.{Doc}
@@ -15,7 +18,7 @@ use Rattle.handshake.specs.declared.change.Change.TheVariants.{Load}
 use Rattle.handshake.specs.declared.planned.Planned.{Planned}
 use Rattle.handshake.specs.Effects.{after}
 use Rattle.handshake.specs.Refusals.{late_refusal}
-use Rattle.handshake.specs.Tellings.{chain}
+use Rattle.handshake.specs.Tellings.{chain, destroyed_by}
 
 -- a document as reading gives it, in a resource of some URI
 pub record IsDocument (m : Metamodel) (doc : Doc) : Type 0 where
@@ -36,6 +39,11 @@ abbrev pub is_memory_refusal : Refused → Bool
 is_memory_refusal Memory = true
 is_memory_refusal _ = false
 
+-- what goes with the object that a change destroys, if it destroys one
+pub record IsRemovalOf (r : Reading) (c : Change) (q : Option Removal) : Type 0 where
+  pub whose : option_map (λ (x : Removal). x.object) q ≡ destroyed_by c
+  pub found : IfSome q (IsRemoval r)
+
 -- edits that make a change, which nothing refuses, and its chain, where somebody may hear it
 pub record IsPlanOf (is_heard : Bool) (s : Model) (c : Change) (p : Planned) : Type 0 where
   pub allowed : late_refusal (reading s) c ≡ None
@@ -45,7 +53,7 @@ pub record IsPlanOf (is_heard : Bool) (s : Model) (c : Change) (p : Planned) : T
   pub values_made : values.applied s.values p.values ≡ (after s c).values
   pub tells : p.chain ≡ (if is_heard then chain (reading s) c else [])
 
--- the plan, the refusal that planning finds, or out of memory
+-- the plan, or the refusal that planning finds; out of memory where it finds none
 abbrev pub Plans : Bool → Result Planned Refused → Model → Change → Type 0
 Plans is_heard (Ok p) s c = IsPlanOf is_heard s c p
-Plans is_heard (Err r) s c = MatchBool (is_memory_refusal r) (Unit {0}) (late_refusal (reading s) c ≡ Some r)
+Plans is_heard (Err r) s c = late_refusal (reading s) c ≡ (if is_memory_refusal r then None else Some r)

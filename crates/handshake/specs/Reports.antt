@@ -7,7 +7,7 @@ use Rattle.notice_chain.specs.Kinds.{no_index}
 use Rattle.notice_chain.specs.declared.kind.NoticeKind.TheVariants as kind
 use Rattle.notice_chain.specs.declared.notice.Notice.{Notice}
 use Rattle.models.specs.Reading.{Reading, held_at, shape_at}
-use Rattle.deletion.specs.declared.loss.Loss.{Loss}
+use Rattle.removal.specs.declared.loss.Loss.{Loss}
 use Rattle.loading.specs.Loading.{loaded}
 use Rattle.handshake.specs.declared.chain.Report.{Report}
 use Rattle.handshake.specs.Telling.{notice}

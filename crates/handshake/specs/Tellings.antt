@@ -13,14 +13,14 @@ use Rattle.notice_chain.specs.declared.notice.Notice.{Notice}
 use Rattle.models.specs.Reading.{Reading, at_end, first_at, held_at, is_repeat, shape_at}
 use Rattle.resource_docs.specs.declared.doc.Doc.{Doc}
 use Rattle.loading.specs.Loading.{contents_end, roots_loaded}
-use Rattle.deletion.specs.Losses.{is_lost}
-use Rattle.deletion.specs.Outer.{touched_ends}
+use Rattle.removal.specs.Losses.{is_lost}
+use Rattle.removal.specs.Outer.{touched_ends}
 use Rattle.handshake.specs.declared.change.Change.{Change}
 use Rattle.handshake.specs.declared.change.Change.TheVariants.{Create, Set, Unset, Add, Remove, RemoveValue, Move, Delete, NewResource, Resolve, Load}
 use Rattle.handshake.specs.declared.happening.Happening.TheVariants.{Gains, GainsAt, Loses, LosesAt, Unsets, Moves, Resolves}
 use Rattle.handshake.specs.declared.happening.Happening.{Happening}
 use Rattle.handshake.specs.declared.happening.Telling.{Telling}
-use Rattle.ties.specs.declared.tie.Tie.{Tie}
+use Rattle.removal.specs.declared.tie.Tie.{Tie}
 use Rattle.handshake.specs.Displaced.{cut_ties, is_plain_set, opposite_end, turned}
 use Rattle.handshake.specs.Telling.{telling, told}
 

@@ -1,21 +1,21 @@
 //! The notices of what happens to ends.
-ghost use Rattle.std.specs.Prelude.{◌≡◌, ◌∷◌, ◌++◌, [], true, map, IfOk, OnOk};
+ghost use Rattle.std.specs.Prelude.{◌≡◌, ◌∷◌, ◌++◌, [], map, IfOk, OnOk};
 ghost use Rattle.mm_types.specs.Ends.{index_in};
 ghost use Rattle.mm_types.specs.Shapes.{shape};
 ghost use Rattle.models.specs.Model.{reading};
-ghost use Rattle.deletion.specs.Losses.{losses as losses_of};
-ghost use Rattle.models.specs.Reading.{is_live};
+ghost use Rattle.removal.specs.Losses.{losses as losses_of};
+ghost use Rattle.removal.specs.Removals.{IsRemoval};
 ghost use Rattle.handshake.specs.Reports.{lost_notice as lost_notice_of, reported};
 ghost use Rattle.handshake.specs.Telling.{notice_at, telling};
 ghost use Rattle.handshake.specs.declared.happening.Happening.TheVariants.{Gains, Loses, Resolves, Unsets};
 
 use crate::happening::{Happening, Telling};
-use deletion::{Loss, losses};
 use links::LinkStore;
 use mm_meta::Meta;
-use mm_types::{End, FeatureNo, ObjectNo, Value};
+use mm_types::{End, FeatureNo, Value};
 use models::{ModelRef, copied};
 use notice_chain::{Chain, NO_INDEX, Notice, NoticeKind};
+use removal::{Loss, Removal, losses};
 use std::alloc::{AllocError, Global};
 
 /// The notices of what happens to ends, each read in the model as it is.
@@ -50,12 +50,12 @@ fn push_notice<L: LinkStore>(
 pub(crate) fn lost_notices<L: LinkStore>(
     alloc: Global,
     model: &ModelRef<L>,
-    object: ObjectNo,
+    removal: &Removal,
 ) -> Result<Chain, AllocError>
-    requires live { is_live (reading model.now) object ≡ true }
-    ensures { IfOk result (λ c. c ≡ map (lost_notice_of (reading model.now)) (losses_of (reading model.now) object)) }
+    requires removal { IsRemoval (reading model.now) removal.now }
+    ensures { IfOk result (λ c. c ≡ map (lost_notice_of (reading model.now)) (losses_of (reading model.now) removal.now.object)) }
 {
-    each_lost(alloc, model, losses(alloc, model, object)?)
+    each_lost(alloc, model, losses(alloc, model, removal)?)
 }
 
 fn each_lost<L: LinkStore>(

@@ -1,12 +1,15 @@
 //! Which links a change cuts.
-ghost use Rattle.std.specs.Prelude.{◌≡◌, ◌++◌, [], true, None, fold, OnOk, IfOk, option_map, option_to_list, if◌then◌else◌};
+ghost use Rattle.std.specs.Prelude.{◌≡◌, ◌++◌, [], true, None, fold, OnOk, IfOk, IfSome, option_map, option_to_list, if◌then◌else◌};
 ghost use Rattle.std.specs.Option.{option_map_or};
 ghost use Rattle.mm_types.specs.Shapes.{shape};
 ghost use Rattle.links.specs.Holders as h;
 ghost use Rattle.models.specs.Found.{found_value};
 ghost use Rattle.models.specs.Model.{reading};
-ghost use Rattle.ties.specs.TreeTies.{tie};
+ghost use Rattle.removal.specs.Removals.{IsRemoval};
+ghost use Rattle.removal.specs.TreeTies as t;
+ghost use Rattle.removal.specs.TreeTies.{tie};
 ghost use Rattle.handshake.specs.Displaced as d;
+ghost use Rattle.handshake.specs.Plans.{IsRemovalOf};
 ghost use Rattle.handshake.specs.Refusals as refusals;
 
 use crate::change::Change;
@@ -15,8 +18,8 @@ use links::LinkStore;
 use mm_meta::Meta;
 use mm_types::{End, Node, ObjectNo, Value};
 use models::{Found, ModelRef};
+use removal::{Removal, Tie, tree_ties};
 use std::alloc::{AllocError, Global};
-use ties::{Tie, tree_ties};
 
 /// What a new link of an object at an end displaces, each link once.
 pub(crate) fn yields<L: LinkStore>(
@@ -111,7 +114,9 @@ pub(crate) fn cut_ties<L: LinkStore>(
     alloc: Global,
     model: &ModelRef<L>,
     change: &Change,
+    removal: &Option<Removal>,
 ) -> Result<Vec<Tie>, AllocError>
+    requires removal { IsRemovalOf (reading model.now) change.now removal.now }
     requires asked { refusals.early_refusal (reading model.now) change.now ≡ None }
     ensures { IfOk result (λ ts. ts.items ≡ d.cut_ties (reading model.now) change.now) }
 {
@@ -144,13 +149,28 @@ pub(crate) fn cut_ties<L: LinkStore>(
             let end = at_end(node, feature);
             tie_in(alloc, model, end, model.position(end, value))
         }
-        Change::Delete(object) => tree_ties(alloc, model, *object),
+        Change::Delete(_) => gone_ties(alloc, model, removal),
         Change::Resolve {
             object,
             feature,
             index,
             ..
         } => tie_in(alloc, model, far_end(*object, *feature), Some(*index)),
+    }
+}
+
+/// The links that go; none where nothing goes.
+fn gone_ties<L: LinkStore>(
+    alloc: Global,
+    model: &ModelRef<L>,
+    removal: &Option<Removal>,
+) -> Result<Vec<Tie>, AllocError>
+    requires found { IfSome removal.now (IsRemoval (reading model.now)) }
+    ensures { IfOk result (λ ts. ts.items ≡ option_map_or (λ x. t.tree_ties (reading model.now) x.object) removal.now []) }
+{
+    match removal {
+        Some(removal) => tree_ties(alloc, model, removal),
+        None => Ok(Vec::new(alloc)),
     }
 }
 

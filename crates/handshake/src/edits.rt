@@ -3,29 +3,27 @@ ghost use Rattle.std.specs.Prelude.{◌≡◌, ◌∷◌, ◌++◌, [], true, No
 ghost use Rattle.mm_types.specs.Shapes.{shape};
 ghost use Rattle.mm_types.specs.declared.value.Value.TheVariants as value;
 ghost use Rattle.models.specs.Model.{reading};
-ghost use Rattle.models.specs.Reading.{at_end, is_live};
-ghost use Rattle.containment.specs.Forest.{subtree as subtree_of};
-ghost use Rattle.handshake.specs.Refusals as refusals;
+ghost use Rattle.models.specs.Reading.{at_end};
 ghost use Rattle.handshake.specs.Edits as e;
 ghost use Rattle.mm_values.specs.declared.edit.ValueEdit.TheVariants.{DropObject, MoveValue};
 ghost use Rattle.handshake.specs.Displaced as d;
 ghost use Rattle.handshake.specs.Effects as effects;
-ghost use Rattle.handshake.specs.Plans.{HasFittingDocument};
+ghost use Rattle.handshake.specs.Plans.{HasFittingDocument, IsRemovalOf};
 ghost use Rattle.loading.specs.Fits.{IsFitting};
 ghost use Rattle.loading.specs.Loading.{loaded_values};
 ghost use Rattle.handshake.specs.Effects.{put_values, value_edits as value_edits_of};
+ghost use Rattle.handshake.specs.Tellings.{destroyed_by};
 
 use crate::change::Change;
 use crate::displaced::{is_plain_add, is_plain_set};
 use crate::tie::{at_end, far_end};
-use containment::subtree;
 use links::{Edit, LinkStore, Plan};
 use mm_types::{End, FeatureNo, Node, ObjectNo, Seq, Text, Value};
 use mm_values::{ValueEdit, ValuePlan};
 use models::ModelRef;
+use removal::{Removal, Tie};
 use resource_docs::Doc;
 use std::alloc::{AllocError, Global};
-use ties::Tie;
 
 /// The edits of links that make a change that cuts these.
 pub(crate) fn link_edits<L: LinkStore>(
@@ -149,14 +147,32 @@ pub(crate) fn value_edits<L: LinkStore>(
     alloc: Global,
     model: &ModelRef<L>,
     change: Change,
+    removal: &Option<Removal>,
 ) -> Result<ValuePlan, AllocError>
-    requires asked { refusals.early_refusal (reading model.now) change ≡ None }
+    requires removal { IsRemovalOf (reading model.now) change removal.now }
+    requires fits { HasFittingDocument (reading model.now).next change }
+    ensures { IfOk result (λ p. p ≡ value_edits_of (reading model.now) change) }
+{
+    match removal {
+        Some(removal) => drop_edits(alloc, removal),
+        None => other_edits(alloc, model, change),
+    }
+}
+
+/// The edits of values of a change that destroys nothing.
+fn other_edits<L: LinkStore>(
+    alloc: Global,
+    model: &ModelRef<L>,
+    change: Change,
+) -> Result<ValuePlan, AllocError>
+    requires destroys_nothing { destroyed_by change ≡ None }
     requires fits { HasFittingDocument (reading model.now).next change }
     ensures { IfOk result (λ p. p ≡ value_edits_of (reading model.now) change) }
 {
     match change {
         Change::Create(class) => Ok(ValuePlan::one(ValueEdit::NewObject(class))),
-        Change::Delete(object) => drop_edits(alloc, model, object),
+        // `drop_edits` makes those of a delete
+        Change::Delete(_) => Ok(ValuePlan::none(alloc)),
         Change::NewResource(uri) => Ok(ValuePlan::one(ValueEdit::NewUri(uri))),
         Change::Resolve { .. } => Ok(ValuePlan::none(alloc)),
         Change::Load(_, doc) => load_edits(alloc, model, doc),
@@ -213,25 +229,20 @@ fn load_edits<L: LinkStore>(
     Ok(ValuePlan::from_seq(Seq::from_vec(edits)))
 }
 
-/// The edits that destroy an object and all that is below it.
-fn drop_edits<L: LinkStore>(
-    alloc: Global,
-    model: &ModelRef<L>,
-    object: ObjectNo,
-) -> Result<ValuePlan, AllocError>
-    requires live { is_live (reading model.now) object ≡ true }
-    ensures { IfOk result (λ p. p ≡ map DropObject (subtree_of (reading model.now) object)) }
+/// The edits that destroy what goes.
+fn drop_edits(alloc: Global, removal: &Removal) -> Result<ValuePlan, AllocError>
+    ensures { IfOk result (λ p. p ≡ map DropObject removal.now.objects.items) }
 {
-    let edits = drop_each(alloc, subtree(alloc, model, object)?)?;
+    let edits = drop_each(alloc, &removal.objects)?;
     Ok(ValuePlan::from_seq(Seq::from_vec(edits)))
 }
 
-fn drop_each(alloc: Global, objects: Vec<ObjectNo>) -> Result<Vec<ValueEdit>, AllocError>
-    ensures { IfOk result (λ es. es.items ≡ map DropObject objects.items) }
+fn drop_each(alloc: Global, objects: &[ObjectNo]) -> Result<Vec<ValueEdit>, AllocError>
+    ensures { IfOk result (λ es. es.items ≡ map DropObject objects.now) }
 {
     let mut edits = Vec::new(alloc);
     for object in objects {
-        edits.push(ValueEdit::DropObject(object))?;
+        edits.push(ValueEdit::DropObject(*object))?;
     }
     Ok(edits)
 }

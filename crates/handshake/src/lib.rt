@@ -6,6 +6,7 @@
 
 mod chain;
 mod change;
+mod destroyed;
 mod displaced;
 mod edits;
 mod happening;
@@ -20,6 +21,7 @@ mod telling;
 mod tie;
 
 pub use change::Change;
+pub use destroyed::removal_of;
 pub use happening::{Happening, Telling};
 pub use named::{early_refusal, feature_refusal, node_refusal};
 pub use planned::Planned;

@@ -6,7 +6,7 @@ ghost use Rattle.models.specs.Model.{reading};
 ghost use Rattle.models.specs.Reading.{takes};
 ghost use Rattle.handshake.specs.Displaced as d;
 ghost use Rattle.handshake.specs.Edits as e;
-ghost use Rattle.handshake.specs.Plans.{HasFittingDocument, HasReadDocument, Plans};
+ghost use Rattle.handshake.specs.Plans.{HasFittingDocument, HasReadDocument, IsPlanOf, IsRemovalOf, Plans};
 ghost use Rattle.handshake.specs.Refusals as refusals;
 ghost use Rattle.handshake.specs.Tellings as t;
 ghost use Rattle.handshake.specs.declared.change.Change.TheVariants.{Add};
@@ -26,11 +26,11 @@ use loading::contents_end;
 use mm_types::{End, FeatureNo, ObjectNo, Refused, Text, Value, limits};
 use models::{ModelRef, is_short, is_short_text};
 use notice_chain::Chain;
+use removal::{Removal, Tie};
 use std::alloc::{AllocError, Global};
-use ties::Tie;
 
-/// The plan of a change whose class, nodes and features are there, or the first refusal that planning finds. The notices are
-/// made only where somebody may hear them.
+/// The plan of a change whose class, nodes and features are there, of what goes with what it destroys, or the first refusal that planning
+/// finds. The notices are made only where somebody may hear them.
 ///
 /// `WrongType` where the value is not one of the feature's type, `TextLength` above 65,535 bytes, `Index` where nothing stands at an
 /// index or a value would not stand behind the last, `Duplicate` where a unique list has the value that is added at an index, `Bound`
@@ -43,18 +43,37 @@ pub fn plan<L: LinkStore>(
     alloc: Global,
     model: &ModelRef<L>,
     change: Change,
+    removal: &Option<Removal>,
     is_heard: bool,
 ) -> Result<Planned, Refused>
     requires asked { refusals.early_refusal (reading model.now) change ≡ None }
+    requires removal { IsRemovalOf (reading model.now) change removal.now }
     requires read { HasReadDocument model.now.metamodel change }
     ensures { Plans is_heard result model.now change }
 {
-    model.is_legal();
     if let Some(refused) = late_refusal(model, &change) {
         return Err(refused);
     }
-    let (edits, chain) = links_and_notices(alloc, model, &change, is_heard)?;
-    let values = value_edits(alloc, model, change)?;
+    Ok(made(alloc, model, change, removal, is_heard)?)
+}
+
+/// The edits of a change that nothing refuses, and its notices. Errs only when out of memory.
+fn made<L: LinkStore>(
+    alloc: Global,
+    model: &ModelRef<L>,
+    change: Change,
+    removal: &Option<Removal>,
+    is_heard: bool,
+) -> Result<Planned, AllocError>
+    requires asked { refusals.early_refusal (reading model.now) change ≡ None }
+    requires allowed { refusals.late_refusal (reading model.now) change ≡ None }
+    requires removal { IsRemovalOf (reading model.now) change removal.now }
+    requires read { HasReadDocument model.now.metamodel change }
+    ensures { IfOk result (IsPlanOf is_heard model.now change) }
+{
+    model.is_legal();
+    let (edits, chain) = links_and_notices(alloc, model, &change, removal, is_heard)?;
+    let values = value_edits(alloc, model, change, removal)?;
     Ok(Planned {
         edits,
         values,
@@ -67,16 +86,18 @@ fn links_and_notices<L: LinkStore>(
     alloc: Global,
     model: &ModelRef<L>,
     change: &Change,
+    removal: &Option<Removal>,
     is_heard: bool,
 ) -> Result<(Plan, Chain), AllocError>
     requires asked { refusals.early_refusal (reading model.now) change.now ≡ None }
     requires allowed { refusals.late_refusal (reading model.now) change.now ≡ None }
+    requires removal { IsRemovalOf (reading model.now) change.now removal.now }
     requires fits { HasFittingDocument (reading model.now).next change.now }
     ensures edits { IfOk result (λ p. p.0 ≡ e.link_edits (reading model.now) change.now) }
     ensures chain { IfOk result (λ p. p.1 ≡ (if is_heard then t.chain (reading model.now) change.now else [])) }
 {
-    let ties = cut_ties(alloc, model, change)?;
-    let chain = heard_chain(alloc, model, change, &ties, is_heard)?;
+    let ties = cut_ties(alloc, model, change, removal)?;
+    let chain = heard_chain(alloc, model, change, removal, &ties, is_heard)?;
     let edits = link_edits(alloc, model, ties, change)?;
     Ok((edits, chain))
 }
@@ -277,26 +298,18 @@ fn is_at_limit<L: LinkStore>(model: &ModelRef<L>, end: End) -> bool
     model.len(end) as usize >= limits::LIST_VALUES
 }
 
-/// The object that a change destroys, with all that is below it.
-fn destroyed_by(change: &Change) -> Option<ObjectNo>
-    ensures { result ≡ t.destroyed_by change.now }
-{
-    match change {
-        Change::Delete(object) => Some(*object),
-        _ => None,
-    }
-}
-
 /// The notices that a change tells that cuts these links; none where nobody may hear them.
 fn heard_chain<L: LinkStore>(
     alloc: Global,
     model: &ModelRef<L>,
     change: &Change,
+    removal: &Option<Removal>,
     ties: &[Tie],
     is_heard: bool,
 ) -> Result<Chain, AllocError>
     requires asked { refusals.early_refusal (reading model.now) change.now ≡ None }
     requires allowed { refusals.late_refusal (reading model.now) change.now ≡ None }
+    requires removal { IsRemovalOf (reading model.now) change.now removal.now }
     requires cut { ties.now ≡ d.cut_ties (reading model.now) change.now }
     requires fits { HasFittingDocument (reading model.now).next change.now }
     ensures { IfOk result (λ c. c ≡ (if is_heard then t.chain (reading model.now) change.now else [])) }
@@ -305,8 +318,8 @@ fn heard_chain<L: LinkStore>(
         return Ok(Chain::new(alloc));
     }
     model.is_legal();
-    if let Some(object) = destroyed_by(change) {
-        return lost_notices(alloc, model, object);
+    if let Some(removal) = removal {
+        return lost_notices(alloc, model, removal);
     }
     if let Change::Load(resource, doc) = change {
         let roots = contents_end(model.meta(), *resource);

@@ -3,7 +3,7 @@ ghost use Rattle.std.specs.Prelude.{◌≡◌};
 ghost use Rattle.models.specs.Model.{reading};
 ghost use Rattle.handshake.specs.Refusals as refusals;
 
-use deletion::is_within;
+use containment::is_within;
 use links::LinkStore;
 use mm_types::{End, Node, ObjectNo};
 use models::ModelRef;

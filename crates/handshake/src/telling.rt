@@ -14,8 +14,8 @@ use crate::tie::{at_end, far_end, node_value, opposite_end, turned};
 use links::LinkStore;
 use mm_types::{End, ObjectNo, Value};
 use models::ModelRef;
+use removal::Tie;
 use std::alloc::{AllocError, Global};
-use ties::Tie;
 
 /// What a change that cuts these links, and destroys and loads nothing, makes happen, in the order in which it is told.
 pub(crate) fn tellings<L: LinkStore>(

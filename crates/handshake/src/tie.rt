@@ -10,7 +10,7 @@ ghost use Rattle.handshake.specs.Displaced as d;
 use links::LinkStore;
 use mm_types::{End, FeatureNo, Node, ObjectNo, Value};
 use models::{ModelRef, is_same};
-use ties::Tie;
+use removal::Tie;
 
 /// An object as a value; a resource is the value of no end.
 pub(crate) fn node_value(node: Node) -> Value

@@ -1,21 +1,9 @@
-use Rattle.std.proofs.Common.{rules, ◌≡◌, []}
-use Rattle.containment.proofs.TreeLemmas.{some-made, walk-ends, walk-falls, walk-on, walk-starts}
+use Rattle.std.proofs.Common.{◌≡◌, IfOk, List, subst}
+use Rattle.mm_types.specs.declared.numbers.ObjectNo.{ObjectNo}
+use Rattle.containment.proofs.TreeLemmas.{one-waits}
 use Rattle.containment.proofs.tree.subtree.Goals as goal
-
-pub loop-next-init : goal.loop-next-init
-loop-next-init g c = walk-starts c.args.model.now c.new-found.result.items c.in_ok-waiting.waiting.items c.args.object c.new-found.ensures.items c.in_ok-waiting.ensures.items
-
-pub loop-next-smaller : goal.loop-next-smaller
-loop-next-smaller g c =
-    let s = c.args.model.now in
-    walk-falls s c.is_legal.ensures c.loop-next.waiting.items c.pop.new.self.items c.in_ok-parts.parts.items c.reverse.new.self.items c.append.new.self.items c.in-Some.next (some-made s c.args.object c.requires.live) c.in-Some.ensures.items c.in_ok-append.ensures.items c.reverse.ensures.items c.in_ok-parts.ensures
-
-pub loop-next-preserved : goal.loop-next-preserved
-loop-next-preserved g c =
-    let s = c.args.model.now in
-    walk-on s c.is_legal.ensures c.loop-next.waiting.items c.pop.new.self.items c.in_ok-parts.parts.items c.reverse.new.self.items c.append.new.self.items c.loop-next.found.items c.push.new.self.items _ c.in-Some.next (some-made s c.args.object c.requires.live) c.in-Some.ensures.items c.in_ok-append.ensures.items c.reverse.ensures.items c.in_ok-parts.ensures c.in_ok-push.ensures.items c.loop-next.invariant
 
 pub returns : goal.returns
 returns g c =
-    let none : c.loop-next.waiting.items ≡ [] = search rules in
-    walk-ends c.args.model.now c.loop-next.found.items c.loop-next.waiting.items _ none c.loop-next.invariant
+    let is = one-waits c.args.model.now c.in_ok-waiting.waiting.items c.args.object c.in_ok-waiting.ensures.items in
+    subst (λ (xs : List ObjectNo). IfOk c.all_below.result (λ r. r.items ≡ xs)) is c.all_below.ensures

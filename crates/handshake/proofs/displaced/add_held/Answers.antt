@@ -6,8 +6,8 @@ use Rattle.mm_types.specs.declared.value.Value.{Value}
 use Rattle.models.specs.Found.{found_value}
 use Rattle.models.specs.Model.{reading}
 use Rattle.models.specs.declared.reads.Found.{Found}
-use Rattle.ties.specs.TreeTies.{tie}
-use Rattle.ties.specs.declared.tie.Tie.{Tie}
+use Rattle.removal.specs.TreeTies.{tie}
+use Rattle.removal.specs.declared.tie.Tie.{Tie}
 use Rattle.handshake.specs.Displaced.{with_tie}
 use Rattle.handshake.proofs.CutTieLemmas.{ties-single}
 use Rattle.handshake.proofs.displaced.add_held.Goals as goal

@@ -1,8 +1,8 @@
 use Rattle.std.proofs.Common.{List, map, ◌<◌, ◌≤◌, ◌++◌, ℕ, Option, option_map, option_to_list, ap, ◌∙◌, subst}
 use Rattle.mm_types.specs.declared.value.Value.{Value}
-use Rattle.ties.specs.declared.tie.Tie.{Tie}
+use Rattle.removal.specs.declared.tie.Tie.{Tie}
 use Rattle.models.specs.Model.{reading}
-use Rattle.ties.specs.TreeTies.{tie}
+use Rattle.removal.specs.TreeTies.{tie}
 use Rattle.handshake.proofs.TellingLemmas.{ties-end, ties-step}
 use Rattle.handshake.proofs.displaced.ties_at.Goals as goal
 

@@ -1,6 +1,6 @@
 use Rattle.std.proofs.Common.{◌≡◌, ◌++◌, drop, map}
 use Rattle.models.specs.Model.{reading}
-use Rattle.ties.specs.TreeTies.{tie}
+use Rattle.removal.specs.TreeTies.{tie}
 use Rattle.handshake.proofs.displaced.ties_at.Given as goal
 
 abbrev pub invariant-loop-index : goal.invariant-loop-index

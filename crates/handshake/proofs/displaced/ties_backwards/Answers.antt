@@ -4,7 +4,7 @@ use Rattle.mm_types.specs.Shapes.{shape}
 use Rattle.mm_types.specs.declared.value.Value.{Value}
 use Rattle.models.specs.Model.{reading}
 use Rattle.handshake.specs.Displaced.{ties_backwards}
-use Rattle.ties.specs.TreeTies.{tie}
+use Rattle.removal.specs.TreeTies.{tie}
 use Rattle.handshake.proofs.TellingLemmas.{backwards-before, backwards-end, take-whole}
 use Rattle.handshake.proofs.displaced.ties_backwards.Goals as goal
 

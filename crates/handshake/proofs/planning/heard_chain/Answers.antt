@@ -1,4 +1,4 @@
-use Rattle.std.proofs.Common.{◌≡◌, IfOk, [], None, ap, map, subst, sym, ◌∙◌, if◌then◌else◌}
+use Rattle.std.proofs.Common.{◌≡◌, IfOk, [], None, ap, map, option_map, subst, sym, ◌∙◌, if◌then◌else◌}
 use Rattle.std.specs.List.{enumerate_from}
 use Rattle.models.specs.Model.{Model, reading}
 use Rattle.loading.specs.Loading.{contents_end}
@@ -6,16 +6,15 @@ use Rattle.handshake.specs.Refusals.{late_refusal}
 use Rattle.handshake.specs.Reports.{root_notice}
 use Rattle.handshake.specs.Tellings.{chain}
 use Rattle.handshake.proofs.ApartLemmas.{made-chain, nothing-loaded}
-use Rattle.handshake.proofs.DestroyLemmas.{destroyed-heard, destroyed-live, nothing-destroyed}
+use Rattle.handshake.proofs.DestroyLemmas.{destroyed-heard, nothing-destroyed}
 use Rattle.handshake.proofs.LoadChainLemmas.{loaded-heard}
 use Rattle.handshake.proofs.planning.heard_chain.Goals as goal
 
-pub lost_notices-requires : goal.lost_notices-requires
-lost_notices-requires g c = record { live = destroyed-live c.args.model.now c.args.change.now c.destroyed_by.result c.in-Some.object c.requires.asked c.destroyed_by.ensures (sym c.in-Some.is) }
-
 pub returns-in-Some : goal.returns-in-Some
 returns-in-Some g c =
-    let is = destroyed-heard c.args.model.now c.args.change.now c.destroyed_by.result c.in-Some.object c.is_legal.ensures c.requires.asked c.destroyed_by.ensures (sym c.in-Some.is) c.args.is_heard c.if-not-is_heard.false in
+    let x = c.in-Some.removal in
+    let some = ap (λ q. option_map (λ y. y.object) q) c.in-Some.is in
+    let is = destroyed-heard c.args.model.now c.args.change.now (option_map (λ y. y.object) c.args.removal.now) x.object c.is_legal.ensures c.requires.asked c.requires.removal.whose (sym some) c.args.is_heard c.if-not-is_heard.false in
     subst (λ x. IfOk c.lost_notices.result (λ y. y ≡ x)) is c.lost_notices.ensures
 
 pub returns-in-Load : goal.returns-in-Load
@@ -31,7 +30,7 @@ returns-in-Load g c =
 
 pub returns : goal.returns
 returns g c =
-    let none = nothing-destroyed c.args.change.now c.destroyed_by.result c.destroyed_by.ensures c.in_default.not-Some in
+    let none = nothing-destroyed c.args.change.now c.args.removal.now c.requires.removal.whose c.in_default.not-Some in
     let unloaded = nothing-loaded c.args.change.now c.in_default-change.not-Load in
     let is = made-chain c.args.model.now c.args.change.now c.args.ties.now c.in_ok-tellings.tellings.items c.is_legal.ensures none unloaded c.requires.asked c.requires.allowed c.requires.cut c.in_ok-tellings.ensures c.args.is_heard c.if-not-is_heard.false in
     subst (λ x. IfOk c.notices.result (λ y. y ≡ x)) is c.notices.ensures

@@ -1,17 +1,7 @@
 use Rattle.std.proofs.Common.{sym}
-use Rattle.handshake.proofs.LoadLemmas.{fits-in}
-use Rattle.handshake.proofs.PlanLemmas.{planned}
+use Rattle.models.specs.Model.{reading}
+use Rattle.handshake.proofs.RefusalLemmas.{late-refused}
 use Rattle.handshake.proofs.planning.plan.Goals as goal
 
-pub links_and_notices-requires-clause-fits : goal.links_and_notices-requires-clause-fits
-links_and_notices-requires-clause-fits g c = fits-in c.args.model.now c.args.change c.is_legal.ensures (sym c.in_default.ensures) c.requires.read
-
-pub value_edits-requires-clause-fits : goal.value_edits-requires-clause-fits
-value_edits-requires-clause-fits g c = fits-in c.args.model.now c.args.change c.is_legal.ensures (sym c.in_default.ensures) c.requires.read
-
-pub returns : goal.returns
-returns g c =
-    planned c.args.is_heard c.args.model.now c.args.change _ c.is_legal.ensures c.requires.asked (sym c.in_default.ensures) c.requires.read
-    c.in_ok-edits.ensures.edits
-    c.in_ok-values.ensures
-    c.in_ok-edits.ensures.chain
+pub returns-in-Some : goal.returns-in-Some
+returns-in-Some g c = late-refused (reading c.args.model.now) c.args.change c.in-Some.refused (sym c.in-Some.ensures)

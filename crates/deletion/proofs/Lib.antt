@@ -1,3 +1,0 @@
-pub mod OuterLemmas
-pub mod HoldLemmas
-pub mod LossLemmas

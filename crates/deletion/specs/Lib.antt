@@ -1,3 +1,0 @@
-pub mod Outer
-pub mod Ranks
-pub mod Losses

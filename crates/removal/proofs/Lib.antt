@@ -1,0 +1,9 @@
+pub mod ListLemmas
+pub mod OuterLemmas
+pub mod HoldLemmas
+pub mod LossLemmas
+pub mod PushLemmas
+pub mod EndLemmas
+pub mod TieLemmas
+pub mod NameLemmas
+pub mod TreeLemmas

@@ -1,0 +1,21 @@
+-- What holds of the links that go with an object.
+use Rattle.std.specs.Prelude.{List, map}
+use Rattle.mm_types.specs.declared.end.End.{End}
+use Rattle.mm_types.specs.declared.value.Value.{Value}
+use Rattle.mm_types.specs.declared.numbers.ObjectNo.{ObjectNo}
+use Rattle.links.specs.Laws.{AreOnce, AreThere, NameLinksOf}
+use Rattle.models.specs.Legal.{kinds_of}
+use Rattle.models.specs.Model.{Model, reading}
+use Rattle.removal.specs.Outer.{gone}
+use Rattle.removal.specs.TreeTies.{tree_ties}
+use Rattle.removal.specs.declared.tie.Tie.{Tie}
+
+-- the names as pairs
+abbrev pub names_of : List Tie → List (End × Value)
+names_of ts = map (λ t. (t.end, t.value)) ts
+
+-- each is the name of a link, no link is named twice, and the links named are those that name something that goes
+pub record NameTreeLinks (s : Model) (o : ObjectNo) : Type 0 where
+  pub there : AreThere s.links (names_of (tree_ties (reading s) o))
+  pub once : AreOnce (kinds_of s.metamodel) (names_of (tree_ties (reading s) o))
+  pub all : NameLinksOf (kinds_of s.metamodel) s.links (gone (reading s) o) (names_of (tree_ties (reading s) o))

@@ -1,0 +1,56 @@
+//! What goes with an object.
+ghost use Rattle.std.specs.Prelude.{◌≡◌, true, IfOk};
+ghost use Rattle.models.specs.Model.{reading};
+ghost use Rattle.models.specs.Reading.{is_live};
+ghost use Rattle.removal.specs.Ranks as ranks;
+ghost use Rattle.removal.specs.Removals.{IsRemoval};
+
+use crate::ends::ends_touched_by;
+use crate::numbers::Numbers;
+use containment::subtree;
+use links::LinkStore;
+use mm_types::{End, Node, ObjectNo};
+use models::ModelRef;
+use std::alloc::{AllocError, Global};
+
+/// What goes when an object is destroyed, found once and lent to all that asks for it: the object and all that is below it, and the
+/// ends of other nodes that hold some of it.
+#[derive(Drop)]
+pub struct Removal {
+    /// The object that is destroyed.
+    pub object: ObjectNo,
+    /// That object and all that is below it, each before what it contains.
+    pub objects: Vec<ObjectNo>,
+    pub(crate) numbers: Numbers,
+    pub(crate) ends: Vec<End>,
+}
+
+impl Removal {
+    /// What goes with a live object. Errs only when out of memory.
+    pub fn of<L: LinkStore>(
+        alloc: Global,
+        model: &ModelRef<L>,
+        object: ObjectNo,
+    ) -> Result<Removal, AllocError>
+        requires live { is_live (reading model.now) object ≡ true }
+        ensures object { IfOk result (λ x. x.object ≡ object) }
+        ensures found { IfOk result (IsRemoval (reading model.now)) }
+    {
+        let objects = subtree(alloc, model, object)?;
+        let numbers = Numbers::of(alloc, &objects)?;
+        let ends = ends_touched_by(alloc, model, object, &objects, &numbers)?;
+        Ok(Removal {
+            object,
+            objects,
+            numbers,
+            ends,
+        })
+    }
+
+    /// Whether a node goes. Takes no memory.
+    pub fn has(&self, node: Node) -> bool
+        ensures { result ≡ ranks.is_in self.now.numbers node }
+    {
+        self.numbers.has(node)
+    }
+}

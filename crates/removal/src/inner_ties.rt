@@ -1,0 +1,135 @@
+//! The links of nodes that go with an object, told apart by the numbers of what goes.
+ghost use Rattle.std.specs.Prelude.{◌≡◌, ◌++◌, [], true, filter, flat_map, map, OnOk, option_map, option_to_list, if◌then◌else◌};
+ghost use Rattle.mm_types.specs.Shapes.{shape};
+ghost use Rattle.links.specs.Laws.{goes as goes_with};
+ghost use Rattle.models.specs.Found.{found_value};
+ghost use Rattle.models.specs.Model.{reading};
+ghost use Rattle.removal.specs.Ranks as ranks;
+ghost use Rattle.removal.specs.TreeTies as t;
+
+use crate::numbers::Numbers;
+use crate::tie::Tie;
+use links::LinkStore;
+use mm_types::{End, FeatureNo, Node, ObjectNo};
+use models::{Found, ModelRef};
+use std::alloc::{AllocError, Global};
+
+/// Adds the links of objects, where those whose numbers are in a set go.
+pub(crate) fn push_inner<L: LinkStore>(
+    alloc: Global,
+    model: &ModelRef<L>,
+    objects: &[ObjectNo],
+    numbers: &Numbers,
+    ties: &mut Vec<Tie>,
+) -> Result<(), AllocError>
+    ensures { OnOk result (ties.new.items ≡ ties.old.items ++ flat_map (t.node_ties (reading model.now) (ranks.is_in numbers.now)) objects.now) }
+{
+    for object in objects {
+        push_node(alloc, model, *object, numbers, ties)?;
+    }
+    Ok(())
+}
+
+/// Adds the links of one object.
+fn push_node<L: LinkStore>(
+    alloc: Global,
+    model: &ModelRef<L>,
+    object: ObjectNo,
+    numbers: &Numbers,
+    ties: &mut Vec<Tie>,
+) -> Result<(), AllocError>
+    ensures { OnOk result (ties.new.items ≡ ties.old.items ++ t.node_ties (reading model.now) (ranks.is_in numbers.now) object) }
+{
+    let node = Node::Object(object);
+    let features = model.all_features(node);
+    for feature in features {
+        let end = End {
+            node,
+            feature: *feature,
+        };
+        push_reference(alloc, model, end, numbers, ties)?;
+    }
+    Ok(())
+}
+
+/// Adds the links of one end, where it is of a reference.
+fn push_reference<L: LinkStore>(
+    alloc: Global,
+    model: &ModelRef<L>,
+    end: End,
+    numbers: &Numbers,
+    ties: &mut Vec<Tie>,
+) -> Result<(), AllocError>
+    ensures { OnOk result (ties.new.items ≡ ties.old.items ++ (if (shape model.now.metamodel end.feature).is_reference then t.end_ties (reading model.now) (ranks.is_in numbers.now) end else [])) }
+{
+    if !model.meta().is_reference(end.feature) {
+        return Ok(());
+    }
+    push_end(alloc, model, end, numbers, ties)
+}
+
+/// Adds the links that the end of a reference names.
+fn push_end<L: LinkStore>(
+    alloc: Global,
+    model: &ModelRef<L>,
+    end: End,
+    numbers: &Numbers,
+    ties: &mut Vec<Tie>,
+) -> Result<(), AllocError>
+    requires reference { (shape model.now.metamodel end.feature).is_reference ≡ true }
+    ensures { OnOk result (ties.new.items ≡ ties.old.items ++ t.end_ties (reading model.now) (ranks.is_in numbers.now) end) }
+{
+    for index in 0..model.len(end) {
+        push_named(alloc, model, end, model.value_in(end, index), numbers, ties)?;
+    }
+    Ok(())
+}
+
+/// Adds the link of one value, or the proxy, where its end names it.
+fn push_named<L: LinkStore>(
+    alloc: Global,
+    model: &ModelRef<L>,
+    end: End,
+    found: Option<Found>,
+    numbers: &Numbers,
+    ties: &mut Vec<Tie>,
+) -> Result<(), AllocError>
+    ensures { OnOk result (ties.new.items ≡ ties.old.items ++ map (t.tie end) (filter (t.is_named_here (reading model.now) (ranks.is_in numbers.now) end.feature) (option_to_list (option_map found_value found.entry)))) }
+{
+    if let Some(found) = found {
+        if is_named_here(model, end.feature, &found, numbers) {
+            let value = found.to_value(alloc)?;
+            ties.push(Tie { end, value })?;
+        }
+    }
+    Ok(())
+}
+
+/// Whether the end of a node that goes names what was found there: a proxy, an object that stays, or one whose end is of a higher
+/// feature.
+fn is_named_here<L: LinkStore>(
+    model: &ModelRef<L>,
+    feature: FeatureNo,
+    found: &Found,
+    numbers: &Numbers,
+) -> bool
+    ensures { result ≡ t.is_named_here (reading model.now) (ranks.is_in numbers.now) feature (found_value found.now) }
+{
+    if !goes(found, numbers) {
+        return true;
+    }
+    match model.meta().opposite(feature) {
+        Some(far) => feature.0 < far.0,
+        None => true,
+    }
+}
+
+/// Whether what was found is an object that goes.
+fn goes(found: &Found, numbers: &Numbers) -> bool
+    ensures { result ≡ goes_with (ranks.is_in numbers.now) (found_value found.now) }
+{
+    match found.object() {
+        Some(object) => numbers.has(Node::Object(object)),
+        None => false,
+    }
+}

@@ -1,0 +1,37 @@
+//! The numbers of the objects that go, to tell fast whether a node is one of them.
+ghost use Rattle.std.specs.Prelude.{◌≡◌, IfOk};
+ghost use Rattle.mm_types.specs.declared.numbers.Node.{Node};
+ghost use Rattle.containment.specs.Forest as forest;
+ghost use Rattle.removal.specs.Ranks as ranks;
+
+use mm_types::{Node, ObjectNo};
+use std::alloc::{AllocError, Global};
+use std::collections::BTreeSet;
+
+/// The numbers of some objects.
+#[derive(Drop)]
+pub(crate) struct Numbers(BTreeSet<u32>);
+
+impl Numbers {
+    /// The numbers of these objects. Errs only when out of memory.
+    pub(crate) fn of(alloc: Global, objects: &[ObjectNo]) -> Result<Numbers, AllocError>
+        ensures { IfOk result (λ s. (n : Node) → ranks.is_in s n ≡ forest.is_node_among objects.now n) }
+    {
+        let mut numbers = BTreeSet::new(alloc);
+        for object in objects {
+            numbers.insert(object.0)?;
+        }
+        Ok(Numbers(numbers))
+    }
+
+    /// Whether a node is an object whose number is among them. Walks up no chain of containers, so a deep tree costs no more. Takes no
+    /// memory.
+    pub(crate) fn has(&self, node: Node) -> bool
+        ensures { result ≡ ranks.is_in self.now node }
+    {
+        match node {
+            Node::Object(object) => self.0.contains(&object.0),
+            Node::Resource(_) => false,
+        }
+    }
+}

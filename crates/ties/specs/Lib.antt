@@ -1,2 +1,0 @@
-pub mod TreeTies
-pub mod Laws
