@@ -30,7 +30,7 @@ use Rattle.links.proofs.HolderLemmas.{holder_is}
 use Rattle.links.specs.Holders.{holder}
 use Rattle.links.specs.LegalSets.{AreKinds}
 use Rattle.links.specs.Links.{end}
-use Rattle.models.specs.Legal.{IsLegal, is_legal_end, is_legal_target, kinds_of, takes_proxies}
+use Rattle.models.specs.Legal.{IsLegal, is_legal_end, is_legal_target, kinds_of}
 use Rattle.models.specs.Model.{Model, reading, values_at}
 use Rattle.models.specs.Reading.{Reading, all_features_of, at_end, has_feature, is_live, objects_of}
 use Rattle.containment.proofs.ForestLemmas.{parts-first}
@@ -121,7 +121,7 @@ object-reference m class f o h = by (lookups.feature m f) h
 -- a feature with legal links is a reference
 pub legal-reference : (r : Reading) (f : FeatureNo) (v : Value) → is_legal_target r f v ≡ true → (shape r.metamodel f).is_reference ≡ true
 legal-reference r f (value.Object o) h = object-reference r.metamodel r.class f o h
-legal-reference r f (value.Proxy t) h = (and_parts (shape r.metamodel f).is_reference _ (and_parts (takes_proxies (shape r.metamodel f)) _ h).0).0
+legal-reference r f (value.Proxy t) h = (and_parts (shape r.metamodel f).is_reference _ h).0
 legal-reference r f _ h = absurd (false≢true h)
 
 ---------------------------------------------------------------- parts

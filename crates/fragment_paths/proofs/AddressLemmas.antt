@@ -15,9 +15,9 @@ use Rattle.models.specs.Model.{Model, reading}
 use Rattle.models.specs.Reading.{Reading, resource_named}
 use Rattle.containment.specs.Above.{resource_of}
 use Rattle.web_uris.specs.Addresses.{address_text, fragment_part, has_mark, uri_part}
-use Rattle.web_uris.specs.Joined.{IsWebUri, is_mark}
+use Rattle.web_uris.specs.Joined.{IsJoined, is_mark}
 use Rattle.web_uris.specs.Paths.{Writes, path_text}
-use Rattle.web_uris.proofs.AddressFacts.{web_unmarked}
+use Rattle.web_uris.proofs.AddressFacts.{joined_unmarked}
 use Rattle.web_uris.proofs.CutLemmas.{after_around, before_around}
 use Rattle.web_uris.proofs.PathFacts.{parse-Writes}
 use Rattle.fragment_paths.specs.Finding.{at, find, found_by}
@@ -28,10 +28,10 @@ use Rattle.fragment_paths.proofs.FoundLemmas.{IsLocated, located-object}
 
 ---------------------------------------------------------------- the resource of a URI
 
-web-at : (us : List (List ℕ)) (k : ℕ) (u : List ℕ) → All IsWebUri us → slice_get us k ≡ Some u → IsWebUri u
-web-at [] k u all h = absurd (none-some u h)
-web-at (w ∷ ws) zero u all h = subst IsWebUri (same_Some w u h) (All-head IsWebUri w ws all)
-web-at (w ∷ ws) (suc k) u all h = web-at ws k u (All-tail IsWebUri w ws all) h
+uri-at : (us : List (List ℕ)) (k : ℕ) (u : List ℕ) → All IsJoined us → slice_get us k ≡ Some u → IsJoined u
+uri-at [] k u all h = absurd (none-some u h)
+uri-at (w ∷ ws) zero u all h = subst IsJoined (same_Some w u h) (All-head IsJoined w ws all)
+uri-at (w ∷ ws) (suc k) u all h = uri-at ws k u (All-tail IsJoined w ws all) h
 
 apart-at : (w u : List ℕ) (us : List (List ℕ)) (k : ℕ) → AllByRecursion (λ y. bytes_eq w y ≡ false) us → slice_get us k ≡ Some u → bytes_eq u w ≡ false
 apart-at w u [] k all h = absurd (none-some u h)
@@ -61,9 +61,9 @@ named-at r k u distinct h =
 ---------------------------------------------------------------- what is found
 
 -- behind a URI as joining gives it, a fragment is found
-pub at-address : (r : Reading) (k : ResourceNo) (u f : List ℕ) → IsWebUri u → resource_named r u ≡ Some k → at r (address_text u f) ≡ found_by r k f
-at-address r k u f web named =
-    let none = web_unmarked u web in
+pub at-address : (r : Reading) (k : ResourceNo) (u f : List ℕ) → IsJoined u → resource_named r u ≡ Some k → at r (address_text u f) ≡ found_by r k f
+at-address r k u f is named =
+    let none = joined_unmarked u is in
     let t = address_text u f in
     let marked : has_mark t ≡ true = list_any-append is_mark u (35 ∷ f) ∙ or_right (list_any is_mark u) (list_any is_mark (35 ∷ f)) refl in
     ap (λ (b : Bool). if b then option_and_then (λ j. found_by r j (fragment_part t)) (resource_named r (uri_part t)) else None) marked
@@ -111,6 +111,6 @@ module _ (s : Model) (legal : IsLegal s) (o : ObjectNo) (k : ResourceNo) (inside
     by_fragment = ap (option_and_then (found_by (reading s) k)) fragment-is ∙ text-finds;
     by_address =
         ap (option_and_then (at (reading s))) address-is
-        ∙ at-address (reading s) k uri text (web-at (reading s).uris k.0 uri legal.uris.web uri-is) (named-at (reading s) k uri legal.uris.distinct uri-is)
+        ∙ at-address (reading s) k uri text (uri-at (reading s).uris k.0 uri legal.uris.joined uri-is) (named-at (reading s) k uri legal.uris.distinct uri-is)
         ∙ text-finds;
   }

@@ -14,7 +14,6 @@ use Rattle.mm_types.specs.declared.numbers.ObjectNo.{ObjectNo}
 use Rattle.mm_types.specs.declared.value.Value.{Value}
 use Rattle.mm_types.specs.declared.value.Value.TheVariants as value
 use Rattle.links.specs.Links.{end}
-use Rattle.web_uris.specs.Addresses.{is_proxy_text}
 use Rattle.models.specs.Legal.{IsLegal, is_legal_end, is_legal_target, takes_proxies}
 use Rattle.models.specs.Model.{Model, reading, values_at}
 use Rattle.models.specs.Reading.{Reading, object_of, objects_of}
@@ -35,7 +34,7 @@ no-proxies m f contains =
 
 one-of : (r : Reading) (f : FeatureNo) (v : Value) → takes_proxies (shape r.metamodel f) ≡ false → is_legal_target r f v ≡ true → is_object v ≡ true
 one-of r f (value.Object o) none h = refl
-one-of r f (value.Proxy t) none h = sym none ∙ (and_parts (takes_proxies (shape r.metamodel f)) (is_proxy_text t) h).0
+one-of r f (value.Proxy t) none h = sym none ∙ h
 one-of r f _ none h = h
 
 all-of : (r : Reading) (e : End) (vs : List Value) → takes_proxies (shape r.metamodel e.feature) ≡ false → list_all (is_legal_target r e.feature) vs ≡ true → list_all is_object vs ≡ true

@@ -68,7 +68,9 @@ use Rattle.handshake.proofs.PlanLemmas.{add-new, add-place, below, plan-for, set
 use Rattle.std.specs.Str.{bytes_eq}
 use Rattle.std.proofs.lemmas.Cmp.{nat_list_eq_equiv}
 use Rattle.std.proofs.lemmas.Map.Keys.{IsDistinct-push}
-use Rattle.web_uris.specs.Joined.{IsWebUri}
+use Rattle.web_uris.specs.Joined.{IsJoined}
+use Rattle.handshake.proofs.ProxyLemmas.{proxies-after, read-brings}
+use Rattle.web_uris.specs.Addresses.{IsProxyText}
 use Rattle.handshake.proofs.ObjectLegalLemmas.{class-append, class-put, created, has-of, keeps-taken, legal-at, nothing-legal, one-legal, put-at, put-legal}
 
 ---------------------------------------------------------------- the objects after a change
@@ -181,12 +183,12 @@ module _ (s : Model) (legal : IsLegal s) (o : ObjectNo) (f : FeatureNo) (many : 
   moved-values to from = changed-values s o f (λ vs. shifted vs to from) legal (λ x is. move-legal s.metamodel x.class f (stored_under x f) many (stored-has x is) (stored-legal x is) to from)
 
 -- one URI more, which no resource has
-with-new : (us : List (List ℕ)) (u : List ℕ) → AreLegalUris us → IsWebUri u → is_short_text u ≡ true → length us < RESOURCES → list_any (bytes_eq u) us ≡ false
+with-new : (us : List (List ℕ)) (u : List ℕ) → AreLegalUris us → IsJoined u → is_short_text u ≡ true → length us < RESOURCES → list_any (bytes_eq u) us ≡ false
     → AreLegalUris (with_uri us u) × (length us ≤ length (with_uri us u))
-with-new us u legal web short room free =
+with-new us u legal is short room free =
     let added : AreLegalUris (us ++ u ∷ []) = record {
       count = rw (length-append us (u ∷ [])) (omega arith);
-      web = All-append IsWebUri us (u ∷ []) legal.web (All-cons IsWebUri u [] web (All-nil IsWebUri));
+      joined = All-append IsJoined us (u ∷ []) legal.joined (All-cons IsJoined u [] is (All-nil IsJoined));
       short = All-append (λ t. IsTrue (is_short_text t)) us (u ∷ []) legal.short (All-cons (λ t. IsTrue (is_short_text t)) u [] short (All-nil (λ t. IsTrue (is_short_text t))));
       distinct = IsDistinct-push nat_list_eq_equiv us u legal.distinct free;
     } in
@@ -259,9 +261,9 @@ values-after s (Create c) legal early late read brought =
       more = not-fewer s.values.uris;
     }
 values-after s (Delete o) legal early late read brought = left-values s legal (subtree (reading s) o)
-values-after s (NewResource u) legal early late read web =
+values-after s (NewResource u) legal early late read is =
     let uri = uri-taken (reading s) u late in
-    let us = with-new s.values.uris u legal.uris web uri.short uri.room uri.free in
+    let us = with-new s.values.uris u legal.uris is uri.short uri.room uri.free in
     record { count = legal.count; objects = legal.objects; classes = λ o stays c h. h; uris = us.0; more = us.1 }
 values-after s (Resolve o f i b) legal early late read brought = same-values s legal
 values-after s (Set (node.Object o) f v) legal early late read brought =
@@ -424,13 +426,13 @@ untouched-after s (Load k doc) legal e = untouched-end e _
 untouched-after s (Resolve o f i b) legal e = untouched-end e _
 
 -- a load leaves legal ends, and so does each other change
-load-ends : (s : Model) (c : Change) (doc : Doc) → loaded_by c ≡ Some doc → IsLegal s → early_refusal (reading s) c ≡ None → late_refusal (reading s) c ≡ None → HasReadDocument s.metamodel c → IsBrought c → (d : End)
+load-ends : (s : Model) (c : Change) (doc : Doc) → loaded_by c ≡ Some doc → IsLegal s → early_refusal (reading s) c ≡ None → late_refusal (reading s) c ≡ None → HasReadDocument s.metamodel c → (d : End)
     → is_legal_end (reading (after s c)) d (end (after s c).links d) ≡ true
-load-ends s (Load k doc) x is legal early late read brought d =
+load-ends s (Load k doc) x is legal early late read d =
     let typed = read-typed s.metamodel read.uri doc legal.metamodel read.read in
     let there = none-unless NoResource (has_resource (reading s) k) (none-else_by (NoObject unless true) (NoResource unless has_resource (reading s) k) early).1 in
-    linked-legal s k doc legal late read typed brought there (after s (Load k doc)).values (load-values s.metamodel s.values doc typed legal.objects) d
-load-ends s _ x is legal early late read brought d = absurd (none-some x is)
+    linked-legal s k doc legal late read typed there (after s (Load k doc)).values (load-values s.metamodel s.values doc typed legal.objects) d
+load-ends s _ x is legal early late read d = absurd (none-some x is)
 
 ends-legal : (s : Model) (c : Change) → IsLegal s → early_refusal (reading s) c ≡ None → late_refusal (reading s) c ≡ None → HasReadDocument s.metamodel c → IsBrought c → (d : End) → is_legal_end (reading (after s c)) d (end (after s c).links d) ≡ true
 ends-legal s c legal early late read brought d =
@@ -438,7 +440,7 @@ ends-legal s c legal early late read brought d =
       | None ↦ λ none. (
           let v = values-after s c legal early late read brought in
           legal-end-kept (goes_with (reading s) c) s (after s c).values (after s c).links v.classes v.more d _ (untouched-after s c legal d) (ends-after s c none legal early late d))
-      | Some doc ↦ λ is. load-ends s c doc is legal early late read brought d
+      | Some doc ↦ λ is. load-ends s c doc is legal early late read d
     ] refl
 
 links-after : (s : Model) (c : Change) → IsLegal s → early_refusal (reading s) c ≡ None → late_refusal (reading s) c ≡ None → HasReadDocument s.metamodel c → IsBrought c → AreLegalLinks (reading (after s c)) (links_after s.links (reading s) c)
@@ -451,6 +453,7 @@ links-after s c legal early late read brought =
       kinds = subst (AreOfKind m) p.makes (plan_keeps_kinds m (kinds-are s.metamodel legal.metamodel) s.links plan legal.links.kinds p.of_kind);
       forest = subst HasNoCycle p.makes (plan_makes_no_cycle s.links plan legal.links.set p.fits p.no_cycle legal.links.forest);
       ends = ends-legal s c legal early late read brought;
+      proxies = proxies-after IsProxyText s.links (reading s) c (read-brings s.metamodel c read) legal.links.proxies;
     }
 
 ---------------------------------------------------------------- both

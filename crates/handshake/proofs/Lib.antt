@@ -23,6 +23,7 @@ mod LoadValueLemmas
 pub mod LossLemmas
 mod ObjectLegalLemmas
 pub mod PlanLemmas
+pub mod ProxyLemmas
 pub mod RelinkLemmas
 pub mod ReplayLemmas
 mod ResolveLemmas

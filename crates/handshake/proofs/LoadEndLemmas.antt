@@ -1,6 +1,5 @@
 -- What ends hold after a document is loaded, and that it is legal.
 use Rattle.std.proofs.Common.{◌≡◌, ◌≢◌, ◌∙◌, ◌+◌, ◌<◌, ◌≤◌, ℕ, zero, suc, Bool, true, false, List, [], ◌∷◌, Option, Some, None, is_some, length, map, nat_le, nat_lt, option_map, slice_get, arith, refl, sym, ap, subst, inl, inr}
-use Rattle.std.specs.Prelude.{Contains}
 use Rattle.std.specs.List.{AllByRecursion, list_all}
 use Rattle.std.specs.Option.{option_map_or}
 use Rattle.std.proofs.lemmas.Bool.{and_from, and_parts, cases_lt, false≢true, true≢false}
@@ -26,12 +25,9 @@ use Rattle.mm_types.specs.declared.value.Value.TheVariants as value
 use Rattle.mm_meta.proofs.ShapeLemmas.{far_types_fit}
 use Rattle.mm_values.specs.Values.{ValuesState, class_of}
 use Rattle.links.specs.Links.{Links, end}
-use Rattle.web_uris.specs.Addresses.{is_proxy_text}
-use Rattle.web_uris.proofs.AddressFacts.{proxy_text-computed}
-use Rattle.models.specs.Legal.{IsLegal, is_legal_end, is_legal_target, takes_proxies}
+use Rattle.models.specs.Legal.{IsLegal, is_legal_end, is_legal_target}
 use Rattle.models.specs.Model.{Model, model_of, reading}
 use Rattle.models.specs.Reading.{Reading, has_feature, has_resource}
-use Rattle.resource_docs.specs.Causes.{HasProxyTexts}
 use Rattle.resource_docs.specs.Read.{values_in, values_under}
 use Rattle.resource_docs.specs.declared.doc.Content.{Content}
 use Rattle.resource_docs.specs.declared.doc.Doc.{Doc}
@@ -130,7 +126,7 @@ module _ (s : Model) (k : ResourceNo) (doc : Doc) (legal : IsLegal s) (late : la
     pub no-fewer : length s.values.uris ≤ length w.uris
     no-fewer = subst (λ (us : List (List ℕ)). length s.values.uris ≤ length us) (sym made.uris) (omega arith)
 
-  module _ (typed : IsTyped m doc) (proxies : HasProxyTexts doc) (there : has_resource (reading s) k ≡ true) (w : ValuesState) (made : AreLoaded m n doc s.values w) where
+  module _ (typed : IsTyped m doc) (there : has_resource (reading s) k ≡ true) (w : ValuesState) (made : AreLoaded m n doc s.values w) where
     abbrev r : Reading
     r = reading (model_of m w linked)
 
@@ -143,23 +139,23 @@ module _ (s : Model) (k : ResourceNo) (doc : Doc) (legal : IsLegal s) (late : la
     object-takes : (f : FeatureNo) (b : ObjectNo) → lookups.takes m (class_in doc) f (value.Object b) ≡ true → lookups.takes m (class_of w) f (value.Object (loaded n b)) ≡ true
     object-takes f b h = takes-same m (class_of w) (class_in doc) f (loaded n b) b (made.classes b) ∙ h
 
-    target-legal : (f : FeatureNo) (v : Value) → (shape m f).is_reference ≡ true → IsTypedValue m doc f v → ((t : List ℕ) → v ≡ value.Proxy t → is_proxy_text t ≡ true) → is_legal_target r f (loaded_value n v) ≡ true
-    target-legal f v reference h text = by v reference h text
+    target-legal : (f : FeatureNo) (v : Value) → (shape m f).is_reference ≡ true → IsTypedValue m doc f v → is_legal_target r f (loaded_value n v) ≡ true
+    target-legal f v reference h = by v reference h
       where
-        by : (v : Value) → (shape m f).is_reference ≡ true → IsTypedValue m doc f v → ((t : List ℕ) → v ≡ value.Proxy t → is_proxy_text t ≡ true) → is_legal_target r f (loaded_value n v) ≡ true
-        by (value.Object b) reference h text = object-takes f b h
-        by (value.Proxy t) reference h text = and_from (takes_proxies (shape m f)) (is_proxy_text t) h (text t refl)
-        by value.Null reference h text = absurd (true≢false (sym reference ∙ keeps-attribute m f value.Null (and_parts _ _ h).0))
-        by (value.Bool b) reference h text = absurd (true≢false (sym reference ∙ keeps-attribute m f (value.Bool b) (and_parts _ _ h).0))
-        by (value.Int i) reference h text = absurd (true≢false (sym reference ∙ keeps-attribute m f (value.Int i) (and_parts _ _ h).0))
-        by (value.Text t) reference h text = absurd (true≢false (sym reference ∙ keeps-attribute m f (value.Text t) (and_parts _ _ h).0))
-        by (value.Literal i) reference h text = absurd (true≢false (sym reference ∙ keeps-attribute m f (value.Literal i) (and_parts _ _ h).0))
-        by (value.Adapter a) reference h text = absurd (true≢false (sym reference ∙ keeps-attribute m f (value.Adapter a) (and_parts _ _ h).0))
+        by : (v : Value) → (shape m f).is_reference ≡ true → IsTypedValue m doc f v → is_legal_target r f (loaded_value n v) ≡ true
+        by (value.Object b) reference h = object-takes f b h
+        by (value.Proxy t) reference h = h
+        by value.Null reference h = absurd (true≢false (sym reference ∙ keeps-attribute m f value.Null (and_parts _ _ h).0))
+        by (value.Bool b) reference h = absurd (true≢false (sym reference ∙ keeps-attribute m f (value.Bool b) (and_parts _ _ h).0))
+        by (value.Int i) reference h = absurd (true≢false (sym reference ∙ keeps-attribute m f (value.Int i) (and_parts _ _ h).0))
+        by (value.Text t) reference h = absurd (true≢false (sym reference ∙ keeps-attribute m f (value.Text t) (and_parts _ _ h).0))
+        by (value.Literal i) reference h = absurd (true≢false (sym reference ∙ keeps-attribute m f (value.Literal i) (and_parts _ _ h).0))
+        by (value.Adapter a) reference h = absurd (true≢false (sym reference ∙ keeps-attribute m f (value.Adapter a) (and_parts _ _ h).0))
 
-    targets-legal : (f : FeatureNo) (vs : List Value) → (shape m f).is_reference ≡ true → AllByRecursion (IsTypedValue m doc f) vs → ((t : List ℕ) → Contains vs (value.Proxy t) → is_proxy_text t ≡ true) → list_all (is_legal_target r f) (loaded_values n vs) ≡ true
-    targets-legal f [] reference all texts = refl
-    targets-legal f (v ∷ vs) reference all texts =
-        and_from _ _ (target-legal f v reference all.0 (λ t is. texts t (0, omega arith, is))) (targets-legal f vs reference all.1 (λ t at. texts t (suc at.0, (let low = at.1 in omega (arith, low)), at.2)))
+    targets-legal : (f : FeatureNo) (vs : List Value) → (shape m f).is_reference ≡ true → AllByRecursion (IsTypedValue m doc f) vs → list_all (is_legal_target r f) (loaded_values n vs) ≡ true
+    targets-legal f [] reference all = refl
+    targets-legal f (v ∷ vs) reference all =
+        and_from _ _ (target-legal f v reference all.0) (targets-legal f vs reference all.1)
 
     -- a content of an object of the document
     content-typed : (o : ObjectNo) (c : Content) (h : IsThere doc o c) → IsTypedContent m doc h.object.class c
@@ -177,7 +173,7 @@ module _ (s : Model) (k : ResourceNo) (doc : Doc) (legal : IsLegal s) (late : la
         let all = subst (λ (us : List Value). AllByRecursion (IsTypedValue m doc f) us) same (subst (λ (g : FeatureNo). AllByRecursion (IsTypedValue m doc g) c.content.values) c.of (recursion_from_All (IsTypedValue m doc c.content.feature) c.content.values t.takes)) in
         let bounded : is_bounded (shape m f) (length (loaded_values n (v ∷ vs))) ≡ true =
         ap (is_bounded (shape m f)) (length-map (v ∷ vs) (loaded_value n)) ∙ (λ i. is_bounded (shape m (sym c.of i)) (length (sym same i))) ∙ t.bounded in
-        end-from r (object_end n o f) (loaded_values n (v ∷ vs)) has (targets-legal f (v ∷ vs) reference all (λ t at. proxy_text-computed t (proxies o f t (subst (λ (us : List Value). Contains us (value.Proxy t)) (sym is) at)))) bounded
+        end-from r (object_end n o f) (loaded_values n (v ∷ vs)) has (targets-legal f (v ∷ vs) reference all) bounded
 
     near-legal : (o : ObjectNo) (f : FeatureNo) → (shape m f).is_reference ≡ true → IsPlainFeature m f → is_legal_end r (object_end n o f) (end linked (object_end n o f)) ≡ true
     near-legal o f reference plain = subst (λ (us : List Value). is_legal_end r (object_end n o f) us ≡ true) (sym (linked-values o f reference plain)) (values-legal o f reference (values_in doc o f) refl)

@@ -106,7 +106,7 @@ module _ (s : Model) (legal : IsLegal s) (e : End) (i : ℕ) (o : ObjectNo) (is 
   ---------------------------------------------------------------- a reference that takes proxies
 
   legal-there : (has_feature (reading s) e.node e.feature ≡ true) × (takes_proxies a ≡ true)
-  legal-there = let both = legal-at (reading s) e was i proxy (legal.links.ends e) there in (both.0, (and_parts (takes_proxies a) _ both.1).0)
+  legal-there = legal-at (reading s) e was i proxy (legal.links.ends e) there
 
   not-some : {X : Type 0} (q : Option X) → is_some q ≡ false → q ≡ None
   not-some None h = refl

@@ -21,7 +21,7 @@ use Rattle.links.specs.Holders.{contained}
 use Rattle.links.specs.Links.{end, far_end}
 use Rattle.links.specs.Plans.{Has}
 use Rattle.models.proofs.EndLemmas.{values-single}
-use Rattle.models.specs.Legal.{IsLegal, is_legal_end, is_legal_target, kinds_of, takes_proxies}
+use Rattle.models.specs.Legal.{IsLegal, is_legal_end, is_legal_target, kinds_of}
 use Rattle.models.specs.Model.{Model, reading}
 use Rattle.models.specs.Reading.{Reading, at_end, has_feature}
 use Rattle.containment.proofs.PartLemmas.{object-reference}
@@ -41,7 +41,7 @@ pub record IsOpen (s : Model) (e : End) : Type 0 where
 
 object_takes : (s : Model) (f : FeatureNo) (v : Value) → is_legal_target (reading s) f v ≡ true → (shape s.metamodel f).is_reference ≡ true
 object_takes s f (value.Object o) h = object-reference s.metamodel (reading s).class f o h
-object_takes s f (value.Proxy t) h = (and_parts (shape s.metamodel f).is_reference _ (and_parts (takes_proxies (shape s.metamodel f)) _ h).0).0
+object_takes s f (value.Proxy t) h = (and_parts (shape s.metamodel f).is_reference _ h).0
 object_takes s f _ h = absurd (false≢true h)
 
 open_by : (s : Model) (e : End) (vs : List Value) (k : ℕ) (v : Value) → IsTrue (is_legal_end (reading s) e vs) → slice_get vs k ≡ Some v → IsOpen s e

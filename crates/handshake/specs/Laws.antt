@@ -5,11 +5,12 @@ use Rattle.mm_types.specs.declared.end.End.{End}
 use Rattle.mm_types.specs.declared.numbers.FeatureNo.{FeatureNo}
 use Rattle.mm_types.specs.declared.numbers.Node.{Node}
 use Rattle.mm_types.specs.declared.numbers.Node.TheVariants as node
-use Rattle.web_uris.specs.Joined.{IsWebUri}
-use Rattle.resource_docs.specs.Causes.{HasProxyTexts}
+use Rattle.web_uris.specs.Joined.{IsJoined, IsWebUri}
+use Rattle.resource_docs.specs.Causes.{HasSteadyProxies}
 use Rattle.models.specs.Legal.{IsLegal}
 use Rattle.models.specs.Model.{Model, reading}
 use Rattle.models.specs.Reading.{Reading, at_end, held_at, shape_at}
+use Rattle.models.specs.Steady.{HasSteadyTexts}
 use Rattle.removal.specs.Outer.{gone}
 use Rattle.notice_chain.specs.Replay.{replayed_all}
 use Rattle.handshake.specs.declared.change.Change.{Change}
@@ -28,15 +29,24 @@ use Rattle.handshake.specs.Tellings.{chain, far_losses, tellings}
 abbrev pub OfAllowed : (Model → Change → Type 0) → Model → Change → Type 0
 OfAllowed Holds s c = IsLegal s → early_refusal (reading s) c ≡ None → late_refusal (reading s) c ≡ None → Holds s c
 
--- what a change brings is as it has to be: the URI of a new resource is as joining gives it, and each proxy has the text of one
+-- the URI that a change brings is as joining gives it
 abbrev pub IsBrought : Change → Type 0
-IsBrought (NewResource u) = IsWebUri u
-IsBrought (Load k doc) = HasProxyTexts doc
+IsBrought (NewResource u) = IsJoined u
 IsBrought _ = Unit {0}
 
 -- it leaves a legal model
 abbrev pub KeepsLegal : Model → Change → Type 0
 KeepsLegal = OfAllowed (λ s c. HasReadDocument s.metamodel c → IsBrought c → IsLegal (after s c))
+
+-- joining leaves the URI that a change brings as it is, and those of the proxies
+abbrev pub BringsSteadyTexts : Change → Type 0
+BringsSteadyTexts (NewResource u) = IsWebUri u
+BringsSteadyTexts (Load k doc) = HasSteadyProxies doc
+BringsSteadyTexts _ = Unit {0}
+
+-- then it leaves those of the model as they are
+abbrev pub KeepsSteady : Model → Change → Type 0
+KeepsSteady s c = HasSteadyTexts s → BringsSteadyTexts c → HasSteadyTexts (after s c)
 
 -- a node is one of the objects that a change destroys
 abbrev pub goes_with : Reading → Change → Node → Bool

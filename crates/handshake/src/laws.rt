@@ -6,15 +6,20 @@ ghost use Rattle.mm_types.specs.declared.numbers.FeatureNo.{FeatureNo};
 ghost use Rattle.mm_types.specs.declared.numbers.Node.{Node};
 ghost use Rattle.models.specs.Model.{Model};
 ghost use Rattle.notice_chain.specs.Replay.{replayed_all};
-ghost use Rattle.handshake.specs.Laws.{ChainReplays, CutsNoLinkTwice, FarEndsAreApart, KeepsLegal, TellsNoEndTwice};
+ghost use Rattle.handshake.specs.Laws.{ChainReplays, CutsNoLinkTwice, FarEndsAreApart, KeepsLegal, KeepsSteady, TellsNoEndTwice};
 ghost use Rattle.handshake.specs.Telling.{happened_all, has_flag, told};
 ghost use Rattle.handshake.specs.declared.change.Change.{Change};
 ghost use Rattle.handshake.specs.declared.happening.Telling.{Telling};
 
 /// A change of a legal model, where nothing refuses it, leaves a legal model, if what it brings is as it has to be: the URI of a new
-/// resource as joining gives it, and a document that is loaded one that reading gives, with proxies that have the texts of ones.
+/// resource as joining gives it, and a document that is loaded one that reading gives.
 pub fn keeps_legal()
     ensures { (s : Model) (c : Change) → KeepsLegal s c }
+{}
+
+/// Where joining leaves the URIs of a model as they are, and those that a change brings, it leaves those after the change as they are.
+pub fn keeps_steady_texts()
+    ensures { (s : Model) (c : Change) → KeepsSteady s c }
 {}
 
 /// To replay the notices of tellings is to do what they tell, one after another, at every end.

@@ -40,7 +40,7 @@ use Rattle.loading.proofs.SoundLemmas.{IsSort, all-none, filter_map-at}
 
 ---------------------------------------------------------------- kinds of values
 
-abbrev IsPlain : Value → Type 0
+abbrev pub IsPlain : Value → Type 0
 IsPlain (value.Object o) = ⊥
 IsPlain (value.Proxy t) = ⊥
 IsPlain _ = Unit {0}
@@ -58,7 +58,7 @@ null-plain false o = tt
 null-plain true None = tt
 null-plain true (Some x) = tt
 
-attribute-plain : (m : Metamodel) (single : Bool) (t : DataType) (d : Data) → IfSome (attribute_value m single t d) IsPlain
+pub attribute-plain : (m : Metamodel) (single : Bool) (t : DataType) (d : Data) → IfSome (attribute_value m single t d) IsPlain
 attribute-plain m single EString d =
     either-plain (cond single (option_map (λ x. value.Null) (as_null d)) None) (option_map value.Text (as_str d such_that is_short)) (null-plain single (as_null d)) (mapped-plain value.Text (as_str d such_that is_short) (λ x. tt))
 attribute-plain m single EInt d = mapped-plain value.Int (whole_number d) (λ x. tt)
@@ -82,22 +82,27 @@ IsLinked (value.Object o) = Unit {0}
 IsLinked (value.Proxy t) = Unit {0}
 IsLinked _ = ⊥
 
-found-linked : (k : ℕ) (m : Metamodel) (class : ClassNo) (o : Option Part) → IfSome (o >>= (λ q. cond (conforms_to m class q.json) (Some (object_of k)) None)) IsLinked
-found-linked k m class None = tt
-found-linked k m class (Some q) = by (conforms_to m class q.json)
-  where
-    by : (b : Bool) → IfSome (cond b (Some (object_of k)) None) IsLinked
-    by true = tt
-    by false = tt
+-- what holds of each object of the document, and of the proxy of a target elsewhere, holds of what a target leads to
+module _ (P : Value → Type 0) (each : (n : ℕ) → P (object_of n)) (m : Metamodel) (ps : List Part) (class : ClassNo) where
+  found-each : (n : ℕ) (o : Option Part) → IfSome (o >>= (λ q. cond (conforms_to m class q.json) (Some (object_of n)) None)) P
+  found-each n None = tt
+  found-each n (Some q) = by (conforms_to m class q.json)
+    where
+      by : (b : Bool) → IfSome (cond b (Some (object_of n)) None) P
+      by true = each n
+      by false = tt
 
-here-linked : (m : Metamodel) (ps : List Part) (class : ClassNo) (o : Option ℕ) → IfSome (o >>= (λ k. slice_get ps k >>= (λ q. cond (conforms_to m class q.json) (Some (object_of k)) None))) IsLinked
-here-linked m ps class None = tt
-here-linked m ps class (Some k) = found-linked k m class (slice_get ps k)
+  here-each : (o : Option ℕ) → IfSome (o >>= (λ n. slice_get ps n >>= (λ q. cond (conforms_to m class q.json) (Some (object_of n)) None))) P
+  here-each None = tt
+  here-each (Some n) = found-each n (slice_get ps n)
+
+  pub led-each : (o : Option Target) → ((t : List ℕ) → o ≡ Some (Elsewhere t) → P (value.Proxy t)) → IfSome (o >>= led_to m ps class) P
+  led-each None elsewhere = tt
+  led-each (Some (Here q)) elsewhere = here-each (number_of ps q)
+  led-each (Some (Elsewhere t)) elsewhere = elsewhere t refl
 
 led-linked : (m : Metamodel) (ps : List Part) (class : ClassNo) (o : Option Target) → IfSome (o >>= led_to m ps class) IsLinked
-led-linked m ps class None = tt
-led-linked m ps class (Some (Here q)) = here-linked m ps class (number_of ps q)
-led-linked m ps class (Some (Elsewhere t)) = tt
+led-linked m ps class o = led-each IsLinked (λ n. tt) m ps class o (λ t is. tt)
 
 pub if-some : {X Y : Type 0} (P : Y → Type 0) (h : X → Option Y) (xs : List X) → ((x : X) → IfSome (h x) P) → AllByRecursion P (filter_map h xs)
 if-some {X} {Y} P h xs each =

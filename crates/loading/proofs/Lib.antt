@@ -16,6 +16,7 @@ pub mod DocSoundLemmas
 pub mod StandingLemmas
 pub mod TypedValueLemmas
 pub mod TypedLemmas
+pub mod ProxyLemmas
 pub mod SideLemmas
 pub mod SourceLemmas
 pub mod TotalLemmas

@@ -23,7 +23,6 @@ use Rattle.links.specs.Links as links
 use Rattle.links.specs.Links.{end}
 use Rattle.links.specs.Plans.{Lacks}
 use Rattle.mm_types.specs.SameValues.{same_value-self, same_value-true}
-use Rattle.web_uris.specs.Addresses.{is_proxy_text}
 use Rattle.models.specs.Legal.{IsLegal, IsLegalObject, is_legal_end, is_legal_list, is_legal_target, takes_proxies}
 use Rattle.models.specs.Model.{Model, attribute_values, kept_values, reading}
 use Rattle.models.specs.Reading.{Reading, object_of, shape_at}
@@ -127,7 +126,7 @@ get-object r e (v ∷ vs) zero never h = by v (and_parts (is_legal_target r e.fe
   where
     by : (w : Value) → is_legal_target r e.feature w ≡ true → option_map value.Object (links.object_of w) ≡ Some w
     by (value.Object o) is = refl
-    by (value.Proxy t) is = absurd (false≢true (sym never ∙ (and_parts (takes_proxies (shape_at r e)) (is_proxy_text t) is).0))
+    by (value.Proxy t) is = absurd (false≢true (sym never ∙ is))
     by _ is = absurd (false≢true is)
 get-object r e (v ∷ vs) (suc k) never h = get-object r e vs k never (and_parts (is_legal_target r e.feature v) _ h).1
 

@@ -13,13 +13,15 @@ use Rattle.mm_types.specs.declared.numbers.FeatureNo.{FeatureNo}
 use Rattle.mm_types.specs.declared.end.End.{End}
 use Rattle.mm_types.specs.declared.value.Value.{Value}
 use Rattle.mm_types.specs.declared.value.Value.TheVariants as value
-use Rattle.web_uris.specs.Addresses.{is_proxy_text}
-use Rattle.web_uris.specs.Joined.{IsWebUri}
+use Rattle.web_uris.specs.Addresses.{IsProxyText}
+use Rattle.web_uris.specs.Joined.{IsJoined}
 use Rattle.mm_values.specs.Stored.{Stored}
 use Rattle.mm_values.specs.Values.{ObjectState, stored_under}
 use Rattle.links.specs.Holders.{HasNoCycle}
 use Rattle.links.specs.LegalSets.{AreOfKind, IsLegalSet, Kinds}
-use Rattle.links.specs.Links.{Links, end}
+use Rattle.links.specs.Links.{In, Links, end}
+use Rattle.links.specs.declared.link.Far.TheVariants.{Proxy}
+use Rattle.links.specs.declared.link.Link.{Link}
 use Rattle.models.specs.Reading.{Reading, has_feature, shape_at, takes}
 use Rattle.models.specs.Model.{Model, reading}
 
@@ -63,10 +65,10 @@ kinds_of m = record { opposite = λ f. (shape m f).opposite; container = λ f. (
 abbrev pub takes_proxies : Shape → Bool
 takes_proxies a = a.is_reference && not (is_some a.opposite || is_some a.containing)
 
--- an object of a feature's type, or the text of a proxy where the feature takes proxies
+-- an object of a feature's type, or a proxy where the feature takes proxies
 abbrev pub is_legal_target : Reading → FeatureNo → Value → Bool
 is_legal_target r f (value.Object o) = takes r f (value.Object o)
-is_legal_target r f (value.Proxy t) = takes_proxies (shape r.metamodel f) && is_proxy_text t
+is_legal_target r f (value.Proxy t) = takes_proxies (shape r.metamodel f)
 is_legal_target r f _ = false
 
 -- an end of a reference that holds something is one of its node's, holds what its feature may, and no more of it than it may
@@ -75,19 +77,24 @@ is_legal_end r e [] = true
 is_legal_end r e (v ∷ vs) =
     has_feature r e.node e.feature && (list_all (is_legal_target r e.feature) (v ∷ vs) && is_bounded (shape_at r e) (length (v ∷ vs)))
 
--- links of the metamodel's pairs, at ends that may hold them, where no object contains itself
+-- something holds of the text of each proxy
+abbrev pub OfProxies : (List ℕ → Type 0) → Links → Type 0
+OfProxies Holds s = (l : Link) (t : List ℕ) → In l s → l.far ≡ Proxy t → Holds t
+
+-- links of the metamodel's pairs, at ends that may hold them, where no object contains itself and each proxy has the text of one
 pub record AreLegalLinks (r : Reading) (s : Links) : Type 0 where
   pub set : IsLegalSet s
   pub kinds : AreOfKind (kinds_of r.metamodel) s
   pub forest : HasNoCycle s
   pub ends : (e : End) → IsTrue (is_legal_end r e (end s e))
+  pub proxies : OfProxies IsProxyText s
 
 ---------------------------------------------------------------- resources
 
 -- the URIs of resources are as joining gives them, short, each another, and no more of them than there may be
 pub record AreLegalUris (us : List (List ℕ)) : Type 0 where
   pub count : length us ≤ RESOURCES
-  pub web : All IsWebUri us
+  pub joined : All IsJoined us
   pub short : All (λ u. IsTrue (is_short_text u)) us
   pub distinct : IsDistinct bytes_eq us
 

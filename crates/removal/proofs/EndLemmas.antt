@@ -26,7 +26,7 @@ use Rattle.links.specs.LegalSets as sets
 use Rattle.links.specs.LegalSets.{IsObject}
 use Rattle.links.specs.Links.{end}
 use Rattle.links.specs.Plans.{Has}
-use Rattle.models.specs.Legal.{IsLegal, is_legal_target, takes_proxies}
+use Rattle.models.specs.Legal.{IsLegal}
 use Rattle.models.specs.Model.{Model, reading}
 use Rattle.models.specs.Reading.{Reading, all_features_of, has_feature, has_resource}
 use Rattle.containment.proofs.MemberLemmas.{own-feature}

@@ -42,25 +42,21 @@ use Rattle.repository.specs.State.{State, IsLegal, IsLegalAdapter, is_there, rea
 use Rattle.repository.specs.Refusals.{chain, early_refusal, late_refusal, resource_refusal}
 use Rattle.repository.specs.Run.{Executed, IsWanting, is_memory}
 use Rattle.repository.specs.Step.{Stepped, adapters_after, done, joins, leaves, model_after, refusal_of, releases, step, step_unless}
-use Rattle.repository.specs.Views.{Outcome, command_of}
+use Rattle.repository.specs.Views.{Outcome}
 use Rattle.repository.specs.declared.reply.Reply.{Reply}
-use Rattle.resource_docs.specs.Causes.{HasProxyTexts}
-use Rattle.repository.specs.Laws.{KeepsLegal, HasSteadyUris}
+use Rattle.repository.specs.Laws.{KeepsLegal}
 use Rattle.notice_chain.specs.Released.{Released}
 use Rattle.repository.proofs.QuietLemmas.{releases-quiet}
 use Rattle.repository.proofs.OthersLemmas.{distinct-push, others-all, others-distinct, others-few}
 use Rattle.std.specs.Str.{bytes_eq}
 use Rattle.std.proofs.lemmas.Bool.Decides.{nat_tests}
-use Rattle.web_uris.specs.Joined.{IsWebUri, joined}
+use Rattle.web_uris.specs.Joined.{joined}
 use Rattle.repository.proofs.PlanLemmas.{uri-allowed}
-use Rattle.std.proofs.lemmas.Option.{same_Some}
-use Rattle.web_uris.proofs.JoinFacts.{joined-web}
 use Rattle.handshake.specs.Laws.{goes_with}
 use Rattle.repository.specs.Loads.{load_of, load_refusal, reads_into}
-use Rattle.repository.specs.Proper.{IsProper}
 use Rattle.repository.specs.Resolving.{target_at}
 use Rattle.repository.proofs.LiveLemmas.{change-live, is_object, loaded-live, loaded-uris, push-live}
-use Rattle.repository.proofs.LoadLemmas.{proper-read}
+use Rattle.repository.proofs.LoadLemmas.{text-read}
 use Rattle.mm_types.specs.declared.document_fault.DocFault.{DocFault}
 use Rattle.mm_types.specs.declared.numbers.ResourceNo.{ResourceNo}
 use Rattle.resource_docs.specs.declared.doc.Doc.{Doc}
@@ -191,44 +187,43 @@ keeps-node s (AdapterKept number) a stays h = h
 
 ---------------------------------------------------------------- the model
 
-resource-legal : (s : State) (t : List ℕ) (uri : Option (List ℕ)) → ((u : List ℕ) → uri ≡ Some u → IsWebUri u) → models.IsLegal s.model → resource_refusal (reads s) t uri ≡ None
+resource-legal : (s : State) (t : List ℕ) (uri : Option (List ℕ)) → joined [] t ≡ uri → models.IsLegal s.model → resource_refusal (reads s) t uri ≡ None
     → models.IsLegal (option_map_or (effects.after s.model) (option_map change.NewResource uri) s.model)
-resource-legal s t None web legal late = legal
-resource-legal s t (Some u) web legal late =
-    change-keeps-legal s.model (change.NewResource u) legal refl (uri-allowed (reads s) t u late) tt (web u refl)
+resource-legal s t None is legal late = legal
+resource-legal s t (Some u) is legal late =
+    change-keeps-legal s.model (change.NewResource u) legal refl (uri-allowed (reads s) t u late) tt (record { base = []; reference = t; gives = is })
 
-load-legal : (s : State) (k : ResourceNo) (text : List ℕ) (read : Result Doc DocFault) → reads_into (reads s) k text ≡ read → models.IsLegal s.model → ((doc : Doc) → read ≡ Ok doc → HasProxyTexts doc) → node_refusal (reads s) (node.Resource k) ≡ None → load_refusal (reads s) k read ≡ None
+load-legal : (s : State) (k : ResourceNo) (text : List ℕ) (read : Result Doc DocFault) → reads_into (reads s) k text ≡ read → models.IsLegal s.model → node_refusal (reads s) (node.Resource k) ≡ None → load_refusal (reads s) k read ≡ None
     → models.IsLegal (option_map_or (effects.after s.model) (load_of k read) s.model)
-load-legal s k text (Ok doc) is legal proxies early late =
-    change-keeps-legal s.model (change.Load k doc) legal early late (proper-read (reads s) text (change.Load k doc) (is, proxies doc refl)) (proxies doc refl)
-load-legal s k text (Err f) is legal proxies early late = legal
+load-legal s k text (Ok doc) is legal early late = change-keeps-legal s.model (change.Load k doc) legal early late (text-read (reads s) k text doc is) tt
+load-legal s k text (Err f) is legal early late = legal
 
-model-legal : (s : State) (c : Command View) → HasSteadyUris s c → models.IsLegal s.model → early_refusal (reads s) s.adapters c ≡ None → late_refusal (reads s) s.adapters c ≡ None → models.IsLegal (model_after s.model c)
-model-legal s (Create c) steady legal early late = change-keeps-legal s.model (change.Create c) legal early late tt tt
-model-legal s (Set n f v) steady legal early late = change-keeps-legal s.model (change.Set n f v) legal early late tt tt
-model-legal s (Unset n f) steady legal early late = change-keeps-legal s.model (change.Unset n f) legal early late tt tt
-model-legal s (Add n f v i) steady legal early late = change-keeps-legal s.model (change.Add n f v i) legal early late tt tt
-model-legal s (Remove n f i) steady legal early late = change-keeps-legal s.model (change.Remove n f i) legal early late tt tt
-model-legal s (RemoveValue n f v) steady legal early late = change-keeps-legal s.model (change.RemoveValue n f v) legal early late tt tt
-model-legal s (Move n f to from) steady legal early late = change-keeps-legal s.model (change.Move n f to from) legal early late tt tt
-model-legal s (Delete o) steady legal early late = change-keeps-legal s.model (change.Delete o) legal early late tt tt
-model-legal s (CreateResource t) steady legal early late = resource-legal s t (joined [] t) steady legal late
-model-legal s (Resolve o f i) steady legal early late = change-keeps-legal s.model (change.Resolve o f i (target_at (reads s) o f i)) legal early late tt tt
-model-legal s (Load k text) steady legal early late = load-legal s k text (reads_into (reads s) k text) refl legal steady early late
-model-legal s (Attach number target deep view) steady legal early late = legal
-model-legal s (Detach number) steady legal early late = legal
-model-legal s (Get n f) steady legal early late = legal
-model-legal s (IsSet n f) steady legal early late = legal
-model-legal s (Container o) steady legal early late = legal
-model-legal s (Resource o) steady legal early late = legal
-model-legal s (Contents n) steady legal early late = legal
-model-legal s (Validate o) steady legal early late = legal
-model-legal s (Fragment o) steady legal early late = legal
-model-legal s (ObjectAt t) steady legal early late = legal
-model-legal s (Save k) steady legal early late = legal
-model-legal s (Class o) steady legal early late = legal
-model-legal s (AdapterTold number) steady legal early late = legal
-model-legal s (AdapterKept number) steady legal early late = legal
+model-legal : (s : State) (c : Command View) → models.IsLegal s.model → early_refusal (reads s) s.adapters c ≡ None → late_refusal (reads s) s.adapters c ≡ None → models.IsLegal (model_after s.model c)
+model-legal s (Create c) legal early late = change-keeps-legal s.model (change.Create c) legal early late tt tt
+model-legal s (Set n f v) legal early late = change-keeps-legal s.model (change.Set n f v) legal early late tt tt
+model-legal s (Unset n f) legal early late = change-keeps-legal s.model (change.Unset n f) legal early late tt tt
+model-legal s (Add n f v i) legal early late = change-keeps-legal s.model (change.Add n f v i) legal early late tt tt
+model-legal s (Remove n f i) legal early late = change-keeps-legal s.model (change.Remove n f i) legal early late tt tt
+model-legal s (RemoveValue n f v) legal early late = change-keeps-legal s.model (change.RemoveValue n f v) legal early late tt tt
+model-legal s (Move n f to from) legal early late = change-keeps-legal s.model (change.Move n f to from) legal early late tt tt
+model-legal s (Delete o) legal early late = change-keeps-legal s.model (change.Delete o) legal early late tt tt
+model-legal s (CreateResource t) legal early late = resource-legal s t (joined [] t) refl legal late
+model-legal s (Resolve o f i) legal early late = change-keeps-legal s.model (change.Resolve o f i (target_at (reads s) o f i)) legal early late tt tt
+model-legal s (Load k text) legal early late = load-legal s k text (reads_into (reads s) k text) refl legal early late
+model-legal s (Attach number target deep view) legal early late = legal
+model-legal s (Detach number) legal early late = legal
+model-legal s (Get n f) legal early late = legal
+model-legal s (IsSet n f) legal early late = legal
+model-legal s (Container o) legal early late = legal
+model-legal s (Resource o) legal early late = legal
+model-legal s (Contents n) legal early late = legal
+model-legal s (Validate o) legal early late = legal
+model-legal s (Fragment o) legal early late = legal
+model-legal s (ObjectAt t) legal early late = legal
+model-legal s (Save k) legal early late = legal
+model-legal s (Class o) legal early late = legal
+model-legal s (AdapterTold number) legal early late = legal
+model-legal s (AdapterKept number) legal early late = legal
 
 ---------------------------------------------------------------- the adapters after a chain
 
@@ -334,8 +329,8 @@ joined-legal r t rs c keeps early late legal = by (attaches r rs c)
           adapters = All-append (IsLegalAdapter t) rs (one ∷ []) before.adapters (All-cons (IsLegalAdapter t) one [] (record { target = keeps one j.stays target; countable = view-countable one.view free.1 }) (All-nil (IsLegalAdapter t)));
         })
 
-done-legal : (s : State) (c : Command View) → HasSteadyUris s c → IsLegal s → refusal_of s c ≡ None → IsLegal (done s c).after
-done-legal s c steady legal free =
+done-legal : (s : State) (c : Command View) → IsLegal s → refusal_of s c ≡ None → IsLegal (done s c).after
+done-legal s c legal free =
     let r = reads s in
     let t = reading (model_after s.model c) in
     let rs = s.adapters in
@@ -350,37 +345,19 @@ done-legal s c steady legal free =
       distinct = others-distinct [] told (leaves r c) (rw (numbers-tell_chain up ns rs) legal.distinct);
       adapters = others-all (IsLegalAdapter t) [] told (leaves r c) (All-nil (IsLegalAdapter t)) (told-legal up r t ns rs (leaves r c) (keeps-node s c) (where-none AdapterFull _ later.1) legal.adapters);
     }) in
-    record { model = model-legal s c steady legal.model first.0 later.0; few = adapters.few; distinct = adapters.distinct; adapters = adapters.adapters }
+    record { model = model-legal s c legal.model first.0 later.0; few = adapters.few; distinct = adapters.distinct; adapters = adapters.adapters }
 
 pub step-legal : (s : State) (c : Command View) → KeepsLegal s c
-step-legal s c steady legal =
-    elim (refusal_of s c) as (λ r. refusal_of s c ≡ r → IsLegal (step_unless s c r).after) [ Some r ↦ λ e. legal | None ↦ λ e. done-legal s c steady legal e ] refl
+step-legal s c legal =
+    elim (refusal_of s c) as (λ r. refusal_of s c ≡ r → IsLegal (step_unless s c r).after) [ Some r ↦ λ e. legal | None ↦ λ e. done-legal s c legal e ] refl
 
 -- what was executed leaves a legal state too, where memory may be refused
-pub executed-legal : (s t : State) (c : Command View) (o : Outcome) → HasSteadyUris s c → Executed s c o t → IsLegal s → IsLegal t
-executed-legal s t c o steady x legal =
+pub executed-legal : (s t : State) (c : Command View) (o : Outcome) → Executed s c o t → IsLegal s → IsLegal t
+executed-legal s t c o x legal =
     elim (is_memory o) as (λ b. MatchBool b (IsWanting s c o t) (step s c ≡ record { outcome = o; after = t }) → IsLegal t) [
       | true ↦ λ y. subst IsLegal (sym y.state) legal
-      | false ↦ λ e. subst IsLegal (ap (λ (q : Stepped). q.after) e) (step-legal s c steady legal)
+      | false ↦ λ e. subst IsLegal (ap (λ (q : Stepped). q.after) e) (step-legal s c legal)
     ] x
 
-pub stepped-legal : (s t : State) (c : Command View) (r : Reply View) → HasSteadyUris s c → IsLegal s → step s c ≡ record { outcome = Ok r; after = t } → IsLegal t
-stepped-legal s t c r steady legal e = subst IsLegal (ap (λ (q : Stepped). q.after) e) (step-legal s c steady legal)
-
-abbrev read-as : Doc → Result Doc DocFault → Doc
-read-as other (Ok doc) = doc
-read-as other (Err f) = other
-
--- a change that brings what it has to is asked for by such a command
-pub steady-of : (s : State) (text : List ℕ) (c : Change) → IsProper (reads s) text c → HasSteadyUris s (command_of text c)
-steady-of s text (change.Create c) brought = tt
-steady-of s text (change.Set n f v) brought = tt
-steady-of s text (change.Unset n f) brought = tt
-steady-of s text (change.Add n f v i) brought = tt
-steady-of s text (change.Remove n f i) brought = tt
-steady-of s text (change.RemoveValue n f v) brought = tt
-steady-of s text (change.Move n f to from) brought = tt
-steady-of s text (change.Delete o) brought = tt
-steady-of s text (change.Resolve o f i b) own = tt
-steady-of s text (change.Load k doc) proper = λ other same. subst HasProxyTexts (ap (read-as doc) (sym proper.0 ∙ same)) proper.1
-steady-of s text (change.NewResource u) web = λ v same. subst IsWebUri (same_Some u v (sym (joined-web [] u web) ∙ same)) web
+pub stepped-legal : (s t : State) (c : Command View) (r : Reply View) → IsLegal s → step s c ≡ record { outcome = Ok r; after = t } → IsLegal t
+stepped-legal s t c r legal e = subst IsLegal (ap (λ (q : Stepped). q.after) e) (step-legal s c legal)

@@ -17,7 +17,8 @@ use Rattle.resource_docs.specs.Texts.{base_of}
 use Rattle.resource_docs.specs.declared.doc.Doc.{Doc}
 use Rattle.loading.specs.Loading.{is_empty_resource}
 use Rattle.handshake.specs.Named.{node_refusal}
-use Rattle.handshake.specs.Plans.{HasReadDocument, is_memory_refusal}
+use Rattle.handshake.specs.Laws.{BringsSteadyTexts}
+use Rattle.handshake.specs.Plans.{HasReadDocument, IsDocument, is_memory_refusal}
 use Rattle.handshake.specs.declared.change.Change.{Change}
 use Rattle.handshake.specs.declared.change.Change.TheVariants.{Create, Set, Unset, Add, Remove, RemoveValue, Move, Delete, NewResource, Resolve, Load}
 use Rattle.repository.specs.Loads.{load_refusal, reads_into, uri_at}
@@ -37,9 +38,13 @@ bytes-read m uri bytes doc is = by (parsed bytes) is
     by None h = absurd (cc)
     by (Some d) h = record { source = d; gives = h }
 
+-- what a text is read as, reading gives
+pub text-read : (r : Reading) (k : ResourceNo) (text : List ℕ) (doc : Doc) → reads_into r k text ≡ Ok doc → IsDocument r.metamodel doc
+text-read r k text doc is = record { uri = uri_at r k; read = bytes-read r.metamodel (uri_at r k) text doc is }
+
 -- a proper change brings a document that reading gives
 pub proper-read : (r : Reading) (text : List ℕ) (c : Change) → IsProper r text c → HasReadDocument r.metamodel c
-proper-read r text (Load k doc) proper = record { uri = uri_at r k; read = bytes-read r.metamodel (uri_at r k) text doc proper.0 }
+proper-read r text (Load k doc) proper = text-read r k text doc proper.0
 proper-read r text (Create c) proper = tt
 proper-read r text (Set n f v) proper = tt
 proper-read r text (Unset n f) proper = tt
@@ -50,6 +55,12 @@ proper-read r text (Move n f to from) proper = tt
 proper-read r text (Delete o) proper = tt
 proper-read r text (NewResource u) proper = tt
 proper-read r text (Resolve o f i b) proper = tt
+
+-- joining leaves the texts that a proper change brings as they are
+pub proper-steady : (r : Reading) (text : List ℕ) (c : Change) → IsProper r text c → BringsSteadyTexts c
+proper-steady r text (NewResource u) proper = proper
+proper-steady r text (Load k doc) proper = proper.1
+proper-steady r text _ proper = tt
 
 ---------------------------------------------------------------- what is answered
 

@@ -8,8 +8,7 @@ ghost use Rattle.repository.specs.Views.{brought};
 ghost use Rattle.repository.specs.declared.command.Command.{Command};
 ghost use Rattle.repository.specs.declared.reply.Failure.{Failure};
 
-/// Every command of a legal state, done or refused, leaves a legal one; that joining leaves the URIs of a new resource and of the
-/// proxies of a document as they are, is known of what the crate `url` answers, and so a premise here.
+/// Every command of a legal state, done or refused, leaves a legal one.
 pub fn keeps_legal()
     ensures { (s : State) (c : Command View) → KeepsLegal s c }
 {}

@@ -1,5 +1,6 @@
 //! The repository.
 ghost use Rattle.std.specs.Prelude.{◌≡◌};
+ghost use Rattle.models.specs.Steady.{HasSteadyTexts};
 ghost use Rattle.repository.specs.State as s;
 
 mod attaching;
@@ -89,6 +90,14 @@ impl<L: LinkStore, A: Adapter> Repository<L, A> {
     /// What holds of every repository, for proofs that know it by its view: its state is legal.
     pub fn is_legal(&self)
         ensures { s.IsLegal self.now }
+    {
+        let _ = &self.alloc;
+    }
+
+    /// What holds of every repository too: joining leaves the URIs of its resources and of its proxies as they are, so a resource that
+    /// is saved is read back (`round_trip::laws`).
+    pub fn has_steady_texts(&self)
+        ensures { HasSteadyTexts self.now.model }
     {
         let _ = &self.alloc;
     }

@@ -1,26 +1,20 @@
 -- What bytes, a value and its parts are read as, by cases.
-use Rattle.std.proofs.Common.{◌≡◌, ◌∙◌, ◌≤◌, ◌++◌, Bool, true, false, List, [], ◌∷◌, Option, Some, None, ℕ, ℤ, IsUtf8, ap, arith, cond, length, map, refl, subst, sym}
-use Rattle.std.specs.Prelude.{Ok, Err, flat_map, filter_map, slice_get}
-use Rattle.std.specs.List.{All, enumerate_from}
+use Rattle.std.proofs.Common.{◌≡◌, ◌∙◌, ◌≤◌, Bool, true, false, List, [], Option, Some, None, ℕ, ℤ, IsUtf8, ap, arith, cond, length, map, refl, subst, sym}
+use Rattle.std.specs.Prelude.{Ok, Err, flat_map, filter_map}
+use Rattle.std.specs.List.{enumerate_from}
 use Rattle.std.specs.Option.{option_map_or, option_or}
 use Rattle.std.specs.Str.{is_utf8}
 use Rattle.std.proofs.lemmas.List.{length-map}
 use Rattle.std.proofs.lemmas.List.FromFn.{length-enumerate_from}
-use Rattle.std.proofs.lemmas.List.Elements.{All-append, All-contains, All-get_or, All-head, All-nil, All-tail}
-use Rattle.std.proofs.lemmas.Option.{get_or_from_slice_get, slice_get_within}
 use Rattle.std.proofs.lemmas.Str.{IsUtf8-from_is_utf8, is_utf8-from_IsUtf8}
 use Rattle.serde_json.specs.Data.{Data, depth}
 use Rattle.serde_json.specs.Read.{read}
 use Rattle.serde_json.specs.View.{items_view, view}
 use Rattle.serde_json.specs.declared.value.Value as json
 use Rattle.mm_types.specs.Resolved.{Metamodel}
-use Rattle.mm_types.specs.Same.{same_feature}
 use Rattle.mm_types.specs.declared.document_fault.DocFault.{DocFault}
 use Rattle.mm_types.specs.declared.document_fault.DocFault.TheVariants as cause
-use Rattle.mm_types.specs.declared.numbers.FeatureNo.{FeatureNo}
 use Rattle.mm_types.specs.declared.numbers.ObjectNo.{ObjectNo}
-use Rattle.mm_types.specs.declared.value.Value.{Value}
-use Rattle.mm_types.specs.declared.value.Value.TheVariants as value
 use Rattle.web_uris.specs.Paths.{new_path}
 use Rattle.doc_parts.specs.Found.{Knows, roots_from}
 use Rattle.doc_parts.specs.Layout.{Top, new_top, top}
@@ -28,34 +22,13 @@ use Rattle.doc_parts.specs.Parts.{Part, list_of, parts, parts_from, root_parts}
 use Rattle.doc_parts.specs.declared.found.Found.{Found}
 use Rattle.doc_parts.proofs.DataLemmas.{list_of-items_of}
 use Rattle.doc_parts.proofs.DepthLemmas.{parts_within}
-use Rattle.resource_docs.specs.Causes.{HasProxyTexts, cause_of, reads, reads_bytes, reads_if, sense_cause, shape_cause, unless_faulty}
-use Rattle.resource_docs.specs.Read.{doc_read, object_read, root_number, values_in, values_under}
-use Rattle.resource_docs.specs.Reading.{IsProxyContent, IsProxyObject, objects_so_far}
+use Rattle.resource_docs.specs.Causes.{cause_of, reads, reads_bytes, reads_if, sense_cause, shape_cause, unless_faulty}
+use Rattle.resource_docs.specs.Read.{doc_read, object_read, root_number}
+use Rattle.resource_docs.specs.Reading.{objects_so_far}
 use Rattle.resource_docs.specs.Texts.{Base, base_of}
-use Rattle.resource_docs.specs.Values.{IsProxyValue}
-use Rattle.resource_docs.specs.declared.doc.Content.{Content}
 use Rattle.resource_docs.specs.declared.doc.Doc.{Doc}
 use Rattle.resource_docs.specs.declared.doc.DocObject.{DocObject}
 use Rattle.resource_docs.specs.declared.objects.ReadObjects.{ReadObjects}
-
----------------------------------------------------------------- proxies
-
-one_under : (b : Bool) (c : Content) (vs : List Value) → IsProxyContent c → All IsProxyValue vs → All IsProxyValue (cond b c.values [] ++ vs)
-one_under true c vs here rest = All-append IsProxyValue c.values vs here rest
-one_under false c vs here rest = rest
-
-under : (f : FeatureNo) (cs : List Content) → All IsProxyContent cs → All IsProxyValue (flat_map (λ c. cond (same_feature f c.feature) c.values []) cs)
-under f [] all = All-nil IsProxyValue
-under f (c ∷ cs) all =
-    one_under (same_feature f c.feature) c (flat_map (λ x. cond (same_feature f x.feature) x.values []) cs) (All-head IsProxyContent c cs all) (under f cs (All-tail IsProxyContent c cs all))
-
-values_at : (f : FeatureNo) (os : List DocObject) (n : ℕ) (o : Option DocObject) → slice_get os n ≡ o → All IsProxyObject os → All IsProxyValue (option_map_or (λ x. values_under x f) o [])
-values_at f os n None is all = All-nil IsProxyValue
-values_at f os n (Some x) is all =
-    under f x.contents (subst IsProxyObject (get_or_from_slice_get os n x x is) (All-get_or IsProxyObject os n x (slice_get_within os n x is) all))
-
-pub proxy_texts : (doc : Doc) → All IsProxyObject doc.objects → HasProxyTexts doc
-proxy_texts doc all o f t there = All-contains IsProxyValue (values_in doc o f) (value.Proxy t) (values_at f doc.objects o.0 (slice_get doc.objects o.0) refl all) there
 
 ---------------------------------------------------------------- the document that is read
 

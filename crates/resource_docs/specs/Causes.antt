@@ -1,5 +1,5 @@
 -- Why a document can't be read: the first cause that applies to anything that is looked at.
-use Rattle.std.specs.Prelude.{◌≡◌, ℕ, ◌&&◌, ◌||◌, pos, Bool, true, false, not, List, [], ◌∷◌, Contains, length, is_some, Option, Some, None, Result, Ok, Err, if◌then◌else◌}
+use Rattle.std.specs.Prelude.{◌≡◌, ℕ, ◌&&◌, ◌||◌, pos, Bool, true, false, not, List, [], ◌∷◌, length, is_some, Option, Some, None, Result, Ok, Err, if◌then◌else◌}
 use Rattle.std.specs.List.{enumerate_from, list_any}
 use Rattle.std.specs.Option.{option_map_or}
 use Rattle.std.specs.Ordering.{int_eq}
@@ -19,12 +19,12 @@ use Rattle.mm_types.specs.declared.refused.Refused.{Refused}
 use Rattle.mm_types.specs.declared.refused.Refused.TheVariants.{Document, Memory}
 use Rattle.mm_types.specs.declared.value.Value.{Value}
 use Rattle.mm_types.specs.declared.value.Value.TheVariants as value
-use Rattle.web_uris.specs.Addresses.{IsProxyText}
+use Rattle.web_uris.specs.Addresses.{IsSteadyProxy}
 use Rattle.doc_parts.specs.Contents.{is_content}
 use Rattle.doc_parts.specs.Faults.{has_no_class, has_other_key, is_deep, is_long, is_misshapen, of_entry, of_written}
 use Rattle.doc_parts.specs.Layout.{Top, top}
 use Rattle.doc_parts.specs.Parts.{Part, parts, root_parts}
-use Rattle.resource_docs.specs.Read.{doc_read, values_in}
+use Rattle.resource_docs.specs.Read.{OfDocProxies, doc_read, values_in}
 use Rattle.resource_docs.specs.Texts.{Base, base_of}
 use Rattle.resource_docs.specs.Values.{has_lost}
 use Rattle.resource_docs.specs.declared.doc.Content.{Content}
@@ -113,9 +113,9 @@ reads_if m b (Some d) = reads m b d
 unfoldable pub reads_bytes : Metamodel → List ℕ → List ℕ → Result Doc DocFault
 reads_bytes m uri bytes = reads_if m (base_of uri) (parsed bytes)
 
--- each proxy of a document has the text of one
-abbrev pub HasProxyTexts : Doc → Type 0
-HasProxyTexts doc = (o : ObjectNo) (f : FeatureNo) (t : List ℕ) → Contains (values_in doc o f) (value.Proxy t) → IsProxyText t
+-- each proxy of a document has the text of one, whose URI joining leaves as it is
+abbrev pub HasSteadyProxies : Doc → Type 0
+HasSteadyProxies = OfDocProxies IsSteadyProxy
 
 -- a document as reading gives it for a metamodel, in a resource of a URI
 pub record IsRead (m : Metamodel) (uri : List ℕ) (doc : Doc) : Type 0 where
@@ -124,7 +124,7 @@ pub record IsRead (m : Metamodel) (uri : List ℕ) (doc : Doc) : Type 0 where
 
 -- what was answered is what is to be read, a document or its fault, unless memory was refused
 abbrev pub Answers : Result Doc Refused → Result Doc DocFault → Type 0
-Answers (Ok doc) wanted = (wanted ≡ Ok doc) × HasProxyTexts doc
+Answers (Ok doc) wanted = (wanted ≡ Ok doc) × HasSteadyProxies doc
 Answers (Err (Document f)) wanted = wanted ≡ Err f
 Answers (Err Memory) wanted = Unit {0}
 Answers (Err _) wanted = ⊥

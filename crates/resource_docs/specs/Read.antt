@@ -1,6 +1,6 @@
 -- What a document is read as, where no cause of refusal applies.
-use Rattle.std.specs.Prelude.{not, List, [], filter, filter_map, flat_map, map, Option, option_map, slice_get, unwrap_or, if◌then◌else◌}
-use Rattle.std.specs.List.{enumerate_from}
+use Rattle.std.specs.Prelude.{ℕ, not, List, [], filter, filter_map, flat_map, map, Option, option_map, slice_get, unwrap_or, if◌then◌else◌}
+use Rattle.std.specs.List.{All, enumerate_from}
 use Rattle.std.specs.Option.{option_map_or}
 use Rattle.serde_json.specs.Data.{Data}
 use Rattle.mm_types.specs.Lookups as lookups
@@ -15,7 +15,7 @@ use Rattle.resource_docs.specs.declared.doc.DocObject.{DocObject}
 use Rattle.resource_docs.specs.declared.doc.Content.{Content}
 use Rattle.doc_parts.specs.Parts.{Entry, Part, class_of, entries, number_of, parts, root_parts, values_of}
 use Rattle.resource_docs.specs.Texts.{Base}
-use Rattle.resource_docs.specs.Values.{value_of}
+use Rattle.resource_docs.specs.Values.{OfProxy, value_of}
 
 abbrev pub values_read : Metamodel → Base → List Part → Path → Entry → List Value
 values_read m b ps path e =
@@ -55,3 +55,9 @@ values_under o f = flat_map (λ c. if same_feature f c.feature then c.values els
 -- what stands in a document under a feature of an object
 abbrev pub values_in : Doc → ObjectNo → FeatureNo → List Value
 values_in d o f = option_map_or (λ x. values_under x f) (slice_get d.objects o.0) []
+
+---------------------------------------------------------------- proxies
+
+-- something holds of the text of each proxy of a document
+abbrev pub OfDocProxies : (List ℕ → Type 0) → Doc → Type 0
+OfDocProxies Holds doc = All (λ (o : DocObject). All (λ (c : Content). All (OfProxy Holds) c.values) o.contents) doc.objects

@@ -54,7 +54,7 @@ objects_so_far m b ps qs = record { objects = map (object_read m b ps) qs; is_lo
 
 ---------------------------------------------------------------- proxies
 
--- each proxy has the text of one
+-- each proxy has the text of one, whose URI joining leaves as it is
 abbrev pub IsProxyContent : Content → Type 0
 IsProxyContent c = All IsProxyValue c.values
 

@@ -2,7 +2,7 @@
 use Rattle.std.specs.Prelude.{◌≡◌, ℕ, List, [], ◌∷◌, Option, Some, option_map, if◌then◌else◌}
 use Rattle.std.specs.Str.{bytes_eq}
 use Rattle.json_rows.specs.Rows.{◌>>=◌}
-use Rattle.web_uris.specs.Addresses.{IsProxyText, address_text, fragment_part, has_mark, uri_part}
+use Rattle.web_uris.specs.Addresses.{IsSteadyProxy, address_text, fragment_part, has_mark, uri_part}
 use Rattle.web_uris.specs.Joined.{IsWebUri, joined}
 use Rattle.web_uris.specs.Paths.{parse}
 use Rattle.web_uris.specs.declared.path.Path.{Path}
@@ -34,11 +34,11 @@ target_at b part rest = parse rest >>= (λ p. option_map (λ u. target_in b rest
 abbrev pub target : Base → List ℕ → Option Target
 target b t = if has_mark t then target_at b (uri_part t) (fragment_part t) else option_map Here (parse t)
 
--- what stands for an object of another resource has the text of a proxy
+-- what stands for an object of another resource has the text of a proxy, whose URI joining leaves as it is
 abbrev pub IsProxyTarget : Target → Type 0
 IsProxyTarget (Here p) = Unit {0}
-IsProxyTarget (Elsewhere t) = IsProxyText t
+IsProxyTarget (Elsewhere t) = IsSteadyProxy t
 
--- a URI other than the resource's own is one as joining gives it
+-- joining leaves a URI other than the resource's own as it is
 abbrev pub IsWebElsewhere : List ℕ → List ℕ → Type 0
 IsWebElsewhere uri meant = (meant ≡ uri → ⊥) → IsWebUri meant

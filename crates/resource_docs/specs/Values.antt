@@ -14,7 +14,7 @@ use Rattle.mm_types.specs.declared.numbers.ClassNo.{ClassNo}
 use Rattle.mm_types.specs.declared.numbers.FeatureNo.{FeatureNo}
 use Rattle.mm_types.specs.declared.value.Value.{Value}
 use Rattle.mm_types.specs.declared.value.Value.TheVariants as value
-use Rattle.web_uris.specs.Addresses.{IsProxyText}
+use Rattle.web_uris.specs.Addresses.{IsSteadyProxy}
 use Rattle.web_uris.specs.Paths.{with_step}
 use Rattle.web_uris.specs.declared.path.Path.{Path}
 use Rattle.doc_parts.specs.Contents.{attribute_value, conforms_to}
@@ -62,7 +62,11 @@ value_of m b ps p f (Reference class false opposite) v = reference_value m b ps 
 
 ---------------------------------------------------------------- proxies
 
--- a proxy has the text of one
+-- something holds of the text of a proxy
+abbrev pub OfProxy : (List ℕ → Type 0) → Value → Type 0
+OfProxy Holds (value.Proxy t) = Holds t
+OfProxy Holds _ = Unit {0}
+
+-- a proxy has the text of one, whose URI joining leaves as it is
 abbrev pub IsProxyValue : Value → Type 0
-IsProxyValue (value.Proxy t) = IsProxyText t
-IsProxyValue _ = Unit {0}
+IsProxyValue v = OfProxy IsSteadyProxy v

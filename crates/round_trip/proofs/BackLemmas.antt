@@ -25,6 +25,7 @@ use Rattle.links.specs.LegalSets as sets
 use Rattle.models.specs.Legal.{IsLegal}
 use Rattle.models.specs.Model.{Model, reading, values_at}
 use Rattle.models.specs.Reading.{at_end, objects_of}
+use Rattle.models.specs.Steady.{HasSteadyTexts}
 use Rattle.models.proofs.PlaceLemmas.{values-few}
 use Rattle.fragment_paths.specs.Finding.{roots}
 use Rattle.fragment_paths.specs.Fragments.{roots_end}
@@ -176,15 +177,15 @@ module _ (s : Model) (legal : IsLegal s) (k : ResourceNo) (uri : List ℕ) (foun
 
 ---------------------------------------------------------------- the law
 
-module _ (s : Model) (legal : IsLegal s) (k : ResourceNo) (uri : List ℕ) (fine : IsReadable (reading s) k uri) where
+module _ (s : Model) (legal : IsLegal s) (steady : HasSteadyTexts s) (k : ResourceNo) (uri : List ℕ) (fine : IsReadable (reading s) k uri) where
   abbrev parts-of : AreParts (reading s) k
   parts-of = parts-saved s legal k
 
   abbrev leads-of : LeadsBack (reading s) k uri
-  leads-of = leads-back s legal k uri fine.there
+  leads-of = leads-back s legal steady k uri fine.there
 
   abbrev values-of : AreReadAs (reading s) k uri
-  values-of = all-read s legal k uri parts-of leads-of fine
+  values-of = all-read s legal steady k uri parts-of leads-of fine
 
   pub value-back : reads s.metamodel (base_of uri) (document (reading s) k) ≡ Ok (copied (reading s) k)
   value-back = reads-back s legal k uri parts-of leads-of fine values-of

@@ -9,6 +9,7 @@ use Rattle.mm_types.specs.declared.numbers.ResourceNo.{ResourceNo}
 use Rattle.models.specs.Legal.{IsLegal}
 use Rattle.models.specs.Model.{Model, reading}
 use Rattle.models.specs.Reading.{resource_named}
+use Rattle.models.specs.Steady.{HasSteadyTexts}
 use Rattle.containment.specs.Above.{resource_of}
 use Rattle.web_uris.specs.Addresses.{address_text}
 use Rattle.web_uris.specs.Paths.{IsWritable, new_path, parse, path_text}
@@ -60,9 +61,9 @@ module _ (s : Model) (legal : IsLegal s) where
       let one : j ≡ k = same_Some j k (sym (named-at (reading s) j u legal.uris.distinct first) ∙ ap (resource_named (reading s)) same ∙ named-at (reading s) k w legal.uris.distinct second) in
       false≢true (sym other ∙ eq-eqb j.0 k.0 (ap (λ (i : ResourceNo). i.0) one))
 
-  object-leads : (k : ResourceNo) (uri : List ℕ) → slice_get (reading s).uris k.0 ≡ Some uri → (o : ObjectNo) (j : ResourceNo) → resource_of (reading s).above o ≡ Some j
+  object-leads : HasSteadyTexts s → (k : ResourceNo) (uri : List ℕ) → slice_get (reading s).uris k.0 ≡ Some uri → (o : ObjectNo) (j : ResourceNo) → resource_of (reading s).above o ≡ Some j
       → target (base_of uri) (reference_text (reading s) k o) ≡ Some (target_of (reading s) k o)
-  object-leads k uri known o j inside = by (located-object s legal o j inside) (is_in (reading s) k o) refl
+  object-leads steady k uri known o j inside = by (located-object s legal o j inside) (is_in (reading s) k o) refl
     where
       by : IsLocated s o j → (b : Bool) → is_in (reading s) k o ≡ b
           → target (base_of uri) (unwrap_or (if b then fragment (reading s) o else address (reading s) o) [])
@@ -78,7 +79,7 @@ module _ (s : Model) (legal : IsLegal s) where
           let other : nat_eq j.0 k.0 ≡ false = sym (ap (λ x. option_map_or (λ (i : ResourceNo). nat_eq i.0 k.0) x false) inside) ∙ out in
           let is = address-is s o j inside l u uri-is in
           ap (λ x. target (base_of uri) (unwrap_or x [])) is
-          ∙ target-address uri u (text_in s o j l) l.path (legal.uris.web j.0 [] below) (two-uris j k u uri other uri-is known) (text-read s o j inside l)
+          ∙ target-address uri u (text_in s o j l) l.path (steady.uris j.0 [] below) (two-uris j k u uri other uri-is known) (text-read s o j inside l)
           ∙ ap (λ x. Some (Elsewhere (unwrap_or x []))) (sym is)
 
   -- an address finds its object
@@ -87,9 +88,9 @@ module _ (s : Model) (legal : IsLegal s) where
       option_and_then_some _ (resource_of (reading s).above o) t is
       (λ j inside _. ap (option_and_then (at (reading s))) (sym is) ∙ (object-found s legal o j inside).by_address)
 
-  pub leads-back : (k : ResourceNo) (uri : List ℕ) → slice_get (reading s).uris k.0 ≡ Some uri → LeadsBack (reading s) k uri
-  leads-back k uri known = record {
-    object = object-leads k uri known;
+  pub leads-back : HasSteadyTexts s → (k : ResourceNo) (uri : List ℕ) → slice_get (reading s).uris k.0 ≡ Some uri → LeadsBack (reading s) k uri
+  leads-back steady k uri known = record {
+    object = object-leads steady k uri known;
     proxy = target-proxy uri;
     one_address = λ a b t first second. same_Some a b (sym (address-finds a t first) ∙ address-finds b t second);
   }

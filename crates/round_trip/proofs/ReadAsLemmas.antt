@@ -15,11 +15,11 @@ use Rattle.mm_types.specs.declared.numbers.Node.TheVariants as node
 use Rattle.mm_types.specs.declared.numbers.ObjectNo.{ObjectNo}
 use Rattle.mm_types.specs.declared.numbers.ResourceNo.{ResourceNo}
 use Rattle.mm_types.specs.declared.value.Value.{Value}
-use Rattle.mm_types.specs.declared.value.Value.TheVariants as value
 use Rattle.models.specs.Legal as legal
 use Rattle.models.specs.Legal.{IsLegal}
 use Rattle.models.specs.Model.{Model, reading}
 use Rattle.models.specs.Reading.{all_features_of, at_end, is_set}
+use Rattle.models.specs.Steady.{HasSteadyTexts}
 use Rattle.doc_parts.specs.Contents.{is_value}
 use Rattle.saved_docs.specs.Document.{reference_text, value_data}
 use Rattle.saved_docs.specs.Written.{is_written, objects_in, written_features}
@@ -34,7 +34,7 @@ use Rattle.round_trip.proofs.KeptLemmas.{kept-legal}
 use Rattle.round_trip.proofs.ValuesListLemmas.{passes-kept}
 use Rattle.round_trip.proofs.PlacedLemmas.{placed-object}
 use Rattle.round_trip.proofs.ReferenceLemmas.{object-read, proxy-read, proxy-short, text-short}
-use Rattle.round_trip.proofs.ValuesTargetLemmas.{each-part, each-target, links-only, refers, shape-of}
+use Rattle.round_trip.proofs.ValuesTargetLemmas.{each-part, each-target, links-only, refers, shape-of, steady-there}
 use Rattle.round_trip.specs.Copied.{renamed}
 use Rattle.round_trip.specs.ValuesLaws.{AreReadAs, parts_of}
 use Rattle.round_trip.specs.Readable.{IsReadable}
@@ -43,7 +43,7 @@ not-true : (b : Bool) → not b ≡ true → b ≡ false
 not-true true h = sym h
 not-true false h = refl
 
-module _ (s : Model) (good : IsLegal s) (k : ResourceNo) (uri : List ℕ) (parts : AreParts (reading s) k) (back : LeadsBack (reading s) k uri) (ok : IsReadable (reading s) k uri)
+module _ (s : Model) (good : IsLegal s) (steady : HasSteadyTexts s) (k : ResourceNo) (uri : List ℕ) (parts : AreParts (reading s) k) (back : LeadsBack (reading s) k uri) (ok : IsReadable (reading s) k uri)
     (o : ObjectNo) (f : FeatureNo) (g : Feature) (i : ℕ) (inside : Contains (objects_in (reading s) k) o) (set : Contains (written_features (reading s) o) f) (known : lookups.feature s.metamodel f ≡ Some g) where
   -- a value is one of a kind of feature, and is read as it was
   abbrev IsReadBy : Kind → Value → Type 0
@@ -90,15 +90,15 @@ module _ (s : Model) (good : IsLegal s) (k : ResourceNo) (uri : List ℕ) (parts
           ap (λ (d : Data). is_value m (shape m f).is_single (Reference target false opposite) d) text ∙ text-short s good k uri back ok o f i inside set links b there,
           ap (λ (d : Data). reference_value m (base_of uri) (parts_of r k) target d) text ∙ object-read s good k uri back ok o f i inside set links b there parts target conforms,
         ))
-        (λ t is _ text. let there = at ∙ ap Some is in (proxy-short s good k uri back ok o f i inside set links t there, proxy-read s good k uri back ok o f i inside set links t there text target))
+        (λ t is _. let there = at ∙ ap Some is in (proxy-short s good k uri back ok o f i inside set links t there, proxy-read s good k uri back ok o f i inside set links t there (steady-there s good o f g i v target false opposite known kind at steady t is) target))
 
     value-read : (x : Kind) → g.kind ≡ x → IsReadBy x v
     value-read (Attribute t unique unsettable default) kind = attribute-read t unique unsettable default kind
     value-read (Reference target true opposite) kind = contained-read target opposite kind
     value-read (Reference target false opposite) kind = link-read target opposite kind
 
-pub all-read : (s : Model) → IsLegal s → (k : ResourceNo) (uri : List ℕ) → AreParts (reading s) k → LeadsBack (reading s) k uri → IsReadable (reading s) k uri → AreReadAs (reading s) k uri
-all-read s good k uri parts back ok = record {
+pub all-read : (s : Model) → IsLegal s → HasSteadyTexts s → (k : ResourceNo) (uri : List ℕ) → AreParts (reading s) k → LeadsBack (reading s) k uri → IsReadable (reading s) k uri → AreReadAs (reading s) k uri
+all-read s good steady k uri parts back ok = record {
   objects = placed-object s good k;
-  values = λ o f g i v inside set known at. let read = value-read s good k uri parts back ok o f g i inside set known v at g.kind refl in record { good = read.0; value = read.1 };
+  values = λ o f g i v inside set known at. let read = value-read s good steady k uri parts back ok o f g i inside set known v at g.kind refl in record { good = read.0; value = read.1 };
 }

@@ -18,7 +18,7 @@ use Rattle.mm_types.specs.declared.numbers.ResourceNo.{ResourceNo}
 use Rattle.mm_types.specs.declared.refused.Refused.{Refused}
 use Rattle.mm_types.specs.declared.refused.Refused.TheVariants.{Dangling}
 use Rattle.mm_types.specs.declared.value.Value.TheVariants as value
-use Rattle.web_uris.specs.Addresses.{IsProxyText}
+use Rattle.web_uris.specs.Addresses.{IsSteadyProxy}
 use Rattle.models.specs.Legal.{IsLegal}
 use Rattle.models.specs.Model.{Model, reading}
 use Rattle.models.specs.Reading.{at_end}
@@ -127,5 +127,5 @@ module _ (s : Model) (legal : IsLegal s) (k : ResourceNo) (uri : List ℕ) (back
     pub proxy-short : is_short t ≡ true
     proxy-short = le-leb (length t) TEXT_BYTES (ok.short_proxies t held)
 
-    pub proxy-read : IsProxyText t → (class : ClassNo) → reference_value s.metamodel (base_of uri) (parts_of (reading s) k) class (string t) ≡ Some (value.Proxy t)
+    pub proxy-read : IsSteadyProxy t → (class : ClassNo) → reference_value s.metamodel (base_of uri) (parts_of (reading s) k) class (string t) ≡ Some (value.Proxy t)
     proxy-read text class = ap (option_and_then (led_to s.metamodel (parts_of (reading s) k) class)) (back.proxy t text (ok.elsewhere t held))

@@ -230,7 +230,7 @@ module _ (s : Model) (legal : IsLegal s) (k : ResourceNo) (uri : List ℕ) (lead
   proxy-alone o f i t refers at =
       let e = at_end (node.Object o) f in
       let may = legal-at (reading s) e (end s.links e) i (value.Proxy t) (legal.links.ends e) (ap (λ (vs : List Value). slice_get vs i) (sym (values-linked s e refers)) ∙ at) in
-      first-none (is_some (shape m f).opposite) (is_some (shape m f).containing) (and_parts (shape m f).is_reference (not (is_some (shape m f).opposite || is_some (shape m f).containing)) (and_parts (takes_proxies (shape m f)) _ may.1).0).1
+      first-none (is_some (shape m f).opposite) (is_some (shape m f).containing) (and_parts (shape m f).is_reference (not (is_some (shape m f).opposite || is_some (shape m f).containing)) may.1).1
     where
       first-none : (a b : Bool) → not (a || b) ≡ true → a ≡ false
       first-none true b h = absurd (false≢true h)

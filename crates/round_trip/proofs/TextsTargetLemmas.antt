@@ -10,13 +10,13 @@ use Rattle.std.proofs.lemmas.Slice.Eq.{bytes_eq-Decides}
 use Rattle.url.specs.Parser.{parse_url}
 use Rattle.url.specs.Parts.{serialize}
 use Rattle.json_rows.specs.Rows.{◌>>=◌}
-use Rattle.web_uris.specs.Addresses.{IsProxyText, address_text, fragment_part, has_mark, uri_part}
+use Rattle.web_uris.specs.Addresses.{IsSteadyProxy, address_text, fragment_part, has_mark, uri_part}
 use Rattle.web_uris.specs.Joined.{IsWebUri, if_parsed, is_mark, is_web, web_text}
 use Rattle.web_uris.specs.Paths.{parse}
 use Rattle.web_uris.specs.declared.path.Path.{Path}
-use Rattle.web_uris.proofs.AddressFacts.{proxy_text, web_unmarked}
-use Rattle.web_uris.proofs.CutLemmas.{before_around, none_passes}
-use Rattle.web_uris.proofs.JoinFacts.{joined-web}
+use Rattle.web_uris.proofs.AddressFacts.{steady_proxy, uri-of_address}
+use Rattle.web_uris.proofs.CutLemmas.{none_passes}
+use Rattle.web_uris.proofs.JoinFacts.{joined-web, web_joined}
 use Rattle.resource_docs.specs.Texts.{base_of, target, target_at, target_in, uri_meant}
 use Rattle.resource_docs.specs.declared.target.Target.TheVariants.{Here, Elsewhere}
 
@@ -69,17 +69,17 @@ target-parts uri u rest p web apart parsed =
     ∙ ap Some (cond-false _ _ _ (apart-texts u uri apart))
 
 -- the text of a proxy, of another URI than the resource's own, leads to that proxy
-pub target-proxy : (uri t : List ℕ) → IsProxyText t → (uri_part t ≡ uri → ⊥) → target (base_of uri) t ≡ Some (Elsewhere t)
-target-proxy uri t proxy apart = by (parse (fragment_part t)) refl proxy.fragment
+pub target-proxy : (uri t : List ℕ) → IsSteadyProxy t → (uri_part t ≡ uri → ⊥) → target (base_of uri) t ≡ Some (Elsewhere t)
+target-proxy uri t proxy apart = by (parse (fragment_part t)) refl proxy.text.fragment
   where
     by : (x : Option Path) → parse (fragment_part t) ≡ x → is_some x ≡ true → target (base_of uri) t ≡ Some (Elsewhere t)
     by None parsed some = cc
     by (Some p) parsed some =
-        cond-true _ _ _ proxy.mark
-        ∙ target-parts uri (uri_part t) (fragment_part t) p proxy.uri apart parsed
-        ∙ ap (λ x. Some (Elsewhere x)) (around-mark t proxy.mark)
+        cond-true _ _ _ proxy.text.mark
+        ∙ target-parts uri (uri_part t) (fragment_part t) p proxy.steady apart parsed
+        ∙ ap (λ x. Some (Elsewhere x)) (around-mark t proxy.text.mark)
 
 -- and so does the address of an object in another resource
 pub target-address : (uri u rest : List ℕ) (p : Path) → IsWebUri u → (u ≡ uri → ⊥) → parse rest ≡ Some p → target (base_of uri) (address_text u rest) ≡ Some (Elsewhere (address_text u rest))
 target-address uri u rest p web apart parsed =
-    target-proxy uri (address_text u rest) (proxy_text u rest p web parsed) (λ same. apart (sym (before_around is_mark u 35 rest (web_unmarked u web) refl) ∙ same))
+    target-proxy uri (address_text u rest) (steady_proxy u rest p web parsed) (λ same. apart (sym (uri-of_address u rest (web_joined u web)) ∙ same))

@@ -4,6 +4,7 @@ use Rattle.std.specs.Str.{is_utf8}
 use Rattle.mm_types.specs.declared.numbers.ResourceNo.{ResourceNo}
 use Rattle.models.specs.Legal.{IsLegal}
 use Rattle.models.specs.Model.{Model, reading}
+use Rattle.models.specs.Steady.{HasSteadyTexts}
 use Rattle.saved_docs.specs.Document.{document}
 use Rattle.saved_docs.specs.Saved.{IsReadAs}
 use Rattle.resource_docs.specs.Causes.{reads, reads_bytes}
@@ -14,11 +15,11 @@ use Rattle.round_trip.specs.Readable.{IsReadable}
 -- the JSON value of a resource is read as that resource
 abbrev pub ReadsBack : Model → Type 0
 ReadsBack s =
-    IsLegal s → (k : ResourceNo) (uri : List ℕ) → IsReadable (reading s) k uri
+    IsLegal s → HasSteadyTexts s → (k : ResourceNo) (uri : List ℕ) → IsReadable (reading s) k uri
     → reads s.metamodel (base_of uri) (document (reading s) k) ≡ Ok (copied (reading s) k)
 
 -- and so is a text of it, as saving answers one
 abbrev pub ReadsTextBack : Model → Type 0
 ReadsTextBack s =
-    IsLegal s → (k : ResourceNo) (uri text : List ℕ) → IsReadable (reading s) k uri → IsReadAs (reading s) k text → is_utf8 text ≡ true
+    IsLegal s → HasSteadyTexts s → (k : ResourceNo) (uri text : List ℕ) → IsReadable (reading s) k uri → IsReadAs (reading s) k text → is_utf8 text ≡ true
     → reads_bytes s.metamodel uri text ≡ Ok (copied (reading s) k)

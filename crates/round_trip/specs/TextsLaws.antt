@@ -4,7 +4,7 @@ use Rattle.mm_types.specs.declared.numbers.ObjectNo.{ObjectNo}
 use Rattle.mm_types.specs.declared.numbers.ResourceNo.{ResourceNo}
 use Rattle.models.specs.Reading.{Reading}
 use Rattle.containment.specs.Above.{resource_of}
-use Rattle.web_uris.specs.Addresses.{IsProxyText, uri_part}
+use Rattle.web_uris.specs.Addresses.{IsSteadyProxy, uri_part}
 use Rattle.web_uris.specs.Paths.{new_path}
 use Rattle.fragment_paths.specs.Fragments.{address, is_in, path_of}
 use Rattle.saved_docs.specs.Document.{reference_text}
@@ -19,5 +19,5 @@ target_of r k o = if is_in r k o then Here (unwrap_or (path_of r o) (new_path 0 
 -- in a resource of this URI each text of a reference leads where it was written for; and no two objects have one address
 pub record LeadsBack (r : Reading) (k : ResourceNo) (uri : List ℕ) : Type 0 where
   pub object : (o : ObjectNo) (j : ResourceNo) → resource_of r.above o ≡ Some j → target (base_of uri) (reference_text r k o) ≡ Some (target_of r k o)
-  pub proxy : (t : List ℕ) → IsProxyText t → (uri_part t ≡ uri → ⊥) → target (base_of uri) t ≡ Some (Elsewhere t)
+  pub proxy : (t : List ℕ) → IsSteadyProxy t → (uri_part t ≡ uri → ⊥) → target (base_of uri) t ≡ Some (Elsewhere t)
   pub one_address : (a b : ObjectNo) (t : List ℕ) → address r a ≡ Some t → address r b ≡ Some t → a ≡ b

@@ -3,6 +3,7 @@ ghost use Rattle.std.specs.Prelude.{◌≡◌, ℕ, List, Some, slice_get};
 ghost use Rattle.mm_types.specs.declared.numbers.ResourceNo.{ResourceNo};
 ghost use Rattle.models.specs.Legal.{IsLegal};
 ghost use Rattle.models.specs.Model.{Model, reading};
+ghost use Rattle.models.specs.Steady.{HasSteadyTexts};
 ghost use Rattle.round_trip.specs.Laws.{ReadsBack, ReadsTextBack};
 ghost use Rattle.round_trip.specs.PartsLaws.{AreParts};
 ghost use Rattle.round_trip.specs.Readable.{IsReadable};
@@ -18,13 +19,13 @@ pub fn the_parts_of_a_saved_document_are_its_objects()
 /// The text by which a resource refers to an object leads, read in that resource, to that object's path, or to a proxy of its
 /// address where it is in another resource; the text of a proxy leads to that proxy.
 pub fn a_reference_leads_to_its_object()
-    ensures { (s : Model) → IsLegal s → (k : ResourceNo) (uri : List ℕ) → slice_get (reading s).uris k.0 ≡ Some uri → LeadsBack (reading s) k uri }
+    ensures { (s : Model) → IsLegal s → HasSteadyTexts s → (k : ResourceNo) (uri : List ℕ) → slice_get (reading s).uris k.0 ≡ Some uri → LeadsBack (reading s) k uri }
 {}
 
 /// Each object that is written is read at its place, and each value as it was: an object of the resource by its number in loading
 /// order, one of another resource as a proxy of its address.
 pub fn each_value_is_read_as_it_was()
-    ensures { (s : Model) → IsLegal s → (k : ResourceNo) (uri : List ℕ) → AreParts (reading s) k → LeadsBack (reading s) k uri → IsReadable (reading s) k uri → AreReadAs (reading s) k uri }
+    ensures { (s : Model) → IsLegal s → HasSteadyTexts s → (k : ResourceNo) (uri : List ℕ) → AreParts (reading s) k → LeadsBack (reading s) k uri → IsReadable (reading s) k uri → AreReadAs (reading s) k uri }
 {}
 
 /// The document of a resource is read as that resource: its objects in loading order, each with its class and with the values of

@@ -1,5 +1,5 @@
 -- A URI as joining gives it is what joining it with any base gives; and what a valid URL of the web writes is one.
-use Rattle.std.proofs.Common.{◌≡◌, ℕ, Bool, true, false, cond, List, Option, Some, None, Ok, Err, ap, bytes_eq, refl, string_bytes, subst, ◌∙◌, sym}
+use Rattle.std.proofs.Common.{◌≡◌, ℕ, Bool, true, false, cond, List, [], Option, Some, None, Ok, Err, ap, bytes_eq, refl, string_bytes, subst, ◌∙◌, sym}
 use Rattle.std.specs.Prelude.{◌||◌, IfOk, Result, String, codes, is_some, option_and_then}
 use Rattle.std.specs.List.{list_any}
 use Rattle.std.specs.declared.alloc.Global.{Global}
@@ -13,7 +13,7 @@ use Rattle.url.specs.Parser.{parse_url}
 use Rattle.url.specs.Parts.{Parts, IsValid, kind_of, serialize}
 use Rattle.url.specs.declared.scheme.SchemeType.TheVariants.{SpecialNotFile}
 use Rattle.url.proofs.Theorems.{parse_url-serialize_special}
-use Rattle.web_uris.specs.Joined.{GivesText, IsWebUri, if_parsed, is_mark, is_web, joined, web_text}
+use Rattle.web_uris.specs.Joined.{GivesText, IsJoined, IsWebUri, if_parsed, is_mark, is_web, joined, web_text}
 
 -- what parses by itself is not joined
 first_of : (a b : Option Parts) (u : List ℕ) → option_and_then web_text a ≡ Some u → option_and_then web_text (option_or a b) ≡ Some u
@@ -24,6 +24,10 @@ pub joined-web : (base u : List ℕ) → IsWebUri u → joined base u ≡ Some u
 unfolding joined
 joined-web base u known =
     first_of (if_parsed (parse_url None u)) (option_and_then (λ b. if_parsed (parse_url (Some b) u)) (if_parsed (parse_url None base))) u known
+
+-- so it is what joining gives of it
+pub web_joined : (u : List ℕ) → IsWebUri u → IsJoined u
+web_joined u web = record { base = []; reference = u; gives = joined-web [] u web }
 
 pub web-serialize : (p : Parts) → IsValid p → kind_of p ≡ SpecialNotFile → web_text p ≡ Some (serialize p) → IsWebUri (serialize p)
 web-serialize p valid special web = ap (λ r. option_and_then web_text (if_parsed r)) (parse_url-serialize_special p None valid special) ∙ web

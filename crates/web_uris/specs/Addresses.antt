@@ -1,8 +1,7 @@
 -- Addresses of objects: the URI of a resource, `#`, and a fragment (RFC 3986, section 3.5).
-use Rattle.std.specs.Prelude.{ℕ, ◌&&◌, ◌++◌, Bool, false, IsTrue, List, ◌∷◌, bytes_eq, is_some}
+use Rattle.std.specs.Prelude.{ℕ, ◌++◌, Bool, IsTrue, List, ◌∷◌, is_some}
 use Rattle.std.specs.List.{after_first, before_first, list_any}
-use Rattle.std.specs.Option.{option_map_or}
-use Rattle.web_uris.specs.Joined.{IsWebUri, is_mark, own_text}
+use Rattle.web_uris.specs.Joined.{IsJoined, IsWebUri, is_mark}
 use Rattle.web_uris.specs.Paths.{parse}
 
 -- a text with `#` in it
@@ -22,9 +21,10 @@ address_text uri fragment = uri ++ 35 ∷ fragment
 -- the text of a proxy: a URI as joining gives it, `#`, and a fragment
 pub record IsProxyText (t : List ℕ) : Type 0 where
   pub mark : IsTrue (has_mark t)
-  pub uri : IsWebUri (uri_part t)
+  pub uri : IsJoined (uri_part t)
   pub fragment : IsTrue (is_some (parse (fragment_part t)))
 
--- the same, computed
-unfoldable pub is_proxy_text : List ℕ → Bool
-is_proxy_text t = has_mark t && (option_map_or (bytes_eq (uri_part t)) (own_text (uri_part t)) false && is_some (parse (fragment_part t)))
+-- the text of a proxy whose URI joining leaves as it is
+pub record IsSteadyProxy (t : List ℕ) : Type 0 where
+  pub text : IsProxyText t
+  pub steady : IsWebUri (uri_part t)

@@ -35,13 +35,19 @@ web_text u = if is_web u then (if list_any is_mark (serialize u) then None else 
 abbrev pub own_text : List ℕ → Option (List ℕ)
 own_text u = option_and_then web_text (if_parsed (parse_url None u))
 
--- a URI as joining gives it: written as `url` writes it, so that joining it with any base gives it again
+-- joining leaves a URI as it is: written as `url` writes it, so that joining it with any base gives it again
 abbrev pub IsWebUri : List ℕ → Type 0
 IsWebUri u = own_text u ≡ Some u
 
 -- none, where there is no such URI
 unfoldable pub joined : List ℕ → List ℕ → Option (List ℕ)
 joined base reference = option_and_then web_text (parts_of base reference)
+
+-- a URI as joining gives it, of some reference with some base
+pub record IsJoined (u : List ℕ) : Type 0 where
+  pub base : List ℕ
+  pub reference : List ℕ
+  pub gives : joined base reference ≡ Some u
 
 -- what was answered is the text that there is, or that there is none, unless memory was refused
 abbrev pub GivesText : Result (String Global) UriFault → Option (List ℕ) → Type 0

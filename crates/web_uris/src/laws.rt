@@ -7,12 +7,12 @@ ghost use Rattle.web_uris.specs.Joined.{IsWebUri, joined, web_text};
 ghost use Rattle.web_uris.specs.Paths.{Writes, parse};
 ghost use Rattle.web_uris.specs.declared.path.Path.{Path};
 
-/// A URI as joining gives it is what joining it with any base gives again.
+/// A URI that is written as `url` writes it is what joining it with any base gives again.
 pub fn web_uris_join_to_themselves()
     ensures { (base uri : List ℕ) → IsWebUri uri → joined base uri ≡ Some uri }
 {}
 
-/// What a valid URL of the web without a fragment is written as is a URI as joining gives it.
+/// What a valid URL of the web without a fragment is written as, `url` reads and writes as it was.
 pub fn urls_of_the_web_are_web_uris()
     ensures { (url : Parts) → IsValid url → kind_of url ≡ SpecialNotFile → web_text url ≡ Some (serialize url) → IsWebUri (serialize url) }
 {}

@@ -15,13 +15,15 @@ use Rattle.links.specs.Laws.{touches_containment}
 use Rattle.models.specs.Legal as models
 use Rattle.models.specs.Legal.{kinds_of}
 use Rattle.models.specs.Model.{Model, model_of, reading}
+use Rattle.models.specs.Steady.{HasSteadyTexts}
+use Rattle.handshake.specs.Effects.{after}
 use Rattle.handshake.specs.Laws.{goes_with}
 use Rattle.handshake.specs.Plans.{IsPlanOf, Plans}
 use Rattle.handshake.specs.Refusals.{early_refusal}
 use Rattle.handshake.specs.Tellings.{chain}
+use Rattle.handshake.proofs.ProxyLemmas.{change-keeps-steady}
 use Rattle.repository.specs.Answers.{answer_of}
 use Rattle.repository.specs.Leaving.{leavers}
-use Rattle.repository.specs.Laws.{HasSteadyUris}
 use Rattle.repository.specs.Proper.{IsProper}
 use Rattle.repository.specs.Views.{command_of}
 use Rattle.repository.specs.Repository.{KeepsFragments, state}
@@ -30,7 +32,8 @@ use Rattle.repository.proofs.AdapterLemmas.{Heard, heard_where_attached}
 use Rattle.repository.proofs.LeavingLemmas.{leavers_known}
 use Rattle.repository.proofs.RememberedLemmas.{kept-after}
 use Rattle.repository.proofs.PlanLemmas.{chain_err, changed_to, planned_err, releases_of}
-use Rattle.repository.proofs.LegalLemmas.{stepped-legal, steady-of}
+use Rattle.repository.proofs.LegalLemmas.{stepped-legal}
+use Rattle.repository.proofs.LoadLemmas.{proper-steady}
 use Rattle.repository.proofs.repository.Repository.carry_out.Goals as goal
 
 pub returns-in-Err : goal.returns-in-Err
@@ -101,15 +104,19 @@ invariant_of-self-2 g c =
     let proper : IsProper (reads s) text c.args.change = subst (λ (t : State). IsProper (reads t) text c.args.change) (sym c.self.view_is) c.requires.proper.1 in
     let plan = subst (λ (m : Model). IsPlanOf (nat_lt 0 (length s.adapters)) m c.args.change c.in-Ok.prepared.planned) is c.in-Ok.ensures.planned in
     let edits = c.in-Ok.prepared.planned.edits in
-    let legal = stepped-legal _ _ (command_of text c.args.change) _ (subst (λ (t : State). HasSteadyUris t (command_of text c.args.change)) c.self.view_is (steady-of s text c.args.change proper)) (subst IsLegal c.self.view_is c.self.invariant.legal) (returns g c text c.requires.proper.1) in
     let m = c.self.inside.meta in
     let w = values_of c.apply-2.new.self in
-    let made = c.apply.ensures.links ∙ ap (λ (l : Links). links.applied l edits) c.reserve.ensures.links in
-    let after = subst (λ (l : Links). models.IsLegal (model_of m w l)) made legal.model in
+    let applied_links = c.apply.ensures.links ∙ ap (λ (l : Links). links.applied l edits) c.reserve.ensures.links in
+    let values = c.apply-2.ensures ∙ ap (λ (v : ValuesState). applied v c.in-Ok.prepared.planned.values) c.reserve.ensures.values ∙ plan.values_made in
+    let made_links = applied_links ∙ plan.links_made in
+    let made : model_of m w (g.L.LinkStore.links c.apply.new.self) ≡ after s.model c.args.change = λ i. model_of m (values i) (made_links i) in
+    let legal = stepped-legal _ _ (command_of text c.args.change) _ (subst IsLegal c.self.view_is c.self.invariant.legal) (returns g c text c.requires.proper.1) in
+    let legal_after = subst (λ (l : Links). models.IsLegal (model_of m w l)) applied_links legal.model in
     record {
       legal = legal;
+      steady = subst HasSteadyTexts (sym made) (change-keeps-steady s.model c.args.change c.self.invariant.steady (proper-steady (reads s) text c.args.change proper));
       kinds_are = c.apply.ensures.kinds (kinds_of m) (c.reserve.ensures.kinds (kinds_of m) c.self.invariant.kinds_are) plan.of_kind;
       paths = subst (KeepsFragments (reading (model_of m w (g.L.LinkStore.links c.apply.new.self)))) (sym c.forget_touched.ensures)
-        (subst (λ (l : Links). KeepsFragments (reading (model_of m w l)) (if touches_containment (kinds_of m) edits then map.empty else c.self.inside.paths)) (sym made)
-        (kept-after m (values_of c.self.inside.values) w (g.L.LinkStore.links c.self.inside.store) edits c.self.invariant.legal.model after plan.fits plan.of_kind c.self.inside.paths c.self.invariant.paths));
+        (subst (λ (l : Links). KeepsFragments (reading (model_of m w l)) (if touches_containment (kinds_of m) edits then map.empty else c.self.inside.paths)) (sym applied_links)
+        (kept-after m (values_of c.self.inside.values) w (g.L.LinkStore.links c.self.inside.store) edits c.self.invariant.legal.model legal_after plan.fits plan.of_kind c.self.inside.paths c.self.invariant.paths));
     }

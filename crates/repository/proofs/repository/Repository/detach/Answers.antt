@@ -22,4 +22,4 @@ pub invariant_of-self-2 : goal.invariant_of-self-2
 invariant_of-self-2 g c =
     let s : State = state g.L.LinkStore.links c.self.inside in
     let x : Release = record { notice = c.in-Some.notice; view = g.A.Adapter.heard c.in-Some.adapter; others = c.detach.new.self.0 } in
-    record { legal = executed-legal s _ (Detach c.args.no) (Ok (record { answer = answer.Done; told = (c.args.no, x.notice) ∷ []; released = (c.args.no, x.view) ∷ [] })) tt (detached s c.args.no x c.self.invariant.legal.distinct (sym c.in-Some.ensures.released)) c.self.invariant.legal; kinds_are = c.self.invariant.kinds_are; paths = c.self.invariant.paths }
+    record { legal = executed-legal s _ (Detach c.args.no) (Ok (record { answer = answer.Done; told = (c.args.no, x.notice) ∷ []; released = (c.args.no, x.view) ∷ [] })) (detached s c.args.no x c.self.invariant.legal.distinct (sym c.in-Some.ensures.released)) c.self.invariant.legal; steady = c.self.invariant.steady; kinds_are = c.self.invariant.kinds_are; paths = c.self.invariant.paths }

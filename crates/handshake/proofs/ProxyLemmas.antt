@@ -1,0 +1,250 @@
+-- What holds of the text of each proxy, and of each URI, holds of them after a change that brings no others.
+use Rattle.std.proofs.Common.{◌≡◌, ◌∙◌, ℕ, Bool, true, false, List, [], ◌∷◌, ◌++◌, Option, Some, None, filter, find, fold, length, map, unwrap_or, if◌then◌else◌, sym, ap, inl, inr}
+use Rattle.std.specs.Prelude.{◌&&◌}
+use Rattle.std.specs.FinSet as set
+use Rattle.std.specs.List.{All, AllByRecursion, enumerate_from, list_any}
+use Rattle.std.specs.Option.{option_map_or}
+use Rattle.std.specs.Str.{bytes_eq}
+use Rattle.std.proofs.lemmas.List.Elements.{All-append, All-cons, All-nil}
+use Rattle.mm_types.specs.Resolved.{Metamodel}
+use Rattle.mm_types.specs.Same.{same_end}
+use Rattle.mm_types.specs.Shapes.{shape}
+use Rattle.mm_types.specs.declared.end.End.{End}
+use Rattle.mm_types.specs.declared.numbers.FeatureNo.{FeatureNo}
+use Rattle.mm_types.specs.declared.numbers.Node.{Node}
+use Rattle.mm_types.specs.declared.numbers.Node.TheVariants as node
+use Rattle.mm_types.specs.declared.numbers.ObjectNo.{ObjectNo}
+use Rattle.mm_types.specs.declared.value.Value.{Value}
+use Rattle.mm_types.specs.declared.value.Value.TheVariants as value
+use Rattle.mm_values.specs.Values.{ValuesState, applied, edited}
+use Rattle.mm_values.specs.declared.edit.ValueEdit.{ValueEdit}
+use Rattle.mm_values.specs.declared.edit.ValueEdit.TheVariants.{NewObject, DropObject, PutList, InsertValue, RemoveValue as TakeValue, MoveValue, NewUri}
+use Rattle.links.specs.Links.{Links, cut, cut_some, cut_value, end, far_end, lower, lowered_far, new_link, put, raise, renumbered, shift, shifted_index, touches, without_nodes}
+use Rattle.links.specs.Places.{far_moved, far_value, has_value, moved}
+use Rattle.links.specs.declared.link.Far.{Far}
+use Rattle.links.specs.declared.link.Far.TheVariants.{At, Alone, Proxy}
+use Rattle.links.specs.declared.link.Link.{Link}
+use Rattle.links.proofs.EditLemmas.{In-insert, In-remove, In-renumbered}
+use Rattle.web_uris.specs.Addresses.{IsProxyText, IsSteadyProxy}
+use Rattle.web_uris.specs.Joined.{IsWebUri}
+use Rattle.models.specs.Legal.{OfProxies}
+use Rattle.models.specs.Model.{Model, reading}
+use Rattle.models.specs.Reading.{Reading, at_end, first_at, is_repeat, place_for, shape_at}
+use Rattle.containment.specs.Forest.{subtree}
+use Rattle.removal.specs.Outer.{gone}
+use Rattle.resource_docs.specs.Read.{OfDocProxies}
+use Rattle.resource_docs.specs.declared.doc.Content.{Content}
+use Rattle.resource_docs.specs.declared.doc.Doc.{Doc}
+use Rattle.loading.specs.Loading as loading
+use Rattle.loading.specs.Loading.{attribute_edits, loaded, loaded_links, of_contents, with_links}
+use Rattle.loading.proofs.PairLemmas.{all-append, all-every, all-flat_map_every, all-map}
+use Rattle.loading.proofs.ProxyLemmas.{OfLink, alone-no_proxy, at-no_proxy, far_of, joined-no_proxy, loaded-proxies, read-proxies}
+use Rattle.removal.specs.declared.tie.Tie.{Tie}
+use Rattle.handshake.specs.declared.change.Change.{Change}
+use Rattle.handshake.specs.declared.change.Change.TheVariants.{Create, Set, Unset, Add, Remove, RemoveValue, Move, Delete, NewResource, Resolve, Load}
+use Rattle.handshake.specs.Displaced.{cut_ties, is_plain_add, is_plain_set}
+use Rattle.handshake.specs.Plans.{HasReadDocument}
+use Rattle.handshake.specs.Laws.{BringsSteadyTexts, KeepsSteady}
+use Rattle.handshake.specs.Effects.{add_value, if_attribute, links_after, links_left, of_object, put_by, put_under, take_value, value_edits, with_value}
+
+---------------------------------------------------------------- links
+
+far-back : (x : Far) (e : End) (r : ℕ → ℕ) (t : List ℕ) → far_moved x e r ≡ Proxy t → x ≡ Proxy t
+far-back (At d j) e r t = elim (same_end d e) as (λ b. (if b then At d (r j) else At d j) ≡ Proxy t → At d j ≡ Proxy t) [ true ↦ λ h. absurd (at-no_proxy d (r j) t h) | false ↦ λ h. h ]
+far-back (Alone o) e r t = λ h. h
+far-back (Proxy u) e r t = λ h. h
+
+moved-back : (l : Link) (e : End) (r : ℕ → ℕ) (t : List ℕ) → far_of (moved l e r) ≡ Proxy t → l.far ≡ Proxy t
+moved-back l e r t = elim (same_end l.end e) as (λ b. far_of (if b then record l { index = r l.index } else record l { far = far_moved l.far e r }) ≡ Proxy t → l.far ≡ Proxy t) [
+  | true ↦ λ h. h
+  | false ↦ far-back l.far e r t
+]
+
+new-no_proxy : (s : Links) (e : End) (i : ℕ) (o : ObjectNo) (g c : Option FeatureNo) (t : List ℕ) → far_of (new_link s e i o g c) ≡ Proxy t → ⊥
+new-no_proxy s e i o None c t h = alone-no_proxy o t h
+new-no_proxy s e i o (Some g) c t h = joined-no_proxy e i (far_end o g) (length (end s (far_end o g))) c t h
+
+module _ (Holds : List ℕ → Type 0) where
+  renumbered-of : (s : Links) (e : End) (r : ℕ → ℕ) → OfProxies Holds s → OfProxies Holds (renumbered s e r)
+  renumbered-of s e r of l t within far =
+      let from = In-renumbered s e r l within in
+      of from.0 t from.1 (moved-back from.0 e r t (ap (λ (x : Link). x.far) from.2 ∙ far))
+
+  insert-of : (s : Links) (k : Link) → OfLink Holds k → OfProxies Holds s → OfProxies Holds (set.insert s k)
+  insert-of s k new of l t within far = elim (In-insert s k l within) [
+    | inl same ↦ new t (ap (λ (x : Link). x.far) (sym same) ∙ far)
+    | inr old ↦ of l t old far
+  ]
+
+  remove-of : (s : Links) (k : Link) → OfProxies Holds s → OfProxies Holds (set.remove s k)
+  remove-of s k of l t within far = of l t (In-remove s k l within).1 far
+
+  lowered-of : (s : Links) (x : Far) → OfProxies Holds s → OfProxies Holds (lowered_far s x)
+  lowered-of s (At d j) of = renumbered-of s d (lower j) of
+  lowered-of s (Alone o) of = of
+  lowered-of s (Proxy t) of = of
+
+  cut-of : (s : Links) (l : Link) → OfProxies Holds s → OfProxies Holds (cut s l)
+  unfolding cut
+  cut-of s l of = lowered-of (renumbered (set.remove s l) l.end (lower l.index)) l.far (renumbered-of (set.remove s l) l.end (lower l.index) (remove-of s l of))
+
+  some-of : (s : Links) (o : Option Link) → OfProxies Holds s → OfProxies Holds (cut_some s o)
+  some-of s None of = of
+  some-of s (Some l) of = cut-of s l of
+
+  cut_value-of : (s : Links) (e : End) (v : Value) → OfProxies Holds s → OfProxies Holds (cut_value s e v)
+  unfolding cut_value
+  cut_value-of s e v of = some-of s (find (has_value e v) (set.items s)) of
+
+  cuts-of : {X : Type 0} (at : X → End) (v : X → Value) (xs : List X) (s : Links) → OfProxies Holds s → OfProxies Holds (fold (λ (t : Links) (x : X). cut_value t (at x) (v x)) s xs)
+  cuts-of at v [] s of = of
+  cuts-of at v (x ∷ xs) s of = cuts-of at v xs (cut_value s (at x) (v x)) (cut_value-of s (at x) (v x) of)
+
+  nodes-of : (s : Links) (gone : Node → Bool) → OfProxies Holds s → OfProxies Holds (without_nodes s gone)
+  unfolding without_nodes
+  nodes-of s gone of = cuts-of (λ (l : Link). l.end) (λ (l : Link). far_value l.far) (filter (touches gone) (set.items s)) s of
+
+  put-of : (s : Links) (e : End) (i : ℕ) (o : ObjectNo) (g c : Option FeatureNo) → OfProxies Holds s → OfProxies Holds (put s e i o g c)
+  unfolding put
+  put-of s e i o g c of =
+      insert-of (renumbered s e (raise i)) (new_link s e i o g c) (λ t far. absurd (new-no_proxy s e i o g c t far)) (renumbered-of s e (raise i) of)
+
+  shift-of : (s : Links) (e : End) (to from : ℕ) → OfProxies Holds s → OfProxies Holds (shift s e to from)
+  unfolding shift
+  shift-of s e to from of = renumbered-of s e (shifted_index to from) of
+
+  value-of : (s : Links) (r : Reading) (e : End) (i : Option ℕ) (v : Value) → OfProxies Holds s → OfProxies Holds (with_value s r e i v)
+  value-of s r e i (value.Object o) of = put-of s e (unwrap_or i (length (end s e))) o (shape_at r e).opposite (shape_at r e).containing of
+  value-of s r e i _ of = of
+
+  inserted-of : (ls : List Link) (s : Links) → AllByRecursion (OfLink Holds) ls → OfProxies Holds s → OfProxies Holds (with_links s ls)
+  unfolding with_links
+  inserted-of [] s all of = of
+  inserted-of (l ∷ ls) s all of = inserted-of ls (set.insert s l) all.1 (insert-of s l all.0 of)
+
+  -- a change brings proxies with the document that it loads
+  abbrev pub BringsProxies : Change → Type 0
+  BringsProxies (Load k doc) = OfDocProxies Holds doc
+  BringsProxies _ = Unit {0}
+
+  put_by-of : (s : Links) (r : Reading) (c : Change) → BringsProxies c → OfProxies Holds s → OfProxies Holds (put_by s r c)
+  put_by-of s r (Set n f v) brings of =
+      let e = at_end n f in
+      elim (is_plain_set r e v) as (λ b. OfProxies Holds (if b then s else with_value s r e None v)) [ true ↦ of | false ↦ value-of s r e None v of ]
+  put_by-of s r (Add n f v i) brings of =
+      let e = at_end n f in
+      elim (is_plain_add r e v) as (λ b. OfProxies Holds (if b then s else with_value s r e i v)) [ true ↦ of | false ↦ value-of s r e i v of ]
+  put_by-of s r (Move n f to from) brings of =
+      let e = at_end n f in
+      elim (shape_at r e).is_reference as (λ b. OfProxies Holds (if b then shift s e to from else s)) [ true ↦ shift-of s e to from of | false ↦ of ]
+  put_by-of s r (Resolve o f i None) brings of = of
+  put_by-of s r (Resolve o f i (Some x)) brings of = value-of s r (at_end (node.Object o) f) (Some i) (value.Object x) of
+  put_by-of s r (Load k doc) brings of = inserted-of (loaded_links r.metamodel r.next k doc) s (loaded-proxies Holds r.metamodel r.next doc k brings) of
+  put_by-of s r _ brings of = of
+
+  left-of : (s : Links) (r : Reading) (c : Change) → OfProxies Holds s → OfProxies Holds (links_left s r c)
+  left-of s r (Delete o) of = nodes-of s (gone r o) of
+  left-of s r c of = cuts-of (λ (t : Tie). t.end) (λ (t : Tie). t.value) (cut_ties r c) s of
+
+  pub proxies-after : (s : Links) (r : Reading) (c : Change) → BringsProxies c → OfProxies Holds s → OfProxies Holds (links_after s r c)
+  proxies-after s r c brings of = put_by-of (links_left s r c) r c brings (left-of s r c of)
+
+---------------------------------------------------------------- URIs
+
+module _ (Holds : List ℕ → Type 0) where
+  abbrev OfEdit : ValueEdit → Type 0
+  OfEdit (NewUri u) = Holds u
+  OfEdit _ = Unit {0}
+
+  edited-of : (v : ValuesState) (x : ValueEdit) → OfEdit x → All Holds v.uris → All Holds (edited v x).uris
+  edited-of v (NewUri u) new all =
+      elim (list_any (bytes_eq u) v.uris) as (λ b. All Holds (if b then v.uris else v.uris ++ u ∷ [])) [
+        | true ↦ all
+        | false ↦ All-append Holds v.uris (u ∷ []) all (All-cons Holds u [] new (All-nil Holds))
+      ]
+  edited-of v _ new all = all
+
+  applied-of : (xs : List ValueEdit) (v : ValuesState) → AllByRecursion OfEdit xs → All Holds v.uris → All Holds (applied v xs).uris
+  applied-of [] v edits all = all
+  applied-of (x ∷ xs) v edits all = applied-of xs (edited v x) edits.1 (edited-of v x edits.0 all)
+
+  attribute-of : (r : Reading) (e : End) (xs : List ValueEdit) → AllByRecursion OfEdit xs → AllByRecursion OfEdit (if_attribute r e xs)
+  attribute-of r e xs all = elim (shape_at r e).is_reference as (λ b. AllByRecursion OfEdit (if b then [] else xs)) [ true ↦ tt | false ↦ all ]
+
+  under-of : (f : FeatureNo) (vs : List Value) (flag : Bool) (n : Node) → AllByRecursion OfEdit (put_under f vs flag n)
+  under-of f vs flag (node.Object o) = (tt, tt)
+  under-of f vs flag (node.Resource k) = tt
+
+  object-of : (n : Node) (edit : ObjectNo → ValueEdit) → ((o : ObjectNo) → OfEdit (edit o)) → AllByRecursion OfEdit (of_object n edit)
+  object-of (node.Object o) edit of = (of o, tt)
+  object-of (node.Resource k) edit of = tt
+
+  added-of : (r : Reading) (e : End) (v : Value) (i : Option ℕ) → AllByRecursion OfEdit (add_value r e v i)
+  added-of r e v i =
+      let insert : ObjectNo → ValueEdit = λ o. InsertValue o e.feature (place_for r e i) v (shape_at r e).is_unique in
+      elim (is_repeat r e v) as (λ b. AllByRecursion OfEdit (if b then [] else of_object e.node insert)) [ true ↦ tt | false ↦ object-of e.node insert (λ o. tt) ]
+
+  taken-of : (e : End) (o : Option ℕ) → AllByRecursion OfEdit (option_map_or (take_value e) o [])
+  taken-of e None = tt
+  taken-of e (Some i) = object-of e.node (λ o. TakeValue o e.feature i) (λ o. tt)
+
+  content-of : (m : Metamodel) (n : ℕ) (o : ObjectNo) (c : Content) → AllByRecursion OfEdit (attribute_edits m n o c)
+  content-of m n o c =
+      let a = shape m c.feature in
+      elim a.is_reference as (λ b. AllByRecursion OfEdit (if b then [] else PutList (loaded n o) c.feature c.values (a.is_unsettable && a.is_single) ∷ [])) [ true ↦ tt | false ↦ (tt, tt) ]
+
+  loaded-of : (m : Metamodel) (n : ℕ) (doc : Doc) → AllByRecursion OfEdit (loading.loaded_values m n doc)
+  loaded-of m n doc =
+      all-append OfEdit (map (λ o. NewObject o.class) doc.objects) (of_contents (attribute_edits m n) doc)
+      (all-map OfEdit (λ o. NewObject o.class) doc.objects (all-every (λ o. OfEdit (NewObject o.class)) doc.objects (λ o. tt)))
+      (all-flat_map_every OfEdit (loading.of_object (attribute_edits m n)) (enumerate_from 0 doc.objects) (λ x. all-flat_map_every OfEdit (attribute_edits m n (record { 0 = x.0 })) x.1.contents (content-of m n (record { 0 = x.0 }))))
+
+  -- a change brings the URI of a new resource
+  abbrev pub BringsUri : Change → Type 0
+  BringsUri (NewResource u) = Holds u
+  BringsUri _ = Unit {0}
+
+  edits-of : (r : Reading) (c : Change) → BringsUri c → AllByRecursion OfEdit (value_edits r c)
+  edits-of r (Create c) brings = (tt, tt)
+  edits-of r (Set n f v) brings =
+      let e = at_end n f in
+      let flag = (shape_at r e).is_unsettable in
+      attribute-of r e (put_under f (v ∷ []) flag n) (under-of f (v ∷ []) flag n)
+  edits-of r (Unset n f) brings = attribute-of r (at_end n f) (put_under f [] false n) (under-of f [] false n)
+  edits-of r (Add n f v i) brings = attribute-of r (at_end n f) (add_value r (at_end n f) v i) (added-of r (at_end n f) v i)
+  edits-of r (Remove n f i) brings = attribute-of r (at_end n f) (take_value (at_end n f) i) (taken-of (at_end n f) (Some i))
+  edits-of r (RemoveValue n f v) brings =
+      let e = at_end n f in
+      attribute-of r e (option_map_or (take_value e) (first_at r e v) []) (taken-of e (first_at r e v))
+  edits-of r (Move n f to from) brings =
+      let move : ObjectNo → ValueEdit = λ o. MoveValue o f to from in
+      attribute-of r (at_end n f) (of_object n move) (object-of n move (λ o. tt))
+  edits-of r (Delete o) brings = all-map OfEdit DropObject (subtree r o) (all-every (λ p. OfEdit (DropObject p)) (subtree r o) (λ p. tt))
+  edits-of r (NewResource u) brings = (brings, tt)
+  edits-of r (Resolve o f i b) brings = tt
+  edits-of r (Load k doc) brings = loaded-of r.metamodel r.next doc
+
+  pub uris-after : (v : ValuesState) (r : Reading) (c : Change) → BringsUri c → All Holds v.uris → All Holds (applied v (value_edits r c)).uris
+  uris-after v r c brings all = applied-of (value_edits r c) v (edits-of r c brings) all
+
+---------------------------------------------------------------- what a change brings
+
+-- a document that is read has proxies with the texts of ones
+pub read-brings : (m : Metamodel) (c : Change) → HasReadDocument m c → BringsProxies IsProxyText c
+read-brings m (Load k doc) read = read-proxies m read.uri doc read.read
+read-brings m _ read = tt
+
+steady-proxies : (c : Change) → BringsSteadyTexts c → BringsProxies IsSteadyProxy c
+steady-proxies (Load k doc) brings = brings
+steady-proxies _ brings = tt
+
+steady-uri : (c : Change) → BringsSteadyTexts c → BringsUri IsWebUri c
+steady-uri (NewResource u) brings = brings
+steady-uri _ brings = tt
+
+pub change-keeps-steady : (s : Model) (c : Change) → KeepsSteady s c
+change-keeps-steady s c steady brings =
+    record {
+      uris = uris-after IsWebUri s.values (reading s) c (steady-uri c brings) steady.uris;
+      proxies = proxies-after IsSteadyProxy s.links (reading s) c (steady-proxies c brings) steady.proxies;
+    }
