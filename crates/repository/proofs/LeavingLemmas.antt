@@ -8,8 +8,14 @@ use Rattle.notice_chain.specs.Released.{released}
 use Rattle.notice_chain.specs.declared.notice.Notice.{Notice}
 use Rattle.adapter_list.specs.Rounds.{delivered, delivered_from}
 use Rattle.models.specs.Model.{Model, reading}
+use Rattle.models.specs.Reading.{Reading}
+use Rattle.removal.specs.Outer.{gone}
+use Rattle.removal.specs.Ranks.{is_in}
+use Rattle.removal.specs.declared.gone.Removal.{Removal}
 use Rattle.handshake.specs.Laws.{goes_with}
+use Rattle.handshake.specs.Plans.{IsRemovalOf}
 use Rattle.handshake.specs.declared.change.Change.{Change}
+use Rattle.handshake.specs.declared.change.Change.TheVariants.{Delete}
 use Rattle.repository.specs.Leaving.{LeaversAre}
 use Rattle.repository.proofs.AdapterLemmas.{released-nobody}
 
@@ -61,3 +67,13 @@ leavers_known s m c rs old kept found is same are as_found =
     subst (λ (q : Option (List Bool)). LeaversAre (goes_with (reading s) c) rs q) (sym as_found)
     (subst (λ (xs : List Listed). LeaversAre (goes_with (reading s) c) xs found) (sym same)
     (subst (λ (n : Model). LeaversAre (goes_with (reading n) c) old found) is are))
+
+-- who leaves with what goes leaves with the change
+pub leavers_found : (r : Reading) (c : Change) (q : Option Removal) (rs : List Listed) (found : Option (List Bool)) → IsRemovalOf r c q → found ≡ option_map (λ (x : Removal). map (λ (l : Listed). is_in x.numbers l.target) rs) q → LeaversAre (goes_with r c) rs found
+leavers_found r (Delete o) (Some x) rs found of is =
+    let same : x.object ≡ o = same_Some x.object o of.whose in
+    let goes : is_in x.numbers ≡ gone r o = (λ i n. of.found.numbers n i) ∙ ap (gone r) same in
+    subst (LeaversAre (gone r o) rs) (sym is) (ap (λ (g : Node → Bool). map (λ (l : Listed). g l.target) rs) goes)
+leavers_found r (Delete o) None rs found of is = absurd (none-some o of.whose)
+leavers_found r c (Some x) rs found of is = absurd (none-some x.object (sym of.whose))
+leavers_found r c None rs found of is = subst (LeaversAre (goes_with r c) rs) (sym is) (λ n. refl)

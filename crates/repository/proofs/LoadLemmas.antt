@@ -27,7 +27,8 @@ use Rattle.repository.specs.Run.{Executed, is_plain}
 use Rattle.repository.specs.State.{State, reads}
 use Rattle.repository.specs.Step.{refusal_of, step_unless}
 use Rattle.repository.specs.declared.command.Command.TheVariants as command
-use Rattle.repository.proofs.PlanLemmas.{IsNot, late-not-plain, later-not, loaded_as, unless-not, where-not}
+use Rattle.handshake.proofs.RefusalLemmas.{IsNot, later-not, unless-not, where-not}
+use Rattle.repository.proofs.PlanLemmas.{late-not-plain, loaded_as}
 
 -- bytes that are read as a document are those of a JSON value that is
 bytes-read : (m : Metamodel) (uri bytes : List ℕ) (doc : Doc) → reads_bytes m uri bytes ≡ Ok doc → IsRead m uri doc

@@ -1,6 +1,6 @@
 -- What a plan, or its refusal, makes of its command.
 use Rattle.std.proofs.Common.{◌≡◌, inl, inr, Bool, true, false, not, IsTrue, List, [], ◌∷◌, ◌++◌, map, Option, Some, None, Ok, Err, if◌then◌else◌, refl, ap, sym, subst, ◌∙◌}
-use Rattle.std.specs.Prelude.{◌+◌, Result, ◌&&◌, nat_le, nat_lt, is_some, ℕ, length, option_map}
+use Rattle.std.specs.Prelude.{◌+◌, MatchBool, Result, ◌&&◌, nat_le, nat_lt, is_some, ℕ, length, option_map}
 use Rattle.std.specs.Option.{option_map_or}
 use Rattle.std.proofs.lemmas.List.{append-nil}
 use Rattle.mm_types.specs.Conditions.{◌else_by◌, ◌unless◌, ◌where_so◌}
@@ -24,11 +24,11 @@ use Rattle.notice_chain.specs.View.{View}
 use Rattle.notice_chain.specs.declared.notice.Notice.{Notice}
 use Rattle.adapter_list.specs.Refusals.{IsChainRefusal}
 use Rattle.models.specs.Legal.{is_short, is_short_text}
-use Rattle.models.specs.Model.{Model}
+use Rattle.models.specs.Model.{Model, reading}
 use Rattle.models.specs.Reading.{Reading, at_end, has_feature, is_node_live, is_repeat, is_resource_there, is_value_live, place_for, takes, has_uri}
 use Rattle.handshake.specs.Named.{feature_refusal, many_refusal, node_refusal, value_refusal}
 use Rattle.handshake.specs.Effects as effects
-use Rattle.handshake.specs.Plans.{Plans, is_memory_refusal}
+use Rattle.handshake.specs.Plans.{is_memory_refusal}
 use Rattle.handshake.specs.Displaced.{has_already}
 use Rattle.handshake.specs.Refusals.{count_at, early_refusal, gain_refusal, is_at_limit, is_full_at, is_mistyped, is_recursive, is_there_already, late_refusal, link_refusal, of_either, proxy_at, resolve_refusal, set_refusal, type_refusal, uri_refusal}
 use Rattle.handshake.specs.Tellings.{chain, destroyed_by}
@@ -52,13 +52,10 @@ use Rattle.web_uris.specs.Addresses.{uri_part}
 use Rattle.handshake.specs.Laws.{goes_with}
 use Rattle.repository.specs.Loads.{load_of, load_refusal, objects_of}
 use Rattle.repository.specs.Proper.{IsProper}
-use Rattle.repository.specs.Refusals.{resource_refusal}
+use Rattle.repository.specs.Refusals.{IsPlanRefusal, resource_refusal}
 use Rattle.handshake.proofs.KnownLemmas.{none-else_by, none-unless}
+use Rattle.handshake.proofs.RefusalLemmas.{IsNot, late-not, later-not, unless-not, where-not}
 use Rattle.std.proofs.lemmas.Bool.{and_parts}
-
--- no refusal of these
-abbrev pub IsNot : (Refused → Bool) → Option Refused → Type 0
-IsNot q o = option_map_or q o false ≡ false
 
 full : State → Change → Option Refused
 full s c = AdapterFull where_so is_chain_full (reads s).above (chain (reads s) c) s.adapters
@@ -112,22 +109,6 @@ refusal-planned s text (Resolve o f i b) own early = ap (resolved_to s o f i) (s
 refusal-planned s text (Load k doc) proper early = ap (loaded_as s k) proper.0 ∙ rw early refl
 
 -- a condition that is none of these is none of them behind another that is none
-pub later-not : (q : Refused → Bool) (o p : Option Refused) → IsNot q o → IsNot q p → IsNot q (o else_by p)
-later-not q None p a b = b
-later-not q (Some r) p a b = a
-
-pub where-not : (q : Refused → Bool) (r : Refused) (b : Bool) → q r ≡ false → IsNot q (r where_so b)
-where-not q r true h = h
-where-not q r false h = refl
-
-pub unless-not : (q : Refused → Bool) (r : Refused) (b : Bool) → q r ≡ false → IsNot q (r unless b)
-unless-not q r true h = refl
-unless-not q r false h = h
-
-either-not : (q : Refused → Bool) (b : Bool) (o p : Option Refused) → IsNot q o → IsNot q p → IsNot q (if b then o else p)
-either-not q true o p x y = x
-either-not q false o p x y = y
-
 ---------------------------------------------------------------- what is found first is not out of memory
 
 abbrev no_memory : Refused → Bool
@@ -160,68 +141,8 @@ early-not-memory r (Load k doc) = node-not-memory r (node.Resource k)
 
 ---------------------------------------------------------------- what is found later is not plain
 
-link-not-plain : (r : Reading) (e : End) (o : ObjectNo) → IsNot is_plain (link_refusal r e o)
-link-not-plain r e o =
-    later-not is_plain _ _ (where-not is_plain Bound (of_either (is_full_at r) r e o) refl)
-    (later-not is_plain _ _ (where-not is_plain Recursive (is_recursive r e o) refl) (where-not is_plain Limit (of_either (is_at_limit r) r e o) refl))
-
-value-not-plain : (r : Reading) (e : End) → IsNot is_plain (Bound where_so is_full_at r e else_by (Limit where_so is_at_limit r e))
-value-not-plain r e = later-not is_plain _ _ (where-not is_plain Bound (is_full_at r e) refl) (where-not is_plain Limit (is_at_limit r e) refl)
-
-gain-not-plain : (r : Reading) (e : End) (v : Value) → IsNot is_plain (gain_refusal r e v)
-gain-not-plain r e (value.Object o) = link-not-plain r e o
-gain-not-plain r e value.Null = value-not-plain r e
-gain-not-plain r e (value.Bool b) = value-not-plain r e
-gain-not-plain r e (value.Int n) = value-not-plain r e
-gain-not-plain r e (value.Text t) = value-not-plain r e
-gain-not-plain r e (value.Literal i) = value-not-plain r e
-gain-not-plain r e (value.Proxy t) = value-not-plain r e
-gain-not-plain r e (value.Adapter a) = value-not-plain r e
-
-set-not-plain : (r : Reading) (e : End) (v : Value) → IsNot is_plain (set_refusal r e v)
-set-not-plain r e (value.Object o) = either-not is_plain (has_already r e (value.Object o)) None (link_refusal r e o) refl (link-not-plain r e o)
-set-not-plain r e value.Null = refl
-set-not-plain r e (value.Bool b) = refl
-set-not-plain r e (value.Int n) = refl
-set-not-plain r e (value.Text t) = refl
-set-not-plain r e (value.Literal i) = refl
-set-not-plain r e (value.Proxy t) = refl
-set-not-plain r e (value.Adapter a) = refl
-
-type-not-plain : (r : Reading) (f : FeatureNo) (v : Value) → IsNot is_plain (type_refusal r f v)
-type-not-plain r f v = later-not is_plain _ _ (unless-not is_plain WrongType (takes r f v) refl) (unless-not is_plain TextLength (is_short v) refl)
-
-uri-not-plain : (r : Reading) (u : List ℕ) → IsNot is_plain (uri_refusal r u)
-uri-not-plain r u =
-    later-not is_plain _ _ (unless-not is_plain TextLength (is_short_text u) refl)
-    (later-not is_plain _ _ (unless-not is_plain Limit (nat_lt (length r.uris) RESOURCES) refl) (where-not is_plain ResourceExists (has_uri r u) refl))
-
-resolve-not-plain : (r : Reading) (e : End) (i : ℕ) (b : Option ObjectNo) → IsNot is_plain (resolve_refusal r e i b)
-resolve-not-plain r e i b =
-    later-not is_plain _ _ (where-not is_plain WrongType (is_mistyped r e b) refl)
-    (later-not is_plain _ _ (unless-not is_plain Index (nat_lt i (count_at r e)) refl)
-    (later-not is_plain _ _ (where-not is_plain Duplicate (is_there_already r e b) refl)
-    (later-not is_plain _ _ (unless-not is_plain NotProxy (is_some (proxy_at r e i)) refl)
-    (later-not is_plain _ _ (where-not is_plain Unloaded (option_map_or (λ (t : List ℕ). not (has_uri r (uri_part t))) (proxy_at r e i) false) refl)
-    (unless-not is_plain Unresolved (is_some b) refl)))))
-
 pub late-not-plain : (r : Reading) (c : Change) → IsNot is_plain (late_refusal r c)
-late-not-plain r (Create c) = unless-not is_plain Limit (nat_lt r.next OBJECTS) refl
-late-not-plain r (Set n f v) = later-not is_plain _ _ (type-not-plain r f v) (set-not-plain r (at_end n f) v)
-late-not-plain r (Unset n f) = refl
-late-not-plain r (Add n f v i) =
-    let e = at_end n f in
-    later-not is_plain _ _ (type-not-plain r f v)
-    (later-not is_plain _ _ (unless-not is_plain Index (nat_le (place_for r e i) (count_at r e)) refl)
-    (either-not is_plain (is_repeat r e v) (Duplicate where_so is_some i) (gain_refusal r e v) (where-not is_plain Duplicate (is_some i) refl) (gain-not-plain r e v)))
-late-not-plain r (Remove n f i) = unless-not is_plain Index (nat_lt i (count_at r (at_end n f))) refl
-late-not-plain r (RemoveValue n f v) = type-not-plain r f v
-late-not-plain r (Move n f to from) = unless-not is_plain Index (nat_lt to (count_at r (at_end n f)) && nat_lt from (count_at r (at_end n f))) refl
-late-not-plain r (Delete o) = refl
-late-not-plain r (NewResource u) = uri-not-plain r u
-late-not-plain r (Resolve o f i b) = resolve-not-plain r (at_end (node.Object o) f) i b
-late-not-plain r (Load k doc) =
-    later-not is_plain _ _ (unless-not is_plain Limit (nat_le (r.next + length doc.objects) OBJECTS) refl) (unless-not is_plain NotEmpty (is_empty_resource r k) refl)
+late-not-plain r c = late-not is_plain (record { wrong_type = refl; text_length = refl; index = refl; duplicate = refl; bound = refl; recursive = refl; limit = refl; resource_exists = refl; not_empty = refl; not_proxy = refl; unloaded = refl; unresolved = refl; }) r c
 
 full-not-plain : (s : State) (c : Change) → IsNot is_plain (full s c)
 unfolding full
@@ -290,10 +211,14 @@ out_of_memory s text (NewResource u) brought early = record { may = may-want s t
 out_of_memory s text (Resolve o f i b) brought early = record { may = may-want s text (Resolve o f i b) brought early; outcome = refl; state = refl }
 out_of_memory s text (Load k doc) brought early = record { may = may-want s text (Load k doc) brought early; outcome = refl; state = refl }
 
+-- what planning answers in place of a plan is such a refusal
+pub plan_refusal : (s : Model) (c : Change) (r : Refused) → late_refusal (reading s) c ≡ (if is_memory_refusal r then None else Some r) → IsPlanRefusal s c r
+plan_refusal s c r h = elim (is_memory_refusal r) as (λ b. late_refusal (reading s) c ≡ (if b then None else Some r) → MatchBool b (Unit {0}) (late_refusal (reading s) c ≡ Some r)) [ true ↦ λ _. tt | false ↦ λ found. found ] h
+
 -- what planning refuses
-pub planned_err : (s : State) (text : List ℕ) (c : Change) (b : Bool) (r : Refused) → IsProper (reads s) text c → early_refusal (reads s) c ≡ None → Plans b (Err r) s.model c → Executed s (command_of text c) (Err (record { refused = r; given_back = None })) s
-planned_err s text c b Memory brought early h = out_of_memory s text c brought early
-planned_err s text c b r brought early h = refused_as s text c r refl (refusal-planned s text c brought early ∙ ap (λ (o : Option Refused). o else_by full s c) h)
+pub planned_err : (s : State) (text : List ℕ) (c : Change) (r : Refused) → IsProper (reads s) text c → early_refusal (reads s) c ≡ None → IsPlanRefusal s.model c r → Executed s (command_of text c) (Err (record { refused = r; given_back = None })) s
+planned_err s text c Memory brought early h = out_of_memory s text c brought early
+planned_err s text c r brought early h = refused_as s text c r refl (refusal-planned s text c brought early ∙ ap (λ (o : Option Refused). o else_by full s c) h)
 
 -- what the adapters refuse
 pub chain_err : (s : State) (text : List ℕ) (c : Change) (made : List Notice) (r : Refused) → IsProper (reads s) text c → early_refusal (reads s) c ≡ None → late_refusal (reads s) c ≡ None → Heard (reads s).above made (chain (reads s) c) s.adapters → IsChainRefusal (is_chain_full (reads s).above made s.adapters) r → Executed s (command_of text c) (Err (record { refused = r; given_back = None })) s

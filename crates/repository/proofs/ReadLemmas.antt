@@ -15,7 +15,8 @@ use Rattle.repository.specs.Reads.{IsValueRefusal}
 use Rattle.repository.specs.Run.{Executed}
 use Rattle.repository.specs.State.{State, reads}
 use Rattle.repository.specs.Step.{step_unless}
-use Rattle.repository.proofs.PlanLemmas.{IsNot, feature-not-memory}
+use Rattle.handshake.proofs.RefusalLemmas.{IsNot}
+use Rattle.repository.proofs.PlanLemmas.{feature-not-memory}
 use Rattle.mm_types.specs.declared.value.Value.{Value}
 use Rattle.mm_types.specs.declared.value.Value.TheVariants.{Null}
 

@@ -22,7 +22,7 @@ use Rattle.repository.specs.State.{State, reads}
 use Rattle.repository.specs.Step.{Stepped, refusal_of, refused, step, step_unless}
 use Rattle.repository.specs.Views.{Outcome}
 use Rattle.repository.specs.declared.command.Command.TheVariants.{CreateResource}
-use Rattle.repository.proofs.PlanLemmas.{IsNot, later-not, unless-not, where-not}
+use Rattle.handshake.proofs.RefusalLemmas.{IsNot, later-not, unless-not, where-not}
 
 module _ (s : State) where
   -- an adapter that hears of a resource of this URI can't count on

@@ -1,5 +1,5 @@
 -- Why a command is refused: the first condition that applies, in the order of their numbers.
-use Rattle.std.specs.Prelude.{ℕ, ◌&&◌, true, false, nat_lt, length, List, [], Option, Some, None, is_some, option_map}
+use Rattle.std.specs.Prelude.{◌≡◌, ℕ, ◌&&◌, MatchBool, true, false, nat_lt, length, List, [], Option, Some, None, is_some, option_map}
 use Rattle.std.specs.Option.{option_map_or}
 use Rattle.mm_types.specs.Conditions.{◌unless◌, ◌where_so◌, ◌else_by◌}
 use Rattle.mm_types.specs.declared.numbers.AdapterNo.{AdapterNo}
@@ -10,8 +10,10 @@ use Rattle.notice_chain.specs.View.{View}
 use Rattle.notice_chain.specs.Listed.{Listed, adapter, is_chain_full}
 use Rattle.notice_chain.specs.declared.notice.Notice.{Notice}
 use Rattle.adapter_list.specs.Refusals.{attach_refusal}
+use Rattle.models.specs.Model.{Model, reading}
 use Rattle.models.specs.Reading.{Reading, has_uri}
 use Rattle.handshake.specs.Named.{feature_refusal, node_refusal, object_refusal}
+use Rattle.handshake.specs.Plans.{is_memory_refusal}
 use Rattle.handshake.specs.Refusals as planned
 use Rattle.handshake.specs.Tellings as planned_chain
 use Rattle.handshake.specs.declared.change.Change.{Change}
@@ -136,3 +138,7 @@ full_refusal r rs c = AdapterFull where_so is_chain_full r.above (chain r c) rs
 
 abbrev pub refusal : Reading → List Listed → Command View → Option Refused
 refusal r rs c = early_refusal r rs c else_by late_refusal r rs c else_by full_refusal r rs c
+
+-- a refusal of a change that is not refused early: the one that planning finds, or out of memory
+abbrev pub IsPlanRefusal : Model → Change → Refused → Type 0
+IsPlanRefusal s c r = MatchBool (is_memory_refusal r) (Unit {0}) (planned.late_refusal (reading s) c ≡ Some r)

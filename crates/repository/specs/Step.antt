@@ -8,7 +8,7 @@ use Rattle.notice_chain.specs.Listed.{Listed, has_no, tell_chain, told_list}
 use Rattle.notice_chain.specs.Released.{Released, released}
 use Rattle.models.specs.Model.{Model, reading}
 use Rattle.models.specs.Reading.{Reading}
-use Rattle.deletion.specs.Outer.{gone}
+use Rattle.removal.specs.Outer.{gone}
 use Rattle.handshake.specs.Effects as effects
 use Rattle.repository.specs.declared.command.Command.{Command}
 use Rattle.repository.specs.declared.command.Command.TheVariants as command

@@ -1,56 +1,45 @@
 //! The adapters that leave with what a change destroys.
 ghost use Rattle.std.specs.Prelude.{◌≡◌, ◌+◌, ◌^◌, ◌<◌, ◌≤◌, ◌++◌, Bool, true, None, count_by, length, map, option_map, vec_capacity, vec_len, IfOk, IfSome, MatchOption};
-ghost use Rattle.handshake.specs.Laws.{goes_with};
-ghost use Rattle.handshake.specs.Refusals.{early_refusal};
 ghost use Rattle.mm_types.specs.declared.numbers.Node.{Node};
 ghost use Rattle.adapter_list.specs.Attached.{views_of};
 ghost use Rattle.adapter_list.specs.Rounds.{RoundFits};
 ghost use Rattle.notice_chain.specs.Released.{released as released_of};
-ghost use Rattle.deletion.specs.Outer as outer;
-ghost use Rattle.models.specs.Model.{reading};
-ghost use Rattle.models.specs.Reading.{is_live};
+ghost use Rattle.removal.specs.Ranks.{is_in};
 ghost use Rattle.repository.specs.Leaving.{HasRoom, LeaversAre, leavers};
 
 use adapter_list::{AdapterList, Round};
 use adapters::Adapter;
-use deletion::is_gone;
-use handshake::Change;
-use links::LinkStore;
-use mm_types::{AdapterNo, ObjectNo};
-use models::ModelRef;
+use mm_types::AdapterNo;
 use notice_chain::Notice;
+use removal::Removal;
 use std::alloc::{AllocError, Global};
 
-/// Which adapters leave with what a change destroys, by their places in attach order; `None` where it destroys nothing.
-pub(crate) fn places_of<L: LinkStore, A: Adapter>(
+/// Which adapters leave with what goes, by their places in attach order; `None` where nothing goes.
+pub(crate) fn places_of<A: Adapter>(
     alloc: Global,
-    model: &ModelRef<L>,
     adapters: &AdapterList<A>,
-    change: &Change,
+    removal: &Option<Removal>,
 ) -> Result<Option<Vec<bool>>, AllocError>
-    requires asked { early_refusal (reading model.now) change.now ≡ None }
-    ensures { IfOk result (λ q. LeaversAre (goes_with (reading model.now) change.now) adapters.now.0 (option_map (λ bs. bs.items) q)) }
+    ensures { IfOk result (λ q. option_map (λ bs. bs.items) q ≡ option_map (λ x. map (λ r. is_in x.numbers r.target) adapters.now.0) removal.now) }
 {
-    match change {
-        Change::Delete(object) => Ok(Some(places(alloc, model, adapters, *object)?)),
-        _ => Ok(None),
+    match removal {
+        Some(removal) => Ok(Some(places(alloc, adapters, removal)?)),
+        None => Ok(None),
     }
 }
 
 /// Which adapters leave with an object: those whose targets go with it.
-fn places<L: LinkStore, A: Adapter>(
+fn places<A: Adapter>(
     alloc: Global,
-    model: &ModelRef<L>,
     adapters: &AdapterList<A>,
-    object: ObjectNo,
+    removal: &Removal,
 ) -> Result<Vec<bool>, AllocError>
-    requires live { is_live (reading model.now) object ≡ true }
-    ensures { IfOk result (λ bs. bs.items ≡ map (λ r. outer.gone (reading model.now) object r.target) adapters.now.0) }
+    ensures { IfOk result (λ bs. bs.items ≡ map (λ r. is_in removal.now.numbers r.target) adapters.now.0) }
 {
     let mut leaves = Vec::new(alloc);
     for place in 0..adapters.len() {
         if let Some((_, target)) = adapters.at(place) {
-            leaves.push(is_gone(model, object, target))?;
+            leaves.push(removal.has(target))?;
         }
     }
     Ok(leaves)

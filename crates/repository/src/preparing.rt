@@ -1,15 +1,15 @@
 //! What is made ready for a change before anything changes.
-ghost use Rattle.std.specs.Prelude.{◌≡◌, ℕ, List, true, false, None, Err, length, nat_lt, option_map, IfOk, IfErr, IfSome, OnOk};
+ghost use Rattle.std.specs.Prelude.{◌≡◌, ℕ, List, false, None, length, nat_lt, option_map, IfOk, IfErr, IfSome, OnOk};
+ghost use Rattle.std.specs.Option.{option_map_or};
 ghost use Rattle.mm_types.specs.Ends.{value_in};
 ghost use Rattle.mm_values.specs.Room as values_room;
 ghost use Rattle.notice_chain.specs.Listed.{Listed};
 ghost use Rattle.links.specs.Holders.{HasNoCycle, above};
 ghost use Rattle.links.specs.LegalSets.{IsLegalSet, Kinds};
 ghost use Rattle.models.specs.Model.{reading};
-ghost use Rattle.models.specs.Reading.{at_end, is_live};
-ghost use Rattle.containment.specs.Forest.{subtree as subtree_of};
+ghost use Rattle.models.specs.Reading.{at_end};
 ghost use Rattle.handshake.specs.Laws.{goes_with};
-ghost use Rattle.handshake.specs.Plans.{IsPlanOf, Plans};
+ghost use Rattle.handshake.specs.Plans.{IsPlanOf, IsRemovalOf};
 ghost use Rattle.handshake.specs.Refusals.{early_refusal as early_refusal_of};
 ghost use Rattle.adapter_list.specs.Refusals.{IsChainRefusal};
 ghost use Rattle.adapter_list.specs.Rounds.{RoundFits, round_of};
@@ -17,6 +17,7 @@ ghost use Rattle.notice_chain.specs.Listed.{is_chain_full};
 ghost use Rattle.repository.specs.Answers.{answer_of};
 ghost use Rattle.repository.specs.Leaving.{HasRoom, LeaversAre};
 ghost use Rattle.repository.specs.Proper.{IsProper};
+ghost use Rattle.repository.specs.Refusals.{IsPlanRefusal};
 ghost use Rattle.repository.specs.Views.{command_of};
 ghost use Rattle.repository.specs.declared.reply.Answer.TheVariants as answer;
 
@@ -24,12 +25,12 @@ use crate::leaving::{Leaving, places_of, room_for};
 use crate::reply::Answer;
 use adapter_list::{AdapterList, Round};
 use adapters::Adapter;
-use containment::subtree;
-use handshake::{Change, Planned, plan};
+use handshake::{Change, Planned, plan, removal_of};
 use links::LinkStore;
 use mm_types::{End, FeatureNo, Node, ObjectNo, Refused, ResourceNo};
 use mm_values::Values;
 use models::{ModelRef, copied};
+use removal::Removal;
 use std::alloc::{AllocError, Global};
 
 /// What a change answers, who leaves with what it destroys, and its plan.
@@ -53,11 +54,31 @@ pub(crate) fn prepare<L: LinkStore, A: Adapter>(
     ensures answer { IfOk result (λ p. (rs : List Listed) (text : List ℕ) → IsProper (reading model.now) text change → p.answer ≡ answer_of (reading model.now) rs (command_of text change)) }
     ensures places { IfOk result (λ p. LeaversAre (goes_with (reading model.now) change) adapters.now.0 (option_map (λ bs. bs.items) p.places)) }
     ensures planned { IfOk result (λ p. IsPlanOf (nat_lt 0 (length adapters.now.0)) model.now change p.planned) }
-    ensures refused { IfErr result (λ r. Plans (nat_lt 0 (length adapters.now.0)) (Err r) model.now change) }
+    ensures refused { IfErr result (λ r. IsPlanRefusal model.now change r) }
 {
-    let answer = answered(alloc, model, &change)?;
-    let places = places_of(alloc, model, adapters, &change)?;
-    let planned = plan(alloc, model, change, adapters.len() > 0)?;
+    let removal = removal_of(alloc, model, &change)?;
+    prepare_with(alloc, model, adapters, change, &removal)
+}
+
+/// The same, of what goes with what the change destroys.
+fn prepare_with<L: LinkStore, A: Adapter>(
+    alloc: Global,
+    model: &ModelRef<L>,
+    adapters: &AdapterList<A>,
+    change: Change,
+    removal: &Option<Removal>,
+) -> Result<Prepared, Refused>
+    requires asked { early_refusal_of (reading model.now) change ≡ None }
+    requires proper { (text : List ℕ) × IsProper (reading model.now) text change }
+    requires removal { IsRemovalOf (reading model.now) change removal.now }
+    ensures answer { IfOk result (λ p. (rs : List Listed) (text : List ℕ) → IsProper (reading model.now) text change → p.answer ≡ answer_of (reading model.now) rs (command_of text change)) }
+    ensures places { IfOk result (λ p. LeaversAre (goes_with (reading model.now) change) adapters.now.0 (option_map (λ bs. bs.items) p.places)) }
+    ensures planned { IfOk result (λ p. IsPlanOf (nat_lt 0 (length adapters.now.0)) model.now change p.planned) }
+    ensures refused { IfErr result (λ r. IsPlanRefusal model.now change r) }
+{
+    let answer = answered(alloc, model, &change, removal)?;
+    let places = places_of(alloc, adapters, removal)?;
+    let planned = plan(alloc, model, change, removal, adapters.len() > 0)?;
     Ok(Prepared {
         answer,
         places,
@@ -101,8 +122,9 @@ fn answered<L: LinkStore>(
     alloc: Global,
     model: &ModelRef<L>,
     change: &Change,
+    removal: &Option<Removal>,
 ) -> Result<Answer, AllocError>
-    requires asked { early_refusal_of (reading model.now) change.now ≡ None }
+    requires removal { IsRemovalOf (reading model.now) change.now removal.now }
     requires proper { (text : List ℕ) × IsProper (reading model.now) text change.now }
     ensures { IfOk result (λ a. (rs : List Listed) (text : List ℕ) → IsProper (reading model.now) text change.now → a ≡ answer_of (reading model.now) rs (command_of text change.now)) }
 {
@@ -110,7 +132,7 @@ fn answered<L: LinkStore>(
     match change {
         Change::Create(_) => Ok(Answer::Object(ObjectNo(model.next() as u32))),
         Change::NewResource(_) => Ok(Answer::Resource(ResourceNo(model.resources() as u32))),
-        Change::Delete(object) => destroyed_answer(alloc, model, *object),
+        Change::Delete(_) => Ok(destroyed_answer(removal)),
         Change::Resolve { target, .. } => Ok(Answer::Object(target.unwrap_or(ObjectNo(0)))),
         Change::Load(_, doc) => Ok(Answer::Loaded(doc.objects.len() as u64)),
         Change::Set { .. } | Change::Unset { .. } => Ok(Answer::Done),
@@ -139,17 +161,14 @@ fn answered<L: LinkStore>(
     }
 }
 
-// How many objects go with one, as an answer. Errs only when out of memory.
-fn destroyed_answer<L: LinkStore>(
-    alloc: Global,
-    model: &ModelRef<L>,
-    object: ObjectNo,
-) -> Result<Answer, AllocError>
-    requires live { is_live (reading model.now) object ≡ true }
-    ensures { IfOk result (λ a. a ≡ answer.Destroyed (length (subtree_of (reading model.now) object))) }
+// How many objects go, as an answer.
+fn destroyed_answer(removal: &Option<Removal>) -> Answer
+    ensures { result ≡ answer.Destroyed (option_map_or (λ x. length x.objects.items) removal.now 0) }
 {
-    let objects = subtree(alloc, model, object)?;
-    Ok(Answer::Destroyed(objects.len() as u64))
+    match removal {
+        Some(removal) => Answer::Destroyed(removal.objects.len() as u64),
+        None => Answer::Destroyed(0),
+    }
 }
 
 // The value at a place of a list, as an answer. Errs only when out of memory.

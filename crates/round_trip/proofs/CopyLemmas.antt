@@ -20,7 +20,6 @@ use Rattle.models.specs.Legal.{IsLegal}
 use Rattle.models.specs.Model.{Model, reading, values_at}
 use Rattle.models.specs.Reading.{at_end, is_live}
 use Rattle.containment.specs.Forest.{subtree}
-use Rattle.containment.proofs.TreeLemmas.{some-made, subtree-parts}
 use Rattle.fragment_paths.specs.Finding.{roots}
 use Rattle.doc_parts.specs.Parts.{Part, entries, list_of, root_parts, values_of}
 use Rattle.doc_parts.proofs.DataLemmas.{list_of-items_of}
@@ -102,10 +101,7 @@ module _ (s : Model) (legal : IsLegal s) (k : ResourceNo) (uri : List ℕ) (foun
   object-copied o inside = λ i. record { class = unwrap_or ((found.each o inside).class i) (record { 0 = 0 }); contents = contents-copied o inside i }
 
   pub root-inside : (o : ObjectNo) → Contains (roots (reading s) k) o → Contains os o
-  root-inside o there =
-      let live = of-each (λ x. is_live (reading s) x ≡ true) (roots (reading s) k) o (all-passed (is_live (reading s)) (roots (reading s) k) (roots-live s k legal)) there in
-      let whole = subtree-parts s legal o (some-made s o live) in
-      (let at = place-of (roots (reading s) k) o there in in-all (subtree (reading s)) (roots (reading s) k) at.0 o o at.1 (subst (λ xs. Contains xs o) (sym whole) (in-front o _)))
+  root-inside o there = let at = place-of (roots (reading s) k) o there in in-all (subtree (reading s)) (roots (reading s) k) at.0 o o at.1 (in-front o _)
 
   root-copied : (o : ObjectNo) → Contains (roots (reading s) k) o → root_number ps (path_in (reading s) o) ≡ Some (root_copied os o)
   root-copied o there =

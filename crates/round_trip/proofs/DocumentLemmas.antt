@@ -22,7 +22,7 @@ use Rattle.models.specs.Legal.{IsLegal}
 use Rattle.models.specs.Model.{Model, reading, values_at}
 use Rattle.models.specs.Reading.{Reading}
 use Rattle.containment.proofs.PartLemmas.{all-objects, contains-itself, contains-reference, holder-at}
-use Rattle.containment.proofs.TreeLemmas.{some-made, subtree-parts}
+use Rattle.containment.proofs.TreeLemmas.{enough-levels, some-made, subtree-parts}
 use Rattle.containment.specs.Forest.{contents, subtree, tree}
 use Rattle.web_uris.specs.Paths.{new_path}
 use Rattle.fragment_paths.proofs.ObjectLemmas as ends
@@ -67,11 +67,11 @@ module _ (s : Model) (legal : IsLegal s) where
 
   -- with levels enough a tree is the subtree
   tree-whole : (more n : ℕ) (o : ObjectNo) → n ≡ more + length s.values.objects → 0 < length s.values.objects → tree (reading s) n o ≡ subtree (reading s) o
-  tree-whole zero n o is some = let same : n ≡ length s.values.objects = omega (arith, is) in ap (λ (j : ℕ). tree (reading s) j o) same
+  tree-whole zero n o is some = let same : n ≡ length s.values.objects = omega (arith, is) in ap (λ (j : ℕ). tree (reading s) j o) same ∙ enough-levels s legal o some
   tree-whole (suc more) zero o is some = absurd (omega (arith, is))
   tree-whole (suc more) (suc n) o is some =
       ap (λ (below : ObjectNo → List ObjectNo). o ∷ flat_map below (contents (reading s) (node.Object o))) (λ i c. tree-whole more n c (omega (arith, is)) some i)
-      ∙ sym (subtree-parts s legal o some)
+      ∙ sym (subtree-parts s legal o)
 
   module _ (k : ResourceNo) where
     -- a part and all in it are an object and all that is below it
@@ -138,7 +138,7 @@ module _ (s : Model) (legal : IsLegal s) where
         (λ o placed. tree-read n o placed ∙ ap (map (part_of r k)) (tree-whole (depth (document r k)) n o refl (some-made s o placed.live))) roots-placed
 
     objects-placed : AllByRecursion (IsPlaced s) (objects_in (reading s) k)
-    objects-placed = all-flat_map (IsPlaced s) (IsPlaced s) (subtree (reading s)) (roots (reading s) k) (tree-placed (length s.values.objects)) roots-placed
+    objects-placed = all-flat_map (IsPlaced s) (IsPlaced s) (subtree (reading s)) (roots (reading s) k) (tree-placed (suc (length s.values.objects))) roots-placed
 
     -- each object of the resource lives, and has a path
     object-placed : (o : ObjectNo) → Contains (objects_in (reading s) k) o → IsPlaced s o

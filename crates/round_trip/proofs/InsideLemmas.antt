@@ -69,7 +69,7 @@ module _ (s : Model) (legal : IsLegal s) where
   pub written-inside : (k : ResourceNo) (o : ObjectNo) → Contains (objects_in (reading s) k) o → resource_of (reading s).above o ≡ Some k
   written-inside k o c =
       let f = flat_map-from (subtree (reading s)) (roots (reading s) k) o (found-among (objects_in (reading s) k) o c) in
-      tree-inside (length s.values.objects) f.from o k (root-inside k f.from f.among) f.gives
+      tree-inside (suc (length s.values.objects)) f.from o k (root-inside k f.from f.among) f.gives
 
   ---------------------------------------------------------------- up the holders
 
@@ -97,9 +97,7 @@ module _ (s : Model) (legal : IsLegal s) where
   inside-written k o inside =
       let r = reading s in
       let under = each-inside s legal (IsUnderRoot s k) k (root-under k) (λ c e p h is _ up. part-under k c e p h is up) o inside in
-      let low = slice_get_within (roots r k) under.place under.root under.there in
-      let live : is_live r under.root ≡ true = subst (λ (x : ObjectNo). is_live r x ≡ true) (get_or_from_slice_get (roots r k) under.place under.root under.root under.there) (live-at r (roots r k) under.place under.root low (roots-live s k legal)) in
-      in-all (subtree r) (roots r k) under.place under.root o under.there (among-found (subtree r under.root) o (subtree-has s legal under.root (node.Object o) live ∙ under.below))
+      in-all (subtree r) (roots r k) under.place under.root o under.there (among-found (subtree r under.root) o (subtree-has s legal under.root (node.Object o) ∙ under.below))
 
   -- so is what a written object contains
   pub part-written : (k : ResourceNo) (o : ObjectNo) (f : FeatureNo) (i : ℕ) (c : ObjectNo) → Contains (objects_in (reading s) k) o → is_containment s.metamodel f ≡ true

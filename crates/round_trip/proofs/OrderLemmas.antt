@@ -143,7 +143,7 @@ module _ (s : Model) (legal : IsLegal s) (k : ResourceNo) where
   one-root : (x y c : ObjectNo) → Contains (roots (reading s) k) x → Contains (roots (reading s) k) y → list_any (same_object c) (subtree (reading s) x) ≡ true → list_any (same_object c) (subtree (reading s) y) ≡ true → x ≡ y
   one-root x y c a b h q =
       let r = reading s in
-      let same = same_Some _ _ (sym (same-root r.next (place_in r end-of x) x c (root-path x a) h) ∙ same-root r.next (place_in r end-of y) y c (root-path y b) q) in
+      let same = same_Some _ _ (sym (same-root (suc r.next) (place_in r end-of x) x c (root-path x a) h) ∙ same-root (suc r.next) (place_in r end-of y) y c (root-path y b) q) in
       let there = held s legal x end-of (root-held x a) in
       let other = held s legal y end-of (root-held y b) in
       object-value x y (same_Some _ _ (sym there.here ∙ ap (slice_get (values_at s end-of)) same ∙ other.here))

@@ -1,5 +1,5 @@
 //! Fragments, addresses and the texts of resources.
-ghost use Rattle.std.specs.Prelude.{◌≡◌, IfOk};
+ghost use Rattle.std.specs.Prelude.{◌≡◌, IfOk, Some};
 ghost use Rattle.fragment_paths.specs.Fragments.{fragment as fragment_in};
 ghost use Rattle.repository.specs.Run.{Executed, read_outcome};
 ghost use Rattle.repository.specs.State.{reads};
@@ -22,9 +22,17 @@ impl<L: LinkStore, A: Adapter> Repository<L, A> {
     /// left out where the resource has one root.
     ///
     /// Refused, the first that applies: `NoObject` where none lives, `Dangling` where the object is in no resource, `Memory`.
-    #[tactic(auto, using(crate::proofs::DocumentLemmas::fragment_read))]
     pub fn fragment(&self, object: ObjectNo) -> Result<Text, Refused>
         ensures { Executed self.now (Fragment object) (read_outcome answer.Fragment result) self.now }
+    {
+        self.fragment_now(object)
+    }
+
+    // The same, and that what is answered is the fragment.
+    #[tactic(auto, using(crate::proofs::DocumentLemmas::fragment_read))]
+    fn fragment_now(&self, object: ObjectNo) -> Result<Text, Refused>
+        ensures executed { Executed self.now (Fragment object) (read_outcome answer.Fragment result) self.now }
+        ensures found { IfOk result (λ t. fragment_in (reads self.now) object ≡ Some t) }
     {
         let model = self.model();
         if model.class(object).is_none() {
@@ -54,7 +62,7 @@ impl<L: LinkStore, A: Adapter> Repository<L, A> {
     pub(super) fn remembered_fragment(&mut self, object: ObjectNo) -> Result<Text, Refused>
         ensures { Executed self.old (Fragment object) (read_outcome answer.Fragment result) self.new }
     {
-        let fragment = self.fragment(object)?;
+        let fragment = self.fragment_now(object)?;
         if self.paths.get(object).is_none() {
             self.paths.keep(object, fragment.as_str());
         }

@@ -18,13 +18,14 @@ use Rattle.models.specs.Model.{Model, model_of, reading}
 use Rattle.models.specs.Steady.{HasSteadyTexts}
 use Rattle.handshake.specs.Effects.{after}
 use Rattle.handshake.specs.Laws.{goes_with}
-use Rattle.handshake.specs.Plans.{IsPlanOf, Plans}
+use Rattle.handshake.specs.Plans.{IsPlanOf}
 use Rattle.handshake.specs.Refusals.{early_refusal}
 use Rattle.handshake.specs.Tellings.{chain}
 use Rattle.handshake.proofs.ProxyLemmas.{change-keeps-steady}
 use Rattle.repository.specs.Answers.{answer_of}
 use Rattle.repository.specs.Leaving.{leavers}
 use Rattle.repository.specs.Proper.{IsProper}
+use Rattle.repository.specs.Refusals.{IsPlanRefusal}
 use Rattle.repository.specs.Views.{command_of}
 use Rattle.repository.specs.Repository.{KeepsFragments, state}
 use Rattle.repository.specs.State.{IsLegal, State, reads}
@@ -43,7 +44,7 @@ returns-in-Err g c =
     let early : early_refusal (reads s) c.args.change ≡ None = subst (λ (t : State). early_refusal (reads t) c.args.change ≡ None) (sym c.self.view_is) c.requires.asked in
     λ text own.
     let proper : IsProper (reads s) text c.args.change = subst (λ (t : State). IsProper (reads t) text c.args.change) (sym c.self.view_is) own in
-    rw (← c.self.view_is) (planned_err s text c.args.change (nat_lt 0 (length s.adapters)) c.in-Err.refused proper early (subst (λ (m : Model). Plans (nat_lt 0 (length s.adapters)) (Err c.in-Err.refused) m c.args.change) is c.in-Err.ensures.refused))
+    rw (← c.self.view_is) (planned_err s text c.args.change c.in-Err.refused proper early (subst (λ (m : Model). IsPlanRefusal m c.args.change c.in-Err.refused) is c.in-Err.ensures.refused))
 
 pub reserve-requires-clause-no_cycle : goal.reserve-requires-clause-no_cycle
 reserve-requires-clause-no_cycle g c = c.self.invariant.legal.model.links.forest

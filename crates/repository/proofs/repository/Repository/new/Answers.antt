@@ -14,5 +14,5 @@ invariant_of-result g c =
       legal = rw (c.new.ensures, c.new-2.ensures, c.empty.ensures.links) (record { model = empty-legal c.args.meta accepted; few = omega arith; distinct = tt; adapters = search rules });
       steady = rw (c.new.ensures, c.empty.ensures.links) (empty-steady c.args.meta);
       kinds_are = c.empty.ensures.kinds (kinds_of c.args.meta) (kinds-are c.args.meta accepted);
-      paths = rw c.new-4.ensures (none-kept _);
+      paths = rw c.new-3.ensures (none-kept _);
     }
