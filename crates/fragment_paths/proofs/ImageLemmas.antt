@@ -75,7 +75,7 @@ module _ (m : Metamodel) (v w : ValuesState) (a b : Links) (legal : IsLegal (mod
       record {
         inside = resource-part t other (image o) d (image p) over refl ∙ up.inside;
         path = path-part t other (image o) d (image p) over refl ∙ ap (option_map (λ (x : Path). with_step x (step_into (reading t) d (image o)))) up.path
-        ∙ ap (λ (y : Step). option_map (λ (x : Path). with_step x y) (path_of (reading s) p)) step ∙ sym (path-part s legal o e p h is);
+            ∙ ap (λ (y : Step). option_map (λ (x : Path). with_step x y) (path_of (reading s) p)) step ∙ sym (path-part s legal o e p h is);
       }
 
   pub path-image : (o : ObjectNo) → resource_of (above a) o ≡ Some k → IsAtPath o

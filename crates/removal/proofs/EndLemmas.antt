@@ -1,25 +1,14 @@
 -- What stands in the end of a reference of a legal model.
-use Rattle.std.proofs.Common.{◌≡◌, suc, Bool, true, false, ◌&&◌, List, [], ◌∷◌, Option, Some, None, unwrap_or, nat_eq, eqb-true, eq-eqb, if◌then◌else◌, refl, sym, ap, ◌∙◌, inl, inr, arith}
-use Rattle.std.specs.Prelude.{option_and_then}
+use Rattle.std.proofs.Common.{◌≡◌, suc, true, false, ◌&&◌, List, [], ◌∷◌, Some, if◌then◌else◌, ap, ◌∙◌, arith}
 use Rattle.std.specs.List.{IsDistinct, list_any}
-use Rattle.std.specs.Option.{option_map_or}
-use Rattle.std.proofs.lemmas.Bool.{and_parts, false_from_ne_true, false≢true, or_cases, or_left, or_right}
+use Rattle.std.proofs.lemmas.Bool.{false_from_ne_true, false≢true}
 use Rattle.mm_types.specs.Lookups as lookups
-use Rattle.mm_types.specs.Resolved.{Metamodel}
 use Rattle.mm_types.specs.Same.{node_value, same_feature, same_value}
 use Rattle.mm_types.specs.SameValues.{same_value-true}
-use Rattle.mm_types.specs.Shapes.{contents_shape, shape, shape_of}
+use Rattle.mm_types.specs.Shapes.{shape}
 use Rattle.mm_types.specs.declared.end.End.{End}
-use Rattle.mm_types.specs.declared.feature.DataType.{DataType}
-use Rattle.mm_types.specs.declared.feature.DataType.TheVariants.{EString, EInt, ELong, EBoolean, Enum}
-use Rattle.mm_types.specs.declared.feature.Feature.{Feature}
-use Rattle.mm_types.specs.declared.feature.Kind.{Kind}
-use Rattle.mm_types.specs.declared.feature.Kind.TheVariants.{Attribute, Reference}
-use Rattle.mm_types.specs.declared.numbers.ClassNo.{ClassNo}
-use Rattle.mm_types.specs.declared.numbers.FeatureNo.{FeatureNo}
 use Rattle.mm_types.specs.declared.numbers.Node.{Node}
 use Rattle.mm_types.specs.declared.numbers.Node.TheVariants as node
-use Rattle.mm_types.specs.declared.numbers.ObjectNo.{ObjectNo}
 use Rattle.mm_types.specs.declared.value.Value.{Value}
 use Rattle.mm_types.specs.declared.value.Value.TheVariants as value
 use Rattle.links.specs.LegalSets as sets
@@ -28,7 +17,7 @@ use Rattle.links.specs.Links.{end}
 use Rattle.links.specs.Plans.{Has}
 use Rattle.models.specs.Legal.{IsLegal}
 use Rattle.models.specs.Model.{Model, reading}
-use Rattle.models.specs.Reading.{Reading, all_features_of, has_feature, has_resource}
+use Rattle.models.specs.Reading.{all_features_of}
 use Rattle.containment.proofs.MemberLemmas.{own-feature}
 use Rattle.containment.proofs.PartLemmas.{legal-at, legal-reference}
 use Rattle.removal.proofs.ListLemmas.{all-at}

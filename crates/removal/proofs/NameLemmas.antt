@@ -33,7 +33,7 @@ use Rattle.containment.specs.Forest.{subtree}
 use Rattle.removal.specs.Outer.{gone, holds_some, touched_ends}
 use Rattle.removal.proofs.EndLemmas.{object-node, open-end}
 use Rattle.removal.proofs.ListLemmas.{any-all, any-at, any-filter, any-flat_map, any-left, any-map, any-right}
-use Rattle.removal.proofs.OrderLemmas.{has_end-any}
+use Rattle.links.proofs.OrderLemmas.{has_end-any}
 use Rattle.removal.proofs.TieLemmas.{AreTouched, IsTie, all-ties, goes-node, lower-named, names_tie, ties-once, ties-there}
 use Rattle.removal.specs.Laws.{NameTreeLinks, names_of}
 use Rattle.removal.specs.TreeTies.{end_ties, is_named_here, node_ties, outer_ties, references_of, tie, tree_ties}

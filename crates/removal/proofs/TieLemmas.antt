@@ -30,7 +30,7 @@ use Rattle.containment.specs.Forest.{subtree}
 use Rattle.removal.specs.Outer.{gone, holds_some, touched_ends}
 use Rattle.removal.proofs.EndLemmas.{values-distinct}
 use Rattle.removal.proofs.ListLemmas.{all-among, all-at, all-filter, all-flat_map, all-map, all-weaker, distinct-append, distinct-filter, distinct-flat_map, distinct-map}
-use Rattle.removal.proofs.OrderLemmas.{ordered-distinct}
+use Rattle.links.proofs.OrderLemmas.{ordered-distinct}
 use Rattle.removal.specs.Laws.{names_of}
 use Rattle.removal.specs.TreeTies.{end_ties, is_named_here, node_ties, outer_ties, references_of, tie, tree_ties}
 use Rattle.removal.specs.declared.tie.Tie.{Tie}

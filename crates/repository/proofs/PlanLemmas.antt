@@ -142,7 +142,7 @@ early-not-memory r (Load k doc) = node-not-memory r (node.Resource k)
 ---------------------------------------------------------------- what is found later is not plain
 
 pub late-not-plain : (r : Reading) (c : Change) → IsNot is_plain (late_refusal r c)
-late-not-plain r c = late-not is_plain (record { wrong_type = refl; text_length = refl; index = refl; duplicate = refl; bound = refl; recursive = refl; limit = refl; resource_exists = refl; not_empty = refl; not_proxy = refl; unloaded = refl; unresolved = refl; }) r c
+late-not-plain r c = late-not is_plain (record { wrong_type = refl; text_length = refl; index = refl; duplicate = refl; bound = refl; recursive = refl; limit = refl; resource_exists = refl; not_empty = refl; not_proxy = refl; unloaded = refl; unresolved = refl }) r c
 
 full-not-plain : (s : State) (c : Change) → IsNot is_plain (full s c)
 unfolding full

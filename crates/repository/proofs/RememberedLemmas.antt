@@ -1,5 +1,5 @@
 -- What is remembered of fragments stays true where no link that contains is edited.
-use Rattle.std.proofs.Common.{◌≡◌, ◌∙◌, ℕ, Bool, true, false, List, Option, Some, None, refl, sym, ap, subst, inl, inr, eqb-true}
+use Rattle.std.proofs.Common.{◌≡◌, ◌∙◌, ℕ, Bool, true, false, List, Option, Some, None, refl, sym, ap, subst, inl, inr, eqb-true, arith}
 use Rattle.std.specs.Prelude.{◌⊎◌, cond, if◌then◌else◌, is_some}
 use Rattle.std.specs.FinMap as map
 use Rattle.std.specs.Ordering.{eq_by_cmp, nat_cmp}
@@ -29,8 +29,11 @@ use Rattle.fragment_paths.specs.Laws.{HaveSameParts}
 use Rattle.repository.specs.Repository.{KeepsFragments}
 
 -- nothing is kept in the empty map
-pub none-kept : (r : Reading) → KeepsFragments r map.empty
-none-kept r o t h = absurd (none-some t (sym (map.get-empty nat_cmp o.0) ∙ h))
+pub none-at : (X : Type 0) (o : ObjectNo) (t : List ℕ) → map.get {R = nat_cmp} map.empty o.0 ≡ Some t → X
+none-at X o t h = absurd (none-some t (sym (map.get-empty nat_cmp o.0) ∙ h))
+
+none-kept : (r : Reading) → KeepsFragments r map.empty
+none-kept r o t h = none-at _ o t h
 
 -- where a feature contains, the pair does
 some-feature : (f : FeatureNo) (x : Option FeatureNo) → is_feature f x ≡ true → is_some x ≡ true
@@ -72,7 +75,7 @@ kept-more r old new o t may is keeps = elim may [
     added p u h = by (eq_by_cmp nat_cmp p.0 o.0) refl (sym (map.get-insert nat_cmp_total (with_room old o) o.0 t p.0) ∙ h)
       where
         equal : (x y : ℕ) → eq_by_cmp nat_cmp x y ≡ true → x ≡ y
-        equal x y q = grind (nat_tests)
+        equal x y q = grind (arith, nat_tests)
 
         by : (b : Bool) → eq_by_cmp nat_cmp p.0 o.0 ≡ b → cond (eq_by_cmp nat_cmp p.0 o.0) (Some t) (map.get (with_room old o) p.0) ≡ Some u → fragment r p ≡ Some u
         by true q g =

@@ -97,6 +97,19 @@ returns g c =
     (changed_to s t text c.args.change ns c.in-Ok.prepared.answer c.from_vec.result (views_of g.A.Adapter.heard c.from_vec-2.result) proper early plan.allowed heard c.in-Ok-reserve.ensures.counted answered told views
     (λ i. model_of c.self.inside.meta (values i) (made_links i)) adapters)
 
+-- where places are refused, nothing that is seen has changed
+pub invariant_of-self : goal.invariant_of-self
+invariant_of-self g c =
+    let m = c.self.inside.meta in
+    let same : model_of m (values_of c.self.inside.values) (g.L.LinkStore.links c.self.inside.store) ≡ model_of m (values_of c.reserve.new.values) (g.L.LinkStore.links c.reserve.new.store) =
+    λ i. model_of m (sym c.reserve.ensures.values i) (sym c.reserve.ensures.links i) in
+    record {
+      legal = subst IsLegal (λ i. record { model = same i; adapters = sym c.reserve.ensures.adapters i }) c.self.invariant.legal;
+      steady = subst HasSteadyTexts same c.self.invariant.steady;
+      kinds_are = c.reserve.ensures.kinds (kinds_of m) c.self.invariant.kinds_are;
+      paths = subst (λ (x : Model). KeepsFragments (reading x) c.self.inside.paths) same c.self.invariant.paths;
+    }
+
 pub invariant_of-self-2 : goal.invariant_of-self-2
 invariant_of-self-2 g c =
     let s : State = state g.L.LinkStore.links c.self.inside in
@@ -118,6 +131,6 @@ invariant_of-self-2 g c =
       steady = subst HasSteadyTexts (sym made) (change-keeps-steady s.model c.args.change c.self.invariant.steady (proper-steady (reads s) text c.args.change proper));
       kinds_are = c.apply.ensures.kinds (kinds_of m) (c.reserve.ensures.kinds (kinds_of m) c.self.invariant.kinds_are) plan.of_kind;
       paths = subst (KeepsFragments (reading (model_of m w (g.L.LinkStore.links c.apply.new.self)))) (sym c.forget_touched.ensures)
-        (subst (λ (l : Links). KeepsFragments (reading (model_of m w l)) (if touches_containment (kinds_of m) edits then map.empty else c.self.inside.paths)) (sym applied_links)
-        (kept-after m (values_of c.self.inside.values) w (g.L.LinkStore.links c.self.inside.store) edits c.self.invariant.legal.model legal_after plan.fits plan.of_kind c.self.inside.paths c.self.invariant.paths));
+          (subst (λ (l : Links). KeepsFragments (reading (model_of m w l)) (if touches_containment (kinds_of m) edits then map.empty else c.self.inside.paths)) (sym applied_links)
+          (kept-after m (values_of c.self.inside.values) w (g.L.LinkStore.links c.self.inside.store) edits c.self.invariant.legal.model legal_after plan.fits plan.of_kind c.self.inside.paths c.self.invariant.paths));
     }

@@ -3,7 +3,7 @@ use Rattle.std.specs.List.{IsDistinct}
 use Rattle.models.specs.Legal.{kinds_of}
 use Rattle.models.proofs.EmptyLemmas.{empty-legal, empty-steady}
 use Rattle.handshake.proofs.KnownLemmas.{kinds-are}
-use Rattle.repository.proofs.RememberedLemmas.{none-kept}
+use Rattle.repository.proofs.RememberedLemmas.{none-at}
 use Rattle.repository.proofs.repository.Repository.new.Goals as goal
 
 pub invariant_of-result : goal.invariant_of-result
@@ -14,5 +14,5 @@ invariant_of-result g c =
       legal = rw (c.new.ensures, c.new-2.ensures, c.empty.ensures.links) (record { model = empty-legal c.args.meta accepted; few = omega arith; distinct = tt; adapters = search rules });
       steady = rw (c.new.ensures, c.empty.ensures.links) (empty-steady c.args.meta);
       kinds_are = c.empty.ensures.kinds (kinds_of c.args.meta) (kinds-are c.args.meta accepted);
-      paths = rw c.new-3.ensures (none-kept _);
+      paths = rw c.new-3.ensures (λ o t h. none-at _ o t h);
     }
