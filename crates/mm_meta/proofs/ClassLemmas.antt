@@ -1,14 +1,13 @@
 -- The rows of classes: how long they are, and that what they hold is small.
-use Rattle.std.proofs.Common.{◌≡◌, ◌∙◌, ◌+◌, ◌*◌, ◌<◌, ◌≤◌, ◌++◌, ◌^◌, ℕ, zero, suc, true, false, cond, List, [], ◌∷◌, Option, Some, None, ap, arith, get_or, length, refl, subst, sym, nat_eq}
+use Rattle.std.proofs.Common.{◌≡◌, ◌∙◌, ◌+◌, ◌*◌, ◌<◌, ◌≤◌, ◌^◌, ℕ, suc, true, List, [], ◌∷◌, Option, Some, None, ap, arith, get_or, length, refl, subst, sym}
 use Rattle.std.specs.Prelude.{IsTrue}
-use Rattle.std.specs.List.{All, cons_option, filter_map, flat_map, list_all, list_any}
+use Rattle.std.specs.List.{All, cons_option, filter_map, list_all}
 use Rattle.std.specs.Str.{bytes_eq}
 use Rattle.std.proofs.lemmas.Bool.Decides.{nat_tests}
 use Rattle.std.proofs.lemmas.List.{length-map}
-use Rattle.std.proofs.lemmas.List.Elements.{All-append, All-cons, All-map, All-nil, All-push}
+use Rattle.std.proofs.lemmas.List.Elements.{All-cons, All-map, All-nil}
 use Rattle.std.proofs.lemmas.List.Quantifiers.{position-Some}
 use Rattle.std.proofs.lemmas.Option.{slice_get-get_or}
-use Rattle.mm_types.specs.Features.{all_features, listed, with_new}
 use Rattle.mm_types.specs.Graph.{row}
 use Rattle.mm_types.specs.Raw.{RawMetamodel, class_fits, is_within_limits}
 use Rattle.mm_types.specs.Resolved.{class_named, graph_of, own_from, own_of}
@@ -62,27 +61,6 @@ small_supers raw c within inside k d low =
     let few : length raw.classes ≤ 1000 = few_classes raw within in
     let below : get_or (row (graph_of raw.classes) c) k d < length (graph_of raw.classes) = graph_in_range raw.classes c [] (omega arith) k d low in
     omega arith
-
-all_flat : (P : ℕ → Type 0) (f : ℕ → List ℕ) → ((e : ℕ) → All P (f e)) → (es : List ℕ) → All P (flat_map f es)
-all_flat P f h [] = All-nil P
-all_flat P f h (e ∷ es) = All-append P (f e) (flat_map f es) (h e) (all_flat P f h es)
-
-all_with_new : (P : ℕ → Type 0) (seen xs : List ℕ) → All P seen → ((k d : ℕ) → k < length xs → P (get_or xs k d)) → All P (with_new seen xs)
-all_with_new P seen [] h all = h
-all_with_new P seen (x ∷ xs) h all =
-    all_with_new P (cond (list_any (nat_eq x) seen) seen (seen ++ x ∷ [])) xs
-    (elim (list_any (nat_eq x) seen) as (λ b. All P (cond b seen (seen ++ x ∷ []))) [ true ↦ h | false ↦ All-push P seen x h (all 0 0 (omega arith)) ])
-    (λ k d low. all (suc k) d (omega arith))
-
-all_listed : (P : ℕ → Type 0) (g own : List (List ℕ)) → ((d : ℕ) → All P (row own d)) → (depth c : ℕ) → All P (listed g own depth c)
-all_listed P g own h zero c = All-nil P
-all_listed P g own h (suc depth) c =
-    All-append P (flat_map (listed g own depth) (row g c)) (row own c) (all_flat P (listed g own depth) (all_listed P g own h depth) (row g c)) (h c)
-
--- what holds of each class's own features holds of all features of a class
-pub all_of_all_features : (P : ℕ → Type 0) (g own : List (List ℕ)) (c : ℕ) → ((d : ℕ) → All P (row own d)) → All P (all_features g own c)
-unfolding all_features
-all_of_all_features P g own c h = all_with_new P [] (listed g own (length g) c) (All-nil P) (all_listed P g own h (length g) c)
 
 pub long_graph : (cs : List RawClass) (g : List (List ℕ)) → g ≡ graph_of cs → length g ≡ length cs
 long_graph cs g is = ap length is ∙ length-map cs (λ c. filter_map (class_named cs) c.supers)

@@ -1,6 +1,8 @@
 mod ClassLemmas
 mod MetaLemmas
 mod NameLemmas
+mod FeatureNameLemmas
+mod ByNameLemmas
 pub mod OwnerLemmas
 mod ResolverLemmas
 mod TableLemmas

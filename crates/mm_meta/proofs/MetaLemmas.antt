@@ -1,25 +1,21 @@
 -- What a metamodel of a document keeps: its sizes, and its features by name.
-use Rattle.std.proofs.Common.{◌≡◌, ◌∙◌, ◌+◌, ◌*◌, ◌<◌, ◌≤◌, ◌^◌, ℕ, zero, suc, Bool, true, false, cond, List, [], ◌∷◌, Option, Some, None, ap, arith, get_or, length, map, refl, subst, sym}
-use Rattle.std.specs.Prelude.{IsTrue, option_and_then, option_map, position, slice_get}
-use Rattle.std.specs.List.{find, list_all, position_from, range_with_len}
+use Rattle.std.proofs.Common.{◌≡◌, ◌∙◌, ◌+◌, ◌*◌, ◌<◌, ◌≤◌, ◌^◌, ℕ, zero, suc, Bool, true, List, [], ◌∷◌, Some, ap, arith, length, map, refl, subst, sym}
+use Rattle.std.specs.Prelude.{IsTrue, option_and_then, position, slice_get}
+use Rattle.std.specs.List.{list_all, range_with_len}
 use Rattle.std.specs.Str.{bytes_eq}
 use Rattle.std.proofs.lemmas.Bool.Decides.{nat_tests}
-use Rattle.std.proofs.lemmas.Iterator.Adapters.{position_from-zero}
 use Rattle.std.proofs.lemmas.List.{length-append, length-map}
 use Rattle.std.proofs.lemmas.List.Quantifiers.{position-Some}
-use Rattle.mm_types.specs.Lookups.{feature_by_name, feature_name}
 use Rattle.mm_types.specs.Graph.{row}
 use Rattle.mm_types.specs.Raw.{RawMetamodel, class_fits, is_within_limits}
 use Rattle.mm_types.specs.Resolved.{Metamodel, class_no, classes_from, features_from, graph_of, resolved, resolved_feature}
 use Rattle.mm_types.specs.declared.class.Class.{Class}
 use Rattle.mm_types.specs.declared.class.Enumeration.{Enumeration}
 use Rattle.mm_types.specs.declared.numbers.ClassNo.{ClassNo}
-use Rattle.mm_types.specs.declared.numbers.FeatureNo.{FeatureNo}
 use Rattle.mm_types.specs.declared.raw.RawClass.{RawClass}
 use Rattle.mm_types.specs.OfDocument.{IsOfDocument}
 use Rattle.mm_meta.proofs.ClassLemmas.{few_classes as few_raw, long_graph}
-use Rattle.mm_meta.proofs.NameLemmas.{position-map}
-use Rattle.mm_meta.proofs.ResolverLemmas.{few_features as few_own, literal_low, named_at}
+use Rattle.mm_meta.proofs.ResolverLemmas.{few_features as few_own, literal_low}
 
 pub position_low : {X : Type 0} (p : X → Bool) (xs : List X) (i : ℕ) → position p xs ≡ Some i → i < length xs
 position_low p [] i is = cc
@@ -63,45 +59,6 @@ unfolding resolved
 low_literal m d e name i found =
     literal_low d.raw e name i d.fits
     (subst (λ (es : List Enumeration). option_and_then (λ en. position (λ n. bytes_eq n name) en.literals) (slice_get es e) ≡ Some i) (ap (λ (x : Metamodel). x.enums) d.is) found)
-
-find_first : {X : Type 0} (p : X → Bool) (xs : List X) (i : ℕ) (d : X) → i < length xs → p (get_or xs i d) ≡ true → ((k : ℕ) → k < i → p (get_or xs k d) ≡ false) → find p xs ≡ slice_get xs i
-find_first p [] i d low is before = absurd (omega arith)
-find_first p (x ∷ xs) zero d low is before = rw is refl
-find_first p (x ∷ xs) (suc i) d low is before =
-    let not_here : p x ≡ false = before 0 (omega arith) in
-    rw not_here (find_first p xs i d (omega arith) is (λ k less. before (suc k) (omega arith)))
-
-find_none : {X : Type 0} (p : X → Bool) (k : ℕ) (xs : List X) → position_from p k xs ≡ None → find p xs ≡ None
-find_none p k [] is = refl
-find_none p k (x ∷ xs) is =
-    elim (p x) as (λ b. cond b (Some k) (position_from p (k + 1) xs) ≡ None → cond b (Some x) (find p xs) ≡ None) [
-      | true ↦ λ h. cc
-      | false ↦ λ h. find_none p (k + 1) xs h
-    ] is
-
--- the first item that passes is the one at the first position at which one passes
-pub find_at : {X : Type 0} (p : X → Bool) (xs : List X) (o : Option ℕ) → o ≡ position p xs → find p xs ≡ option_and_then (slice_get xs) o
-find_at p xs None is = find_none p 0 xs (sym (position_from-zero p xs) ∙ sym is)
-find_at p [] (Some i) is = cc
-find_at p (x ∷ xs) (Some i) is = let at = position-Some p (x ∷ xs) i x (sym is) in find_first p (x ∷ xs) i x at.0 at.1 at.2
-
--- the feature of a name is the one at its position among the names of all features
-pub by_name : (m : Metamodel) (c : ClassNo) (name : List ℕ) (o : Option ℕ) → o ≡ option_and_then (position (λ n. bytes_eq n name)) (slice_get (map (λ k. map (feature_name m) k.all) m.classes) c.0)
-    → feature_by_name m c name ≡ option_and_then (λ k. option_and_then (slice_get k.all) o) (slice_get m.classes c.0)
-by_name m c name o is = at (slice_get m.classes c.0) (is ∙ named_at (λ k. map (feature_name m) k.all) m.classes c.0 name)
-  where
-    at : (k : Option Class) → o ≡ option_and_then (λ k. position (λ n. bytes_eq n name) (map (feature_name m) k.all)) k
-        → option_and_then (find (λ f. bytes_eq (feature_name m f) name)) (option_map (λ k. k.all) k) ≡ option_and_then (λ k. option_and_then (slice_get k.all) o) k
-    at None is = refl
-    at (Some k) is = find_at (λ f. bytes_eq (feature_name m f) name) k.all o (is ∙ position-map (λ n. bytes_eq n name) (feature_name m) k.all)
-
-pub none_everywhere : (k : Option Class) → option_and_then (λ k. option_and_then (slice_get k.all) None) k ≡ None
-none_everywhere None = refl
-none_everywhere (Some k) = refl
-
-pub read_all : (k : Option Class) (all : List FeatureNo) (i : ℕ) → Some all ≡ option_map (λ k. k.all) k → option_and_then (λ k. option_and_then (slice_get k.all) (Some i)) k ≡ slice_get all i
-read_all None all i is = cc
-read_all (Some k) all i is = let e : all ≡ k.all = cc in ap (λ (xs : List FeatureNo). slice_get xs i) (sym e)
 
 shift_rows : (x : List ℕ) (table : List (List ℕ)) (a n : ℕ) → map (row (x ∷ table)) (range_with_len (a + 1) n) ≡ map (row table) (range_with_len a n)
 shift_rows x table a zero = refl

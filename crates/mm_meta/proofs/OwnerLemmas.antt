@@ -149,7 +149,7 @@ has_declared raw well c f =
     (cases_lt c.0 (length cs))
 
 -- a class has a feature if it conforms to the feature's owner
-has_of_owner : (raw : RawMetamodel) → WellFormed raw → (c : ClassNo) (f : FeatureNo) (x : Feature) → feature (resolved raw) f ≡ Some x
+pub has_of_owner : (raw : RawMetamodel) → WellFormed raw → (c : ClassNo) (f : FeatureNo) (x : Feature) → feature (resolved raw) f ≡ Some x
     → (has_feature (resolved raw) c f ≡ true) ↔ ConformsTo (resolved raw) c x.owner
 unfolding resolved
 has_of_owner raw well c f x is =

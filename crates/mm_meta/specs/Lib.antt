@@ -1,4 +1,5 @@
 pub mod NameTable
+pub mod FeatureNames
 pub mod Resolver
 pub mod Meta
 pub mod Resolution

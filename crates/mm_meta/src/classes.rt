@@ -9,6 +9,7 @@ ghost use Rattle.mm_graph.specs.Order.{InRange};
 use crate::resolver::Resolver;
 use mm_types::{Class, ClassNo, FeatureNo, RawClass, Seq, Text};
 use std::alloc::{AllocError, Global};
+use std::mem;
 
 fn class_numbers(alloc: Global, numbers: &[usize]) -> Result<Seq<ClassNo>, AllocError>
     requires { All (λ n. n < 2 ^ 32) numbers.now }
@@ -25,11 +26,22 @@ fn feature_numbers(alloc: Global, numbers: &[usize]) -> Result<Seq<FeatureNo>, A
     requires { All (λ n. n < 2 ^ 32) numbers.now }
     ensures { IfOk result (λ s. s ≡ map feature_no numbers.now) }
 {
-    let mut found = Seq::new(alloc);
+    let mut found = Vec::with_capacity(alloc, numbers.len())?;
     'numbers: for n in numbers {
         found.push(FeatureNo(*n as u32))?;
     }
-    Ok(found)
+    Ok(Seq::from_vec(found))
+}
+
+/// The features of a row, in a list that holds no more places than features.
+fn features_of(alloc: Global, row: &[u32]) -> Result<Seq<FeatureNo>, AllocError>
+    ensures { IfOk result (λ s. s ≡ map feature_no row.now) }
+{
+    let mut found = Vec::with_capacity(alloc, row.len())?;
+    'row: for n in row {
+        found.push(FeatureNo(*n))?;
+    }
+    Ok(Seq::from_vec(found))
 }
 
 impl<'a> Resolver<'a> {
@@ -65,26 +77,25 @@ impl<'a> Resolver<'a> {
         Ok(rows)
     }
 
-    /// A class with its names resolved, given the supertypes and all features of each.
+    /// A class with its names resolved, given the supertypes of each and all its features.
     fn resolved_class(
         &self,
         alloc: Global,
         c: usize,
         raw: &RawClass,
         graph: &[Seq<usize>],
-        all: &[Seq<usize>],
+        all: &[u32],
     ) -> Result<Class, AllocError>
         requires inside { c < length self.now.classes }
         requires graph { graph.now ≡ graph_of self.now.classes }
-        requires long { length all.now ≡ length self.now.classes }
-        requires all { (c : ℕ) → c < length self.now.classes → row all.now c ≡ all_features (graph_of self.now.classes) (own_of self.now.classes) c }
+        requires all { all.now ≡ all_features (graph_of self.now.classes) (own_of self.now.classes) c }
         ensures { IfOk result (λ k. k ≡ class_resolved self.now.classes c raw.now) }
     {
         let own = self.own();
         let name = raw.name.clone()?;
         let supers = class_numbers(alloc, graph[c].as_slice())?;
         let own = feature_numbers(alloc, own[c].as_slice())?;
-        let all = feature_numbers(alloc, all[c].as_slice())?;
+        let all = features_of(alloc, all)?;
         Ok(Class {
             name,
             is_abstract: raw.is_abstract,
@@ -94,22 +105,24 @@ impl<'a> Resolver<'a> {
         })
     }
 
-    /// The classes with their names resolved, given their supertypes and all features of each.
+    /// The classes with their names resolved, given their supertypes and all features of each. The rows are given back one by one as
+    /// their classes are made, so that they and the classes take no more memory together than one of them.
     pub fn resolved_classes(
         &self,
         alloc: Global,
         graph: &[Seq<usize>],
-        all: &[Seq<usize>],
+        mut all: Vec<Seq<u32>>,
     ) -> Result<Seq<Class>, AllocError>
         requires graph { graph.now ≡ graph_of self.now.classes }
-        requires long { length all.now ≡ length self.now.classes }
-        requires all { (c : ℕ) → c < length self.now.classes → row all.now c ≡ all_features (graph_of self.now.classes) (own_of self.now.classes) c }
+        requires long { length all.items ≡ length self.now.classes }
+        requires all { (c : ℕ) → c < length self.now.classes → row all.items c ≡ all_features (graph_of self.now.classes) (own_of self.now.classes) c }
         ensures { IfOk result (λ s. s ≡ classes_from self.now.classes 0 self.now.classes) }
     {
         let raw = self.classes();
         let mut classes = Seq::new(alloc);
         'classes: for (c, class) in raw.iter().enumerate() {
-            classes.push(self.resolved_class(alloc, c, class, graph, all)?)?;
+            let row = mem::replace(&mut all[c], Seq::new(alloc));
+            classes.push(self.resolved_class(alloc, c, class, graph, row.as_slice())?)?;
         }
         Ok(classes)
     }

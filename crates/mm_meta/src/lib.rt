@@ -2,6 +2,7 @@
 #![tactic(auto)]
 
 mod classes;
+mod feature_names;
 mod features;
 pub mod laws;
 mod literals;
@@ -9,6 +10,7 @@ mod meta;
 mod name_table;
 mod resolution;
 mod resolver;
+mod rows;
 mod shapes;
 mod tables;
 

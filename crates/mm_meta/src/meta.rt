@@ -1,17 +1,22 @@
 //! A well-formed metamodel, and its look-ups.
-ghost use Rattle.std.specs.Prelude.{◌≡◌, ◌∷◌, [], IfOk};
+ghost use Rattle.std.specs.Prelude.{◌≡◌, ◌∷◌, ◌<◌, [], IfOk, IfSome, length};
 ghost use Rattle.std.specs.Option.{option_copied};
 ghost use Rattle.mm_types.specs.Lookups as m;
-ghost use Rattle.mm_types.specs.Resolved.{resolved};
+ghost use Rattle.mm_types.specs.Resolved.{feature_no, resolved};
 ghost use Rattle.mm_types.specs.Shapes as shapes;
 ghost use Rattle.mm_types.specs.WellFormed.{WellFormed};
+ghost use Rattle.mm_meta.specs.FeatureNames.{AreRows, ComesTo, IsRow};
 
+use crate::feature_names::FeatureNames;
 use crate::name_table::{NameTable, position_at};
 use crate::resolution::Resolution;
-use crate::tables::{feature_tables, literal_tables};
+use crate::tables::literal_tables;
 use mm_types::{Class, ClassNo, Enumeration, Feature, FeatureNo, Kind, RawMeta, Seq, Value};
 use std::alloc::{AllocError, Global};
 use std::marker::Model;
+
+/// How many features of one name a look-up goes through at most. What classes have under the names of more is kept.
+const FEW: usize = 8;
 
 /// A metamodel with its names resolved into numbers: always well-formed and within the limits. Classes
 /// are numbered in document order, features in class order.
@@ -26,8 +31,10 @@ pub struct Meta {
     conformance: Seq<Seq<bool>>,
     class_table: NameTable,
     literal_tables: Vec<NameTable>,
-    /// Of each class, the names of all its features.
-    feature_tables: Vec<NameTable>,
+    /// The names of all features, and for each the features that have it.
+    names: FeatureNames,
+    /// At the first feature of each name that many features have: what each class has under the name. Else no row, or an empty one.
+    common: Vec<Seq<Option<FeatureNo>>>,
     /// The default of a reference.
     null: Value,
     /// All features of a resource.
@@ -63,19 +70,22 @@ impl Meta {
         let (enums, _classes) = raw.into_parts();
         let class_table = NameTable::of(alloc, classes.as_slice())?;
         let literal_tables = literal_tables(alloc, enums.as_slice())?;
-        let feature_tables = feature_tables(alloc, classes.as_slice(), features.as_slice())?;
+        let names = FeatureNames::of(alloc, features.as_slice())?;
         let contents = FeatureNo(features.len() as u32);
-        Ok(Meta {
+        let mut meta = Meta {
             enums,
             classes,
             features,
             conformance,
             class_table,
             literal_tables,
-            feature_tables,
+            names,
+            common: Vec::new(alloc),
             null: Value::Null,
             contents: [contents],
-        })
+        };
+        meta.keep_common(alloc)?;
+        Ok(meta)
     }
 
     /// What holds of every metamodel, for proofs that know it by its view: it is that of a well-formed document.
@@ -104,8 +114,97 @@ impl Meta {
     pub fn feature_by_name(&self, class: ClassNo, name: &str) -> Option<FeatureNo>
         ensures { result ≡ m.feature_by_name self.now class name.now }
     {
-        let position = position_at(self.feature_tables.as_slice(), class.0 as usize, name)?;
-        self.features(class)?.get(position).copied()
+        let first = self.names.first(name)?;
+        let feature = FeatureNo(first as u32);
+        if self.has_feature(class, feature) {
+            return Some(feature);
+        }
+        match self.kept(class, first) {
+            Some(found) => found,
+            None => self.search(class, name, self.names.next()[first]),
+        }
+    }
+
+    /// What is kept of a class and the name of a feature, the first of its name.
+    fn kept(&self, class: ClassNo, first: usize) -> Option<Option<FeatureNo>>
+        ensures { IfSome result (λ found. found ≡ m.feature_by_name self.now class (m.feature_name self.now (feature_no first))) }
+    {
+        let row = self.common.get(first)?;
+        row.as_slice().get(class.0 as usize).copied()
+    }
+
+    /// The feature of a name that a class has, from the feature of a number on, by looking at each feature of the name.
+    fn search(&self, class: ClassNo, _name: &str, from: usize) -> Option<FeatureNo>
+        requires { ComesTo self.now class _name.now from }
+        ensures { result ≡ m.feature_by_name self.now class _name.now }
+    {
+        let next = self.names.next();
+        let mut at = from;
+        'same: while at < next.len() {
+            let feature = FeatureNo(at as u32);
+            if self.has_feature(class, feature) {
+                return Some(feature);
+            }
+            at = next[at];
+        }
+        None
+    }
+
+    /// Whether a feature is the first of its name, and more than a few have the name.
+    fn begins_common(&self, feature: usize) -> bool
+        requires { feature < length self.now.features }
+    {
+        if self
+            .names
+            .first(self.feature_name(FeatureNo(feature as u32)))
+            != Some(feature)
+        {
+            return false;
+        }
+        let next = self.names.next();
+        let mut at = feature;
+        for _ in 0..FEW {
+            match next.get(at) {
+                Some(after) => at = *after,
+                None => return false,
+            }
+        }
+        at < next.len()
+    }
+
+    /// What each class has under the name of a feature, where it is the first of many that have the name. Else nothing.
+    fn row(&self, alloc: Global, feature: usize) -> Result<Seq<Option<FeatureNo>>, AllocError>
+        requires { feature < length self.now.features }
+        ensures { IfOk result (IsRow self.now (m.feature_name self.now (feature_no feature))) }
+    {
+        if !self.begins_common(feature) {
+            return Ok(Seq::new(alloc));
+        }
+        let mut row = Vec::with_capacity(alloc, self.classes.len())?;
+        let name = self.feature_name(FeatureNo(feature as u32));
+        'classes: for c in 0..self.classes.len() {
+            row.push(self.feature_by_name(ClassNo(c as u32), name))?;
+        }
+        Ok(Seq::from_vec(row))
+    }
+
+    fn rows(&self, alloc: Global) -> Result<Vec<Seq<Option<FeatureNo>>>, AllocError>
+        ensures { IfOk result (λ v. AreRows self.now v.items) }
+    {
+        let mut rows = Vec::with_capacity(alloc, self.features.len())?;
+        'features: for f in 0..self.features.len() {
+            rows.push(self.row(alloc, f)?)?;
+        }
+        Ok(rows)
+    }
+
+    /// Keeps what each class has under the names that many features have, so that no look-up goes through them all.
+    fn keep_common(&mut self, alloc: Global) -> Result<(), AllocError>
+        ensures { self.new ≡ self.old }
+    {
+        let rows = self.rows(alloc)?;
+        self.common = rows;
+        Ok(())
     }
 
     /// The feature of a number. `contents()` has none.

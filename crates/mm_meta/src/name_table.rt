@@ -4,7 +4,7 @@ ghost use Rattle.std.specs.Str.{bytes_eq};
 ghost use Rattle.mm_meta.specs.NameTable.{AreTablesOf, IsTableOf, position_in};
 
 use indexmap::IndexMap;
-use mm_types::{Class, Enumeration, RawClass, RawFeature, Text};
+use mm_types::{Class, Enumeration, Feature, RawClass, RawFeature, Text};
 use std::alloc::{AllocError, Global};
 
 /// What has a name.
@@ -47,11 +47,11 @@ impl Named for Class {
     }
 }
 
-impl Named for &str {
-    ghost name = { λ s. s.now };
+impl Named for Feature {
+    ghost name = { λ f. f.name };
 
     fn name(&self) -> &str {
-        *self
+        self.name.as_str()
     }
 }
 

@@ -5,7 +5,8 @@ ghost use Rattle.mm_meta.specs.Resolution.{AreFeaturesOf};
 ghost use Rattle.mm_types.specs.WellFormed.{WellFormed};
 
 use crate::resolver::Resolver;
-use mm_graph::{conform_table, features_table, order_of};
+use crate::rows::features_table;
+use mm_graph::{conform_table, order_of};
 use mm_types::{Class, Feature, Seq};
 use std::alloc::{AllocError, Global};
 
@@ -52,7 +53,7 @@ fn classes_of(
     ensures { IfOk result (λ cs. cs ≡ classes_from resolver.now.classes 0 resolver.now.classes) }
 {
     let all = all_features(alloc, resolver, graph)?;
-    resolver.resolved_classes(alloc, graph, all.as_slice())
+    resolver.resolved_classes(alloc, graph, all)
 }
 
 /// All features of each class of a well-formed metamodel.
@@ -60,7 +61,7 @@ fn all_features(
     alloc: Global,
     resolver: &Resolver<'_>,
     graph: &[Seq<usize>],
-) -> Result<Vec<Seq<usize>>, AllocError>
+) -> Result<Vec<Seq<u32>>, AllocError>
     requires well_formed { WellFormed resolver.now }
     requires graph { graph.now ≡ graph_of resolver.now.classes }
     ensures len { IfOk result (λ t. length t.items ≡ length resolver.now.classes) }

@@ -3,11 +3,10 @@ ghost use Rattle.std.specs.Prelude.{◌≡◌, ◌+◌, ◌<◌, ◌^◌, ◌≤
 ghost use Rattle.std.specs.List.{list_all, range_with_len};
 ghost use Rattle.mm_types.specs.Raw.{class_fits};
 ghost use Rattle.mm_types.specs.Resolved.{own_of};
-ghost use Rattle.mm_types.specs.Lookups.{name_in};
-ghost use Rattle.mm_meta.specs.NameTable.{AreTablesOf, IsTableOf};
+ghost use Rattle.mm_meta.specs.NameTable.{AreTablesOf};
 
 use crate::name_table::NameTable;
-use mm_types::{Class, Enumeration, Feature, FeatureNo, RawClass, Seq};
+use mm_types::{Enumeration, RawClass, Seq};
 use std::alloc::{AllocError, Global};
 
 /// A table for each class of the features that it declares.
@@ -58,54 +57,4 @@ pub fn own_numbers(alloc: Global, classes: &[RawClass]) -> Result<Vec<Seq<usize>
         next += count;
     }
     Ok(rows)
-}
-
-/// The names of some features, given all of them.
-fn names_of<'a>(
-    alloc: Global,
-    features: &'a [Feature],
-    numbers: &[FeatureNo],
-) -> Result<Vec<&'a str>, AllocError>
-    ensures { IfOk result (λ v. map (λ n. n.now) v.items ≡ map (name_in features.now) numbers.now) }
-{
-    let mut names: Vec<&'a str> = Vec::new(alloc);
-    'numbers: for number in numbers {
-        names.push(name_at(features, *number))?;
-    }
-    Ok(names)
-}
-
-fn name_at(features: &[Feature], number: FeatureNo) -> &str
-    ensures { result.now ≡ name_in features.now number }
-{
-    match features.get(number.0 as usize) {
-        Some(feature) => feature.name.as_str(),
-        None => "",
-    }
-}
-
-fn feature_table(
-    alloc: Global,
-    features: &[Feature],
-    numbers: &[FeatureNo],
-) -> Result<NameTable, AllocError>
-    ensures { IfOk result (λ t. IsTableOf t (map (name_in features.now) numbers.now)) }
-{
-    let names = names_of(alloc, features, numbers)?;
-    NameTable::of(alloc, names.as_slice())
-}
-
-/// A table for each class of all its features.
-pub fn feature_tables(
-    alloc: Global,
-    classes: &[Class],
-    features: &[Feature],
-) -> Result<Vec<NameTable>, AllocError>
-    ensures { IfOk result (λ v. AreTablesOf v.items (map (λ c. map (name_in features.now) c.all) classes.now)) }
-{
-    let mut tables = Vec::new(alloc);
-    'classes: for class in classes {
-        tables.push(feature_table(alloc, features, class.all.as_slice())?)?;
-    }
-    Ok(tables)
 }

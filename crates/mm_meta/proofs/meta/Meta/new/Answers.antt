@@ -6,8 +6,8 @@ use Rattle.mm_graph.specs.ConformTable.{IsConformTable}
 use Rattle.mm_meta.proofs.MetaLemmas.{few_features, resolved_is, supertypes_resolved}
 use Rattle.mm_meta.proofs.meta.Meta.new.Goals as goal
 
-pub invariant_of-result : goal.invariant_of-result
-invariant_of-result c =
+pub invariant_of-meta : goal.invariant_of-meta
+invariant_of-meta c =
     let parts = c.requires.resolution in
     record {
       of_document = record {
@@ -21,7 +21,8 @@ invariant_of-result c =
           (sym (ap (map (λ (k : Class). map (λ (s : ClassNo). s.0) k.supers)) parts.classes ∙ supertypes_resolved c.args.raw.classes)) parts.conformance;
       finds_classes = rw c.as_slice.ensures at c.in_ok-class_table.ensures;
       finds_literals = rw c.as_slice-2.ensures at c.in_ok-literal_tables.ensures;
-      finds_features = rw (c.as_slice-3.ensures, c.as_slice-4.ensures) at c.in_ok-feature_tables.ensures;
+      finds_features = rw c.as_slice-3.ensures at c.in_ok-names.ensures;
+      finds_common = λ f low. absurd (omega arith);
       null = refl;
       contents = ap (λ n. feature_no n ∷ []) c.len.ensures;
     }
@@ -34,4 +35,4 @@ overflow_cast-contents c =
     omega (arith, few, same)
 
 pub returns : goal.returns
-returns c = resolved_is c.args.raw _ c.into_parts-enums.ensures.enums c.requires.resolution.classes c.requires.resolution.features
+returns c = c.keep_common.ensures ∙ resolved_is c.args.raw _ c.into_parts-enums.ensures.enums c.requires.resolution.classes c.requires.resolution.features

@@ -1,9 +1,9 @@
-use Rattle.std.proofs.Common.{◌≡◌, ◌∙◌, ◌<◌, ap, arith, length, map, refl, subst, sym}
+use Rattle.std.proofs.Common.{◌≡◌, ◌∙◌, ◌<◌, ap, arith, length, map, subst, sym}
 use Rattle.std.specs.List.{All}
 use Rattle.mm_types.specs.Features.{all_features}
 use Rattle.mm_types.specs.Graph.{row}
 use Rattle.mm_types.specs.Resolved.{class_no, feature_no, graph_of, own_of}
-use Rattle.mm_meta.proofs.ClassLemmas.{IsSmall, all_of_all_features, length-own_from, long_graph, small_own, small_supers}
+use Rattle.mm_meta.proofs.ClassLemmas.{IsSmall, length-own_from, long_graph, small_own, small_supers}
 use Rattle.mm_meta.proofs.ResolverLemmas.{row_read}
 use Rattle.mm_meta.proofs.resolver.Resolver.resolved_class.Goals as goal
 
@@ -26,14 +26,6 @@ feature_numbers-requires c =
     row_read (own_of raw.classes) c.own-own.result.now c.args.c c.index-own-c.result c.own-own.ensures.value low c.index-own-c.is ∙ sym c.as_slice-2.ensures in
     subst (All IsSmall) row_is (small_own raw c.args.c c.own-own.ensures.fits)
 
-pub feature_numbers-requires-2 : goal.feature_numbers-requires-2
-feature_numbers-requires-2 c =
-    let raw = c.args.self.now in
-    let low : c.args.c < length c.args.all.now = omega (arith, c.requires.long) in
-    let row_is : all_features (graph_of raw.classes) (own_of raw.classes) c.args.c ≡ c.as_slice-3.result.now =
-    sym (c.requires.all c.args.c c.requires.inside) ∙ (row_read c.args.all.now c.args.all.now c.args.c c.index-all-c.result refl low c.index-all-c.is ∙ sym c.as_slice-3.ensures) in
-    subst (All IsSmall) row_is (all_of_all_features IsSmall (graph_of raw.classes) (own_of raw.classes) c.args.c (λ d. small_own raw d c.own-own.ensures.fits))
-
 pub returns : goal.returns
 returns c =
     let raw = c.args.self.now in
@@ -43,10 +35,7 @@ returns c =
     let low_own : c.args.c < length c.own-own.result.now = omega (arith, ap length c.own-own.ensures.value, length-own_from 0 raw.classes) in
     let own_is : row (own_of raw.classes) c.args.c ≡ c.as_slice-2.result.now =
     row_read (own_of raw.classes) c.own-own.result.now c.args.c c.index-own-c.result c.own-own.ensures.value low_own c.index-own-c.is ∙ sym c.as_slice-2.ensures in
-    let low_all : c.args.c < length c.args.all.now = omega (arith, c.requires.long) in
-    let all_is : all_features (graph_of raw.classes) (own_of raw.classes) c.args.c ≡ c.as_slice-3.result.now =
-    sym (c.requires.all c.args.c c.requires.inside) ∙ (row_read c.args.all.now c.args.all.now c.args.c c.index-all-c.result refl low_all c.index-all-c.is ∙ sym c.as_slice-3.ensures) in
     let supers : c.in_ok-supers.supers ≡ map class_no (row (graph_of raw.classes) c.args.c) = c.in_ok-supers.ensures ∙ ap (map class_no) (sym supers_is) in
     let own : c.in_ok-own.own ≡ map feature_no (row (own_of raw.classes) c.args.c) = c.in_ok-own.ensures ∙ ap (map feature_no) (sym own_is) in
-    let all : c.in_ok-all.all ≡ map feature_no (all_features (graph_of raw.classes) (own_of raw.classes) c.args.c) = c.in_ok-all.ensures ∙ ap (map feature_no) (sym all_is) in
+    let all : c.in_ok-all.all ≡ map feature_no (all_features (graph_of raw.classes) (own_of raw.classes) c.args.c) = c.in_ok-all.ensures ∙ ap (map feature_no) c.requires.all in
     λ i. record { name = c.in_ok-name.ensures.cases i; is_abstract = c.args.raw.now.is_abstract; supers = supers i; own = own i; all = all i }
