@@ -1,4 +1,5 @@
 pub mod PieceLemmas
 pub mod HoleLemmas
 pub mod LayoutLemmas
+pub mod MoveLemmas
 pub mod PositionLemmas
