@@ -2,6 +2,7 @@
 use Rattle.std.proofs.Common.{◌≡◌, zero, ◌+◌, ◌≤◌, true, false, eqb, List, [], Option, Some, None, if◌then◌else◌, refl, sym, ap, ◌∙◌, subst, arith}
 use Rattle.std.proofs.lemmas.Bool.{eqb-true, eq-eqb, false≢true}
 use Rattle.slot_lists.specs.Places.{Places}
+use Rattle.slot_lists.proofs.MoveLemmas.{remove_nothing}
 use Rattle.mm_types.specs.declared.end.End.{End}
 use Rattle.mm_types.specs.Same.{same_feature}
 use Rattle.mm_types.specs.declared.numbers.FeatureNo.{FeatureNo}
@@ -11,8 +12,7 @@ use Rattle.node_rows.specs.declared.row.Row.{Row}
 use Rattle.node_rows.specs.declared.row.RowEdit.{RowEdit}
 use Rattle.node_rows.specs.declared.row.RowEdit.TheVariants.{Change, Hold, Enter, Leave, ForgetEntries}
 use Rattle.node_rows.specs.Slots.{AreSlotsEdited, pairing_after, pairing_of, places_of, slot_in, taken, unpaired, values_after, values_of}
-use Rattle.node_rows.specs.Rows.{IsRowEdited, IsRowGrown, RowFits}
-use Rattle.node_rows.proofs.ListLemmas.{remove_nothing}
+use Rattle.node_rows.specs.Rows.{IsRowEdited, IsRowGrown, RowFits, entered_after, hold_after, told_after, vals_after}
 use Rattle.node_rows.proofs.SlotLemmas.{nothing_after, nothing_told, same_slot}
 
 module _ (f : FeatureNo) (x : SlotEdit) (old new : List Slot) (h : AreSlotsEdited f x old new) where
@@ -42,45 +42,27 @@ changed f x r s e h is holder entered promised =
       kept = refl;
     })
 
+-- a change that makes nothing of nothing leaves no row where there is none
+unmade : (x : RowEdit) → ((g : FeatureNo) → [] ≡ vals_after x g []) → ((g : FeatureNo) → unpaired ≡ told_after x g unpaired) → None ≡ hold_after x None → [] ≡ entered_after x [] → IsRowEdited x None None
+unmade x vals pairing hold entered = record {
+  vals = vals;
+  pairing = pairing;
+  hold = hold;
+  entered = entered;
+  places = λ g. omega arith;
+  entries = omega arith;
+  kept = refl;
+}
+
 pub unedited_row : (x : RowEdit) (o : Option Row) → o ≡ None → RowFits x o → IsRowEdited x o o
-unedited_row (Change f y) None is fits = record {
-  vals = λ g. elim (eqb f.0 g.0) as (λ b. [] ≡ (if b then values_after y [] else [])) [ true ↦ nothing_after y fits | false ↦ refl ];
-  pairing = λ g. elim (eqb f.0 g.0) as (λ b. unpaired ≡ (if b then pairing_after y unpaired else unpaired)) [ true ↦ nothing_told y fits | false ↦ refl ];
-  hold = refl;
-  entered = refl;
-  places = λ g. omega arith;
-  entries = omega arith;
-  kept = refl;
-}
+unedited_row (Change f y) None is fits =
+    unmade (Change f y) (λ g. elim (eqb f.0 g.0) as (λ b. [] ≡ (if b then values_after y [] else [])) [ true ↦ nothing_after y fits | false ↦ refl ])
+    (λ g. elim (eqb f.0 g.0) as (λ b. unpaired ≡ (if b then pairing_after y unpaired else unpaired)) [ true ↦ nothing_told y fits | false ↦ refl ]) refl refl
 unedited_row (Hold (Some h)) None is fits = absurd (false≢true fits)
-unedited_row (Hold None) None is fits = record {
-  vals = λ g. refl;
-  pairing = λ g. refl;
-  hold = refl;
-  entered = refl;
-  places = λ g. omega arith;
-  entries = omega arith;
-  kept = refl;
-}
+unedited_row (Hold None) None is fits = unmade (Hold None) (λ g. refl) (λ g. refl) refl refl
 unedited_row (Enter d) None is fits = absurd (omega (arith, fits))
-unedited_row (Leave i) None is fits = record {
-  vals = λ g. refl;
-  pairing = λ g. refl;
-  hold = refl;
-  entered = sym (remove_nothing i);
-  places = λ g. omega arith;
-  entries = omega arith;
-  kept = refl;
-}
-unedited_row (ForgetEntries n) None is fits = record {
-  vals = λ g. refl;
-  pairing = λ g. refl;
-  hold = refl;
-  entered = refl;
-  places = λ g. omega arith;
-  entries = omega arith;
-  kept = refl;
-}
+unedited_row (Leave i) None is fits = unmade (Leave i) (λ g. refl) (λ g. refl) refl (sym (remove_nothing i))
+unedited_row (ForgetEntries n) None is fits = unmade (ForgetEntries n) (λ g. refl) (λ g. refl) refl refl
 unedited_row x (Some r) is fits = cc
 
 ---------------------------------------------------------------- growth

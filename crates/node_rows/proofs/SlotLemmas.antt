@@ -6,13 +6,14 @@ use Rattle.std.proofs.lemmas.Bool.Decides.{nat_tests}
 use Rattle.std.proofs.lemmas.Grind.{common_steps}
 use Rattle.std.proofs.lemmas.List.Quantifiers.{position-Some}
 use Rattle.std.proofs.lemmas.List.Sums.{fails_before_first}
+use Rattle.slot_lists.proofs.MoveLemmas.{remove_nothing}
 use Rattle.mm_types.specs.Same.{same_feature}
 use Rattle.mm_types.specs.declared.numbers.FeatureNo.{FeatureNo}
 use Rattle.node_rows.specs.declared.slot.Slot.{Slot}
 use Rattle.node_rows.specs.declared.slot.SlotEdit.{SlotEdit}
 use Rattle.node_rows.specs.declared.slot.SlotEdit.TheVariants.{Insert, Push, Remove, Move, Forget}
 use Rattle.node_rows.specs.Slots.{AreSlotsEdited, AreSlotsGrown, IsFeatureEdited, IsFeatureGrown, IsSlotEdited, pairing_after, places_of, slot_in, slot_places, taken, unpaired, values_after}
-use Rattle.node_rows.proofs.ListLemmas.{remove_nothing, shifted_past}
+use Rattle.node_rows.proofs.ListLemmas.{shifted_past}
 
 abbrev pub is_of : FeatureNo → Slot → Bool
 is_of f s = same_feature s.feature f
