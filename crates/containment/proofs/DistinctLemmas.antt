@@ -44,7 +44,8 @@ all-apart : (x : ObjectNo) (ys : List ObjectNo) → (list_any (same_object x) ys
 all-apart x [] h = tt
 all-apart x (y ∷ ys) h = (not-true (same_object x y) (λ q. h (or_left _ _ q)), all-apart x ys (λ q. h (or_right _ _ q)))
 
-distinct-++ : (xs ys : List ObjectNo) → IsDistinct same_object xs → IsDistinct same_object ys
+-- lists of different objects that share none
+pub distinct-++ : (xs ys : List ObjectNo) → IsDistinct same_object xs → IsDistinct same_object ys
     → ((c : ObjectNo) → list_any (same_object c) xs ≡ true → list_any (same_object c) ys ≡ true → ⊥) → IsDistinct same_object (xs ++ ys)
 unfolding IsDistinct
 distinct-++ [] ys a b apart = b

@@ -67,7 +67,8 @@ fn push_objects<L: LinkStore>(
     Ok(())
 }
 
-fn push_some(object: Option<ObjectNo>, out: &mut Vec<ObjectNo>) -> Result<(), AllocError>
+/// Adds an object, if there is one.
+pub fn push_some(object: Option<ObjectNo>, out: &mut Vec<ObjectNo>) -> Result<(), AllocError>
     ensures { OnOk result (out.new.items ≡ out.old.items ++ option_to_list object) }
 {
     if let Some(object) = object {

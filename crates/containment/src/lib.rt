@@ -8,5 +8,5 @@ pub mod laws;
 mod tree;
 
 pub use above::{holder_resource, is_under, nodes_above, root_of};
-pub use forest::{container, contents};
+pub use forest::{container, contents, push_some};
 pub use tree::{is_within, node_subtree, subtree};
