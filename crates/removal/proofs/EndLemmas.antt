@@ -2,7 +2,6 @@
 use Rattle.std.proofs.Common.{◌≡◌, suc, true, false, ◌&&◌, List, [], ◌∷◌, Some, if◌then◌else◌, ap, ◌∙◌, arith}
 use Rattle.std.specs.List.{IsDistinct, list_any}
 use Rattle.std.proofs.lemmas.Bool.{false_from_ne_true, false≢true}
-use Rattle.mm_types.specs.Lookups as lookups
 use Rattle.mm_types.specs.Same.{node_value, same_feature, same_value}
 use Rattle.mm_types.specs.SameValues.{same_value-true}
 use Rattle.mm_types.specs.Shapes.{shape}

@@ -1,5 +1,5 @@
 -- What an end loses, place by place, and where the object itself stands then.
-use Rattle.std.proofs.Common.{◌≡◌, ℕ, zero, suc, ◌+◌, ◌<◌, ◌≤◌, length, drop, slice_get, slice_index_or, eq-eqb, Bool, true, false, not, ◌&&◌, cond, List, [], ◌∷◌, ◌++◌, filter, Option, Some, option_and_then, option_map, option_to_list, append_assoc, add-one, refl, sym, ap, ◌∙◌, arith}
+use Rattle.std.proofs.Common.{◌≡◌, ℕ, zero, suc, ◌+◌, ◌<◌, ◌≤◌, length, drop, slice_get, slice_index_or, eq-eqb, Bool, true, false, not, ◌&&◌, cond, List, [], ◌∷◌, ◌++◌, filter, Option, Some, option_and_then, option_map, option_to_list, append_assoc, add-one, refl, sym, ap, ◌∙◌, arith, subst}
 use Rattle.std.specs.Option.{option_map_or}
 use Rattle.std.proofs.lemmas.Bool.{false≢true}
 use Rattle.std.proofs.lemmas.List.{append-nil, drop_all, drop_more}
@@ -66,11 +66,11 @@ pub record IsAt (r : Reading) (o : ObjectNo) (e : End) (i : ℕ) (q : Option Obj
   pub read : q ≡ object_of value
   pub told : answer ≡ is_lost r o e value
 
-pub place-told : (r : Reading) (o : ObjectNo) (e : End) (i : ℕ) (q : Option ObjectNo) (numbers : Numbers) (held answer : Bool) → i < length (r.values e)
+pub place-told : (r : Reading) (o : ObjectNo) (e : End) (i : ℕ) (q : Option ObjectNo) (numbers : Numbers) (held answer : Bool) (n : ℕ) → n ≡ length (r.values e) → i < n
     → q ≡ option_and_then object_of (slice_get (r.values e) i) → HasGone r o numbers → held ≡ is_held_by r o e
     → answer ≡ option_map_or (λ x. is_in numbers (node.Object x) && not (held && same_value (value.Object x) (value.Object o))) q false → IsAt r o e i q answer
-place-told r o e i q numbers held answer low found has holds told =
-    let here = some-below (r.values e) i low in
+place-told r o e i q numbers held answer n long low found has holds told =
+    let here = some-below (r.values e) i (subst (λ (k : ℕ). i < k) long low) in
     let read = read-of (r.values e) i here.0 q here.1 found in
     record { value = here.0; at = here.1; read = read; told = lost-is r o e here.0 q numbers held answer has holds read told }
 

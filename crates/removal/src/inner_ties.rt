@@ -1,9 +1,11 @@
 //! The links of nodes that go with an object, told apart by the numbers of what goes.
 ghost use Rattle.std.specs.Prelude.{◌≡◌, ◌++◌, [], true, filter, flat_map, map, OnOk, option_map, option_to_list, if◌then◌else◌};
 ghost use Rattle.mm_types.specs.Shapes.{shape};
+ghost use Rattle.mm_types.specs.declared.numbers.Node.TheVariants as node;
 ghost use Rattle.links.specs.Laws.{goes as goes_with};
 ghost use Rattle.models.specs.Found.{found_value};
 ghost use Rattle.models.specs.Model.{reading};
+ghost use Rattle.models.specs.Reading.{at_end};
 ghost use Rattle.removal.specs.Ranks as ranks;
 ghost use Rattle.removal.specs.TreeTies as t;
 
@@ -12,11 +14,10 @@ use crate::tie::Tie;
 use links::LinkStore;
 use mm_types::{End, FeatureNo, Node, ObjectNo};
 use models::{Found, ModelRef};
-use std::alloc::{AllocError, Global};
+use std::alloc::AllocError;
 
 /// Adds the links of objects, where those whose numbers are in a set go.
 pub(crate) fn push_inner<L: LinkStore>(
-    alloc: Global,
     model: &ModelRef<L>,
     objects: &[ObjectNo],
     numbers: &Numbers,
@@ -25,14 +26,13 @@ pub(crate) fn push_inner<L: LinkStore>(
     ensures { OnOk result (ties.new.items ≡ ties.old.items ++ flat_map (t.node_ties (reading model.now) (ranks.is_in numbers.now)) objects.now) }
 {
     for object in objects {
-        push_node(alloc, model, *object, numbers, ties)?;
+        push_node(model, *object, numbers, ties)?;
     }
     Ok(())
 }
 
 /// Adds the links of one object.
 fn push_node<L: LinkStore>(
-    alloc: Global,
     model: &ModelRef<L>,
     object: ObjectNo,
     numbers: &Numbers,
@@ -40,54 +40,47 @@ fn push_node<L: LinkStore>(
 ) -> Result<(), AllocError>
     ensures { OnOk result (ties.new.items ≡ ties.old.items ++ t.node_ties (reading model.now) (ranks.is_in numbers.now) object) }
 {
-    let node = Node::Object(object);
-    let features = model.all_features(node);
+    let features = model.all_features(Node::Object(object));
     for feature in features {
-        let end = End {
-            node,
-            feature: *feature,
-        };
-        push_reference(alloc, model, end, numbers, ties)?;
+        push_reference(model, object, *feature, numbers, ties)?;
     }
     Ok(())
 }
 
-/// Adds the links of one end, where it is of a reference.
+/// Adds the links of one end of an object, where it is of a reference.
 fn push_reference<L: LinkStore>(
-    alloc: Global,
     model: &ModelRef<L>,
-    end: End,
+    object: ObjectNo,
+    feature: FeatureNo,
     numbers: &Numbers,
     ties: &mut Vec<Tie>,
 ) -> Result<(), AllocError>
-    ensures { OnOk result (ties.new.items ≡ ties.old.items ++ (if (shape model.now.metamodel end.feature).is_reference then t.end_ties (reading model.now) (ranks.is_in numbers.now) end else [])) }
+    ensures { OnOk result (ties.new.items ≡ ties.old.items ++ (if (shape model.now.metamodel feature).is_reference then t.end_ties (reading model.now) (ranks.is_in numbers.now) (at_end (node.Object object) feature) else [])) }
 {
-    if !model.meta().is_reference(end.feature) {
+    if !model.meta().is_reference(feature) {
         return Ok(());
     }
-    push_end(alloc, model, end, numbers, ties)
+    let node = Node::Object(object);
+    push_end(model, End { node, feature }, numbers, ties)
 }
 
 /// Adds the links that the end of a reference names.
 fn push_end<L: LinkStore>(
-    alloc: Global,
     model: &ModelRef<L>,
     end: End,
     numbers: &Numbers,
     ties: &mut Vec<Tie>,
 ) -> Result<(), AllocError>
-    requires reference { (shape model.now.metamodel end.feature).is_reference ≡ true }
     ensures { OnOk result (ties.new.items ≡ ties.old.items ++ t.end_ties (reading model.now) (ranks.is_in numbers.now) end) }
 {
     for index in 0..model.len(end) {
-        push_named(alloc, model, end, model.value_in(end, index), numbers, ties)?;
+        push_named(model, end, model.value_in(end, index), numbers, ties)?;
     }
     Ok(())
 }
 
 /// Adds the link of one value, or the proxy, where its end names it.
 fn push_named<L: LinkStore>(
-    alloc: Global,
     model: &ModelRef<L>,
     end: End,
     found: Option<Found>,
@@ -98,7 +91,7 @@ fn push_named<L: LinkStore>(
 {
     if let Some(found) = found {
         if is_named_here(model, end.feature, &found, numbers) {
-            let value = found.to_value(alloc)?;
+            let value = found.to_value(*ties.allocator())?;
             ties.push(Tie { end, value })?;
         }
     }

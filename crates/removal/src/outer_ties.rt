@@ -43,19 +43,6 @@ fn push_alone<L: LinkStore>(
     if model.meta().opposite(end.feature).is_some() {
         return Ok(());
     }
-    push_gone(model, end, numbers, ties)
-}
-
-/// Adds the links of an end to objects that go.
-fn push_gone<L: LinkStore>(
-    model: &ModelRef<L>,
-    end: End,
-    numbers: &Numbers,
-    ties: &mut Vec<Tie>,
-) -> Result<(), AllocError>
-    requires reference { (shape model.now.metamodel end.feature).is_reference ≡ true }
-    ensures { OnOk result (ties.new.items ≡ ties.old.items ++ map (t.tie end) (filter (goes (ranks.is_in numbers.now)) ((reading model.now).values end))) }
-{
     for index in 0..model.len(end) {
         push_if_gone(end, model.object_in(end, index), numbers, ties)?;
     }

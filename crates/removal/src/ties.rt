@@ -22,7 +22,7 @@ pub fn tree_ties<L: LinkStore>(
     ensures { IfOk result (λ ts. ts.items ≡ t.tree_ties (reading model.now) removal.now.object) }
 {
     let mut ties = Vec::new(alloc);
-    push_inner(alloc, model, &removal.objects, &removal.numbers, &mut ties)?;
+    push_inner(model, &removal.objects, &removal.numbers, &mut ties)?;
     push_outer(model, &removal.ends, &removal.numbers, &mut ties)?;
     Ok(ties)
 }

@@ -29,20 +29,15 @@ loop-index-preserved g c =
     let r = reading c.args.model.now in
     let o = c.args.removal.now.object in
     let e = c.args.end in
-    let i = c.loop-index.index in
-    let k = c.loop-index.kept in
-    let q = c.object_in-found.result in
-    let p = is_lost r o e in
-    let all = place_left p o (r.values e) in
-    let low = subst (λ (n : ℕ). i < n) c.len-index-end.ensures c.loop-index-test.true in
-    let here = place-told r o e i q c.args.removal.now.numbers true c.is_lost.result low c.object_in-found.ensures.object c.requires.removal.numbers (held-by r o e c.requires.held) c.is_lost.ensures in
+    let all = place_left (is_lost r o e) o (r.values e) in
+    let here = place-told r o e _ _ _ _ _ _ c.len-index-end.ensures c.loop-index-test.true c.object_in-found.ensures.object c.requires.removal.numbers (held-by r o e c.requires.held) c.is_lost.ensures in
     elim c.if-not-is_lost.branch [
       | then-not-is_lost w ↦ record {
         few = (let few = c.loop-index.invariant.few in omega (arith, few, w.kept-is));
-        whole = rw w.kept-is (left-kept_step p o (r.values e) i k all here.value here.at (sym here.told ∙ w.if-not-is_lost.true) (same-read o here.value q here.read ∙ sym c.is_found.ensures ∙ c.if-is_found.false) c.loop-index.invariant.whole);
+        whole = rw w.kept-is (left-kept_step (is_lost r o e) o (r.values e) c.loop-index.index c.loop-index.kept all here.value here.at (sym here.told ∙ w.if-not-is_lost.true) (same-read o here.value c.object_in-found.result here.read ∙ sym c.is_found.ensures ∙ c.if-is_found.false) c.loop-index.invariant.whole);
       }
       | else-not-is_lost w ↦ record {
         few = (let few = c.loop-index.invariant.few in omega (arith, few, w.kept-is));
-        whole = rw w.kept-is (left-lost_step p o (r.values e) i k all here.value here.at (sym here.told ∙ w.if-not-is_lost.false) c.loop-index.invariant.whole);
+        whole = rw w.kept-is (left-lost_step (is_lost r o e) o (r.values e) c.loop-index.index c.loop-index.kept all here.value here.at (sym here.told ∙ w.if-not-is_lost.false) c.loop-index.invariant.whole);
       }
     ]

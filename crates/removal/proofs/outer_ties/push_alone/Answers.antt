@@ -5,10 +5,7 @@ use Rattle.models.specs.Model.{reading}
 use Rattle.removal.specs.Ranks.{is_in}
 use Rattle.removal.specs.TreeTies.{tie}
 use Rattle.removal.proofs.PushLemmas.{goes-read, named-end, named-step}
-use Rattle.removal.proofs.outer_ties.push_gone.Goals as goal
-
-pub loop-index-init : goal.loop-index-init
-loop-index-init g c = refl
+use Rattle.removal.proofs.outer_ties.push_alone.Goals as goal
 
 pub loop-index-preserved : goal.loop-index-preserved
 loop-index-preserved g c =
