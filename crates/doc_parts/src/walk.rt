@@ -12,6 +12,13 @@ use mm_types::FeatureNo;
 use serde_json::{Map, Value as JsonValue};
 use std::alloc::{AllocError, Global};
 
+/// Where what is below a part stands: the number of that part, and the level below it.
+#[derive(Clone, Copy)]
+struct Below {
+    part: u32,
+    level: usize,
+}
+
 /// Finds a part that stands at a place, and what is below it, for so many levels.
 #[cycle(walk)]
 pub(crate) fn walk<'v, 'm>(
@@ -28,20 +35,13 @@ pub(crate) fn walk<'v, 'm>(
         return Ok(());
     }
     let part = found.add(place, level, json)?;
-    let Some(below) = level.checked_add(1) else {
+    let Some(level) = level.checked_add(1) else {
         return Err(AllocError);
     };
+    let below = Below { part, level };
     match known(meta, json) {
         Some((class, members)) => match meta.features(class) {
-            Some(features) => walk_features(
-                found,
-                meta,
-                levels - 1,
-                part,
-                below,
-                members,
-                features,
-            ),
+            Some(features) => walk_features(found, meta, levels - 1, below, members, features),
             None => Ok(()),
         },
         None => Ok(()),
@@ -53,15 +53,14 @@ fn walk_features<'v, 'm>(
     found: &mut Found<'v, 'm>,
     meta: &'m Meta,
     levels: usize,
-    part: u32,
-    level: usize,
+    below: Below,
     members: &'v Map<String, JsonValue>,
     features: &[FeatureNo],
 ) -> Result<(), AllocError>
-    ensures { OnOk result (FindsBelow found.old found.new part level (λ path. flat_map (parts_from meta.entry.now levels) (flat_map (parts_at meta.entry.now path (members_view members.entry.now.entries)) features.now))) }
+    ensures { OnOk result (FindsBelow found.old found.new below.part below.level (λ path. flat_map (parts_from meta.entry.now levels) (flat_map (parts_at meta.entry.now path (members_view members.entry.now.entries)) features.now))) }
 {
     'features: for feature in features {
-        walk_feature(found, meta, levels, part, level, members, *feature)?;
+        walk_feature(found, meta, levels, below, members, *feature)?;
     }
     Ok(())
 }
@@ -71,12 +70,11 @@ fn walk_feature<'v, 'm>(
     found: &mut Found<'v, 'm>,
     meta: &'m Meta,
     levels: usize,
-    part: u32,
-    level: usize,
+    below: Below,
     members: &'v Map<String, JsonValue>,
     feature: FeatureNo,
 ) -> Result<(), AllocError>
-    ensures { OnOk result (FindsBelow found.old found.new part level (λ path. flat_map (parts_from meta.entry.now levels) (parts_at meta.entry.now path (members_view members.entry.now.entries) feature))) }
+    ensures { OnOk result (FindsBelow found.old found.new below.part below.level (λ path. flat_map (parts_from meta.entry.now levels) (parts_at meta.entry.now path (members_view members.entry.now.entries) feature))) }
 {
     if !meta.is_containment(feature) {
         return Ok(());
@@ -88,8 +86,7 @@ fn walk_feature<'v, 'm>(
                 found,
                 meta,
                 levels,
-                part,
-                level,
+                below,
                 meta.feature_name(feature),
                 single,
                 values_of(meta, feature, content),
@@ -110,13 +107,12 @@ fn walk_values<'v, 'm>(
     found: &mut Found<'v, 'm>,
     meta: &'m Meta,
     levels: usize,
-    part: u32,
-    level: usize,
+    below: Below,
     name: &'m str,
     is_single: bool,
     values: &'v [JsonValue],
 ) -> Result<(), AllocError>
-    ensures { OnOk result (FindsBelow found.old found.new part level (λ path. flat_map (parts_from meta.entry.now levels) (parts_under path name.entry.now is_single (map view values.entry.now)))) }
+    ensures { OnOk result (FindsBelow found.old found.new below.part below.level (λ path. flat_map (parts_from meta.entry.now levels) (parts_under path name.entry.now is_single (map view values.entry.now)))) }
 {
     'values: for (i, value) in values.iter().enumerate() {
         if i > u32::MAX as usize {
@@ -127,8 +123,12 @@ fn walk_values<'v, 'm>(
             found,
             meta,
             levels,
-            Place::Under { part, name, index },
-            level,
+            Place::Under {
+                part: below.part,
+                name,
+                index,
+            },
+            below.level,
             value,
         )?;
     }

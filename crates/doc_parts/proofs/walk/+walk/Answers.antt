@@ -9,7 +9,7 @@ use Rattle.doc_parts.proofs.walk.+walk.Goals as goal
 pub walk-returns-in-Some-features : goal.walk-returns-in-Some-features
 walk-returns-in-Some-features t c =
     ok_more c.walk_features.result
-    (walked_known c.args.meta.now c.args.levels (c.args.levels - 1) _ _ _ (key_of c.args.place) c.args.level c.in-Some.below (view c.args.json.now) c.in_ok-part.part _ (members_view c.in-Some-known.members.now.entries) _
+    (walked_known c.args.meta.now c.args.levels (c.args.levels - 1) _ _ _ (key_of c.args.place) c.args.level c.in-Some.level (view c.args.json.now) c.in_ok-part.part _ (members_view c.in-Some-known.members.now.entries) _
     (omega (arith, c.if-levels-eq0.false)) c.in_ok-part.ensures (let e = c.in-Some.ensures.1 in omega (arith, e)) c.in-Some-known.ensures c.in-Some-features.ensures)
     c.walk_features.ensures
 
@@ -30,7 +30,7 @@ walk_feature-returns-then-not-is_containment t c =
 pub walk_feature-returns-in-Some : goal.walk_feature-returns-in-Some
 walk_feature-returns-in-Some t c =
     ok_more c.walk_values.result
-    (finds_as c.args.found.now c.walk_values.new.found c.args.part c.args.level _ _
+    (finds_as c.args.found.now c.walk_values.new.found c.args.below.part c.args.below.level _ _
     (λ path. ap (flat_map (parts_from c.args.meta.now c.args.levels))
     (parts_at_some c.args.meta.now (members_view c.args.members.now.entries) c.args.feature (view c.in-Some.content.now) c.feature_name.result.now c.is_single-single.result c.values_of.result.now path
     (sym c.is_containment.ensures ∙ c.if-not-is_containment.false) c.in-Some.ensures c.feature_name.ensures c.is_single-single.ensures c.values_of.ensures)))
@@ -38,16 +38,16 @@ walk_feature-returns-in-Some t c =
 
 pub walk_features-features-preserved : goal.walk_features-features-preserved
 walk_features-features-preserved t c =
-    finds_as c.args.found.now c.walk_feature.new.found c.args.part c.args.level _ _
+    finds_as c.args.found.now c.walk_feature.new.found c.args.below.part c.args.below.level _ _
     (λ path. features_next (parts_from c.args.meta.now c.args.levels) (parts_at c.args.meta.now path (members_view c.args.members.now.entries)) c.args.features.now c.features.feature-index _ c.features-test.true)
-    (finds_then c.args.found.now c.features.found c.walk_feature.new.found c.args.part c.args.level _ _ c.features.invariant c.in_ok-walk_feature.ensures)
+    (finds_then c.args.found.now c.features.found c.walk_feature.new.found c.args.below.part c.args.below.level _ _ c.features.invariant c.in_ok-walk_feature.ensures)
 
 pub walk_values-values-preserved : goal.walk_values-values-preserved
 walk_values-values-preserved t c =
-    finds_as c.args.found.now c.walk.new.found c.args.part c.args.level _ _
+    finds_as c.args.found.now c.walk.new.found c.args.below.part c.args.below.level _ _
     (λ path.
     ap (λ ix. flat_map (parts_from c.args.meta.now c.args.levels) (parts_under path c.args.name.now c.args.is_single (map view (take c.values.i c.args.values.now)))
     ++ parts_from c.args.meta.now c.args.levels (child path c.args.name.now ix (view c.index-values-i.result))) c.index_at-index.ensures
     ∙ values_next (parts_from c.args.meta.now c.args.levels) path c.args.name.now c.args.is_single c.args.values.now c.values.i c.index-values-i.result c.values-test.true c.index-values-i.is)
-    (finds_then c.args.found.now c.values.found c.walk.new.found c.args.part c.args.level _ _ c.values.invariant
-    (walks_below c.args.meta.now c.args.levels c.values.found c.walk.new.found c.args.part c.args.level c.args.name.now c.index_at-index.result (view c.index-values-i.result) c.in_ok-walk.ensures))
+    (finds_then c.args.found.now c.values.found c.walk.new.found c.args.below.part c.args.below.level _ _ c.values.invariant
+    (walks_below c.args.meta.now c.args.levels c.values.found c.walk.new.found c.args.below.part c.args.below.level c.args.name.now c.index_at-index.result (view c.index-values-i.result) c.in_ok-walk.ensures))
