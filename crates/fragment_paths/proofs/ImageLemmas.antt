@@ -1,12 +1,11 @@
 -- Addresses follow from what contains what: where the parts of a resource's objects stand in another resource at the same places, under
 -- other numbers, those objects have the same paths there, and with one URI the same addresses.
-use Rattle.std.proofs.Common.{◌≡◌, ◌∙◌, ℕ, true, List, [], Option, Some, None, length, nat_eq, option_map, slice_get, refl, sym, ap}
+use Rattle.std.proofs.Common.{◌≡◌, ◌∙◌, ℕ, true, List, [], Some, None, length, nat_eq, option_map, slice_get, refl, sym, ap}
 use Rattle.std.specs.Prelude.{option_and_then, if◌then◌else◌}
 use Rattle.mm_types.specs.Lookups as lookups
 use Rattle.mm_types.specs.Resolved.{Metamodel}
 use Rattle.mm_types.specs.Shapes.{is_containment, shape}
 use Rattle.mm_types.specs.declared.end.End.{End}
-use Rattle.mm_types.specs.declared.numbers.FeatureNo.{FeatureNo}
 use Rattle.mm_types.specs.declared.numbers.Node.TheVariants as node
 use Rattle.mm_types.specs.declared.numbers.ObjectNo.{ObjectNo}
 use Rattle.mm_types.specs.declared.numbers.ResourceNo.{ResourceNo}

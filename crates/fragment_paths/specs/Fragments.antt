@@ -1,6 +1,7 @@
 -- The fragment of an object in its resource (EMF: Resource.getURIFragment), and its address (EcoreUtil.getURI).
 use Rattle.std.specs.Prelude.{ℕ, Bool, false, List, [], ◌∷◌, length, nat_eq, slice_get, Option, Some, None, option_and_then, option_map, unwrap_or, if◌then◌else◌}
 use Rattle.std.specs.Option.{option_map_or}
+use Rattle.mm_types.specs.Resolved.{Metamodel}
 use Rattle.mm_types.specs.Lookups as lookups
 use Rattle.mm_types.specs.declared.numbers.ObjectNo.{ObjectNo}
 use Rattle.mm_types.specs.declared.numbers.ResourceNo.{ResourceNo}
@@ -15,9 +16,13 @@ use Rattle.web_uris.specs.Paths.{new_path, new_step, path_text, with_step}
 use Rattle.web_uris.specs.declared.path.Path.{Path}
 use Rattle.web_uris.specs.declared.path.Step.{Step}
 
--- the end of a resource that holds its roots
+-- the end of a resource that holds its roots, in any model of a metamodel
+abbrev pub contents_end : Metamodel → ResourceNo → End
+contents_end m k = at_end (node.Resource k) (lookups.contents m)
+
+-- and in this one
 abbrev pub roots_end : Reading → ResourceNo → End
-roots_end r k = at_end (node.Resource k) (lookups.contents r.metamodel)
+roots_end r k = contents_end r.metamodel k
 
 -- where an object stands in the end that holds it
 abbrev pub place_in : Reading → End → ObjectNo → ℕ

@@ -6,17 +6,25 @@ ghost use Rattle.models.specs.Reading.{objects_of};
 ghost use Rattle.fragment_paths.specs.Fragments as fragments;
 
 use links::LinkStore;
+use mm_meta::Meta;
 use mm_types::{End, Node, ObjectNo, ResourceNo};
 use models::ModelRef;
+
+/// The end that holds the roots of a resource. Takes no memory.
+pub fn contents_end(meta: &Meta, resource: ResourceNo) -> End
+    ensures { result ≡ fragments.contents_end meta.now resource }
+{
+    End {
+        node: Node::Resource(resource),
+        feature: meta.contents(),
+    }
+}
 
 /// The end of a resource that holds its roots (EMF: Resource.getContents). Takes no memory.
 pub fn roots_end<L: LinkStore>(model: &ModelRef<L>, resource: ResourceNo) -> End
     ensures { result ≡ fragments.roots_end (reading model.now) resource }
 {
-    End {
-        node: Node::Resource(resource),
-        feature: model.meta().contents(),
-    }
+    contents_end(model.meta(), resource)
 }
 
 /// The object at a position of a containment reference, where no proxy stands; `None` past the last.

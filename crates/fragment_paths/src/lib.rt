@@ -12,7 +12,7 @@ mod path_cache;
 mod paths;
 mod places;
 
-pub use ends::roots_end;
+pub use ends::{contents_end, roots_end};
 pub use finding::{find, object_at};
 pub use fragments::{address, reference, write};
 pub use path_cache::PathCache;
