@@ -9,6 +9,7 @@ mod levels;
 mod names;
 mod objects;
 mod refusals;
+mod source;
 mod targets;
 mod values;
 mod ways;

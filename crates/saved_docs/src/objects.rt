@@ -1,26 +1,17 @@
 //! The objects of a resource.
-ghost use Rattle.std.specs.Prelude.{◌≡◌, ◌++◌, IfOk, OnOk, flat_map, option_to_list, true};
+ghost use Rattle.std.specs.Prelude.{◌≡◌, IfOk, flat_map, true};
 ghost use Rattle.std.specs.List.{list_all};
 ghost use Rattle.containment.specs.Forest.{subtree as subtree_of};
 ghost use Rattle.fragment_paths.specs.Finding as finding;
 ghost use Rattle.models.specs.Model.{reading};
 ghost use Rattle.models.specs.Reading.{is_live};
 
-use containment::subtree;
+use containment::{push_some, subtree};
 use fragment_paths::roots_end;
 use links::LinkStore;
 use mm_types::{ObjectNo, ResourceNo};
 use models::ModelRef;
 use std::alloc::{AllocError, Global};
-
-fn push_some(object: Option<ObjectNo>, found: &mut Vec<ObjectNo>) -> Result<(), AllocError>
-    ensures { OnOk result (found.new.items ≡ found.old.items ++ option_to_list object) }
-{
-    if let Some(object) = object {
-        found.push(object)?;
-    }
-    Ok(())
-}
 
 /// The roots of a resource (EMF: Resource.getContents). Errs only where memory is refused.
 pub(crate) fn roots<L: LinkStore>(

@@ -9,11 +9,12 @@ ghost use Rattle.saved_docs.specs.Document as spec;
 ghost use Rattle.saved_docs.specs.Written as written;
 
 use crate::names::{class_name, literal_text};
+use crate::source::Source;
 use crate::written::is_written;
-use fragment_paths::{Places, reference};
+use fragment_paths::reference;
 use links::LinkStore;
 use mm_meta::Meta;
-use mm_types::{End, FeatureNo, Node, ObjectNo, ResourceNo, Value};
+use mm_types::{End, FeatureNo, Node, ObjectNo, Value};
 use models::Found;
 use serde_json::{Map, Value as JsonValue, put};
 use std::alloc::{AllocError, Global};
@@ -43,16 +44,14 @@ pub(crate) fn two(
 
 /// A reference to an object.
 fn reference_value<L: LinkStore>(
-    alloc: Global,
-    places: &Places<L>,
-    resource: ResourceNo,
+    source: &Source<L>,
     object: ObjectNo,
 ) -> Result<JsonValue, AllocError>
-    ensures { IfOk result (λ v. view v ≡ string (spec.reference_text (reading places.now) resource object)) }
+    ensures { IfOk result (λ v. view v ≡ string (spec.reference_text (reading source.now.places.now) source.now.resource object)) }
 {
-    match reference(alloc, places, resource, object)? {
+    match reference(source.alloc, source.places, source.resource, object)? {
         Some(text) => Ok(JsonValue::String(text.into_string())),
-        None => text_value(alloc, ""),
+        None => text_value(source.alloc, ""),
     }
 }
 
@@ -78,58 +77,55 @@ fn plain_value(
 /// An object under a feature: what it is where the feature contains it, and else a reference to it.
 #[cycle(object)]
 fn object_under<L: LinkStore>(
-    alloc: Global,
-    places: &Places<L>,
-    resource: ResourceNo,
+    source: &Source<L>,
     levels: usize,
     feature: FeatureNo,
     object: ObjectNo,
 ) -> Result<JsonValue, AllocError>
-    ensures { IfOk result (λ v. view v ≡ spec.object_under (reading places.now) resource (spec.object_data (reading places.now) resource levels) feature object) }
+    ensures { IfOk result (λ v. view v ≡ spec.object_under (reading source.now.places.now) source.now.resource (spec.object_data (reading source.now.places.now) source.now.resource levels) feature object) }
 {
-    if places.model().meta().is_containment(feature) {
-        object_value(alloc, places, resource, levels, object)
+    if source.places.model().meta().is_containment(feature) {
+        object_value(source, levels, object)
     } else {
-        reference_value(alloc, places, resource, object)
+        reference_value(source, object)
     }
 }
 
 /// What stands at an end.
 #[cycle(object)]
 fn found_json<L: LinkStore>(
-    alloc: Global,
-    places: &Places<L>,
-    resource: ResourceNo,
+    source: &Source<L>,
     levels: usize,
     feature: FeatureNo,
     found: Found,
 ) -> Result<JsonValue, AllocError>
-    ensures { IfOk result (λ v. view v ≡ spec.value_data (reading places.now) resource (spec.object_data (reading places.now) resource levels) feature (found_value found.entry)) }
+    ensures { IfOk result (λ v. view v ≡ spec.value_data (reading source.now.places.now) source.now.resource (spec.object_data (reading source.now.places.now) source.now.resource levels) feature (found_value found.entry)) }
 {
     match found {
-        Found::Object(object) => object_under(alloc, places, resource, levels, feature, object),
-        Found::Kept(Value::Object(object)) => {
-            object_under(alloc, places, resource, levels, feature, *object)
-        }
-        Found::Kept(value) => plain_value(alloc, places.model().meta(), feature, value),
-        Found::Proxy(text) => text_value(alloc, text),
+        Found::Object(object) => object_under(source, levels, feature, object),
+        Found::Kept(Value::Object(object)) => { object_under(source, levels, feature, *object) }
+        Found::Kept(value) => plain_value(
+            source.alloc,
+            source.places.model().meta(),
+            feature,
+            value,
+        ),
+        Found::Proxy(text) => text_value(source.alloc, text),
     }
 }
 
 /// What stands at a place of an end, or null past the last.
 #[cycle(object)]
 fn item_value<L: LinkStore>(
-    alloc: Global,
-    places: &Places<L>,
-    resource: ResourceNo,
+    source: &Source<L>,
     levels: usize,
     end: End,
     index: u32,
 ) -> Result<JsonValue, AllocError>
-    ensures { IfOk result (λ v. view v ≡ spec.value_data (reading places.now) resource (spec.object_data (reading places.now) resource levels) end.feature (value_in ((reading places.now).values end) index)) }
+    ensures { IfOk result (λ v. view v ≡ spec.value_data (reading source.now.places.now) source.now.resource (spec.object_data (reading source.now.places.now) source.now.resource levels) end.feature (value_in ((reading source.now.places.now).values end) index)) }
 {
-    match places.model().value_in(end, index) {
-        Some(found) => found_json(alloc, places, resource, levels, end.feature, found),
+    match source.places.model().value_in(end, index) {
+        Some(found) => found_json(source, levels, end.feature, found),
         None => Ok(JsonValue::Null),
     }
 }
@@ -137,17 +133,15 @@ fn item_value<L: LinkStore>(
 /// All that stands at an end.
 #[cycle(object)]
 fn items_value<L: LinkStore>(
-    alloc: Global,
-    places: &Places<L>,
-    resource: ResourceNo,
+    source: &Source<L>,
     levels: usize,
     end: End,
 ) -> Result<JsonValue, AllocError>
-    ensures { IfOk result (λ v. view v ≡ array (items_of (map (spec.value_data (reading places.now) resource (spec.object_data (reading places.now) resource levels) end.feature) ((reading places.now).values end)))) }
+    ensures { IfOk result (λ v. view v ≡ array (items_of (map (spec.value_data (reading source.now.places.now) source.now.resource (spec.object_data (reading source.now.places.now) source.now.resource levels) end.feature) ((reading source.now.places.now).values end)))) }
 {
-    let mut items = Vec::new(alloc);
-    'values: for index in 0..places.model().len(end) {
-        items.push(item_value(alloc, places, resource, levels, end, index)?)?;
+    let mut items = Vec::new(source.alloc);
+    'values: for index in 0..source.places.model().len(end) {
+        items.push(item_value(source, levels, end, index)?)?;
     }
     Ok(JsonValue::Array(items))
 }
@@ -155,45 +149,41 @@ fn items_value<L: LinkStore>(
 /// What an object holds under a feature.
 #[cycle(object)]
 fn content_value<L: LinkStore>(
-    alloc: Global,
-    places: &Places<L>,
-    resource: ResourceNo,
+    source: &Source<L>,
     levels: usize,
     object: ObjectNo,
     feature: FeatureNo,
 ) -> Result<JsonValue, AllocError>
-    ensures { IfOk result (λ v. view v ≡ spec.content_data (reading places.now) resource (spec.object_data (reading places.now) resource levels) object feature) }
+    ensures { IfOk result (λ v. view v ≡ spec.content_data (reading source.now.places.now) source.now.resource (spec.object_data (reading source.now.places.now) source.now.resource levels) object feature) }
 {
     let node = Node::Object(object);
     let end = End { node, feature };
-    if places.model().meta().is_single(feature) {
-        item_value(alloc, places, resource, levels, end, 0)
+    if source.places.model().meta().is_single(feature) {
+        item_value(source, levels, end, 0)
     } else {
-        items_value(alloc, places, resource, levels, end)
+        items_value(source, levels, end)
     }
 }
 
 /// Puts what an object holds under a feature among its members, where the feature is written.
 #[cycle(object)]
 fn put_feature<L: LinkStore>(
-    alloc: Global,
-    places: &Places<L>,
-    resource: ResourceNo,
+    source: &Source<L>,
     levels: usize,
     object: ObjectNo,
     feature: FeatureNo,
     members: &mut Map<String, JsonValue>,
 ) -> Result<(), AllocError>
-    ensures { OnOk result (members_view members.new.entries ≡ spec.members_with (members_view members.old.entries) (map (spec.feature_member (reading places.now) resource (spec.object_data (reading places.now) resource levels) object) (filter (written.is_written (reading places.now) object) (feature ∷ [])))) }
+    ensures { OnOk result (members_view members.new.entries ≡ spec.members_with (members_view members.old.entries) (map (spec.feature_member (reading source.now.places.now) source.now.resource (spec.object_data (reading source.now.places.now) source.now.resource levels) object) (filter (written.is_written (reading source.now.places.now) object) (feature ∷ [])))) }
 {
-    if !is_written(places.model(), object, feature) {
+    if !is_written(source.places.model(), object, feature) {
         return Ok(());
     }
-    let content = content_value(alloc, places, resource, levels, object, feature)?;
+    let content = content_value(source, levels, object, feature)?;
     put(
         members,
-        alloc,
-        places.model().meta().feature_name(feature),
+        source.alloc,
+        source.places.model().meta().feature_name(feature),
         content,
     )
 }
@@ -201,26 +191,16 @@ fn put_feature<L: LinkStore>(
 /// What an object holds, under the names of its features.
 #[cycle(object)]
 fn features_value<L: LinkStore>(
-    alloc: Global,
-    places: &Places<L>,
-    resource: ResourceNo,
+    source: &Source<L>,
     levels: usize,
     object: ObjectNo,
 ) -> Result<JsonValue, AllocError>
-    ensures { IfOk result (λ v. view v ≡ object_of (spec.members (map (spec.feature_member (reading places.now) resource (spec.object_data (reading places.now) resource levels) object) (written.written_features (reading places.now) object)))) }
+    ensures { IfOk result (λ v. view v ≡ object_of (spec.members (map (spec.feature_member (reading source.now.places.now) source.now.resource (spec.object_data (reading source.now.places.now) source.now.resource levels) object) (written.written_features (reading source.now.places.now) object)))) }
 {
-    let mut members = Map::new(alloc);
-    let features = places.model().all_features(Node::Object(object));
+    let mut members = Map::new(source.alloc);
+    let features = source.places.model().all_features(Node::Object(object));
     'features: for feature in features {
-        put_feature(
-            alloc,
-            places,
-            resource,
-            levels,
-            object,
-            *feature,
-            &mut members,
-        )?;
+        put_feature(source, levels, object, *feature, &mut members)?;
     }
     Ok(JsonValue::Object(members))
 }
@@ -228,18 +208,16 @@ fn features_value<L: LinkStore>(
 /// An object and what it contains, for so many levels. Errs only where memory is refused.
 #[cycle(object)]
 pub(crate) fn object_value<L: LinkStore>(
-    alloc: Global,
-    places: &Places<L>,
-    resource: ResourceNo,
+    source: &Source<L>,
     levels: usize,
     object: ObjectNo,
 ) -> Result<JsonValue, AllocError>
-    ensures { IfOk result (λ v. view v ≡ spec.object_data (reading places.now) resource levels object) }
+    ensures { IfOk result (λ v. view v ≡ spec.object_data (reading source.now.places.now) source.now.resource levels object) }
 {
     if levels == 0 {
         return Ok(JsonValue::Null);
     }
-    let features = features_value(alloc, places, resource, levels - 1, object)?;
-    let class = text_value(alloc, class_name(places.model(), object))?;
-    two(alloc, "class", class, "features", features)
+    let features = features_value(source, levels - 1, object)?;
+    let class = text_value(source.alloc, class_name(source.places.model(), object))?;
+    two(source.alloc, "class", class, "features", features)
 }

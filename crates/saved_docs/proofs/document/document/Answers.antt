@@ -6,5 +6,5 @@ use Rattle.saved_docs.proofs.document.document.Goals as goal
 pub returns : goal.returns
 returns g c =
     ok-more c.two.result
-    (λ v h. document-made (reading c.args.places.now) c.args.resource c.args.roots.now (view c.from.result) (view c.in_ok-roots.roots) (view v) c.requires.roots c.from.ensures c.in_ok-roots.ensures h)
+    (λ v h. document-made (reading c.args.source.now.places.now) c.args.source.now.resource c.args.roots.now (view c.from.result) (view c.in_ok-roots.roots) (view v) c.requires.roots c.from.ensures c.in_ok-roots.ensures h)
     c.two.ensures

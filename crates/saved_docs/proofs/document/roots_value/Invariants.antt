@@ -5,4 +5,4 @@ use Rattle.saved_docs.specs.Document.{object_data}
 use Rattle.saved_docs.proofs.document.roots_value.Given as goal
 
 abbrev pub invariant-roots : goal.invariant-roots
-invariant-roots g l = let r = reading l.places in map view l.items.items ≡ map (object_data r l.resource r.next) (take l.root-index l.roots)
+invariant-roots g l = let r = reading l.source.places.now in map view l.items.items ≡ map (object_data r l.source.resource r.next) (take l.root-index l.roots)

@@ -15,8 +15,8 @@ places-preserved g c =
     let vs = r.values (roots_end r c.args.resource) in
     let long = rw c.roots_end-end.ensures at c.len-index-end.ensures in
     let at = rw c.roots_end-end.ensures at c.object_in.ensures.object in
-    objects-step vs c.places.index c.places.found.items c.push_some.new.found.items (roots r c.args.resource) (subst (λ (n : ℕ). c.places.index < n) long c.places-test.true)
-    (pushed-at vs c.places.index c.object_in.result c.places.found.items c.push_some.new.found.items at c.in_ok-push_some.ensures) c.places.invariant
+    objects-step vs c.places.index c.places.found.items c.push_some.new.out.items (roots r c.args.resource) (subst (λ (n : ℕ). c.places.index < n) long c.places-test.true)
+    (pushed-at vs c.places.index c.object_in.result c.places.found.items c.push_some.new.out.items at c.in_ok-push_some.ensures) c.places.invariant
 
 pub returns-clause-all : goal.returns-clause-all
 returns-clause-all g c =

@@ -31,10 +31,10 @@ decreases-features_value g l = 8 * l.levels + 7
 
 abbrev pub invariant-items_value-values : goal.invariant-items_value-values
 invariant-items_value-values g l =
-    let r = reading l.places in
-    map view l.items.items ≡ map (value_data r l.resource (object_data r l.resource l.levels) l.end.feature) (take l.index (r.values l.end))
+    let r = reading l.source.places.now in
+    map view l.items.items ≡ map (value_data r l.source.resource (object_data r l.source.resource l.levels) l.end.feature) (take l.index (r.values l.end))
 
 abbrev pub invariant-features_value-features : goal.invariant-features_value-features
 invariant-features_value-features g l =
-    let r = reading l.places in
-    members_view l.members.entries ≡ members (map (feature_member r l.resource (object_data r l.resource l.levels) l.object) (filter (is_written r l.object) (take l.feature-index l.features)))
+    let r = reading l.source.places.now in
+    members_view l.members.entries ≡ members (map (feature_member r l.source.resource (object_data r l.source.resource l.levels) l.object) (filter (is_written r l.object) (take l.feature-index l.features)))
