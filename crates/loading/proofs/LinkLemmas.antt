@@ -73,15 +73,15 @@ pub all_edits : (m : Metamodel) (n : ℕ) (k : ResourceNo) (doc : Doc) (end : En
     → objects ≡ doc.objects → roots ≡ doc.roots → end ≡ contents_end m k
     → none ≡ [] → with_roots ≡ none ++ map (λ x. put_at m n end x.0 x.1) (enumerate_from 0 roots)
     → with_near ≡ with_roots ++ flat_map (of_object (near_edits m n)) (enumerate_from 0 objects)
-    → all ≡ with_near ++ flat_map (of_object (far_edits m n (place_in m objects))) (enumerate_from 0 objects)
+    → all ≡ with_near ++ flat_map (of_object (far_edits m n (place_in m doc.objects))) (enumerate_from 0 doc.objects)
     → all ≡ load_edits m n k doc
 all_edits m n k doc end objects roots none with_roots with_near all of_doc roots_of_doc at nothing by_roots by_near by_far =
     let near : List DocObject → List Edit = λ os. flat_map (of_object (near_edits m n)) (enumerate_from 0 os) in
-    let far : List DocObject → List Edit = λ os. flat_map (of_object (far_edits m n (place_in m os))) (enumerate_from 0 os) in
+    let far : List Edit = flat_map (of_object (far_edits m n (place_in m doc.objects))) (enumerate_from 0 doc.objects) in
     let first : End → List ObjectNo → List Edit = λ e os. map (λ x. put_at m n e x.0 x.1) (enumerate_from 0 os) in
     by_far
-    ∙ ap (λ es. es ++ far objects) (by_near ∙ ap (λ es. es ++ near objects) (by_roots ∙ ap (λ es. es ++ first end roots) nothing))
-    ∙ append_assoc (first end roots) (near objects) (far objects)
-    ∙ ap (λ e. first e roots ++ (near objects ++ far objects)) at
-    ∙ ap (λ os. first (contents_end m k) os ++ (near objects ++ far objects)) roots_of_doc
-    ∙ ap (λ os. first (contents_end m k) doc.roots ++ (near os ++ far os)) of_doc
+    ∙ ap (λ es. es ++ far) (by_near ∙ ap (λ es. es ++ near objects) (by_roots ∙ ap (λ es. es ++ first end roots) nothing))
+    ∙ append_assoc (first end roots) (near objects) far
+    ∙ ap (λ e. first e roots ++ (near objects ++ far)) at
+    ∙ ap (λ os. first (contents_end m k) os ++ (near objects ++ far)) roots_of_doc
+    ∙ ap (λ os. first (contents_end m k) doc.roots ++ (near os ++ far)) of_doc

@@ -4,7 +4,6 @@ use Rattle.std.specs.Prelude.{ℕ, ◌+◌, ◌&&◌, Bool, List, [], ◌∷◌,
 use Rattle.std.specs.List.{enumerate_from}
 use Rattle.std.specs.FinSet as set
 use Rattle.mm_types.specs.Resolved.{Metamodel}
-use Rattle.mm_types.specs.Lookups as lookups
 use Rattle.mm_types.specs.Same.{is_feature, is_nil, same_value}
 use Rattle.mm_types.specs.Shapes.{Shape, shape}
 use Rattle.mm_types.specs.declared.numbers.FeatureNo.{FeatureNo}
@@ -20,6 +19,7 @@ use Rattle.links.specs.declared.link.Far.TheVariants.{Alone, Proxy}
 use Rattle.links.specs.declared.link.Link.{Link}
 use Rattle.links.specs.Links.{Links, far_end, joined}
 use Rattle.models.specs.Reading.{Reading, at_end}
+pub use Rattle.fragment_paths.specs.Fragments.{contents_end}
 use Rattle.resource_docs.specs.declared.doc.Content.{Content}
 use Rattle.resource_docs.specs.declared.doc.Doc.{Doc}
 use Rattle.resource_docs.specs.declared.doc.DocObject.{DocObject}
@@ -56,10 +56,6 @@ loaded_values m n doc = map (λ o. NewObject o.class) doc.objects ++ of_contents
 -- the end of an object of the document
 abbrev pub object_end : ℕ → ObjectNo → FeatureNo → End
 object_end n o f = at_end (node.Object (loaded n o)) f
-
--- the end that holds the roots of a resource
-abbrev pub contents_end : Metamodel → ResourceNo → End
-contents_end m k = at_end (node.Resource k) (lookups.contents m)
 
 abbrev pub is_empty_resource : Reading → ResourceNo → Bool
 is_empty_resource r k = is_nil (r.values (contents_end r.metamodel k))

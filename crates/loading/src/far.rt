@@ -2,7 +2,7 @@
 ghost use Rattle.std.specs.Prelude.{◌≡◌, ◌≤◌, ◌+◌, ◌++◌, ℕ, OnOk, flat_map, length, unwrap_or};
 ghost use Rattle.std.specs.List.{All, enumerate_from, list_any};
 ghost use Rattle.mm_types.specs.declared.limits.TheConstants.{OBJECTS};
-ghost use Rattle.loading.specs.Fits.{IsFittingContent, IsFittingObject, IsNumbered, IsValueNumbered};
+ghost use Rattle.loading.specs.Fits.{IsFitting, IsFittingContent, IsFittingObject, IsNumbered, IsValueNumbered};
 ghost use Rattle.loading.specs.LoadEdits as e;
 ghost use Rattle.loading.specs.Loading.{of_object};
 ghost use Rattle.loading.specs.Places.{found_at, place_in};
@@ -14,8 +14,16 @@ use crate::places::{Naming, Places};
 use links::Edit;
 use mm_meta::Meta;
 use mm_types::{FeatureNo, ObjectNo, Value};
-use resource_docs::{Content, DocObject};
+use resource_docs::{Content, Doc, DocObject};
 use std::alloc::{AllocError, Global};
+
+/// What the edits are made from: the metamodel, the number that the document's first object gets, and where its lists have each object.
+#[derive(Clone, Copy)]
+struct Source<'r> {
+    meta: &'r Meta,
+    next: usize,
+    places: &'r Places,
+}
 
 /// Whether the objects among values are in the order of their numbers.
 fn is_ascending(values: &[Value]) -> bool
@@ -59,60 +67,55 @@ pub(crate) fn push_in_order(
     alloc: Global,
     meta: &Meta,
     next: usize,
-    objects: &[DocObject],
+    doc: &Doc,
     edits: &mut Vec<Edit>,
 ) -> Result<(), AllocError>
-    requires room { next + length objects.now ≤ OBJECTS }
-    requires fits { All (IsFittingObject next) objects.now }
-    ensures { OnOk result (edits.new.items ≡ edits.old.items ++ flat_map (of_object (e.far_edits meta.now next (place_in meta.now objects.now))) (enumerate_from 0 objects.now)) }
+    requires { IsFitting next doc.now }
+    ensures { OnOk result (edits.new.items ≡ edits.old.items ++ flat_map (of_object (e.far_edits meta.now next (place_in meta.now doc.now.objects))) (enumerate_from 0 doc.now.objects)) }
 {
+    let objects = doc.objects.as_slice();
     if !has_any_unordered(meta, objects) {
         return Ok(());
     }
     let places = Places::of(alloc, meta, objects)?;
-    push_objects(meta, next, &places, objects, edits)
+    let source = Source {
+        meta,
+        next,
+        places: &places,
+    };
+    push_objects(&source, objects, edits)
 }
 
 /// Adds the edits that put objects' ends in order.
 fn push_objects(
-    meta: &Meta,
-    next: usize,
-    places: &Places,
+    source: &Source,
     objects: &[DocObject],
     edits: &mut Vec<Edit>,
 ) -> Result<(), AllocError>
-    requires room { next + length objects.now ≤ OBJECTS }
-    requires fits { All (IsFittingObject next) objects.now }
-    ensures { OnOk result (edits.new.items ≡ edits.old.items ++ flat_map (of_object (e.far_edits meta.now next (found_at places.now))) (enumerate_from 0 objects.now)) }
+    requires room { source.now.next + length objects.now ≤ OBJECTS }
+    requires fits { All (IsFittingObject source.now.next) objects.now }
+    ensures { OnOk result (edits.new.items ≡ edits.old.items ++ flat_map (of_object (e.far_edits source.now.meta.now source.now.next (found_at source.now.places.now))) (enumerate_from 0 objects.now)) }
 {
     'objects: for (i, object) in objects.iter().enumerate() {
-        push_object(
-            meta,
-            next,
-            places,
-            ObjectNo(i as u32),
-            object.contents.as_slice(),
-            edits,
-        )?;
+        let number = ObjectNo(i as u32);
+        push_object(source, number, object.contents.as_slice(), edits)?;
     }
     Ok(())
 }
 
 /// Adds the edits that put an object's ends in order.
 fn push_object(
-    meta: &Meta,
-    next: usize,
-    places: &Places,
+    source: &Source,
     object: ObjectNo,
     contents: &[Content],
     edits: &mut Vec<Edit>,
 ) -> Result<(), AllocError>
-    requires number { IsNumbered next object }
-    requires fits { All (IsFittingContent next) contents.now }
-    ensures { OnOk result (edits.new.items ≡ edits.old.items ++ flat_map (e.far_edits meta.now next (found_at places.now) object) contents.now) }
+    requires number { IsNumbered source.now.next object }
+    requires fits { All (IsFittingContent source.now.next) contents.now }
+    ensures { OnOk result (edits.new.items ≡ edits.old.items ++ flat_map (e.far_edits source.now.meta.now source.now.next (found_at source.now.places.now) object) contents.now) }
 {
     'contents: for content in contents {
-        push_content(meta, next, places, object, content, edits)?;
+        push_content(source, object, content, edits)?;
     }
     Ok(())
 }
@@ -120,70 +123,64 @@ fn push_object(
 /// Adds the edits that put an object's end of a feature in order, where that is the higher of a pair, and where the end has another
 /// order.
 fn push_content(
-    meta: &Meta,
-    next: usize,
-    places: &Places,
+    source: &Source,
     object: ObjectNo,
     content: &Content,
     edits: &mut Vec<Edit>,
 ) -> Result<(), AllocError>
-    requires number { IsNumbered next object }
-    requires fits { IsFittingContent next content.now }
-    ensures { OnOk result (edits.new.items ≡ edits.old.items ++ e.far_edits meta.now next (found_at places.now) object content.now) }
+    requires number { IsNumbered source.now.next object }
+    requires fits { IsFittingContent source.now.next content.now }
+    ensures { OnOk result (edits.new.items ≡ edits.old.items ++ e.far_edits source.now.meta.now source.now.next (found_at source.now.places.now) object content.now) }
 {
-    let Some(lower) = lower_of(meta, content.feature) else {
+    let Some(lower) = lower_of(source.meta, content.feature) else {
         return Ok(());
     };
     let values = content.values.as_slice();
     if is_ascending(values) {
         return Ok(());
     }
-    push_values(meta, next, places, object, lower, values, edits)
+    push_values(source, object, lower, values, edits)
 }
 
 /// Adds the edits that take an object out of the ends of values and put it there again.
 fn push_values(
-    meta: &Meta,
-    next: usize,
-    places: &Places,
+    source: &Source,
     object: ObjectNo,
     lower: FeatureNo,
     values: &[Value],
     edits: &mut Vec<Edit>,
 ) -> Result<(), AllocError>
-    requires number { IsNumbered next object }
-    requires fits { All (IsValueNumbered next) values.now }
-    ensures { OnOk result (edits.new.items ≡ edits.old.items ++ flat_map (e.puts_again meta.now next (found_at places.now) object lower) values.now) }
+    requires number { IsNumbered source.now.next object }
+    requires fits { All (IsValueNumbered source.now.next) values.now }
+    ensures { OnOk result (edits.new.items ≡ edits.old.items ++ flat_map (e.puts_again source.now.meta.now source.now.next (found_at source.now.places.now) object lower) values.now) }
 {
     'values: for value in values {
-        push_again(meta, next, places, object, lower, value, edits)?;
+        push_again(source, object, lower, value, edits)?;
     }
     Ok(())
 }
 
 /// Adds the edits that take an object out of the end of a value and put it there again.
 fn push_again(
-    meta: &Meta,
-    next: usize,
-    places: &Places,
+    source: &Source,
     object: ObjectNo,
     lower: FeatureNo,
     value: &Value,
     edits: &mut Vec<Edit>,
 ) -> Result<(), AllocError>
-    requires number { IsNumbered next object }
-    requires fits { IsValueNumbered next value.now }
-    ensures { OnOk result (edits.new.items ≡ edits.old.items ++ e.puts_again meta.now next (found_at places.now) object lower value.now) }
+    requires number { IsNumbered source.now.next object }
+    requires fits { IsValueNumbered source.now.next value.now }
+    ensures { OnOk result (edits.new.items ≡ edits.old.items ++ e.puts_again source.now.meta.now source.now.next (found_at source.now.places.now) object lower value.now) }
 {
     let Value::Object(other) = value else {
         return Ok(());
     };
-    let end = object_end(next, *other, lower);
-    let index = places.place(Naming::of(*other, lower, object));
+    let end = object_end(source.next, *other, lower);
+    let index = source.places.place(Naming::of(*other, lower, object));
     edits.push(Edit::Cut {
         end,
-        object: loaded(next, object),
+        object: loaded(source.next, object),
     })?;
-    edits.push(put_at(meta, next, end, index, object))?;
+    edits.push(put_at(source.meta, source.next, end, index, object))?;
     Ok(())
 }

@@ -12,6 +12,7 @@ mod pairs;
 mod places;
 mod values;
 
-pub use linking::{contents_end, link_edits};
+pub use fragment_paths::contents_end;
+pub use linking::link_edits;
 pub use numbers::loaded;
 pub use values::value_edits;

@@ -4,13 +4,13 @@ ghost use Rattle.std.specs.List.{All, enumerate_from};
 ghost use Rattle.mm_types.specs.declared.limits.TheConstants.{LIST_VALUES};
 ghost use Rattle.loading.specs.Fits.{IsFitting, IsNumbered};
 ghost use Rattle.loading.specs.LoadEdits as e;
-ghost use Rattle.loading.specs.Loading as l;
 
 use crate::near::put_at;
 use crate::{far, near};
+use fragment_paths::contents_end;
 use links::Edit;
 use mm_meta::Meta;
-use mm_types::{End, Node, ObjectNo, ResourceNo};
+use mm_types::{End, ObjectNo, ResourceNo};
 use resource_docs::Doc;
 use std::alloc::{AllocError, Global};
 
@@ -31,18 +31,8 @@ pub fn link_edits(
     let roots = contents_end(meta, resource);
     push_roots(meta, next, roots, doc.roots.as_slice(), &mut edits)?;
     near::push_objects(meta, next, objects, &mut edits)?;
-    far::push_in_order(alloc, meta, next, objects, &mut edits)?;
+    far::push_in_order(alloc, meta, next, doc, &mut edits)?;
     Ok(edits)
-}
-
-/// The end that holds the roots of a resource. Takes no memory.
-pub fn contents_end(meta: &Meta, resource: ResourceNo) -> End
-    ensures { result ≡ l.contents_end meta.now resource }
-{
-    End {
-        node: Node::Resource(resource),
-        feature: meta.contents(),
-    }
 }
 
 /// Adds the edits that put the roots of a document into an end, in their order.

@@ -6,5 +6,5 @@ use Rattle.loading.proofs.far.push_object.Given as goal
 -- what is added, and then what is left to add
 abbrev pub invariant-contents : goal.invariant-contents
 invariant-contents l =
-    let made = far_edits l.meta l.next (found_at l.places) l.object in
+    let made = far_edits l.source.meta.now l.source.next (found_at l.source.places.now) l.object in
     l.edits.items ++ flat_map made (drop l.content-index l.contents) ≡ l.fn.edits.items ++ flat_map made l.contents

@@ -8,5 +8,5 @@ use Rattle.loading.proofs.far.push_objects.Given as goal
 -- what is added, and then what is left to add
 abbrev pub invariant-objects : goal.invariant-objects
 invariant-objects l =
-    let made = of_object (far_edits l.meta l.next (found_at l.places)) in
+    let made = of_object (far_edits l.source.meta.now l.source.next (found_at l.source.places.now)) in
     l.edits.items ++ flat_map made (enumerate_from l.i (drop l.i l.objects)) ≡ l.fn.edits.items ++ flat_map made (enumerate_from 0 l.objects)

@@ -6,5 +6,5 @@ use Rattle.loading.proofs.far.push_values.Given as goal
 -- what is added, and then what is left to add
 abbrev pub invariant-values : goal.invariant-values
 invariant-values l =
-    let made = puts_again l.meta l.next (found_at l.places) l.object l.lower in
+    let made = puts_again l.source.meta.now l.source.next (found_at l.source.places.now) l.object l.lower in
     l.edits.items ++ flat_map made (drop l.value-index l.values) ≡ l.fn.edits.items ++ flat_map made l.values
