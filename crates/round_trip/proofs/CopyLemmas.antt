@@ -1,5 +1,5 @@
 -- The document of a resource is read as the resource, were no cause of refusal to apply.
-use Rattle.std.proofs.Common.{◌≡◌, ◌∙◌, ℕ, ◌+◌, Bool, true, false, List, [], ◌∷◌, Option, Some, ap, arith, filter, map, option_map, refl, sym, subst}
+use Rattle.std.proofs.Common.{◌≡◌, ◌∙◌, ℕ, ◌+◌, Bool, true, false, List, [], ◌∷◌, Option, Some, ap, arith, filter, map, option_map, refl, sym}
 use Rattle.std.specs.Prelude.{Contains, filter_map, if◌then◌else◌, not, unwrap_or}
 use Rattle.std.specs.List.{enumerate_from}
 use Rattle.std.specs.Option.{option_map_or}
@@ -18,14 +18,13 @@ use Rattle.mm_types.specs.declared.numbers.ResourceNo.{ResourceNo}
 use Rattle.mm_types.specs.declared.value.Value.{Value}
 use Rattle.models.specs.Legal.{IsLegal}
 use Rattle.models.specs.Model.{Model, reading, values_at}
-use Rattle.models.specs.Reading.{at_end, is_live}
+use Rattle.models.specs.Reading.{at_end}
 use Rattle.containment.specs.Forest.{subtree}
 use Rattle.fragment_paths.specs.Finding.{roots}
 use Rattle.doc_parts.specs.Parts.{Part, entries, list_of, root_parts, values_of}
 use Rattle.doc_parts.proofs.DataLemmas.{list_of-items_of}
 use Rattle.saved_docs.specs.Document.{document, value_data}
 use Rattle.saved_docs.specs.Written.{objects_in, written_features}
-use Rattle.saved_docs.proofs.RootLemmas.{roots-live}
 use Rattle.resource_docs.specs.Read.{content_read, contents_read, doc_read, object_read, root_number, values_read}
 use Rattle.resource_docs.specs.Texts.{Base, base_of}
 use Rattle.resource_docs.specs.Values.{value_of}
@@ -38,7 +37,7 @@ use Rattle.round_trip.specs.Copied.{content_copied, copied, object_copied, renam
 use Rattle.round_trip.specs.ValuesLaws.{AreReadAs, parts_of}
 use Rattle.round_trip.proofs.EndLemmas.{IsWrittenOf, some-values, written-of}
 use Rattle.round_trip.proofs.ValuesListLemmas.{found-among, in-all, in-front, object-at, place-of}
-use Rattle.round_trip.proofs.ListLemmas.{all-kept, all-passed, each-mapped, each-of, filter_map-each, filter_map-mapped, map-each, map-twice, of-each, read-each}
+use Rattle.round_trip.proofs.ListLemmas.{all-kept, each-mapped, each-of, filter_map-each, filter_map-mapped, map-each, map-twice, read-each}
 
 ---------------------------------------------------------------- values
 

@@ -1,10 +1,9 @@
 -- A resource as a document: a folder has another in it, which likes it, and likes the folder of another resource.
-use Rattle.std.specs.Prelude.{ℕ, pos, negsuc, true, false, List, [], ◌∷◌, codes, find, map, option_map, slice_get, Option, Some, None, unwrap_or}
+use Rattle.std.specs.Prelude.{ℕ, pos, negsuc, true, false, List, [], ◌∷◌, codes, find, map, option_map, slice_get, None, unwrap_or}
 use Rattle.std.proofs.Common.{◌≡◌, refl}
 use Rattle.std.specs.Fmt.{digits}
 use Rattle.mm_types.specs.Resolved.{Metamodel}
 use Rattle.mm_types.specs.Same.{same_end, same_node}
-use Rattle.mm_types.specs.declared.class.Class.{Class}
 use Rattle.mm_types.specs.declared.feature.Feature.{Feature}
 use Rattle.mm_types.specs.declared.feature.Kind.{Kind}
 use Rattle.mm_types.specs.declared.feature.Kind.TheVariants.{Attribute, Reference}

@@ -1,26 +1,22 @@
 -- The objects of a resource: what stands in the trees of its roots is in it, and what is in it stands there.
-use Rattle.std.proofs.Common.{◌≡◌, ℕ, zero, suc, ◌<◌, true, Contains, ◌∷◌, flat_map, length, slice_get, Option, Some, None, arith, eq-eqb, inl, inr, refl, sym, ap, ◌∙◌, subst}
+use Rattle.std.proofs.Common.{◌≡◌, ℕ, zero, suc, ◌<◌, true, Contains, ◌∷◌, flat_map, length, slice_get, Some, eq-eqb, inl, inr, refl, ap, ◌∙◌}
 use Rattle.std.specs.List.{list_any}
 use Rattle.std.proofs.lemmas.Bool.{false≢true, or_cases, or_left, or_right}
-use Rattle.std.proofs.lemmas.Option.{get_or_from_slice_get, none-some, same_Some, slice_get_past, slice_get_within}
 use Rattle.mm_types.specs.Lookups as lookups
-use Rattle.mm_types.specs.Resolved.{Metamodel}
-use Rattle.mm_types.specs.Same.{is_feature, same_node, same_object}
-use Rattle.mm_types.specs.Shapes.{contents_shape, is_containment, shape_of}
+use Rattle.mm_types.specs.Same.{same_node, same_object}
+use Rattle.mm_types.specs.Shapes.{is_containment}
 use Rattle.mm_types.specs.declared.end.End.{End}
-use Rattle.mm_types.specs.declared.feature.Feature.{Feature}
 use Rattle.mm_types.specs.declared.numbers.FeatureNo.{FeatureNo}
 use Rattle.mm_types.specs.declared.numbers.Node.{Node}
 use Rattle.mm_types.specs.declared.numbers.Node.TheVariants as node
 use Rattle.mm_types.specs.declared.numbers.ObjectNo.{ObjectNo}
 use Rattle.mm_types.specs.declared.numbers.ResourceNo.{ResourceNo}
 use Rattle.mm_types.specs.declared.value.Value.TheVariants as value
-use Rattle.std.specs.Option.{option_map_or}
 use Rattle.links.proofs.AboveLemmas.{above_held}
 use Rattle.links.specs.Holders.{above, holder}
 use Rattle.models.specs.Legal.{IsLegal}
 use Rattle.models.specs.Model.{Model, reading, values_at}
-use Rattle.models.specs.Reading.{at_end, is_live, is_within}
+use Rattle.models.specs.Reading.{at_end, is_within}
 use Rattle.containment.proofs.MemberLemmas.{all-among, flat_map-from, same-object, subtree-has}
 use Rattle.containment.proofs.PartLemmas.{IsPart, all-objects, contents-parts, holder-at}
 use Rattle.containment.specs.Above.{resource_of}
@@ -30,7 +26,6 @@ use Rattle.fragment_paths.proofs.InsideLemmas.{contents-contains, each-inside}
 use Rattle.fragment_paths.proofs.UpLemmas.{resource-part, resource-root}
 use Rattle.fragment_paths.specs.Finding.{roots}
 use Rattle.fragment_paths.specs.Fragments.{place_in, roots_end}
-use Rattle.saved_docs.proofs.RootLemmas.{live-at, roots-live}
 use Rattle.saved_docs.specs.Written.{objects_in}
 use Rattle.round_trip.proofs.ValuesListLemmas.{among-found, found-among, in-all}
 

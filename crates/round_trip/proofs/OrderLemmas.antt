@@ -1,8 +1,8 @@
 -- The objects of a resource are all different, so each one's number is its place among them.
 use Rattle.std.proofs.Common.{◌≡◌, ◌∙◌, ℕ, zero, suc, Bool, true, false, cond, List, [], ◌∷◌, ◌++◌, Option, Some, None, ap, eq-eqb, inl, inr, option_map, refl, slice_get, sym, subst}
 use Rattle.std.specs.Prelude.{Contains, flat_map, position}
-use Rattle.std.specs.List.{AllByRecursion, IsDistinct, list_any}
-use Rattle.std.proofs.lemmas.Bool.{false≢true, or_cases, or_left, or_right}
+use Rattle.std.specs.List.{IsDistinct, list_any}
+use Rattle.std.proofs.lemmas.Bool.{false≢true, or_cases}
 use Rattle.std.proofs.lemmas.Option.{none-some, same_Some}
 use Rattle.mm_types.specs.Lookups as lookups
 use Rattle.mm_types.specs.Same.{same_object}
@@ -18,7 +18,7 @@ use Rattle.models.specs.Legal.{IsLegal}
 use Rattle.models.specs.Model.{Model, reading, values_at}
 use Rattle.models.specs.Reading.{object_of, objects_of}
 use Rattle.containment.specs.Forest.{contents, subtree, tree}
-use Rattle.containment.proofs.DistinctLemmas.{objects-distinct, subtree-distinct}
+use Rattle.containment.proofs.DistinctLemmas.{distinct-++, objects-distinct, subtree-distinct}
 use Rattle.containment.proofs.MemberLemmas.{all-among, flat_map-from, same-object}
 use Rattle.containment.proofs.PartLemmas.{IsPart, all-objects, contains-itself, contains-reference, contents-parts, holder-at, values-linked}
 use Rattle.web_uris.specs.Paths.{with_step}
@@ -40,30 +40,13 @@ not-true : (b : Bool) → (b ≡ true → ⊥) → b ≡ false
 not-true true h = absurd (h refl)
 not-true false h = refl
 
-all-apart : (x : ObjectNo) (ys : List ObjectNo) → (list_any (same_object x) ys ≡ true → ⊥) → AllByRecursion (λ y. same_object x y ≡ false) ys
-all-apart x [] h = tt
-all-apart x (y ∷ ys) h = (not-true (same_object x y) (λ q. h (or_left _ _ q)), all-apart x ys (λ q. h (or_right _ _ q)))
-
-apart-append : (x : ObjectNo) (xs ys : List ObjectNo) → AllByRecursion (λ y. same_object x y ≡ false) xs → AllByRecursion (λ y. same_object x y ≡ false) ys → AllByRecursion (λ y. same_object x y ≡ false) (xs ++ ys)
-apart-append x [] ys a b = b
-apart-append x (z ∷ zs) ys a b = (a.0, apart-append x zs ys a.1 b)
-
-distinct-append : (xs ys : List ObjectNo) → IsDistinct same_object xs → IsDistinct same_object ys
-    → ((c : ObjectNo) → list_any (same_object c) xs ≡ true → list_any (same_object c) ys ≡ true → ⊥) → IsDistinct same_object (xs ++ ys)
-unfolding IsDistinct
-distinct-append [] ys a b apart = b
-distinct-append (x ∷ xs) ys a b apart = (
-  apart-append x xs ys a.0 (all-apart x ys (λ q. apart x (or_left _ _ (eq-eqb x.0 x.0 refl)) q)),
-  distinct-append xs ys a.1 b (λ c h. apart c (or_right _ _ h)),
-)
-
 -- lists of different objects, no two of which share one
 distinct-flat_map : (f : ObjectNo → List ObjectNo) (xs : List ObjectNo) → ((x : ObjectNo) → Contains xs x → IsDistinct same_object (f x)) → IsDistinct same_object xs
     → ((x y c : ObjectNo) → Contains xs x → Contains xs y → list_any (same_object c) (f x) ≡ true → list_any (same_object c) (f y) ≡ true → x ≡ y) → IsDistinct same_object (flat_map f xs)
 unfolding IsDistinct
 distinct-flat_map f [] each d one = tt
 distinct-flat_map f (x ∷ xs) each d one =
-    distinct-append (f x) (flat_map f xs) (each x (in-front x xs)) (distinct-flat_map f xs (λ y there. each y (behind x xs y there)) d.1 (λ y z c a b. one y z c (behind x xs y a) (behind x xs z b)))
+    distinct-++ (f x) (flat_map f xs) (each x (in-front x xs)) (distinct-flat_map f xs (λ y there. each y (behind x xs y there)) d.1 (λ y z c a b. one y z c (behind x xs y a) (behind x xs z b)))
     (λ c h q.
     let r = flat_map-from f xs c q in
     let there = among-found xs r.from r.among in

@@ -28,7 +28,7 @@ use Rattle.mm_types.specs.declared.value.Value.TheVariants as value
 use Rattle.links.specs.Links.{end}
 use Rattle.links.specs.Plans.{Has}
 use Rattle.links.proofs.SideLemmas.{both_ends_agree}
-use Rattle.models.specs.Legal.{IsLegal, is_legal_end, is_legal_target, kinds_of, takes_proxies}
+use Rattle.models.specs.Legal.{IsLegal, is_legal_end, is_legal_target, kinds_of}
 use Rattle.models.specs.Model.{Model, reading, values_at}
 use Rattle.models.specs.Reading.{Reading, all_features_of, at_end, has_feature, is_set}
 use Rattle.models.proofs.PlaceLemmas.{is_target}
