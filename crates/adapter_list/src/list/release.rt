@@ -1,6 +1,7 @@
 //! Detaching and closing.
 ghost use Rattle.std.specs.Prelude.{◌≡◌, ◌≤◌, ◌<◌, None, length, map, option_map, IfNone, count_by, take};
 ghost use Rattle.notice_chain.specs.Listed.{release, release_all, removing};
+ghost use Rattle.notice_chain.specs.View.{hear};
 ghost use Rattle.mm_types.specs.Same.{same_node};
 
 use super::AdapterList;
@@ -47,17 +48,26 @@ impl<A: Adapter> AdapterList<A> {
             mut released,
         } = self;
         for one in attached {
-            let Attached {
-                no,
-                target,
-                deep: _,
-                mut adapter,
-            } = one;
-            adapter.notify_changed(last_notice(no, target, 0));
-            released.push_reserved((no, adapter));
+            let no = one.no;
+            released.push_reserved((no, told_of_release(one)));
         }
         released
     }
+}
+
+/// Notifies an adapter of its release, before which nobody with its target is left, and gives it back.
+pub(super) fn told_of_release<A: Adapter>(one: Attached<A>) -> A
+    requires { 1 ≤ A.places one.adapter }
+    ensures { A.heard result ≡ hear (A.heard one.adapter) (removing one.no one.target 0) }
+{
+    let Attached {
+        no,
+        target,
+        deep: _,
+        mut adapter,
+    } = one;
+    adapter.notify_changed(last_notice(no, target, 0));
+    adapter
 }
 
 /// The last notice of an adapter, with its index among the adapters attached to its target.

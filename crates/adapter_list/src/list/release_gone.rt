@@ -11,7 +11,7 @@ ghost use Rattle.adapter_list.specs.Attached.{AreIndexed, AreReady, listed, numb
 ghost use Rattle.adapter_list.specs.Spots.{IsIndexed};
 
 use super::AdapterList;
-use super::release::last_notice;
+use super::release::{last_notice, told_of_release};
 use crate::attached::Attached;
 use crate::spots::{Spot, spot};
 use adapters::Adapter;
@@ -87,13 +87,8 @@ fn let_one_go<A: Adapter>(
     ensures released { views_of A.heard released.new.items ≡ views_of A.heard released.old.items ++ ((one.no, hear (A.heard one.adapter) (removing one.no one.target 0)) ∷ []) }
     ensures released_room { (vec_len released.new ≡ vec_len released.old + 1) × (vec_capacity released.new ≡ vec_capacity released.old) }
 {
-    let Attached {
-        no,
-        target,
-        deep: _,
-        mut adapter,
-    } = one;
-    adapter.notify_changed(last_notice(no, target, 0));
+    let (no, target) = (one.no, one.target);
+    let adapter = told_of_release(one);
     told.push_reserved((no, last_notice(no, target, 0)));
     released.push_reserved((no, adapter));
 }
