@@ -15,7 +15,7 @@ use Rattle.links.specs.Links.{values}
 use Rattle.models.specs.Reading.{at_end}
 use Rattle.resource_docs.specs.declared.doc.Content.{Content}
 use Rattle.resource_docs.specs.declared.doc.Doc.{Doc}
-use Rattle.resource_docs.proofs.Library.{attribute, class, fid, oid, reference, v}
+use Rattle.mm_meta.proofs.Library.{attribute, class, fid, oid, reference, v}
 use Rattle.loading.specs.LoadEdits.{load_edits}
 use Rattle.loading.specs.Loading.{loaded_links, loaded_values, roots_loaded}
 

@@ -10,3 +10,4 @@ mod PlaceLemmas
 pub mod PairLemmas
 pub mod ConformLemmas
 pub mod ShapeLemmas
+pub mod Library

@@ -14,7 +14,7 @@ use Rattle.doc_parts.specs.Parts.{parts}
 use Rattle.resource_docs.specs.Read.{doc_read}
 use Rattle.resource_docs.specs.declared.doc.Content.{Content}
 use Rattle.resource_docs.specs.Causes.{cause_of, reads_bytes}
-use Rattle.resource_docs.proofs.Library.{fid, library, oid, v}
+use Rattle.mm_meta.proofs.Library.{fid, library, oid, v}
 
 -- what an example unfolds to compute what bytes are read as
 unfoldable on_literals : Rattle.std.specs.Prelude.⊤

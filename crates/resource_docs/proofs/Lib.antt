@@ -1,4 +1,3 @@
-pub mod Library
 pub mod ReferenceLemmas
 pub mod ReadingLemmas
 pub mod ObjectLemmas

@@ -4,12 +4,13 @@ use Rattle.std.specs.Fmt.{digits}
 use Rattle.serde_json.proofs.OnLiterals.{serde_json_on_literals}
 use Rattle.mm_types.specs.declared.refused.Refused.TheVariants.{CrossOpposite, Dangling}
 use Rattle.mm_types.specs.declared.value.Value.TheVariants as value
+use Rattle.mm_meta.proofs.Library.{oid, v}
 use Rattle.models.specs.Reading.{Reading}
 use Rattle.fragment_paths.specs.Finding.{at}
 use Rattle.fragment_paths.specs.Fragments.{address, fragment, reference}
 use Rattle.saved_docs.specs.Document.{document, saved}
 use Rattle.saved_docs.specs.Saved.{save_refusal}
-use Rattle.saved_docs.proofs.Library.{end_of, model, o, oid, resource, rid, v}
+use Rattle.saved_docs.proofs.LibraryModels.{end_of, model, o, resource, rid}
 
 -- what an example unfolds to compute a text
 unfoldable on_literals : Rattle.std.specs.Prelude.⊤

@@ -3,5 +3,5 @@ pub mod LevelLemmas
 pub mod RootLemmas
 pub mod JsonLemmas
 pub mod FloatLemmas
-mod Library
+mod LibraryModels
 mod Examples
