@@ -11,6 +11,8 @@ mod arguments;
 #[cfg(test)]
 mod attached;
 #[cfg(test)]
+mod attached_again;
+#[cfg(test)]
 mod books;
 #[cfg(test)]
 mod boxes;
@@ -20,6 +22,8 @@ mod caller;
 mod calls;
 #[cfg(test)]
 mod closing;
+#[cfg(test)]
+mod counted;
 #[cfg(test)]
 mod deciding;
 #[cfg(test)]
@@ -54,8 +58,6 @@ mod script_text;
 mod stored_values;
 #[cfg(test)]
 mod streams;
-#[cfg(test)]
-mod tally;
 #[cfg(test)]
 mod telling;
 #[cfg(test)]

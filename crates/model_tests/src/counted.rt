@@ -1,9 +1,8 @@
-//! An adapter that is counted when it is dropped, and again if REMOVING_ADAPTER was its last notice.
-ghost use Rattle.std.specs.Prelude.{◌-◌, [], Some};
-
+//! Adapters with a part that is counted when it is dropped, and again if REMOVING_ADAPTER was its last notice.
+use crate::telling::{Kind, adapter};
 use adapters::{Adapter, NoRoom};
 use notice_chain::{Notice, NoticeKind};
-use std::alloc::AllocError;
+use std::alloc::{AllocError, Global};
 use std::cell::Cell;
 use std::rc::Rc;
 
@@ -34,56 +33,63 @@ impl Drop for Part {
     }
 }
 
-/// A counter with a part.
+/// An adapter of any kind, with a part.
 #[derive(Drop)]
-pub(crate) struct Tally {
+pub(crate) struct Counted<A> {
     part: Part,
-    told: u64,
+    adapter: A,
 }
 
-impl Tally {
-    pub(crate) fn new(drops: &Rc<Cell<Drops>>) -> Result<Tally, AllocError> {
+impl<A: Adapter> Counted<A> {
+    pub(crate) fn new(drops: &Rc<Cell<Drops>>, adapter: A) -> Result<Counted<A>, AllocError> {
         let drops = drops.clone()?;
-        Ok(Tally {
+        Ok(Counted {
             part: Part {
                 drops,
                 is_removed: false,
             },
-            told: 0,
+            adapter,
         })
     }
 }
 
-impl Adapter for Tally {
-    ghost heard = { λ t. record { told = t.told; room = Some 0; kept = [] } };
+impl<A: Adapter> Adapter for Counted<A> {
+    ghost heard = { λ c. A.heard c.adapter };
 
-    ghost places = { λ t. 18446744073709551615 - t.told };
+    ghost places = { λ c. A.places c.adapter };
 
     fn reserve(&mut self, n: u64) -> Result<(), NoRoom> {
-        if n > u64::MAX - self.told {
-            return Err(NoRoom::Full);
-        }
-        Ok(())
+        self.adapter.reserve(n)
     }
 
     fn notify_changed(&mut self, notice: Notice) {
         self.part.is_removed = notice.kind == NoticeKind::RemovingAdapter;
-        self.told += 1;
+        self.adapter.notify_changed(notice);
     }
 
     fn told(&self) -> u64 {
-        self.told
+        self.adapter.told()
     }
 
     fn room(&self) -> Option<u64> {
-        Some(0)
+        self.adapter.room()
     }
 
     fn kept_len(&self) -> u64 {
-        0
+        self.adapter.kept_len()
     }
 
-    fn kept(&self, _i: u64) -> Option<&Notice> {
-        None
+    fn kept(&self, i: u64) -> Option<&Notice> {
+        self.adapter.kept(i)
     }
+}
+
+/// A box of an adapter with a part.
+pub(crate) fn counted_box(
+    alloc: Global,
+    drops: &Rc<Cell<Drops>>,
+    kind: Kind,
+) -> Result<Box<dyn Adapter>, AllocError> {
+    let adapter = adapter(alloc, kind)?;
+    Ok(Box::new(alloc, Counted::new(drops, adapter)?)?)
 }
