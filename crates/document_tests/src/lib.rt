@@ -15,6 +15,8 @@ mod fragments;
 #[cfg(test)]
 mod graphs;
 #[cfg(test)]
+mod hostile_bytes;
+#[cfg(test)]
 mod joining;
 #[cfg(test)]
 mod library;

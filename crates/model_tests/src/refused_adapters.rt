@@ -92,30 +92,40 @@ fn closed<A: Adapter>(
     back(alloc, adapters.as_slice())
 }
 
-/// Names a book of its own with three adapters, twice, and closes its repository. Shows why it is refused first, what it gives then, and what the
-/// adapters have heard and the book has before, between and after.
+/// Names a book with three adapters, twice. Shows why it is refused first, what it gives then, and what the adapters
+/// have heard and the book has before, between and after.
 fn named_twice<A: Adapter>(
+    alloc: Global,
+    repository: &mut RowRepository<A>,
+) -> Result<[String; 3], Fail> {
+    let refused = refusal(alloc, repository)?;
+    let told = named(alloc, repository)?;
+    let after = state(alloc, repository)?;
+    Ok([refused, told, after])
+}
+
+/// What that gives over a book of its own, and what the adapters have heard when its repository is closed.
+fn twice_at_a_book<A: Adapter>(
     alloc: Global,
     first: A,
     second: A,
     third: A,
-) -> Result<[String; 4], Fail> {
+) -> Result<([String; 3], String), Fail> {
     let mut repository = watched(alloc, first, second, third)?;
-    let refused = refusal(alloc, &mut repository)?;
-    let told = named(alloc, &mut repository)?;
-    let after = state(alloc, &repository)?;
-    Ok([refused, told, after, closed(alloc, repository)?])
+    let found = named_twice(alloc, &mut repository)?;
+    let closed = closed(alloc, repository)?;
+    Ok((found, closed))
 }
 
 /// What that gives with three boxes whose parts are counted.
-fn named_twice_by(
+fn twice_by(
     alloc: Global,
     drops: &Rc<Cell<Drops>>,
     kinds: [Kind; 3],
-) -> Result<[String; 4], Fail> {
+) -> Result<([String; 3], String), Fail> {
     let first = counted_box(alloc, drops, kinds[0])?;
     let second = counted_box(alloc, drops, kinds[1])?;
-    named_twice(alloc, first, second, counted_box(alloc, drops, kinds[2])?)
+    twice_at_a_book(alloc, first, second, counted_box(alloc, drops, kinds[2])?)
 }
 
 #[test]
@@ -128,11 +138,11 @@ fn a_set_that_one_adapter_cannot_hear_notifies_none(rt: HostRuntime) -> Result<(
         closed,
     } in &WATCHED {
         let drops = Rc::new(alloc, Cell::new(NO_DROPS))?;
-        let found = named_twice_by(alloc, &drops, *kinds)?;
+        let (found, last) = twice_by(alloc, &drops, *kinds)?;
         assert_eq!(rt; found[0].as_str(), wanted.as_str());
         assert_eq!(rt; found[1].as_str(), TOLD);
         assert_eq!(rt; found[2].as_str(), *after);
-        assert_eq!(rt; found[3].as_str(), *closed);
+        assert_eq!(rt; last.as_str(), *closed);
         assert_eq!(rt; drops.get().all, 3);
     }
     Ok(())

@@ -1,0 +1,81 @@
+//! What is printed. None of it takes memory.
+use crate::commands::{BROUGHT, FIRST, NAME, THERE};
+use adapters::Adapter;
+use link_store::LinkStore;
+use mm_types::ObjectNo;
+use repository::{Command, Failure, Reply, Repository};
+use std::io;
+use std::io::Write;
+
+/// Prints what a command gives: its answer and how many notices were told, or its refusal and what the adapter was told that comes back.
+fn print_outcome<A: Adapter, W: Write>(
+    writer: &mut W,
+    outcome: &Result<Reply<A>, Failure<A>>,
+) -> Result<(), io::Error> {
+    match outcome {
+        Ok(reply) => writeln!(writer, "{:?}, told {}", reply.answer, reply.told.len()),
+        Err(failure) => match &failure.given_back {
+            Some(adapter) => {
+                writeln!(
+                    writer,
+                    "refused {}, back {}",
+                    failure.refused,
+                    adapter.told()
+                )
+            }
+            None => writeln!(writer, "refused {}", failure.refused),
+        },
+    }
+}
+
+/// Prints what each command gives.
+pub(crate) fn print_outcomes<A: Adapter, W: Write>(
+    writer: &mut W,
+    outcomes: &[Result<Reply<A>, Failure<A>>],
+) -> Result<(), io::Error> {
+    for outcome in outcomes {
+        print_outcome(writer, outcome)?;
+    }
+    Ok(())
+}
+
+/// Prints a command that comes back, and what its adapter was told.
+fn print_command<A: Adapter, W: Write>(
+    writer: &mut W,
+    command: &Command<A>,
+) -> Result<(), io::Error> {
+    match command {
+        Command::Create(class) => writeln!(writer, "back: create {class:?}"),
+        Command::Set { node, value, .. } => writeln!(writer, "back: set {node:?} {value:?}"),
+        Command::Attach { no, adapter, .. } => {
+            writeln!(writer, "back: attach {no:?} {}", adapter.told())
+        }
+        Command::Get { node, .. } => writeln!(writer, "back: get {node:?}"),
+        _ => writeln!(writer, "back: another"),
+    }
+}
+
+/// Prints commands that come back.
+pub(crate) fn print_commands<A: Adapter, W: Write>(
+    writer: &mut W,
+    commands: &[Command<A>],
+) -> Result<(), io::Error> {
+    for command in commands {
+        print_command(writer, command)?;
+    }
+    Ok(())
+}
+
+/// Prints whether the first book has a name, the class of the second, and how many notices the two adapters were told.
+pub(crate) fn print_state<L: LinkStore, A: Adapter, W: Write>(
+    writer: &mut W,
+    repository: &Repository<L, A>,
+) -> Result<(), io::Error> {
+    writeln!(writer, "named {:?}", repository.e_is_set(FIRST, NAME))?;
+    writeln!(writer, "second {:?}", repository.e_class(ObjectNo(1)))?;
+    let told = [
+        repository.adapter_told(THERE),
+        repository.adapter_told(BROUGHT),
+    ];
+    writeln!(writer, "told {told:?}")
+}

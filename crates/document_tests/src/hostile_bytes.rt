@@ -1,0 +1,186 @@
+//! A metamodel and two documents of it that are cut after each of their bytes, or have another byte in the place of one: each is read or refused, and the
+//! answers are counted.
+//!
+//! What is expected follows from JSON alone. None of the texts has a backslash. What is cut before its last brace is none; neither is what has a byte 0,
+//! which stands nowhere in JSON, or a byte 255, which is not UTF-8, or an odd number of quotes.
+use crate::library::{LIBRARY, library};
+use crate::resource::refusal;
+use mm_check::check;
+use mm_load::load_meta;
+use mm_meta::Meta;
+use mm_types::{MetaFault, Refused};
+use std::alloc::{AllocError, Global};
+use std::test::Fail;
+
+/// What a text is read as.
+#[derive(Clone, Copy)]
+enum ReadAs {
+    Metamodel,
+    Document,
+}
+
+/// A text that is read.
+struct Input {
+    read_as: ReadAs,
+    text: &'static str,
+    bytes: u32,
+    quotes: u32,
+    /// How many bytes stand behind its last brace.
+    behind: u32,
+}
+
+const INPUTS: [Input; 3] = [
+    Input {
+        read_as: ReadAs::Metamodel,
+        text: LIBRARY,
+        bytes: 1911,
+        quotes: 326,
+        behind: 1,
+    },
+    // A library is saved, with a book and a member.
+    Input {
+        read_as: ReadAs::Document,
+        text: r#"{"format":1,"roots":[{"class":"Library","features":{"books":[{"class":"Book","features":{"name":"Emma"}}],"members":[{"class":"Person","features":{"likes":["//@books.0"]}}]}}]}"#,
+        bytes: 176,
+        quotes: 34,
+        behind: 0,
+    },
+    // Two proxies.
+    Input {
+        read_as: ReadAs::Document,
+        text: r#"{"format":1,"roots":[{"class":"Person","features":{"likes":["b#/","b#/0"]}}]}"#,
+        bytes: 77,
+        quotes: 16,
+        behind: 0,
+    },
+];
+
+/// How often each answer was given: at 0 how often a text was read, and at each number of a fault or a cause how often it was that one.
+type Counts = [u32; 13];
+
+/// Counts of texts that are read, and of texts that are no JSON.
+fn counts(read: u32, no_json: u32) -> Counts {
+    let mut counts = [0; 13];
+    counts[0] = read;
+    counts[1] = no_json;
+    counts
+}
+
+/// The fault of a metamodel's text, if it has one.
+fn fault_of(alloc: Global, bytes: &[u8]) -> Option<MetaFault> {
+    match load_meta(alloc, bytes) {
+        Ok(raw) => check(alloc, raw).err(),
+        Err(fault) => Some(fault),
+    }
+}
+
+/// The number of a metamodel's fault, 0 where it is accepted; none where memory was refused.
+fn metamodel_answer(alloc: Global, bytes: &[u8]) -> Option<u32> {
+    match fault_of(alloc, bytes) {
+        Some(fault) => fault.number(),
+        None => Some(0),
+    }
+}
+
+/// The number of a document's cause, 0 where it is read; none where it is refused for anything else.
+fn document_answer(alloc: Global, meta: &Meta, bytes: &[u8]) -> Option<u32> {
+    match refusal(alloc, meta, bytes) {
+        Some(Refused::Document(cause)) => Some(cause.number()),
+        Some(_) => None,
+        None => Some(0),
+    }
+}
+
+/// Reads a text, and counts the answer.
+fn count(
+    alloc: Global,
+    meta: &Meta,
+    read_as: ReadAs,
+    bytes: &[u8],
+    counts: &mut Counts,
+) -> Result<(), Fail> {
+    let answer = match read_as {
+        ReadAs::Metamodel => metamodel_answer(alloc, bytes),
+        ReadAs::Document => document_answer(alloc, meta, bytes),
+    };
+    match answer {
+        Some(number) if number < 13 => {
+            counts[number as usize] = counts[number as usize].wrapping_add(1);
+            Ok(())
+        }
+        _ => Err(Fail::new("neither read nor refused by a number")),
+    }
+}
+
+/// Counts the answers to a text that is cut after each of its bytes but the last, and before the first.
+fn cut(alloc: Global, meta: &Meta, input: &Input) -> Result<Counts, Fail> {
+    let mut counts = [0; 13];
+    for at in 0..input.text.len() {
+        let bytes = &input.text.as_bytes()[..at];
+        count(alloc, meta, input.read_as, bytes, &mut counts)?;
+    }
+    Ok(counts)
+}
+
+/// A text with another byte in the place of the one at a position.
+fn with_byte(alloc: Global, text: &str, at: usize, byte: u8) -> Result<Vec<u8>, AllocError> {
+    let mut bytes = text.as_bytes().to_vec(alloc)?;
+    if at < bytes.len() {
+        bytes[at] = byte;
+    }
+    Ok(bytes)
+}
+
+/// Counts the answers to a text with another byte in the place of each of its bytes in turn.
+fn replaced(alloc: Global, meta: &Meta, input: &Input, byte: u8) -> Result<Counts, Fail> {
+    let mut counts = [0; 13];
+    for at in 0..input.text.len() {
+        let bytes = with_byte(alloc, input.text, at, byte)?;
+        count(alloc, meta, input.read_as, bytes.as_slice(), &mut counts)?;
+    }
+    Ok(counts)
+}
+
+#[test]
+fn a_text_that_is_cut_is_no_json(rt: HostRuntime) -> Result<(), Fail> {
+    let meta = library(rt.alloc())?;
+    for input in &INPUTS {
+        let Input { bytes, behind, .. } = input;
+        let found = cut(rt.alloc(), &meta, input)?;
+        assert_eq!(rt;
+            found,
+            counts(*behind, bytes.saturating_sub(*behind)),
+            "at {}",
+            input.text
+        );
+    }
+    Ok(())
+}
+
+#[test]
+fn a_text_with_a_byte_0_or_255_is_no_json(rt: HostRuntime) -> Result<(), Fail> {
+    let meta = library(rt.alloc())?;
+    for input in &INPUTS {
+        for byte in &[0u8, 255] {
+            let found = replaced(rt.alloc(), &meta, input, *byte)?;
+            assert_eq!(rt; found, counts(0, input.bytes), "at {}", input.text);
+        }
+    }
+    Ok(())
+}
+
+#[test]
+fn a_text_with_one_quote_more_is_no_json(rt: HostRuntime) -> Result<(), Fail> {
+    let meta = library(rt.alloc())?;
+    for input in &INPUTS {
+        let Input { bytes, quotes, .. } = input;
+        let found = replaced(rt.alloc(), &meta, input, b'"')?;
+        assert_eq!(rt;
+            found,
+            counts(*quotes, bytes.saturating_sub(*quotes)),
+            "at {}",
+            input.text
+        );
+    }
+    Ok(())
+}
