@@ -9,7 +9,7 @@ mod commands;
 mod printed;
 mod stop;
 
-use adapters::{Adapter, Counter, Recorder};
+use adapters::{Adapter, Recorder};
 use commands::{book, commands, watch};
 use link_store::{LinkStore, SlotStore};
 use mm_check::check;
@@ -22,9 +22,6 @@ use std::io;
 use std::io::Write;
 use std::process::ExitCode;
 use stop::Stop;
-
-/// How many notices the adapter was told that the list attaches.
-const TOLD: u64 = 41;
 
 /// The metamodel of books that have a name.
 const BOOKS: &str =
@@ -85,18 +82,15 @@ fn run<L: LinkStore, A: Adapter, W: Write>(
     session(alloc, writer, &mut repository, first, second)
 }
 
+/// An adapter that takes memory where it is attached.
 fn recorder(alloc: Global) -> Result<Box<dyn Adapter>, AllocError> {
     Ok(Box::new(alloc, Recorder::new(alloc))?)
-}
-
-fn counter(alloc: Global) -> Result<Box<dyn Adapter>, AllocError> {
-    Ok(Box::new(alloc, Counter::starting_at(TOLD))?)
 }
 
 fn start(rt: &HostRuntime) -> Result<(), Stop> {
     let alloc = rt.alloc();
     let meta = books(alloc)?;
-    let (first, second) = (recorder(alloc)?, counter(alloc)?);
+    let (first, second) = (recorder(alloc)?, recorder(alloc)?);
     run::<SlotStore, _, _>(alloc, &mut io::writer(rt), meta, first, second)
 }
 
