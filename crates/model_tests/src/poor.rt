@@ -28,11 +28,10 @@ impl<A: Adapter> Adapter for Poor<A> {
 
     fn reserve(&mut self, n: u64) -> Result<(), NoRoom> {
         self.reserves = self.reserves.wrapping_add(1);
-        self.adapter.reserve(n)?;
-        if self.reserves == self.refused_at {
-            return Err(NoRoom::Memory);
+        match self.adapter.reserve(n) {
+            Ok(()) if self.reserves == self.refused_at => Err(NoRoom::Memory),
+            outcome => outcome,
         }
-        Ok(())
     }
 
     fn notify_changed(&mut self, notice: Notice) {
