@@ -32,7 +32,7 @@ use Rattle.models.specs.Model.{Model, reading, values_at}
 use Rattle.models.specs.Reading.{all_features_of, at_end, has_resource, objects_of}
 use Rattle.containment.proofs.MemberLemmas.{all-among, flat_map-from, same-object}
 use Rattle.containment.proofs.PartLemmas.{IsPart, all-append, all-objects, contains-itself, contains-reference, contents-parts, holder-at, values-linked}
-use Rattle.containment.specs.Forest.{contents, subtree, tree}
+use Rattle.containment.specs.Forest.{contents, node_subtree, subtree, tree}
 
 ---------------------------------------------------------------- lists
 
@@ -237,17 +237,17 @@ module _ (s : Model) (legal : IsLegal s) where
       let up = climb-depth 1 (node.Object r.from) (node.Object o) (part-climbs (node.Object o) r.from part) in
       omega (arith, down, up)
 
-  -- the trees of two parts have nothing in common
-  one-tree : (k : ℕ) (o p q c : ObjectNo) → IsPart s (node.Object o) p → IsPart s (node.Object o) q → list_any (same_object c) (tree (reading s) k p) ≡ true → list_any (same_object c) (tree (reading s) k q) ≡ true → same_object p q ≡ true
-  one-tree k o p q c a b h g =
+  -- the trees of two parts of a node have nothing in common
+  one-tree : (k : ℕ) (n : Node) (p q c : ObjectNo) → IsPart s n p → IsPart s n q → list_any (same_object c) (tree (reading s) k p) ≡ true → list_any (same_object c) (tree (reading s) k q) ≡ true → same_object p q ≡ true
+  one-tree k n p q c a b h g =
       let x = tree-climbs k p c h in
       let y = tree-climbs k q c g in
       let dx = climb-depth x.0 (node.Object c) (node.Object p) x.1 in
       let dy = climb-depth y.0 (node.Object c) (node.Object q) y.1 in
-      let dp = climb-depth 1 (node.Object p) (node.Object o) (part-climbs (node.Object o) p a) in
-      let dq = climb-depth 1 (node.Object q) (node.Object o) (part-climbs (node.Object o) q b) in
+      let dp = climb-depth 1 (node.Object p) n (part-climbs n p a) in
+      let dq = climb-depth 1 (node.Object q) n (part-climbs n q b) in
       let same : x.0 ≡ y.0 = omega (arith, dx, dy, dp, dq) in
-      same_node_if (node.Object p) (node.Object q) (same_Some (node.Object p) (node.Object q) (sym x.1 ∙ ap (λ (n : ℕ). climb s.links n (node.Object c)) same ∙ y.1))
+      same_node_if (node.Object p) (node.Object q) (same_Some (node.Object p) (node.Object q) (sym x.1 ∙ ap (λ (m : ℕ). climb s.links m (node.Object c)) same ∙ y.1))
 
   -- no tree has an object twice
   pub tree-distinct : (k : ℕ) (o : ObjectNo) → IsDistinct same_object (tree (reading s) k o)
@@ -256,8 +256,16 @@ module _ (s : Model) (legal : IsLegal s) where
   tree-distinct (suc k) o =
       let parts = contents (reading s) (node.Object o) in (
         all-apart o (flat_map (tree (reading s) k) parts) (not-below k o),
-        distinct-flat_map same_object (IsPart s (node.Object o)) (tree (reading s) k) (λ p part. tree-distinct k p) (one-tree k o) parts (contents-parts s legal (node.Object o)) (contents-distinct (node.Object o)),
+        distinct-flat_map same_object (IsPart s (node.Object o)) (tree (reading s) k) (λ p part. tree-distinct k p) (one-tree k (node.Object o)) parts (contents-parts s legal (node.Object o)) (contents-distinct (node.Object o)),
       )
 
   pub subtree-distinct : (o : ObjectNo) → IsDistinct same_object (subtree (reading s) o)
   subtree-distinct o = tree-distinct (suc (length s.values.objects)) o
+
+  -- no node has an object twice below it
+  pub node-distinct : (n : Node) → IsDistinct same_object (node_subtree (reading s) n)
+  node-distinct (node.Object o) = subtree-distinct o
+  node-distinct (node.Resource k) =
+      let n = node.Resource k in
+      let levels = suc (length s.values.objects) in
+      distinct-flat_map same_object (IsPart s n) (subtree (reading s)) (λ p part. subtree-distinct p) (one-tree levels n) (contents (reading s) n) (contents-parts s legal n) (contents-distinct n)

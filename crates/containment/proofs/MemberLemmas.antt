@@ -12,6 +12,7 @@ use Rattle.mm_types.specs.Shapes.{is_containment, shape}
 use Rattle.mm_types.specs.declared.numbers.ClassNo.{ClassNo}
 use Rattle.mm_types.specs.declared.numbers.FeatureNo.{FeatureNo}
 use Rattle.mm_types.specs.declared.numbers.ObjectNo.{ObjectNo}
+use Rattle.mm_types.specs.declared.numbers.ResourceNo.{ResourceNo}
 use Rattle.mm_types.specs.declared.numbers.Node.{Node}
 use Rattle.mm_types.specs.declared.numbers.Node.TheVariants as node
 use Rattle.mm_types.specs.declared.end.End.{End}
@@ -28,7 +29,7 @@ use Rattle.models.specs.Reading.{Reading, all_features_of, at_end, has_feature, 
 use Rattle.containment.proofs.HolderLemmas.{container_at, holding-feature}
 use Rattle.containment.proofs.PartLemmas.{IsPart, contains-reference, contents-parts, kinds-are, legal-at, values-linked}
 use Rattle.containment.proofs.TreeLemmas.{subtree-levels}
-use Rattle.containment.specs.Forest.{contents, is_node_among, subtree, tree}
+use Rattle.containment.specs.Forest.{contents, is_node_among, node_subtree, subtree, tree}
 
 ---------------------------------------------------------------- lists
 
@@ -159,6 +160,13 @@ module _ (s : Model) (legal : IsLegal s) where
             or_right _ _ (in-flat_map same_object same-object (tree (reading s) (suc k)) parts r.from c r.among (parts-in k r.from p c r.gives q))
       ]
 
+  -- what is at or below an object is below what the object is below
+  below : (n : Node) (p c : ObjectNo) → IsUnder s.links (node.Object p) n → is_within (reading s) (node.Object p) (node.Object c) ≡ true → IsUnder s.links (node.Object c) n
+  below n p c up q = elim (or_cases (same_object p c) (list_any (same_node (node.Object p)) (above s.links (node.Object c))) q) [
+    | inl same ↦ subst (λ x. IsUnder s.links (node.Object x) n) (same-object p c same) up
+    | inr low ↦ let u = above-under s.links (node.Object c) (node.Object p) low in under-on s.links u.0 (node.Object c) (node.Object p) n u.1 up
+  ]
+
   -- all in a tree is below its object
   tree-within : (k : ℕ) (o c : ObjectNo) → list_any (same_object c) (tree (reading s) k o) ≡ true → is_within (reading s) (node.Object o) (node.Object c) ≡ true
   tree-within zero o c h = absurd (false≢true h)
@@ -170,13 +178,7 @@ module _ (s : Model) (legal : IsLegal s) where
             let r = flat_map-from (tree (reading s) k) parts c later in
             let part = all-among (IsPart s (node.Object o)) parts r.from (contents-parts s legal (node.Object o)) r.among in
             let up = under_holder s.links (node.Object r.from) part.by (node.Object o) part.held part.here in
-            or_right _ _ ((above_under s.links legal.links.set legal.links.forest (node.Object c) (node.Object o)).1 (below r.from c up (tree-within k r.from c r.gives)))
-      ]
-    where
-      below : (p c : ObjectNo) → IsUnder s.links (node.Object p) (node.Object o) → is_within (reading s) (node.Object p) (node.Object c) ≡ true → IsUnder s.links (node.Object c) (node.Object o)
-      below p c up q = elim (or_cases (same_object p c) (list_any (same_node (node.Object p)) (above s.links (node.Object c))) q) [
-        | inl same ↦ subst (λ x. IsUnder s.links (node.Object x) (node.Object o)) (same-object p c same) up
-        | inr low ↦ let u = above-under s.links (node.Object c) (node.Object p) low in under-on s.links u.0 (node.Object c) (node.Object p) (node.Object o) u.1 up
+            or_right _ _ ((above_under s.links legal.links.set legal.links.forest (node.Object c) (node.Object o)).1 (below (node.Object o) r.from c up (tree-within k r.from c r.gives)))
       ]
 
   -- all from which an object is reached is in its subtree
@@ -208,3 +210,44 @@ module _ (s : Model) (legal : IsLegal s) where
         | inl here ↦ reaches-in o 0 (node.Object c) (ap (λ x. Some (node.Object x)) (sym (same-object o c here)))
         | inr low ↦ let u = above-under s.links (node.Object c) (node.Object o) low in reaches-in o (suc u.0) (node.Object c) u.1
       ])
+
+  ---------------------------------------------------------------- resources
+
+  -- what is in a resource is reached through one of its roots
+  through-root : (k : ResourceNo) (n : ℕ) (x : Node) → climb s.links (suc n) x ≡ Some (node.Resource k)
+      → (p : ObjectNo) × (climb s.links n x ≡ Some (node.Object p)) × (list_any (same_object p) (contents (reading s) (node.Resource k)) ≡ true)
+  through-root k n (node.Resource j) at = absurd (none-some _ (sym (climb_stop s.links (node.Resource j) n (resource_top s.links j legal.links.set)) ∙ at))
+  through-root k zero (node.Object c) at =
+      elim (holder s.links (node.Object c)) as (λ q. holder s.links (node.Object c) ≡ q → (p : ObjectNo) × (Some (node.Object c) ≡ Some (node.Object p)) × (list_any (same_object p) (contents (reading s) (node.Resource k)) ≡ true)) [
+        | None ↦ λ h. absurd (none-some _ (sym (climb_stop s.links (node.Object c) zero h) ∙ at))
+        | Some e ↦ λ h. (
+          c,
+          refl,
+          subst (λ (m : Node). list_any (same_object c) (contents (reading s) m) ≡ true) (same_Some e.node (node.Resource k) (sym (climb_step s.links (node.Object c) e zero h) ∙ at)) (held-contents c e h),
+        )
+      ] refl
+  through-root k (suc n) (node.Object c) at =
+      elim (holder s.links (node.Object c)) as (λ q. holder s.links (node.Object c) ≡ q → (p : ObjectNo) × (climb s.links (suc n) (node.Object c) ≡ Some (node.Object p)) × (list_any (same_object p) (contents (reading s) (node.Resource k)) ≡ true)) [
+        | None ↦ λ h. absurd (none-some _ (sym (climb_stop s.links (node.Object c) (suc n) h) ∙ at))
+        | Some e ↦ λ h. let r = through-root k n e.node (sym (climb_step s.links (node.Object c) e (suc n) h) ∙ at) in (r.0, climb_step s.links (node.Object c) e n h ∙ r.1, r.2)
+      ] refl
+
+  roots-within : (k : ResourceNo) (c : ObjectNo) → list_any (same_object c) (node_subtree (reading s) (node.Resource k)) ≡ true → list_any (same_node (node.Resource k)) (above s.links (node.Object c)) ≡ true
+  roots-within k c h =
+      let roots = contents (reading s) (node.Resource k) in
+      let r = flat_map-from (subtree (reading s)) roots c h in
+      let part = all-among (IsPart s (node.Resource k)) roots r.from (contents-parts s legal (node.Resource k)) r.among in
+      let up = under_holder s.links (node.Object r.from) part.by (node.Resource k) part.held part.here in
+      (above_under s.links legal.links.set legal.links.forest (node.Object c) (node.Resource k)).1 (below (node.Resource k) r.from c up (sym (subtree-has r.from (node.Object c)) ∙ r.gives))
+
+  roots-reach : (k : ResourceNo) (c : ObjectNo) → list_any (same_node (node.Resource k)) (above s.links (node.Object c)) ≡ true → list_any (same_object c) (node_subtree (reading s) (node.Resource k)) ≡ true
+  roots-reach k c h =
+      let u = above-under s.links (node.Object c) (node.Resource k) h in
+      let root = through-root k u.0 (node.Object c) u.1 in
+      in-flat_map same_object same-object (subtree (reading s)) (contents (reading s) (node.Resource k)) root.0 c root.2 (reaches-in root.0 u.0 (node.Object c) root.1)
+
+  -- an object is among all objects of a node just where it is that node or below it
+  pub objects-below : (n : Node) (c : ObjectNo) → list_any (same_object c) (node_subtree (reading s) n) ≡ is_within (reading s) n (node.Object c)
+  objects-below (node.Object o) c = subtree-has o (node.Object c)
+  objects-below (node.Resource k) c =
+      same-test (list_any (same_object c) (node_subtree (reading s) (node.Resource k))) (is_within (reading s) (node.Resource k) (node.Object c)) (roots-within k c) (roots-reach k c)

@@ -8,7 +8,7 @@ ghost use Rattle.mm_types.specs.declared.numbers.ObjectNo.{ObjectNo};
 ghost use Rattle.models.specs.Legal.{IsLegal};
 ghost use Rattle.models.specs.Model.{Model, reading};
 ghost use Rattle.models.specs.Reading.{is_within};
-ghost use Rattle.containment.specs.Forest.{contents, is_node_among, subtree};
+ghost use Rattle.containment.specs.Forest.{contents, is_node_among, node_subtree, subtree};
 
 /// A node is in the subtree of an object just where it is that object, or that object is among the nodes above it.
 pub fn a_subtree_has_what_is_below()
@@ -19,4 +19,10 @@ pub fn a_subtree_has_what_is_below()
 pub fn a_subtree_repeats_nothing()
     ensures contents { (s : Model) → IsLegal s → (n : Node) → IsDistinct same_object (contents (reading s) n) }
     ensures subtree { (s : Model) → IsLegal s → (o : ObjectNo) → IsDistinct same_object (subtree (reading s) o) }
+{}
+
+/// An object is among all objects of a node just where it is that node or below it, and it is there once.
+pub fn all_objects_of_a_node_are_those_below_it()
+    ensures below { (s : Model) → IsLegal s → (n : Node) (o : ObjectNo) → is_node_among (node_subtree (reading s) n) (node.Object o) ≡ is_within (reading s) n (node.Object o) }
+    ensures once { (s : Model) → IsLegal s → (n : Node) → IsDistinct same_object (node_subtree (reading s) n) }
 {}

@@ -10,5 +10,6 @@ mod model_ref;
 mod reads;
 
 pub use features::{is_short, is_short_text};
+pub use lists::copied_list;
 pub use model_ref::ModelRef;
 pub use reads::{Found, copied, is_same};

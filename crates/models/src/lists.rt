@@ -1,5 +1,5 @@
 //! What stands at the places of ends.
-ghost use Rattle.std.specs.Prelude.{◌≡◌, ◌&&◌, false, true, Some, length, option_and_then, option_map, option_copied, slice_get, unwrap_or};
+ghost use Rattle.std.specs.Prelude.{◌≡◌, ◌&&◌, false, true, Some, length, option_and_then, option_map, option_copied, slice_get, unwrap_or, IfOk};
 ghost use Rattle.mm_types.specs.Ends.{first_in, has_value};
 ghost use Rattle.std.specs.Option.{option_map_or};
 ghost use Rattle.mm_types.specs.Same.{is_nil, same_value};
@@ -12,11 +12,12 @@ ghost use Rattle.models.specs.Model.{attribute_values, kept_values, reading};
 ghost use Rattle.models.specs.Reading as r;
 
 use crate::model_ref::ModelRef;
-use crate::reads::{Found, found_kept, found_proxy, kept_at, kept_len};
+use crate::reads::{Found, copied, found_kept, found_proxy, kept_at, kept_len};
 use links::LinkStore;
 use mm_meta::Meta;
-use mm_types::{End, FeatureNo, Node, ObjectNo, Value};
+use mm_types::{End, FeatureNo, Node, ObjectNo, Seq, Value};
 use mm_values::Values;
+use std::alloc::{AllocError, Global};
 
 impl<'a, L: LinkStore> ModelRef<'a, L> {
     /// How many values stand at an end.
@@ -130,6 +131,22 @@ impl<'a, L: LinkStore> ModelRef<'a, L> {
             None => self.len(end),
         }
     }
+}
+
+/// A copy of the values that stand at an end. Errs only when out of memory.
+pub fn copied_list<L: LinkStore>(
+    alloc: Global,
+    model: &ModelRef<L>,
+    end: End,
+) -> Result<Seq<Value>, AllocError>
+    ensures { IfOk result (λ vs. vs ≡ (reading model.now).values end) }
+{
+    let len = model.len(end);
+    let mut values = Vec::with_capacity(alloc, len as usize)?;
+    for index in 0..len {
+        values.push_reserved(copied(alloc, model.value_in(end, index))?);
+    }
+    Ok(Seq::from_vec(values))
 }
 
 // Whether an attribute has its default: a single one that keeps nothing.
