@@ -1,0 +1,4 @@
+pub mod Edits
+pub mod Order
+pub mod Replayed
+pub mod Snapshots

@@ -1,0 +1,107 @@
+//! Snapshots.
+ghost use Rattle.std.specs.Prelude.{◌≡◌, option_copied};
+ghost use Rattle.mm_types.specs.Same.{same_feature};
+ghost use Rattle.std.specs.List.{find};
+ghost use Rattle.snapshots.specs.Replayed.{state_at};
+ghost use Rattle.snapshots.specs.Order.{AreInOrder};
+
+use crate::replaying::place_of;
+use mm_types::{ClassNo, FeatureNo, Node, Seq, Value};
+use std::marker::Model;
+
+/// What a node has under a feature: its values (one null, where a single reference is empty), and the set flag, where the feature is
+/// unsettable; another feature has none.
+#[derive(Debug, PartialEq, Drop)]
+pub struct FeatureState {
+    pub feature: FeatureNo,
+    pub values: Seq<Value>,
+    pub flag: Option<bool>,
+}
+
+/// What a node has: its class, which a resource has not, and what stands under each of its features.
+#[derive(Debug, PartialEq, Drop)]
+pub struct NodeState {
+    pub node: Node,
+    pub class: Option<ClassNo>,
+    pub features: Seq<FeatureState>,
+}
+
+/// What a node, and each node below it, had at some time: the nodes in order, resources before objects, each once.
+#[derive(Debug, Drop)]
+pub struct Snapshot {
+    nodes: Vec<NodeState>,
+}
+
+impl Model for Snapshot {
+    ghost use Rattle.std.specs.Prelude.{List};
+    ghost use Rattle.snapshots.specs.declared.snapshot.NodeState.{NodeState};
+    ghost use Rattle.snapshots.specs.Order.{AreInOrder};
+
+    ghost Value = { List NodeState };
+
+    ghost view = { λ s. s.nodes.items };
+
+    ghost invariant = { λ s. AreInOrder s.nodes.items };
+}
+
+impl Snapshot {
+    /// The snapshot of some nodes, which stand in order. Takes no memory.
+    pub fn from_vec(nodes: Vec<NodeState>) -> Self
+        requires in_order { AreInOrder nodes.items }
+        ensures { result ≡ nodes.items }
+    {
+        Snapshot { nodes }
+    }
+
+    /// The nodes as a `Vec`. Takes no memory.
+    pub fn into_vec(self) -> Vec<NodeState>
+        ensures nodes { result.items ≡ self }
+        ensures in_order { AreInOrder self }
+    {
+        self.nodes
+    }
+
+    /// The nodes, in order.
+    pub fn nodes(&self) -> &[NodeState]
+        ensures nodes { result.now ≡ self.now }
+        ensures in_order { AreInOrder self.now }
+    {
+        self.nodes.as_slice()
+    }
+
+    /// What a node had; `None` where the snapshot has not the node. Takes no memory.
+    pub fn state(&self, node: Node) -> Option<&NodeState>
+        ensures { option_copied result ≡ state_at node self.now }
+    {
+        match place_of(&self.nodes, node) {
+            Some(place) => Some(&self.nodes[place]),
+            None => None,
+        }
+    }
+}
+
+impl PartialEq for Snapshot {
+    ghost use Rattle.std.specs.Cmp.Lexicographic.{pointwise, lists_per};
+    ghost use Rattle.snapshots.specs.contracts.snapshot.NodeStatePartialEq.TheImpl as states;
+    ghost use Rattle.snapshots.specs.contracts.snapshot.NodeStatePartialEq.TheImpl.Laws as state_laws;
+
+    ghost eq = { λ xs ys. pointwise states.ghosts.eq xs ys };
+
+    ghost laws = { lists_per state_laws.laws-law };
+
+    fn eq(&self, other: &Self) -> bool {
+        self.nodes == other.nodes
+    }
+}
+
+impl NodeState {
+    /// What the node had under a feature; `None` where it is none of its features. Takes no memory.
+    pub fn under(&self, feature: FeatureNo) -> Option<&FeatureState>
+        ensures { option_copied result ≡ find (λ x. same_feature x.feature feature) self.now.features }
+    {
+        self.features
+            .as_slice()
+            .iter()
+            .find(|x| x.feature == feature)
+    }
+}
