@@ -37,7 +37,7 @@ use Rattle.handshake.specs.declared.change.Change.TheVariants as change
 use Rattle.handshake.proofs.KnownLemmas.{none-else_by, none-unless}
 use Rattle.handshake.proofs.LegalLemmas.{change-keeps-legal, left-object, left-uris}
 use Rattle.repository.specs.declared.command.Command.{Command}
-use Rattle.repository.specs.declared.command.Command.TheVariants.{Create, Set, Unset, Add, Remove, RemoveValue, Move, Delete, Attach, Detach, Get, IsSet, Container, Contents, Class, AdapterTold, AdapterKept, CreateResource, Resolve, Load, Resource, Validate, Fragment, ObjectAt, Save}
+use Rattle.repository.specs.declared.command.Command.TheVariants.{Create, Set, Unset, Add, Remove, RemoveValue, Move, Delete, Attach, Detach, Get, IsSet, Container, Contents, Class, AdapterTold, AdapterKept, CreateResource, Resolve, Load, Resource, Validate, Fragment, ObjectAt, Save, Snapshot}
 use Rattle.repository.specs.State.{State, IsLegal, IsLegalAdapter, is_there, reads}
 use Rattle.repository.specs.Refusals.{chain, early_refusal, late_refusal, resource_refusal}
 use Rattle.repository.specs.Run.{Executed, IsWanting, is_memory}
@@ -182,6 +182,7 @@ keeps-node s (Fragment o) a stays h = h
 keeps-node s (ObjectAt t) a stays h = h
 keeps-node s (Save k) a stays h = h
 keeps-node s (Class o) a stays h = h
+keeps-node s (Snapshot n) a stays h = h
 keeps-node s (AdapterTold number) a stays h = h
 keeps-node s (AdapterKept number) a stays h = h
 
@@ -222,6 +223,7 @@ model-legal s (Fragment o) legal early late = legal
 model-legal s (ObjectAt t) legal early late = legal
 model-legal s (Save k) legal early late = legal
 model-legal s (Class o) legal early late = legal
+model-legal s (Snapshot n) legal early late = legal
 model-legal s (AdapterTold number) legal early late = legal
 model-legal s (AdapterKept number) legal early late = legal
 
@@ -287,6 +289,7 @@ attaches r rs (Fragment o) = inl refl
 attaches r rs (ObjectAt t) = inl refl
 attaches r rs (Save k) = inl refl
 attaches r rs (Class o) = inl refl
+attaches r rs (Snapshot n) = inl refl
 attaches r rs (AdapterTold number) = inl refl
 attaches r rs (AdapterKept number) = inl refl
 

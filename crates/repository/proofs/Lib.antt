@@ -12,3 +12,8 @@ pub mod DocumentLemmas
 pub mod ReadLemmas
 pub mod RunLemmas
 pub mod RememberedLemmas
+mod KeptNodeLemmas
+mod AttachedLemmas
+mod ReplayLemmas
+mod ThereLemmas
+mod EnoughLemmas

@@ -18,7 +18,7 @@ use Rattle.repository.specs.Refusals.{adapter_refusal}
 use Rattle.repository.specs.State.{State, reads}
 use Rattle.repository.specs.Step.{Stepped, step, step_unless}
 use Rattle.repository.specs.declared.command.Command.{Command}
-use Rattle.repository.specs.declared.command.Command.TheVariants.{AdapterKept, AdapterTold, Class, Container, Contents, Get, IsSet, Resource, Validate}
+use Rattle.repository.specs.declared.command.Command.TheVariants.{AdapterKept, AdapterTold, Class, Container, Contents, Get, IsSet, Resource, Snapshot, Validate}
 use Rattle.repository.specs.declared.reply.Answer.{Answer}
 use Rattle.repository.proofs.AdapterLemmas.{is_chain_full-nil, released-nobody, tell_chain-nil}
 
@@ -79,6 +79,9 @@ validate_done s o none = ap (step_unless s (Validate o)) (refusal_quiet (reads s
 
 pub class_done : (s : State) (o : ObjectNo) → object_refusal (reads s) o ≡ None → step s (Class o) ≡ answered s (Class o)
 class_done s o none = ap (step_unless s (Class o)) (refusal_quiet (reads s).above (object_refusal (reads s) o) s.adapters ∙ none) ∙ done_read s (answer_of (reads s) s.adapters (Class o))
+
+pub snapshot_done : (s : State) (n : Node) → node_refusal (reads s) n ≡ None → step s (Snapshot n) ≡ answered s (Snapshot n)
+snapshot_done s n none = ap (step_unless s (Snapshot n)) (refusal_quiet (reads s).above (node_refusal (reads s) n) s.adapters ∙ none) ∙ done_read s (answer_of (reads s) s.adapters (Snapshot n))
 
 pub told_done : (s : State) (no : AdapterNo) → adapter_refusal s.adapters no ≡ None → step s (AdapterTold no) ≡ answered s (AdapterTold no)
 told_done s number none = ap (step_unless s (AdapterTold number)) (refusal_quiet (reads s).above (adapter_refusal s.adapters number) s.adapters ∙ none) ∙ done_read s (answer_of (reads s) s.adapters (AdapterTold number))

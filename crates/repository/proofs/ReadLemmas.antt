@@ -1,6 +1,5 @@
--- What is read of a list, one value after another, and of a feature of one value.
-use Rattle.std.proofs.Common.{◌≡◌, ◌<◌, ◌≤◌, ◌+◌, ◌∙◌, ℕ, zero, suc, Bool, true, false, List, [], ◌∷◌, ◌++◌, drop, length, slice_get, slice_index_or, Option, Some, None, Err, unwrap_or, append_assoc, arith, refl, sym, ap, subst}
-use Rattle.std.proofs.lemmas.List.{append-nil, drop_all, drop_more}
+-- What is read of a feature of one value.
+use Rattle.std.proofs.Common.{◌≡◌, ◌∙◌, Bool, true, false, [], Option, Some, None, Err, refl, sym, ap, subst}
 use Rattle.mm_types.specs.Conditions.{◌else_by◌, ◌unless◌, ◌where_so◌}
 use Rattle.mm_types.specs.Shapes.{shape}
 use Rattle.mm_types.specs.declared.numbers.FeatureNo.{FeatureNo}
@@ -17,27 +16,6 @@ use Rattle.repository.specs.State.{State, reads}
 use Rattle.repository.specs.Step.{step_unless}
 use Rattle.handshake.proofs.RefusalLemmas.{IsNot}
 use Rattle.repository.proofs.PlanLemmas.{feature-not-memory}
-use Rattle.mm_types.specs.declared.value.Value.{Value}
-use Rattle.mm_types.specs.declared.value.Value.TheVariants.{Null}
-
-get-within : (vs : List Value) (k : ℕ) → k < length vs → unwrap_or (slice_get vs k) Null ≡ slice_index_or vs k Null
-get-within [] k h = absurd (omega (arith, h))
-get-within (w ∷ ws) zero h = refl
-get-within (w ∷ ws) (suc k) h = get-within ws k (omega (arith, h))
-
--- one value further
-pub one-further : (vs out new all : List Value) (k : ℕ) (v : Value) → k < length vs → new ≡ out ++ v ∷ [] → v ≡ unwrap_or (slice_get vs k) Null → out ++ drop k vs ≡ all → new ++ drop (k + 1) vs ≡ all
-one-further vs out new all k v low made is whole =
-    ap (λ os. os ++ drop (k + 1) vs) made
-    ∙ append_assoc out (v ∷ []) (drop (k + 1) vs)
-    ∙ ap (λ (w : Value). out ++ w ∷ drop (k + 1) vs) (is ∙ get-within vs k low)
-    ∙ ap (λ ws. out ++ ws) (sym (drop_more vs k Null low))
-    ∙ whole
-
-pub all-read : (vs out all : List Value) (k : ℕ) → length vs ≤ k → out ++ drop k vs ≡ all → out ≡ all
-all-read vs out all k past whole = sym (ap (λ ws. out ++ ws) (drop_all k vs past) ∙ append-nil out) ∙ whole
-
----------------------------------------------------------------- one value
 
 none-after : (o : Option Refused) → (o else_by None) ≡ o
 none-after None = refl

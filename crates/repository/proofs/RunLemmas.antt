@@ -2,7 +2,7 @@
 use Rattle.std.proofs.Common.{◌≡◌, Bool, true, false, List, [], ◌∷◌, ◌++◌, Option, Some, None, Ok, Err, refl, sym, ap, subst, ◌∙◌, if◌then◌else◌, ℕ, option_map}
 use Rattle.std.specs.Prelude.{MatchBool, Result}
 use Rattle.repository.specs.declared.command.Command.{Command}
-use Rattle.repository.specs.declared.command.Command.TheVariants.{Create, Set, Unset, Add, Remove, RemoveValue, Move, Delete, Attach, Detach, Get, IsSet, Container, Contents, Class, AdapterTold, AdapterKept, CreateResource, Resolve, Load, Resource, Validate, Fragment, ObjectAt, Save}
+use Rattle.repository.specs.declared.command.Command.TheVariants.{Create, Set, Unset, Add, Remove, RemoveValue, Move, Delete, Attach, Detach, Get, IsSet, Container, Contents, Class, AdapterTold, AdapterKept, CreateResource, Resolve, Load, Resource, Validate, Fragment, ObjectAt, Save, Snapshot}
 use Rattle.repository.specs.State.{State, reads}
 use Rattle.repository.specs.Loads.{load_of, reads_into}
 use Rattle.mm_types.specs.declared.document_fault.DocFault.{DocFault}
@@ -84,6 +84,7 @@ done-metamodel s (Fragment o) = refl
 done-metamodel s (ObjectAt t) = refl
 done-metamodel s (Save k) = refl
 done-metamodel s (Class o) = refl
+done-metamodel s (Snapshot n) = refl
 done-metamodel s (AdapterTold number) = refl
 done-metamodel s (AdapterKept number) = refl
 

@@ -23,6 +23,7 @@ use Rattle.mm_types.specs.declared.numbers.ObjectNo.{ObjectNo}
 use Rattle.fragment_paths.specs.Fragments.{fragment}
 use Rattle.fragment_paths.specs.Finding.{at}
 use Rattle.saved_docs.specs.Document.{saved}
+use Rattle.snapshots.specs.Snapshots.{snapshot_of}
 use Rattle.repository.specs.Loads.{objects_of, reads_into}
 use Rattle.repository.specs.Resolving.{target_at}
 
@@ -79,5 +80,6 @@ answer_of r rs (command.Fragment o) = answer.Fragment (unwrap_or (fragment r o) 
 answer_of r rs (command.ObjectAt t) = answer.Found (at r t)
 answer_of r rs (command.Save k) = answer.Document (saved r k)
 answer_of r rs (command.Class o) = answer.Class (unwrap_or (r.class o) (record { 0 = 0 }))
+answer_of r rs (command.Snapshot n) = answer.Snapshot (snapshot_of r n)
 answer_of r rs (command.AdapterTold number) = answer.Count (count_of rs number (λ v. v.told))
 answer_of r rs (command.AdapterKept number) = answer.Count (count_of rs number (λ v. length v.kept))

@@ -55,6 +55,7 @@ change_of r (command.Fragment o) = None
 change_of r (command.ObjectAt t) = None
 change_of r (command.Save k) = None
 change_of r (command.Class o) = None
+change_of r (command.Snapshot n) = None
 change_of r (command.AdapterTold number) = None
 change_of r (command.AdapterKept number) = None
 
@@ -91,6 +92,7 @@ early_refusal r rs (command.Fragment o) = object_refusal r o
 early_refusal r rs (command.ObjectAt t) = None
 early_refusal r rs (command.Save k) = node_refusal r (node.Resource k)
 early_refusal r rs (command.Class o) = object_refusal r o
+early_refusal r rs (command.Snapshot n) = node_refusal r n
 early_refusal r rs (command.AdapterTold number) = adapter_refusal rs number
 early_refusal r rs (command.AdapterKept number) = adapter_refusal rs number
 
@@ -129,6 +131,7 @@ late_refusal r rs (command.Fragment o) = Dangling unless is_some (fragment r o)
 late_refusal r rs (command.ObjectAt t) = TextLength unless is_short_text t else_by BadUri unless has_mark t
 late_refusal r rs (command.Save k) = save_refusal r k
 late_refusal r rs (command.Class o) = None
+late_refusal r rs (command.Snapshot n) = None
 late_refusal r rs (command.AdapterTold number) = None
 late_refusal r rs (command.AdapterKept number) = None
 

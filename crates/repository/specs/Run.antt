@@ -56,6 +56,7 @@ takes_memory (command.Fragment o) = true
 takes_memory (command.ObjectAt t) = true
 takes_memory (command.Save k) = true
 takes_memory (command.Class o) = false
+takes_memory (command.Snapshot n) = true
 takes_memory (command.AdapterTold number) = false
 takes_memory (command.AdapterKept number) = false
 

@@ -56,6 +56,7 @@ leaves r (command.Fragment o) a = false
 leaves r (command.ObjectAt t) a = false
 leaves r (command.Save k) a = false
 leaves r (command.Class o) a = false
+leaves r (command.Snapshot n) a = false
 leaves r (command.AdapterTold number) a = false
 leaves r (command.AdapterKept number) a = false
 
@@ -84,6 +85,7 @@ joins (command.Fragment o) = []
 joins (command.ObjectAt t) = []
 joins (command.Save k) = []
 joins (command.Class o) = []
+joins (command.Snapshot n) = []
 joins (command.AdapterTold number) = []
 joins (command.AdapterKept number) = []
 

@@ -52,6 +52,7 @@ brought (command.Fragment o) = None
 brought (command.ObjectAt t) = None
 brought (command.Save k) = None
 brought (command.Class o) = None
+brought (command.Snapshot n) = None
 brought (command.AdapterTold number) = None
 brought (command.AdapterKept number) = None
 
@@ -80,6 +81,7 @@ module _ {A : Type 0} (heard : A → View) where
   command_view (command.ObjectAt t) = command.ObjectAt t
   command_view (command.Save k) = command.Save k
   command_view (command.Class o) = command.Class o
+  command_view (command.Snapshot n) = command.Snapshot n
   command_view (command.AdapterTold number) = command.AdapterTold number
   command_view (command.AdapterKept number) = command.AdapterKept number
 

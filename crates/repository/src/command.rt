@@ -96,6 +96,8 @@ pub enum Command<A = Box<dyn Adapter>> {
     Save(ResourceNo),
     /// Asks for the class of an object (EMF: EObject.eClass; MOF 2.5.1: Reflection, Element.getMetaClass).
     Class(ObjectNo),
+    /// Asks for all that a node and each node below it have.
+    Snapshot(Node),
     /// Asks how many notices an adapter was told.
     AdapterTold(AdapterNo),
     /// Asks how many notices an adapter keeps.

@@ -8,6 +8,7 @@ ghost use Rattle.repository.specs.declared.reply.Answer.TheVariants as answer;
 
 use crate::reply::{Answer, Failure, FeatureValue, Reply};
 use mm_types::{ClassNo, FeatureNo, ObjectNo, Refused, ResourceNo, Seq, Text};
+use snapshots::Snapshot;
 use std::alloc::Global;
 
 /// An answer, as the reply of a command that notifies nobody. Takes no memory.
@@ -131,6 +132,17 @@ pub(crate) fn replied_document<A>(
 {
     let text = read?;
     Ok(reply(alloc, Answer::Document(text)))
+}
+
+/// What a node and each node below it have, as a reply.
+pub(crate) fn replied_snapshot<A>(
+    alloc: Global,
+    read: Result<Snapshot, Refused>,
+) -> Result<Reply<A>, Refused>
+    ensures { (heard : A → View) → change_outcome (changed_view heard result) ≡ read_outcome answer.Snapshot read }
+{
+    let snapshot = read?;
+    Ok(reply(alloc, Answer::Snapshot(snapshot)))
 }
 
 /// What is counted of an adapter, as a reply.

@@ -2,6 +2,7 @@
 use adapters::Adapter;
 use mm_types::{AdapterNo, ClassNo, FeatureNo, ObjectNo, Refused, ResourceNo, Seq, Text, Value};
 use notice_chain::Notice;
+use snapshots::Snapshot;
 
 /// What a command that is done answers.
 #[derive(Debug, Drop)]
@@ -40,6 +41,8 @@ pub enum Answer {
     Document(Text),
     /// The objects that a node contains.
     Objects(Seq<ObjectNo>),
+    /// What a node and each node below it have.
+    Snapshot(Snapshot),
 }
 
 /// What a feature has.

@@ -46,6 +46,7 @@ feature_of (command.Fragment o) = record { 0 = NOTHING }
 feature_of (command.ObjectAt t) = record { 0 = NOTHING }
 feature_of (command.Save k) = record { 0 = NOTHING }
 feature_of (command.Class o) = record { 0 = NOTHING }
+feature_of (command.Snapshot n) = record { 0 = NOTHING }
 feature_of (command.AdapterTold number) = record { 0 = NOTHING }
 feature_of (command.AdapterKept number) = record { 0 = NOTHING }
 
@@ -69,6 +70,7 @@ answer_text m f (answer.Fragment t) = json_text t
 answer_text m f (answer.Document t) = t
 answer_text m f (answer.Within k) = holder_text (option_map node.Resource k)
 answer_text m f (answer.Objects os) = objects_text os
+answer_text m f (answer.Snapshot xs) = codes "snapshot " ++ decimal (length xs)
 
 abbrev pub answer_line : Metamodel → FeatureNo → Answer → List ℕ
 answer_line m f a = answer_text m f a ++ NEWLINE ∷ []

@@ -67,6 +67,11 @@ fn print_answer(
         Answer::Fragment(fragment) => output.json(fragment.as_str()),
         Answer::Document(text) => output.text(text.as_str()),
         Answer::Objects(objects) => output.objects(objects.as_slice()),
+        // No line of a script asks for one.
+        Answer::Snapshot(snapshot) => {
+            output.text("snapshot ")?;
+            output.natural(snapshot.nodes().len() as u64)
+        }
     }
 }
 

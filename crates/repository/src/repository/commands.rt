@@ -8,7 +8,7 @@ use crate::command::Command;
 use crate::reads::{
     outcome, replied, replied_class, replied_container, replied_count, replied_document,
     replied_features, replied_flag, replied_found, replied_fragment, replied_objects,
-    replied_resource,
+    replied_resource, replied_snapshot,
 };
 use crate::reply::{Failure, Reply};
 use adapters::Adapter;
@@ -85,6 +85,7 @@ impl<L: LinkStore, A: Adapter> Repository<L, A> {
             }
             Command::Save(resource) => outcome(replied_document(alloc, self.save(resource))),
             Command::Class(object) => outcome(replied_class(alloc, self.e_class(object))),
+            Command::Snapshot(node) => outcome(replied_snapshot(alloc, self.snapshot(node))),
             Command::AdapterTold(no) => outcome(replied_count(alloc, self.adapter_told(no))),
             Command::AdapterKept(no) => outcome(replied_count(alloc, self.adapter_kept(no))),
         }

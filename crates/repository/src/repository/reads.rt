@@ -4,11 +4,11 @@ ghost use Rattle.handshake.specs.Plans.{is_memory_refusal};
 ghost use Rattle.mm_types.specs.declared.refused.Refused.TheVariants.{NoObject};
 ghost use Rattle.mm_types.specs.declared.value.Value.TheVariants.{Null};
 ghost use Rattle.models.specs.Found.{found_value};
-ghost use Rattle.models.specs.Model.{reading};
 ghost use Rattle.repository.specs.Answers.{got_answer};
 ghost use Rattle.repository.specs.Reads.{IsValueRefusal};
 ghost use Rattle.repository.specs.Run.{Executed, read_outcome};
 ghost use Rattle.repository.specs.State.{reads};
+ghost use Rattle.repository.specs.declared.command.Command.TheVariants as command;
 ghost use Rattle.repository.specs.declared.command.Command.TheVariants.{Class, Container, Contents, Get, IsSet, Resource};
 ghost use Rattle.repository.specs.declared.reply.Answer.TheVariants as answer;
 
@@ -18,9 +18,9 @@ use adapters::Adapter;
 use containment::{container, contents, holder_resource};
 use handshake::{feature_refusal, node_refusal};
 use links::LinkStore;
-use mm_types::{ClassNo, End, FeatureNo, Node, ObjectNo, Refused, ResourceNo, Seq, Value};
-use models::{Found, ModelRef, copied};
-use std::alloc::{AllocError, Global};
+use mm_types::{ClassNo, End, FeatureNo, Node, ObjectNo, Refused, ResourceNo, Seq};
+use models::{Found, copied, copied_list};
+use snapshots::Snapshot;
 
 impl<L: LinkStore, A: Adapter> Repository<L, A> {
     /// What a feature of an object has (EMF: EObject.eGet): one value, which was set, or the default, or the object of a reference; or the
@@ -40,7 +40,7 @@ impl<L: LinkStore, A: Adapter> Repository<L, A> {
             let value = copied(self.alloc, model.value_at(end))?;
             return Ok(FeatureValue::One(value));
         }
-        let values = list_at(self.alloc, &model, end)?;
+        let values = copied_list(self.alloc, &model, end)?;
         Ok(FeatureValue::Many(values))
     }
 
@@ -122,6 +122,22 @@ impl<L: LinkStore, A: Adapter> Repository<L, A> {
         Ok(Seq::from_vec(objects))
     }
 
+    /// What a node and each node below it have: the class, the values of each feature, and the set flag of each unsettable one. Takes
+    /// time in proportion to that.
+    ///
+    /// Refused, the first that applies: `NoObject`, `NoResource`, `Memory`.
+    #[tactic(auto, using(crate::proofs::QuietLemmas::snapshot_done))]
+    pub fn snapshot(&self, node: Node) -> Result<Snapshot, Refused>
+        ensures { Executed self.now (command.Snapshot node) (read_outcome answer.Snapshot result) self.now }
+    {
+        let model = self.model();
+        if let Some(refused) = node_refusal(&model, node) {
+            return Err(refused);
+        }
+        let snapshot = Snapshot::of(self.alloc, &model, node)?;
+        Ok(snapshot)
+    }
+
     /// The class of an object (EMF: EObject.eClass). Takes no memory. Refused with `NoObject` where none lives.
     #[tactic(auto, using(crate::proofs::QuietLemmas::class_done))]
     pub fn e_class(&self, object: ObjectNo) -> Result<ClassNo, Refused>
@@ -133,20 +149,4 @@ impl<L: LinkStore, A: Adapter> Repository<L, A> {
             None => Err(Refused::NoObject),
         }
     }
-}
-
-// A copy of the values that stand at an end. Errs only when out of memory.
-fn list_at<L: LinkStore>(
-    alloc: Global,
-    model: &ModelRef<L>,
-    end: End,
-) -> Result<Seq<Value>, AllocError>
-    ensures { IfOk result (λ vs. vs ≡ (reading model.now).values end) }
-{
-    let len = model.len(end);
-    let mut values = Vec::with_capacity(alloc, len as usize)?;
-    for index in 0..len {
-        values.push_reserved(copied(alloc, model.value_in(end, index))?);
-    }
-    Ok(Seq::from_vec(values))
 }

@@ -1,0 +1,155 @@
+-- What one command makes of the ends of a node that is there before and after it.
+use Rattle.std.proofs.Common.{◌≡◌, ◌||◌, ℕ, Bool, true, false, IsTrue, List, [], ◌∷◌, map, Option, Some, None, Ok, Err, option_map, refl, sym, ap, ◌∙◌}
+use Rattle.std.specs.Prelude.{Result}
+use Rattle.std.specs.List.{list_any}
+use Rattle.std.specs.Option.{option_map_or}
+use Rattle.std.proofs.lemmas.Bool.{and_parts}
+use Rattle.mm_types.specs.Ends.{Held}
+use Rattle.mm_types.specs.Same.{same_end, same_node}
+use Rattle.mm_types.specs.Shapes.{shape}
+use Rattle.mm_types.proofs.SameLemmas.{same_node-true}
+use Rattle.mm_types.specs.Resolved.{Metamodel}
+use Rattle.mm_types.specs.declared.document_fault.DocFault.{DocFault}
+use Rattle.mm_types.specs.declared.end.End.{End}
+use Rattle.mm_types.specs.declared.numbers.FeatureNo.{FeatureNo}
+use Rattle.mm_types.specs.declared.numbers.ResourceNo.{ResourceNo}
+use Rattle.mm_types.specs.declared.numbers.Node.{Node}
+use Rattle.mm_types.specs.declared.numbers.Node.TheVariants as node
+use Rattle.notice_chain.specs.Listed.{Listed, heard_of, hears}
+use Rattle.notice_chain.specs.Replay.{names, naming, replayed_all, replayed_each}
+use Rattle.notice_chain.specs.View.{View}
+use Rattle.notice_chain.specs.declared.notice.Notice.{Notice}
+use Rattle.notice_chain.proofs.ReplayLemmas.{replayed_all-at}
+use Rattle.resource_docs.specs.declared.doc.Doc.{Doc}
+use Rattle.web_uris.specs.Joined.{joined}
+use Rattle.models.specs.Legal as models
+use Rattle.models.specs.Model.{Model, reading}
+use Rattle.models.specs.Reading.{Reading, all_features_of, at_end, held_at, is_within}
+use Rattle.handshake.specs.Named.{node_refusal}
+use Rattle.handshake.specs.Telling.{has_flag}
+use Rattle.handshake.specs.Tellings as planned_chain
+use Rattle.handshake.specs.declared.change.Change.{Change}
+use Rattle.handshake.specs.declared.change.Change.TheVariants as change
+use Rattle.handshake.proofs.ChainLemmas.{chain-replays}
+use Rattle.repository.specs.Loads.{load_of, load_refusal, reads_into}
+use Rattle.repository.specs.Refusals.{chain, change_of, early_refusal, late_refusal, resource_refusal}
+use Rattle.repository.specs.Resolving.{target_at}
+use Rattle.repository.specs.State.{State, is_there, reads}
+use Rattle.repository.specs.Step.{model_after}
+use Rattle.repository.specs.declared.command.Command.{Command}
+use Rattle.repository.specs.declared.command.Command.TheVariants.{Create, Set, Unset, Add, Remove, RemoveValue, Move, Delete, Attach, Detach, Get, IsSet, Container, Contents, Class, AdapterTold, AdapterKept, CreateResource, Resolve, Load, Resource, Validate, Fragment, ObjectAt, Save, Snapshot}
+use Rattle.repository.proofs.LoadLemmas.{text-read}
+use Rattle.repository.proofs.PlanLemmas.{uri-allowed}
+use Rattle.snapshots.specs.Replayed.{end_of}
+use Rattle.snapshots.specs.declared.snapshot.FeatureState.{FeatureState}
+use Rattle.snapshots.specs.declared.snapshot.NodeState.{NodeState}
+use Rattle.snapshots.specs.Snapshots.{feature_state, flag_of, node_state}
+use Rattle.repository.proofs.KeptNodeLemmas.{class-by, comes-none, features-by, goes-none, metamodel-by, model_by}
+use Rattle.snapshots.proofs.NodeLemmas.{feature_after, feature_after-flag, feature_after-plain, filter-filter, node_after, node_after-features, same_values-each}
+
+---------------------------------------------------------------- one end
+
+-- the chain of a change, if there is one, makes of an end what it holds after it
+Replays : Model → Option Change → End → Type 0
+Replays s o d = replayed_all (has_flag s.metamodel) (held_at (reading s)) (option_map_or (planned_chain.chain (reading s)) o []) d ≡ held_at (reading (model_by s o)) d
+
+abbrev IsThere : Model → Node → Type 0
+IsThere s n = IsTrue (is_there (reading s) n)
+
+resource-replays : (s : State) (t : List ℕ) (uri : Option (List ℕ)) → models.IsLegal s.model → resource_refusal (reads s) t uri ≡ None → (d : End) → Replays s.model (option_map change.NewResource uri) d
+unfolding Replays
+resource-replays s t None legal late d = refl
+resource-replays s t (Some u) legal late d = chain-replays s.model (change.NewResource u) legal refl (uri-allowed (reads s) t u late) tt d refl refl
+
+load-replays : (s : State) (k : ResourceNo) (text : List ℕ) (read : Result Doc DocFault) → reads_into (reads s) k text ≡ read → models.IsLegal s.model → node_refusal (reads s) (node.Resource k) ≡ None → load_refusal (reads s) k read ≡ None
+    → (d : End) → IsThere s.model d.node → Replays s.model (load_of k read) d
+unfolding Replays
+load-replays s k text (Ok doc) is legal early late d before =
+    chain-replays s.model (change.Load k doc) legal early late (text-read (reads s) k text doc is) d refl (comes-none s.model k doc d.node before)
+load-replays s k text (Err f) is legal early late d before = refl
+
+pub command-replays : (s : State) (c : Command View) → models.IsLegal s.model → early_refusal (reads s) s.adapters c ≡ None → late_refusal (reads s) s.adapters c ≡ None
+    → (d : End) → IsThere s.model d.node → IsThere (model_after s.model c) d.node
+    → replayed_all (has_flag s.model.metamodel) (held_at (reads s)) (chain (reads s) c) d ≡ held_at (reading (model_after s.model c)) d
+unfolding Replays
+command-replays s (Create c) legal early late d before later = chain-replays s.model (change.Create c) legal early late tt d refl refl
+command-replays s (Set n f v) legal early late d before later = chain-replays s.model (change.Set n f v) legal early late tt d refl refl
+command-replays s (Unset n f) legal early late d before later = chain-replays s.model (change.Unset n f) legal early late tt d refl refl
+command-replays s (Add n f v i) legal early late d before later = chain-replays s.model (change.Add n f v i) legal early late tt d refl refl
+command-replays s (Remove n f i) legal early late d before later = chain-replays s.model (change.Remove n f i) legal early late tt d refl refl
+command-replays s (RemoveValue n f v) legal early late d before later = chain-replays s.model (change.RemoveValue n f v) legal early late tt d refl refl
+command-replays s (Move n f to from) legal early late d before later = chain-replays s.model (change.Move n f to from) legal early late tt d refl refl
+command-replays s (Delete o) legal early late d before later = chain-replays s.model (change.Delete o) legal early late tt d (goes-none s.model o d.node later) refl
+command-replays s (CreateResource t) legal early late d before later = resource-replays s t (joined [] t) legal late d
+command-replays s (Resolve o f i) legal early late d before later = chain-replays s.model (change.Resolve o f i (target_at (reads s) o f i)) legal early late tt d refl refl
+command-replays s (Load k text) legal early late d before later = load-replays s k text (reads_into (reads s) k text) refl legal early late d before
+command-replays s (Attach number target deep view) legal early late d before later = refl
+command-replays s (Detach number) legal early late d before later = refl
+command-replays s (Get n f) legal early late d before later = refl
+command-replays s (IsSet n f) legal early late d before later = refl
+command-replays s (Container o) legal early late d before later = refl
+command-replays s (Resource o) legal early late d before later = refl
+command-replays s (Contents n) legal early late d before later = refl
+command-replays s (Validate o) legal early late d before later = refl
+command-replays s (Fragment o) legal early late d before later = refl
+command-replays s (ObjectAt t) legal early late d before later = refl
+command-replays s (Save k) legal early late d before later = refl
+command-replays s (Class o) legal early late d before later = refl
+command-replays s (Snapshot n) legal early late d before later = refl
+command-replays s (AdapterTold number) legal early late d before later = refl
+command-replays s (AdapterKept number) legal early late d before later = refl
+
+---------------------------------------------------------------- what is heard of it
+
+-- an adapter at a node that is above another hears each notice that names an end of the other
+hears-named : (r : Reading) (a : Listed) (d : End) → a.deep ≡ true → is_within r a.target d.node ≡ true → (x : Notice) → names d x ≡ true → hears r.above a x ≡ true
+hears-named r a d deep within x named =
+    let at : x.notifier ≡ d.node = by x.feature named in
+    rw deep (ap (λ (n : Node). same_node a.target n || list_any (same_node a.target) (r.above n)) at ∙ within)
+  where
+    by : (f : Option FeatureNo) → option_map_or (λ y. same_end y d) (option_map (λ g. let e : End = record { node = x.notifier; feature = g } in e) f) false ≡ true → x.notifier ≡ d.node
+    by None h = absurd (cc)
+    by (Some g) h = same_node-true x.notifier d.node (and_parts _ _ h).0
+
+pub heard-naming : (r : Reading) (a : Listed) (ns : List Notice) (d : End) → a.deep ≡ true → is_within r a.target d.node ≡ true → naming d (heard_of r.above ns a) ≡ naming d ns
+heard-naming r a ns d deep within = filter-filter (names d) (λ n. hears r.above a n) ns (hears-named r a d deep within)
+
+---------------------------------------------------------------- one node
+
+abbrev state_of : FeatureNo → Bool → Held → FeatureState
+state_of f u h = record { feature = f; values = h.values; flag = flag_of u h.flag }
+
+feature-step : (at : Node) (ns : List Notice) (f : FeatureNo) (u : Bool) (g h : Held) → replayed_each u (naming (end_of at f) ns) g ≡ h → feature_after at ns (state_of f u g) ≡ state_of f u h
+feature-step at ns f true g h e = feature_after-flag at ns f g.values g.flag ∙ ap (state_of f true) e
+feature-step at ns f false g h e =
+    feature_after-plain at ns f g.values
+    ∙ ap (λ vs. let y : FeatureState = record { feature = f; values = vs; flag = None } in y) (same_values-each false (naming (end_of at f) ns) (record { values = g.values; flag = false }) g refl ∙ ap (λ (x : Held). x.values) e)
+
+map-step : (g : FeatureState → FeatureState) (a b : FeatureNo → FeatureState) (fs : List FeatureNo) → ((f : FeatureNo) → g (a f) ≡ b f) → map g (map a fs) ≡ map b fs
+map-step g a b [] h = refl
+map-step g a b (f ∷ fs) h = λ i. h f i ∷ map-step g a b fs h i
+
+-- of a node that is there before and after a command, what is heard of the command makes what the node has before it what it has after it
+pub node-step : (s : State) (c : Command View) (a : Listed) (n : Node) → models.IsLegal s.model → early_refusal (reads s) s.adapters c ≡ None → late_refusal (reads s) s.adapters c ≡ None
+    → a.deep ≡ true → is_within (reads s) a.target n ≡ true → IsThere s.model n → IsThere (model_after s.model c) n
+    → node_after (heard_of (reads s).above (chain (reads s) c) a) (node_state (reads s) n) ≡ node_state (reading (model_after s.model c)) n
+node-step s c a n legal early late deep within before later =
+    let r = reads s in
+    let o = change_of r c in
+    let t = model_after s.model c in
+    let m = s.model.metamodel in
+    let ns = chain r c in
+    let hs = heard_of r.above ns a in
+    let ends : (f : FeatureNo) → feature_after n hs (feature_state r n f) ≡ feature_state (reading t) n f =
+    λ (f : FeatureNo).
+    let d = at_end n f in
+    let all : replayed_each (has_flag m f) (naming d ns) (held_at r d) ≡ held_at (reading t) d = sym (replayed_all-at (has_flag m) (held_at r) ns d) ∙ command-replays s c legal early late d before later in
+    let heard : replayed_each (has_flag m f) (naming d hs) (held_at r d) ≡ held_at (reading t) d = ap (λ xs. replayed_each (has_flag m f) xs (held_at r d)) (heard-naming r a ns d deep within) ∙ all in
+    feature-step n hs f (has_flag m f) (held_at r d) (held_at (reading t) d) heard
+    ∙ ap (λ (q : Metamodel). state_of f (shape q f).is_unsettable (held_at (reading t) d)) (sym (metamodel-by s.model o)) in
+    let features : map (feature_after n hs) (map (feature_state r n) (all_features_of r n)) ≡ map (feature_state (reading t) n) (all_features_of (reading t) n) =
+    map-step (feature_after n hs) (feature_state r n) (feature_state (reading t) n) (all_features_of r n) ends
+    ∙ ap (map (feature_state (reading t) n)) (sym (features-by s.model o n before later)) in
+    let class = sym (class-by s.model o n before later) in
+    node_after-features hs (node_state r n)
+    ∙ (λ i. let y : NodeState = record { node = n; class = class i; features = features i } in y)

@@ -1,0 +1,66 @@
+-- In a legal state a node that is the target of an adapter, or below it, is there.
+use Rattle.std.proofs.Common.{◌≡◌, ◌||◌, Bool, true, false, IsTrue, List, [], ◌∷◌, Option, Some, None, is_some, option_map, if◌then◌else◌, refl, sym, ap, ◌∙◌, subst}
+use Rattle.std.specs.List.{All, find, list_any}
+use Rattle.std.specs.Option.{option_map_or}
+use Rattle.std.proofs.lemmas.List.Elements.{All-head, All-tail}
+use Rattle.std.proofs.lemmas.Option.{none-some, same_Some}
+use Rattle.mm_types.specs.Same.{node_value, same_node}
+use Rattle.mm_types.proofs.SameLemmas.{same_node-true}
+use Rattle.mm_types.specs.declared.end.End.{End}
+use Rattle.mm_types.specs.declared.numbers.AdapterNo.{AdapterNo}
+use Rattle.mm_types.specs.declared.numbers.ObjectNo.{ObjectNo}
+use Rattle.mm_types.specs.declared.numbers.Node.{Node}
+use Rattle.mm_types.specs.declared.numbers.Node.TheVariants as node
+use Rattle.mm_types.specs.declared.value.Value.TheVariants as value
+use Rattle.links.specs.Holders.{above, holder}
+use Rattle.links.specs.Links.{end}
+use Rattle.links.proofs.HolderLemmas.{holder-some, place_held}
+use Rattle.models.specs.Legal as models
+use Rattle.models.specs.Model.{Model, reading}
+use Rattle.models.specs.Reading.{is_within}
+use Rattle.containment.proofs.AboveLemmas.{above-root, parent-resource}
+use Rattle.containment.proofs.PartLemmas.{legal-at, taken-live}
+use Rattle.notice_chain.specs.Listed.{Listed, adapter, has_no}
+use Rattle.repository.specs.State.{State, IsLegal, IsLegalAdapter, is_there, reads}
+
+-- what a node contains lives
+contained-live : (s : Model) → models.IsLegal s → (o : ObjectNo) (e : End) → holder s.links (node.Object o) ≡ Some e → IsTrue (is_there (reading s) (node.Object o))
+contained-live s legal o e held =
+    let n = node.Object o in
+    let l = holder-some s.links n e held in
+    let at = place_held l.0 n e (legal.links.set.placed.sides l.0 l.1) l.2 in
+    let there = (legal.links.set.placed.ends e).has at.0 (node_value n) (l.0, l.1, at.1) in
+    let taken = (legal-at (reading s) e (end s.links e) at.0 (value.Object o) (legal.links.ends e) there).1 in
+    let live = taken-live s.metamodel (reading s).class e.feature o taken in
+    rw live refl
+
+not-empty : (x : Node) (xs : List Node) → xs ≡ [] → list_any (same_node x) xs ≡ true → ⊥
+not-empty x [] e h = cc
+not-empty x (y ∷ ys) e h = cc
+
+below-there : (s : Model) → models.IsLegal s → (target n : Node) → list_any (same_node target) (above s.links n) ≡ true → IsTrue (is_there (reading s) n)
+below-there s legal target (node.Resource k) below = absurd (not-empty target _ (above-root s.links (node.Resource k) legal.links.set legal.links.forest (parent-resource s.links (node.Resource k) k legal.links.set refl)) below)
+below-there s legal target (node.Object o) below =
+    elim (holder s.links (node.Object o)) as (λ h. holder s.links (node.Object o) ≡ h → IsTrue (is_there (reading s) (node.Object o))) [
+      | None ↦ λ none. absurd (not-empty target _ (above-root s.links (node.Object o) legal.links.set legal.links.forest (sym (ap (option_map (λ (e : End). e.node)) none))) below)
+      | Some e ↦ λ held. contained-live s legal o e held
+    ] refl
+
+pub within-there : (s : Model) → models.IsLegal s → (target n : Node) → IsTrue (is_there (reading s) target) → is_within (reading s) target n ≡ true → IsTrue (is_there (reading s) n)
+within-there s legal target n there within =
+    elim (same_node target n) as (λ b. same_node target n ≡ b → (b || list_any (same_node target) (above s.links n)) ≡ true → IsTrue (is_there (reading s) n)) [
+      | true ↦ λ same _. subst (λ (m : Node). IsTrue (is_there (reading s) m)) (same_node-true target n same) there
+      | false ↦ λ _ below. below-there s legal target n below
+    ] refl within
+
+found-legal : (P : Listed → Type 0) (k : AdapterNo) (rs : List Listed) (a : Listed) → find (has_no k) rs ≡ Some a → All P rs → P a
+found-legal P k [] a h all = absurd (none-some a h)
+found-legal P k (r ∷ rs) a h all =
+    elim (has_no k r) as (λ b. (if b then Some r else find (has_no k) rs) ≡ Some a → P a) [
+      | true ↦ λ e. subst P (same_Some r a e) (All-head P r rs all)
+      | false ↦ λ e. found-legal P k rs a e (All-tail P r rs all)
+    ] h
+
+-- the target of an attached adapter is there
+pub target-there : (s : State) (number : AdapterNo) (a : Listed) → IsLegal s → adapter number s.adapters ≡ Some a → IsTrue (is_there (reads s) a.target)
+target-there s number a legal some = (found-legal (IsLegalAdapter (reads s)) number s.adapters a some legal.adapters).target
