@@ -1,11 +1,14 @@
 //! The list of commands, and what is done before it.
+use crate::stop::Stop;
 use adapters::Adapter;
 use link_store::LinkStore;
 use mm_types::{AdapterNo, ClassNo, FeatureNo, Node, ObjectNo, Refused, Text, Value};
+use notice_chain::{NO_INDEX, Notice, NoticeKind};
 use repository::{Command, Repository};
+use snapshots::{Snapshot, replay};
 use std::alloc::{AllocError, Global};
 
-const BOOK: ClassNo = ClassNo(0);
+pub(crate) const BOOK: ClassNo = ClassNo(0);
 
 /// The first book.
 pub(crate) const FIRST: Node = Node::Object(ObjectNo(0));
@@ -28,6 +31,30 @@ pub(crate) fn book<L: LinkStore, A: Adapter>(
     }
 }
 
+/// The notice that the first book is named.
+fn named(alloc: Global) -> Result<Notice, AllocError> {
+    Ok(Notice {
+        notifier: FIRST,
+        feature: Some(NAME),
+        kind: NoticeKind::Set,
+        old_value: Value::Null,
+        new_value: Value::Text(Text::from_str(alloc, "Emma")?),
+        position: NO_INDEX,
+        was_set: false,
+    })
+}
+
+/// What that notice makes of the snapshot of the first book.
+pub(crate) fn replayed<L: LinkStore, A: Adapter>(
+    alloc: Global,
+    repository: &Repository<L, A>,
+) -> Result<Box<Snapshot>, Stop> {
+    let snapshot = repository.snapshot(FIRST)?;
+    let notices = vec![in alloc; named(alloc)?]?;
+    let snapshot = replay(alloc, snapshot, notices.as_slice())?;
+    Ok(Box::new(alloc, snapshot)?)
+}
+
 /// Attaches an adapter to the first book; one that is refused is dropped.
 pub(crate) fn watch<L: LinkStore, A: Adapter>(
     repository: &mut Repository<L, A>,
@@ -39,7 +66,7 @@ pub(crate) fn watch<L: LinkStore, A: Adapter>(
     }
 }
 
-/// Makes another book, names the first, attaches an adapter to it, and reads its name.
+/// Makes another book, names the first, attaches an adapter to it, reads its name, and takes its snapshot.
 pub(crate) fn commands<A: Adapter>(
     alloc: Global,
     adapter: A,
@@ -61,6 +88,7 @@ pub(crate) fn commands<A: Adapter>(
         },
         attach,
         Command::Get { node, feature },
+        Command::Snapshot(node),
     ]?;
     Ok(commands)
 }

@@ -1,6 +1,8 @@
 //! Does a list of commands by one call of a repository, and prints what each of them gives; or, where there is no memory for what they give, the
 //! commands that come back. Then it prints what the repository has.
 //!
+//! `command_list N` follows N books instead: it takes a snapshot, names each book, and replays the notices. `bench/measure` runs it.
+//!
 //! `tests/run_refused_memory` runs it once for each of its allocations, which is refused. No script makes this call, and no test function can refuse
 //! memory.
 #![tactic(auto)]
@@ -8,9 +10,10 @@
 mod commands;
 mod printed;
 mod stop;
+mod views;
 
-use adapters::{Adapter, Recorder};
-use commands::{book, commands, watch};
+use adapters::{Adapter, Counter, Recorder};
+use commands::{book, commands, replayed, watch};
 use link_store::{LinkStore, SlotStore};
 use mm_check::check;
 use mm_load::load_meta;
@@ -18,10 +21,11 @@ use mm_meta::Meta;
 use printed::{print_commands, print_outcomes, print_state};
 use repository::{Command, Repository};
 use std::alloc::{AllocError, Global};
-use std::io;
 use std::io::Write;
 use std::process::ExitCode;
+use std::{env, io};
 use stop::Stop;
+use views::followed;
 
 /// The metamodel of books that have a name.
 const BOOKS: &str =
@@ -54,7 +58,8 @@ fn empty<L: LinkStore, A: Adapter>(
     Ok(Box::new(alloc, repository)?)
 }
 
-/// Makes a book at which an adapter is, does the list of commands, which attaches another, and prints what that gives.
+/// Makes a book at which an adapter is, does the list of commands, which attaches another, and prints what that gives. At last it prints what a
+/// notice made of the book's snapshot from before the list.
 fn session<L: LinkStore, A: Adapter, W: Write>(
     alloc: Global,
     writer: &mut W,
@@ -64,9 +69,11 @@ fn session<L: LinkStore, A: Adapter, W: Write>(
 ) -> Result<(), Stop> {
     book(repository)?;
     watch(repository, first)?;
+    let replayed = replayed(alloc, repository)?;
     let commands = commands(alloc, second)?;
     do_all(writer, repository, commands)?;
     print_state(writer, repository)?;
+    writeln!(writer, "replayed {:?}", *replayed)?;
     Ok(())
 }
 
@@ -87,7 +94,32 @@ fn recorder(alloc: Global) -> Result<Box<dyn Adapter>, AllocError> {
     Ok(Box::new(alloc, Recorder::new(alloc))?)
 }
 
+/// Follows so many books, and prints how many nodes the view has.
+fn follow(rt: &HostRuntime, count: u32) -> Result<(), Stop> {
+    let alloc = rt.alloc();
+    let mut repository: Box<Repository<SlotStore, Counter>> = empty(alloc, books(alloc)?)?;
+    let followed = followed(alloc, &mut repository, Counter::new(), count)?;
+    writeln!(io::writer(rt), "followed {followed:?}")?;
+    Ok(())
+}
+
+/// The number that the program is given, if it is given one.
+fn count(rt: &HostRuntime) -> Result<Option<u32>, Stop> {
+    let mut words = env::args(rt)?.skip(1);
+    match words.next() {
+        Some(word) => Ok(word.as_str().parse::<u32>().ok()),
+        None => Ok(None),
+    }
+}
+
 fn start(rt: &HostRuntime) -> Result<(), Stop> {
+    match count(rt)? {
+        Some(count) => follow(rt, count),
+        None => list(rt),
+    }
+}
+
+fn list(rt: &HostRuntime) -> Result<(), Stop> {
     let alloc = rt.alloc();
     let meta = books(alloc)?;
     let (first, second) = (recorder(alloc)?, recorder(alloc)?);

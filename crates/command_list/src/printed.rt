@@ -51,6 +51,7 @@ fn print_command<A: Adapter, W: Write>(
             writeln!(writer, "back: attach {no:?} {}", adapter.told())
         }
         Command::Get { node, .. } => writeln!(writer, "back: get {node:?}"),
+        Command::Snapshot(node) => writeln!(writer, "back: snapshot {node:?}"),
         _ => writeln!(writer, "back: another"),
     }
 }

@@ -8,7 +8,7 @@ use std::{fmt, io};
 pub enum Stop {
     /// Memory was refused before the list was done.
     Memory,
-    /// Nothing could be written.
+    /// Nothing could be written, or the arguments could not be read.
     Writing,
     /// The metamodel, or what is done before the list, is refused for another reason: the program is wrong.
     Refused,
@@ -27,8 +27,11 @@ impl<T: Drop> From<AllocFailed<T>> for Stop {
 }
 
 impl From<io::Error> for Stop {
-    fn from(_error: io::Error) -> Stop {
-        Stop::Writing
+    fn from(error: io::Error) -> Stop {
+        match error.kind() {
+            io::ErrorKind::OutOfMemory => Stop::Memory,
+            _ => Stop::Writing,
+        }
     }
 }
 

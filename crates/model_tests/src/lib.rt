@@ -29,7 +29,11 @@ mod deciding;
 #[cfg(test)]
 mod drops;
 #[cfg(test)]
+mod following;
+#[cfg(test)]
 mod latest;
+#[cfg(test)]
+mod library;
 #[cfg(test)]
 mod list_calls;
 #[cfg(test)]
@@ -45,6 +49,8 @@ mod refused_adapters;
 #[cfg(test)]
 mod refused_edits;
 #[cfg(test)]
+mod replays;
+#[cfg(test)]
 mod replies;
 #[cfg(test)]
 mod repositories;
@@ -54,6 +60,8 @@ mod run_ends;
 mod runs;
 #[cfg(test)]
 mod script_text;
+#[cfg(test)]
+mod seeds;
 #[cfg(test)]
 mod stored_values;
 #[cfg(test)]
