@@ -79,16 +79,15 @@ pub(crate) fn commands<A: Adapter>(
         deep: false,
         adapter,
     };
-    let commands = vec![in alloc;
-        Command::Create(BOOK),
-        Command::Set {
-            node,
-            feature,
-            value
-        },
-        attach,
-        Command::Get { node, feature },
-        Command::Snapshot(node),
-    ]?;
+    let mut commands = Vec::new(alloc);
+    commands.push(Command::Create(BOOK))?;
+    commands.push(Command::Set {
+        node,
+        feature,
+        value,
+    })?;
+    commands.push(attach)?;
+    commands.push(Command::Get { node, feature })?;
+    commands.push(Command::Snapshot(node))?;
     Ok(commands)
 }
