@@ -20,7 +20,7 @@ use mm_load::load_meta;
 use mm_meta::Meta;
 use printed::{print_commands, print_outcomes, print_state};
 use repository::{Command, Repository};
-use std::alloc::{AllocError, Global};
+use std::alloc::Global;
 use std::io::Write;
 use std::process::ExitCode;
 use std::{env, io};
@@ -89,11 +89,6 @@ fn run<L: LinkStore, A: Adapter, W: Write>(
     session(alloc, writer, &mut repository, first, second)
 }
 
-/// An adapter that takes memory where it is attached.
-fn recorder(alloc: Global) -> Result<Box<dyn Adapter>, AllocError> {
-    Ok(Box::new(alloc, Recorder::new(alloc))?)
-}
-
 /// Follows so many books, and prints how many nodes the view has.
 fn follow(rt: &HostRuntime, count: u32) -> Result<(), Stop> {
     let alloc = rt.alloc();
@@ -122,7 +117,9 @@ fn start(rt: &HostRuntime) -> Result<(), Stop> {
 fn list(rt: &HostRuntime) -> Result<(), Stop> {
     let alloc = rt.alloc();
     let meta = books(alloc)?;
-    let (first, second) = (recorder(alloc)?, recorder(alloc)?);
+    // A recorder takes memory where it is attached.
+    let first: Box<dyn Adapter> = Box::new(alloc, Recorder::new(alloc))?;
+    let second: Box<dyn Adapter> = Box::new(alloc, Recorder::new(alloc))?;
     run::<SlotStore, _, _>(alloc, &mut io::writer(rt), meta, first, second)
 }
 
