@@ -1,56 +1,58 @@
 //! An adapter that is refused memory once.
+ghost use Rattle.std.specs.Prelude.{◌-◌, [], Some};
+
 use adapters::{Adapter, NoRoom};
 use notice_chain::Notice;
 
-/// An adapter of any kind that is refused memory at one of its reserves alone, which is given by its number, from 1. Refused at its second, it is
-/// attached, and the next chain is refused.
+/// A counter that is refused memory at its second reserve alone: it is attached, and the next chain is refused.
 #[derive(Drop)]
-pub(crate) struct Poor<A> {
-    adapter: A,
+pub(crate) struct Poor {
+    told: u64,
     reserves: u64,
-    refused_at: u64,
 }
 
-impl<A: Adapter> Poor<A> {
-    pub(crate) fn new(adapter: A, refused_at: u64) -> Poor<A> {
+impl Poor {
+    pub(crate) fn new() -> Poor {
         Poor {
-            adapter,
+            told: 0,
             reserves: 0,
-            refused_at,
         }
     }
 }
 
-impl<A: Adapter> Adapter for Poor<A> {
-    ghost heard = { λ p. A.heard p.adapter };
+impl Adapter for Poor {
+    ghost heard = { λ p. record { told = p.told; room = Some 0; kept = [] } };
 
-    ghost places = { λ p. A.places p.adapter };
+    ghost places = { λ p. 18446744073709551615 - p.told };
 
     fn reserve(&mut self, n: u64) -> Result<(), NoRoom> {
-        self.reserves = self.reserves.wrapping_add(1);
-        match self.adapter.reserve(n) {
-            Ok(()) if self.reserves == self.refused_at => Err(NoRoom::Memory),
-            outcome => outcome,
+        if n > u64::MAX - self.told {
+            return Err(NoRoom::Full);
         }
+        self.reserves = self.reserves.wrapping_add(1);
+        if self.reserves == 2 {
+            return Err(NoRoom::Memory);
+        }
+        Ok(())
     }
 
-    fn notify_changed(&mut self, notice: Notice) {
-        self.adapter.notify_changed(notice);
+    fn notify_changed(&mut self, _notice: Notice) {
+        self.told += 1;
     }
 
     fn told(&self) -> u64 {
-        self.adapter.told()
+        self.told
     }
 
     fn room(&self) -> Option<u64> {
-        self.adapter.room()
+        Some(0)
     }
 
     fn kept_len(&self) -> u64 {
-        self.adapter.kept_len()
+        0
     }
 
-    fn kept(&self, i: u64) -> Option<&Notice> {
-        self.adapter.kept(i)
+    fn kept(&self, _i: u64) -> Option<&Notice> {
+        None
     }
 }

@@ -1,8 +1,9 @@
-//! Adapters with a part that is counted when it is dropped, and again if REMOVING_ADAPTER was its last notice.
-use crate::telling::{Kind, adapter};
+//! An adapter that is counted when it is dropped, and again if REMOVING_ADAPTER was its last notice.
+ghost use Rattle.std.specs.Prelude.{◌-◌, [], Some};
+
 use adapters::{Adapter, NoRoom};
 use notice_chain::{Notice, NoticeKind};
-use std::alloc::{AllocError, Global};
+use std::alloc::AllocError;
 use std::cell::Cell;
 use std::rc::Rc;
 
@@ -33,63 +34,56 @@ impl Drop for Part {
     }
 }
 
-/// An adapter of any kind, with a part.
+/// A counter with a part.
 #[derive(Drop)]
-pub(crate) struct Counted<A> {
+pub(crate) struct Tally {
     part: Part,
-    adapter: A,
+    told: u64,
 }
 
-impl<A: Adapter> Counted<A> {
-    pub(crate) fn new(drops: &Rc<Cell<Drops>>, adapter: A) -> Result<Counted<A>, AllocError> {
+impl Tally {
+    pub(crate) fn new(drops: &Rc<Cell<Drops>>) -> Result<Tally, AllocError> {
         let drops = drops.clone()?;
-        Ok(Counted {
+        Ok(Tally {
             part: Part {
                 drops,
                 is_removed: false,
             },
-            adapter,
+            told: 0,
         })
     }
 }
 
-impl<A: Adapter> Adapter for Counted<A> {
-    ghost heard = { λ c. A.heard c.adapter };
+impl Adapter for Tally {
+    ghost heard = { λ t. record { told = t.told; room = Some 0; kept = [] } };
 
-    ghost places = { λ c. A.places c.adapter };
+    ghost places = { λ t. 18446744073709551615 - t.told };
 
     fn reserve(&mut self, n: u64) -> Result<(), NoRoom> {
-        self.adapter.reserve(n)
+        if n > u64::MAX - self.told {
+            return Err(NoRoom::Full);
+        }
+        Ok(())
     }
 
     fn notify_changed(&mut self, notice: Notice) {
         self.part.is_removed = notice.kind == NoticeKind::RemovingAdapter;
-        self.adapter.notify_changed(notice);
+        self.told += 1;
     }
 
     fn told(&self) -> u64 {
-        self.adapter.told()
+        self.told
     }
 
     fn room(&self) -> Option<u64> {
-        self.adapter.room()
+        Some(0)
     }
 
     fn kept_len(&self) -> u64 {
-        self.adapter.kept_len()
+        0
     }
 
-    fn kept(&self, i: u64) -> Option<&Notice> {
-        self.adapter.kept(i)
+    fn kept(&self, _i: u64) -> Option<&Notice> {
+        None
     }
-}
-
-/// A box of an adapter with a part.
-pub(crate) fn counted_box(
-    alloc: Global,
-    drops: &Rc<Cell<Drops>>,
-    kind: Kind,
-) -> Result<Box<dyn Adapter>, AllocError> {
-    let adapter = adapter(alloc, kind)?;
-    Ok(Box::new(alloc, Counted::new(drops, adapter)?)?)
 }
