@@ -13,7 +13,7 @@ use std::fmt::Debug;
 use std::test::Fail;
 
 /// Rows of numbers, as a graph has them.
-fn rows_of(alloc: Global, rows: &[&[usize]]) -> Result<Vec<Seq<usize>>, AllocError> {
+fn rows_of<T: Copy>(alloc: Global, rows: &[&[T]]) -> Result<Vec<Seq<T>>, AllocError> {
     let mut made = Vec::new(alloc);
     for row in rows {
         let items = Vec::from_slice(alloc, row)?;
@@ -77,7 +77,7 @@ fn shown<T: Debug>(alloc: Global, rows: &[Seq<T>]) -> Result<String, AllocError>
 fn inherited_by(
     alloc: Global,
     graph: &[Seq<usize>],
-    own: &[Seq<usize>],
+    own: &[Seq<u32>],
     order: &[usize],
 ) -> Result<String, AllocError>
     requires graph { InRange graph.now }
@@ -92,7 +92,7 @@ fn inherited_by(
 }
 
 /// An order of the classes in which each comes behind its supertypes, and all features of each class.
-fn inherited(alloc: Global, graph: &[Seq<usize>], own: &[Seq<usize>]) -> Result<String, Fail> {
+fn inherited(alloc: Global, graph: &[Seq<usize>], own: &[Seq<u32>]) -> Result<String, Fail> {
     if !is_in_range(graph) || own.len() != graph.len() {
         return Err(Fail::new("these are no classes"));
     }
@@ -200,7 +200,7 @@ fn names_clash_across_a_diamond(rt: HostRuntime) -> Result<(), Fail> {
 }
 
 /// A feature of its own for each class, of the class's number.
-fn one_each(alloc: Global, count: usize) -> Result<Vec<Seq<usize>>, AllocError> {
+fn one_each(alloc: Global, count: u32) -> Result<Vec<Seq<u32>>, AllocError> {
     let mut own = Vec::new(alloc);
     for c in 0..count {
         let mut features = Seq::new(alloc);
@@ -214,7 +214,7 @@ fn one_each(alloc: Global, count: usize) -> Result<Vec<Seq<usize>>, AllocError> 
 fn last_features(
     alloc: Global,
     graph: &[Seq<usize>],
-    own: &[Seq<usize>],
+    own: &[Seq<u32>],
     order: &[usize],
 ) -> Result<Option<usize>, AllocError>
     requires graph { InRange graph.now }
@@ -237,7 +237,7 @@ fn last_conforms(alloc: Global, graph: &[Seq<usize>]) -> Result<Option<bool>, Al
 }
 
 /// The first class on a cycle, how many features the last class has, and whether it conforms to every class.
-fn last_of(alloc: Global, graph: &[Seq<usize>], own: &[Seq<usize>]) -> Result<String, Fail> {
+fn last_of(alloc: Global, graph: &[Seq<usize>], own: &[Seq<u32>]) -> Result<String, Fail> {
     if !is_in_range(graph) || own.len() != graph.len() {
         return Err(Fail::new("these are no classes"));
     }

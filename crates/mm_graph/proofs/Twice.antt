@@ -21,11 +21,11 @@ record IsSeen (seen xs : List (List ℕ)) : Type 0 where
   at : slice_get xs place ≡ Some name
   among : is_among seen name ≡ true
 
-or_left : (a b : Bool) → a ≡ true → (a || b) ≡ true
+pub or_left : (a b : Bool) → a ≡ true → (a || b) ≡ true
 or_left true b h = refl
 or_left false b h = cc
 
-or_right : (a b : Bool) → b ≡ true → (a || b) ≡ true
+pub or_right : (a b : Bool) → b ≡ true → (a || b) ≡ true
 or_right true b h = refl
 or_right false b h = h
 

@@ -11,7 +11,7 @@ use mm_types::Seq;
 use std::alloc::{AllocError, AllocFailed, Global};
 
 /// Puts behind the features found those of a row that are new.
-fn add_new(found: &mut IndexSet<usize>, features: &[usize]) -> Result<(), AllocFailed<usize>>
+fn add_new(found: &mut IndexSet<u32>, features: &[u32]) -> Result<(), AllocFailed<u32>>
     ensures { OnOk result (found.new.keys ≡ with_new found.old.keys features.now) }
 {
     for feature in features {
@@ -24,9 +24,9 @@ fn add_new(found: &mut IndexSet<usize>, features: &[usize]) -> Result<(), AllocF
 fn merged(
     alloc: Global,
     supers: &[usize],
-    rows: &[Seq<usize>],
-    own: &[usize],
-) -> Result<Seq<usize>, AllocError>
+    rows: &[Seq<u32>],
+    own: &[u32],
+) -> Result<Seq<u32>, AllocError>
     requires { All (λ e. e < length rows.now) supers.now }
     ensures { IfOk result (λ r. r ≡ with_new (with_rows rows.now [] supers.now) own.now) }
 {
@@ -44,20 +44,21 @@ fn merged(
 /// refused.
 ///
 /// Each class's row is made once, from the rows of its supertypes, so many paths to one supertype
-/// cost no more than one.
+/// cost no more than one. A row takes four bytes a feature and no more: all rows together are the
+/// largest part of a metamodel.
 pub fn features_table(
     alloc: Global,
     graph: &[Seq<usize>],
-    own: &[Seq<usize>],
+    own: &[Seq<u32>],
     order: &[usize],
-) -> Result<Vec<Seq<usize>>, AllocError>
+) -> Result<Vec<Seq<u32>>, AllocError>
     requires graph { InRange graph.now }
     requires own { length own.now ≡ length graph.now }
     requires order { IsOrder graph.now order.now }
     ensures len { IfOk result (λ t. length t.items ≡ length graph.now) }
     ensures rows { IfOk result (λ t. (c : ℕ) → c < length graph.now → row t.items c ≡ all_features graph.now own.now c) }
 {
-    let mut rows = Vec::new(alloc);
+    let mut rows = Vec::with_capacity(alloc, graph.len())?;
     'empty: for _class in 0..graph.len() {
         rows.push(Seq::new(alloc))?;
     }

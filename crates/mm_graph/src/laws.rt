@@ -9,7 +9,7 @@ use mm_types::Seq;
 
 /// Where there is an order, all features of a class are those of its direct supertypes, in declared
 /// order, and then its own; the first occurrence of each.
-pub fn all_features_from_supers(_graph: &[Seq<usize>], _own: &[Seq<usize>], _order: &[usize])
+pub fn all_features_from_supers(_graph: &[Seq<usize>], _own: &[Seq<u32>], _order: &[usize])
     requires { IsOrder _graph.now _order.now }
     ensures { (c : ℕ) → c < length _graph.now → all_features _graph.now _own.now c ≡ from_supers _graph.now _own.now c }
 {}

@@ -21,7 +21,11 @@ use Rattle.mm_types.specs.declared.numbers.ClassNo.{ClassNo}
 use Rattle.mm_types.specs.declared.numbers.FeatureNo.{FeatureNo}
 use Rattle.mm_types.specs.declared.raw.RawClass.{RawClass}
 use Rattle.mm_types.specs.declared.raw.RawFeature.{RawFeature}
-use Rattle.mm_meta.specs.FeatureNames.{AreRows, ComesTo, IsNext, IsRow}
+use Rattle.mm_meta.specs.FeatureNames.{AreFeatureNames, AreRows, ComesTo, IsNext, IsRow}
+use Rattle.mm_meta.specs.Meta.{IsMeta, metamodel}
+use Rattle.mm_meta.specs.declared.feature_names.FeatureNames.{FeatureNames}
+use Rattle.mm_meta.specs.declared.meta.Meta.TheInside.{Inside}
+use Rattle.mm_graph.proofs.Twice.{or_left, or_right}
 use Rattle.mm_meta.proofs.FeatureNameLemmas.{is_name, missing, name_is}
 use Rattle.mm_meta.proofs.MetaLemmas.{supertypes_resolved}
 use Rattle.mm_meta.proofs.OwnerLemmas.{has_none, has_of_owner}
@@ -104,14 +108,6 @@ unique m d c f g =
     numbered_alike g f (only_one d.raw d.well_formed c g f x.0.name
     (subst (λ (w : List ℕ). IsInherited d.raw c g w) same (inherited d.raw d.well_formed c g y.0 y.1 other)) (inherited d.raw d.well_formed c f x.0 x.1 one)))
     d
-
-or_left : (a b : Bool) → a ≡ true → (a || b) ≡ true
-or_left true b h = refl
-or_left false b h = cc
-
-or_right : (a b : Bool) → b ≡ true → (a || b) ≡ true
-or_right true b h = refl
-or_right false b h = h
 
 find_only : (p : FeatureNo → Bool) (f : FeatureNo) (xs : List FeatureNo) → p f ≡ true → ((g : FeatureNo) → list_any (λ h. nat_eq h.0 g.0) xs ≡ true → p g ≡ true → g ≡ f)
     → list_any (λ h. nat_eq h.0 f.0) xs ≡ true → find p xs ≡ Some f
@@ -269,3 +265,37 @@ rows_more m rows f row long here known k low = ⊎_elim
     subst (λ (r : List (Option FeatureNo)). IsRow m (feature_name m (feature_no k)) r) (sym is)
     (subst (λ (n : ℕ). IsRow m (feature_name m (feature_no n)) row) (sym (last ∙ long)) here))
     (cases_lt k (length rows))
+
+---------------------------------------------------------------- a metamodel's own table
+
+pub record Known (m : Metamodel) (n : FeatureNames) : Type 0 where
+  pub document : IsOfDocument m
+  pub names : AreFeatureNames n (map (λ f. f.name) m.features)
+
+pub known : (x : Inside) (m : Metamodel) → IsMeta x → metamodel x ≡ m → Known m x.names
+known x m is same = record {
+  document = subst IsOfDocument same is.of_document;
+  names = subst (λ (m : Metamodel). AreFeatureNames x.names (map (λ f. f.name) m.features)) same is.finds_features;
+}
+
+pub record IsFirst (m : Metamodel) (c : ClassNo) (name : List ℕ) (i : ℕ) : Type 0 where
+  pub low : i < length m.features
+  pub came : ComesTo m c name i
+
+-- the first place that the table has for a name
+pub known_first : (m : Metamodel) (n : FeatureNames) → Known m n → (c : ClassNo) (name : List ℕ) (i : ℕ)
+    → ((names : List (List ℕ)) → AreFeatureNames n names → Some i ≡ position (λ x. bytes_eq x name) names) → IsFirst m c name i
+known_first m n k c name i found =
+    let is : position (λ x. bytes_eq x name) (map (λ f. f.name) m.features) ≡ Some i = sym (found _ k.names) in
+    record { low = low_named m name i is; came = comes_to_first m c name i is }
+
+-- behind a feature that the class has not stands the next of its name
+pub known_next : (m : Metamodel) (n : FeatureNames) → Known m n → (c : ClassNo) (name : List ℕ) (at : ℕ) → ComesTo m c name at → at < length m.features
+    → has_feature m c (feature_no at) ≡ false → ComesTo m c name (get_or n.next.items at 0)
+known_next m n k c name at came low has_not =
+    let long : length (map (λ f. f.name) m.features) ≡ length m.features = length-map m.features (λ (f : Feature). f.name) in
+    comes_to_next m c name at _ came low has_not (k.names.next at (omega arith))
+
+-- the table has an entry for each feature
+pub known_long : (m : Metamodel) (n : FeatureNames) → Known m n → length n.next.items ≡ length m.features
+known_long m n k = k.names.long ∙ length-map m.features (λ (f : Feature). f.name)

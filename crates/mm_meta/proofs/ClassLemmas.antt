@@ -1,19 +1,17 @@
 -- The rows of classes: how long they are, and that what they hold is small.
-use Rattle.std.proofs.Common.{◌≡◌, ◌∙◌, ◌+◌, ◌*◌, ◌<◌, ◌≤◌, ◌^◌, ℕ, suc, true, List, [], ◌∷◌, Option, Some, None, ap, arith, get_or, length, refl, subst, sym}
+use Rattle.std.proofs.Common.{◌≡◌, ◌∙◌, ◌+◌, ◌<◌, ◌≤◌, ◌^◌, ℕ, suc, List, [], ◌∷◌, Option, Some, None, ap, arith, get_or, length, refl, subst, sym}
 use Rattle.std.specs.Prelude.{IsTrue}
-use Rattle.std.specs.List.{All, cons_option, filter_map, list_all}
+use Rattle.std.specs.List.{All, cons_option, filter_map}
 use Rattle.std.specs.Str.{bytes_eq}
 use Rattle.std.proofs.lemmas.Bool.Decides.{nat_tests}
 use Rattle.std.proofs.lemmas.List.{length-map}
 use Rattle.std.proofs.lemmas.List.Elements.{All-cons, All-map, All-nil}
 use Rattle.std.proofs.lemmas.List.Quantifiers.{position-Some}
-use Rattle.std.proofs.lemmas.Option.{slice_get-get_or}
 use Rattle.mm_types.specs.Graph.{row}
-use Rattle.mm_types.specs.Raw.{RawMetamodel, class_fits, is_within_limits}
-use Rattle.mm_types.specs.Resolved.{class_named, graph_of, own_from, own_of}
+use Rattle.mm_types.specs.Raw.{RawMetamodel, is_within_limits}
+use Rattle.mm_types.specs.Resolved.{class_named, graph_of, own_from}
 use Rattle.mm_types.specs.declared.raw.RawClass.{RawClass}
 use Rattle.mm_graph.specs.Order.{InRange}
-use Rattle.mm_meta.proofs.ResolverLemmas.{own_low}
 
 named_within : (cs : List RawClass) (n : List ℕ) (c : ℕ) → class_named cs n ≡ Some c → c < length cs
 named_within [] n c h = cc
@@ -45,14 +43,6 @@ IsSmall n = n < 2 ^ 32
 
 pub few_classes : (raw : RawMetamodel) → IsTrue (is_within_limits raw) → length raw.classes ≤ 1000
 few_classes raw within = grind (arith, nat_tests)
-
-pub small_own : (raw : RawMetamodel) (c : ℕ) → IsTrue (is_within_limits raw) → All IsSmall (row (own_of raw.classes) c)
-small_own raw c within k d low =
-    let all : list_all class_fits raw.classes ≡ true = grind (arith, nat_tests) in
-    let few : length raw.classes ≤ 1000 = few_classes raw within in
-    let below : get_or (row (own_of raw.classes) c) k d < 0 + 256 * length raw.classes =
-    own_low 0 raw.classes c k (get_or (row (own_of raw.classes) c) k d) all (slice_get-get_or (row (own_of raw.classes) c) k d low) in
-    omega arith
 
 pub small_supers : (raw : RawMetamodel) (c : ℕ) → IsTrue (is_within_limits raw) → c < length raw.classes → All IsSmall (row (graph_of raw.classes) c)
 small_supers raw c within inside k d low =

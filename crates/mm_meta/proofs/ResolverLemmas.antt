@@ -1,7 +1,7 @@
 -- What the tables of a resolver find.
-use Rattle.std.proofs.Common.{◌≡◌, ◌∙◌, ◌+◌, ◌*◌, ◌<◌, ◌≤◌, ◌&&◌, ◌^◌, ℕ, zero, suc, Bool, true, false, List, [], ◌∷◌, length, map, Option, Some, None, ap, arith, get_or, refl, subst, sym, codes, Bor}
-use Rattle.std.specs.Prelude.{option_and_then, option_map, position, slice_get, IfSome, IsTrue}
-use Rattle.std.specs.List.{ItemBy, list_all, range_with_len}
+use Rattle.std.proofs.Common.{◌≡◌, ◌∙◌, ◌<◌, ◌≤◌, ◌&&◌, ◌^◌, ℕ, zero, suc, Bool, true, false, List, [], ◌∷◌, length, map, Option, Some, None, ap, arith, get_or, refl, subst, sym, codes, Bor}
+use Rattle.std.specs.Prelude.{option_and_then, option_map, position, slice_get, IsTrue}
+use Rattle.std.specs.List.{ItemBy, list_all}
 use Rattle.std.specs.Option.{option_copied}
 use Rattle.std.specs.Str.{bytes_eq}
 use Rattle.std.proofs.lemmas.Bool.Decides.{nat_tests}
@@ -10,7 +10,7 @@ use Rattle.std.proofs.lemmas.List.Quantifiers.{position-Some}
 use Rattle.std.proofs.lemmas.Option.{slice_get-map, slice_get_past, slice_get_read}
 use Rattle.mm_types.specs.Raw.{RawMetamodel, class_fits, enum_fits, is_within_limits}
 use Rattle.mm_types.specs.Graph.{row}
-use Rattle.mm_types.specs.Resolved.{data_type_named, enum_named, own_from, own_named, own_of, own_position}
+use Rattle.mm_types.specs.Resolved.{data_type_named, enum_named, own_position}
 use Rattle.mm_types.specs.declared.class.Enumeration.{Enumeration}
 use Rattle.mm_types.specs.declared.feature.DataType.TheVariants.{Enum}
 use Rattle.mm_types.specs.declared.raw.RawClass.{RawClass}
@@ -45,29 +45,12 @@ own_at classes c name = named_at (λ k. map (λ f. f.name) k.features) classes c
     shown None = refl
     shown (Some k) = position-map (λ n. bytes_eq n name) (λ f. f.name) k.features
 
-range_low : (a k i n : ℕ) → slice_get (range_with_len a k) i ≡ Some n → n < a + k
-range_low a zero i n is = cc
-range_low a (suc k) zero n is = let e : a ≡ n = cc in omega arith
-range_low a (suc k) (suc i) n is = let h : n < a + 1 + k = range_low (a + 1) k i n is in omega arith
-
 both : (a b : Bool) → (a && b) ≡ true → (a ≡ true) × (b ≡ true)
 both true b h = (refl, h)
 both false b h = cc
 
 pub few_features : (k : RawClass) → class_fits k ≡ true → length k.features ≤ 256
 few_features k h = grind (arith, nat_tests)
-
--- the numbers of features are below 256 a class
-pub own_low : (first : ℕ) (cs : List RawClass) (c i n : ℕ) → list_all class_fits cs ≡ true → slice_get (row (own_from first cs) c) i ≡ Some n → n < first + 256 * length cs
-own_low first [] c i n fits is = cc
-own_low first (k ∷ ks) zero i n fits is =
-    let low : n < first + length k.features = range_low first (length k.features) i n is in
-    let few : length k.features ≤ 256 = few_features k (both _ _ fits).0 in
-    omega arith
-own_low first (k ∷ ks) (suc c) i n fits is =
-    let low : n < first + length k.features + 256 * length ks = own_low (first + length k.features) ks c i n (both _ _ fits).1 is in
-    let few : length k.features ≤ 256 = few_features k (both _ _ fits).0 in
-    omega arith
 
 all_at : {X : Type 0} (p : X → Bool) (xs : List X) (i : ℕ) (x : X) → list_all p xs ≡ true → slice_get xs i ≡ Some x → p x ≡ true
 all_at p [] i x all is = cc
@@ -91,19 +74,3 @@ literal_low raw e name i within is = few (slice_get raw.enums e) refl is
 -- the row that was read
 pub row_read : (table rows : List (List ℕ)) (c : ℕ) (r : List ℕ) → rows ≡ table → c < length rows → r ≡ get_or rows c r → row table c ≡ r
 row_read table rows c r same low is = rw (← same) (get_or_default rows c [] r low ∙ sym is)
-
--- the number of a feature is small
-pub own_small : (raw : RawMetamodel) (c : ℕ) (name : List ℕ) (n : ℕ) → IsTrue (is_within_limits raw) → own_named raw.classes c name ≡ Some n → n < 2 ^ 32
-own_small raw c name n within is = some_at (own_position raw.classes c name) is
-  where
-    some_at : (o : Option ℕ) → option_and_then (slice_get (row (own_of raw.classes) c)) o ≡ Some n → n < 2 ^ 32
-    some_at None is = cc
-    some_at (Some i) is =
-        let all : list_all class_fits raw.classes ≡ true = grind (arith, nat_tests) in
-        let count : length raw.classes ≤ 1000 = grind (arith, nat_tests) in
-        let low : n < 0 + 256 * length raw.classes = own_low 0 raw.classes c i n all is in
-        omega arith
-
-pub own_small_if : (raw : RawMetamodel) (c : ℕ) (name : List ℕ) (o : Option ℕ) → IsTrue (is_within_limits raw) → o ≡ own_named raw.classes c name → IfSome o (λ n. n < 2 ^ 32)
-own_small_if raw c name None within is = tt
-own_small_if raw c name (Some n) within is = own_small raw c name n within (sym is)

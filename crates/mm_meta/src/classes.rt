@@ -22,19 +22,8 @@ fn class_numbers(alloc: Global, numbers: &[usize]) -> Result<Seq<ClassNo>, Alloc
     Ok(found)
 }
 
-fn feature_numbers(alloc: Global, numbers: &[usize]) -> Result<Seq<FeatureNo>, AllocError>
-    requires { All (λ n. n < 2 ^ 32) numbers.now }
-    ensures { IfOk result (λ s. s ≡ map feature_no numbers.now) }
-{
-    let mut found = Vec::with_capacity(alloc, numbers.len())?;
-    'numbers: for n in numbers {
-        found.push(FeatureNo(*n as u32))?;
-    }
-    Ok(Seq::from_vec(found))
-}
-
 /// The features of a row, in a list that holds no more places than features.
-fn features_of(alloc: Global, row: &[u32]) -> Result<Seq<FeatureNo>, AllocError>
+fn feature_numbers(alloc: Global, row: &[u32]) -> Result<Seq<FeatureNo>, AllocError>
     ensures { IfOk result (λ s. s ≡ map feature_no row.now) }
 {
     let mut found = Vec::with_capacity(alloc, row.len())?;
@@ -95,7 +84,7 @@ impl<'a> Resolver<'a> {
         let name = raw.name.clone()?;
         let supers = class_numbers(alloc, graph[c].as_slice())?;
         let own = feature_numbers(alloc, own[c].as_slice())?;
-        let all = features_of(alloc, all)?;
+        let all = feature_numbers(alloc, all)?;
         Ok(Class {
             name,
             is_abstract: raw.is_abstract,

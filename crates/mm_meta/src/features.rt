@@ -1,5 +1,5 @@
 //! The features of a metamodel document are resolved.
-ghost use Rattle.std.specs.Prelude.{◌≡◌, ◌<◌, ◌++◌, ◌^◌, IfOk, OnOk, map, option_and_then, option_map, pos};
+ghost use Rattle.std.specs.Prelude.{◌≡◌, ◌<◌, ◌++◌, ◌^◌, IfOk, OnOk, map, option_and_then, option_map};
 ghost use Rattle.mm_types.specs.Resolved.{default_of, feature_no, features_from, own_named, resolved_feature, resolved_kind, target_named, type_named};
 
 use crate::literals::type_default;
@@ -46,7 +46,7 @@ impl<'a> Resolver<'a> {
     {
         let name = name.as_ref()?;
         let number = self.own_named(target, name.as_str())?;
-        Some(FeatureNo(number as u32))
+        Some(FeatureNo(number))
     }
 
     fn kind(&self, alloc: Global, type_name: &str, kind: &RawKind) -> Result<Kind, AllocError>

@@ -10,7 +10,6 @@ mod meta;
 mod name_table;
 mod resolution;
 mod resolver;
-mod rows;
 mod shapes;
 mod tables;
 

@@ -5,8 +5,7 @@ ghost use Rattle.mm_meta.specs.Resolution.{AreFeaturesOf};
 ghost use Rattle.mm_types.specs.WellFormed.{WellFormed};
 
 use crate::resolver::Resolver;
-use crate::rows::features_table;
-use mm_graph::{conform_table, order_of};
+use mm_graph::{conform_table, features_table, order_of};
 use mm_types::{Class, Feature, Seq};
 use std::alloc::{AllocError, Global};
 

@@ -1,11 +1,7 @@
 //! The names of a metamodel document are resolved into numbers.
-ghost use Rattle.std.specs.Prelude.{◌≡◌, ◌<◌, ◌^◌, [], ◌∷◌, ℕ, List, map, length, IfOk, IfSome, IsTrue, position, slice_get, option_and_then, Option, ◌+◌, ◌-◌, ◌≤◌, neg_ℤ, pos, codes, true, false, if◌then◌else◌};
-ghost use Rattle.std.specs.List.{list_all, range_with_len};
-ghost use Rattle.std.specs.Str.{bytes_eq};
-ghost use Rattle.mm_types.specs.Integers.{integer};
-ghost use Rattle.mm_types.specs.Raw.{RawMetamodel, class_fits, is_within_limits};
-ghost use Rattle.mm_types.specs.Resolved.{class_named, data_type_named, default_of, enum_named, int_of_bits, literal_named, literal_value, own_named, own_position, own_of, target_named, type_named};
-ghost use Rattle.mm_meta.specs.NameTable.{AreTablesOf, IsTableOf};
+ghost use Rattle.std.specs.Prelude.{◌≡◌, ◌<◌, map, IfOk, IsTrue, position, Option, ◌-◌};
+ghost use Rattle.mm_types.specs.Raw.{RawMetamodel, is_within_limits};
+ghost use Rattle.mm_types.specs.Resolved.{class_named, data_type_named, enum_named, literal_named, literal_value, own_named, own_position, own_of};
 
 use crate::literals::{boolean_value, int_value};
 use crate::name_table::{NameTable, position_at};
@@ -27,11 +23,10 @@ pub struct Resolver<'a> {
     class_table: NameTable,
     literal_tables: Vec<NameTable>,
     own_tables: Vec<NameTable>,
-    own: Vec<Seq<usize>>,
+    own: Vec<Seq<u32>>,
 }
 
 impl<'a> Model for Resolver<'a> {
-    ghost use Rattle.mm_types.specs.Integers.{integer};
     ghost use Rattle.mm_types.specs.Raw.{RawMetamodel};
     ghost use Rattle.mm_meta.specs.Resolver.{IsResolver, resolves};
 
@@ -128,9 +123,8 @@ impl<'a> Resolver<'a> {
     }
 
     /// The number of the feature of a name that a class declares.
-    pub fn own_named(&self, class: usize, name: &str) -> Option<usize>
-        ensures value { result ≡ own_named self.now.classes class name.now }
-        ensures small { IfSome result (λ n. n < 2 ^ 32) }
+    pub fn own_named(&self, class: usize, name: &str) -> Option<u32>
+        ensures { result ≡ own_named self.now.classes class name.now }
     {
         let index = self.own_position(class, name)?;
         self.own.get(class)?.as_slice().get(index).copied()
@@ -152,7 +146,7 @@ impl<'a> Resolver<'a> {
     }
 
     /// The numbers of the features that each class declares.
-    pub fn own(&self) -> &[Seq<usize>]
+    pub fn own(&self) -> &[Seq<u32>]
         ensures value { result.now ≡ own_of self.now.classes }
         ensures fits { IsTrue (is_within_limits self.now) }
     {

@@ -32,19 +32,19 @@ pub fn literal_tables(alloc: Global, enums: &[Enumeration]) -> Result<Vec<NameTa
 }
 
 /// The numbers from one on, as many as there are features.
-fn numbers_from(alloc: Global, first: usize, count: usize) -> Result<Seq<usize>, AllocError>
+fn numbers_from(alloc: Global, first: u32, count: u32) -> Result<Seq<u32>, AllocError>
     requires { first + count < 2 ^ 32 }
     ensures { IfOk result (λ s. s ≡ range_with_len first count) }
 {
-    let mut numbers = Seq::new(alloc);
+    let mut numbers = Vec::with_capacity(alloc, count as usize)?;
     'numbers: for n in first..first + count {
         numbers.push(n)?;
     }
-    Ok(numbers)
+    Ok(Seq::from_vec(numbers))
 }
 
 /// The numbers of the features that each class declares.
-pub fn own_numbers(alloc: Global, classes: &[RawClass]) -> Result<Vec<Seq<usize>>, AllocError>
+pub fn own_numbers(alloc: Global, classes: &[RawClass]) -> Result<Vec<Seq<u32>>, AllocError>
     requires few { length classes.now ≤ 1000 }
     requires fits { IsTrue (list_all class_fits classes.now) }
     ensures { IfOk result (λ v. v.items ≡ own_of classes.now) }
@@ -52,7 +52,7 @@ pub fn own_numbers(alloc: Global, classes: &[RawClass]) -> Result<Vec<Seq<usize>
     let mut rows = Vec::new(alloc);
     let mut next = 0;
     'classes: for class in classes {
-        let count = class.features.len();
+        let count = class.features.len() as u32;
         rows.push(numbers_from(alloc, next, count)?)?;
         next += count;
     }

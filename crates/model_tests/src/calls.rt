@@ -1,6 +1,6 @@
 //! The calls that concern a repository's adapters, each done and refused.
 use crate::books::{NAME, RowRepository, attach, object, one_book, text};
-use crate::replies::{failure_text, given, made, outcome_text};
+use crate::replies::{given, made, outcome_text};
 use crate::telling::{Kind, adapter};
 use adapters::{Adapter, Counter};
 use mm_types::{AdapterNo, Node, Refused, ResourceNo};
@@ -183,54 +183,5 @@ fn refused_calls_say_why(rt: HostRuntime) -> Result<(), Fail> {
     assert_eq!(rt; repository.adapter_told(no), Err(Refused::NoAdapter));
     assert_eq!(rt; repository.adapter_kept(no), Err(Refused::NoAdapter));
     assert_eq!(rt; made(repository.detach(no)), Err(Refused::NoAdapter));
-    Ok(())
-}
-
-/// Detaches the adapter.
-fn released<A: Adapter>(repository: &mut RowRepository<A>) -> Result<A, Fail> {
-    let mut released = repository.detach(NO)?.released.into_vec();
-    match released.pop() {
-        Some((_no, adapter)) => Ok(adapter),
-        None => Err(Fail::new("the adapter is not given back")),
-    }
-}
-
-/// Attaches an adapter where no object is: it comes back.
-fn attached_nowhere<A: Adapter>(
-    alloc: Global,
-    repository: &mut RowRepository<A>,
-    adapter: A,
-) -> Result<String, Fail> {
-    match repository.attach(NO, object(1), false, adapter) {
-        Ok(_) => Err(Fail::new("an adapter is attached to no object")),
-        Err(failure) => Ok(failure_text(alloc, &failure)?),
-    }
-}
-
-/// Detaches an adapter that has heard something, and attaches it where nothing is: it comes back once more.
-fn attached_again<A: Adapter>(
-    alloc: Global,
-    repository: &mut RowRepository<A>,
-    adapter: A,
-) -> Result<String, Fail> {
-    attach(repository, 5, adapter)?;
-    let emma = text(alloc, "Emma")?;
-    made(repository.e_set(object(0), NAME, emma))?;
-    let adapter = released(repository)?;
-    attached_nowhere(alloc, repository, adapter)
-}
-
-/// What that gives over a book of its own.
-fn attached_again_at_a_book<A: Adapter>(alloc: Global, adapter: A) -> Result<String, Fail> {
-    let mut repository = one_book(alloc)?;
-    attached_again(alloc, &mut repository, adapter)
-}
-
-#[test]
-fn a_refused_adapter_has_heard_what_it_had(rt: HostRuntime) -> Result<(), Fail> {
-    let recorder = adapter(rt.alloc(), Kind::Recorder)?;
-    let found = attached_again_at_a_book(rt.alloc(), recorder)?;
-    let wanted = "refused 1, back, 2 told, SET -1, REMOVING_ADAPTER 0";
-    assert_eq!(rt; found.as_str(), wanted);
     Ok(())
 }

@@ -1,10 +1,10 @@
-//! Each adapter is dropped once: after it was detached, after its owner was closed, and with its owner, which is a list or a
-//! repository.
+//! Each adapter is dropped once: after it was detached, after its target was destroyed, after its owner was closed, and with its owner, which is a
+//! list or a repository.
 use crate::books::watched;
-use crate::tally::{Drops, NO_DROPS, Tally};
-use crate::telling::three;
-use adapters::Adapter;
-use mm_types::AdapterNo;
+use crate::counted::{Counted, Drops, NO_DROPS, counted_box};
+use crate::telling::{Kind, three};
+use adapters::{Adapter, Counter};
+use mm_types::{AdapterNo, ObjectNo};
 use std::alloc::{AllocError, Global};
 use std::cell::Cell;
 use std::rc::Rc;
@@ -30,18 +30,13 @@ fn drops_on_the_way<A: Adapter>(
     Ok([after_detach, after_drop, after_close, drops.get().all])
 }
 
-/// A counter in a box whose part is counted when it is dropped.
-fn boxed(alloc: Global, drops: &Rc<Cell<Drops>>) -> Result<Box<dyn Adapter>, AllocError> {
-    Ok(Box::new(alloc, Tally::new(drops)?)?)
-}
-
 #[test]
 fn each_part_is_dropped_once(rt: HostRuntime) -> Result<(), Fail> {
     let alloc = rt.alloc();
     let drops = Rc::new(alloc, Cell::new(NO_DROPS))?;
-    let first = boxed(alloc, &drops)?;
-    let second = boxed(alloc, &drops)?;
-    let third = boxed(alloc, &drops)?;
+    let first = counted_box(alloc, &drops, Kind::Counter)?;
+    let second = counted_box(alloc, &drops, Kind::Counter)?;
+    let third = counted_box(alloc, &drops, Kind::Counter)?;
     let found = drops_on_the_way(alloc, first, second, third, &drops)?;
     assert_eq!(rt; found, [0, 1, 1, 3]);
     Ok(())
@@ -71,19 +66,54 @@ fn drops_of_a_repository<A: Adapter>(
 fn each_part_of_a_repository_is_dropped_once(rt: HostRuntime) -> Result<(), Fail> {
     let alloc = rt.alloc();
     let drops = Rc::new(alloc, Cell::new(NO_DROPS))?;
-    let first = boxed(alloc, &drops)?;
-    let second = boxed(alloc, &drops)?;
-    let third = boxed(alloc, &drops)?;
+    let first = counted_box(alloc, &drops, Kind::Counter)?;
+    let second = counted_box(alloc, &drops, Kind::Counter)?;
+    let third = counted_box(alloc, &drops, Kind::Counter)?;
     let found = drops_of_a_repository(alloc, first, second, third, &drops)?;
     assert_eq!(rt; found, [0, 1, 1, 3]);
     Ok(())
 }
 
+/// How many parts are dropped when a book with three adapters is destroyed, when what came back is dropped, and with the
+/// repository.
+fn drops_of_a_deletion<A: Adapter>(
+    alloc: Global,
+    first: A,
+    second: A,
+    third: A,
+    drops: &Cell<Drops>,
+) -> Result<[u64; 3], Fail> {
+    let mut repository = watched(alloc, first, second, third)?;
+    let reply = repository.delete(ObjectNo(0))?;
+    let after_delete = drops.get().all;
+    drop(reply);
+    let after_drop = drops.get().all;
+    drop(repository);
+    Ok([after_delete, after_drop, drops.get().all])
+}
+
+#[test]
+fn each_part_at_a_book_that_is_destroyed_is_dropped_once(rt: HostRuntime) -> Result<(), Fail> {
+    let alloc = rt.alloc();
+    let drops = Rc::new(alloc, Cell::new(NO_DROPS))?;
+    let first = counted_box(alloc, &drops, Kind::Recorder)?;
+    let second = counted_box(alloc, &drops, Kind::WindowOfOne)?;
+    let third = counted_box(alloc, &drops, Kind::Counter)?;
+    let found = drops_of_a_deletion(alloc, first, second, third, &drops)?;
+    assert_eq!(rt; found, [0, 3, 3]);
+    assert_eq!(rt; drops.get().removed, 3);
+    Ok(())
+}
+
+fn counter(drops: &Rc<Cell<Drops>>) -> Result<Counted<Counter>, AllocError> {
+    Counted::new(drops, Counter::new())
+}
+
 #[test]
 fn a_dropped_list_drops_its_adapters(rt: HostRuntime) -> Result<(), Fail> {
     let drops = Rc::new(rt.alloc(), Cell::new(NO_DROPS))?;
-    let (first, second) = (Tally::new(&drops)?, Tally::new(&drops)?);
-    let list = three(rt.alloc(), [1, 2, 1], first, second, Tally::new(&drops)?)?;
+    let (first, second) = (counter(&drops)?, counter(&drops)?);
+    let list = three(rt.alloc(), [1, 2, 1], first, second, counter(&drops)?)?;
     assert_eq!(rt; drops.get().all, 0);
     drop(list);
     assert_eq!(rt; drops.get().all, 3);
@@ -93,8 +123,8 @@ fn a_dropped_list_drops_its_adapters(rt: HostRuntime) -> Result<(), Fail> {
 #[test]
 fn a_dropped_repository_drops_its_adapters(rt: HostRuntime) -> Result<(), Fail> {
     let drops = Rc::new(rt.alloc(), Cell::new(NO_DROPS))?;
-    let (first, second) = (Tally::new(&drops)?, Tally::new(&drops)?);
-    let repository = watched(rt.alloc(), first, second, Tally::new(&drops)?)?;
+    let (first, second) = (counter(&drops)?, counter(&drops)?);
+    let repository = watched(rt.alloc(), first, second, counter(&drops)?)?;
     assert_eq!(rt; drops.get().all, 0);
     drop(repository);
     assert_eq!(rt; drops.get().all, 3);

@@ -11,6 +11,8 @@ mod arguments;
 #[cfg(test)]
 mod attached;
 #[cfg(test)]
+mod attached_again;
+#[cfg(test)]
 mod books;
 #[cfg(test)]
 mod boxes;
@@ -21,11 +23,17 @@ mod calls;
 #[cfg(test)]
 mod closing;
 #[cfg(test)]
+mod counted;
+#[cfg(test)]
 mod deciding;
 #[cfg(test)]
 mod drops;
 #[cfg(test)]
+mod following;
+#[cfg(test)]
 mod latest;
+#[cfg(test)]
+mod library;
 #[cfg(test)]
 mod list_calls;
 #[cfg(test)]
@@ -41,6 +49,8 @@ mod refused_adapters;
 #[cfg(test)]
 mod refused_edits;
 #[cfg(test)]
+mod replays;
+#[cfg(test)]
 mod replies;
 #[cfg(test)]
 mod repositories;
@@ -51,11 +61,11 @@ mod runs;
 #[cfg(test)]
 mod script_text;
 #[cfg(test)]
+mod seeds;
+#[cfg(test)]
 mod stored_values;
 #[cfg(test)]
 mod streams;
-#[cfg(test)]
-mod tally;
 #[cfg(test)]
 mod telling;
 #[cfg(test)]

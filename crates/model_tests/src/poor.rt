@@ -1,58 +1,56 @@
 //! An adapter that is refused memory once.
-ghost use Rattle.std.specs.Prelude.{◌-◌, [], Some};
-
 use adapters::{Adapter, NoRoom};
 use notice_chain::Notice;
 
-/// A counter that is refused memory at its second reserve alone: it is attached, and the next chain is refused.
+/// An adapter of any kind that is refused memory at one of its reserves alone, which is given by its number, from 1. Refused at its second, it is
+/// attached, and the next chain is refused.
 #[derive(Drop)]
-pub(crate) struct Poor {
-    told: u64,
+pub(crate) struct Poor<A> {
+    adapter: A,
     reserves: u64,
+    refused_at: u64,
 }
 
-impl Poor {
-    pub(crate) fn new() -> Poor {
+impl<A: Adapter> Poor<A> {
+    pub(crate) fn new(adapter: A, refused_at: u64) -> Poor<A> {
         Poor {
-            told: 0,
+            adapter,
             reserves: 0,
+            refused_at,
         }
     }
 }
 
-impl Adapter for Poor {
-    ghost heard = { λ p. record { told = p.told; room = Some 0; kept = [] } };
+impl<A: Adapter> Adapter for Poor<A> {
+    ghost heard = { λ p. A.heard p.adapter };
 
-    ghost places = { λ p. 18446744073709551615 - p.told };
+    ghost places = { λ p. A.places p.adapter };
 
     fn reserve(&mut self, n: u64) -> Result<(), NoRoom> {
-        if n > u64::MAX - self.told {
-            return Err(NoRoom::Full);
-        }
         self.reserves = self.reserves.wrapping_add(1);
-        if self.reserves == 2 {
-            return Err(NoRoom::Memory);
+        match self.adapter.reserve(n) {
+            Ok(()) if self.reserves == self.refused_at => Err(NoRoom::Memory),
+            outcome => outcome,
         }
-        Ok(())
     }
 
-    fn notify_changed(&mut self, _notice: Notice) {
-        self.told += 1;
+    fn notify_changed(&mut self, notice: Notice) {
+        self.adapter.notify_changed(notice);
     }
 
     fn told(&self) -> u64 {
-        self.told
+        self.adapter.told()
     }
 
     fn room(&self) -> Option<u64> {
-        Some(0)
+        self.adapter.room()
     }
 
     fn kept_len(&self) -> u64 {
-        0
+        self.adapter.kept_len()
     }
 
-    fn kept(&self, _i: u64) -> Option<&Notice> {
-        None
+    fn kept(&self, i: u64) -> Option<&Notice> {
+        self.adapter.kept(i)
     }
 }

@@ -1,11 +1,14 @@
 //! Changes that an adapter can't hear.
 use crate::books::{NAME, RowRepository, attach, object, one_book, text, watched};
-use crate::replies::{given, made};
-use crate::telling::{Kind, adapter};
+use crate::counted::{Drops, NO_DROPS, counted_box};
+use crate::replies::{back, given, made};
+use crate::telling::Kind;
 use adapters::Adapter;
 use mm_types::{AdapterNo, Refused};
 use repository::Reply;
 use std::alloc::{AllocError, Global};
+use std::cell::Cell;
+use std::rc::Rc;
 use std::test::Fail;
 
 /// How many notices an adapter was told, and how many it keeps.
@@ -25,14 +28,39 @@ fn state<A: Adapter>(alloc: Global, repository: &RowRepository<A>) -> Result<Str
     format!(in alloc; "{counts:?} {name:?}")
 }
 
-/// The three adapters after no notice, and after one: the poor one keeps none.
+/// A book that no adapter was notified of, and whose name is null.
 const BEFORE: &str = "(Ok((0, 0)), Ok((0, 0)), Ok((0, 0))) Ok(One(Null))";
-
-const AFTER: &str = "(Ok((1, 1)), Ok((1, 0)), Ok((1, 1))) Ok(One(Text(\"Emma\")))";
 
 /// What the second call gives.
 const TOLD: &str =
     "Done; A5 SET Null Text(\"Emma\") -1 false; A6 SET Null Text(\"Emma\") -1 false; A7 SET Null Text(\"Emma\") -1 false";
+
+/// A book with three adapters of which one is refused memory when it is named, in attach order.
+struct Watched {
+    kinds: [Kind; 3],
+    /// What the adapters have heard, and the book's name, after the second call: the poor one keeps none.
+    after: &'static str,
+    /// What the adapters have heard when the repository is closed.
+    closed: &'static str,
+}
+
+const WATCHED: [Watched; 3] = [
+    Watched {
+        kinds: [Kind::Recorder, Kind::Recorder, Kind::Poor],
+        after: "(Ok((1, 1)), Ok((1, 1)), Ok((1, 0))) Ok(One(Text(\"Emma\")))",
+        closed: "; A5 back, 2 told, SET -1, REMOVING_ADAPTER 0; A6 back, 2 told, SET -1, REMOVING_ADAPTER 0; A7 back, 2 told",
+    },
+    Watched {
+        kinds: [Kind::Recorder, Kind::Poor, Kind::Recorder],
+        after: "(Ok((1, 1)), Ok((1, 0)), Ok((1, 1))) Ok(One(Text(\"Emma\")))",
+        closed: "; A5 back, 2 told, SET -1, REMOVING_ADAPTER 0; A6 back, 2 told; A7 back, 2 told, SET -1, REMOVING_ADAPTER 0",
+    },
+    Watched {
+        kinds: [Kind::Poor, Kind::Recorder, Kind::Recorder],
+        after: "(Ok((1, 0)), Ok((1, 1)), Ok((1, 1))) Ok(One(Text(\"Emma\")))",
+        closed: "; A5 back, 2 told; A6 back, 2 told, SET -1, REMOVING_ADAPTER 0; A7 back, 2 told, SET -1, REMOVING_ADAPTER 0",
+    },
+];
 
 fn name_book<A: Adapter>(
     alloc: Global,
@@ -55,6 +83,15 @@ fn named<A: Adapter>(alloc: Global, repository: &mut RowRepository<A>) -> Result
     given(alloc, name_book(alloc, repository)?)
 }
 
+/// What the adapters have heard when the repository is closed.
+fn closed<A: Adapter>(
+    alloc: Global,
+    repository: Box<RowRepository<A>>,
+) -> Result<String, AllocError> {
+    let adapters = Box::into_inner(repository).close();
+    back(alloc, adapters.as_slice())
+}
+
 /// Names a book with three adapters, twice. Shows why it is refused first, what it gives then, and what the adapters
 /// have heard and the book has before, between and after.
 fn named_twice<A: Adapter>(
@@ -67,26 +104,47 @@ fn named_twice<A: Adapter>(
     Ok([refused, told, after])
 }
 
-/// What that gives over a book of its own.
+/// What that gives over a book of its own, and what the adapters have heard when its repository is closed.
 fn twice_at_a_book<A: Adapter>(
     alloc: Global,
     first: A,
     second: A,
     third: A,
-) -> Result<[String; 3], Fail> {
+) -> Result<([String; 3], String), Fail> {
     let mut repository = watched(alloc, first, second, third)?;
-    named_twice(alloc, &mut repository)
+    let found = named_twice(alloc, &mut repository)?;
+    let closed = closed(alloc, repository)?;
+    Ok((found, closed))
+}
+
+/// What that gives with three boxes whose parts are counted.
+fn twice_by(
+    alloc: Global,
+    drops: &Rc<Cell<Drops>>,
+    kinds: [Kind; 3],
+) -> Result<([String; 3], String), Fail> {
+    let first = counted_box(alloc, drops, kinds[0])?;
+    let second = counted_box(alloc, drops, kinds[1])?;
+    twice_at_a_book(alloc, first, second, counted_box(alloc, drops, kinds[2])?)
 }
 
 #[test]
 fn a_set_that_one_adapter_cannot_hear_notifies_none(rt: HostRuntime) -> Result<(), Fail> {
     let alloc = rt.alloc();
-    let (first, second) = (adapter(alloc, Kind::Recorder)?, adapter(alloc, Kind::Poor)?);
-    let found = twice_at_a_book(alloc, first, second, adapter(alloc, Kind::Recorder)?)?;
     let wanted = format!(in alloc; "{BEFORE}; Some(Memory); {BEFORE}")?;
-    assert_eq!(rt; found[0].as_str(), wanted.as_str());
-    assert_eq!(rt; found[1].as_str(), TOLD);
-    assert_eq!(rt; found[2].as_str(), AFTER);
+    for Watched {
+        kinds,
+        after,
+        closed,
+    } in &WATCHED {
+        let drops = Rc::new(alloc, Cell::new(NO_DROPS))?;
+        let (found, last) = twice_by(alloc, &drops, *kinds)?;
+        assert_eq!(rt; found[0].as_str(), wanted.as_str());
+        assert_eq!(rt; found[1].as_str(), TOLD);
+        assert_eq!(rt; found[2].as_str(), *after);
+        assert_eq!(rt; last.as_str(), *closed);
+        assert_eq!(rt; drops.get().all, 3);
+    }
     Ok(())
 }
 
@@ -106,9 +164,11 @@ fn the_first_adapter_that_refuses_decides(rt: HostRuntime) -> Result<(), Fail> {
         (Kind::Poor, Kind::LastAlone, Refused::Memory),
     ];
     for (first, second, reason) in &cases {
-        let first = adapter(alloc, *first)?;
-        let found = refused_to_two(alloc, first, adapter(alloc, *second)?)?;
+        let drops = Rc::new(alloc, Cell::new(NO_DROPS))?;
+        let first = counted_box(alloc, &drops, *first)?;
+        let found = refused_to_two(alloc, first, counted_box(alloc, &drops, *second)?)?;
         assert_eq!(rt; found, Some(*reason));
+        assert_eq!(rt; drops.get().all, 2);
     }
     Ok(())
 }

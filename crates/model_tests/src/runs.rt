@@ -1,6 +1,6 @@
 //! Runs over streams that give or take a byte at a time, and that fail.
 use crate::books::books;
-use crate::streams::{Narrow, OneByte};
+use crate::streams::{Endless, Narrow, OneByte};
 use adapters::Recorder;
 use link_store::{LinkStore, RowStore, SlotStore};
 use script_program::{RunFault, Summary, run};
@@ -9,20 +9,48 @@ use std::io::{Read, Write};
 use std::process::Abort;
 use std::test::Fail;
 
-/// Runs a script over an empty repository of books, with a store of links.
+/// Runs a script over an empty repository of books, with two adapters and a store of links.
 fn run_books<L: LinkStore, R: Read, W: Write>(
     alloc: Global,
     reader: &mut R,
     writer: &mut W,
 ) -> Result<Result<Summary, RunFault>, Fail> {
     let meta = books(alloc)?;
-    let boxes: Vec<Recorder> = Vec::new(alloc);
+    let boxes = vec![in alloc; Recorder::new(alloc), Recorder::new(alloc)]?;
     Ok(run::<_, _, L, _>(alloc, reader, writer, Box::into_inner(meta), boxes))
 }
 
-const SCRIPT: &str = "new Book\nget #0 pages";
+/// A script that loads, saves and destroys, with adapters at a resource and at a book; some of its lines are refused, and one is none.
+const SCRIPT: &str = r#"resource "http://m.example/a"
+attach A1 r0 flat
+load r0 {"format":1,"roots":[]
+load r0 {"format":1,"roots":[{"class":"Book","features":{"name":"Emma"}}]}
+load r0 {"format":1,"roots":[]}
+attach A2 #0 flat
+set #0 pages 7
+set #0 pages "7"
+frob
+save r0
+delete #0"#;
 
-const PRINTED: &str = "#0\n100\n";
+/// What it prints.
+const PRINTED: &str = r#"r0
+ok
+refused 18 DOCUMENT 1 SYNTAX
+loaded 1
+told A1 ADD r0.contents null #0 0
+refused 17 NOT_EMPTY
+ok
+ok
+told A2 SET #0.pages 100 7 -1
+refused 8 TYPE
+bad line
+{"format":1,"roots":[{"class":"Book","features":{"name":"Emma","pages":7}}]}
+deleted 1
+told A1 REMOVE r0.contents #0 null 0
+told A2 REMOVING_ADAPTER #0 A2 null 0
+released A2 told 2 kept 2
+"#;
 
 /// Runs the script a byte at a time with a store of links.
 fn check_narrow<L: LinkStore, H: Abort>(rt: &H, alloc: Global) -> Result<(), Fail> {
@@ -53,6 +81,15 @@ fn a_run_whose_reader_fails_at_any_read_writes_nothing(rt: HostRuntime) -> Resul
     for fails_at in 0..=SCRIPT.len() {
         check_read(&rt, rt.alloc(), fails_at)?;
     }
+    Ok(())
+}
+
+#[test]
+fn a_run_whose_input_never_ends_writes_nothing(rt: HostRuntime) -> Result<(), Fail> {
+    let mut writer = Vec::new(rt.alloc());
+    let fault = run_books::<RowStore, _, _>(rt.alloc(), &mut Endless, &mut writer)?.err();
+    assert_eq!(rt; fault, Some(RunFault::TooLong));
+    assert!(rt; writer.is_empty());
     Ok(())
 }
 

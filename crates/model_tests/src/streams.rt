@@ -65,7 +65,7 @@ fn each_read_that_fails_is_answered(rt: HostRuntime) {
 
 /// Gives spaces for ever.
 #[derive(Drop)]
-struct Endless;
+pub(crate) struct Endless;
 
 impl Read for Endless {
     fn read(&mut self, buf: &mut [u8]) -> std::io::Result<usize> {

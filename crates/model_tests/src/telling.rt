@@ -27,6 +27,8 @@ pub(crate) enum Kind {
     LastAlone,
     /// A counter that is refused memory at its second reserve.
     Poor,
+    /// A recorder that is refused memory at its third reserve.
+    PoorRecorder,
     /// A window that keeps one notice.
     WindowOfOne,
 }
@@ -43,7 +45,8 @@ pub(crate) fn adapter(alloc: Global, kind: Kind) -> Result<Box<dyn Adapter>, All
         Kind::Counter => Ok(Box::new(alloc, Counter::new())?),
         Kind::NearlyFull => Ok(Box::new(alloc, Counter::starting_at(NEARLY_FULL))?),
         Kind::LastAlone => Ok(Box::new(alloc, Counter::starting_at(LAST_ALONE))?),
-        Kind::Poor => Ok(Box::new(alloc, Poor::new())?),
+        Kind::Poor => Ok(Box::new(alloc, Poor::new(Counter::new(), 2))?),
+        Kind::PoorRecorder => Ok(Box::new(alloc, Poor::new(Recorder::new(alloc), 3))?),
         Kind::WindowOfOne => Ok(Box::new(alloc, Window::new(alloc, 1)?)?),
     }
 }

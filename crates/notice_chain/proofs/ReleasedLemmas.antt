@@ -11,12 +11,12 @@ use Rattle.notice_chain.specs.Released.{Released, released, released_after, rele
 
 ---------------------------------------------------------------- the first that passes
 
-position-first : {X : Type 0} (p : X → Bool) (x : X) (xs : List X) → p x ≡ true → position p (x ∷ xs) ≡ Some 0
+pub position-first : {X : Type 0} (p : X → Bool) (x : X) (xs : List X) → p x ≡ true → position p (x ∷ xs) ≡ Some 0
 position-first p x xs h =
     let more : nat_lt 0 (length (x ∷ xs)) ≡ true = le-leb _ _ (omega arith) in
     rw (h, more) refl
 
-position-rest : {X : Type 0} (p : X → Bool) (x : X) (xs : List X) → p x ≡ false → position p (x ∷ xs) ≡ option_map suc (position p xs)
+pub position-rest : {X : Type 0} (p : X → Bool) (x : X) (xs : List X) → p x ≡ false → position p (x ∷ xs) ≡ option_map suc (position p xs)
 position-rest p x xs h =
     let k = position_or_len p xs in
     let later : position p (x ∷ xs) ≡ cond (nat_lt (1 + k) (suc (length xs))) (Some (1 + k)) None = rw h refl in

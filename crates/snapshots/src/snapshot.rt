@@ -46,7 +46,7 @@ impl Model for Snapshot {
 
 impl Snapshot {
     /// The snapshot of some nodes, which stand in order. Takes no memory.
-    pub fn from_vec(nodes: Vec<NodeState>) -> Self
+    pub(crate) fn from_vec(nodes: Vec<NodeState>) -> Self
         requires in_order { AreInOrder nodes.items }
         ensures { result ≡ nodes.items }
     {

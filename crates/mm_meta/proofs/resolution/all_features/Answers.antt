@@ -1,10 +1,9 @@
 use Rattle.std.proofs.Common.{◌∙◌, List, ℕ, ap, length, subst, sym}
-use Rattle.std.specs.List.{All}
-use Rattle.mm_types.specs.Graph.{Reaches, row}
+use Rattle.mm_types.specs.Graph.{Reaches}
 use Rattle.mm_types.specs.declared.meta_fault.Condition.TheVariants.{Cycle}
 use Rattle.mm_types.specs.declared.meta_fault.Place.TheVariants.{Class}
 use Rattle.mm_graph.specs.Order.{HasCycle, InRange}
-use Rattle.mm_meta.proofs.ClassLemmas.{IsSmall, graph_in_range, length-own_from, long_graph, small_own}
+use Rattle.mm_meta.proofs.ClassLemmas.{graph_in_range, length-own_from, long_graph}
 use Rattle.mm_meta.proofs.resolution.all_features.Goals as goal
 
 pub order_of-requires : goal.order_of-requires
@@ -22,7 +21,3 @@ pub unreachable-requires : goal.unreachable-requires
 unreachable-requires c =
     let cycle : HasCycle c.args.graph.now = rw c.in-None.is at c.in_ok-order.ensures in
     c.requires.well_formed Cycle (Class cycle.0) (subst (λ (g : List (List ℕ)). Reaches g cycle.0 cycle.0) c.requires.graph cycle.1)
-
-pub features_table-requires-clause-small : goal.features_table-requires-clause-small
-features_table-requires-clause-small c d =
-    subst (λ (own : List (List ℕ)). All IsSmall (row own d)) (sym c.own.ensures.value) (small_own c.args.resolver.now d c.own.ensures.fits)

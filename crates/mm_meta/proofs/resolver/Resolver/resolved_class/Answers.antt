@@ -3,7 +3,7 @@ use Rattle.std.specs.List.{All}
 use Rattle.mm_types.specs.Features.{all_features}
 use Rattle.mm_types.specs.Graph.{row}
 use Rattle.mm_types.specs.Resolved.{class_no, feature_no, graph_of, own_of}
-use Rattle.mm_meta.proofs.ClassLemmas.{IsSmall, length-own_from, long_graph, small_own, small_supers}
+use Rattle.mm_meta.proofs.ClassLemmas.{IsSmall, length-own_from, long_graph, small_supers}
 use Rattle.mm_meta.proofs.ResolverLemmas.{row_read}
 use Rattle.mm_meta.proofs.resolver.Resolver.resolved_class.Goals as goal
 
@@ -17,14 +17,6 @@ class_numbers-requires c =
 
 pub bounds-own-c : goal.bounds-own-c
 bounds-own-c c = omega (arith, ap length c.own-own.ensures.value, length-own_from 0 c.args.self.now.classes)
-
-pub feature_numbers-requires : goal.feature_numbers-requires
-feature_numbers-requires c =
-    let raw = c.args.self.now in
-    let low : c.args.c < length c.own-own.result.now = omega (arith, ap length c.own-own.ensures.value, length-own_from 0 raw.classes) in
-    let row_is : row (own_of raw.classes) c.args.c ≡ c.as_slice-2.result.now =
-    row_read (own_of raw.classes) c.own-own.result.now c.args.c c.index-own-c.result c.own-own.ensures.value low c.index-own-c.is ∙ sym c.as_slice-2.ensures in
-    subst (All IsSmall) row_is (small_own raw c.args.c c.own-own.ensures.fits)
 
 pub returns : goal.returns
 returns c =

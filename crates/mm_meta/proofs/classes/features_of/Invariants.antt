@@ -1,6 +1,0 @@
-use Rattle.std.proofs.Common.{◌≡◌, ◌++◌, drop, map}
-use Rattle.mm_types.specs.Resolved.{feature_no}
-use Rattle.mm_meta.proofs.classes.features_of.Given as goal
-
-abbrev pub invariant-row : goal.invariant-row
-invariant-row l = l.found.items ++ map feature_no (drop l.n-index l.row) ≡ map feature_no l.row
