@@ -33,7 +33,7 @@ use Rattle.handshake.specs.Tellings.{chain}
 use Rattle.handshake.specs.Displaced.{cut_by_new, cut_by_set, cut_ties, has_already, is_plain_add, is_plain_set, tie_in}
 use Rattle.handshake.specs.Edits.{cut_of, link_edits, made_edits, new_put}
 use Rattle.handshake.specs.Effects.{links_after, put_by, value_edits, with_value}
-use Rattle.handshake.specs.Plans.{HasReadDocument, IsDocument, IsPlanOf}
+use Rattle.handshake.specs.Plans.{HasReadDocument, IsDocument, IsPlanOf, IsRemovalOf}
 use Rattle.handshake.specs.Refusals.{early_refusal, late_refusal, link_refusal}
 use Rattle.handshake.proofs.KnownLemmas.{IsResolvable, add-gains, add-named, add-taken, kinds-are, linkable, move-placed, resolvable, set-named, set-taken, unresolved}
 use Rattle.handshake.proofs.LoadLemmas.{load-makes}
@@ -231,12 +231,13 @@ module _ (s : Model) (c : Change) (legal : IsLegal s) (early : early_refusal (re
       subst (λ (ys : List Edit). IsPlanFor s c (ys ++ xs)) (sym (cut_edits-pairs (cut_ties (reading s) c))) whole
 
 -- what planning gives, by its parts
-pub planned : (is_heard : Bool) (s : Model) (c : Change) (p : Planned) → IsLegal s → early_refusal (reading s) c ≡ None → late_refusal (reading s) c ≡ None → HasReadDocument s.metamodel c
+pub planned : (is_heard : Bool) (s : Model) (c : Change) (p : Planned) → IsLegal s → early_refusal (reading s) c ≡ None → late_refusal (reading s) c ≡ None → HasReadDocument s.metamodel c → IsRemovalOf (reading s) c p.removal
     → p.edits ≡ link_edits (reading s) c → p.values ≡ value_edits (reading s) c → p.chain ≡ (if is_heard then chain (reading s) c else []) → IsPlanOf is_heard s c p
-planned is_heard s c p legal early late read edits lists tells =
+planned is_heard s c p legal early late read removed edits lists tells =
     let plan = subst (IsPlanFor s c) (sym edits) (plan-for s c legal early late read) in
     record {
       allowed = late;
+      removed = removed;
       fits = plan.fits;
       of_kind = plan.of_kind;
       links_made = plan.makes;

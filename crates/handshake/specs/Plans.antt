@@ -44,9 +44,10 @@ pub record IsRemovalOf (r : Reading) (c : Change) (q : Option Removal) : Type 0 
   pub whose : option_map (λ (x : Removal). x.object) q ≡ destroyed_by c
   pub found : IfSome q (IsRemoval r)
 
--- edits that make a change, which nothing refuses, and its chain, where somebody may hear it
+-- what a change destroys, which nothing refuses, the edits that make it, and its chain, where somebody may hear it
 pub record IsPlanOf (is_heard : Bool) (s : Model) (c : Change) (p : Planned) : Type 0 where
   pub allowed : late_refusal (reading s) c ≡ None
+  pub removed : IsRemovalOf (reading s) c p.removal
   pub fits : links.PlanFits s.links p.edits
   pub of_kind : links.IsPlanOfKind (kinds_of s.metamodel) p.edits
   pub links_made : links.applied s.links p.edits ≡ (after s c).links

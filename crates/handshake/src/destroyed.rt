@@ -11,7 +11,7 @@ use removal::Removal;
 use std::alloc::{AllocError, Global};
 
 /// What goes with the object that a change destroys, if it destroys one. Errs only when out of memory.
-pub fn removal_of<L: LinkStore>(
+pub(crate) fn removal_of<L: LinkStore>(
     alloc: Global,
     model: &ModelRef<L>,
     change: &Change,

@@ -21,7 +21,6 @@ mod telling;
 mod tie;
 
 pub use change::Change;
-pub use destroyed::removal_of;
 pub use happening::{Happening, Telling};
 pub use named::{early_refusal, feature_refusal, node_refusal};
 pub use planned::Planned;

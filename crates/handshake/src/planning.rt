@@ -6,6 +6,7 @@ ghost use Rattle.models.specs.Model.{reading};
 ghost use Rattle.models.specs.Reading.{takes};
 ghost use Rattle.handshake.specs.Displaced as d;
 ghost use Rattle.handshake.specs.Edits as e;
+ghost use Rattle.handshake.specs.Effects.{value_edits as value_edits_of};
 ghost use Rattle.handshake.specs.Plans.{HasFittingDocument, HasReadDocument, IsPlanOf, IsRemovalOf, Plans};
 ghost use Rattle.handshake.specs.Refusals as refusals;
 ghost use Rattle.handshake.specs.Tellings as t;
@@ -13,6 +14,7 @@ ghost use Rattle.handshake.specs.declared.change.Change.TheVariants.{Add};
 
 use crate::chain::{lost_notices, notices};
 use crate::change::Change;
+use crate::destroyed::removal_of;
 use crate::displaced::{cut_ties, has_already};
 use crate::edits::{link_edits, value_edits};
 use crate::loads::{load_refusal, root_notices};
@@ -24,13 +26,14 @@ use crate::tie::{at_end, far_end, opposite_end};
 use links::{LinkStore, Plan};
 use loading::contents_end;
 use mm_types::{End, FeatureNo, ObjectNo, Refused, Text, Value, limits};
+use mm_values::ValuePlan;
 use models::{ModelRef, is_short, is_short_text};
 use notice_chain::Chain;
 use removal::{Removal, Tie};
 use std::alloc::{AllocError, Global};
 
-/// The plan of a change whose class, nodes and features are there, of what goes with what it destroys, or the first refusal that planning
-/// finds. The notices are made only where somebody may hear them.
+/// The plan of a change whose class, nodes and features are there, or the first refusal that planning finds. The notices are made only
+/// where somebody may hear them.
 ///
 /// `WrongType` where the value is not one of the feature's type, `TextLength` above 65,535 bytes, `Index` where nothing stands at an
 /// index or a value would not stand behind the last, `Duplicate` where a unique list has the value that is added at an index, `Bound`
@@ -43,42 +46,61 @@ pub fn plan<L: LinkStore>(
     alloc: Global,
     model: &ModelRef<L>,
     change: Change,
-    removal: &Option<Removal>,
     is_heard: bool,
 ) -> Result<Planned, Refused>
     requires asked { refusals.early_refusal (reading model.now) change ≡ None }
-    requires removal { IsRemovalOf (reading model.now) change removal.now }
     requires read { HasReadDocument model.now.metamodel change }
     ensures { Plans is_heard result model.now change }
 {
     if let Some(refused) = late_refusal(model, &change) {
         return Err(refused);
     }
-    Ok(made(alloc, model, change, removal, is_heard)?)
+    Ok(made(alloc, model, change, is_heard)?)
 }
 
-/// The edits of a change that nothing refuses, and its notices. Errs only when out of memory.
+/// What a change destroys that nothing refuses, its edits, and its notices. Errs only when out of memory.
 fn made<L: LinkStore>(
+    alloc: Global,
+    model: &ModelRef<L>,
+    change: Change,
+    is_heard: bool,
+) -> Result<Planned, AllocError>
+    requires asked { refusals.early_refusal (reading model.now) change ≡ None }
+    requires allowed { refusals.late_refusal (reading model.now) change ≡ None }
+    requires read { HasReadDocument model.now.metamodel change }
+    ensures { IfOk result (IsPlanOf is_heard model.now change) }
+{
+    model.is_legal();
+    let removal = removal_of(alloc, model, &change)?;
+    let (edits, values, chain) = edits_and_notices(alloc, model, change, &removal, is_heard)?;
+    Ok(Planned {
+        removal,
+        edits,
+        values,
+        chain,
+    })
+}
+
+/// The edits of a change that nothing refuses, of links and of values, and its notices. Errs only when out of memory.
+fn edits_and_notices<L: LinkStore>(
     alloc: Global,
     model: &ModelRef<L>,
     change: Change,
     removal: &Option<Removal>,
     is_heard: bool,
-) -> Result<Planned, AllocError>
+) -> Result<(Plan, ValuePlan, Chain), AllocError>
     requires asked { refusals.early_refusal (reading model.now) change ≡ None }
     requires allowed { refusals.late_refusal (reading model.now) change ≡ None }
     requires removal { IsRemovalOf (reading model.now) change removal.now }
     requires read { HasReadDocument model.now.metamodel change }
-    ensures { IfOk result (IsPlanOf is_heard model.now change) }
+    ensures edits { IfOk result (λ p. p.0 ≡ e.link_edits (reading model.now) change) }
+    ensures values { IfOk result (λ p. p.1 ≡ value_edits_of (reading model.now) change) }
+    ensures chain { IfOk result (λ p. p.2 ≡ (if is_heard then t.chain (reading model.now) change else [])) }
 {
     model.is_legal();
     let (edits, chain) = links_and_notices(alloc, model, &change, removal, is_heard)?;
     let values = value_edits(alloc, model, change, removal)?;
-    Ok(Planned {
-        edits,
-        values,
-        chain,
-    })
+    Ok((edits, values, chain))
 }
 
 /// The edits of links that make a change, and the notices that it tells; none where nobody may hear them.

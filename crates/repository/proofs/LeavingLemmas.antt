@@ -1,5 +1,7 @@
 -- Who leaves with what a change destroys.
 use Rattle.std.proofs.Common.{◌≡◌, ℕ, zero, suc, ◌+◌, ◌<◌, Bool, false, List, [], ◌∷◌, ◌++◌, length, map, drop, slice_get, Option, None, Some, option_map, append_assoc, refl, ap, sym, subst, ◌∙◌, arith}
+use Rattle.std.specs.Prelude.{IfSome, unwrap_or}
+use Rattle.std.specs.Option.{option_map_or}
 use Rattle.std.proofs.lemmas.Option.{none-some, same_Some}
 use Rattle.mm_types.specs.declared.numbers.AdapterNo.{AdapterNo}
 use Rattle.mm_types.specs.declared.numbers.Node.{Node}
@@ -15,7 +17,14 @@ use Rattle.removal.specs.declared.gone.Removal.{Removal}
 use Rattle.handshake.specs.Laws.{goes_with}
 use Rattle.handshake.specs.Plans.{IsRemovalOf}
 use Rattle.handshake.specs.declared.change.Change.{Change}
-use Rattle.handshake.specs.declared.change.Change.TheVariants.{Delete}
+use Rattle.handshake.specs.declared.change.Change.TheVariants.{Create, Set, Unset, Add, Remove, RemoveValue, Move, Delete, NewResource, Resolve, Load}
+use Rattle.handshake.specs.Tellings.{destroyed_by}
+use Rattle.handshake.proofs.RemovalLemmas.{of-objects}
+use Rattle.removal.specs.Removals.{IsRemoval}
+use Rattle.repository.specs.Answers.{IsEarlyAnswer, answer_of}
+use Rattle.repository.specs.declared.reply.Answer.{Answer}
+use Rattle.repository.specs.declared.reply.Answer.TheVariants as answer
+use Rattle.repository.specs.Views.{command_of}
 use Rattle.repository.specs.Leaving.{LeaversAre}
 use Rattle.repository.proofs.AdapterLemmas.{released-nobody}
 
@@ -77,3 +86,26 @@ leavers_found r (Delete o) (Some x) rs found of is =
 leavers_found r (Delete o) None rs found of is = absurd (none-some o of.whose)
 leavers_found r c (Some x) rs found of is = absurd (none-some x.object (sym of.whose))
 leavers_found r c None rs found of is = subst (LeaversAre (goes_with r c) rs) (sym is) (λ n. refl)
+
+-- the answer from before planning, or how much a deletion destroys, is the whole answer
+pub whole-answer : (r : Reading) (rs : List Listed) (text : List ℕ) (c : Change) (early : Option Answer) (q : Option Removal) → IsEarlyAnswer (destroyed_by c) (answer_of r rs (command_of text c)) early
+    → IsRemovalOf r c q → unwrap_or early (answer.Destroyed (option_map_or (λ (x : Removal). length x.objects.items) q 0)) ≡ answer_of r rs (command_of text c)
+whole-answer r rs text c early q is removed = by c is removed.whose removed.found
+  where
+    known : (a b : Answer) → early ≡ Some a → unwrap_or early b ≡ a
+    known a b some = ap (λ (o : Option Answer). unwrap_or o b) some
+
+    by : (d : Change) → IsEarlyAnswer (destroyed_by d) (answer_of r rs (command_of text d)) early → option_map (λ (x : Removal). x.object) q ≡ destroyed_by d → IfSome q (IsRemoval r)
+        → unwrap_or early (answer.Destroyed (option_map_or (λ (x : Removal). length x.objects.items) q 0)) ≡ answer_of r rs (command_of text d)
+    by (Delete o) none whose found =
+        ap (λ (a : Option Answer). unwrap_or a (answer.Destroyed (option_map_or (λ (x : Removal). length x.objects.items) q 0))) none ∙ ap answer.Destroyed (of-objects length 0 r q o whose found)
+    by (Create k) some whose found = known _ _ some
+    by (Set n f v) some whose found = known _ _ some
+    by (Unset n f) some whose found = known _ _ some
+    by (Add n f v i) some whose found = known _ _ some
+    by (Remove n f i) some whose found = known _ _ some
+    by (RemoveValue n f v) some whose found = known _ _ some
+    by (Move n f to from) some whose found = known _ _ some
+    by (NewResource u) some whose found = known _ _ some
+    by (Resolve o f i b) some whose found = known _ _ some
+    by (Load k doc) some whose found = known _ _ some

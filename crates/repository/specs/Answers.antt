@@ -1,5 +1,5 @@
 -- What a command that is not refused answers.
-use Rattle.std.specs.Prelude.{ℕ, ◌&&◌, ◌||◌, Bool, List, filter, length, not, pos, int_le, int_lt, unwrap_or, if◌then◌else◌, []}
+use Rattle.std.specs.Prelude.{◌≡◌, ℕ, ◌&&◌, ◌||◌, Bool, List, filter, length, not, pos, int_le, int_lt, Option, Some, None, unwrap_or, if◌then◌else◌, []}
 use Rattle.std.specs.Option.{option_map_or}
 use Rattle.mm_types.specs.declared.numbers.AdapterNo.{AdapterNo}
 use Rattle.notice_chain.specs.View.{View}
@@ -83,3 +83,8 @@ answer_of r rs (command.Class o) = answer.Class (unwrap_or (r.class o) (record {
 answer_of r rs (command.Snapshot n) = answer.Snapshot (snapshot_of r n)
 answer_of r rs (command.AdapterTold number) = answer.Count (count_of rs number (λ v. v.told))
 answer_of r rs (command.AdapterKept number) = answer.Count (count_of rs number (λ v. length v.kept))
+
+-- what can be answered before a change is planned: all but how much a deletion destroys
+abbrev pub IsEarlyAnswer : Option ObjectNo → Answer → Option Answer → Type 0
+IsEarlyAnswer None a q = q ≡ Some a
+IsEarlyAnswer (Some o) a q = q ≡ None

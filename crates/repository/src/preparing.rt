@@ -9,12 +9,13 @@ ghost use Rattle.links.specs.LegalSets.{IsLegalSet, Kinds};
 ghost use Rattle.models.specs.Model.{reading};
 ghost use Rattle.models.specs.Reading.{at_end};
 ghost use Rattle.handshake.specs.Laws.{goes_with};
-ghost use Rattle.handshake.specs.Plans.{IsPlanOf, IsRemovalOf};
+ghost use Rattle.handshake.specs.Plans.{IsPlanOf};
 ghost use Rattle.handshake.specs.Refusals.{early_refusal as early_refusal_of};
+ghost use Rattle.handshake.specs.Tellings.{destroyed_by};
 ghost use Rattle.adapter_list.specs.Refusals.{IsChainRefusal};
 ghost use Rattle.adapter_list.specs.Rounds.{RoundFits, round_of};
 ghost use Rattle.notice_chain.specs.Listed.{is_chain_full};
-ghost use Rattle.repository.specs.Answers.{answer_of};
+ghost use Rattle.repository.specs.Answers.{IsEarlyAnswer, answer_of};
 ghost use Rattle.repository.specs.Leaving.{HasRoom, LeaversAre};
 ghost use Rattle.repository.specs.Proper.{IsProper};
 ghost use Rattle.repository.specs.Refusals.{IsPlanRefusal};
@@ -25,7 +26,7 @@ use crate::leaving::{Leaving, places_of, room_for};
 use crate::reply::Answer;
 use adapter_list::{AdapterList, Round};
 use adapters::Adapter;
-use handshake::{Change, Planned, plan, removal_of};
+use handshake::{Change, Planned, plan};
 use links::LinkStore;
 use mm_types::{End, FeatureNo, Node, ObjectNo, Refused, ResourceNo};
 use mm_values::Values;
@@ -56,31 +57,11 @@ pub(crate) fn prepare<L: LinkStore, A: Adapter>(
     ensures planned { IfOk result (λ p. IsPlanOf (nat_lt 0 (length adapters.now.0)) model.now change p.planned) }
     ensures refused { IfErr result (λ r. IsPlanRefusal model.now change r) }
 {
-    let removal = removal_of(alloc, model, &change)?;
-    prepare_with(alloc, model, adapters, change, &removal)
-}
-
-/// The same, of what goes with what the change destroys.
-fn prepare_with<L: LinkStore, A: Adapter>(
-    alloc: Global,
-    model: &ModelRef<L>,
-    adapters: &AdapterList<A>,
-    change: Change,
-    removal: &Option<Removal>,
-) -> Result<Prepared, Refused>
-    requires asked { early_refusal_of (reading model.now) change ≡ None }
-    requires proper { (text : List ℕ) × IsProper (reading model.now) text change }
-    requires removal { IsRemovalOf (reading model.now) change removal.now }
-    ensures answer { IfOk result (λ p. (rs : List Listed) (text : List ℕ) → IsProper (reading model.now) text change → p.answer ≡ answer_of (reading model.now) rs (command_of text change)) }
-    ensures places { IfOk result (λ p. LeaversAre (goes_with (reading model.now) change) adapters.now.0 (option_map (λ bs. bs.items) p.places)) }
-    ensures planned { IfOk result (λ p. IsPlanOf (nat_lt 0 (length adapters.now.0)) model.now change p.planned) }
-    ensures refused { IfErr result (λ r. IsPlanRefusal model.now change r) }
-{
-    let answer = answered(alloc, model, &change, removal)?;
-    let places = places_of(alloc, adapters, removal)?;
-    let planned = plan(alloc, model, change, removal, adapters.len() > 0)?;
+    let answer = early_answer(alloc, model, &change)?;
+    let planned = plan(alloc, model, change, adapters.len() > 0)?;
+    let places = places_of(alloc, adapters, &planned.removal)?;
     Ok(Prepared {
-        answer,
+        answer: answer.unwrap_or(destroyed_answer(&planned.removal)),
         places,
         planned,
     })
@@ -117,47 +98,48 @@ pub(crate) fn reserve<L: LinkStore, A: Adapter>(
     Ok((round, leaving))
 }
 
-/// What a change answers that is not refused. Errs only when out of memory.
-fn answered<L: LinkStore>(
+/// What a change answers that is not refused; `None` for a deletion, whose answer is how much its plan destroys. Errs only when out
+/// of memory.
+fn early_answer<L: LinkStore>(
     alloc: Global,
     model: &ModelRef<L>,
     change: &Change,
-    removal: &Option<Removal>,
-) -> Result<Answer, AllocError>
-    requires removal { IsRemovalOf (reading model.now) change.now removal.now }
+) -> Result<Option<Answer>, AllocError>
     requires proper { (text : List ℕ) × IsProper (reading model.now) text change.now }
-    ensures { IfOk result (λ a. (rs : List Listed) (text : List ℕ) → IsProper (reading model.now) text change.now → a ≡ answer_of (reading model.now) rs (command_of text change.now)) }
+    ensures { IfOk result (λ q. (rs : List Listed) (text : List ℕ) → IsProper (reading model.now) text change.now → IsEarlyAnswer (destroyed_by change.now) (answer_of (reading model.now) rs (command_of text change.now)) q) }
 {
     model.is_legal();
     match change {
-        Change::Create(_) => Ok(Answer::Object(ObjectNo(model.next() as u32))),
-        Change::NewResource(_) => Ok(Answer::Resource(ResourceNo(model.resources() as u32))),
-        Change::Delete(_) => Ok(destroyed_answer(removal)),
-        Change::Resolve { target, .. } => Ok(Answer::Object(target.unwrap_or(ObjectNo(0)))),
-        Change::Load(_, doc) => Ok(Answer::Loaded(doc.objects.len() as u64)),
-        Change::Set { .. } | Change::Unset { .. } => Ok(Answer::Done),
+        Change::Delete(_) => Ok(None),
+        Change::Create(_) => Ok(Some(Answer::Object(ObjectNo(model.next() as u32)))),
+        Change::NewResource(_) => Ok(Some(Answer::Resource(ResourceNo(model.resources() as u32)))),
+        Change::Resolve { target, .. } => {
+            Ok(Some(Answer::Object(target.unwrap_or(ObjectNo(0)))))
+        }
+        Change::Load(_, doc) => Ok(Some(Answer::Loaded(doc.objects.len() as u64))),
+        Change::Set { .. } | Change::Unset { .. } => Ok(Some(Answer::Done)),
         Change::Add {
             node,
             feature,
             value,
             ..
-        } => Ok(Answer::Flag(!model.is_repeat(at_end(node, feature), value))),
+        } => Ok(Some(Answer::Flag(!model.is_repeat(at_end(node, feature), value)))),
         Change::RemoveValue {
             node,
             feature,
             value,
-        } => Ok(Answer::Flag(model.has(at_end(node, feature), value))),
+        } => Ok(Some(Answer::Flag(model.has(at_end(node, feature), value)))),
         Change::Remove {
             node,
             feature,
             index,
-        } => value_answer(alloc, model, at_end(node, feature), *index),
+        } => Ok(Some(value_answer(alloc, model, at_end(node, feature), *index)?)),
         Change::Move {
             node,
             feature,
             from,
             ..
-        } => value_answer(alloc, model, at_end(node, feature), *from),
+        } => Ok(Some(value_answer(alloc, model, at_end(node, feature), *from)?)),
     }
 }
 

@@ -1,9 +1,11 @@
+use Rattle.std.proofs.Common.{◌∙◌, ap}
+use Rattle.std.specs.Prelude.{unwrap_or}
 use Rattle.std.proofs.lemmas.Result.{err_from_is_err_and}
 use Rattle.models.specs.Model.{reading}
-use Rattle.repository.proofs.LeavingLemmas.{leavers_found}
+use Rattle.repository.proofs.LeavingLemmas.{leavers_found, whole-answer}
 use Rattle.repository.proofs.LoadLemmas.{proper-read}
 use Rattle.repository.proofs.PlanLemmas.{plan_refusal}
-use Rattle.repository.proofs.preparing.prepare_with.Goals as goal
+use Rattle.repository.proofs.preparing.prepare.Goals as goal
 
 pub plan-requires-clause-read : goal.plan-requires-clause-read
 plan-requires-clause-read g c = proper-read (reading c.args.model.now) c.requires.proper.0 c.args.change c.requires.proper.1
@@ -13,5 +15,10 @@ returns-in_err-planned-clause-refused g c =
     let p = err_from_is_err_and c.from_residual-in_err-planned.result c.from_residual-in_err-planned.ensures.1 in
     rw (p.1, p.2) (plan_refusal c.args.model.now c.args.change _ c.in_err-planned.ensures)
 
+pub returns-clause-answer : goal.returns-clause-answer
+returns-clause-answer g c = λ rs text proper.
+    c.unwrap_or.ensures ∙ ap (unwrap_or c.in_ok-answer.answer) c.destroyed_answer.ensures
+    ∙ whole-answer (reading c.args.model.now) rs text c.args.change _ _ (c.in_ok-answer.ensures rs text proper) c.in_ok-planned.ensures.removed
+
 pub returns-clause-places : goal.returns-clause-places
-returns-clause-places g c = leavers_found (reading c.args.model.now) c.args.change c.args.removal.now c.args.adapters.now.0 _ c.requires.removal c.in_ok-places.ensures
+returns-clause-places g c = leavers_found (reading c.args.model.now) c.args.change _ c.args.adapters.now.0 _ c.in_ok-planned.ensures.removed c.in_ok-places.ensures
