@@ -1,7 +1,9 @@
 pub mod ListedLemmas
 pub mod NumberLemmas
 pub mod HearingLemmas
-pub mod SpotLemmas
+pub mod TableLemmas
+pub mod MarkLemmas
+pub mod TiedLemmas
 pub mod PlaceLemmas
 pub mod ReserveLemmas
 pub mod DeliveryLemmas

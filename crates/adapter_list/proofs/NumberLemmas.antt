@@ -1,6 +1,6 @@
 -- How an adapter is found by its number, and why one is not taken.
-use Rattle.std.proofs.Common.{◌≡◌, ℕ, ◌<◌, Bool, true, false, cond, ◌||◌, ◌++◌, if◌then◌else◌, nat_lt, nat_le, List, [], ◌∷◌, map, length, get_or, position, slice_get, Some, None, option_map, option_and_then, refl, sym, ap, ◌∙◌, arith}
-use Rattle.std.specs.List.{find, list_any, position_or_len}
+use Rattle.std.proofs.Common.{◌≡◌, ℕ, ◌<◌, Bool, true, false, cond, ◌||◌, ◌++◌, if◌then◌else◌, nat_lt, nat_le, List, [], ◌∷◌, map, length, get_or, position, slice_get, Some, None, option_map, option_and_then, refl, sym, ap, subst, ◌∙◌, arith}
+use Rattle.std.specs.List.{IsDistinct, find, list_any, position_or_len}
 use Rattle.std.proofs.lemmas.List.Folds.{find_at}
 use Rattle.std.proofs.lemmas.List.{map-append}
 use Rattle.indexmap.specs.IndexSet.{insert_key}
@@ -10,7 +10,7 @@ use Rattle.mm_types.specs.declared.limits.TheConstants.{ADAPTERS}
 use Rattle.mm_types.specs.declared.numbers.AdapterNo.{AdapterNo}
 use Rattle.mm_types.specs.declared.refused.Refused.TheVariants as refused
 use Rattle.notice_chain.specs.View.{View}
-use Rattle.notice_chain.specs.Listed.{Listed, adapter, has_no, same_no}
+use Rattle.notice_chain.specs.Listed.{HasDistinctNumbers, Listed, adapter, has_no, same_no}
 use Rattle.adapter_list.specs.declared.attached.Attached.{Attached}
 use Rattle.adapter_list.specs.Attached.{listed_one, listed, numbers_of}
 use Rattle.adapter_list.specs.Refusals.{list_refusal}
@@ -69,3 +69,7 @@ allowed_from_none rs number none = by (nat_le ADAPTERS (length rs)) refl (list_a
 pub numbers_of-push : {A : Type 0} (xs after : List (Attached A)) (x : Attached A) (keys new : List AdapterNo) → keys ≡ numbers_of xs → list_any (same_no x.no) keys ≡ false → new ≡ insert_key same_no keys x.no → after ≡ xs ++ (x ∷ []) → new ≡ numbers_of after
 numbers_of-push xs after x keys new e absent inserted pushed =
     inserted ∙ ap (λ b. if b then keys else (keys ++ (x.no ∷ []))) absent ∙ ap (λ ks. ks ++ (x.no ∷ [])) e ∙ sym (ap numbers_of pushed ∙ map-append (λ a. a.no) xs (x ∷ []))
+
+-- the numbers of those who are listed are distinct
+pub distinct-numbers : {A : Type 0} (heard : A → View) (xs : List (Attached A)) (keys : List AdapterNo) → keys ≡ numbers_of xs → IsDistinct same_no keys → HasDistinctNumbers (listed heard xs)
+distinct-numbers heard xs keys is distinct = subst (IsDistinct same_no) (is ∙ sym (map-listed heard xs xs)) distinct

@@ -1,36 +1,38 @@
--- The places that are found by where adapters are attached: those who hear the notices of a node.
-use Rattle.std.proofs.Common.{◌≡◌, ℕ, ◌+◌, ◌≤◌, ◌<◌, zero, suc, Bool, true, false, not, cond, ◌&&◌, ◌||◌, nat_eq, List, [], ◌∷◌, map, length, drop, get_or, slice_get, Option, Some, None, option_map, option_and_then, position, refl, sym, ap, subst, ◌∙◌, arith, eqb-true, eq-eqb}
+-- The places that are found by the adapters of nodes: those who hear the notices of a node.
+use Rattle.std.proofs.Common.{◌≡◌, ℕ, ◌+◌, ◌≤◌, ◌<◌, zero, suc, Bool, true, false, not, cond, ◌&&◌, ◌||◌, nat_eq, List, [], ◌∷◌, map, length, drop, get_or, slice_get, Option, Some, None, Result, Ok, Err, option_map, option_and_then, position, if◌then◌else◌, refl, sym, ap, subst, ◌∙◌, arith, eqb-true, eq-eqb}
 use Rattle.std.specs.BTreeSet as tree
 use Rattle.std.specs.BTreeSet.{BTreeSet}
-use Rattle.std.specs.List.{AllByRecursion, IsDistinct, find, items_where_true, list_any}
+use Rattle.std.specs.List.{AllByRecursion, IsDistinct, cons_option, find, list_any}
 use Rattle.std.specs.List.Sorted.{IsStrictlySortedBy}
 use Rattle.std.specs.Option.{option_map_or}
+use Rattle.std.specs.Result.{OnOk}
 use Rattle.std.specs.Ordering.{is_eq, nat_cmp}
 use Rattle.std.specs.declared.cmp.Ordering.TheVariants.{Less}
-use Rattle.std.proofs.lemmas.Bool.{and_parts, false≢true, ne_eqb}
+use Rattle.std.proofs.lemmas.Bool.{eqb-false, false≢true, ne_eqb}
 use Rattle.std.proofs.lemmas.Bool.Decides.{nat_tests}
-use Rattle.std.proofs.lemmas.List.Elements.{recursion_from_All}
 use Rattle.std.proofs.lemmas.Cmp.{nat_cmp_total}
 use Rattle.std.proofs.lemmas.List.{drop_all, drop_more}
 use Rattle.std.proofs.lemmas.Map.Keys.{IsDistinct-head, IsDistinct-tail}
 use Rattle.std.proofs.lemmas.Map.Lookups.{btree_set_from_contains, exact_unsigned}
-use Rattle.std.proofs.lemmas.Option.{same_Some, slice_get-map}
-use Rattle.mm_types.proofs.SameLemmas.{same_node-true}
+use Rattle.std.proofs.lemmas.Option.{same_Some}
 use Rattle.mm_types.specs.Same.{same_node}
 use Rattle.mm_types.specs.declared.numbers.AdapterNo.{AdapterNo}
 use Rattle.mm_types.specs.declared.numbers.Node.{Node}
-use Rattle.notice_chain.specs.Listed.{Above, HasDistinctNumbers, Listed, has_no, same_no}
-use Rattle.notice_chain.specs.View.{View}
-use Rattle.adapter_list.specs.Attached.{AreIndexed, listed, listed_one}
+use Rattle.notice_chain.specs.Listed.{Above, HasDistinctNumbers, Listed, has_no, has_target, same_no}
 use Rattle.adapter_list.specs.Hearing.{hearers, hearers_from, hears_node}
-use Rattle.adapter_list.specs.Spots.{IsIndexed, Spot, has_number_at, is_attached_at, numbers_at}
-use Rattle.adapter_list.specs.declared.attached.Attached.{Attached}
+use Rattle.adapter_list.specs.Targets.{entries, entry_of, finds, has_number_at, is_attached, is_attached_at}
+use Rattle.adapter_list.specs.declared.target_lists.Entry.{Entry}
 use Rattle.adapter_list.proofs.NumberLemmas.{find-position}
-use Rattle.adapter_list.proofs.SpotLemmas.{flipped, is_eq-nat, number-found}
+
+pub flipped : (j k : AdapterNo) → same_no j k ≡ false → same_no k j ≡ false
+flipped j k other = ne_eqb k.0 j.0 (λ (e : k.0 ≡ j.0). eqb-false j.0 k.0 other (sym e))
+
+is_eq-nat : (x y : ℕ) → is_eq (nat_cmp x y) ≡ nat_eq x y
+is_eq-nat x y = grind (arith, nat_tests)
 
 ----------------------------------------------------------------- the place of a number
 
-no-some : {X : Type 0} (x : X) → None ≡ Some x → ⊥
+pub no-some : {X : Type 0} (x : X) → None ≡ Some x → ⊥
 no-some x e = cc
 
 none-behind : (p : Listed → Bool) (r : Listed) (rs : List Listed) (k : ℕ) → p r ≡ false → ((j : ℕ) → option_map_or p (slice_get rs j) false ≡ false) → option_map_or p (slice_get (r ∷ rs) k) false ≡ false
@@ -62,7 +64,7 @@ pub number-absent : (rs : List Listed) (number : AdapterNo) (k : ℕ) → None �
 number-absent rs number k absent = find-none (has_no number) rs k (find-position (has_no number) rs ∙ ap (option_and_then (slice_get rs)) (sym absent))
 
 module _ {X : Type 0} (f : X → AdapterNo) where
-  number-at : (P : AdapterNo → Type 0) (xs : List X) (k : ℕ) (r : X) → AllByRecursion P (map f xs) → slice_get xs k ≡ Some r → P (f r)
+  pub number-at : (P : AdapterNo → Type 0) (xs : List X) (k : ℕ) (r : X) → AllByRecursion P (map f xs) → slice_get xs k ≡ Some r → P (f r)
   number-at P [] k r h e = absurd (no-some r e)
   number-at P (q ∷ xs) zero r h e = let first : q ≡ r = cc in subst (λ (x : X). P (f x)) first h.0
   number-at P (q ∷ xs) (suc k) r h e = number-at P xs k r h.1 e
@@ -80,20 +82,6 @@ module _ {X : Type 0} (f : X → AdapterNo) where
       let apart : same_no (f x) (f q) ≡ false = number-at (λ n. same_no (f x) n ≡ false) xs i q (IsDistinct-head same_no (f x) (map f xs) distinct) at in
       absurd (false≢true (sym (flipped (f x) (f q) apart) ∙ ap (λ (y : X). same_no (f q) (f y)) first ∙ same))
   one-place (x ∷ xs) (suc i) (suc k) q r distinct at there same = ap suc (one-place xs i k q r (IsDistinct-tail same_no (f x) (map f xs) distinct) at there same)
-
-  pub places-apart : (xs : List X) (i k : ℕ) (q r : X) → IsDistinct same_no (map f xs) → slice_get xs i ≡ Some q → slice_get xs k ≡ Some r → (k ≡ i → ⊥) → same_no (f q) (f r) ≡ false
-  places-apart xs i k q r distinct at there other =
-      elim (same_no (f q) (f r)) as (λ b. same_no (f q) (f r) ≡ b → b ≡ false) [
-        | true ↦ λ same. absurd (other (one-place xs i k q r distinct at there same))
-        | false ↦ λ _. refl
-      ] refl
-
--- what holds of each that no mark takes out
-pub marked-all : {X : Type 0} (P : X → Type 0) (bs : List Bool) (xs : List X) → ((i : ℕ) (x : X) → slice_get xs i ≡ Some x → get_or bs i false ≡ false → P x) → AllByRecursion P (items_where_true (map not bs) xs)
-marked-all P [] xs h = tt
-marked-all P (b ∷ bs) [] h = tt
-marked-all P (true ∷ bs) (x ∷ xs) h = marked-all P bs xs (λ i y e k. h (suc i) y e k)
-marked-all P (false ∷ bs) (x ∷ xs) h = (h 0 x refl refl, marked-all P bs xs (λ i y e k. h (suc i) y e k))
 
 -- the adapter of a number is at one place
 number-here : (rs : List Listed) (number : AdapterNo) (i : ℕ) (q : Listed) → HasDistinctNumbers rs → slice_get rs i ≡ Some q → has_no number q ≡ true → (k : ℕ) → has_number_at rs number k ≡ nat_eq k i
@@ -118,105 +106,118 @@ or-true : (b : Bool) → true ≡ (b || true)
 or-true true = refl
 or-true false = refl
 
-pub none-added : (b h a : Bool) → h ≡ false → b ≡ (b || (h && a))
-none-added b h a none = or-false b ∙ ap (λ c. b || (c && a)) (sym none)
+-- a number that no adapter has adds no place
+pub none-added : (b h : Bool) → h ≡ false → b ≡ (b || h)
+none-added b h none = or-false b ∙ ap (λ c. b || c) (sym none)
 
-module _ (rs : List Listed) (number : AdapterNo) (x : Node) (only_deep : Bool) (i : ℕ) (q : Listed) (distinct : HasDistinctNumbers rs) (at : slice_get rs i ≡ Some q) (has : has_no number q ≡ true) where
-  attached-is : is_attached_at rs x only_deep i ≡ ((not only_deep || q.deep) && same_node q.target x)
-  attached-is = ap (λ (o : Option Listed). option_map_or (λ r. (not only_deep || r.deep) && same_node r.target x) o false) at
-
-  -- it is not attached to the node
-  pub not-added : ((not only_deep || q.deep) && same_node q.target x) ≡ false → (b : Bool) (k : ℕ) → b ≡ (b || (has_number_at rs number k && is_attached_at rs x only_deep k))
-  not-added other b k =
-      or-false b
-      ∙ ap (λ c. b || c) (sym (ap (λ c. c && is_attached_at rs x only_deep k) (number-here rs number i q distinct at has k)
-      ∙ elim (nat_eq k i) as (λ c. nat_eq k i ≡ c → (c && is_attached_at rs x only_deep k) ≡ false) [
-        | true ↦ λ same. ap (is_attached_at rs x only_deep) (eqb-true k i same) ∙ attached-is ∙ other
-        | false ↦ λ _. refl
-      ] refl))
-
-  -- it is, and is added
-  pub is-added : ((not only_deep || q.deep) && same_node q.target x) ≡ true → (b new : Bool) (k : ℕ) → new ≡ cond (is_eq (nat_cmp i k)) true b → new ≡ (b || (has_number_at rs number k && is_attached_at rs x only_deep k))
-  is-added attached b new k now =
-      now ∙ ap (λ c. cond c true b) (is_eq-nat i k ∙ turned)
-      ∙ elim (nat_eq k i) as (λ c. nat_eq k i ≡ c → cond c true b ≡ (b || (c && is_attached_at rs x only_deep k))) [
-        | true ↦ λ same. or-true b ∙ ap (λ c. b || c) (sym (ap (is_attached_at rs x only_deep) (eqb-true k i same) ∙ attached-is ∙ attached))
-        | false ↦ λ _. or-false b
-      ] refl
-      ∙ ap (λ c. b || (c && is_attached_at rs x only_deep k)) (sym (number-here rs number i q distinct at has k))
-    where
-      turned : nat_eq i k ≡ nat_eq k i
-      turned = grind (arith, nat_tests)
+-- the place of the adapter of a number is added
+pub is-added : (rs : List Listed) (number : AdapterNo) (i : ℕ) (q : Listed) → HasDistinctNumbers rs → slice_get rs i ≡ Some q → has_no number q ≡ true → (b new : Bool) (k : ℕ) → new ≡ cond (is_eq (nat_cmp i k)) true b → new ≡ (b || has_number_at rs number k)
+is-added rs number i q distinct at has b new k now =
+    now ∙ ap (λ c. cond c true b) (is_eq-nat i k ∙ turned)
+    ∙ elim (nat_eq k i) as (λ c. cond c true b ≡ (b || c)) [ true ↦ or-true b | false ↦ or-false b ]
+    ∙ ap (λ c. b || c) (sym (number-here rs number i q distinct at has k))
+  where
+    turned : nat_eq i k ≡ nat_eq k i
+    turned = grind (arith, nat_tests)
 
 ----------------------------------------------------------------- all of one node
 
-step : (c p r a : Bool) → ((c || (p && a)) || (r && a)) ≡ (c || ((p || r) && a))
-step true p r a = refl
-step false true true true = refl
-step false true true false = refl
-step false true false true = refl
-step false true false false = refl
-step false false r a = refl
+abbrev pub entry : Listed → Entry
+entry r = record { no = r.no; deep = r.deep }
 
--- one number more
-pub added-more : (p : ℕ → Bool) (a b new all : Bool) (ns : List ℕ) (i : ℕ) → i < length ns → new ≡ (b || (p (get_or ns i 0) && a)) → (b || (list_any p (drop i ns) && a)) ≡ all → (new || (list_any p (drop (i + 1) ns) && a)) ≡ all
-added-more p a b new all ns i low made whole =
-    ap (λ c. c || (list_any p (drop (i + 1) ns) && a)) made
-    ∙ step b (p (get_or ns i 0)) (list_any p (drop (i + 1) ns)) a
-    ∙ ap (λ (ms : List ℕ). b || (list_any p ms && a)) (sym (drop_more ns i 0 low))
+and-false : (b : Bool) → (b && false) ≡ false
+and-false true = refl
+and-false false = refl
+
+module _ (number : AdapterNo) (only_deep : Bool) where
+  abbrev named : Entry → Bool
+  named e = (not only_deep || e.deep) && same_no e.no number
+
+  no-name : (b c : Bool) → c ≡ false → (b && c) ≡ false
+  no-name b c h = ap (λ d. b && d) h ∙ and-false b
+
+  -- an adapter of another number changes nothing
+  other-by : (x : Node) (r : Listed) (es : List Entry) (b : Bool) → same_no r.no number ≡ false → list_any named es ≡ b → list_any named (cons_option (entry_of x r) es) ≡ b
+  other-by x r es b apart later =
+      elim (has_target x r) as (λ c. list_any named (cons_option (if c then Some (entry r) else None) es) ≡ b) [
+        | true ↦ ap (λ c. c || list_any named es) (no-name (not only_deep || r.deep) (same_no r.no number) apart) ∙ later
+        | false ↦ later
+      ]
+
+  none-apart : (x : Node) (rs : List Listed) → AllByRecursion (λ n. same_no number n ≡ false) (map (λ r. r.no) rs) → list_any named (entries x rs) ≡ false
+  none-apart x [] h = refl
+  none-apart x (r ∷ rs) h = other-by x r (entries x rs) false (flipped number r.no h.0) (none-apart x rs h.1)
+
+named-by : (only_deep : Bool) (x : Node) (r : Listed) (es : List Entry) → list_any (named r.no only_deep) es ≡ false → list_any (named r.no only_deep) (cons_option (entry_of x r) es) ≡ is_attached x only_deep r
+named-by only_deep x r es later =
+    elim (has_target x r) as (λ c. list_any (named r.no only_deep) (cons_option (if c then Some (entry r) else None) es) ≡ ((not only_deep || r.deep) && c)) [
+      | true ↦ ap (λ d. ((not only_deep || r.deep) && d) || list_any (named r.no only_deep) es) (eq-eqb r.no.0 r.no.0 refl) ∙ ap (λ d. ((not only_deep || r.deep) && true) || d) later ∙ sym (or-false ((not only_deep || r.deep) && true))
+      | false ↦ later ∙ sym (and-false (not only_deep || r.deep))
+    ]
+
+-- the entries of a node find the adapter at place k where it is attached to the node
+entries-name : (x : Node) (only_deep : Bool) (rs : List Listed) (k : ℕ) (r : Listed) → HasDistinctNumbers rs → slice_get rs k ≡ Some r → list_any (named r.no only_deep) (entries x rs) ≡ is_attached x only_deep r
+entries-name x only_deep [] k r distinct at = absurd (no-some r at)
+entries-name x only_deep (q ∷ rs) zero r distinct at =
+    let first : q ≡ r = cc in
+    subst (λ (p : Listed). list_any (named p.no only_deep) (entries x (q ∷ rs)) ≡ is_attached x only_deep p) first
+    (named-by only_deep x q (entries x rs) (none-apart q.no only_deep x rs (IsDistinct-head same_no q.no (map (λ p. p.no) rs) distinct)))
+entries-name x only_deep (q ∷ rs) (suc k) r distinct at =
+    let apart : same_no q.no r.no ≡ false = number-at (λ (p : Listed). p.no) (λ n. same_no q.no n ≡ false) rs k r (IsDistinct-head same_no q.no (map (λ p. p.no) rs) distinct) at in
+    other-by r.no only_deep x q (entries x rs) (is_attached x only_deep r) apart (entries-name x only_deep rs k r (IsDistinct-tail same_no q.no (map (λ p. p.no) rs) distinct) at)
+
+list_any-none : (es : List Entry) (p : Entry → Bool) → ((e : Entry) → p e ≡ false) → list_any p es ≡ false
+list_any-none [] p h = refl
+list_any-none (e ∷ es) p h = ap (λ b. b || list_any p es) (h e) ∙ list_any-none es p h
+
+pub entries-find : (x : Node) (only_deep : Bool) (rs : List Listed) (k : ℕ) → HasDistinctNumbers rs → list_any (finds rs only_deep k) (entries x rs) ≡ is_attached_at rs x only_deep k
+entries-find x only_deep rs k distinct = by (slice_get rs k) refl
+  where
+    by : (o : Option Listed) → slice_get rs k ≡ o → list_any (λ e. (not only_deep || e.deep) && option_map_or (has_no e.no) o false) (entries x rs) ≡ option_map_or (is_attached x only_deep) o false
+    by None e = list_any-none (entries x rs) (λ e. (not only_deep || e.deep) && false) (λ e. and-false (not only_deep || e.deep))
+    by (Some r) e = entries-name x only_deep rs k r distinct e
+
+-- where a node has no adapters none is found
+pub none-found : (x : Node) (only_deep : Bool) (rs : List Listed) (k : ℕ) → HasDistinctNumbers rs → entries x rs ≡ [] → (b : Bool) → b ≡ (b || is_attached_at rs x only_deep k)
+none-found x only_deep rs k distinct none b = none-added b (is_attached_at rs x only_deep k) (sym (entries-find x only_deep rs k distinct) ∙ ap (list_any (finds rs only_deep k)) none)
+
+step : (c p r : Bool) → ((c || p) || r) ≡ (c || (p || r))
+step true p r = refl
+step false p r = refl
+
+-- one entry more
+pub added-more : (p : Entry → Bool) (b new all : Bool) (es : List Entry) (i : ℕ) (d : Entry) → i < length es → new ≡ (b || p (get_or es i d)) → (b || list_any p (drop i es)) ≡ all → (new || list_any p (drop (i + 1) es)) ≡ all
+added-more p b new all es i d low made whole =
+    ap (λ c. c || list_any p (drop (i + 1) es)) made
+    ∙ step b (p (get_or es i d)) (list_any p (drop (i + 1) es))
+    ∙ ap (λ (ds : List Entry). b || list_any p ds) (sym (drop_more es i d low))
     ∙ whole
 
 -- and all of them
-pub added-all : (p : ℕ → Bool) (a b old : Bool) (ns : List ℕ) (i : ℕ) → length ns ≤ i → (a ≡ true → list_any p ns ≡ true) → (b || (list_any p (drop i ns) && a)) ≡ (old || (list_any p ns && a)) → b ≡ (old || a)
-added-all p a b old ns i past complete whole =
-    or-false b ∙ ap (λ (ms : List ℕ). b || (list_any p ms && a)) (sym (drop_all i ns past)) ∙ whole
-    ∙ ap (λ c. old || c) (elim a as (λ c. (c ≡ true → list_any p ns ≡ true) → (list_any p ns && c) ≡ c) [ true ↦ λ h. ap (λ d. d && true) (h refl) | false ↦ λ _. none (list_any p ns) ] complete)
-  where
-    none : (d : Bool) → (d && false) ≡ false
-    none true = refl
-    none false = refl
+pub added-all : (p : Entry → Bool) (b all : Bool) (es : List Entry) (i : ℕ) → length es ≤ i → (b || list_any p (drop i es)) ≡ all → b ≡ all
+added-all p b all es i past whole = or-false b ∙ ap (λ (ds : List Entry). b || list_any p ds) (sym (drop_all i es past)) ∙ whole
 
-pub deep-more : (p : Node → Bool) (b new all : Bool) (xs : List Node) (i : ℕ) (d : Node) → i < length xs → new ≡ (b || p (get_or xs i d)) → (b || list_any p (drop i xs)) ≡ all → (new || list_any p (drop (i + 1) xs)) ≡ all
-deep-more p b new all xs i d low made whole =
-    ap (λ c. c || list_any p (drop (i + 1) xs)) made
-    ∙ assoc b (p (get_or xs i d)) (list_any p (drop (i + 1) xs))
-    ∙ ap (λ (ys : List Node). b || list_any p ys) (sym (drop_more xs i d low))
-    ∙ whole
-  where
-    assoc : (c e f : Bool) → ((c || e) || f) ≡ (c || (e || f))
-    assoc true e f = refl
-    assoc false e f = refl
+-- an entry that is not asked for adds no place, and one that is adds that of its number
+pub not-asked : (rs : List Listed) (only_deep : Bool) (k : ℕ) (e : Entry) (b : Bool) → only_deep ≡ true → e.deep ≡ false → b ≡ (b || finds rs only_deep k e)
+not-asked rs only_deep k e b asked flat = none-added b (finds rs only_deep k e) (ap (λ d. (not d || e.deep) && has_number_at rs e.no k) asked ∙ ap (λ d. d && has_number_at rs e.no k) flat)
 
-pub deep-all : (p : Node → Bool) (b all : Bool) (xs : List Node) (i : ℕ) → length xs ≤ i → (b || list_any p (drop i xs)) ≡ all → b ≡ all
-deep-all p b all xs i past whole = or-false b ∙ ap (λ (ys : List Node). b || list_any p ys) (sym (drop_all i xs past)) ∙ whole
+pub asked-for : (rs : List Listed) (only_deep : Bool) (k : ℕ) (e : Entry) (b new : Bool) → (not only_deep || e.deep) ≡ true → new ≡ (b || has_number_at rs e.no k) → new ≡ (b || finds rs only_deep k e)
+asked-for rs only_deep k e b new asked now = now ∙ ap (λ d. b || (d && has_number_at rs e.no k)) (sym asked)
 
-module _ {A : Type 0} where
-  pub some-of : (P : Attached A → Type 0) (ys : List (Attached A)) (j : ℕ) (y : Attached A) → AllByRecursion P ys → slice_get ys j ≡ Some y → P y
-  some-of P [] j y h e = absurd (no-some y e)
-  some-of P (z ∷ ys) zero y h e = let first : z ≡ y = cc in subst P first h.0
-  some-of P (z ∷ ys) (suc j) y h e = some-of P ys j y h.1 e
+-- what holds of each result that is there, made of what else does
+pub on_ok-map : {X E : Type 0} {P Q : Type 0} (r : Result X E) → OnOk r P → (P → Q) → OnOk r Q
+on_ok-map (Ok x) h f = f h
+on_ok-map (Err e) h f = tt
 
-  -- an adapter that is attached to a node is found among the numbers of the node
-  pub attached-found : (heard : A → View) (spots : BTreeSet Spot) (xs : List (Attached A)) (rs : List Listed) (x : Node) (only_deep : Bool) (k : ℕ) → listed heard xs ≡ rs → AreIndexed spots xs → is_attached_at rs x only_deep k ≡ true → list_any (λ n. has_number_at rs (record { 0 = n }) k) (numbers_at spots x) ≡ true
-  attached-found heard spots xs rs x only_deep k seen indexed attached =
-      subst (λ (qs : List Listed). is_attached_at qs x only_deep k ≡ true → list_any (λ n. has_number_at qs (record { 0 = n }) k) (numbers_at spots x) ≡ true) seen (by xs k indexed) attached
-    where
-      here : (ys : List (Attached A)) (j : ℕ) (y : Attached A) → slice_get (listed heard ys) j ≡ Some (listed_one heard y) → IsIndexed spots y.target y.no → is_attached_at (listed heard ys) x only_deep j ≡ true → list_any (λ n. has_number_at (listed heard ys) (record { 0 = n }) j) (numbers_at spots x) ≡ true
-      here ys j y at indexed h =
-          let both : ((not only_deep || y.deep) && same_node y.target x) ≡ true = sym (ap (λ (o : Option Listed). option_map_or (λ r. (not only_deep || r.deep) && same_node r.target x) o false) at) ∙ h in
-          let target : y.target ≡ x = same_node-true y.target x (and_parts (not only_deep || y.deep) (same_node y.target x) both).1 in
-          let mine : nat_eq y.no.0 y.no.0 ≡ true = eq-eqb y.no.0 y.no.0 refl in
-          number-found spots x y.no (λ n. has_number_at (listed heard ys) (record { 0 = n }) j) (subst (λ (z : Node). IsIndexed spots z y.no) target indexed)
-          (ap (λ (o : Option Listed). option_map_or (has_no (record { 0 = y.no.0 })) o false) at ∙ mine)
+----------------------------------------------------------------- on the way up
 
-      by : (ys : List (Attached A)) (j : ℕ) → AreIndexed spots ys → is_attached_at (listed heard ys) x only_deep j ≡ true → list_any (λ n. has_number_at (listed heard ys) (record { 0 = n }) j) (numbers_at spots x) ≡ true
-      by ys j all h = at-place (slice_get ys j) refl
-        where
-          at-place : (o : Option (Attached A)) → slice_get ys j ≡ o → list_any (λ n. has_number_at (listed heard ys) (record { 0 = n }) j) (numbers_at spots x) ≡ true
-          at-place None e = absurd (false≢true (sym (ap (λ (o : Option Listed). option_map_or (λ r. (not only_deep || r.deep) && same_node r.target x) o false) (slice_get-map (listed_one heard) ys j ∙ ap (option_map (listed_one heard)) e)) ∙ h))
-          at-place (Some y) e =
-              let P : Attached A → Type 0 = λ a. IsIndexed spots a.target a.no in
-              here ys j y (slice_get-map (listed_one heard) ys j ∙ ap (option_map (listed_one heard)) e) (some-of P ys j y (recursion_from_All P ys all) e) h
+-- one node further up
+pub above-more : (p : Node → Bool) (b new all : Bool) (y : Node) (ys zs : List Node) → zs ≡ y ∷ ys → new ≡ (b || p y) → (b || list_any p zs) ≡ all → (new || list_any p ys) ≡ all
+above-more p b new all y ys zs next made whole = ap (λ c. c || list_any p ys) made ∙ step b (p y) (list_any p ys) ∙ ap (λ (ws : List Node). b || list_any p ws) (sym next) ∙ whole
+
+-- and the topmost
+pub above-all : (p : Node → Bool) (b all : Bool) (zs : List Node) → zs ≡ [] → (b || list_any p zs) ≡ all → b ≡ all
+above-all p b all zs none whole = or-false b ∙ ap (λ (ws : List Node). b || list_any p ws) (sym none) ∙ whole
 
 ----------------------------------------------------------------- those who hear a node
 

@@ -1,5 +1,5 @@
 -- What is left of the adapters where those of some targets are gone, and who is released.
-use Rattle.std.proofs.Common.{◌≡◌, ◌||◌, Result, Ok, Err, ℕ, ◌+◌, ◌≤◌, ◌<◌, Bool, true, false, cond, not, List, [], ◌∷◌, ◌++◌, map, filter, length, get_or, drop, All, refl, sym, ap, subst, ◌∙◌, arith, append_assoc, if◌then◌else◌}
+use Rattle.std.proofs.Common.{◌≡◌, ◌||◌, Result, Ok, Err, IsErr, OnErr, ℕ, ◌+◌, ◌≤◌, ◌<◌, Bool, true, false, cond, not, List, [], ◌∷◌, ◌++◌, map, filter, length, get_or, drop, All, refl, sym, ap, subst, ◌∙◌, arith, append_assoc, if◌then◌else◌}
 use Rattle.std.specs.List.{AllByRecursion, IsDistinct, fold, items_where_true, list_any}
 use Rattle.std.specs.Result.{IfOk, IsOk}
 use Rattle.std.proofs.lemmas.Bool.{eqb-false, false≢true, ne_eqb}
@@ -154,6 +154,10 @@ insert_key-new ks rest k h = ap (λ b. if b then ks else (ks ++ k ∷ [])) (none
 pub from_ok : {X E : Type 0} (P : Type 0) (r : Result X E) → IsOk r → IfOk r (λ _. P) → P
 from_ok P (Ok x) h k = k
 from_ok P (Err e) h k = absurd (false≢true h)
+
+pub from_err : {X E : Type 0} (P : Type 0) (r : Result X E) → IsErr r → OnErr r P → P
+from_err P (Ok x) h k = absurd (false≢true h)
+from_err P (Err e) h k = k
 
 module _ {A : Type 0} where
   pub drop-numbers : (xs : List (Attached A)) (i : ℕ) (x : Attached A) → i < length xs → x ≡ get_or xs i x → numbers_of (drop i xs) ≡ x.no ∷ numbers_of (drop (i + 1) xs)

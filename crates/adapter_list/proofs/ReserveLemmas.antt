@@ -210,7 +210,7 @@ any-some p [] k r e h = absurd (some-of-none e)
 any-some p (q ∷ rs) zero r e h = let first : q ≡ r = cc in ap (λ b. b || list_any p rs) (ap p first ∙ h)
 any-some p (q ∷ rs) (suc k) r e h = elim (p q) as (λ b. (b || list_any p rs) ≡ true) [ true ↦ refl | false ↦ any-some p rs k r e h ]
 
-there : (rs : List Listed) (k : ℕ) → k < length rs → (r : Listed) × (slice_get rs k ≡ Some r)
+pub there : (rs : List Listed) (k : ℕ) → k < length rs → (r : Listed) × (slice_get rs k ≡ Some r)
 there [] k h = absurd (omega (arith, h))
 there (r ∷ rs) zero h = (r, refl)
 there (r ∷ rs) (suc k) h = there rs k (omega (arith, h))

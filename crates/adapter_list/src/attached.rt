@@ -1,7 +1,4 @@
 //! One attached adapter.
-ghost use Rattle.std.specs.Prelude.{◌≡◌, ◌&&◌, ◌||◌, not};
-ghost use Rattle.mm_types.specs.Same.{same_node};
-
 use adapters::Adapter;
 use mm_types::{AdapterNo, Node};
 
@@ -16,11 +13,4 @@ pub struct Attached<A = Box<dyn Adapter>> {
     pub deep: bool,
     /// The adapter itself.
     pub adapter: A,
-}
-
-/// Whether an adapter is attached to a node; and is deep, where only those are asked for.
-pub(crate) fn is_attached<A>(one: &Attached<A>, node: Node, only_deep: bool) -> bool
-    ensures { result ≡ ((not only_deep || one.now.deep) && same_node one.now.target node) }
-{
-    (!only_deep || one.deep) && one.target == node
 }

@@ -11,9 +11,10 @@ mod counts;
 mod hearers;
 pub mod laws;
 mod list;
+mod marks;
 mod refusal;
 mod round;
-mod spots;
+mod target_lists;
 
 pub use attach_refused::AttachRefused;
 pub use attached::Attached;

@@ -11,13 +11,12 @@ mod reserve;
 mod tell;
 
 use crate::attached::Attached;
-use crate::spots::Spot;
+use crate::target_lists::TargetLists;
 use adapters::Adapter;
 use indexmap::IndexSet;
 use mm_types::limits::ADAPTERS;
 use mm_types::{AdapterNo, Node};
 use std::alloc::Global;
-use std::collections::BTreeSet;
 use std::marker::Model;
 
 /// The attached adapters, in attach order (EMF: the adapters of all notifiers). It is seen as two lists: the adapters by what
@@ -31,8 +30,10 @@ pub struct AdapterList<A: Adapter> {
     attached: Vec<Attached<A>>,
     /// The numbers of `attached`, in the same order, to find an adapter by its number.
     numbers: IndexSet<AdapterNo>,
-    /// Where each of `attached` is attached, to find those of one node.
-    spots: BTreeSet<Spot>,
+    /// For each node those that are attached to it, in attach order.
+    by_target: TargetLists,
+    /// For each object whether any is attached to it.
+    marks: Vec<bool>,
     /// Always empty: `close` fills it, and takes no memory for that.
     released: Vec<(AdapterNo, A)>,
 }
@@ -46,7 +47,7 @@ impl<A: Adapter> Model for AdapterList<A> {
 
     ghost view = { λ l. (listed A.heard l.attached.items, places_of A.places l.attached.items) };
 
-    ghost invariant = { λ l. IsSound A.heard A.places l.attached.items l.numbers.keys l.spots (vec_len l.released) (vec_capacity l.released) };
+    ghost invariant = { λ l. IsSound A.heard A.places l.attached.items l.numbers.keys l.by_target l.marks.items (vec_len l.released) (vec_capacity l.released) };
 }
 
 impl<A: Adapter> AdapterList<A> {
@@ -58,7 +59,8 @@ impl<A: Adapter> AdapterList<A> {
             alloc,
             attached: Vec::new(alloc),
             numbers: IndexSet::new(alloc),
-            spots: BTreeSet::new(alloc),
+            by_target: TargetLists::new(alloc),
+            marks: Vec::new(alloc),
             released: Vec::new(alloc),
         }
     }

@@ -5,8 +5,9 @@ ghost use Rattle.adapter_list.specs.Refusals.{attach_refusal, but_memory, list_r
 use super::AdapterList;
 use crate::attach_refused::AttachRefused;
 use crate::attached::Attached;
+use crate::marks::{reserve_mark, set_mark};
 use crate::refusal::refusal;
-use crate::spots::spot;
+use crate::target_lists::Entry;
 use adapters::Adapter;
 use mm_types::{AdapterNo, Node, Refused, limits};
 
@@ -44,9 +45,15 @@ impl<A: Adapter> AdapterList<A> {
         if self.numbers.reserve(1).is_err() {
             return refuse(Refused::Memory, adapter);
         }
-        let Ok(_) = self.spots.insert(spot(target, no.0)) else {
+        if reserve_mark(&mut self.marks, target).is_err() {
             return refuse(Refused::Memory, adapter);
-        };
+        }
+        let last = self.by_target.at(target).len();
+        let entry = Entry { no, deep };
+        if self.by_target.insert(target, last, entry).is_err() {
+            return refuse(Refused::Memory, adapter);
+        }
+        set_mark(&mut self.marks, target, true);
         let _ = self.numbers.insert(no);
         self.attached.push_reserved(Attached {
             no,

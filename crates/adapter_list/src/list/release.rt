@@ -1,12 +1,11 @@
 //! Detaching and closing.
-ghost use Rattle.std.specs.Prelude.{◌≡◌, ◌≤◌, ◌<◌, None, length, map, option_map, IfNone, count_by, take};
+ghost use Rattle.std.specs.Prelude.{◌≡◌, ◌≤◌, map, option_map, IfNone};
 ghost use Rattle.notice_chain.specs.Listed.{release, release_all, removing};
 ghost use Rattle.notice_chain.specs.View.{hear};
-ghost use Rattle.mm_types.specs.Same.{same_node};
 
 use super::AdapterList;
 use crate::attached::Attached;
-use crate::spots::spot;
+use crate::marks::set_mark;
 use adapters::Adapter;
 use mm_types::limits::ADAPTERS;
 use mm_types::{AdapterNo, Node, Value};
@@ -22,7 +21,10 @@ impl<A: Adapter> AdapterList<A> {
         let Some(place) = self.place_of(no) else {
             return None;
         };
-        let earlier = count_before(&self.attached, place, self.attached[place].target);
+        let target = self.attached[place].target;
+        let index = self.by_target.index_of(target, no).unwrap();
+        self.by_target.remove(target, index);
+        set_mark(&mut self.marks, target, self.by_target.has_any(target));
         let _ = self.numbers.shift_remove_index(place);
         let Attached {
             no,
@@ -30,9 +32,8 @@ impl<A: Adapter> AdapterList<A> {
             deep: _,
             mut adapter,
         } = self.attached.remove(place);
-        self.spots.remove(&spot(target, no.0));
-        adapter.notify_changed(last_notice(no, target, earlier));
-        Some((last_notice(no, target, earlier), adapter))
+        adapter.notify_changed(last_notice(no, target, index));
+        Some((last_notice(no, target, index), adapter))
     }
 
     /// Gives every adapter back, in attach order: each is notified of that last, and is gone before the next one is notified.
@@ -44,7 +45,8 @@ impl<A: Adapter> AdapterList<A> {
             alloc: _,
             attached,
             numbers: _,
-            spots: _,
+            by_target: _,
+            marks: _,
             mut released,
         } = self;
         for one in attached {
@@ -84,16 +86,4 @@ pub(super) fn last_notice(no: AdapterNo, target: Node, index: usize) -> Notice
         position: index as i64,
         was_set: false,
     }
-}
-
-/// How many of the adapters before `place` have the target.
-fn count_before<A>(attached: &[Attached<A>], place: usize, target: Node) -> usize
-    requires { place < length attached.now }
-    ensures count { result ≡ count_by (λ a. same_node a.target target) (take place attached.now) }
-    ensures few { result ≤ place }
-{
-    attached[..place]
-        .iter()
-        .filter(|one| one.target == target)
-        .count()
 }

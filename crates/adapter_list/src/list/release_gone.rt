@@ -1,24 +1,25 @@
 //! Releasing the adapters whose targets are gone.
-ghost use Rattle.std.specs.Prelude.{◌≡◌, true, false, Bool, ◌+◌, ◌≤◌, ◌<◌, ◌∷◌, [], ◌++◌, length, map, filter, not, vec_len, vec_capacity};
+ghost use Rattle.std.specs.Prelude.{◌≡◌, ◌&&◌, Bool, ◌+◌, ◌≤◌, ◌<◌, ◌∷◌, [], ◌++◌, length, map, filter, not, vec_len, vec_capacity};
 ghost use Rattle.std.specs.List.{IsDistinct, items_where_true};
 ghost use Rattle.indexmap.specs.IndexSet.{index_set_len};
-ghost use Rattle.mm_types.specs.declared.numbers.AdapterNo.{AdapterNo};
+ghost use Rattle.mm_types.specs.Same.{same_node};
 ghost use Rattle.mm_types.specs.declared.numbers.Node.{Node};
 ghost use Rattle.notice_chain.specs.View.{hear};
 ghost use Rattle.notice_chain.specs.Listed.{last_notice as last_notice_of, release_all, removing, same_no};
 ghost use Rattle.notice_chain.specs.Released.{released as released_of};
-ghost use Rattle.adapter_list.specs.Attached.{AreIndexed, AreReady, listed, numbers_of, views_of};
-ghost use Rattle.adapter_list.specs.Spots.{IsIndexed};
+ghost use Rattle.adapter_list.specs.Attached.{AreReady, is_left, listed, numbers_of, views_of};
+ghost use Rattle.adapter_list.specs.Targets.{Forgets};
 
 use super::AdapterList;
 use super::release::{last_notice, told_of_release};
 use crate::attached::Attached;
-use crate::spots::{Spot, spot};
+use crate::marks::set_mark;
+use crate::target_lists::TargetLists;
 use adapters::Adapter;
 use indexmap::IndexSet;
-use mm_types::AdapterNo;
+use mm_types::{AdapterNo, Node};
 use notice_chain::Notice;
-use std::collections::{BTreeSet, VecDeque};
+use std::collections::VecDeque;
 use std::mem;
 
 impl<A: Adapter> AdapterList<A> {
@@ -39,7 +40,12 @@ impl<A: Adapter> AdapterList<A> {
         ensures told { (gone : Node → Bool) → leaves.now ≡ map (λ r. gone r.target) self.old.0 → told.new.items ≡ told.old.items ++ (released_of (λ r. gone r.target) self.old.0).told }
         ensures released { (gone : Node → Bool) → leaves.now ≡ map (λ r. gone r.target) self.old.0 → views_of A.heard released.new.items ≡ views_of A.heard released.old.items ++ (released_of (λ r. gone r.target) self.old.0).views }
     {
-        forget(&mut self.spots, &self.attached, leaves);
+        forget(
+            &mut self.by_target,
+            &mut self.marks,
+            &self.attached,
+            leaves,
+        );
         let attached = mem::replace(&mut self.attached, Vec::new(self.alloc));
         self.attached = let_go(attached, leaves, told, released);
         renumber(&mut self.numbers, &self.attached);
@@ -93,24 +99,29 @@ fn let_one_go<A: Adapter>(
     released.push_reserved((no, adapter));
 }
 
-/// Takes out where the adapters that leave are attached. Those who stay are still in the set.
-fn forget<A>(spots: &mut BTreeSet<Spot>, attached: &[Attached<A>], leaves: &[bool])
-    requires as_many { length leaves.now ≡ length attached.now }
-    requires distinct { IsDistinct same_no (numbers_of attached.now) }
-    requires indexed { AreIndexed spots.old attached.now }
-    ensures { AreIndexed spots.new (items_where_true (map not leaves.now) attached.now) }
+/// Takes out the lists and the marks of the targets of the adapters that leave. All adapters of one target leave together, so a
+/// list goes with the first of them.
+fn forget<A>(
+    by_target: &mut TargetLists,
+    marks: &mut Vec<bool>,
+    attached: &[Attached<A>],
+    leaves: &[bool],
+)
+    requires { length leaves.now ≡ length attached.now }
+    ensures { Forgets by_target.old by_target.new marks.old.items marks.new.items (is_left leaves.now attached.now) }
 {
     for (place, one) in attached.iter().enumerate() {
-        forget_if(spots, one, leaves[place]);
+        forget_if(by_target, marks, one.target, leaves[place]);
     }
 }
 
-/// Takes out where an adapter is attached, if it leaves.
-fn forget_if<A>(spots: &mut BTreeSet<Spot>, one: &Attached<A>, leaves: bool)
-    ensures { (x : Node) (number : AdapterNo) → (leaves ≡ true → same_no one.now.no number ≡ false) → IsIndexed spots.old x number → IsIndexed spots.new x number }
+/// Takes out the list and the mark of a target, if its adapters leave.
+fn forget_if(by_target: &mut TargetLists, marks: &mut Vec<bool>, target: Node, leaves: bool)
+    ensures { Forgets by_target.old by_target.new marks.old.items marks.new.items (λ x. leaves && same_node target x) }
 {
     if leaves {
-        spots.remove(&spot(one.target, one.no.0));
+        by_target.drop_list(target);
+        set_mark(marks, target, false);
     }
 }
 

@@ -1,56 +1,141 @@
-use Rattle.std.proofs.Common.{rules, arith, ◌≡◌, ◌<◌, cond, false, length, ◌∙◌, ap, sym, subst, remove}
+use Rattle.std.proofs.Common.{◌≡◌, ◌<◌, ◌≤◌, ℕ, IsSome, Option, get_or, true, false, Some, ap, arith, count_by, cond, length, position, refl, remove, rules, subst, sym, take, ◌∙◌, if◌then◌else◌}
 use Rattle.std.proofs.lemmas.List.{length-map}
-use Rattle.std.specs.BTreeSet as tree
-use Rattle.std.specs.List.{IsDistinct}
-use Rattle.std.specs.Ordering.{is_eq}
-use Rattle.notice_chain.specs.Listed.{same_no}
-use Rattle.adapter_list.specs.Attached.{numbers_of}
-use Rattle.adapter_list.specs.Spots.{Spot, spot, spot_cmp}
+use Rattle.std.proofs.lemmas.Option.{same_Some}
+use Rattle.mm_types.specs.Same.{same_node}
+use Rattle.mm_types.specs.declared.numbers.Node.{Node}
+use Rattle.mm_types.specs.declared.numbers.Node.TheVariants as node
+use Rattle.notice_chain.specs.Listed.{has_no}
+use Rattle.adapter_list.specs.Attached.{listed, listed_one, numbers_of}
+use Rattle.adapter_list.specs.Targets.{entries, entries_in, is_any}
+use Rattle.adapter_list.specs.declared.attached.Attached.{Attached}
 use Rattle.adapter_list.proofs.ListedLemmas.{release-at, release-absent, last_notice-listed, AreReady-at, AreReady-remove, read_once, remove-map}
-use Rattle.adapter_list.proofs.SpotLemmas.{AreIndexed-without}
+use Rattle.adapter_list.proofs.MarkLemmas.{mark-room}
+use Rattle.adapter_list.proofs.NumberLemmas.{distinct-numbers}
+use Rattle.adapter_list.proofs.TableLemmas.{is_any-some}
+use Rattle.adapter_list.proofs.TiedLemmas.{Goes, at-number, before, going, mark-removed, tied-remove}
 use Rattle.adapter_list.proofs.list.AdapterList.detach.Goals as goal
+
+pub unwrap-index-requires : goal.unwrap-index-requires
+unwrap-index-requires g c =
+    let heard = g.A.Adapter.heard in
+    let items = c.self.inside.attached.items in
+    let rs = listed heard items in
+    let t = c.self.inside.by_target in
+    let one = c.index.result.now in
+    let within : c.in-Some.place < length items = rw (length-map) at (rw (← c.self.view_is) at c.in-Some.ensures.within) in
+    let at : Some c.in-Some.place ≡ position (has_no c.args.no) rs = rw (← c.self.view_is) at c.in-Some.ensures.place in
+    let goes : Goes heard items c.args.no c.in-Some.place one (entries_in t one.target) = going heard items c.args.no c.in-Some.place one t (distinct-numbers heard items c.self.inside.numbers.keys c.self.invariant.numbered c.self.invariant.distinct) c.self.invariant.tied at within c.index.ensures in
+    subst (λ (o : Option ℕ). IsSome o) (sym (c.index_of.ensures ∙ goes.found)) refl
+
+pub remove-requires : goal.remove-requires
+remove-requires g c =
+    let heard = g.A.Adapter.heard in
+    let items = c.self.inside.attached.items in
+    let rs = listed heard items in
+    let t = c.self.inside.by_target in
+    let one = c.index.result.now in
+    let within : c.in-Some.place < length items = rw (length-map) at (rw (← c.self.view_is) at c.in-Some.ensures.within) in
+    let at : Some c.in-Some.place ≡ position (has_no c.args.no) rs = rw (← c.self.view_is) at c.in-Some.ensures.place in
+    let goes : Goes heard items c.args.no c.in-Some.place one (entries_in t one.target) = going heard items c.args.no c.in-Some.place one t (distinct-numbers heard items c.self.inside.numbers.keys c.self.invariant.numbered c.self.invariant.distinct) c.self.invariant.tied at within c.index.ensures in
+    let index_is : c.unwrap-index.result ≡ before one.target c.in-Some.place rs = same_Some c.unwrap-index.result (before one.target c.in-Some.place rs) (sym c.unwrap-index.ensures ∙ c.index_of.ensures ∙ goes.found) in
+    subst (λ (i : ℕ). i < length (entries_in t one.target)) (sym index_is) goes.low
+
+pub set_mark-requires : goal.set_mark-requires
+set_mark-requires g c =
+    let heard = g.A.Adapter.heard in
+    let items = c.self.inside.attached.items in
+    let rs = listed heard items in
+    let t = c.self.inside.by_target in
+    let one = c.index.result.now in
+    let within : c.in-Some.place < length items = rw (length-map) at (rw (← c.self.view_is) at c.in-Some.ensures.within) in
+    let at : Some c.in-Some.place ≡ position (has_no c.args.no) rs = rw (← c.self.view_is) at c.in-Some.ensures.place in
+    let goes : Goes heard items c.args.no c.in-Some.place one (entries_in t one.target) = going heard items c.args.no c.in-Some.place one t (distinct-numbers heard items c.self.inside.numbers.keys c.self.invariant.numbered c.self.invariant.distinct) c.self.invariant.tied at within c.index.ensures in
+    let index_is : c.unwrap-index.result ≡ before one.target c.in-Some.place rs = same_Some c.unwrap-index.result (before one.target c.in-Some.place rs) (sym c.unwrap-index.ensures ∙ c.index_of.ensures ∙ goes.found) in
+    λ some.
+    mark-room c.self.inside.marks.items one.target (entries_in t one.target) (λ o e. c.self.invariant.marked o ∙ ap (λ (z : Node). is_any (entries_in t z)) (sym e)) (sym (is_any-some (entries_in t one.target) (let low = goes.low in omega (arith, low))))
 
 pub notify_changed-requires : goal.notify_changed-requires
 notify_changed-requires g c =
-    let within : c.in-Some.place < length c.self.inside.attached.items = rw (length-map) at (rw (← c.self.view_is) at c.in-Some.ensures.within) in
-    let ready = AreReady-at g.A.Adapter.heard g.A.Adapter.places c.self.inside.attached.items _ _ c.self.invariant.ready within c.remove-target.ensures.value in
-    ready.reserve
+    let heard = g.A.Adapter.heard in
+    let items = c.self.inside.attached.items in
+    let rs = listed heard items in
+    let t = c.self.inside.by_target in
+    let one = c.index.result.now in
+    let within : c.in-Some.place < length items = rw (length-map) at (rw (← c.self.view_is) at c.in-Some.ensures.within) in
+    let at : Some c.in-Some.place ≡ position (has_no c.args.no) rs = rw (← c.self.view_is) at c.in-Some.ensures.place in
+    let goes : Goes heard items c.args.no c.in-Some.place one (entries_in t one.target) = going heard items c.args.no c.in-Some.place one t (distinct-numbers heard items c.self.inside.numbers.keys c.self.invariant.numbered c.self.invariant.distinct) c.self.invariant.tied at within c.index.ensures in
+    (AreReady-at heard g.A.Adapter.places items c.in-Some.place c.remove-target.result c.self.invariant.ready within c.remove-target.ensures.value).reserve
 
 pub last_notice-requires : goal.last_notice-requires
 last_notice-requires g c =
-    let within : c.in-Some.place < length c.self.inside.attached.items = rw (length-map) at (rw (← c.self.view_is) at c.in-Some.ensures.within) in
-    omega (arith, c.count_before-earlier.ensures.few, within, c.self.invariant.few)
+    let heard = g.A.Adapter.heard in
+    let items = c.self.inside.attached.items in
+    let rs = listed heard items in
+    let t = c.self.inside.by_target in
+    let one = c.index.result.now in
+    let within : c.in-Some.place < length items = rw (length-map) at (rw (← c.self.view_is) at c.in-Some.ensures.within) in
+    let at : Some c.in-Some.place ≡ position (has_no c.args.no) rs = rw (← c.self.view_is) at c.in-Some.ensures.place in
+    let goes : Goes heard items c.args.no c.in-Some.place one (entries_in t one.target) = going heard items c.args.no c.in-Some.place one t (distinct-numbers heard items c.self.inside.numbers.keys c.self.invariant.numbered c.self.invariant.distinct) c.self.invariant.tied at within c.index.ensures in
+    let index_is : c.unwrap-index.result ≡ before one.target c.in-Some.place rs = same_Some c.unwrap-index.result (before one.target c.in-Some.place rs) (sym c.unwrap-index.ensures ∙ c.index_of.ensures ∙ goes.found) in
+    omega (arith, index_is, goes.few, c.self.invariant.few)
 
 pub last_notice-requires-2 : goal.last_notice-requires-2
 last_notice-requires-2 g c =
-    let within : c.in-Some.place < length c.self.inside.attached.items = rw (length-map) at (rw (← c.self.view_is) at c.in-Some.ensures.within) in
-    omega (arith, c.count_before-earlier.ensures.few, within, c.self.invariant.few)
+    let heard = g.A.Adapter.heard in
+    let items = c.self.inside.attached.items in
+    let rs = listed heard items in
+    let t = c.self.inside.by_target in
+    let one = c.index.result.now in
+    let within : c.in-Some.place < length items = rw (length-map) at (rw (← c.self.view_is) at c.in-Some.ensures.within) in
+    let at : Some c.in-Some.place ≡ position (has_no c.args.no) rs = rw (← c.self.view_is) at c.in-Some.ensures.place in
+    let goes : Goes heard items c.args.no c.in-Some.place one (entries_in t one.target) = going heard items c.args.no c.in-Some.place one t (distinct-numbers heard items c.self.inside.numbers.keys c.self.invariant.numbered c.self.invariant.distinct) c.self.invariant.tied at within c.index.ensures in
+    let index_is : c.unwrap-index.result ≡ before one.target c.in-Some.place rs = same_Some c.unwrap-index.result (before one.target c.in-Some.place rs) (sym c.unwrap-index.ensures ∙ c.index_of.ensures ∙ goes.found) in
+    omega (arith, index_is, goes.few, c.self.invariant.few)
 
 pub invariant_of-self : goal.invariant_of-self
 invariant_of-self g c =
+    let heard = g.A.Adapter.heard in
+    let items = c.self.inside.attached.items in
+    let rs = listed heard items in
+    let t = c.self.inside.by_target in
+    let one = c.index.result.now in
+    let within : c.in-Some.place < length items = rw (length-map) at (rw (← c.self.view_is) at c.in-Some.ensures.within) in
+    let at : Some c.in-Some.place ≡ position (has_no c.args.no) rs = rw (← c.self.view_is) at c.in-Some.ensures.place in
+    let goes : Goes heard items c.args.no c.in-Some.place one (entries_in t one.target) = going heard items c.args.no c.in-Some.place one t (distinct-numbers heard items c.self.inside.numbers.keys c.self.invariant.numbered c.self.invariant.distinct) c.self.invariant.tied at within c.index.ensures in
+    let index_is : c.unwrap-index.result ≡ before one.target c.in-Some.place rs = same_Some c.unwrap-index.result (before one.target c.in-Some.place rs) (sym c.unwrap-index.ensures ∙ c.index_of.ensures ∙ goes.found) in
     let removed = c.remove-target.ensures.items in
-    let within : c.in-Some.place < length c.self.inside.attached.items = rw (length-map) at (rw (← c.self.view_is) at c.in-Some.ensures.within) in
-    let distinct : IsDistinct same_no (numbers_of c.self.inside.attached.items) = subst (λ ks. IsDistinct same_no ks) c.self.invariant.numbered c.self.invariant.distinct in
-    let updates : (q : Spot) → tree.contains spot_cmp c.remove.new.self q ≡ cond (is_eq (spot_cmp (spot c.remove-target.result.target c.remove-target.result.no.0) q)) false (tree.contains spot_cmp c.self.inside.spots q) = subst (λ (s : Spot). (q : Spot) → tree.contains spot_cmp c.remove.new.self q ≡ cond (is_eq (spot_cmp s q)) false (tree.contains spot_cmp c.self.inside.spots q)) c.spot.ensures.spot c.remove.ensures.updates.0 in
-    let numbers = c.shift_remove_index.ensures.keys ∙ ap (λ ks. remove ks c.in-Some.place) c.self.invariant.numbered ∙ remove-map (λ a. a.no) c.self.inside.attached.items c.in-Some.place ∙ ap numbers_of (sym removed) in
     record {
       few = search rules;
-      ready = rw removed (AreReady-remove g.A.Adapter.heard g.A.Adapter.places c.self.inside.attached.items _ c.self.invariant.ready);
-      numbered = numbers;
+      ready = rw removed (AreReady-remove heard g.A.Adapter.places items c.in-Some.place c.self.invariant.ready);
+      numbered = c.shift_remove_index.ensures.keys ∙ ap (λ ks. remove ks c.in-Some.place) c.self.invariant.numbered ∙ remove-map (λ a. a.no) items c.in-Some.place ∙ ap numbers_of (sym removed);
       distinct = c.shift_remove_index.ensures.unique;
-      indexed = rw removed (AreIndexed-without c.self.inside.spots c.remove.new.self c.remove-target.result updates c.self.inside.attached.items c.in-Some.place distinct within c.remove-target.ensures.value c.self.invariant.indexed);
+      tied = λ y. c.remove.ensures.removed y ∙ ap (λ (i : ℕ). if same_node one.target y then remove (entries_in t y) i else entries_in t y) index_is
+          ∙ ap (λ es. if same_node one.target y then remove es (before one.target c.in-Some.place rs) else es) (c.self.invariant.tied y)
+          ∙ tied-remove rs c.in-Some.place (listed_one heard one) y goes.stands ∙ ap (entries y) (remove-map (listed_one heard) items c.in-Some.place ∙ ap (listed heard) (sym removed));
+      none_empty = c.remove.ensures.none_empty c.self.invariant.none_empty;
+      marked = λ o.
+          let y = node.Object o in
+          c.set_mark.ensures o
+          ∙ mark-removed one.target y c.has_any.result (get_or c.self.inside.marks.items o.0 false) t c.remove.new.self c.has_any.ensures (c.self.invariant.marked o) (λ other. c.remove.ensures.removed y ∙ ap (λ b. if b then remove (entries_in t y) c.unwrap-index.result else entries_in t y) other);
       unused = c.self.invariant.unused;
       releasable = search rules;
     }
 
 pub returns-clause-released : goal.returns-clause-released
 returns-clause-released g c =
+    let heard = g.A.Adapter.heard in
     let items = c.self.inside.attached.items in
-    let h : c.in-Some.place < length items = rw (length-map) at (rw (← c.self.view_is) at c.in-Some.ensures.within) in
-    let same : c.index.result.now ≡ c.remove-target.result = read_once items c.in-Some.place _ _ h c.index.ensures c.remove-target.ensures.value in
-    let count = rw (c.deref.ensures.value, same) at c.count_before-earlier.ensures.count in
-    let notice = c.last_notice-2.ensures ∙ last_notice-listed g.A.Adapter.heard items c.in-Some.place c.remove-target.result _ count in
-    rw (c.remove-target.ensures.items, ← c.self.view_is) (release-at g.A.Adapter.heard items c.args.no c.in-Some.place c.remove-target.result _ _ (rw (← c.self.view_is) at c.in-Some.ensures.place) h c.remove-target.ensures.value notice (rw (c.notify_changed.ensures.view, c.last_notice.ensures, c.last_notice-2.ensures)))
+    let rs = listed heard items in
+    let t = c.self.inside.by_target in
+    let one = c.index.result.now in
+    let within : c.in-Some.place < length items = rw (length-map) at (rw (← c.self.view_is) at c.in-Some.ensures.within) in
+    let at : Some c.in-Some.place ≡ position (has_no c.args.no) rs = rw (← c.self.view_is) at c.in-Some.ensures.place in
+    let goes : Goes heard items c.args.no c.in-Some.place one (entries_in t one.target) = going heard items c.args.no c.in-Some.place one t (distinct-numbers heard items c.self.inside.numbers.keys c.self.invariant.numbered c.self.invariant.distinct) c.self.invariant.tied at within c.index.ensures in
+    let index_is : c.unwrap-index.result ≡ before one.target c.in-Some.place rs = same_Some c.unwrap-index.result (before one.target c.in-Some.place rs) (sym c.unwrap-index.ensures ∙ c.index_of.ensures ∙ goes.found) in
+    let same : one ≡ c.remove-target.result = read_once items c.in-Some.place _ _ within c.index.ensures c.remove-target.ensures.value in
+    let count : c.unwrap-index.result ≡ count_by (λ a. same_node a.target c.remove-target.result.target) (take c.in-Some.place items) = index_is ∙ goes.counted ∙ ap (λ (x : Attached g.row.A.Denot). count_by (λ a. same_node a.target x.target) (take c.in-Some.place items)) same in
+    let notice = c.last_notice-2.ensures ∙ last_notice-listed heard items c.in-Some.place c.remove-target.result c.unwrap-index.result count in
+    rw (c.remove-target.ensures.items, ← c.self.view_is) (release-at heard items c.args.no c.in-Some.place c.remove-target.result _ _ at within c.remove-target.ensures.value notice (rw (c.notify_changed.ensures.view, c.last_notice.ensures, c.last_notice-2.ensures)))
 
 pub returns-in_default-clause-released : goal.returns-in_default-clause-released
 returns-in_default-clause-released g c = rw (← c.self.view_is) (release-absent g.A.Adapter.heard c.self.inside.attached.items c.args.no (rw (← c.self.view_is) at c.in_default.ensures.place))

@@ -1,16 +1,15 @@
-use Rattle.std.proofs.Common.{◌≡◌, ◌≤◌, ◌++◌, ap, sym, subst, ◌∙◌, arith, length, map, not}
+use Rattle.std.proofs.Common.{◌≡◌, ◌≤◌, ◌++◌, [], false, get_or, if◌then◌else◌, ap, sym, subst, ◌∙◌, arith, length, map, not}
 use Rattle.std.specs.List.{IsDistinct, items_where_true}
 use Rattle.std.proofs.lemmas.List.{length-map}
 use Rattle.notice_chain.specs.Listed.{release_all, same_no}
-use Rattle.adapter_list.specs.Attached.{AreIndexed, AreReady, IsReady, listed, numbers_of, views_of}
+use Rattle.adapter_list.specs.Attached.{AreReady, IsReady, is_left, listed, numbers_of, views_of}
+use Rattle.mm_types.specs.declared.numbers.Node.{Node}
+use Rattle.mm_types.specs.declared.numbers.Node.TheVariants as node
+use Rattle.adapter_list.specs.Targets.{entries, entries_in, is_any}
+use Rattle.adapter_list.proofs.MarkLemmas.{mark-left}
+use Rattle.adapter_list.proofs.TiedLemmas.{tied-left}
 use Rattle.adapter_list.proofs.ReleaseLemmas.{last_told, leaving, length-where_true, numbers_of-distinct, others-gone, told-gone, views-gone, where_true-All}
 use Rattle.adapter_list.proofs.list.AdapterList.release.Goals as goal
-
-pub forget-requires-clause-distinct : goal.forget-requires-clause-distinct
-forget-requires-clause-distinct g c = subst (λ xs. IsDistinct same_no (numbers_of xs)) (sym c.deref.ensures.value) (subst (λ ks. IsDistinct same_no ks) c.self.invariant.numbered c.self.invariant.distinct)
-
-pub forget-requires-clause-indexed : goal.forget-requires-clause-indexed
-forget-requires-clause-indexed g c = subst (λ xs. AreIndexed c.self.inside.spots xs) (sym c.deref.ensures.value) c.self.invariant.indexed
 
 pub renumber-requires-clause-room : goal.renumber-requires-clause-room
 renumber-requires-clause-room g c =
@@ -35,13 +34,27 @@ invariant_of-self g c =
     let stays : c.let_go.result.items ≡ items_where_true marks items = c.let_go.ensures.stay ∙ ap (λ v. items_where_true marks v.items) c.replace-attached.ensures.value in
     let fewer : length c.let_go.result.items ≤ length items = omega (arith, ap (λ xs. length xs) stays, length-where_true marks items) in
     let all : IsDistinct same_no (numbers_of items) = subst (λ ks. IsDistinct same_no ks) c.self.invariant.numbered c.self.invariant.distinct in
+    let t = c.self.inside.by_target in
+    let seen : listed heard items ≡ c.args.self.now.0 = ap (λ v. v.0) c.self.view_is in
+    let left : (x : Node) → entries_in c.forget.new.by_target x ≡ (if is_left c.args.leaves.now items x then [] else entries_in t x) =
+    λ x. c.forget.ensures.entries_left x ∙ ap (λ xs. if is_left c.args.leaves.now xs x then [] else entries_in t x) c.deref.ensures.value in
     let numbered : c.renumber.new.numbers.keys ≡ numbers_of c.let_go.result.items = c.renumber.ensures.keys ∙ ap (λ xs. numbers_of xs) c.deref-2.ensures.value in
     record {
       few = omega (arith, fewer, c.self.invariant.few);
       ready = subst (λ xs. AreReady heard places xs) (sym stays) (where_true-All (λ a. IsReady (heard a.adapter) (places a.adapter)) marks items c.self.invariant.ready);
       numbered = numbered;
       distinct = subst (λ ks. IsDistinct same_no ks) (sym (numbered ∙ ap (λ xs. numbers_of xs) stays)) (numbers_of-distinct marks items all);
-      indexed = subst (λ xs. AreIndexed c.forget.new.spots xs) (sym (stays ∙ ap (items_where_true marks) (sym c.deref.ensures.value))) c.forget.ensures;
+      tied = λ x. left x
+          ∙ ap (λ es. if is_left c.args.leaves.now items x then [] else es) (c.self.invariant.tied x ∙ ap (entries x) seen)
+          ∙ tied-left heard c.requires.gone.0 c.args.leaves.now items c.args.self.now.0 seen c.requires.gone.1 x
+          ∙ ap (λ xs. entries x (listed heard xs)) (sym stays);
+      none_empty = c.forget.ensures.none_empty c.self.invariant.none_empty;
+      marked = λ o.
+          let x = node.Object o in
+          c.forget.ensures.marks_left o
+          ∙ ap (λ xs. if is_left c.args.leaves.now xs x then false else get_or c.self.inside.marks.items o.0 false) c.deref.ensures.value
+          ∙ mark-left (is_left c.args.leaves.now items x) (get_or c.self.inside.marks.items o.0 false) (entries_in t x) (c.self.invariant.marked o)
+          ∙ ap is_any (sym (left x));
       unused = c.self.invariant.unused;
       releasable = omega (arith, fewer, c.self.invariant.releasable);
     }

@@ -1,7 +1,7 @@
 use Rattle.std.proofs.Common.{rules, ◌<◌, ◌∙◌, arith, length, refl, sym}
 use Rattle.std.proofs.lemmas.List.{length-map}
 use Rattle.adapter_list.proofs.ListedLemmas.{AreReady-at, AreReady-set, places_of-grow, slice_index-map_set, numbers_of-set, listed-set_same, slice_index-told}
-use Rattle.adapter_list.proofs.SpotLemmas.{indexed-set}
+use Rattle.adapter_list.proofs.TiedLemmas.{tied-same}
 use Rattle.adapter_list.proofs.list.AdapterList.reserve_at.Goals as goal
 
 pub invariant_of-self : goal.invariant_of-self
@@ -15,7 +15,9 @@ invariant_of-self g c =
       ready = AreReady-set g.A.Adapter.heard g.A.Adapter.places items _ _ c.self.invariant.ready (record { reserve = omega (arith, one.reserve, more); countable = c.reserve.ensures.countable });
       numbered = c.self.invariant.numbered ∙ sym (numbers_of-set items c.args.place _ _ c.index_mut-one.ensures.value refl);
       distinct = c.self.invariant.distinct;
-      indexed = indexed-set c.self.inside.spots c.self.inside.attached.items c.args.place _ _ c.index_mut-one.ensures.value within (λ h. h) c.self.invariant.indexed;
+      tied = tied-same g.A.Adapter.heard items c.args.place _ _ c.index_mut-one.ensures.value c.self.inside.by_target c.self.invariant.tied (rw c.reserve.ensures.same_view);
+      none_empty = c.self.invariant.none_empty;
+      marked = c.self.invariant.marked;
       unused = c.self.invariant.unused;
       releasable = search rules;
     }

@@ -2,7 +2,7 @@ use Rattle.std.proofs.Common.{rules, ◌≤◌, ◌<◌, ◌∙◌, arith, lengt
 use Rattle.std.proofs.lemmas.List.{length-map}
 use Rattle.adapter_list.specs.Attached.{places_of}
 use Rattle.adapter_list.proofs.ListedLemmas.{listed-set, places_of-set, numbers_of-set, AreReady-set, slice_index-map}
-use Rattle.adapter_list.proofs.SpotLemmas.{indexed-set}
+use Rattle.adapter_list.proofs.TiedLemmas.{tied-told}
 use Rattle.adapter_list.proofs.list.AdapterList.tell_at.Goals as goal
 
 pub invariant_of-self : goal.invariant_of-self
@@ -16,7 +16,9 @@ invariant_of-self g c =
       ready = AreReady-set g.A.Adapter.heard g.A.Adapter.places c.self.inside.attached.items c.args.place _ c.self.invariant.ready (record { reserve = one; countable = c.notify_changed.ensures.countable });
       numbered = c.self.invariant.numbered ∙ sym (numbers_of-set c.self.inside.attached.items c.args.place _ _ c.index_mut-one.ensures.value refl);
       distinct = c.self.invariant.distinct;
-      indexed = indexed-set c.self.inside.spots c.self.inside.attached.items c.args.place _ _ c.index_mut-one.ensures.value within (λ h. h) c.self.invariant.indexed;
+      tied = tied-told g.A.Adapter.heard c.self.inside.attached.items c.args.place _ _ c.index_mut-one.ensures.value c.self.inside.by_target c.self.invariant.tied c.args.notice (rw c.notify_changed.ensures.view);
+      none_empty = c.self.invariant.none_empty;
+      marked = c.self.invariant.marked;
       unused = c.self.invariant.unused;
       releasable = search rules;
     }

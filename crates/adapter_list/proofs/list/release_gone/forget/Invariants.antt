@@ -1,8 +1,9 @@
-use Rattle.std.proofs.Common.{◌≡◌, ◌<◌, ℕ, false, get_or, slice_get, Some}
-use Rattle.adapter_list.specs.Spots.{IsIndexed}
-use Rattle.adapter_list.specs.declared.attached.Attached.{Attached}
+use Rattle.std.proofs.Common.{Bool, List, drop}
+use Rattle.adapter_list.specs.Attached.{is_left}
+use Rattle.adapter_list.specs.Targets.{Forgets}
+use Rattle.adapter_list.specs.declared.target_lists.TargetLists.{TargetLists}
 use Rattle.adapter_list.proofs.list.release_gone.forget.Given as goal
 
--- each is in the set that is still to come, or stays
+-- what takes out those still to come, takes out all
 abbrev pub invariant-loop-place : goal.invariant-loop-place
-invariant-loop-place g l = (i : ℕ) (a : Attached g.row.A.Denot) → slice_get l.attached i ≡ Some a → (i < l.place → get_or l.leaves i false ≡ false) → IsIndexed l.spots a.target a.no
+invariant-loop-place g l = (u : TargetLists) (cs : List Bool) → Forgets l.by_target u l.marks.items cs (is_left (drop l.place l.leaves) (drop l.place l.attached)) → Forgets l.fn.by_target u l.fn.marks.items cs (is_left l.leaves l.attached)

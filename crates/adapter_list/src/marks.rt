@@ -1,0 +1,71 @@
+//! Which objects have adapters: a mark for each object number, so that a walk up passes over the others without a look-up.
+ghost use Rattle.std.specs.Prelude.{◌≡◌, ◌≤◌, ◌<◌, ℕ, true, false, get_or, length, nat_eq, OnOk, if◌then◌else◌};
+ghost use Rattle.adapter_list.specs.Targets.{AreSameMarks, AreSetAt, HasMarkRoom, is_marked as is_marked_in};
+
+use mm_types::Node;
+use std::alloc::AllocError;
+
+/// Whether a node is marked. Resources, of which one at most is above a node, always are.
+pub(crate) fn is_marked(marks: &[bool], node: Node) -> bool
+    ensures { result ≡ is_marked_in marks.now node }
+{
+    match node {
+        Node::Object(object) => is_marked_at(marks, object.0 as usize),
+        Node::Resource(_) => true,
+    }
+}
+
+/// Whether the object of a number is marked.
+fn is_marked_at(marks: &[bool], number: usize) -> bool
+    ensures { result ≡ get_or marks.now number false }
+{
+    let len = marks.len();
+    if number < len {
+        return marks[number];
+    }
+    false
+}
+
+/// Makes room for the mark of a node. Errs only when out of memory; no mark changes.
+pub(crate) fn reserve_mark(marks: &mut Vec<bool>, node: Node) -> Result<(), AllocError>
+    ensures same { AreSameMarks marks.old.items marks.new.items }
+    ensures room { OnOk result (HasMarkRoom marks.new.items node) }
+{
+    match node {
+        Node::Object(object) => lengthen(marks, object.0 as usize + 1),
+        Node::Resource(_) => Ok(()),
+    }
+}
+
+/// Makes so many marks, where there are fewer.
+fn lengthen(marks: &mut Vec<bool>, len: usize) -> Result<(), AllocError>
+    ensures same { AreSameMarks marks.old.items marks.new.items }
+    ensures room { OnOk result (len ≤ length marks.new.items) }
+{
+    let old = marks.len();
+    if old < len {
+        marks.resize(len, false)?;
+    }
+    Ok(())
+}
+
+/// Marks a node, or takes its mark away.
+pub(crate) fn set_mark(marks: &mut Vec<bool>, node: Node, value: bool)
+    requires { value ≡ true → HasMarkRoom marks.old.items node }
+    ensures { AreSetAt marks.old.items node value marks.new.items }
+{
+    if let Node::Object(object) = node {
+        set_mark_at(marks, object.0 as usize, value);
+    }
+}
+
+/// Marks the object of a number, or takes its mark away.
+fn set_mark_at(marks: &mut Vec<bool>, number: usize, value: bool)
+    requires { value ≡ true → number < length marks.old.items }
+    ensures { (i : ℕ) → get_or marks.new.items i false ≡ (if nat_eq number i then value else get_or marks.old.items i false) }
+{
+    let len = marks.len();
+    if number < len {
+        marks[number] = value;
+    }
+}
