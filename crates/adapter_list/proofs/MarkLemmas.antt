@@ -1,11 +1,10 @@
 -- Marks of the objects that have adapters.
-use Rattle.std.proofs.Common.{◌≡◌, ◌≤◌, ◌<◌, ◌-◌, ◌++◌, ℕ, zero, suc, Bool, true, false, List, [], ◌∷◌, get_or, set, take, replicate, length, insert, nat_eq, if◌then◌else◌, refl, sym, ap, subst, ◌∙◌, arith, eqb-true}
+use Rattle.std.proofs.Common.{◌≡◌, ◌≤◌, ◌<◌, ◌++◌, ℕ, zero, suc, Bool, true, false, List, [], ◌∷◌, get_or, set, take, replicate, length, insert, nat_eq, if◌then◌else◌, refl, sym, ap, subst, ◌∙◌, arith, eqb-true}
 use Rattle.std.proofs.lemmas.Bool.{eqb-false, false≢true}
 use Rattle.std.proofs.lemmas.List.{get_or-set_other, get_or-set_same}
 use Rattle.mm_types.specs.declared.numbers.Node.{Node}
 use Rattle.mm_types.specs.declared.numbers.Node.TheVariants as node
 use Rattle.mm_types.specs.declared.numbers.ObjectNo.{ObjectNo}
-use Rattle.mm_types.specs.declared.numbers.ResourceNo.{ResourceNo}
 use Rattle.adapter_list.specs.Targets.{AreMarked, AreSetAt, HasMarkRoom, entries_in, is_any, is_marked}
 use Rattle.adapter_list.specs.declared.target_lists.Entry.{Entry}
 use Rattle.adapter_list.specs.declared.target_lists.TargetLists.{TargetLists}
@@ -82,6 +81,3 @@ marks-lengthened false old new n k is low i = ap (λ bs. get_or bs i false) is
 -- an object by its number
 pub set-object : (old new : List Bool) (x : Node) (n : ObjectNo) (b : Bool) → x ≡ node.Object n → ((i : ℕ) → get_or new i false ≡ (if nat_eq n.0 i then b else get_or old i false)) → AreSetAt old x b new
 set-object old new x n b is set = subst (λ (y : Node). AreSetAt old y b new) (sym is) (λ o. set o.0)
-
-pub set-resource : (old : List Bool) (x : Node) (k : ResourceNo) (b : Bool) → x ≡ node.Resource k → AreSetAt old x b old
-set-resource old x k b is = subst (λ (y : Node). AreSetAt old y b old) (sym is) (λ o. refl)

@@ -1,5 +1,5 @@
 -- The places that are found by the adapters of nodes: those who hear the notices of a node.
-use Rattle.std.proofs.Common.{◌≡◌, ℕ, ◌+◌, ◌≤◌, ◌<◌, zero, suc, Bool, true, false, not, cond, ◌&&◌, ◌||◌, nat_eq, List, [], ◌∷◌, map, length, drop, get_or, slice_get, Option, Some, None, Result, Ok, Err, option_map, option_and_then, position, if◌then◌else◌, refl, sym, ap, subst, ◌∙◌, arith, eqb-true, eq-eqb}
+use Rattle.std.proofs.Common.{◌≡◌, ℕ, ◌+◌, ◌≤◌, ◌<◌, zero, suc, Bool, true, false, not, cond, ◌&&◌, ◌||◌, nat_eq, List, [], ◌∷◌, map, length, drop, get_or, slice_get, Option, Some, None, Result, Ok, Err, option_and_then, position, if◌then◌else◌, refl, sym, ap, subst, ◌∙◌, arith, eqb-true, eq-eqb}
 use Rattle.std.specs.BTreeSet as tree
 use Rattle.std.specs.BTreeSet.{BTreeSet}
 use Rattle.std.specs.List.{AllByRecursion, IsDistinct, cons_option, find, list_any}
@@ -197,10 +197,7 @@ added-more p b new all es i d low made whole =
 pub added-all : (p : Entry → Bool) (b all : Bool) (es : List Entry) (i : ℕ) → length es ≤ i → (b || list_any p (drop i es)) ≡ all → b ≡ all
 added-all p b all es i past whole = or-false b ∙ ap (λ (ds : List Entry). b || list_any p ds) (sym (drop_all i es past)) ∙ whole
 
--- an entry that is not asked for adds no place, and one that is adds that of its number
-pub not-asked : (rs : List Listed) (only_deep : Bool) (k : ℕ) (e : Entry) (b : Bool) → only_deep ≡ true → e.deep ≡ false → b ≡ (b || finds rs only_deep k e)
-not-asked rs only_deep k e b asked flat = none-added b (finds rs only_deep k e) (ap (λ d. (not d || e.deep) && has_number_at rs e.no k) asked ∙ ap (λ d. d && has_number_at rs e.no k) flat)
-
+-- an entry that is asked for adds the place of its number
 pub asked-for : (rs : List Listed) (only_deep : Bool) (k : ℕ) (e : Entry) (b new : Bool) → (not only_deep || e.deep) ≡ true → new ≡ (b || has_number_at rs e.no k) → new ≡ (b || finds rs only_deep k e)
 asked-for rs only_deep k e b new asked now = now ∙ ap (λ d. b || (d && has_number_at rs e.no k)) (sym asked)
 

@@ -1,10 +1,10 @@
 -- What the adapters of each node are once one is attached, hears a notice, or goes.
 use Rattle.std.proofs.Common.{◌≡◌, ◌+◌, ◌<◌, ◌≤◌, ℕ, zero, suc, Bool, true, false, cond, not, ◌&&◌, ◌||◌, nat_eq, nat_lt, List, [], ◌∷◌, ◌++◌, map, filter, length, get_or, set, insert, remove, take, drop, count_by, position, slice_get, Option, Some, None, option_map, if◌then◌else◌, le-leb, refl, sym, ap, subst, ◌∙◌, arith, eqb-true}
-use Rattle.std.specs.List.{AllByRecursion, IsDistinct, cons_option, fold, items_where_true, list_any, position_or_len}
+use Rattle.std.specs.List.{cons_option, items_where_true, list_any, position_or_len}
 use Rattle.std.proofs.lemmas.Bool.{false≢true, le-ltb, lt-ltb, ltb-false, ltb-true}
-use Rattle.std.proofs.lemmas.List.{append-nil, drop_all, drop_more, length-take-le, take-map}
+use Rattle.std.proofs.lemmas.List.{append-nil, drop_all, drop_more, length-map, length-take-le, take-map}
 use Rattle.std.proofs.lemmas.List.Sums.{count_by-le-length, length-filter}
-use Rattle.std.proofs.lemmas.Option.{slice_get-map, slice_get_read}
+use Rattle.std.proofs.lemmas.Option.{same_Some, slice_get-map, slice_get_read}
 use Rattle.std.proofs.lemmas.Map.Keys.{IsDistinct-head, IsDistinct-tail}
 use Rattle.mm_types.proofs.SameLemmas.{same_node-self, same_node-true}
 use Rattle.mm_types.specs.Same.{same_node}
@@ -14,13 +14,14 @@ use Rattle.mm_types.specs.declared.numbers.Node.TheVariants as node
 use Rattle.notice_chain.specs.View.{View}
 use Rattle.notice_chain.specs.Listed.{HasDistinctNumbers, Listed, has_no, has_target, same_no, told_all}
 use Rattle.notice_chain.specs.declared.notice.Notice.{Notice}
-use Rattle.adapter_list.specs.Attached.{is_left, listed, listed_one}
+use Rattle.adapter_list.specs.Attached.{IsSound, is_left, listed, listed_one}
 use Rattle.adapter_list.specs.Rounds.{tell_at}
 use Rattle.adapter_list.specs.Targets.{AreTied, Forgets, entries, entries_in, entry_of, is_any}
 use Rattle.adapter_list.specs.declared.attached.Attached.{Attached}
 use Rattle.adapter_list.specs.declared.target_lists.Entry.{Entry}
 use Rattle.adapter_list.specs.declared.target_lists.TargetLists.{TargetLists}
 use Rattle.adapter_list.proofs.ListedLemmas.{count_by-map, listed-set, listed-set_same}
+use Rattle.adapter_list.proofs.NumberLemmas.{distinct-numbers}
 use Rattle.adapter_list.proofs.PlaceLemmas.{entry, flipped, no-some, number-at, passes-at}
 use Rattle.adapter_list.proofs.ReleaseLemmas.{where_true-filter, where_true-map}
 
@@ -156,32 +157,43 @@ before-low x (q ∷ rs) (suc i) r at target =
 
 -- what is known of the adapter of a number: where it stands in attach order, and in the list of its target
 pub record Goes {A : Type 0} (heard : A → View) (xs : List (Attached A)) (number : AdapterNo) (place : ℕ) (one : Attached A) (es : List Entry) : Type 0 where
+  pub inside : place < length xs
+  pub placed : Some place ≡ position (has_no number) (listed heard xs)
   pub stands : slice_get (listed heard xs) place ≡ Some (listed_one heard one)
   pub found : position (at-number number) es ≡ Some (before one.target place (listed heard xs))
   pub low : before one.target place (listed heard xs) < length es
   pub counted : before one.target place (listed heard xs) ≡ count_by (λ a. same_node a.target one.target) (take place xs)
   pub few : before one.target place (listed heard xs) ≤ length xs
 
-module _ {A : Type 0} (heard : A → View) (xs : List (Attached A)) (number : AdapterNo) (place : ℕ) (one : Attached A) (t : TargetLists) where
-  pub going : HasDistinctNumbers (listed heard xs) → AreTied t (listed heard xs) → Some place ≡ position (has_no number) (listed heard xs) → place < length xs → one ≡ get_or xs place one → Goes heard xs number place one (entries_in t one.target)
-  going distinct tied at within is =
-      let rs = listed heard xs in
-      let q = listed_one heard one in
-      let stands : slice_get rs place ≡ Some q = slice_get-map (listed_one heard) xs place ∙ ap (option_map (listed_one heard)) (slice_get_read xs (length xs) place one refl within is) in
-      let has : has_no number q ≡ true = passes-at (has_no number) rs place q at stands in
-      let mine : has_target one.target q ≡ true = same_node-self one.target in
-      let low : before one.target place rs < length (entries one.target rs) = before-low one.target rs place q stands mine in
-      let long : length (entries_in t one.target) ≡ length (entries one.target rs) = ap (λ (es : List Entry). length es) (tied one.target) in
-      let count : before one.target place rs ≡ count_by (λ a. same_node a.target one.target) (take place xs) = before-count one.target place rs ∙ ap (count_by (has_target one.target)) (take-map (listed_one heard) place xs) ∙ count_by-map (listed_one heard) (has_target one.target) (take place xs) in
-      let part : count_by (λ a. same_node a.target one.target) (take place xs) ≤ length (take place xs) = count_by-le-length (λ a. same_node a.target one.target) (take place xs) in
-      let short : length (take place xs) ≡ place = length-take-le place xs (omega (arith, within)) in
-      record {
-        stands = stands;
-        found = ap (position (at-number number)) (tied one.target) ∙ position-entries one.target number rs place q distinct stands has mine;
-        low = omega (arith, low, long);
-        counted = count;
-        few = omega (arith, count, part, short, within);
-      }
+-- by the words of the list
+pub going : {A : Type 0} {heard : A → View} {places : A → ℕ} {xs : List (Attached A)} {keys : List AdapterNo} {t : TargetLists} {bs : List Bool} {used room : ℕ} → IsSound heard places xs keys t bs used room → (now : List Listed) → listed heard xs ≡ now → (number : AdapterNo) (place : ℕ) (one : Attached A) → Some place ≡ position (has_no number) now → place < length now → one ≡ get_or xs place one → Goes heard xs number place one (entries_in t one.target)
+going {heard = heard} {xs = xs} {keys = keys} {t = t} sound now seen number place one at low is =
+    let rs = listed heard xs in
+    let q = listed_one heard one in
+    let distinct : HasDistinctNumbers rs = distinct-numbers heard xs keys sound.numbered sound.distinct in
+    let placed : Some place ≡ position (has_no number) rs = at ∙ ap (position (has_no number)) (sym seen) in
+    let many : length xs ≡ length now = sym (length-map xs (listed_one heard)) ∙ ap (λ ys. length ys) seen in
+    let within : place < length xs = omega (arith, low, many) in
+    let stands : slice_get rs place ≡ Some q = slice_get-map (listed_one heard) xs place ∙ ap (option_map (listed_one heard)) (slice_get_read xs (length xs) place one refl within is) in
+    let has : has_no number q ≡ true = passes-at (has_no number) rs place q placed stands in
+    let mine : has_target one.target q ≡ true = same_node-self one.target in
+    let first : before one.target place rs < length (entries one.target rs) = before-low one.target rs place q stands mine in
+    let long : length (entries_in t one.target) ≡ length (entries one.target rs) = ap (λ (es : List Entry). length es) (sound.tied one.target) in
+    let count : before one.target place rs ≡ count_by (λ a. same_node a.target one.target) (take place xs) = before-count one.target place rs ∙ ap (count_by (has_target one.target)) (take-map (listed_one heard) place xs) ∙ count_by-map (listed_one heard) (has_target one.target) (take place xs) in
+    let part : count_by (λ a. same_node a.target one.target) (take place xs) ≤ length (take place xs) = count_by-le-length (λ a. same_node a.target one.target) (take place xs) in
+    let short : length (take place xs) ≡ place = length-take-le place xs (omega (arith, within)) in
+    record {
+      inside = within;
+      placed = placed;
+      stands = stands;
+      found = ap (position (at-number number)) (sound.tied one.target) ∙ position-entries one.target number rs place q distinct stands has mine;
+      low = omega (arith, first, long);
+      counted = count;
+      few = omega (arith, count, part, short, within);
+    }
+
+pub index-is : {A : Type 0} {heard : A → View} {xs : List (Attached A)} {number : AdapterNo} {place : ℕ} {one : Attached A} {es : List Entry} → Goes heard xs number place one es → (i : ℕ) → position (at-number number) es ≡ Some i → i ≡ before one.target place (listed heard xs)
+index-is {heard = heard} {xs = xs} {place = place} {one = one} goes i at = same_Some i (before one.target place (listed heard xs)) (sym at ∙ goes.found)
 
 -- the marks after the entry of an adapter is taken out
 pub mark-removed : (x y : Node) (v c : Bool) (old new : TargetLists) → v ≡ is_any (entries_in new x) → c ≡ is_any (entries_in old y) → (same_node x y ≡ false → entries_in new y ≡ entries_in old y) → (if same_node x y then v else c) ≡ is_any (entries_in new y)
@@ -303,11 +315,11 @@ module _ {A : Type 0} (heard : A → View) where
       ap (λ b. if b then [] else entries x rs) (left-listed bs xs x ∙ ap (λ ds. list_any (has_target x) (items_where_true ds (listed heard xs))) marks ∙ ap (λ qs. list_any (has_target x) (items_where_true (map (λ r. gone r.target) rs) qs)) seen ∙ ap (list_any (has_target x)) (where_true-filter (λ r. gone r.target) rs))
       ∙ entries-left gone x rs
       ∙ ap (entries x) (sym (
-        sym (where_true-map (listed_one heard) (map not bs) xs)
-        ∙ ap (λ ds. items_where_true (map not ds) (listed heard xs)) marks
-        ∙ ap (items_where_true (map not (map (λ r. gone r.target) rs))) seen
-        ∙ ap (λ ds. items_where_true ds rs) (map-not gone rs)
-        ∙ where_true-filter (λ r. not (gone r.target)) rs))
+      sym (where_true-map (listed_one heard) (map not bs) xs)
+      ∙ ap (λ ds. items_where_true (map not ds) (listed heard xs)) marks
+      ∙ ap (items_where_true (map not (map (λ r. gone r.target) rs))) seen
+      ∙ ap (λ ds. items_where_true ds rs) (map-not gone rs)
+      ∙ where_true-filter (λ r. not (gone r.target)) rs))
 
 ----------------------------------------------------------------- one target after another
 

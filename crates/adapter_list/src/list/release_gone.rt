@@ -40,12 +40,7 @@ impl<A: Adapter> AdapterList<A> {
         ensures told { (gone : Node → Bool) → leaves.now ≡ map (λ r. gone r.target) self.old.0 → told.new.items ≡ told.old.items ++ (released_of (λ r. gone r.target) self.old.0).told }
         ensures released { (gone : Node → Bool) → leaves.now ≡ map (λ r. gone r.target) self.old.0 → views_of A.heard released.new.items ≡ views_of A.heard released.old.items ++ (released_of (λ r. gone r.target) self.old.0).views }
     {
-        forget(
-            &mut self.by_target,
-            &mut self.marks,
-            &self.attached,
-            leaves,
-        );
+        forget(&mut self.by_target, &mut self.marks, &self.attached, leaves);
         let attached = mem::replace(&mut self.attached, Vec::new(self.alloc));
         self.attached = let_go(attached, leaves, told, released);
         renumber(&mut self.numbers, &self.attached);

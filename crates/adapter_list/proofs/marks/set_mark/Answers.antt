@@ -1,7 +1,7 @@
-use Rattle.std.proofs.Common.{◌≡◌, true, subst}
+use Rattle.std.proofs.Common.{subst}
 use Rattle.mm_types.specs.declared.numbers.Node.{Node}
 use Rattle.adapter_list.specs.Targets.{HasMarkRoom}
-use Rattle.adapter_list.proofs.MarkLemmas.{set-object, set-resource}
+use Rattle.adapter_list.proofs.MarkLemmas.{set-object}
 use Rattle.adapter_list.proofs.marks.set_mark.Goals as goal
 
 pub set_mark_at-requires : goal.set_mark_at-requires

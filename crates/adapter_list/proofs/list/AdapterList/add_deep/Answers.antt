@@ -1,4 +1,4 @@
-use Rattle.std.proofs.Common.{◌≡◌, [], true, false, ap, sym, ◌∙◌}
+use Rattle.std.proofs.Common.{◌≡◌, [], true, ap, sym, ◌∙◌}
 use Rattle.std.specs.BTreeSet.{contains}
 use Rattle.std.specs.Ordering.{nat_cmp}
 use Rattle.adapter_list.specs.Targets.{entries, is_marked}

@@ -1,4 +1,4 @@
-use Rattle.std.proofs.Common.{◌+◌, rules, ◌≡◌, ◌≤◌, ◌<◌, ◌∷◌, [], ◌++◌, ◌∙◌, ap, sym, subst, true, false, arith, length, length-append, insert, get_or, if◌then◌else◌}
+use Rattle.std.proofs.Common.{◌+◌, rules, ◌≡◌, ◌≤◌, ◌<◌, ◌∷◌, [], ◌++◌, ◌∙◌, ap, sym, false, arith, length, length-append, insert, get_or, if◌then◌else◌}
 use Rattle.std.specs.List.{list_any}
 use Rattle.std.specs.Result.{IsOk}
 use Rattle.indexmap.specs.IndexSet.{insert_key, spare}
@@ -9,7 +9,7 @@ use Rattle.mm_types.specs.declared.numbers.Node.{Node}
 use Rattle.mm_types.specs.declared.numbers.Node.TheVariants as node
 use Rattle.mm_types.specs.declared.limits.TheConstants.{ADAPTERS}
 use Rattle.notice_chain.specs.Listed.{same_no}
-use Rattle.adapter_list.specs.Attached.{listed, listed_one, numbers_of}
+use Rattle.adapter_list.specs.Attached.{listed, listed_one}
 use Rattle.adapter_list.specs.Targets.{entries, entries_in, is_any}
 use Rattle.adapter_list.specs.declared.attached.Attached.{Attached}
 use Rattle.adapter_list.specs.declared.target_lists.Entry.{Entry}

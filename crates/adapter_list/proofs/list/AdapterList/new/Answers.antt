@@ -1,6 +1,6 @@
-use Rattle.std.proofs.Common.{◌≡◌, rules, [], List, refl, ap, sym, subst, ◌∙◌, arith, length, get_or, false}
+use Rattle.std.proofs.Common.{rules, List, ap, sym, ◌∙◌, get_or, false}
 use Rattle.mm_types.specs.declared.numbers.Node.TheVariants as node
-use Rattle.adapter_list.specs.Attached.{AreReady, listed, numbers_of}
+use Rattle.adapter_list.specs.Attached.{listed}
 use Rattle.adapter_list.specs.Targets.{entries, is_any}
 use Rattle.adapter_list.specs.declared.attached.Attached.{Attached}
 use Rattle.adapter_list.proofs.list.AdapterList.new.Goals as goal

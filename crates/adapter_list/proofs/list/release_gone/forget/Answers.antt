@@ -1,6 +1,4 @@
-use Rattle.std.proofs.Common.{◌≡◌, ◌+◌, ◌&&◌, ◌||◌, drop, get_or, false, ap, sym, ◌∙◌}
-use Rattle.notice_chain.specs.View.{View}
-use Rattle.mm_types.specs.Same.{same_node}
+use Rattle.std.proofs.Common.{◌+◌, drop}
 use Rattle.adapter_list.specs.Attached.{is_left}
 use Rattle.adapter_list.proofs.TiedLemmas.{forgets-more, forgets-none, left-more, left-none}
 use Rattle.adapter_list.proofs.list.release_gone.forget.Goals as goal

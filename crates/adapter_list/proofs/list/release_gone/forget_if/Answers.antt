@@ -1,4 +1,4 @@
-use Rattle.std.proofs.Common.{◌≡◌, ◌&&◌, [], false, ap, sym, ◌∙◌, get_or, if◌then◌else◌}
+use Rattle.std.proofs.Common.{◌&&◌, [], false, ap, sym, ◌∙◌, get_or, if◌then◌else◌}
 use Rattle.mm_types.specs.Same.{same_node}
 use Rattle.mm_types.specs.declared.numbers.Node.TheVariants as node
 use Rattle.adapter_list.specs.Targets.{entries_in}

@@ -1,4 +1,4 @@
-use Rattle.std.proofs.Common.{◌≡◌, ◌<◌, ◌++◌, ◌∷◌, [], Option, Some, None, Vec, Global, IsSome, List, cond, arith, ap, length, insert, refl, subst, sym, ◌∙◌}
+use Rattle.std.proofs.Common.{◌≡◌, ◌<◌, ◌++◌, ◌∷◌, [], Option, Some, Vec, Global, IsSome, List, cond, arith, ap, length, insert, refl, subst, sym, ◌∙◌}
 use Rattle.indexmap.specs.IndexMap.{get}
 use Rattle.adapter_list.specs.Targets.{entries_in, key, same_key}
 use Rattle.adapter_list.specs.declared.target_lists.Entry.{Entry}
