@@ -14,11 +14,11 @@ use Rattle.node_rows.specs.declared.row.Row.{Row}
 use Rattle.node_rows.specs.declared.row.RowEdit.{RowEdit}
 use Rattle.node_rows.specs.declared.row.RowEdit.TheVariants.{Change, Hold, Enter, Leave, ForgetEntries}
 use Rattle.node_rows.specs.declared.node_rows.NodeRows.{NodeRows}
-use Rattle.node_rows.specs.Rows.{AreRowsEdited, AreRowsGrown, IsRowEdited, IsRowGrown, RowFits, entered_after, entries_taken, hold_after, is_row, places_taken, row_entered, row_entries, row_hold, row_pairing, row_places, row_vals, told_after, vals_after}
+use Rattle.node_rows.specs.Rows.{AreRowsEdited, AreRowsGrown, AreRowsReordered, IsRowEdited, IsRowGrown, IsRowReordered, RowFits, entered_after, entries_taken, hold_after, is_row, places_taken, row_entered, row_entries, row_hold, row_pairing, row_places, row_vals, told_after, vals_after}
 use Rattle.node_rows.specs.Tables.{Table, row_in}
-use Rattle.node_rows.specs.Cells.{Cells, Fits, KeepsRoom, cell_edit, cells, object_of, resource_of, room, row_at}
+use Rattle.node_rows.specs.Cells.{AreReordered, Cells, Fits, KeepsRoom, cell_edit, cells, object_of, resource_of, room, row_at}
 use Rattle.node_rows.specs.Growth.{HasGained, no_ends, no_values, one_if}
-use Rattle.node_rows.proofs.RowLemmas.{row_same}
+use Rattle.node_rows.proofs.RowLemmas.{row_same, row_unmoved}
 
 pub fits_at : (t : NodeRows) (n : Node) (x : RowEdit) → Fits n x (room t) → RowFits x (row_at t n)
 unfolding room
@@ -121,6 +121,35 @@ objects_each t u h same (node.Resource r) = subst (λ (x : Table). IsRowGrown (r
 pub resources_each : (t u : NodeRows) → AreRowsGrown (row_in t.resources) (row_in u.resources) → u.objects ≡ t.objects → (n : Node) → IsRowGrown (row_at t n) (row_at u n)
 resources_each t u h same (node.Resource r) = h r.0
 resources_each t u h same (node.Object o) = subst (λ (x : Table). IsRowGrown (row_in t.objects o.0) (row_in x o.0)) (sym same) (row_same (row_in t.objects o.0))
+
+---------------------------------------------------------------- ends in another order
+
+module _ (t u : NodeRows) (each : (n : Node) → IsRowReordered (row_at t n) (row_at u n)) where
+  pub cells_reordered : AreReordered (cells t) (cells u)
+  unfolding cells
+  cells_reordered = record {
+    vals = λ e. (each e.node).vals e.feature;
+    pairing = λ e. (each e.node).pairing e.feature;
+    hold = λ n. (each n).hold;
+    entered = λ n. (each n).entered;
+  }
+
+  pub room_reordered : room u ≡ room t
+  unfolding room
+  room_reordered = λ i.
+      record {
+        places = λ e. (each e.node).places e.feature i;
+        entries = λ n. (each n).entries i;
+        rows = λ n. (each n).kept i;
+      }
+
+pub objects_reordered : (t u : NodeRows) → AreRowsReordered (row_in t.objects) (row_in u.objects) → u.resources ≡ t.resources → (n : Node) → IsRowReordered (row_at t n) (row_at u n)
+objects_reordered t u h same (node.Object o) = h o.0
+objects_reordered t u h same (node.Resource r) = subst (λ (x : Table). IsRowReordered (row_in t.resources r.0) (row_in x r.0)) (sym same) (row_unmoved (row_in t.resources r.0))
+
+pub resources_reordered : (t u : NodeRows) → AreRowsReordered (row_in t.resources) (row_in u.resources) → u.objects ≡ t.objects → (n : Node) → IsRowReordered (row_at t n) (row_at u n)
+resources_reordered t u h same (node.Resource r) = h r.0
+resources_reordered t u h same (node.Object o) = subst (λ (x : Table). IsRowReordered (row_in t.objects o.0) (row_in x o.0)) (sym same) (row_unmoved (row_in t.objects o.0))
 
 ---------------------------------------------------------------- places promised
 

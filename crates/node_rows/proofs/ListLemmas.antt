@@ -1,6 +1,10 @@
 -- What a move makes of a list, within it and past its end.
-use Rattle.std.proofs.Common.{◌≡◌, ℕ, ◌-◌, ◌<◌, ◌≤◌, min, List, length, refl, sym, ap}
-use Rattle.std.proofs.lemmas.Option.{slice_get_past}
+use Rattle.std.proofs.Common.{◌≡◌, ℕ, ◌-◌, ◌<◌, ◌≤◌, min, List, ◌∷◌, length, Option, Some, None, unwrap_or, refl, sym, ap}
+use Rattle.std.specs.Prelude.{IsPermutation}
+use Rattle.std.specs.List.{insert, remove, slice_get}
+use Rattle.std.specs.Option.{option_map}
+use Rattle.std.proofs.lemmas.List.Sorted.{IsPermutation-insert, IsPermutation-refl, IsPermutation-remove, IsPermutation-trans}
+use Rattle.std.proofs.lemmas.Option.{get_or_from_slice_get, slice_get_past, slice_get_within}
 use Rattle.slot_lists.specs.Moved.{moved}
 use Rattle.slot_lists.proofs.MoveLemmas.{moved-back}
 use Rattle.mm_types.specs.Lists.{put_back, shifted}
@@ -13,3 +17,13 @@ moved-shifted xs to from lt = moved-back (λ o. put_back o xs to from) xs to fro
 -- past the end nothing moves
 pub shifted_past : (xs : List Value) (to from : ℕ) → length xs ≤ from → xs ≡ shifted xs to from
 shifted_past xs to from le = sym (ap (λ o. put_back o xs to from) (slice_get_past xs from le))
+
+-- a move keeps the elements
+pub moved-same : {X : Type 0} (xs : List X) (to from : ℕ) → IsPermutation xs (moved xs to from)
+moved-same {X} xs to from = at (slice_get xs from) refl
+  where
+    at : (o : Option X) → slice_get xs from ≡ o → IsPermutation xs (unwrap_or (option_map (insert (remove xs from) to) o) xs)
+    at None q = IsPermutation-refl xs
+    at (Some x) q =
+        IsPermutation-trans xs (x ∷ remove xs from) _ (IsPermutation-remove xs from x (slice_get_within xs from x q) (sym (get_or_from_slice_get xs from x x q)))
+        (IsPermutation-insert (remove xs from) to x)

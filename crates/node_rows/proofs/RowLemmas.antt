@@ -1,6 +1,8 @@
 -- What a change of a feature makes of a row, and what a change makes where there is no row.
 use Rattle.std.proofs.Common.{◌≡◌, zero, ◌+◌, ◌≤◌, true, false, eqb, List, [], Option, Some, None, if◌then◌else◌, refl, sym, ap, ◌∙◌, subst, arith}
 use Rattle.std.proofs.lemmas.Bool.{eqb-true, eq-eqb, false≢true}
+use Rattle.std.specs.Prelude.{IsPermutation}
+use Rattle.std.proofs.lemmas.List.Sorted.{IsPermutation-refl}
 use Rattle.slot_lists.specs.Places.{Places}
 use Rattle.slot_lists.proofs.MoveLemmas.{remove_nothing}
 use Rattle.mm_types.specs.declared.end.End.{End}
@@ -12,7 +14,7 @@ use Rattle.node_rows.specs.declared.row.Row.{Row}
 use Rattle.node_rows.specs.declared.row.RowEdit.{RowEdit}
 use Rattle.node_rows.specs.declared.row.RowEdit.TheVariants.{Change, Hold, Enter, Leave, ForgetEntries}
 use Rattle.node_rows.specs.Slots.{AreSlotsEdited, pairing_after, pairing_of, places_of, slot_in, taken, unpaired, values_after, values_of}
-use Rattle.node_rows.specs.Rows.{IsRowEdited, IsRowGrown, RowFits, entered_after, hold_after, told_after, vals_after}
+use Rattle.node_rows.specs.Rows.{IsRowEdited, IsRowGrown, IsRowReordered, RowFits, row_entered, entered_after, hold_after, told_after, vals_after}
 use Rattle.node_rows.proofs.SlotLemmas.{nothing_after, nothing_told, same_slot}
 
 module _ (f : FeatureNo) (x : SlotEdit) (old new : List Slot) (h : AreSlotsEdited f x old new) where
@@ -85,6 +87,28 @@ row_grown_twice o p q a b = record {
   entered = b.entered ∙ a.entered;
   places = λ g. omega (arith, a.places g, b.places g);
   entries = omega (arith, a.entries, b.entries);
+}
+
+pub row_reordered : (r s : Row) → s.slots.items ≡ r.slots.items → s.holder ≡ r.holder → s.promised ≡ r.promised → IsPermutation r.entered.items s.entered.items → s.entered.spare ≡ r.entered.spare → IsRowReordered (Some r) (Some s)
+row_reordered r s slots holder promised entered spare = record {
+  vals = λ g. ap (λ (ss : List Slot). values_of (slot_in ss g)) slots;
+  pairing = λ g. ap (λ (ss : List Slot). pairing_of (slot_in ss g)) slots;
+  hold = holder;
+  entered = entered;
+  places = λ g. ap (λ (ss : List Slot). places_of (slot_in ss g)) slots;
+  entries = omega (arith, promised, spare);
+  kept = refl;
+}
+
+pub row_unmoved : (o : Option Row) → IsRowReordered o o
+row_unmoved o = record {
+  vals = λ g. refl;
+  pairing = λ g. refl;
+  hold = refl;
+  entered = IsPermutation-refl (row_entered o);
+  places = λ g. refl;
+  entries = refl;
+  kept = refl;
 }
 
 -- a new row grows out of none

@@ -7,9 +7,9 @@ use Rattle.std.proofs.lemmas.Option.{same_Some, slice_get-get_or}
 use Rattle.links.proofs.ListLemmas.{slice_get-push, slice_get-push_below}
 use Rattle.node_rows.specs.declared.row.Row.{Row}
 use Rattle.node_rows.specs.declared.row.RowEdit.{RowEdit}
-use Rattle.node_rows.specs.Rows.{AreRowsEdited, AreRowsGrown, IsRowEdited, IsRowGrown}
+use Rattle.node_rows.specs.Rows.{AreRowsEdited, AreRowsGrown, AreRowsReordered, IsRowEdited, IsRowGrown, IsRowReordered}
 use Rattle.node_rows.specs.Tables.{ArePlaces, Table, place_at, place_in, row_from, row_in}
-use Rattle.node_rows.proofs.RowLemmas.{row_grown_twice, row_same}
+use Rattle.node_rows.proofs.RowLemmas.{row_grown_twice, row_same, row_unmoved}
 
 slice_get-set : {X : Type 0} (xs : List X) (i : ℕ) (x : X) → i < length xs → slice_get (set xs i x) i ≡ Some x
 slice_get-set [] i x lt = absurd (omega (arith, lt))
@@ -79,6 +79,12 @@ module _ (ps : List ℕ) (rs : List Row) (n k : ℕ) (r s : Row) (ok : ArePlaces
   written_grown h m = elim (cases_eq m n) [
     | inl is ↦ subst (λ i. IsRowGrown (row_in old i) (row_in new i)) (sym is) (subst (λ (o : Option Row). IsRowGrown o (row_in new n)) (sym was) (subst (λ (o : Option Row). IsRowGrown (Some r) o) (sym is_now) h))
     | inr ne ↦ subst (λ (o : Option Row). IsRowGrown (row_in old m) o) (sym (others m ne)) (row_same (row_in old m))
+  ]
+
+  pub written_reordered : IsRowReordered (Some r) (Some s) → AreRowsReordered (row_in old) (row_in new)
+  written_reordered h m = elim (cases_eq m n) [
+    | inl is ↦ subst (λ i. IsRowReordered (row_in old i) (row_in new i)) (sym is) (subst (λ (o : Option Row). IsRowReordered o (row_in new n)) (sym was) (subst (λ (o : Option Row). IsRowReordered (Some r) o) (sym is_now) h))
+    | inr ne ↦ subst (λ (o : Option Row). IsRowReordered (row_in old m) o) (sym (others m ne)) (row_unmoved (row_in old m))
   ]
 
   -- where there were as many places before

@@ -1,5 +1,5 @@
 -- The rows of all nodes as functions, and what one change of a node makes of them.
-use Rattle.std.specs.Prelude.{◌≡◌, ℕ, zero, suc, ◌+◌, ◌≤◌, Bool, true, List, [], ◌∷◌, ◌++◌, map, slice_get, Option, Some, None, if◌then◌else◌}
+use Rattle.std.specs.Prelude.{◌≡◌, ℕ, zero, suc, ◌+◌, ◌≤◌, Bool, true, List, [], ◌∷◌, ◌++◌, map, slice_get, IsPermutation, Option, Some, None, if◌then◌else◌}
 use Rattle.std.specs.List.{list_any}
 use Rattle.mm_types.specs.Same.{same_end, same_node}
 use Rattle.mm_types.specs.declared.numbers.Node.{Node}
@@ -80,6 +80,13 @@ ends_of t = table_ends object_of t.objects ++ table_ends resource_of t.resources
 -- each end with a value is among the ends
 abbrev pub HasKeys : Cells → List End → Type 0
 HasKeys c es = (e : End) (k : ℕ) (v : Value) → slice_get (c.vals e) k ≡ Some v → list_any (same_end e) es ≡ true
+
+-- the same, with the ends with no opposite that hold a node in another order
+pub record AreReordered (old new : Cells) : Type 0 where
+  pub vals : (e : End) → new.vals e ≡ old.vals e
+  pub pairing : (e : End) → new.pairing e ≡ old.pairing e
+  pub hold : (n : Node) → new.hold n ≡ old.hold n
+  pub entered : (n : Node) → IsPermutation (old.entered n) (new.entered n)
 
 ---------------------------------------------------------------- one change
 

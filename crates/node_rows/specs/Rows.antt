@@ -1,5 +1,5 @@
 -- What is kept of one node, and what one change makes of it.
-use Rattle.std.specs.Prelude.{◌≡◌, ℕ, zero, ◌+◌, ◌≤◌, Bool, true, false, List, [], ◌∷◌, ◌++◌, min, remove, Option, Some, None, if◌then◌else◌}
+use Rattle.std.specs.Prelude.{◌≡◌, ℕ, zero, ◌+◌, ◌≤◌, Bool, true, false, List, [], ◌∷◌, ◌++◌, min, remove, IsPermutation, Option, Some, None, if◌then◌else◌}
 use Rattle.mm_types.specs.Same.{same_feature}
 use Rattle.mm_types.specs.declared.numbers.FeatureNo.{FeatureNo}
 use Rattle.mm_types.specs.declared.end.End.{End}
@@ -129,3 +129,16 @@ pub record IsRowGrown (old new : Option Row) : Type 0 where
 
 abbrev pub AreRowsGrown : (ℕ → Option Row) → (ℕ → Option Row) → Type 0
 AreRowsGrown old new = (j : ℕ) → IsRowGrown (old j) (new j)
+
+-- the same, with the ends that hold the node in another order
+pub record IsRowReordered (old new : Option Row) : Type 0 where
+  pub vals : (g : FeatureNo) → row_vals new g ≡ row_vals old g
+  pub pairing : (g : FeatureNo) → row_pairing new g ≡ row_pairing old g
+  pub hold : row_hold new ≡ row_hold old
+  pub entered : IsPermutation (row_entered old) (row_entered new)
+  pub places : (g : FeatureNo) → row_places new g ≡ row_places old g
+  pub entries : row_entries new ≡ row_entries old
+  pub kept : is_row new ≡ is_row old
+
+abbrev pub AreRowsReordered : (ℕ → Option Row) → (ℕ → Option Row) → Type 0
+AreRowsReordered old new = (j : ℕ) → IsRowReordered (old j) (new j)

@@ -5,10 +5,12 @@
 #![tactic(auto)]
 
 mod node_rows;
+mod order;
 mod row;
 mod row_table;
 mod slot;
 
 pub use node_rows::NodeRows;
+pub use order::entry_rank;
 pub use row::{Row, RowEdit};
 pub use slot::{Pairing, Slot, SlotEdit};

@@ -5,7 +5,7 @@ ghost use Rattle.mm_types.specs.declared.end.End.{End};
 ghost use Rattle.mm_types.specs.declared.numbers.Node.{Node};
 ghost use Rattle.mm_types.specs.declared.numbers.Node.TheVariants as node;
 ghost use Rattle.node_rows.specs.Rows.{row_slot, row_slots};
-ghost use Rattle.node_rows.specs.Cells.{Fits, KeepsRoom, cell_edit, cells, ends_of, no_cells, room, row_at};
+ghost use Rattle.node_rows.specs.Cells.{AreReordered, Fits, KeepsRoom, cell_edit, cells, ends_of, no_cells, room, row_at};
 ghost use Rattle.node_rows.specs.Growth.{HasGained, HasRoom, entry, far_gain, gain, lone_entry, no_ends, no_values, one_if};
 
 use crate::row::{Row, RowEdit};
@@ -146,6 +146,17 @@ impl NodeRows {
         match node {
             Node::Object(object) => self.objects.edit(object.0 as usize, edit),
             Node::Resource(resource) => self.resources.edit(resource.0 as usize, edit),
+        }
+    }
+
+    /// Puts the ends with no opposite that hold a node in the order of their ranks (`entry_rank`). Takes no memory.
+    pub fn order_entries(&mut self, node: Node)
+        ensures cells { AreReordered (cells self.old) (cells self.new) }
+        ensures room { room self.new ≡ room self.old }
+    {
+        match node {
+            Node::Object(object) => self.objects.order_entries(object.0 as usize),
+            Node::Resource(resource) => self.resources.order_entries(resource.0 as usize),
         }
     }
 

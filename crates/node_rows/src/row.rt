@@ -2,8 +2,9 @@
 ghost use Rattle.std.specs.Prelude.{◌≡◌, ℕ, ◌+◌, ◌≤◌, ◌<◌, [], ◌∷◌, ◌++◌, is_ok, length, option_copied, position, if◌then◌else◌, IfOk, None, OnOk, Some};
 ghost use Rattle.mm_types.specs.Same.{same_feature};
 ghost use Rattle.node_rows.specs.Slots.{AreSlotsEdited, AreSlotsGrown, places_of, slot_in, taken};
-ghost use Rattle.node_rows.specs.Rows.{IsRowEdited, IsRowGrown, RowFits, row_entries};
+ghost use Rattle.node_rows.specs.Rows.{IsRowEdited, IsRowGrown, IsRowReordered, RowFits, row_entries};
 
+use crate::order::put_in_order;
 use crate::slot::{Slot, SlotEdit, push_on, remove_from};
 use mm_types::{End, FeatureNo};
 use slot_lists::SlotList;
@@ -31,7 +32,7 @@ pub struct Row {
     pub slots: Vec<Slot>,
     /// The end that contains the node.
     pub holder: Option<End>,
-    /// The ends with no opposite that hold the node, in the order in which they came.
+    /// The ends with no opposite that hold the node, in the order in which they came, until they are put in order.
     pub entered: SlotList<End>,
     /// How many ends more are promised a place there.
     pub promised: usize,
@@ -77,6 +78,13 @@ impl Row {
             RowEdit::Leave(index) => remove_from(&mut self.entered, index),
             RowEdit::ForgetEntries(places) => self.promised -= places,
         }
+    }
+
+    /// Puts the ends that hold the node in order. Takes no memory.
+    pub fn order_entries(&mut self)
+        ensures { IsRowReordered (Some self.old) (Some self.new) }
+    {
+        put_in_order(&mut self.entered);
     }
 
     /// Promises one more value of a feature a place. Errs where memory is refused; no value changes.

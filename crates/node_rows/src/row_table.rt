@@ -1,6 +1,6 @@
 //! The rows of some numbers, each found by its number.
 ghost use Rattle.std.specs.Prelude.{◌≡◌, ℕ, ◌+◌, ◌<◌, ◌≤◌, [], length, option_copied, vec_len, None, Some, IfOk, OnOk};
-ghost use Rattle.node_rows.specs.Rows.{AreRowsEdited, AreRowsGrown, RowFits, row_entries, row_places};
+ghost use Rattle.node_rows.specs.Rows.{AreRowsEdited, AreRowsGrown, AreRowsReordered, RowFits, row_entries, row_places};
 ghost use Rattle.node_rows.specs.Tables.{place_in, row_in};
 
 use crate::row::{Row, RowEdit};
@@ -55,6 +55,15 @@ impl RowTable {
         match place_of(&self.places, number) {
             Some(place) => self.rows[place].edit(edit),
             None => drop(edit),
+        }
+    }
+
+    /// Puts the ends that hold the node of a row in order. Takes no memory.
+    pub fn order_entries(&mut self, number: usize)
+        ensures { AreRowsReordered (row_in self.old) (row_in self.new) }
+    {
+        if let Some(place) = place_of(&self.places, number) {
+            self.rows[place].order_entries();
         }
     }
 
