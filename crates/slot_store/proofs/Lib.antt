@@ -1,6 +1,7 @@
 pub mod RoomLemmas
 pub mod LinkLemmas
 pub mod StoreLemmas
+pub mod OrderLemmas
 pub mod PositionLemmas
 pub mod StandLemmas
 pub mod OnceLemmas

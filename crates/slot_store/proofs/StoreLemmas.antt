@@ -41,7 +41,7 @@ within c es fs keys l h =
 pub same_cells : (c : Cells) (es fs : List End) → HasKeys c es → HasKeys c fs → cell_links c es ≡ cell_links c fs
 same_cells c es fs p q = same_links (cell_links c es) (cell_links c fs) (within c es fs q) (within c fs es p)
 
-kept_ends : (c : Cells) (es fs : List End) → HasKeys c fs → IsKept c es → IsKept c fs
+pub kept_ends : (c : Cells) (es fs : List End) → HasKeys c fs → IsKept c es → IsKept c fs
 kept_ends c es fs keys ok =
     let is = same_cells c es fs ok.lists.keys keys in
     record {

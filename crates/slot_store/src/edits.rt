@@ -9,7 +9,7 @@ ghost use Rattle.links.specs.declared.plan.Edit.TheVariants as edit;
 ghost use Rattle.slot_store.specs.CellLinks.{IsOnce, RepeatNothing};
 ghost use Rattle.slot_store.specs.EditedCells.{FarHasRoom, HasHeldRow, TakesAtMost, cells_after, cut_far, held, held_far, holds, put_cells, put_far, put_near, released, without_entry, without_value};
 
-use crate::search::{entry_found, found};
+use crate::search::{entry_from, found};
 use links::Edit;
 use mm_types::{End, FeatureNo, Node, ObjectNo, Value};
 use node_rows::{NodeRows, Pairing, RowEdit, SlotEdit};
@@ -70,18 +70,24 @@ fn take_out(rows: &mut NodeRows, end: End, value: &Value)
 }
 
 // Takes an end out of those with no opposite that hold an object, where it is there.
-fn take_out_entry(rows: &mut NodeRows, end: End, object: ObjectNo)
+fn take_out_entry(rows: &mut NodeRows, end: End, object: ObjectNo, guess: usize)
     requires { IsOnce ((cells rows.old).entered (node.Object object)) }
     ensures cells { cells rows.new ≡ without_entry end object (cells rows.old) }
     ensures room { TakesAtMost no_values no_ends (room rows.old) (room rows.new) }
 {
-    if let Some(index) = entry_found(rows, object, end) {
+    if let Some(index) = entry_from(rows, object, end, guess) {
         rows.edit(Node::Object(object), RowEdit::Leave(index));
     }
 }
 
 // Takes a link out of its far side.
-fn take_out_far(rows: &mut NodeRows, end: End, object: ObjectNo, opposite: Option<FeatureNo>)
+fn take_out_far(
+    rows: &mut NodeRows,
+    end: End,
+    object: ObjectNo,
+    opposite: Option<FeatureNo>,
+    guess: usize,
+)
     requires { RepeatNothing (cells rows.old) }
     ensures cells { cells rows.new ≡ cut_far end object opposite (cells rows.old) }
     ensures room { TakesAtMost no_values no_ends (room rows.old) (room rows.new) }
@@ -89,7 +95,7 @@ fn take_out_far(rows: &mut NodeRows, end: End, object: ObjectNo, opposite: Optio
     let node = Node::Object(object);
     match opposite {
         Some(feature) => take_out(rows, End { node, feature }, &value_of(end.node)),
-        None => take_out_entry(rows, end, object),
+        None => take_out_entry(rows, end, object, guess),
     }
 }
 
@@ -104,13 +110,13 @@ fn release(rows: &mut NodeRows, pair: Option<(Node, End)>)
 }
 
 // Cuts the link of an object in an end: what stands at the far side goes first, since it is found by the end.
-fn cut(rows: &mut NodeRows, end: End, object: ObjectNo)
+fn cut(rows: &mut NodeRows, end: End, object: ObjectNo, guess: usize)
     requires { RepeatNothing (cells rows.old) }
     ensures cells { cells rows.new ≡ cells_after (edit.Cut end object) (cells rows.old) }
     ensures room { TakesAtMost no_values no_ends (room rows.old) (room rows.new) }
 {
     let pairing = rows.pairing(end);
-    take_out_far(rows, end, object, pairing.opposite);
+    take_out_far(rows, end, object, pairing.opposite, guess);
     take_out(rows, end, &Value::Object(object));
     release(rows, held_by(end, object, pairing));
 }
@@ -204,15 +210,16 @@ fn shift(rows: &mut NodeRows, end: End, to: u32, from: u32)
     rows.edit(end.node, RowEdit::Change(end.feature, edit));
 }
 
-/// Makes one edit, for which there is room. Takes no memory.
-pub(crate) fn edit_rows(rows: &mut NodeRows, edit: Edit)
+/// Makes one edit, for which there is room. An end that it takes out of those that hold an object is looked for at a guess first.
+/// Takes no memory.
+pub(crate) fn edit_rows(rows: &mut NodeRows, edit: Edit, guess: usize)
     requires room { HasRoom (room rows.old) (edit ∷ []) }
     requires distinct { RepeatNothing (cells rows.old) }
     ensures cells { cells rows.new ≡ cells_after edit (cells rows.old) }
     ensures room { TakesAtMost (λ e. gain e edit) (λ n. entry n edit) (room rows.old) (room rows.new) }
 {
     match edit {
-        Edit::Cut { end, object } => cut(rows, end, object),
+        Edit::Cut { end, object } => cut(rows, end, object, guess),
         Edit::Put {
             end,
             index,

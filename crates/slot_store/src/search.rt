@@ -1,55 +1,49 @@
 //! Where a value stands in an end, and an end among those that hold an object.
 //!
 //! Most lists are made in the order of the numbers of their objects. So a place is guessed as if the list were, the two ends
-//! before the middle, and only where it stands elsewhere is the list gone through.
+//! before the middle, and only where it stands elsewhere is the list gone through. The ends that hold an object may stand in any
+//! order, so they are put in that of their ranks where an end that is cut is not at its guess: the next ones then are.
 ghost use Rattle.std.specs.Prelude.{◌≡◌, position};
 ghost use Rattle.mm_types.specs.Same.{same_end};
 ghost use Rattle.mm_types.specs.declared.numbers.Node.TheVariants as node;
 ghost use Rattle.links.specs.LegalSets.{IsDistinct};
-ghost use Rattle.node_rows.specs.Cells.{cells};
+ghost use Rattle.node_rows.specs.Cells.{AreReordered, cells, room};
 ghost use Rattle.slot_store.specs.CellLinks.{IsOnce};
 ghost use Rattle.slot_store.specs.Entering.{found_in};
 
 use mm_types::{End, Node, ObjectNo, Value};
-use node_rows::NodeRows;
+use node_rows::{NodeRows, entry_rank};
 
-// Where a number stands among so many, if it is the first or the last, or they rise or fall. Among others it is any place.
-fn guess<F: Fn(usize) -> Option<u32>>(len: usize, number: u32, number_at: F) -> usize
-    requires { F.IsAlwaysCallable number_at }
+// Where a rank stands among so many, if it is the first or the last, or they rise or fall. Among others it is any place.
+fn guess<F: Fn(usize) -> Option<u64>>(len: usize, rank: u64, rank_at: F) -> usize
+    requires { F.IsAlwaysCallable rank_at }
 {
     let last = len.saturating_sub(1);
-    if number_at(last) == Some(number) {
+    if rank_at(last) == Some(rank) {
         return last;
     }
-    let first = number_at(0);
-    if first == Some(number) {
+    let first = rank_at(0);
+    if first == Some(rank) {
         return 0;
     }
-    let rises = first < number_at(last);
+    let rises = first < rank_at(last);
     let mut low = 0;
     let mut high = last;
     while low < high {
         let middle = low + (high - low) / 2;
-        match number_at(middle) {
-            Some(found) if found == number => return middle,
-            Some(found) if (found < number) == rises => low = middle + 1,
+        match rank_at(middle) {
+            Some(found) if found == rank => return middle,
+            Some(found) if (found < rank) == rises => low = middle + 1,
             _ => high = middle,
         }
     }
     low
 }
 
-fn object_number(value: Option<&Value>) -> Option<u32> {
+fn object_rank(value: Option<&Value>) -> Option<u64> {
     match value? {
-        Value::Object(object) => Some(object.0),
+        Value::Object(object) => Some(u64::from(object.0)),
         _ => None,
-    }
-}
-
-fn node_number(node: Node) -> u32 {
-    match node {
-        Node::Object(object) => object.0,
-        Node::Resource(resource) => resource.0,
     }
 }
 
@@ -65,13 +59,13 @@ pub(crate) fn found(rows: &NodeRows, end: End, value: &Value) -> Option<usize>
     requires { IsDistinct ((cells rows.now).vals end) }
     ensures { result ≡ found_in (cells rows.now) value.now end }
 {
-    let Some(number) = object_number(Some(value)) else {
+    let Some(rank) = object_rank(Some(value)) else {
         return rows.position(end, value);
     };
     let index = guess(
         rows.len(end),
-        number,
-        |index| object_number(rows.at(end, index)),
+        rank,
+        |index| object_rank(rows.at(end, index)),
     );
     match rows.at(end, index) {
         Some(there) if there == value => Some(index),
@@ -79,18 +73,48 @@ pub(crate) fn found(rows: &NodeRows, end: End, value: &Value) -> Option<usize>
     }
 }
 
-/// The index of an end among those with no opposite that hold an object, each of them once; `None` where it is not there.
-pub(crate) fn entry_found(rows: &NodeRows, object: ObjectNo, end: End) -> Option<usize>
+// Where an end is among those with no opposite that hold an object, if they are in order.
+fn entry_guess(rows: &NodeRows, object: ObjectNo, end: End) -> usize {
+    let node = Node::Object(object);
+    guess(rows.entered_len(node), entry_rank(end), |index| {
+        rows.entered_at(node, index).map(|there| entry_rank(*there))
+    })
+}
+
+/// The index of an end among those with no opposite that hold an object, each of them once; `None` where it is not there. It is
+/// looked for at a guess first.
+pub(crate) fn entry_from(rows: &NodeRows, object: ObjectNo, end: End, guess: usize) -> Option<usize>
     requires { IsOnce ((cells rows.now).entered (node.Object object)) }
     ensures { result ≡ position (same_end end) ((cells rows.now).entered (node.Object object)) }
 {
     let node = Node::Object(object);
-    let index = guess(rows.entered_len(node), node_number(end.node), |index| {
-        rows.entered_at(node, index)
-            .map(|there| node_number(there.node))
-    });
-    match rows.entered_at(node, index) {
-        Some(there) if is_same(*there, end) => Some(index),
+    match rows.entered_at(node, guess) {
+        Some(there) if is_same(*there, end) => Some(guess),
         _ => rows.entered_position(node, end),
+    }
+}
+
+/// The same, with no guess.
+pub(crate) fn entry_found(rows: &NodeRows, object: ObjectNo, end: End) -> Option<usize>
+    requires { IsOnce ((cells rows.now).entered (node.Object object)) }
+    ensures { result ≡ position (same_end end) ((cells rows.now).entered (node.Object object)) }
+{
+    entry_from(rows, object, end, entry_guess(rows, object, end))
+}
+
+/// A guess where an end is among those with no opposite that hold an object. Where it is not there they are put in order, and
+/// it is guessed again: each end is moved once, and so many cuts take no longer than sorting. Takes no memory.
+pub(crate) fn ordered_guess(rows: &mut NodeRows, object: ObjectNo, end: End) -> usize
+    ensures cells { AreReordered (cells rows.old) (cells rows.new) }
+    ensures room { room rows.new ≡ room rows.old }
+{
+    let node = Node::Object(object);
+    let guess = entry_guess(rows, object, end);
+    match rows.entered_at(node, guess) {
+        Some(there) if is_same(*there, end) => guess,
+        _ => {
+            rows.order_entries(node);
+            entry_guess(rows, object, end)
+        }
     }
 }

@@ -10,8 +10,8 @@ ghost use Rattle.slot_store.specs.CellLinks.{IsStore, IsStoreOfKind, Stands, sto
 
 use crate::edits::{edit_rows, value_of};
 use crate::incoming::{entering, places_of};
-use crate::search::{entry_found, found};
-use links::{Incoming, LinkStore, Plan, put_in_order};
+use crate::search::{entry_found, found, ordered_guess};
+use links::{Edit, Incoming, LinkStore, Plan, put_in_order};
 use mm_types::{End, Node, ObjectNo, Value};
 use node_rows::NodeRows;
 use std::alloc::{AllocError, Global};
@@ -120,6 +120,21 @@ fn far_lacks(rows: &NodeRows, end: End, object: ObjectNo) -> bool
     }
 }
 
+// A guess where an end is among those that hold an object, where an edit takes it out of them. They may be put in order for it.
+fn make_guess(rows: &mut NodeRows, edit: &Edit) -> usize
+    requires kept { ∥ IsStore rows.old ∥₁ }
+    ensures kept { ∥ IsStore rows.new ∥₁ }
+    ensures links { store_links rows.new ≡ store_links rows.old }
+    ensures room { room rows.new ≡ room rows.old }
+{
+    if let Edit::Cut { end, object } = edit {
+        if rows.pairing(*end).opposite.is_none() {
+            return ordered_guess(rows, *object, *end);
+        }
+    }
+    0
+}
+
 // Makes the edits of a plan, in their order.
 fn apply_rows(rows: &mut NodeRows, plan: Plan)
     requires kept { ∥ IsStore rows.old ∥₁ }
@@ -130,6 +145,7 @@ fn apply_rows(rows: &mut NodeRows, plan: Plan)
     ensures links { store_links rows.new ≡ applied (store_links rows.old) plan }
 {
     for edit in plan.into_vec() {
-        edit_rows(rows, edit);
+        let guess = make_guess(rows, &edit);
+        edit_rows(rows, edit, guess);
     }
 }
