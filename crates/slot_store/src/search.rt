@@ -54,19 +54,38 @@ pub(crate) fn is_same(a: End, b: End) -> bool
     a == b
 }
 
-/// The index of a value in an end that repeats nothing; `None` where it is not there.
+// The index of the first text of an end, if its objects come before its texts. Else it is any index.
+fn first_text(rows: &NodeRows, end: End) -> usize {
+    let mut low = 0;
+    let mut high = rows.len(end);
+    while low < high {
+        let middle = low + (high - low) / 2;
+        match rows.at(end, middle) {
+            Some(Value::Object(_)) => low = middle + 1,
+            _ => high = middle,
+        }
+    }
+    low
+}
+
+// Where a value may stand in an end. Proxies that are resolved in the order of their list leave a text behind the objects.
+fn value_guess(rows: &NodeRows, end: End, value: &Value) -> usize {
+    match object_rank(Some(value)) {
+        Some(rank) => guess(
+            rows.len(end),
+            rank,
+            |index| object_rank(rows.at(end, index)),
+        ),
+        None => first_text(rows, end),
+    }
+}
+
+/// The index of a value in an end that repeats nothing; `None` where it is not there. It is looked for at a guess first.
 pub(crate) fn found(rows: &NodeRows, end: End, value: &Value) -> Option<usize>
     requires { IsDistinct ((cells rows.now).vals end) }
     ensures { result ≡ found_in (cells rows.now) value.now end }
 {
-    let Some(rank) = object_rank(Some(value)) else {
-        return rows.position(end, value);
-    };
-    let index = guess(
-        rows.len(end),
-        rank,
-        |index| object_rank(rows.at(end, index)),
-    );
+    let index = value_guess(rows, end, value);
     match rows.at(end, index) {
         Some(there) if there == value => Some(index),
         _ => rows.position(end, value),

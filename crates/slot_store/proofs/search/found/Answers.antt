@@ -4,7 +4,7 @@ use Rattle.node_rows.specs.Cells.{cells}
 use Rattle.slot_store.proofs.PositionLemmas.{position_is}
 use Rattle.slot_store.proofs.search.found.Goals as goal
 
-pub returns-in-Some-at : goal.returns-in-Some-at
-returns-in-Some-at c =
-    let same = same_value-true c.in-Some-at.there.now c.args.value.now (sym c.eq.ensures ∙ c.if-eq.true) in
-    sym (position_is ((cells c.args.rows.now).vals c.args.end) c.args.value.now c.guess-index.result c.requires (sym c.in-Some-at.ensures ∙ ap Some same))
+pub returns-in-Some : goal.returns-in-Some
+returns-in-Some c =
+    let same = same_value-true c.in-Some.there.now c.args.value.now (sym c.eq.ensures ∙ c.if-eq.true) in
+    sym (position_is ((cells c.args.rows.now).vals c.args.end) c.args.value.now c.value_guess-index.result c.requires (sym c.in-Some.ensures ∙ ap Some same))
