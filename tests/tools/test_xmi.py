@@ -128,7 +128,7 @@ class Read(ToolTest):
             content = f'<?xml version="1.0" encoding="{named}"?>{text}'.encode(encoding)
             with self.subTest(encoding=encoding):
                 out = self.tool('xmi2doc', '--ecore', 'ecore/library.ecore', self.file('a.xmi', content))
-                self.assertEqual(out, '{"format":1,"roots":[{"class":"Person","features":{"name":"é"}}]}\n')
+                self.assertEqual(out, '{"format":2,"roots":[{"class":"Person","features":{"name":"é"}}]}\n')
 
     def test_many_notes(self):
         content = f'<k:A xmlns:k="http://m.example/kinds">{"<cache/>" * 13}</k:A>'

@@ -13,7 +13,8 @@ from .progress import Progress
 from .steps import is_fragment, parse_steps
 from .uris import joined
 
-FORMAT = 1
+FORMAT = 2  # what is written
+FORMATS = (1, 2)  # what is read
 
 
 def is_set(feature: MFeature, values: List[Any]) -> bool:
@@ -100,8 +101,8 @@ class DocumentReader:
         top = read_json(self.file)
         if not isinstance(top, dict) or set(top) != {'format', 'roots'} or not isinstance(top['roots'], list):
             fault(self.file, None, 'no document of a resource: it has the keys format and roots')
-        if top['format'] != FORMAT or isinstance(top['format'], bool):
-            fault(self.file, None, f'format {json.dumps(top["format"])[:20]} is another than {FORMAT}')
+        if type(top['format']) is not int or top['format'] not in FORMATS:
+            fault(self.file, None, f'format {json.dumps(top["format"])[:20]} is another than 1 or 2')
         graph = Graph()
         self.progress = Progress(f'reading the objects of {self.file}', count_objects(top['roots']))
         for place, root in enumerate(top['roots']):

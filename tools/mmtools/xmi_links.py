@@ -88,9 +88,7 @@ class LinkJoiner:
         target = at(other, fragment) if other is not None else None
         if isinstance(target, Obj):
             fragment = target.fragment
-        if it.feature.opposite is not None:
-            why = 'a reference with an opposite stays in its file'
-        elif not is_web(uri):
+        if not is_web(uri):
             why = 'not http, https or relative'
         elif not is_fragment(fragment):
             why = 'its fragment goes by id or name, and its file is not given with --beside'
@@ -135,7 +133,7 @@ class Completion:
         """Completes all ends in the order of the objects."""
         for _, obj in self.graph.walk():
             for feature in [it for it in obj.values if it.opposite and not it.containment and not it.is_container]:
-                obj.values[feature] = [value for value in obj.values[feature] if self.has_back(obj, feature, value)]
+                obj.values[feature] = [value for value in obj.values[feature] if isinstance(value, str) or self.has_back(obj, feature, value)]
 
     def has_back(self, obj: Obj, feature: MFeature, value: Obj) -> bool:
         """Whether the other end names an object too, or takes it. If it is full, the link is left out and told."""
