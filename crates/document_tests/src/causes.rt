@@ -1,9 +1,9 @@
 //! Why documents are refused: each cause by documents to which it is the lowest that applies.
-use crate::resource::{library, of_roots, told};
+use crate::resource::{library, of_new_roots, of_roots, told};
 use std::test::Fail;
 
 /// Whole documents, and their refusals.
-const WHOLE: [(&str, &str); 17] = [
+const WHOLE: [(&str, &str); 20] = [
     ("", "18 DOCUMENT 1 SYNTAX"),
     ("{\"format\":1,\"roots\":[]", "18 DOCUMENT 1 SYNTAX"),
     ("{\"format\":1,\"roots\":[]} x", "18 DOCUMENT 1 SYNTAX"),
@@ -21,11 +21,14 @@ const WHOLE: [(&str, &str); 17] = [
     ),
     ("{\"format\":1.0,\"roots\":[]}", "18 DOCUMENT 2 LAYOUT"),
     ("{\"format\":\"1\",\"roots\":[]}", "18 DOCUMENT 2 LAYOUT"),
+    ("{\"format\":2.0,\"roots\":[]}", "18 DOCUMENT 2 LAYOUT"),
+    ("{\"format\":\"2\",\"roots\":[]}", "18 DOCUMENT 2 LAYOUT"),
     ("{\"format\":1,\"roots\":{}}", "18 DOCUMENT 2 LAYOUT"),
     ("{\"format\":1,\"roots\":[7]}", "18 DOCUMENT 2 LAYOUT"),
     // A fault of layout anywhere wins over another format.
     ("{\"format\":3,\"roots\":[null]}", "18 DOCUMENT 2 LAYOUT"),
-    ("{\"format\":2,\"roots\":[]}", "18 DOCUMENT 3 FORMAT"),
+    ("{\"format\":0,\"roots\":[]}", "18 DOCUMENT 3 FORMAT"),
+    ("{\"format\":3,\"roots\":[]}", "18 DOCUMENT 3 FORMAT"),
     ("{\"format\":-1,\"roots\":[]}", "18 DOCUMENT 3 FORMAT"),
     (
         "{\"format\":3,\"roots\":[{\"class\":\"Nope\",\"features\":{}}]}",
@@ -33,8 +36,8 @@ const WHOLE: [(&str, &str); 17] = [
     ),
 ];
 
-/// Roots of documents of format 1, and their refusals.
-const ROOTS: [(&str, &str); 46] = [
+/// Roots of documents, and their refusals in either format.
+const ROOTS: [(&str, &str); 44] = [
     (r#"{"class":"Book"}"#, "18 DOCUMENT 2 LAYOUT"),
     (r#"{"class":7,"features":{}}"#, "18 DOCUMENT 2 LAYOUT"),
     (r#"{"class":"Book","features":[]}"#, "18 DOCUMENT 2 LAYOUT"),
@@ -206,13 +209,25 @@ const ROOTS: [(&str, &str); 46] = [
         r#"{"class":"Library","features":{"staff":["/1"]}},{"class":"Person","features":{"job":"b#/"}}"#,
         "18 DOCUMENT 10 ONE_SIDED",
     ),
+];
+
+/// Roots that are refused in format 1, since references with opposites lead to other resources, and what they are read as in format 2.
+const CROSSES: [(&str, &str); 4] = [
     (
         r#"{"class":"Person","features":{"job":"b#/"}}"#,
-        "18 DOCUMENT 11 CROSS",
+        "3[ 14: <http://m.example/b#/>; ] roots #0",
     ),
     (
         r#"{"class":"Folder","features":{"friends":["b#/"]}}"#,
-        "18 DOCUMENT 11 CROSS",
+        "4[ 19: <http://m.example/b#/>; ] roots #0",
+    ),
+    (
+        r#"{"class":"Folder","features":{"friends_of":["b#/1","/"],"friends":["/0","b#//@subs.0"]}}"#,
+        "4[ 19: #0 <http://m.example/b#//@subs.0>; 20: <http://m.example/b#/1> #0; ] roots #0",
+    ),
+    (
+        r#"{"class":"Library","features":{"staff":["b#/","/1"]}},{"class":"Person","features":{"job":"/0"}}"#,
+        "1[ 3: <http://m.example/b#/> #1; ] 3[ 14: #0; ] roots #0 #1",
     ),
 ];
 
@@ -233,6 +248,41 @@ fn roots_are_refused(rt: HostRuntime) -> Result<(), Fail> {
         let document = of_roots(rt.alloc(), roots)?;
         let answer = told(rt.alloc(), &meta, document.as_bytes())?;
         assert_eq!(rt; answer.as_str(), *wanted, "at {roots}");
+    }
+    Ok(())
+}
+
+#[test]
+fn roots_are_refused_in_format_2(rt: HostRuntime) -> Result<(), Fail> {
+    let meta = library(rt.alloc())?;
+    for (roots, wanted) in &ROOTS {
+        let document = of_new_roots(rt.alloc(), roots)?;
+        let answer = told(rt.alloc(), &meta, document.as_bytes())?;
+        assert_eq!(rt; answer.as_str(), *wanted, "at {roots}");
+    }
+    Ok(())
+}
+
+#[test]
+fn references_with_opposites_stay_in_a_document_of_format_1(rt: HostRuntime) -> Result<(), Fail> {
+    let meta = library(rt.alloc())?;
+    for (roots, _) in &CROSSES {
+        let document = of_roots(rt.alloc(), roots)?;
+        let answer = told(rt.alloc(), &meta, document.as_bytes())?;
+        assert_eq!(rt; answer.as_str(), "18 DOCUMENT 11 CROSS", "at {roots}");
+    }
+    Ok(())
+}
+
+#[test]
+fn references_with_opposites_lead_out_of_a_document_of_format_2(
+    rt: HostRuntime,
+) -> Result<(), Fail> {
+    let meta = library(rt.alloc())?;
+    for (roots, wanted) in &CROSSES {
+        let document = of_new_roots(rt.alloc(), roots)?;
+        let read = told(rt.alloc(), &meta, document.as_bytes())?;
+        assert_eq!(rt; read.as_str(), *wanted, "at {roots}");
     }
     Ok(())
 }

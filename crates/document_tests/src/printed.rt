@@ -30,7 +30,6 @@ const LAST_REFUSALS: [(Refused, &str); 14] = [
         "18 DOCUMENT 10 ONE_SIDED",
     ),
     (Refused::Dangling, "19 DANGLING"),
-    (Refused::CrossOpposite, "20 CROSS_OPPOSITE"),
     (Refused::TooDeep, "21 TOO_DEEP"),
     (Refused::NotProxy, "22 NOT_PROXY"),
     (Refused::Unloaded, "23 UNLOADED"),
@@ -39,6 +38,7 @@ const LAST_REFUSALS: [(Refused, &str); 14] = [
     (Refused::AdapterTaken, "26 ADAPTER_TAKEN"),
     (Refused::AdapterFull, "27 ADAPTER_FULL"),
     (Refused::Memory, "28 MEMORY"),
+    (Refused::Unmatched, "29 UNMATCHED"),
 ];
 
 const CAUSES: [(DocFault, &str); 12] = [

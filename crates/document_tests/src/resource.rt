@@ -102,7 +102,12 @@ pub(crate) fn refusal(alloc: Global, meta: &Meta, bytes: &[u8]) -> Option<Refuse
     }
 }
 
-/// The document of these roots.
+/// The document of these roots, in format 1.
 pub(crate) fn of_roots(alloc: Global, roots: &str) -> Result<String, AllocError> {
     format!(in alloc; "{{\"format\":1,\"roots\":[{roots}]}}")
+}
+
+/// The document of these roots, in format 2.
+pub(crate) fn of_new_roots(alloc: Global, roots: &str) -> Result<String, AllocError> {
+    format!(in alloc; "{{\"format\":2,\"roots\":[{roots}]}}")
 }

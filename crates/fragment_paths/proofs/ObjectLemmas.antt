@@ -1,5 +1,5 @@
 -- The objects at the ends of a legal model that contain: all that stands there.
-use Rattle.std.proofs.Common.{◌≡◌, ◌&&◌, ◌||◌, not, ℕ, zero, suc, Bool, true, false, IsTrue, List, [], ◌∷◌, slice_get, Option, Some, None, is_some, option_and_then, if◌then◌else◌, refl, sym, ap, ◌∙◌}
+use Rattle.std.proofs.Common.{◌≡◌, ◌&&◌, not, ℕ, zero, suc, Bool, true, false, IsTrue, List, [], ◌∷◌, slice_get, Option, Some, None, is_some, option_and_then, if◌then◌else◌, refl, sym, ap, ◌∙◌}
 use Rattle.std.specs.List.{list_all}
 use Rattle.std.proofs.lemmas.Bool.{and_parts, false≢true}
 use Rattle.std.proofs.lemmas.Option.{none-some, same_Some}
@@ -21,16 +21,15 @@ use Rattle.web_uris.specs.declared.path.Step.{Step}
 use Rattle.fragment_paths.specs.Finding.{feature_of, goes_by, if_goes_by}
 use Rattle.containment.proofs.PartLemmas.{contains-itself, contains-reference, values-linked}
 
-never : (b c : Bool) → (b && not (c || true)) ≡ false
-never true true = refl
-never true false = refl
-never false c = refl
+never : (b : Bool) → (b && false) ≡ false
+never true = refl
+never false = refl
 
 -- what contains takes no proxies
 no-proxies : (m : Metamodel) (f : FeatureNo) → is_containment m f ≡ true → takes_proxies (shape m f) ≡ false
 no-proxies m f contains =
     let a = shape m f in
-    ap (λ (x : Option FeatureNo). a.is_reference && not (is_some a.opposite || is_some x)) (contains-itself f a.containing contains) ∙ never a.is_reference (is_some a.opposite)
+    ap (λ (x : Option FeatureNo). a.is_reference && not (is_some x)) (contains-itself f a.containing contains) ∙ never a.is_reference
 
 one-of : (r : Reading) (f : FeatureNo) (v : Value) → takes_proxies (shape r.metamodel f) ≡ false → is_legal_target r f v ≡ true → is_object v ≡ true
 one-of r f (value.Object o) none h = refl

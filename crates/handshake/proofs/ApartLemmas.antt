@@ -50,6 +50,8 @@ use Rattle.handshake.specs.declared.happening.Happening.TheVariants.{Gains, Lose
 use Rattle.handshake.specs.declared.happening.Happening.{Happening}
 use Rattle.handshake.specs.declared.happening.Telling.{Telling}
 use Rattle.removal.specs.declared.tie.Tie.{Tie}
+use Rattle.handshake.proofs.ResolvedLemmas.{resolved-as}
+use Rattle.handshake.proofs.TargetLemmas.{match-apart}
 
 ---------------------------------------------------------------- lists
 
@@ -403,8 +405,13 @@ tellings-apart s (RemoveValue n f v) legal early late few =
     ]
 tellings-apart s (Move n f to from) legal early late few = one-apart (telling (at_end n f) (Moves to from))
 tellings-apart s (Load k doc) legal early late few = absurd (true≢false few)
-tellings-apart s (Resolve o f i None) legal early late few = tt
-tellings-apart s (Resolve o f i (Some b)) legal early late few = one-apart (telling (at_end (node.Object o) f) (Resolves i (value.Object b)))
+tellings-apart s (Resolve o f i) legal early late few =
+    let e = at_end (node.Object o) f in
+    resolved-as s legal e i late (λ ts xs us u. AreApart us) (λ x is alone. one-apart (telling e (Resolves i (value.Object x.object))))
+    (λ x is g opposite j text stands.
+    let d = far_end x.object g in
+    let apart : d ≡ e → ⊥ = λ same. true≢false (sym (same_end-self d) ∙ ap (same_end d) same ∙ match-apart (reading s) e x.object g legal.metamodel opposite) in
+    ((apart, tt), one-apart (telling e (Resolves i (value.Object x.object)))))
 
 ---------------------------------------------------------------- a list that is unset
 

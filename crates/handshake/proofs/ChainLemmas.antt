@@ -29,7 +29,7 @@ use Rattle.links.proofs.CutLemmas.{end-shift_near, end-shift_other}
 use Rattle.links.proofs.CutNamedLemmas.{end-without_all}
 use Rattle.links.proofs.FilterLemmas.{remove-filter}
 use Rattle.links.specs.Laws.{is_named, without_all}
-use Rattle.links.specs.Links.{Links, end, put, shift}
+use Rattle.links.specs.Links.{Links, end, put, shift, far_end}
 use Rattle.models.proofs.PlaceLemmas.{first-below}
 use Rattle.models.specs.Legal.{IsLegal, kinds_of}
 use Rattle.models.specs.Model.{Model, kept_flag, reading}
@@ -37,9 +37,9 @@ use Rattle.models.specs.Reading.{Reading, at_end, first_at, has_feature, held_at
 use Rattle.notice_chain.specs.Replay as replay
 use Rattle.notice_chain.specs.Replay.{moved, resolved as list-resolved}
 use Rattle.containment.proofs.PartLemmas.{object-reference}
-use Rattle.handshake.specs.Displaced.{cut_by_new, cut_by_set, has_already, is_plain_add, is_plain_set, same_link, tie_in, ties_at, ties_backwards, yields}
+use Rattle.handshake.specs.Displaced.{cut_by_new, cut_by_set, has_already, is_plain_add, is_plain_set, same_link, tie_in, ties_at, ties_backwards, yields, cut_ties}
 use Rattle.removal.specs.TreeTies.{tie}
-use Rattle.handshake.specs.Effects.{add_value, after, of_object, put_values, take_value, value_edits, with_value, without_ties}
+use Rattle.handshake.specs.Effects.{add_value, after, of_object, put_values, take_value, value_edits, with_value, without_ties, put_by}
 use Rattle.handshake.specs.Laws.{AreDifferent, ChainReplays, comes_with, goes_with}
 use Rattle.handshake.specs.Plans.{HasReadDocument}
 use Rattle.handshake.specs.Refusals.{early_refusal, late_refusal}
@@ -55,14 +55,13 @@ use Rattle.handshake.proofs.ApartLemmas.{backwards-here, tie_in-here, ties_at-he
 use Rattle.handshake.proofs.AttributeLemmas.{Replays, create-replays}
 use Rattle.handshake.proofs.CutEndLemmas.{held-none, held-one, reference-flag, reference-plain, same-held}
 use Rattle.handshake.proofs.CutHeldLemmas.{all-left, held_in, near-gives}
-use Rattle.mm_types.specs.Same.{same_end}
+use Rattle.mm_types.specs.Same.{same_end, node_value}
 use Rattle.mm_types.specs.Lists.{put_back, shifted}
 use Rattle.handshake.proofs.CutTieLemmas.{Stands, all_at, any_append_left, any_push, backwards-different, filter_none, is_named-same_link, plain-not, same_link-self, tie_in-different, tie_in-stand, ties_at-different, ties_at-stand, ties_backwards-stand, values-linked, without_ties-names_of}
 use Rattle.removal.specs.Laws.{names_of}
 use Rattle.handshake.proofs.DestroyLemmas.{destroyed-replays}
-use Rattle.handshake.proofs.HappenedLemmas.{at-own, done, happened_all-at, happened_at}
-use Rattle.handshake.proofs.KnownLemmas.{IsResolvable, add-named, add-taken, delete-named, kinds-are, move-named, move-placed, remove-named, remove-placed, resolvable, resource-keeps-none, set-named, set-taken, take-named, unresolved, unset-there}
-use Rattle.handshake.proofs.ResolveLemmas.{alone-there, end-resolved, one-cut, resolved, set-there, there}
+use Rattle.handshake.proofs.HappenedLemmas.{at-own, done, happened_all-at, happened_at, done-here, done-other, done_at}
+use Rattle.handshake.proofs.KnownLemmas.{IsResolvable, add-named, add-taken, delete-named, kinds-are, move-named, move-placed, remove-named, remove-placed, resource-keeps-none, set-named, set-taken, take-named, unset-there, far-reference}
 use Rattle.handshake.proofs.LoadChainLemmas.{load-replays}
 use Rattle.handshake.proofs.LinkLemmas.{IsNewLink, near-empty, without_displaced}
 use Rattle.handshake.proofs.ListReplayLemmas.{all_lost-own, list-added, list-moved, list-taken, list-unset, lost-done, one-done, own-one, single-set, single-unset}
@@ -71,6 +70,10 @@ use Rattle.handshake.proofs.PlanLemmas.{add-new, add-place, below, set-new}
 use Rattle.handshake.proofs.RelinkLemmas.{add-replays, at-each, cut-replays, kept-replays, list-held, set-replays}
 use Rattle.handshake.proofs.ReplayLemmas.{replayed_all-told}
 use Rattle.handshake.proofs.TellingLemmas.{get-place}
+use Rattle.handshake.proofs.ResolveLemmas.{alone-there, end-alone, end-joint, far-now, far-there, joint, near-apart, now, place-below, placed, set-there, swapped, swapped-here, there}
+use Rattle.handshake.proofs.ResolvedLemmas.{resolved-as}
+use Rattle.handshake.proofs.TargetLemmas.{match-apart}
+use Rattle.handshake.specs.declared.target.Target.{Target}
 
 ---------------------------------------------------------------- ends that are emptied
 
@@ -214,58 +217,87 @@ module _ (s : Model) (legal : IsLegal s) (e : End) (reference : (shape s.metamod
 
 ---------------------------------------------------------------- a proxy that is resolved
 
-module _ (s : Model) (legal : IsLegal s) (e : End) (i : ℕ) (o : ObjectNo) (is : IsResolvable (reading s) e i o) where
-  abbrev v : Value
-  v = value.Object o
-
+-- a value takes the place of a proxy at an end
+module _ (s : Model) (legal : IsLegal s) (e : End) (reference : (shape s.metamodel e.feature).is_reference ≡ true) (i : ℕ) (t : List ℕ) (v : Value) (there : slice_get (end s.links e) i ≡ Some (value.Proxy t)) (u : Links)
+    (swapped : end u e ≡ insert (remove (end s.links e) i) i v) where
   abbrev proxied : List Value
   proxied = end s.links e
 
-  abbrev swapped : End → List Value → List Value
-  swapped d vs = if same_end e d then vs else end s.links d
-
-  near-resolved : end (resolved s legal e i o is) e ≡ insert (remove proxied i) i v
-  near-resolved = end-resolved s legal e i o is e ∙ ap (λ (b : Bool). if b then insert (remove proxied i) i v else end s.links e) (same_end-self e)
-
-  resolve-single : (shape s.metamodel e.feature).is_single ≡ true → done (shape s.metamodel e.feature) (Resolves i v) (held_at (reading s) e) ≡ held_in s (resolved s legal e i o is) e
+  resolve-single : (shape s.metamodel e.feature).is_single ≡ true → done (shape s.metamodel e.feature) (Resolves i v) (held_at (reading s) e) ≡ held_in s u e
   resolve-single single =
       let a = shape s.metamodel e.feature in
-      let plain = (reference-plain s.metamodel e.feature is.reference).0 in
-      let off = reference-flag s e.node e.feature legal is.reference in
-      let only = near-resolved ∙ alone-there proxied i (value.Proxy is.text) v ((all-left s legal).one e single) (there s legal e i o is) in
+      let plain = (reference-plain s.metamodel e.feature reference).0 in
+      let off = reference-flag s e.node e.feature legal reference in
+      let only = swapped ∙ alone-there proxied i (value.Proxy t) v ((all-left s legal).one e single) there in
       let so : done a (Resolves i v) (held_at (reading s) e) ≡ gained a v = λ j. record { values = if single j then v ∷ [] else list-resolved (held_at (reading s) e).values (pos i) v; flag = (off ∙ sym plain) j } in
-      so ∙ held-one s (resolved s legal e i o is) e legal is.reference single v only
+      so ∙ held-one s u e legal reference single v only
 
-  resolve-many : (shape s.metamodel e.feature).is_single ≡ false → done (shape s.metamodel e.feature) (Resolves i v) (held_at (reading s) e) ≡ held_in s (resolved s legal e i o is) e
+  resolve-many : (shape s.metamodel e.feature).is_single ≡ false → done (shape s.metamodel e.feature) (Resolves i v) (held_at (reading s) e) ≡ held_in s u e
   resolve-many many =
       let a = shape s.metamodel e.feature in
       let b = kept_flag s.values e.node e.feature in
-      let low = subst (λ (ws : List Value). nat_lt i (length ws) ≡ true) (values-linked s e is.reference) is.low in
-      ap (done a (Resolves i v)) (list-held s s.links e is.reference many)
+      let below = place-below proxied i (value.Proxy t) there in
+      let low : nat_lt i (length proxied) ≡ true = grind (arith, nat_tests) in
+      ap (done a (Resolves i v)) (list-held s s.links e reference many)
       ∙ (λ j. record { values = if many j then v ∷ [] else (if low j then slice_set proxied i v else proxied); flag = b })
-      ∙ ap (λ (ws : List Value). record { values = ws; flag = b }) (set-there proxied i (value.Proxy is.text) v (there s legal e i o is) ∙ sym near-resolved)
-      ∙ sym (list-held s (resolved s legal e i o is) e is.reference many)
+      ∙ ap (λ (ws : List Value). record { values = ws; flag = b }) (set-there proxied i (value.Proxy t) v there ∙ sym swapped)
+      ∙ sym (list-held s u e reference many)
 
-  resolve-replays : Replays s (telling e (Resolves i v) ∷ []) (relinked s (resolved s legal e i o is))
-  resolve-replays d =
-      let a = shape s.metamodel e.feature in
-      at-each (λ y. happened_at s.metamodel (telling e (Resolves i v) ∷ []) y (held_at (reading s) y) ≡ held_in s (resolved s legal e i o is) y) e d
-      (one-done s.metamodel e (Resolves i v) (held_at (reading s) e)
-      ∙ elim a.is_single as (λ b. a.is_single ≡ b → done a (Resolves i v) (held_at (reading s) e) ≡ held_in s (resolved s legal e i o is) e) [ true ↦ resolve-single | false ↦ resolve-many ] refl)
-      (λ other.
-      at-own s.metamodel e d (telling e (Resolves i v) ∷ []) (held_at (reading s) d) (own-one e (Resolves i v)) other
-      ∙ same-held s s.links (resolved s legal e i o is) d (sym (end-resolved s legal e i o is d ∙ ap (λ (b : Bool). if b then insert (remove proxied i) i v else end s.links d) other)))
+  resolve-done : done (shape s.metamodel e.feature) (Resolves i v) (held_at (reading s) e) ≡ held_in s u e
+  resolve-done = elim (shape s.metamodel e.feature).is_single as (λ b. (shape s.metamodel e.feature).is_single ≡ b → done (shape s.metamodel e.feature) (Resolves i v) (held_at (reading s) e) ≡ held_in s u e) [ true ↦ resolve-single | false ↦ resolve-many ] refl
 
--- the links are those without the proxy, and the object at its place
-resolve-changes : (s : Model) (legal : IsLegal s) (o : ObjectNo) (f : FeatureNo) (i : ℕ) (x : ObjectNo) → late_refusal (reading s) (Resolve o f i (Some x)) ≡ None → Replays s (tellings (reading s) (Resolve o f i (Some x))) (after s (Resolve o f i (Some x)))
-resolve-changes s legal o f i x late =
+-- in a reference without an opposite
+alone-replays : (s : Model) (legal : IsLegal s) (e : End) (i : ℕ) (x : Target) (is : IsResolvable (reading s) e i x) (alone : (shape s.metamodel e.feature).opposite ≡ None)
+    → Replays s (telling e (Resolves i (value.Object x.object)) ∷ []) (relinked s (placed s legal e i x is []))
+alone-replays s legal e i x is alone d =
+    let v = value.Object x.object in
+    let u = placed s legal e i x is [] in
+    let ends = end-alone s legal e i x is alone in
+    at-each (λ y. happened_at s.metamodel (telling e (Resolves i v) ∷ []) y (held_at (reading s) y) ≡ held_in s u y) e d
+    (one-done s.metamodel e (Resolves i v) (held_at (reading s) e)
+    ∙ resolve-done s legal e is.reference i is.found.text v (there s legal e i x is) u (ends e ∙ swapped-here e (now s legal e i x is) (end s.links)))
+    (λ other.
+    at-own s.metamodel e d (telling e (Resolves i v) ∷ []) (held_at (reading s) d) (own-one e (Resolves i v)) other
+    ∙ same-held s s.links u d (sym (ends d ∙ ap (λ (b : Bool). if b then now s legal e i x is else end s.links d) other)))
+
+-- and where a proxy stands at both ends
+joint-replays : (s : Model) (legal : IsLegal s) (e : End) (i : ℕ) (x : Target) (is : IsResolvable (reading s) e i x) (g : FeatureNo) (opposite : (shape s.metamodel e.feature).opposite ≡ Some g) (j : ℕ) (text : List ℕ)
+    (stands : slice_get ((reading s).values (far_end x.object g)) j ≡ Some (value.Proxy text))
+    → Replays s (telling (far_end x.object g) (Resolves j (node_value e.node)) ∷ telling e (Resolves i (value.Object x.object)) ∷ []) (relinked s (joint s legal e i x is g opposite j text stands))
+joint-replays s legal e i x is g opposite j text stands d =
+    let m = s.metamodel in
     let r = reading s in
+    let v = value.Object x.object in
+    let y = far_end x.object g in
+    let w = node_value e.node in
+    let u = joint s legal e i x is g opposite j text stands in
+    let ends = end-joint s legal e i x is g opposite j text stands in
+    let mine = now s legal e i x is in
+    let theirs = far-now s legal e i x is g opposite j text stands in
+    let away = match-apart r e x.object g legal.metamodel opposite in
+    let back = near-apart s legal e i x is g opposite j text stands in
+    let near = telling e (Resolves i v) ∷ [] in
+    at-each (λ z. happened_at m (telling y (Resolves j w) ∷ near) z (held_at r z) ≡ held_in s u z) e d
+    (ap (happened_at m near e) (done-other m e (telling y (Resolves j w)) (held_at r e) away) ∙ one-done m e (Resolves i v) (held_at r e)
+    ∙ resolve-done s legal e is.reference i is.found.text v (there s legal e i x is) u (ends e ∙ swapped-here e mine (swapped y theirs (end s.links))))
+    (λ other.
+    at-own m e d near (done_at m d (telling y (Resolves j w)) (held_at r d)) (own-one e (Resolves i v)) other
+    ∙ at-each (λ z. same_end e z ≡ false → done_at m z (telling y (Resolves j w)) (held_at r z) ≡ held_in s u z) y d
+    (λ _.
+    done-here m y (telling y (Resolves j w)) (held_at r y) (same_end-self y)
+    ∙ resolve-done s legal y (far-reference m legal.metamodel e.feature g opposite) j text w (far-there s legal e i x is g opposite j text stands) u
+    (ends y ∙ ap (λ (b : Bool). if b then mine else swapped y theirs (end s.links) y) back ∙ swapped-here y theirs (end s.links)))
+    (λ third apart.
+    done-other m d (telling y (Resolves j w)) (held_at r d) third
+    ∙ same-held s s.links u d (sym (ends d ∙ ap (λ (b : Bool). if b then mine else swapped y theirs (end s.links) d) apart ∙ ap (λ (b : Bool). if b then theirs else end s.links d) third)))
+    other)
+
+resolve-changes : (s : Model) (legal : IsLegal s) (o : ObjectNo) (f : FeatureNo) (i : ℕ) → late_refusal (reading s) (Resolve o f i) ≡ None → Replays s (tellings (reading s) (Resolve o f i)) (after s (Resolve o f i))
+resolve-changes s legal o f i late =
     let e = at_end (node.Object o) f in
-    let is = resolvable r e i x late in
-    let a = shape s.metamodel f in
-    let made : List Tie → Links = λ ts. put (without_ties s.links ts) e i x a.opposite a.containing in
-    subst (λ (b : Bool). Replays s (telling e (Resolves i (value.Object x)) ∷ []) (relinked s (made (if b then tie_in r e i else [])))) (sym is.reference)
-    (subst (λ (ts : List Tie). Replays s (telling e (Resolves i (value.Object x)) ∷ []) (relinked s (made ts))) (sym (one-cut s legal e i x is)) (resolve-replays s legal e i x is))
+    relinked-by s (tellings (reading s) (Resolve o f i)) _ _ (ap (λ (t : Links). put_by t (reading s) (Resolve o f i)) (sym (without_ties-names_of s.links (cut_ties (reading s) (Resolve o f i)))))
+    (resolved-as s legal e i late (λ ts xs us u. Replays s us (relinked s u)) (λ x is alone. alone-replays s legal e i x is alone)
+    (λ x is g opposite j text stands. joint-replays s legal e i x is g opposite j text stands))
 
 ---------------------------------------------------------------- changes of a reference, and of an attribute
 
@@ -488,8 +520,7 @@ changes-replay s (RemoveValue n f v) legal early late read =
 changes-replay s (Move n f to from) legal early late read =
     let named = move-named (reading s) n f to from early in
     everywhere s (Move n f to from) (move-changes s n f to from legal named.0 named.1 late)
-changes-replay s (Resolve o f i None) legal early late read = λ d stays old. absurd (unresolved (reading s) (at_end (node.Object o) f) i late)
-changes-replay s (Resolve o f i (Some x)) legal early late read = everywhere s (Resolve o f i (Some x)) (resolve-changes s legal o f i x late)
+changes-replay s (Resolve o f i) legal early late read = everywhere s (Resolve o f i) (resolve-changes s legal o f i late)
 changes-replay s (Load k doc) legal early late read = λ d stays old. load-replays s k doc legal late read d old
 
 pub chain-replays : (s : Model) (c : Change) → ChainReplays s c

@@ -34,7 +34,8 @@ use Rattle.handshake.proofs.KnownLemmas.{delete-named, far-reference, kinds-are,
 use Rattle.handshake.specs.declared.change.Change.{Change}
 use Rattle.handshake.specs.declared.change.Change.TheVariants.{Create, Set, Unset, Add, Remove, RemoveValue, Move, Delete, NewResource, Resolve, Load}
 use Rattle.removal.specs.declared.tie.Tie.{Tie}
-use Rattle.handshake.specs.Displaced.{cut_by_new, cut_by_set, cut_ties, is_plain_add, tie_in, ties_backwards, has_already, in_the_way, is_plain_set, once, opposite_end, holding_tie, other_side, same_link, same_tie, ties_at, ties_if_single, with_tie, yields}
+use Rattle.handshake.specs.Displaced.{cut_by_new, cut_by_set, cut_ties, is_plain_add, tie_in, ties_backwards, has_already, in_the_way, is_plain_set, once, holding_tie, other_side, same_link, same_tie, ties_at, ties_if_single, with_tie, yields, ties_resolved}
+use Rattle.handshake.specs.Resolving.{opposite_end}
 use Rattle.removal.specs.TreeTies.{tie, tree_ties}
 use Rattle.removal.specs.Laws.{names_of}
 use Rattle.removal.specs.Outer.{gone}
@@ -42,6 +43,8 @@ use Rattle.removal.proofs.TreeLemmas.{tree-named}
 use Rattle.handshake.specs.Effects.{links_left, without_ties}
 use Rattle.handshake.specs.Laws.{AreDifferent}
 use Rattle.handshake.specs.Refusals.{early_refusal, late_refusal}
+use Rattle.handshake.proofs.TargetLemmas.{IsMatch, match-apart, resolved-cuts}
+use Rattle.handshake.specs.declared.target.Counterpart.{Counterpart}
 
 pub without_ties-names_of : (s : Links) (ts : List Tie) → without_ties s ts ≡ without_all s (names_of ts)
 without_ties-names_of s [] = refl
@@ -325,7 +328,7 @@ left-cuts s (Remove n f i) legal early = without_ties-names_of s.links (cut_ties
 left-cuts s (RemoveValue n f v) legal early = without_ties-names_of s.links (cut_ties (reading s) (RemoveValue n f v))
 left-cuts s (Move n f to from) legal early = refl
 left-cuts s (Load k doc) legal early = refl
-left-cuts s (Resolve o f i b) legal early = without_ties-names_of s.links (cut_ties (reading s) (Resolve o f i b))
+left-cuts s (Resolve o f i) legal early = without_ties-names_of s.links (cut_ties (reading s) (Resolve o f i))
 left-cuts s (Delete o) legal early =
     let r = reading s in
     let m = kinds_of s.metamodel in
@@ -343,7 +346,13 @@ cuts-stand s (Remove n f i) legal early = reference-cuts (AllByRecursion (Stands
 cuts-stand s (RemoveValue n f v) legal early = take-cuts (AllByRecursion (Stands s.links)) s n f tt v (λ reference i. tie_in-stand s (at_end n f) i reference)
 cuts-stand s (Move n f to from) legal early = tt
 cuts-stand s (Load k doc) legal early = tt
-cuts-stand s (Resolve o f i b) legal early = let e = at_end (node.Object o) f in reference-cuts (AllByRecursion (Stands s.links)) s (node.Object o) f tt (tie_in (reading s) e i) (λ reference. tie_in-stand s e i reference)
+cuts-stand s (Resolve o f i) legal early =
+    let r = reading s in
+    let e = at_end (node.Object o) f in
+    reference-cuts (AllByRecursion (Stands s.links)) s (node.Object o) f tt (ties_resolved r e i) (λ reference.
+    resolved-cuts (AllByRecursion (Stands s.links)) r e i (tie_in-stand s e i reference) (λ b c t is at.
+    all_append (Stands s.links) (tie_in r e i) (tie_in r c.end c.index) (tie_in-stand s e i reference)
+    (tie_in-stand s c.end c.index (subst (λ (d : End). (shape s.metamodel d.feature).is_reference ≡ true) (sym is.stands) (far-reference s.metamodel legal.metamodel f is.feature is.opposite)))))
 
 pub cuts-there : (s : Model) (c : Change) → IsLegal s → early_refusal (reading s) c ≡ None → late_refusal (reading s) c ≡ None → AreThere s.links (names_of (cut_ties (reading s) c))
 cuts-there s c legal early late = all_map (λ (t : End × Value). Has s.links t.0 t.1) (λ (t : Tie). (t.end, t.value)) (cut_ties (reading s) c) (cuts-stand s c legal early)
@@ -429,6 +438,17 @@ cut_by_new-different : (r : Reading) (e : End) (v : Value) → AreDifferent r (c
 cut_by_new-different r e (value.Object o) = yields-different r e o
 cut_by_new-different r e _ = tt
 
+-- the proxies at both ends of a link are two links
+proxies-different : (s : Model) (e : End) (i : ℕ) (o : ObjectNo) (c : Counterpart) (t : List ℕ) → IsLegal s → IsMatch (reading s) e o c → slice_get ((reading s).values e) i ≡ Some (value.Proxy t)
+    → AreDifferent (reading s) (tie_in (reading s) e i ++ tie_in (reading s) c.end c.index)
+proxies-different s e i o c t legal is at =
+    let r = reading s in
+    let near : tie_in r e i ≡ tie e (value.Proxy t) ∷ [] = ap (λ (q : Option Value). option_to_list (option_map (tie e) q)) at in
+    let far : tie_in r c.end c.index ≡ tie c.end (value.Proxy is.text) ∷ [] = ap (λ (q : Option Value). option_to_list (option_map (tie c.end) q)) is.proxy in
+    let other : same_end c.end e ≡ false = ap (λ (d : End). same_end d e) is.stands ∙ match-apart r e o is.feature legal.metamodel is.opposite in
+    let apart : same_link r (tie c.end (value.Proxy is.text)) (tie e (value.Proxy t)) ≡ false = ap (λ (b : Bool). (b && same_value (value.Proxy is.text) (value.Proxy t)) || false) other in
+    subst (AreDifferent r) (sym (λ k. near k ++ far k)) ((apart, tt), (tt, tt))
+
 pub cuts-different : (s : Model) (c : Change) → IsLegal s → early_refusal (reading s) c ≡ None → AreDifferent (reading s) (cut_ties (reading s) c)
 cuts-different s (Create c) legal early = tt
 cuts-different s (NewResource u) legal early = tt
@@ -444,7 +464,11 @@ cuts-different s (Remove n f i) legal early = reference-cuts (AreDifferent (read
 cuts-different s (RemoveValue n f v) legal early = take-cuts (AreDifferent (reading s)) s n f tt v (λ reference i. tie_in-different (reading s) (at_end n f) i)
 cuts-different s (Move n f to from) legal early = tt
 cuts-different s (Load k doc) legal early = tt
-cuts-different s (Resolve o f i b) legal early = let e = at_end (node.Object o) f in reference-cuts (AreDifferent (reading s)) s (node.Object o) f tt (tie_in (reading s) e i) (λ reference. tie_in-different (reading s) e i)
+cuts-different s (Resolve o f i) legal early =
+    let r = reading s in
+    let e = at_end (node.Object o) f in
+    reference-cuts (AreDifferent r) s (node.Object o) f tt (ties_resolved r e i) (λ reference.
+    resolved-cuts (AreDifferent r) r e i (tie_in-different r e i) (λ b c t is at. proxies-different s e i b c t legal is at))
 
 pub cuts-once : (s : Model) (c : Change) → IsLegal s → early_refusal (reading s) c ≡ None → late_refusal (reading s) c ≡ None → AreOnce (kinds_of s.metamodel) (names_of (cut_ties (reading s) c))
 cuts-once s c legal early late = once-of_different (reading s) (cut_ties (reading s) c) (cuts-different s c legal early)

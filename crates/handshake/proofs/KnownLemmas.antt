@@ -1,6 +1,6 @@
 -- What follows where a change is not refused: the node lives and has the feature, the value is one of its type, and the end can gain
 -- it.
-use Rattle.std.proofs.Common.{◌≡◌, ℕ, nat_le, nat_lt, length, slice_get, ◌&&◌, ◌||◌, not, Bool, true, false, Option, Some, None, is_some, option_and_then, if◌then◌else◌, refl, sym, ap, ◌∙◌, subst, arith, ◌<◌, List}
+use Rattle.std.proofs.Common.{◌≡◌, ℕ, nat_le, nat_lt, length, slice_get, ◌&&◌, ◌||◌, not, Bool, true, false, Option, Some, None, is_some, if◌then◌else◌, refl, sym, ap, ◌∙◌, subst, arith, ◌<◌, List}
 use Rattle.std.specs.Option.{option_map_or}
 use Rattle.std.proofs.lemmas.Bool.{and_parts, eqb-true, false≢true}
 use Rattle.std.proofs.lemmas.Option.{none-some, slice_get_past}
@@ -11,11 +11,7 @@ use Rattle.mm_types.specs.Lookups as lookups
 use Rattle.mm_types.specs.OfDocument.{IsOfDocument}
 use Rattle.mm_types.specs.Resolved.{Metamodel}
 use Rattle.mm_types.specs.Shapes.{Shape, contents_shape, shape, shape_of}
-use Rattle.mm_types.specs.declared.feature.DataType.{DataType}
-use Rattle.mm_types.specs.declared.feature.DataType.TheVariants.{EString, EInt, ELong, EBoolean, Enum}
 use Rattle.mm_types.specs.declared.feature.Feature.{Feature}
-use Rattle.mm_types.specs.declared.feature.Kind.{Kind}
-use Rattle.mm_types.specs.declared.feature.Kind.TheVariants.{Attribute, Reference}
 use Rattle.mm_types.specs.declared.numbers.ClassNo.{ClassNo}
 use Rattle.mm_types.specs.declared.numbers.FeatureNo.{FeatureNo}
 use Rattle.mm_types.specs.declared.numbers.Node.{Node}
@@ -24,17 +20,19 @@ use Rattle.mm_types.specs.declared.numbers.ObjectNo.{ObjectNo}
 use Rattle.mm_types.specs.declared.numbers.ResourceNo.{ResourceNo}
 use Rattle.mm_types.specs.declared.end.End.{End}
 use Rattle.mm_types.specs.declared.refused.Refused.{Refused}
-use Rattle.mm_types.specs.declared.refused.Refused.TheVariants.{NoObject, NoResource, NoFeature, NotSingle, NotMany, WrongType, TextLength, Index, Duplicate, Bound, Recursive, Limit, ResourceExists, NotProxy, Unloaded, Unresolved}
+use Rattle.mm_types.specs.declared.refused.Refused.TheVariants.{NoObject, NoResource, NoFeature, NotSingle, NotMany, WrongType, TextLength, Index, Duplicate, Bound, Recursive, Limit, ResourceExists, NotProxy, Unloaded, Unresolved, Unmatched}
 use Rattle.mm_types.specs.declared.value.Value.{Value}
 use Rattle.mm_types.specs.declared.value.Value.TheVariants as value
 use Rattle.links.specs.LegalSets.{AreKinds}
-use Rattle.links.specs.Links.{text_of}
 use Rattle.web_uris.specs.Addresses.{uri_part}
 use Rattle.models.specs.Legal.{is_short, kinds_of, is_short_text}
 use Rattle.models.specs.Reading.{Reading, at_end, has_feature, is_live, is_node_live, is_repeat, is_value_live, place_for, takes, has_uri}
 use Rattle.containment.proofs.PartLemmas.{object-reference}
 use Rattle.handshake.specs.Named.{feature_refusal, many_refusal, node_refusal, single_refusal, value_refusal}
-use Rattle.handshake.specs.Refusals.{add_refusal, early_refusal, gain_refusal, is_at_limit, is_full_at, is_recursive, is_mistyped, is_there_already, late_refusal, link_refusal, of_either, proxy_at, resolve_refusal, set_refusal, type_refusal, uri_refusal}
+use Rattle.handshake.specs.Refusals.{add_refusal, early_refusal, gain_refusal, is_at_limit, is_full_at, is_mistyped, is_recursive, is_there_already, late_refusal, link_refusal, of_either, resolve_refusal, set_refusal, target_refusal, type_refusal, uri_refusal}
+use Rattle.handshake.specs.Resolving.{is_unmatched, proxy_at, target_at}
+use Rattle.handshake.specs.declared.target.Target.{Target}
+use Rattle.handshake.proofs.TargetLemmas.{IsFound, found-is}
 use Rattle.handshake.specs.declared.change.Change.TheVariants.{Set, Unset, Add, Remove, RemoveValue, Move, Delete, Resolve}
 use Rattle.std.proofs.lemmas.Bool.Decides.{nat_tests}
 use Rattle.mm_types.specs.declared.limits.TheConstants.{RESOURCES}
@@ -163,19 +161,19 @@ take-named r n f v h = many-named r n f v h
 pub move-named : (r : Reading) (n : Node) (f : FeatureNo) (to from : ℕ) → early_refusal r (Move n f to from) ≡ None → (has_feature r n f ≡ true) × ((shape r.metamodel f).is_single ≡ false)
 move-named r n f to from h = list-named r n f h
 
-pub resolve-named : (r : Reading) (o : ObjectNo) (f : FeatureNo) (i : ℕ) (b : Option ObjectNo) → early_refusal r (Resolve o f i b) ≡ None → has_feature r (node.Object o) f ≡ true
-resolve-named r o f i b h = feature-named r (node.Object o) f h
+pub resolve-named : (r : Reading) (o : ObjectNo) (f : FeatureNo) (i : ℕ) → early_refusal r (Resolve o f i) ≡ None → has_feature r (node.Object o) f ≡ true
+resolve-named r o f i h = feature-named r (node.Object o) f h
 
 ---------------------------------------------------------------- late refusals
 
--- a proxy stands at the place, and an object of the reference's type, which is not in the list, may take it
-pub record IsResolvable (r : Reading) (e : End) (i : ℕ) (o : ObjectNo) : Type 0 where
+-- a proxy stands at the index, and an object of the reference's type, which is not in the list, may take its place
+pub record IsResolvable (r : Reading) (e : End) (i : ℕ) (x : Target) : Type 0 where
   pub reference : (shape r.metamodel e.feature).is_reference ≡ true
   pub low : nat_lt i (length (r.values e)) ≡ true
-  pub takes : takes r e.feature (value.Object o) ≡ true
-  pub absent : has_value (r.values e) (value.Object o) ≡ false
-  pub text : List ℕ
-  pub proxy : slice_get (r.values e) i ≡ Some (value.Proxy text)
+  pub takes : takes r e.feature (value.Object x.object) ≡ true
+  pub absent : has_value (r.values e) (value.Object x.object) ≡ false
+  pub found : IsFound r e i x
+  pub matched : is_unmatched r e x ≡ false
 
 not-true : (a : Bool) → not a ≡ false → a ≡ true
 not-true true h = refl
@@ -185,48 +183,53 @@ or-none : (a b : Bool) → (a || b) ≡ false → (a ≡ false) × (b ≡ false)
 or-none true b h = absurd (false≢true (sym h))
 or-none false b h = (refl, h)
 
-text-is : (v : Value) → is_some (text_of v) ≡ true → (t : List ℕ) × (v ≡ value.Proxy t)
-text-is (value.Proxy t) h = (t, refl)
-text-is _ h = absurd (false≢true h)
+-- none of the reasons holds for which a proxy can't be resolved to what it finds
+record IsUnrefused (r : Reading) (e : End) (i : ℕ) (q : Option Target) : Type 0 where
+  pub typed : is_mistyped r e q ≡ false
+  pub low : nat_lt i (length (r.values e)) ≡ true
+  pub absent : is_there_already r e q ≡ false
+  pub led : is_some q ≡ true
+  pub matched : option_map_or (is_unmatched r e) q false ≡ false
 
-text-at : (q : Option Value) → is_some (option_and_then text_of q) ≡ true → (t : List ℕ) × (q ≡ Some (value.Proxy t))
-text-at None h = absurd (false≢true h)
-text-at (Some v) h = let is = text-is v h in (is.0, ap (λ (w : Value). Some w) is.1)
-
--- a proxy is resolved where an object is at its address
-target-some : (r : Reading) (e : End) (i : ℕ) (b : Option ObjectNo) → resolve_refusal r e i b ≡ None → is_some b ≡ true
-target-some r e i b h =
-    let last = Unresolved unless is_some b in
-    let loaded = Unloaded where_so option_map_or (λ t. not (has_uri r (uri_part t))) (proxy_at r e i) false in
-    let proxy = NotProxy unless is_some (proxy_at r e i) in
-    let there = Duplicate where_so is_there_already r e b in
-    let index = Index unless nat_lt i (length (r.values e)) in
-    let type = WrongType where_so is_mistyped r e b in
-    let one = none-else_by type (index else_by there else_by proxy else_by loaded else_by last) h in
-    let two = none-else_by index (there else_by proxy else_by loaded else_by last) one.1 in
-    let three = none-else_by there (proxy else_by loaded else_by last) two.1 in
-    let four = none-else_by proxy (loaded else_by last) three.1 in
-    none-unless Unresolved (is_some b) (none-else_by loaded last four.1).1
-
-pub unresolved : (r : Reading) (e : End) (i : ℕ) → resolve_refusal r e i None ≡ None → ⊥
-unresolved r e i h = false≢true (target-some r e i None h)
-
-pub resolvable : (r : Reading) (e : End) (i : ℕ) (o : ObjectNo) → resolve_refusal r e i (Some o) ≡ None → IsResolvable r e i o
-resolvable r e i o h =
-    let type = none-else_by _ _ h in
-    let index = none-else_by _ _ type.1 in
-    let there = none-else_by _ _ index.1 in
-    let proxy = none-else_by _ _ there.1 in
-    let typed = or-none (not (shape r.metamodel e.feature).is_reference) (not (takes r e.feature (value.Object o))) (none-where_so WrongType _ type.0) in
-    let stands = text-at (slice_get (r.values e) i) (none-unless NotProxy _ proxy.0) in
+unrefused : (r : Reading) (e : End) (i : ℕ) (q : Option Target) → target_refusal r e i q ≡ None → IsUnrefused r e i q
+unrefused r e i q h =
+    let seven = Unmatched where_so option_map_or (is_unmatched r e) q false in
+    let six = Unresolved unless is_some q else_by seven in
+    let five = Unloaded where_so option_map_or (λ t. not (has_uri r (uri_part t))) (proxy_at r e i) false else_by six in
+    let four = NotProxy unless is_some (proxy_at r e i) else_by five in
+    let three = Duplicate where_so is_there_already r e q else_by four in
+    let two = Index unless nat_lt i (length (r.values e)) else_by three in
+    let type = none-else_by (WrongType where_so is_mistyped r e q) two h in
+    let index = none-else_by (Index unless nat_lt i (length (r.values e))) three type.1 in
+    let there = none-else_by (Duplicate where_so is_there_already r e q) four index.1 in
+    let proxy = none-else_by (NotProxy unless is_some (proxy_at r e i)) five there.1 in
+    let loaded = none-else_by (Unloaded where_so option_map_or (λ t. not (has_uri r (uri_part t))) (proxy_at r e i) false) six proxy.1 in
+    let led = none-else_by (Unresolved unless is_some q) seven loaded.1 in
     record {
-      reference = not-true _ typed.0;
-      low = none-unless Index _ index.0;
-      takes = not-true _ typed.1;
-      absent = none-where_so Duplicate _ there.0;
-      text = stands.0;
-      proxy = stands.1;
+      typed = none-where_so WrongType (is_mistyped r e q) type.0;
+      low = none-unless Index (nat_lt i (length (r.values e))) index.0;
+      absent = none-where_so Duplicate (is_there_already r e q) there.0;
+      led = none-unless Unresolved (is_some q) led.0;
+      matched = none-where_so Unmatched (option_map_or (is_unmatched r e) q false) led.1;
     }
+
+resolvable-to : (r : Reading) (e : End) (i : ℕ) (x : Target) → IsFound r e i x → IsUnrefused r e i (Some x) → IsResolvable r e i x
+resolvable-to r e i x found h =
+    let typed = or-none (not (shape r.metamodel e.feature).is_reference) (not (takes r e.feature (value.Object x.object))) h.typed in
+    record { reference = not-true _ typed.0; low = h.low; takes = not-true _ typed.1; absent = h.absent; found = found; matched = h.matched }
+
+-- what a proxy finds that nothing keeps from being resolved
+pub record IsResolved (r : Reading) (e : End) (i : ℕ) : Type 0 where
+  pub target : Target
+  pub is : target_at r e i ≡ Some target
+  pub resolvable : IsResolvable r e i target
+
+pub resolvable : (r : Reading) (e : End) (i : ℕ) → resolve_refusal r e i ≡ None → IsResolved r e i
+resolvable r e i h = by (target_at r e i) refl h
+  where
+    by : (q : Option Target) → target_at r e i ≡ q → target_refusal r e i q ≡ None → IsResolved r e i
+    by None is allowed = absurd (false≢true (unrefused r e i None allowed).led)
+    by (Some x) is allowed = record { target = x; is = is; resolvable = resolvable-to r e i x (found-is r e i x is) (unrefused r e i (Some x) allowed) }
 
 -- a value is one of the feature's type, and short
 pub record IsTyped (r : Reading) (f : FeatureNo) (v : Value) : Type 0 where

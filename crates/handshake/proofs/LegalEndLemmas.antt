@@ -146,6 +146,15 @@ length-put (y ∷ ys) (suc i) x = ap suc (length-put ys i x)
 
 ---------------------------------------------------------------- a new link
 
+-- an object that a reference takes has the opposite, which takes the node that refers
+pub takes-back : (s : Model) → IsLegal s → (e : End) (o : ObjectNo) → has_feature (reading s) e.node e.feature ≡ true → takes (reading s) e.feature (value.Object o) ≡ true → (g : FeatureNo) → (shape s.metamodel e.feature).opposite ≡ Some g
+    → (has_feature (reading s) (node.Object o) g ≡ true) × (is_legal_target (reading s) g (node_value e.node) ≡ true)
+takes-back s legal e o has taken g opposite =
+    let there = feature-there (reading s) e.node e.feature g opposite has in
+    let near : meta.class_has s.metamodel (class_of s.values) there.object e.feature ≡ true = rw there.class_is there.has in
+    let fit = far_types_fit s.metamodel legal.metamodel (class_of s.values) there.object o e.feature g opposite near taken in
+    (fit.0, subst (λ (n : Node). is_legal_target (reading s) g (node_value n) ≡ true) (sym there.node) fit.1)
+
 module _ (s : Model) (legal : IsLegal s) (e : End) (o : ObjectNo) (new : IsNewLink s e o) (taken : takes (reading s) e.feature (value.Object o) ≡ true) where
   abbrev left : Links
   left = without_displaced s e o
@@ -166,11 +175,7 @@ module _ (s : Model) (legal : IsLegal s) (e : End) (o : ObjectNo) (new : IsNewLi
       (subst (λ (n : ℕ). is_full_list a n ≡ false) same room) (λ one. ap (λ (vs : List Value). length vs) (empty (single-of s.metamodel d.feature one)))
 
   far-legal : (g : FeatureNo) → (shape s.metamodel e.feature).opposite ≡ Some g → (has_feature (reading s) (node.Object o) g ≡ true) × (is_legal_target (reading s) g (node_value e.node) ≡ true)
-  far-legal g opposite =
-      let there = feature-there (reading s) e.node e.feature g opposite new.has in
-      let near : meta.class_has s.metamodel (class_of s.values) there.object e.feature ≡ true = rw there.class_is there.has in
-      let fit = far_types_fit s.metamodel legal.metamodel (class_of s.values) there.object o e.feature g opposite near taken in
-      (fit.0, subst (λ (n : Node). is_legal_target (reading s) g (node_value n) ≡ true) (sym there.node) fit.1)
+  far-legal = takes-back s legal e o new.has taken
 
   near-put : (i : ℕ) (d : End) → same_end e d ≡ true → is_legal_end (reading s) d (insert (end left d) i (value.Object o)) ≡ true
   near-put i d h =

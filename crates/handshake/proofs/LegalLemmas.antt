@@ -46,7 +46,7 @@ use Rattle.loading.proofs.TypedLemmas.{read-typed}
 use Rattle.containment.proofs.PartLemmas.{object-reference}
 use Rattle.handshake.specs.declared.change.Change.{Change}
 use Rattle.handshake.specs.declared.change.Change.TheVariants.{Create, Set, Unset, Add, Remove, RemoveValue, Move, Delete, NewResource, Resolve, Load}
-use Rattle.handshake.specs.Displaced.{cut_by_new, cut_by_set, cut_ties, is_plain_add, is_plain_set, tie_in}
+use Rattle.handshake.specs.Displaced.{cut_by_new, cut_by_set, cut_ties, is_plain_add, is_plain_set}
 use Rattle.handshake.specs.Edits.{link_edits}
 use Rattle.handshake.specs.Effects.{add_value, after, links_after, put_by, put_under, take_value, value_edits, with_value}
 use Rattle.handshake.specs.Laws.{KeepsLegal, IsBrought, goes_with}
@@ -55,9 +55,7 @@ use Rattle.handshake.specs.Tellings.{loaded_by}
 use Rattle.handshake.specs.Refusals.{early_refusal, gain_refusal, is_at_limit, is_full_at, late_refusal}
 use Rattle.handshake.proofs.CutTieLemmas.{left-cuts, values-linked}
 use Rattle.removal.specs.Laws.{names_of}
-use Rattle.handshake.proofs.ResolveLemmas.{one-cut, resolved-legal}
-use Rattle.removal.specs.declared.tie.Tie.{Tie}
-use Rattle.handshake.proofs.KnownLemmas.{add-gains, add-named, add-taken, kinds-are, move-named, move-placed, none-else_by, none-unless, none-where_so, remove-named, resolvable, resource-keeps-none, set-named, set-taken, set-there, take-named, uri-taken, unresolved}
+use Rattle.handshake.proofs.KnownLemmas.{add-gains, add-named, add-taken, kinds-are, move-named, move-placed, none-else_by, none-unless, none-where_so, remove-named, resource-keeps-none, set-named, set-taken, set-there, take-named, uri-taken}
 use Rattle.handshake.proofs.LegalEndLemmas.{HaveClasses, IsUntouched, cut-end, legal-end-kept, none_goes, put-end, shifted-end, untouched-end}
 use Rattle.handshake.proofs.LinkLemmas.{below-limit, near-empty, without_displaced}
 use Rattle.handshake.proofs.LoadEndLemmas.{linked-legal, no-fewer, same-classes}
@@ -72,6 +70,8 @@ use Rattle.web_uris.specs.Joined.{IsJoined}
 use Rattle.handshake.proofs.ProxyLemmas.{proxies-after, read-brings}
 use Rattle.web_uris.specs.Addresses.{IsProxyText}
 use Rattle.handshake.proofs.ObjectLegalLemmas.{class-append, class-put, created, has-of, keeps-taken, legal-at, nothing-legal, one-legal, put-at, put-legal}
+use Rattle.handshake.proofs.ResolvedLemmas.{resolved-as}
+use Rattle.handshake.proofs.ResolveLemmas.{alone-legal, joint-legal}
 
 ---------------------------------------------------------------- the objects after a change
 
@@ -265,7 +265,7 @@ values-after s (NewResource u) legal early late read is =
     let uri = uri-taken (reading s) u late in
     let us = with-new s.values.uris u legal.uris is uri.short uri.room uri.free in
     record { count = legal.count; objects = legal.objects; classes = λ o stays c h. h; uris = us.0; more = us.1 }
-values-after s (Resolve o f i b) legal early late read brought = same-values s legal
+values-after s (Resolve o f i) legal early late read brought = same-values s legal
 values-after s (Set (node.Object o) f v) legal early late read brought =
     let m = s.metamodel in
     let ask = set-taken (reading s) (node.Object o) f v late in
@@ -376,14 +376,10 @@ ends-by-pairs s (Move n f to from) none legal early late d =
       | true ↦ λ reference. move-ends s n f to from legal late reference d
       | false ↦ λ _. legal.links.ends d
     ] refl
-ends-by-pairs s (Resolve o f i None) none legal early late d = absurd (unresolved (reading s) (at_end (node.Object o) f) i late)
-ends-by-pairs s (Resolve o f i (Some x)) none legal early late d =
-    let r = reading s in
-    let e = at_end (node.Object o) f in
-    let is = resolvable r e i x late in
-    let made : List Tie → Links = λ ts. with_value (without_all s.links (names_of ts)) r e (Some i) (value.Object x) in
-    subst (λ (b : Bool). is_legal_end r d (end (made (if b then tie_in r e i else [])) d) ≡ true) (sym is.reference)
-    (subst (λ (ts : List Tie). is_legal_end r d (end (made ts) d) ≡ true) (sym (one-cut s legal e i x is)) (resolved-legal s legal e i x is d))
+ends-by-pairs s (Resolve o f i) none legal early late d =
+    resolved-as s legal (at_end (node.Object o) f) i late (λ ts xs us u. is_legal_end (reading s) d (end u d) ≡ true)
+    (λ x is alone. alone-legal s legal _ i x is alone d)
+    (λ x is g opposite j text stands. joint-legal s legal _ i x is g opposite j text stands d)
 ends-by-pairs s (Load k doc) none legal early late d = absurd (none-some doc (sym none))
 
 ends-after : (s : Model) (c : Change) → loaded_by c ≡ None → IsLegal s → early_refusal (reading s) c ≡ None → late_refusal (reading s) c ≡ None → (d : End)
@@ -423,7 +419,7 @@ untouched-after s (Remove n f i) legal e = untouched-end e _
 untouched-after s (RemoveValue n f v) legal e = untouched-end e _
 untouched-after s (Move n f to from) legal e = untouched-end e _
 untouched-after s (Load k doc) legal e = untouched-end e _
-untouched-after s (Resolve o f i b) legal e = untouched-end e _
+untouched-after s (Resolve o f i) legal e = untouched-end e _
 
 -- a load leaves legal ends, and so does each other change
 load-ends : (s : Model) (c : Change) (doc : Doc) → loaded_by c ≡ Some doc → IsLegal s → early_refusal (reading s) c ≡ None → late_refusal (reading s) c ≡ None → HasReadDocument s.metamodel c → (d : End)

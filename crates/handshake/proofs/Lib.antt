@@ -23,9 +23,12 @@ mod LoadValueLemmas
 pub mod LossLemmas
 mod ObjectLegalLemmas
 pub mod PlanLemmas
+mod PositionLemmas
 pub mod ProxyLemmas
 pub mod RelinkLemmas
 pub mod ReplayLemmas
 mod ResolveLemmas
+mod ResolvedLemmas
+mod TargetLemmas
 pub mod TellingLemmas
 pub mod TieNameLemmas

@@ -37,7 +37,8 @@ use Rattle.models.proofs.PlaceLemmas.{has-at}
 use Rattle.models.specs.Legal.{IsLegal, kinds_of}
 use Rattle.models.specs.Model.{Model, reading}
 use Rattle.models.specs.Reading.{Reading, has_feature, is_repeat, is_within, shape_at}
-use Rattle.handshake.specs.Displaced.{has_already, opposite_end, yields}
+use Rattle.handshake.specs.Displaced.{has_already, yields}
+use Rattle.handshake.specs.Resolving.{opposite_end}
 use Rattle.handshake.specs.Refusals.{is_at_limit, is_recursive_for, of_either}
 use Rattle.handshake.proofs.CutTieLemmas.{freed, near-emptied, values-linked}
 use Rattle.removal.specs.Laws.{names_of}
@@ -82,6 +83,13 @@ many-lacks s e o reference new k at =
     let has = has-at (end s.links e) (value.Object o) k at in
     let repeat : is_repeat (reading s) e (value.Object o) ≡ true = rw (reference-unique s.metamodel e.feature reference, values-linked s e reference) has in
     false≢true (sym new ∙ repeat)
+
+-- the far end of a link that an end lacks, lacks the node
+pub lacks-far : (s : Model) → IsLegal s → (e : End) (o : ObjectNo) → Lacks s.links e (value.Object o) → (g : FeatureNo) → (shape s.metamodel e.feature).opposite ≡ Some g → Lacks s.links (far_end o g) (node_value e.node)
+lacks-far s legal e o lacks g opposite k at =
+    let back = (opposites_are_pairs s.metamodel legal.metamodel e.feature g opposite).back in
+    let there : Has s.links e (value.Object o) = both_ends_agree (kinds_of s.metamodel) s.links legal.links.set legal.links.kinds (far_end o g) e back (k, at) in
+    lacks there.0 there.1
 
 ---------------------------------------------------------------- a link that may be made
 
@@ -168,12 +176,8 @@ module _ (s : Model) (legal : IsLegal s) (e : End) (o : ObjectNo) (new : IsNewLi
       let less = fewer-left d in
       omega (arith, was, less)
 
-  -- the far end lacks the node too
   pub far-lacks : (g : FeatureNo) → (shape s.metamodel e.feature).opposite ≡ Some g → Lacks s.links (far_end o g) (node_value e.node)
-  far-lacks g opposite k at =
-      let back = (opposites_are_pairs s.metamodel legal.metamodel e.feature g opposite).back in
-      let there : Has s.links e (value.Object o) = both_ends_agree (kinds_of s.metamodel) s.links legal.links.set legal.links.kinds (far_end o g) e back (k, at) in
-      new.lacks there.0 there.1
+  far-lacks = lacks-far s legal e o new.lacks
 
   far-fits : (q : Option FeatureNo) → (shape s.metamodel e.feature).opposite ≡ q → FarFitsIn left e o q
   far-fits None opposite = tt

@@ -1,5 +1,5 @@
 -- The edits of links that make a change: they fit, are of the metamodel's names_of, make no cycle, and make what the change makes of links.
-use Rattle.std.proofs.Common.{◌≡◌, ℕ, ◌<◌, ◌≤◌, nat_lt, unwrap_or, option_to_list, Bool, true, false, List, [], ◌∷◌, ◌++◌, length, map, Option, Some, None, if◌then◌else◌, refl, sym, ap, ◌∙◌, subst, arith}
+use Rattle.std.proofs.Common.{◌≡◌, ℕ, ◌<◌, ◌≤◌, nat_lt, unwrap_or, option_to_list, Bool, true, false, List, [], ◌∷◌, ◌++◌, length, map, Option, Some, None, if◌then◌else◌, refl, sym, ap, ◌∙◌, subst, arith, slice_get, ◌-◌}
 use Rattle.std.proofs.lemmas.Bool.Decides.{nat_tests}
 use Rattle.mm_types.specs.Shapes.{shape}
 use Rattle.mm_types.specs.declared.end.End.{End}
@@ -12,7 +12,7 @@ use Rattle.mm_types.specs.declared.value.Value.{Value}
 use Rattle.mm_types.specs.declared.value.Value.TheVariants as value
 use Rattle.links.specs.declared.plan.Edit.{Edit}
 use Rattle.links.specs.Laws.{cut_edits, without_all}
-use Rattle.links.specs.Links.{Links, end, put, shift}
+use Rattle.links.specs.Links.{Links, end, put, shift, far_end}
 use Rattle.links.specs.Plans.{IsPlanOfKind, PlanFits, PlanMakesNoCycle, applied}
 use Rattle.links.specs.declared.plan.Edit.TheVariants as edit
 use Rattle.links.proofs.CutNamedLemmas.{applied-cut_edits, cuts_fit, cuts_of_kind, cuts_without_cycle}
@@ -29,18 +29,20 @@ use Rattle.handshake.specs.declared.change.Change.{Change}
 use Rattle.handshake.specs.declared.change.Change.TheVariants.{Create, Set, Unset, Add, Remove, RemoveValue, Move, Delete, NewResource, Resolve, Load}
 use Rattle.handshake.specs.declared.planned.Planned.{Planned}
 use Rattle.removal.specs.declared.tie.Tie.{Tie}
-use Rattle.handshake.specs.Tellings.{chain}
-use Rattle.handshake.specs.Displaced.{cut_by_new, cut_by_set, cut_ties, has_already, is_plain_add, is_plain_set, tie_in}
+use Rattle.handshake.specs.Tellings.{chain, target_of}
+use Rattle.handshake.specs.Displaced.{cut_by_new, cut_by_set, cut_ties, has_already, is_plain_add, is_plain_set}
 use Rattle.handshake.specs.Edits.{cut_of, link_edits, made_edits, new_put}
 use Rattle.handshake.specs.Effects.{links_after, put_by, value_edits, with_value}
 use Rattle.handshake.specs.Plans.{HasReadDocument, IsDocument, IsPlanOf, IsRemovalOf}
 use Rattle.handshake.specs.Refusals.{early_refusal, late_refusal, link_refusal}
-use Rattle.handshake.proofs.KnownLemmas.{IsResolvable, add-gains, add-named, add-taken, kinds-are, linkable, move-placed, resolvable, set-named, set-taken, unresolved}
+use Rattle.handshake.proofs.KnownLemmas.{IsResolvable, add-gains, add-named, add-taken, kinds-are, linkable, move-placed, set-named, set-taken}
 use Rattle.handshake.proofs.LoadLemmas.{load-makes}
 use Rattle.handshake.proofs.LinkLemmas.{IsNewLink, many-lacks, near-empty, near-same, new-fits, new-outside, new_edit, single-lacks, without_displaced}
-use Rattle.handshake.proofs.ResolveLemmas.{one-cut, resolve-fits, resolve-outside}
 use Rattle.handshake.proofs.CutTieLemmas.{cuts-once, cuts-there, left-cuts, plain-not, values-linked}
 use Rattle.removal.specs.Laws.{names_of}
+use Rattle.handshake.proofs.ResolveLemmas.{alone-fits, alone-outside, both, joint, joint-fits, joint-outside, last-index, left, shift-fits}
+use Rattle.handshake.proofs.ResolvedLemmas.{resolved-as}
+use Rattle.handshake.specs.declared.target.Target.{Target}
 
 ---------------------------------------------------------------- new links
 
@@ -140,12 +142,20 @@ move-puts s n f to from late reference =
     record { fits = ((below from _ low_from, below to _ low_to), tt); of_kind = (tt, tt); no_cycle = (tt, tt); makes = refl }
 
 -- of a proxy that is resolved
-resolve-puts : (s : Model) (legal : IsLegal s) (e : End) (i : ℕ) (o : ObjectNo) → IsResolvable (reading s) e i o
-    → ArePuts s (without_all s.links (names_of (tie_in (reading s) e i))) (option_to_list (new_put (reading s) e i (value.Object o))) (with_value (without_all s.links (names_of (tie_in (reading s) e i))) (reading s) e (Some i) (value.Object o))
-resolve-puts s legal e i o is =
-    let a = shape s.metamodel e.feature in
-    subst (λ (ts : List Tie). let t = without_all s.links (names_of ts) in ArePuts s t (new_edit s e i o ∷ []) (put t e i o a.opposite a.containing)) (sym (one-cut s legal e i o is))
-    (record { fits = (resolve-fits s legal e i o is, tt); of_kind = ((refl, refl), tt); no_cycle = (resolve-outside s legal e i o is, tt); makes = refl })
+joint-puts : (s : Model) (legal : IsLegal s) (e : End) (i : ℕ) (x : Target) (is : IsResolvable (reading s) e i x) (g : FeatureNo) (opposite : (shape s.metamodel e.feature).opposite ≡ Some g) (j : ℕ) (text : List ℕ)
+    (stands : slice_get ((reading s).values (far_end x.object g)) j ≡ Some (value.Proxy text))
+    → (let d = far_end x.object g in let t = left s legal e i x is (both s legal e i x is g opposite j text stands) in
+    ArePuts s t (new_edit s e i x.object ∷ edit.Shift d j (length ((reading s).values d) - 1) ∷ []) (joint s legal e i x is g opposite j text stands))
+joint-puts s legal e i x is g opposite j text stands =
+    let d = far_end x.object g in
+    let t = left s legal e i x is (both s legal e i x is g opposite j text stands) in
+    subst (λ (n : ℕ). ArePuts s t (new_edit s e i x.object ∷ edit.Shift d j n ∷ []) (joint s legal e i x is g opposite j text stands)) (last-index s legal e i x is g opposite j text stands)
+    (record {
+      fits = (joint-fits s legal e i x is g opposite j text stands, (shift-fits s legal e i x is g opposite j text stands, tt));
+      of_kind = ((refl, refl), (tt, tt));
+      no_cycle = (joint-outside s legal e i x is g opposite j text stands, (tt, tt));
+      makes = refl;
+    })
 
 -- of a document that is loaded
 load-puts : (s : Model) (k : ResourceNo) (doc : Doc) → IsLegal s → late_refusal (reading s) (Load k doc) ≡ None → IsDocument s.metamodel doc
@@ -184,13 +194,10 @@ are-puts s (Move n f to from) legal early late read =
       | true ↦ λ reference. move-puts s n f to from late reference
       | false ↦ λ _. no-puts s s.links
     ] refl
-are-puts s (Resolve o f i None) legal early late read = absurd (unresolved (reading s) (at_end (node.Object o) f) i late)
-are-puts s (Resolve o f i (Some x)) legal early late read =
-    let r = reading s in
-    let e = at_end (node.Object o) f in
-    let is = resolvable r e i x late in
-    subst (λ (b : Bool). let t = without_all s.links (names_of (if b then tie_in r e i else [])) in ArePuts s t (option_to_list (new_put r e i (value.Object x))) (with_value t r e (Some i) (value.Object x))) (sym is.reference)
-    (resolve-puts s legal e i x is)
+are-puts s (Resolve o f i) legal early late read =
+    resolved-as s legal (at_end (node.Object o) f) i late (λ ts xs us u. ArePuts s (without_all s.links (names_of ts)) xs u)
+    (λ x is alone. record { fits = (alone-fits s legal _ i x is alone, tt); of_kind = ((refl, refl), tt); no_cycle = (alone-outside s legal _ i x is alone, tt); makes = refl })
+    (λ x is g opposite j text stands. joint-puts s legal _ i x is g opposite j text stands)
 are-puts s (Load k doc) legal early late read = load-puts s k doc legal late read
 
 ---------------------------------------------------------------- the whole plan
@@ -231,13 +238,14 @@ module _ (s : Model) (c : Change) (legal : IsLegal s) (early : early_refusal (re
       subst (λ (ys : List Edit). IsPlanFor s c (ys ++ xs)) (sym (cut_edits-pairs (cut_ties (reading s) c))) whole
 
 -- what planning gives, by its parts
-pub planned : (is_heard : Bool) (s : Model) (c : Change) (p : Planned) → IsLegal s → early_refusal (reading s) c ≡ None → late_refusal (reading s) c ≡ None → HasReadDocument s.metamodel c → IsRemovalOf (reading s) c p.removal
+pub planned : (is_heard : Bool) (s : Model) (c : Change) (p : Planned) → IsLegal s → early_refusal (reading s) c ≡ None → late_refusal (reading s) c ≡ None → HasReadDocument s.metamodel c → IsRemovalOf (reading s) c p.removal → p.target ≡ target_of (reading s) c
     → p.edits ≡ link_edits (reading s) c → p.values ≡ value_edits (reading s) c → p.chain ≡ (if is_heard then chain (reading s) c else []) → IsPlanOf is_heard s c p
-planned is_heard s c p legal early late read removed edits lists tells =
+planned is_heard s c p legal early late read removed found edits lists tells =
     let plan = subst (IsPlanFor s c) (sym edits) (plan-for s c legal early late read) in
     record {
       allowed = late;
       removed = removed;
+      found = found;
       fits = plan.fits;
       of_kind = plan.of_kind;
       links_made = plan.makes;

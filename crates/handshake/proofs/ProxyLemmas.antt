@@ -45,7 +45,9 @@ use Rattle.handshake.specs.declared.change.Change.TheVariants.{Create, Set, Unse
 use Rattle.handshake.specs.Displaced.{cut_ties, is_plain_add, is_plain_set}
 use Rattle.handshake.specs.Plans.{HasReadDocument}
 use Rattle.handshake.specs.Laws.{BringsSteadyTexts, KeepsSteady}
-use Rattle.handshake.specs.Effects.{add_value, if_attribute, links_after, links_left, of_object, put_by, put_under, take_value, value_edits, with_value}
+use Rattle.handshake.specs.Effects.{add_value, if_attribute, links_after, links_left, of_object, put_by, put_under, take_value, value_edits, with_value, joined, put_back}
+use Rattle.handshake.specs.Resolving.{target_at}
+use Rattle.handshake.specs.declared.target.Target.{Target}
 
 ---------------------------------------------------------------- links
 
@@ -117,6 +119,12 @@ module _ (Holds : List ℕ → Type 0) where
   value-of s r e i (value.Object o) of = put-of s e (unwrap_or i (length (end s e))) o (shape_at r e).opposite (shape_at r e).containing of
   value-of s r e i _ of = of
 
+  joined-of : (s : Links) (r : Reading) (e : End) (i : ℕ) (x : Target) → OfProxies Holds s → OfProxies Holds (joined s r e i x)
+  joined-of s r e i x of =
+      let t = with_value s r e (Some i) (value.Object x.object) in
+      let placed = value-of s r e (Some i) (value.Object x.object) of in
+      elim x.counterpart as (λ q. OfProxies Holds (option_map_or (λ c. put_back t (length (end s c.end)) c) q t)) [ None ↦ placed | Some c ↦ shift-of t c.end c.index (length (end s c.end)) placed ]
+
   inserted-of : (ls : List Link) (s : Links) → AllByRecursion (OfLink Holds) ls → OfProxies Holds s → OfProxies Holds (with_links s ls)
   unfolding with_links
   inserted-of [] s all of = of
@@ -137,8 +145,9 @@ module _ (Holds : List ℕ → Type 0) where
   put_by-of s r (Move n f to from) brings of =
       let e = at_end n f in
       elim (shape_at r e).is_reference as (λ b. OfProxies Holds (if b then shift s e to from else s)) [ true ↦ shift-of s e to from of | false ↦ of ]
-  put_by-of s r (Resolve o f i None) brings of = of
-  put_by-of s r (Resolve o f i (Some x)) brings of = value-of s r (at_end (node.Object o) f) (Some i) (value.Object x) of
+  put_by-of s r (Resolve o f i) brings of =
+      let e = at_end (node.Object o) f in
+      elim (target_at r e i) as (λ q. OfProxies Holds (option_map_or (joined s r e i) q s)) [ None ↦ of | Some x ↦ joined-of s r e i x of ]
   put_by-of s r (Load k doc) brings of = inserted-of (loaded_links r.metamodel r.next k doc) s (loaded-proxies Holds r.metamodel r.next doc k brings) of
   put_by-of s r _ brings of = of
 
@@ -221,7 +230,7 @@ module _ (Holds : List ℕ → Type 0) where
       attribute-of r (at_end n f) (of_object n move) (object-of n move (λ o. tt))
   edits-of r (Delete o) brings = all-map OfEdit DropObject (subtree r o) (all-every (λ p. OfEdit (DropObject p)) (subtree r o) (λ p. tt))
   edits-of r (NewResource u) brings = (brings, tt)
-  edits-of r (Resolve o f i b) brings = tt
+  edits-of r (Resolve o f i) brings = tt
   edits-of r (Load k doc) brings = loaded-of r.metamodel r.next doc
 
   pub uris-after : (v : ValuesState) (r : Reading) (c : Change) → BringsUri c → All Holds v.uris → All Holds (applied v (value_edits r c)).uris

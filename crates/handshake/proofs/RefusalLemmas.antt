@@ -5,7 +5,7 @@ use Rattle.std.specs.Option.{option_map_or}
 use Rattle.mm_types.specs.Conditions.{◌else_by◌, ◌unless◌, ◌where_so◌}
 use Rattle.mm_types.specs.declared.limits.TheConstants.{OBJECTS, RESOURCES}
 use Rattle.mm_types.specs.declared.refused.Refused.{Refused}
-use Rattle.mm_types.specs.declared.refused.Refused.TheVariants.{WrongType, TextLength, Index, Duplicate, Bound, Recursive, Limit, ResourceExists, NotEmpty, NotProxy, Unloaded, Unresolved}
+use Rattle.mm_types.specs.declared.refused.Refused.TheVariants.{WrongType, TextLength, Index, Duplicate, Bound, Recursive, Limit, ResourceExists, NotEmpty, NotProxy, Unloaded, Unresolved, Unmatched}
 use Rattle.mm_types.specs.declared.end.End.{End}
 use Rattle.mm_types.specs.declared.numbers.FeatureNo.{FeatureNo}
 use Rattle.mm_types.specs.declared.numbers.Node.TheVariants as node
@@ -18,9 +18,11 @@ use Rattle.models.specs.Reading.{Reading, at_end, has_uri, is_repeat, place_for,
 use Rattle.loading.specs.Loading.{is_empty_resource}
 use Rattle.handshake.specs.Displaced.{has_already}
 use Rattle.handshake.specs.Plans.{is_memory_refusal}
-use Rattle.handshake.specs.Refusals.{count_at, gain_refusal, is_at_limit, is_full_at, is_mistyped, is_recursive, is_there_already, late_refusal, link_refusal, of_either, proxy_at, resolve_refusal, set_refusal, type_refusal, uri_refusal}
+use Rattle.handshake.specs.Refusals.{count_at, gain_refusal, is_at_limit, is_full_at, is_mistyped, is_recursive, is_there_already, late_refusal, link_refusal, of_either, set_refusal, type_refusal, uri_refusal, target_refusal}
 use Rattle.handshake.specs.declared.change.Change.{Change}
 use Rattle.handshake.specs.declared.change.Change.TheVariants.{Create, Set, Unset, Add, Remove, RemoveValue, Move, Delete, NewResource, Resolve, Load}
+use Rattle.handshake.specs.Resolving.{is_unmatched, proxy_at, target_at}
+use Rattle.handshake.specs.declared.target.Target.{Target}
 
 -- no refusal of these
 abbrev pub IsNot : (Refused → Bool) → Option Refused → Type 0
@@ -58,6 +60,7 @@ pub record IsNeverLate (q : Refused → Bool) : Type 0 where
   pub not_proxy : q NotProxy ≡ false
   pub unloaded : q Unloaded ≡ false
   pub unresolved : q Unresolved ≡ false
+  pub unmatched : q Unmatched ≡ false
 
 module _ (q : Refused → Bool) (never : IsNeverLate q) where
   link-not : (r : Reading) (e : End) (o : ObjectNo) → IsNot q (link_refusal r e o)
@@ -96,14 +99,15 @@ module _ (q : Refused → Bool) (never : IsNeverLate q) where
       later-not q _ _ (unless-not q TextLength (is_short_text u) never.text_length)
       (later-not q _ _ (unless-not q Limit (nat_lt (length r.uris) RESOURCES) never.limit) (where-not q ResourceExists (has_uri r u) never.resource_exists))
 
-  resolve-not : (r : Reading) (e : End) (i : ℕ) (b : Option ObjectNo) → IsNot q (resolve_refusal r e i b)
-  resolve-not r e i b =
-      later-not q _ _ (where-not q WrongType (is_mistyped r e b) never.wrong_type)
+  resolve-not : (r : Reading) (e : End) (i : ℕ) (x : Option Target) → IsNot q (target_refusal r e i x)
+  resolve-not r e i x =
+      later-not q _ _ (where-not q WrongType (is_mistyped r e x) never.wrong_type)
       (later-not q _ _ (unless-not q Index (nat_lt i (count_at r e)) never.index)
-      (later-not q _ _ (where-not q Duplicate (is_there_already r e b) never.duplicate)
+      (later-not q _ _ (where-not q Duplicate (is_there_already r e x) never.duplicate)
       (later-not q _ _ (unless-not q NotProxy (is_some (proxy_at r e i)) never.not_proxy)
       (later-not q _ _ (where-not q Unloaded (option_map_or (λ (t : List ℕ). not (has_uri r (uri_part t))) (proxy_at r e i) false) never.unloaded)
-      (unless-not q Unresolved (is_some b) never.unresolved)))))
+      (later-not q _ _ (unless-not q Unresolved (is_some x) never.unresolved)
+      (where-not q Unmatched (option_map_or (is_unmatched r e) x false) never.unmatched))))))
 
   pub late-not : (r : Reading) (c : Change) → IsNot q (late_refusal r c)
   late-not r (Create c) = unless-not q Limit (nat_lt r.next OBJECTS) never.limit
@@ -119,12 +123,12 @@ module _ (q : Refused → Bool) (never : IsNeverLate q) where
   late-not r (Move n f to from) = unless-not q Index (nat_lt to (count_at r (at_end n f)) && nat_lt from (count_at r (at_end n f))) never.index
   late-not r (Delete o) = refl
   late-not r (NewResource u) = uri-not r u
-  late-not r (Resolve o f i b) = resolve-not r (at_end (node.Object o) f) i b
+  late-not r (Resolve o f i) = let e = at_end (node.Object o) f in resolve-not r e i (target_at r e i)
   late-not r (Load k doc) =
       later-not q _ _ (unless-not q Limit (nat_le (r.next + length doc.objects) OBJECTS) never.limit) (unless-not q NotEmpty (is_empty_resource r k) never.not_empty)
 
 pub late-not-memory : (r : Reading) (c : Change) → IsNot is_memory_refusal (late_refusal r c)
-late-not-memory r c = late-not is_memory_refusal (record { wrong_type = refl; text_length = refl; index = refl; duplicate = refl; bound = refl; recursive = refl; limit = refl; resource_exists = refl; not_empty = refl; not_proxy = refl; unloaded = refl; unresolved = refl }) r c
+late-not-memory r c = late-not is_memory_refusal (record { wrong_type = refl; text_length = refl; index = refl; duplicate = refl; bound = refl; recursive = refl; limit = refl; resource_exists = refl; not_empty = refl; not_proxy = refl; unloaded = refl; unresolved = refl; unmatched = refl }) r c
 
 -- what planning finds is what it answers
 pub late-refused : (r : Reading) (c : Change) (x : Refused) → late_refusal r c ≡ Some x → late_refusal r c ≡ (if is_memory_refusal x then None else Some x)

@@ -26,7 +26,8 @@ use Rattle.models.proofs.EndLemmas.{values-single}
 use Rattle.models.specs.Legal.{IsLegal}
 use Rattle.models.specs.Model.{Model, kept_flag, reading}
 use Rattle.models.specs.Reading.{Reading, held_at, value_at}
-use Rattle.handshake.specs.Displaced.{has_already, opposite_end, yields}
+use Rattle.handshake.specs.Displaced.{has_already, yields}
+use Rattle.handshake.specs.Resolving.{opposite_end}
 use Rattle.handshake.specs.Laws.{AreDifferent}
 use Rattle.handshake.specs.Telling.{telling}
 use Rattle.handshake.specs.Tellings.{far_gain, far_loss, far_losses, gain_at, is_replaced, losses, other_losses}

@@ -34,7 +34,8 @@ use Rattle.containment.proofs.HolderLemmas.{container_at, holding-feature}
 use Rattle.handshake.proofs.CutTieLemmas.{all_append, all_once, all_weaker, is_named-same_link}
 use Rattle.removal.specs.Laws.{names_of}
 use Rattle.handshake.proofs.KnownLemmas.{kinds-are}
-use Rattle.handshake.specs.Displaced.{holding_tie, in_the_way, opposite_end, other_side, same_link, same_tie, ties_at, ties_if_single, yields}
+use Rattle.handshake.specs.Displaced.{holding_tie, in_the_way, other_side, same_link, same_tie, ties_at, ties_if_single, yields}
+use Rattle.handshake.specs.Resolving.{opposite_end}
 use Rattle.removal.specs.TreeTies.{tie}
 use Rattle.removal.specs.declared.tie.Tie.{Tie}
 

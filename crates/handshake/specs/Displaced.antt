@@ -17,6 +17,8 @@ use Rattle.links.specs.Holders.{contained}
 use Rattle.models.specs.Reading.{Reading, at_end, is_repeat, shape_at, first_at, value_at}
 use Rattle.removal.specs.TreeTies.{tie, tree_ties}
 use Rattle.handshake.specs.declared.change.Change.{Change}
+use Rattle.handshake.specs.declared.target.Target.{Target}
+use Rattle.handshake.specs.Resolving.{opposite_end, target_at}
 use Rattle.handshake.specs.declared.change.Change.TheVariants.{Create, Set, Unset, Add, Remove, RemoveValue, Move, Delete, NewResource, Resolve, Load}
 
 -- the same link by its other end, if it has one
@@ -48,10 +50,6 @@ tie_in r e i = option_to_list (option_map (tie e) (slice_get (r.values e) i))
 
 abbrev pub ties_if_single : Reading → End → List Tie
 ties_if_single r e = if (shape_at r e).is_single then ties_at r e else []
-
--- the opposite end of a link between e and an object
-abbrev pub opposite_end : Reading → End → ObjectNo → Option End
-opposite_end r e o = option_map (far_end o) (shape_at r e).opposite
 
 -- the link that contains a node
 abbrev pub holding_tie : Reading → Node → Option Tie
@@ -94,6 +92,13 @@ abbrev pub cut_by_new : Reading → End → Value → List Tie
 cut_by_new r e (value.Object o) = yields r e o
 cut_by_new r e v = []
 
+-- the links of the proxies at both ends of a link that is resolved
+abbrev pub counter_tie : Reading → Target → List Tie
+counter_tie r x = option_map_or (λ c. tie_in r c.end c.index) x.counterpart []
+
+abbrev pub ties_resolved : Reading → End → ℕ → List Tie
+ties_resolved r e i = tie_in r e i ++ option_map_or (counter_tie r) (target_at r e i) []
+
 abbrev pub cut_by_set : Reading → End → Value → List Tie
 cut_by_set r e (value.Object o) = yields r e o
 cut_by_set r e v = ties_at r e
@@ -109,5 +114,5 @@ cut_ties r (RemoveValue n f v) = let e = at_end n f in if (shape_at r e).is_refe
 cut_ties r (Move n f to from) = []
 cut_ties r (Delete o) = tree_ties r o
 cut_ties r (NewResource u) = []
-cut_ties r (Resolve o f i b) = let e = at_end (node.Object o) f in if (shape_at r e).is_reference then tie_in r e i else []
+cut_ties r (Resolve o f i) = let e = at_end (node.Object o) f in if (shape_at r e).is_reference then ties_resolved r e i else []
 cut_ties r (Load k doc) = []

@@ -1,5 +1,6 @@
 -- The edits of links that make a change.
-use Rattle.std.specs.Prelude.{ℕ, List, ◌++◌, map, Option, Some, None, option_and_then, option_to_list, if◌then◌else◌}
+use Rattle.std.specs.Prelude.{ℕ, List, [], ◌++◌, ◌-◌, length, map, Option, Some, None, option_map, option_to_list, if◌then◌else◌}
+use Rattle.std.specs.Option.{option_map_or}
 use Rattle.mm_types.specs.declared.end.End.{End}
 use Rattle.mm_types.specs.declared.numbers.Node.TheVariants as node
 use Rattle.mm_types.specs.declared.value.Value.{Value}
@@ -10,9 +11,12 @@ use Rattle.links.specs.Laws.{cut_edit}
 use Rattle.models.specs.Reading.{Reading, at_end, place_for, shape_at}
 use Rattle.handshake.specs.declared.change.Change.{Change}
 use Rattle.handshake.specs.declared.change.Change.TheVariants.{Create, Set, Unset, Add, Remove, RemoveValue, Move, Delete, NewResource, Resolve, Load}
+use Rattle.handshake.specs.declared.target.Counterpart.{Counterpart}
+use Rattle.handshake.specs.declared.target.Target.{Target}
 use Rattle.removal.specs.declared.tie.Tie.{Tie}
 use Rattle.loading.specs.LoadEdits.{load_edits}
 use Rattle.handshake.specs.Displaced.{cut_ties, is_plain_add, is_plain_set}
+use Rattle.handshake.specs.Resolving.{target_at}
 
 abbrev pub cut_of : Tie → Edit
 cut_of t = cut_edit t.end t.value
@@ -33,12 +37,21 @@ made_edit r (RemoveValue n f v) = None
 made_edit r (Move n f to from) = let e = at_end n f in if (shape_at r e).is_reference then Some (Shift e to from) else None
 made_edit r (Delete o) = None
 made_edit r (NewResource u) = None
-made_edit r (Resolve o f i b) = option_and_then (λ x. new_put r (at_end (node.Object o) f) i (value.Object x)) b
+made_edit r (Resolve o f i) = None
 made_edit r (Load k doc) = None
+
+-- the edit that moves a new link from the last index of the opposite end to that of its proxy
+abbrev pub back_edit : Reading → Counterpart → Edit
+back_edit r c = Shift c.end c.index (length (r.values c.end) - 1)
+
+-- the edits that put a link in the place of its proxies
+abbrev pub joining : Reading → End → ℕ → Target → List Edit
+joining r e i x = option_to_list (new_put r e i (value.Object x.object)) ++ option_to_list (option_map (back_edit r) x.counterpart)
 
 -- a load makes all links of its document
 abbrev pub made_edits : Reading → Change → List Edit
 made_edits r (Load k doc) = load_edits r.metamodel r.next k doc
+made_edits r (Resolve o f i) = let e = at_end (node.Object o) f in option_map_or (joining r e i) (target_at r e i) []
 made_edits r c = option_to_list (made_edit r c)
 
 abbrev pub link_edits : Reading → Change → List Edit

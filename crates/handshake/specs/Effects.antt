@@ -18,9 +18,12 @@ use Rattle.containment.specs.Forest.{subtree}
 use Rattle.removal.specs.Outer.{gone}
 use Rattle.handshake.specs.declared.change.Change.{Change}
 use Rattle.handshake.specs.declared.change.Change.TheVariants.{Create, Set, Unset, Add, Remove, RemoveValue, Move, Delete, NewResource, Resolve, Load}
+use Rattle.handshake.specs.declared.target.Counterpart.{Counterpart}
+use Rattle.handshake.specs.declared.target.Target.{Target}
 use Rattle.removal.specs.declared.tie.Tie.{Tie}
 use Rattle.loading.specs.Loading.{loaded_links, loaded_values, with_links}
 use Rattle.handshake.specs.Displaced.{cut_ties, is_plain_add, is_plain_set}
+use Rattle.handshake.specs.Resolving.{target_at}
 
 ---------------------------------------------------------------- values
 
@@ -61,7 +64,7 @@ value_edits r (RemoveValue n f v) = let e = at_end n f in if_attribute r e (take
 value_edits r (Move n f to from) = let e = at_end n f in if_attribute r e (of_object n (λ o. MoveValue o f to from))
 value_edits r (Delete o) = map DropObject (subtree r o)
 value_edits r (NewResource u) = NewUri u ∷ []
-value_edits r (Resolve o f i b) = []
+value_edits r (Resolve o f i) = []
 value_edits r (Load k doc) = loaded_values r.metamodel r.next doc
 
 ---------------------------------------------------------------- links
@@ -74,6 +77,16 @@ abbrev pub with_value : Links → Reading → End → Option ℕ → Value → L
 with_value s r e i (value.Object o) = put s e (unwrap_or i (length (end s e))) o (shape_at r e).opposite (shape_at r e).containing
 with_value s r e i v = s
 
+-- what a link has gained last at the opposite end goes where its proxy stood
+abbrev pub put_back : Links → ℕ → Counterpart → Links
+put_back s n c = shift s c.end c.index n
+
+-- a link takes the place of its proxies, here and at the opposite end
+abbrev pub joined : Links → Reading → End → ℕ → Target → Links
+joined s r e i x =
+    let t = with_value s r e (Some i) (value.Object x.object) in
+    option_map_or (λ c. put_back t (length (end s c.end)) c) x.counterpart t
+
 -- the link that a change makes, or what it moves
 abbrev pub put_by : Links → Reading → Change → Links
 put_by s r (Create c) = s
@@ -85,7 +98,7 @@ put_by s r (RemoveValue n f v) = s
 put_by s r (Move n f to from) = let e = at_end n f in if (shape_at r e).is_reference then shift s e to from else s
 put_by s r (Delete o) = s
 put_by s r (NewResource u) = s
-put_by s r (Resolve o f i b) = option_map_or (λ x. with_value s r (at_end (node.Object o) f) (Some i) (value.Object x)) b s
+put_by s r (Resolve o f i) = let e = at_end (node.Object o) f in option_map_or (joined s r e i) (target_at r e i) s
 put_by s r (Load k doc) = with_links s (loaded_links r.metamodel r.next k doc)
 
 -- the links that a change leaves: all but those that name an object that is destroyed, or but those that it cuts

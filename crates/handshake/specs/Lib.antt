@@ -1,4 +1,5 @@
 pub mod Named
+pub mod Resolving
 pub mod Displaced
 pub mod Telling
 pub mod Reports

@@ -1,5 +1,5 @@
 -- What planning a change gives.
-use Rattle.std.specs.Prelude.{◌≡◌, ℕ, Bool, true, false, List, [], Option, Some, None, IfSome, Result, Ok, Err, option_map, if◌then◌else◌}
+use Rattle.std.specs.Prelude.{◌≡◌, ℕ, ◌&&◌, Bool, true, false, IsFalse, List, [], Option, Some, None, IfSome, Result, Ok, Err, option_map, if◌then◌else◌}
 use Rattle.mm_types.specs.Resolved.{Metamodel}
 use Rattle.mm_types.specs.declared.refused.Refused.{Refused}
 use Rattle.mm_types.specs.declared.refused.Refused.TheVariants.{Memory}
@@ -14,11 +14,11 @@ use Rattle.loading.specs.Fits.{IsFitting}
 use Rattle.resource_docs.specs.Causes.{IsRead}
 use Rattle.resource_docs.specs.declared.doc.Doc.{Doc}
 use Rattle.handshake.specs.declared.change.Change.{Change}
-use Rattle.handshake.specs.declared.change.Change.TheVariants.{Load}
+use Rattle.handshake.specs.declared.change.Change.TheVariants.{Load, Resolve}
 use Rattle.handshake.specs.declared.planned.Planned.{Planned}
 use Rattle.handshake.specs.Effects.{after}
 use Rattle.handshake.specs.Refusals.{late_refusal}
-use Rattle.handshake.specs.Tellings.{chain, destroyed_by}
+use Rattle.handshake.specs.Tellings.{chain, destroyed_by, target_of}
 
 -- a document as reading gives it, in a resource of some URI
 pub record IsDocument (m : Metamodel) (doc : Doc) : Type 0 where
@@ -44,17 +44,23 @@ pub record IsRemovalOf (r : Reading) (c : Change) (q : Option Removal) : Type 0 
   pub whose : option_map (λ (x : Removal). x.object) q ≡ destroyed_by c
   pub found : IfSome q (IsRemoval r)
 
--- what a change destroys, which nothing refuses, the edits that make it, and its chain, where somebody may hear it
+-- what a change destroys or finds, which nothing refuses, the edits that make it, and its chain, where somebody may hear it
 pub record IsPlanOf (is_heard : Bool) (s : Model) (c : Change) (p : Planned) : Type 0 where
   pub allowed : late_refusal (reading s) c ≡ None
   pub removed : IsRemovalOf (reading s) c p.removal
+  pub found : p.target ≡ target_of (reading s) c
   pub fits : links.PlanFits s.links p.edits
   pub of_kind : links.IsPlanOfKind (kinds_of s.metamodel) p.edits
   pub links_made : links.applied s.links p.edits ≡ (after s c).links
   pub values_made : values.applied s.values p.values ≡ (after s c).values
   pub tells : p.chain ≡ (if is_heard then chain (reading s) c else [])
 
--- the plan, or the refusal that planning finds; out of memory where it finds none
+-- what a proxy finds is looked for with memory, and before all that refuses it
+abbrev pub looks_first : Change → Bool
+looks_first (Resolve o f i) = true
+looks_first _ = false
+
+-- the plan, or the refusal that planning finds; out of memory where it finds none, or while it looks first
 abbrev pub Plans : Bool → Result Planned Refused → Model → Change → Type 0
 Plans is_heard (Ok p) s c = IsPlanOf is_heard s c p
-Plans is_heard (Err r) s c = late_refusal (reading s) c ≡ (if is_memory_refusal r then None else Some r)
+Plans is_heard (Err r) s c = IsFalse (is_memory_refusal r && looks_first c) → late_refusal (reading s) c ≡ (if is_memory_refusal r then None else Some r)

@@ -1,6 +1,6 @@
 -- Why a change is refused: by what it names, by a value's type or length, an index, a repeated value, a full end, a cycle of parts, or a
 -- limit. What is looked for after is the repository's.
-use Rattle.std.specs.Prelude.{ℕ, ◌+◌, ◌&&◌, ◌||◌, Bool, false, not, List, length, nat_le, nat_lt, slice_get, Option, None, is_some, option_and_then, if◌then◌else◌}
+use Rattle.std.specs.Prelude.{ℕ, ◌+◌, ◌&&◌, ◌||◌, Bool, false, not, List, length, nat_le, nat_lt, Option, None, is_some, if◌then◌else◌}
 use Rattle.std.specs.Option.{option_map_or}
 use Rattle.mm_types.specs.Conditions.{◌unless◌, ◌where_so◌, ◌else_by◌}
 use Rattle.mm_types.specs.Ends.{has_value}
@@ -13,18 +13,19 @@ use Rattle.mm_types.specs.declared.numbers.ResourceNo.{ResourceNo}
 use Rattle.mm_types.specs.declared.numbers.Node.TheVariants as node
 use Rattle.mm_types.specs.declared.end.End.{End}
 use Rattle.mm_types.specs.declared.refused.Refused.{Refused}
-use Rattle.mm_types.specs.declared.refused.Refused.TheVariants.{WrongType, TextLength, Index, Duplicate, Bound, Recursive, Limit, ResourceExists, NotEmpty, NotProxy, Unloaded, Unresolved}
+use Rattle.mm_types.specs.declared.refused.Refused.TheVariants.{WrongType, TextLength, Index, Duplicate, Bound, Recursive, Limit, ResourceExists, NotEmpty, NotProxy, Unloaded, Unresolved, Unmatched}
 use Rattle.mm_types.specs.declared.value.Value.{Value}
 use Rattle.mm_types.specs.declared.value.Value.TheVariants as value
 use Rattle.web_uris.specs.Addresses.{uri_part}
-use Rattle.links.specs.Links.{text_of}
 use Rattle.models.specs.Reading.{Reading, at_end, has_uri, is_repeat, is_within, place_for, shape_at, takes}
 use Rattle.models.specs.Legal.{is_short, is_short_text}
 use Rattle.loading.specs.Loading.{is_empty_resource}
 use Rattle.resource_docs.specs.declared.doc.Doc.{Doc}
 use Rattle.handshake.specs.Named.{class_refusal, feature_refusal, many_refusal, node_refusal, single_refusal, value_refusal}
-use Rattle.handshake.specs.Displaced.{has_already, opposite_end}
+use Rattle.handshake.specs.Displaced.{has_already}
+use Rattle.handshake.specs.Resolving.{is_unmatched, opposite_end, proxy_at, target_at}
 use Rattle.handshake.specs.declared.change.Change.{Change}
+use Rattle.handshake.specs.declared.target.Target.{Target}
 use Rattle.handshake.specs.declared.change.Change.TheVariants.{Create, Set, Unset, Add, Remove, RemoveValue, Move, Delete, NewResource, Resolve, Load}
 
 -- why a value is not one of a feature
@@ -87,26 +88,26 @@ uri_refusal r u =
     ResourceExists where_so has_uri r u
 
 -- the object at a proxy's address is not one of the feature's type, or the feature is an attribute
-abbrev pub is_mistyped : Reading → End → Option ObjectNo → Bool
-is_mistyped r e b = not (shape_at r e).is_reference || option_map_or (λ x. not (takes r e.feature (value.Object x))) b false
+abbrev pub is_mistyped : Reading → End → Option Target → Bool
+is_mistyped r e q = not (shape_at r e).is_reference || option_map_or (λ x. not (takes r e.feature (value.Object x.object))) q false
 
 -- the object at a proxy's address stands in the list already
-abbrev pub is_there_already : Reading → End → Option ObjectNo → Bool
-is_there_already r e b = option_map_or (λ x. has_value (r.values e) (value.Object x)) b false
+abbrev pub is_there_already : Reading → End → Option Target → Bool
+is_there_already r e q = option_map_or (λ x. has_value (r.values e) (value.Object x.object)) q false
 
--- the text of the proxy at a place, if one stands there
-abbrev pub proxy_at : Reading → End → ℕ → Option (List ℕ)
-proxy_at r e i = option_and_then text_of (slice_get (r.values e) i)
-
--- why the proxy at a place can't be resolved to the object at its address, if there is one
-abbrev pub resolve_refusal : Reading → End → ℕ → Option ObjectNo → Option Refused
-resolve_refusal r e i b =
-    WrongType where_so is_mistyped r e b else_by
+-- why the proxy at an index can't be resolved to what it finds
+abbrev pub target_refusal : Reading → End → ℕ → Option Target → Option Refused
+target_refusal r e i q =
+    WrongType where_so is_mistyped r e q else_by
     Index unless nat_lt i (count_at r e) else_by
-    Duplicate where_so is_there_already r e b else_by
+    Duplicate where_so is_there_already r e q else_by
     NotProxy unless is_some (proxy_at r e i) else_by
     Unloaded where_so option_map_or (λ t. not (has_uri r (uri_part t))) (proxy_at r e i) false else_by
-    Unresolved unless is_some b
+    Unresolved unless is_some q else_by
+    Unmatched where_so option_map_or (is_unmatched r e) q false
+
+abbrev pub resolve_refusal : Reading → End → ℕ → Option Refused
+resolve_refusal r e i = target_refusal r e i (target_at r e i)
 
 -- why a document can't be loaded into a resource
 abbrev pub load_refusal : Reading → ResourceNo → Doc → Option Refused
@@ -125,7 +126,7 @@ early_refusal r (RemoveValue n f v) = value_refusal r n f v else_by many_refusal
 early_refusal r (Move n f to from) = feature_refusal r n f else_by many_refusal r.metamodel f
 early_refusal r (Delete o) = node_refusal r (node.Object o)
 early_refusal r (NewResource u) = None
-early_refusal r (Resolve o f i b) = feature_refusal r (node.Object o) f
+early_refusal r (Resolve o f i) = feature_refusal r (node.Object o) f
 early_refusal r (Load k doc) = node_refusal r (node.Resource k)
 
 -- why one that is not is refused when it is planned
@@ -144,5 +145,5 @@ late_refusal r (RemoveValue n f v) = type_refusal r f v
 late_refusal r (Move n f to from) = Index unless (nat_lt to (count_at r (at_end n f)) && nat_lt from (count_at r (at_end n f)))
 late_refusal r (Delete o) = None
 late_refusal r (NewResource u) = uri_refusal r u
-late_refusal r (Resolve o f i b) = resolve_refusal r (at_end (node.Object o) f) i b
+late_refusal r (Resolve o f i) = resolve_refusal r (at_end (node.Object o) f) i
 late_refusal r (Load k doc) = load_refusal r k doc

@@ -20,8 +20,10 @@ use Rattle.handshake.specs.declared.change.Change.TheVariants.{Create, Set, Unse
 use Rattle.handshake.specs.declared.happening.Happening.TheVariants.{Gains, GainsAt, Loses, LosesAt, Unsets, Moves, Resolves}
 use Rattle.handshake.specs.declared.happening.Happening.{Happening}
 use Rattle.handshake.specs.declared.happening.Telling.{Telling}
+use Rattle.handshake.specs.declared.target.Target.{Target}
 use Rattle.removal.specs.declared.tie.Tie.{Tie}
-use Rattle.handshake.specs.Displaced.{cut_ties, is_plain_set, opposite_end, turned}
+use Rattle.handshake.specs.Displaced.{cut_ties, is_plain_set, turned}
+use Rattle.handshake.specs.Resolving.{opposite_end, target_at}
 use Rattle.handshake.specs.Telling.{telling, told}
 
 ---------------------------------------------------------------- links
@@ -93,6 +95,11 @@ abbrev pub destroyed_by : Change → Option ObjectNo
 destroyed_by (Delete o) = Some o
 destroyed_by _ = None
 
+-- what the proxy finds that a change resolves
+abbrev pub target_of : Reading → Change → Option Target
+target_of r (Resolve o f i) = target_at r (at_end (node.Object o) f) i
+target_of r _ = None
+
 -- the document that a change loads
 abbrev pub loaded_by : Change → Option Doc
 loaded_by (Load k doc) = Some doc
@@ -112,6 +119,12 @@ destroyed r o =
 abbrev pub loaded : Reading → ResourceNo → Doc → List Telling
 loaded r k doc = map (λ v. telling (contents_end r.metamodel k) (Gains v)) (roots_loaded r.next doc)
 
+-- the opposite end's proxy is resolved, and then the end's own
+abbrev pub resolved : End → ℕ → Target → List Telling
+resolved e i x =
+    option_map_or (λ c. telling c.end (Resolves c.index (node_value e.node)) ∷ []) x.counterpart []
+    ++ telling e (Resolves i (value.Object x.object)) ∷ []
+
 -- a change that cuts these links
 abbrev pub tellings_with : Reading → Change → List Tie → List Telling
 tellings_with r (Create c) ts = []
@@ -123,7 +136,7 @@ tellings_with r (RemoveValue n f v) ts = value_taken_out r (at_end n f) ts v
 tellings_with r (Move n f to from) ts = telling (at_end n f) (Moves to from) ∷ []
 tellings_with r (Delete o) ts = destroyed r o
 tellings_with r (NewResource u) ts = []
-tellings_with r (Resolve o f i b) ts = option_map_or (λ x. telling (at_end (node.Object o) f) (Resolves i (value.Object x)) ∷ []) b []
+tellings_with r (Resolve o f i) ts = let e = at_end (node.Object o) f in option_map_or (resolved e i) (target_at r e i) []
 tellings_with r (Load k doc) ts = loaded r k doc
 
 abbrev pub tellings : Reading → Change → List Telling

@@ -49,13 +49,12 @@ pub enum Change {
     Delete(ObjectNo),
     /// Makes a resource of a URI, which is as joining gives it (EMF: ResourceSet.createResource).
     NewResource(Text),
-    /// Puts an object in the place of the proxy at an index of a reference (EMF: EcoreUtil.resolve). `target` is the object at the
-    /// proxy's address, if one is there.
+    /// Puts the object at the address of a proxy in the proxy's place, at an index of a reference (EMF: EcoreUtil.resolve). In a
+    /// reference with an opposite the object that refers takes the place of the proxy at the other end.
     Resolve {
         object: ObjectNo,
         feature: FeatureNo,
         index: u32,
-        target: Option<ObjectNo>,
     },
     /// Makes what a document holds in an empty resource (EMF: Resource.load).
     Load(ResourceNo, Doc),

@@ -10,9 +10,12 @@ ghost use Rattle.removal.specs.TreeTies as t;
 ghost use Rattle.removal.specs.TreeTies.{tie};
 ghost use Rattle.handshake.specs.Displaced as d;
 ghost use Rattle.handshake.specs.Plans.{IsRemovalOf};
+ghost use Rattle.handshake.specs.Resolving.{target_at};
 ghost use Rattle.handshake.specs.Refusals as refusals;
+ghost use Rattle.handshake.specs.Tellings.{target_of};
 
 use crate::change::Change;
+use crate::target::Target;
 use crate::tie::{at_end, far_end, is_among, node_value, opposite_end};
 use links::LinkStore;
 use mm_meta::Meta;
@@ -115,8 +118,10 @@ pub(crate) fn cut_ties<L: LinkStore>(
     model: &ModelRef<L>,
     change: &Change,
     removal: &Option<Removal>,
+    target: Option<Target>,
 ) -> Result<Vec<Tie>, AllocError>
     requires removal { IsRemovalOf (reading model.now) change.now removal.now }
+    requires found { target ≡ target_of (reading model.now) change.now }
     requires asked { refusals.early_refusal (reading model.now) change.now ≡ None }
     ensures { IfOk result (λ ts. ts.items ≡ d.cut_ties (reading model.now) change.now) }
 {
@@ -154,8 +159,50 @@ pub(crate) fn cut_ties<L: LinkStore>(
             object,
             feature,
             index,
-            ..
-        } => tie_in(alloc, model, far_end(*object, *feature), Some(*index)),
+        } => ties_resolved(alloc, model, far_end(*object, *feature), *index, target),
+    }
+}
+
+/// The links of the proxies at both ends of a link that is resolved; none of an attribute.
+fn ties_resolved<L: LinkStore>(
+    alloc: Global,
+    model: &ModelRef<L>,
+    end: End,
+    index: u32,
+    target: Option<Target>,
+) -> Result<Vec<Tie>, AllocError>
+    requires found { target ≡ target_at (reading model.now) end index }
+    ensures { IfOk result (λ ts. ts.items ≡ (if (shape model.now.metamodel end.feature).is_reference then d.ties_resolved (reading model.now) end index else [])) }
+{
+    let mut ties = tie_in(alloc, model, end, Some(index))?;
+    if model.meta().is_reference(end.feature) {
+        add_counterpart(alloc, model, target, &mut ties)?;
+    }
+    Ok(ties)
+}
+
+/// Adds the link of the proxy at the opposite end.
+fn add_counterpart<L: LinkStore>(
+    alloc: Global,
+    model: &ModelRef<L>,
+    target: Option<Target>,
+    ties: &mut Vec<Tie>,
+) -> Result<(), AllocError>
+    ensures { OnOk result (ties.new.items ≡ ties.old.items ++ option_map_or (d.counter_tie (reading model.now)) target []) }
+{
+    match target {
+        Some(
+            Target {
+                counterpart: Some(other),
+                ..
+            },
+        ) => push_tie(
+            alloc,
+            other.end,
+            model.value_in(other.end, other.index),
+            ties,
+        ),
+        _ => Ok(()),
     }
 }
 

@@ -1,5 +1,6 @@
 //! The edits of a change.
-ghost use Rattle.std.specs.Prelude.{◌≡◌, ◌∷◌, ◌++◌, [], true, None, Some, map, option_to_list, IfOk};
+ghost use Rattle.std.specs.Prelude.{◌≡◌, ◌∷◌, ◌++◌, [], true, None, Some, map, IfOk, OnOk};
+ghost use Rattle.std.specs.Option.{option_map_or};
 ghost use Rattle.mm_types.specs.Shapes.{shape};
 ghost use Rattle.mm_types.specs.declared.value.Value.TheVariants as value;
 ghost use Rattle.models.specs.Model.{reading};
@@ -12,10 +13,11 @@ ghost use Rattle.handshake.specs.Plans.{HasFittingDocument, IsRemovalOf};
 ghost use Rattle.loading.specs.Fits.{IsFitting};
 ghost use Rattle.loading.specs.Loading.{loaded_values};
 ghost use Rattle.handshake.specs.Effects.{put_values, value_edits as value_edits_of};
-ghost use Rattle.handshake.specs.Tellings.{destroyed_by};
+ghost use Rattle.handshake.specs.Tellings.{destroyed_by, loaded_by, target_of};
 
 use crate::change::Change;
 use crate::displaced::{is_plain_add, is_plain_set};
+use crate::target::{Counterpart, Target};
 use crate::tie::{at_end, far_end};
 use links::{Edit, LinkStore, Plan};
 use mm_types::{End, FeatureNo, Node, ObjectNo, Seq, Text, Value};
@@ -31,8 +33,10 @@ pub(crate) fn link_edits<L: LinkStore>(
     model: &ModelRef<L>,
     ties: Vec<Tie>,
     change: &Change,
+    target: Option<Target>,
 ) -> Result<Plan, AllocError>
     requires cut { ties.items ≡ d.cut_ties (reading model.now) change.now }
+    requires found { target ≡ target_of (reading model.now) change.now }
     requires fits { HasFittingDocument (reading model.now).next change.now }
     ensures { IfOk result (λ p. p ≡ e.link_edits (reading model.now) change.now) }
 {
@@ -41,10 +45,64 @@ pub(crate) fn link_edits<L: LinkStore>(
         return Ok(Seq::from_vec(edits));
     }
     let mut edits = cuts(alloc, ties)?;
+    push_made(model, change, target, &mut edits)?;
+    Ok(Seq::from_vec(edits))
+}
+
+/// Adds the edits behind the cuts, of a change that loads nothing.
+fn push_made<L: LinkStore>(
+    model: &ModelRef<L>,
+    change: &Change,
+    target: Option<Target>,
+    edits: &mut Vec<Edit>,
+) -> Result<(), AllocError>
+    requires loads_nothing { loaded_by change.now ≡ None }
+    requires found { target ≡ target_of (reading model.now) change.now }
+    ensures { OnOk result (edits.new.items ≡ edits.old.items ++ e.made_edits (reading model.now) change.now) }
+{
+    if let Change::Resolve {
+        object,
+        feature,
+        index,
+    } = change
+    {
+        return push_joining(model, far_end(*object, *feature), *index, target, edits);
+    }
     if let Some(edit) = made_edit(model, change) {
         edits.push(edit)?;
     }
-    Ok(Seq::from_vec(edits))
+    Ok(())
+}
+
+/// Adds the edits that put a link in the place of its proxies; none where nothing is at their address.
+fn push_joining<L: LinkStore>(
+    model: &ModelRef<L>,
+    end: End,
+    index: u32,
+    target: Option<Target>,
+    edits: &mut Vec<Edit>,
+) -> Result<(), AllocError>
+    ensures { OnOk result (edits.new.items ≡ edits.old.items ++ option_map_or (e.joining (reading model.now) end index) target []) }
+{
+    let Some(target) = target else {
+        return Ok(());
+    };
+    edits.push(put_object(model, end, index, target.object))?;
+    if let Some(other) = target.counterpart {
+        edits.push(back_edit(model, other))?;
+    }
+    Ok(())
+}
+
+/// The edit that moves a new link from the last index of the opposite end to that of its proxy.
+fn back_edit<L: LinkStore>(model: &ModelRef<L>, other: Counterpart) -> Edit
+    ensures { result ≡ e.back_edit (reading model.now) other }
+{
+    Edit::Shift {
+        end: other.end,
+        to: other.index,
+        from: model.len(other.end).saturating_sub(1),
+    }
 }
 
 fn cuts(alloc: Global, ties: Vec<Tie>) -> Result<Vec<Edit>, AllocError>
@@ -110,12 +168,6 @@ fn made_edit<L: LinkStore>(model: &ModelRef<L>, change: &Change) -> Option<Edit>
             to: *to,
             from: *from,
         }),
-        Change::Resolve {
-            object,
-            feature,
-            index,
-            target: Some(target),
-        } => Some(put_object(model, far_end(*object, *feature), *index, *target)),
         _ => None,
     }
 }

@@ -17,6 +17,7 @@ mod planned;
 mod planning;
 mod recursion;
 mod resolving;
+mod target;
 mod telling;
 mod tie;
 
@@ -25,4 +26,4 @@ pub use happening::{Happening, Telling};
 pub use named::{early_refusal, feature_refusal, node_refusal};
 pub use planned::Planned;
 pub use planning::plan;
-pub use resolving::proxy_at;
+pub use target::{Counterpart, Target};

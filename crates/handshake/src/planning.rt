@@ -20,7 +20,8 @@ use crate::edits::{link_edits, value_edits};
 use crate::loads::{load_refusal, root_notices};
 use crate::planned::Planned;
 use crate::recursion::is_recursive;
-use crate::resolving::resolve_refusal;
+use crate::resolving::{resolve_refusal, target_of};
+use crate::target::Target;
 use crate::telling::tellings;
 use crate::tie::{at_end, far_end, opposite_end};
 use links::{LinkStore, Plan};
@@ -40,8 +41,9 @@ use std::alloc::{AllocError, Global};
 /// where an end that has to gain is full, `Recursive` where an object would become a part of itself, `Limit` where 1,000,000 objects
 /// or 100,000 resources were made, or 1,000,000 values stand at an end, `ResourceExists` where a resource has the URI; and of a
 /// proxy to be resolved `NotProxy` where something else stands there, `Unloaded` where no resource has its URI, `Unresolved` where
-/// nothing is at its address; and of a document `Limit` where its objects would be more than 1,000,000 with those that were made,
-/// `NotEmpty` where the resource has roots. `Memory` where none of these applies.
+/// nothing is at its address, `Unmatched` where the reference has an opposite and no proxy there has the address of the object that
+/// refers; and of a document `Limit` where its objects would be more than 1,000,000 with those that were made, `NotEmpty` where the
+/// resource has roots. `Memory` where none of these applies; of a proxy, whose target is looked for first, `Memory` may come before.
 pub fn plan<L: LinkStore>(
     alloc: Global,
     model: &ModelRef<L>,
@@ -52,10 +54,11 @@ pub fn plan<L: LinkStore>(
     requires read { HasReadDocument model.now.metamodel change }
     ensures { Plans is_heard result model.now change }
 {
-    if let Some(refused) = late_refusal(model, &change) {
+    let target = target_of(alloc, model, &change)?;
+    if let Some(refused) = late_refusal(model, &change, target) {
         return Err(refused);
     }
-    Ok(made(alloc, model, change, is_heard)?)
+    Ok(made(alloc, model, change, target, is_heard)?)
 }
 
 /// What a change destroys that nothing refuses, its edits, and its notices. Errs only when out of memory.
@@ -63,8 +66,10 @@ fn made<L: LinkStore>(
     alloc: Global,
     model: &ModelRef<L>,
     change: Change,
+    target: Option<Target>,
     is_heard: bool,
 ) -> Result<Planned, AllocError>
+    requires found { target ≡ t.target_of (reading model.now) change }
     requires asked { refusals.early_refusal (reading model.now) change ≡ None }
     requires allowed { refusals.late_refusal (reading model.now) change ≡ None }
     requires read { HasReadDocument model.now.metamodel change }
@@ -72,9 +77,12 @@ fn made<L: LinkStore>(
 {
     model.is_legal();
     let removal = removal_of(alloc, model, &change)?;
-    let (edits, values, chain) = edits_and_notices(alloc, model, change, &removal, is_heard)?;
+    let (edits, values, chain) = edits_and_notices(
+        alloc, model, change, &removal, target, is_heard,
+    )?;
     Ok(Planned {
         removal,
+        target,
         edits,
         values,
         chain,
@@ -87,18 +95,20 @@ fn edits_and_notices<L: LinkStore>(
     model: &ModelRef<L>,
     change: Change,
     removal: &Option<Removal>,
+    target: Option<Target>,
     is_heard: bool,
 ) -> Result<(Plan, ValuePlan, Chain), AllocError>
     requires asked { refusals.early_refusal (reading model.now) change ≡ None }
     requires allowed { refusals.late_refusal (reading model.now) change ≡ None }
     requires removal { IsRemovalOf (reading model.now) change removal.now }
+    requires found { target ≡ t.target_of (reading model.now) change }
     requires read { HasReadDocument model.now.metamodel change }
     ensures edits { IfOk result (λ p. p.0 ≡ e.link_edits (reading model.now) change) }
     ensures values { IfOk result (λ p. p.1 ≡ value_edits_of (reading model.now) change) }
     ensures chain { IfOk result (λ p. p.2 ≡ (if is_heard then t.chain (reading model.now) change else [])) }
 {
     model.is_legal();
-    let (edits, chain) = links_and_notices(alloc, model, &change, removal, is_heard)?;
+    let (edits, chain) = links_and_notices(alloc, model, &change, removal, target, is_heard)?;
     let values = value_edits(alloc, model, change, removal)?;
     Ok((edits, values, chain))
 }
@@ -109,23 +119,30 @@ fn links_and_notices<L: LinkStore>(
     model: &ModelRef<L>,
     change: &Change,
     removal: &Option<Removal>,
+    target: Option<Target>,
     is_heard: bool,
 ) -> Result<(Plan, Chain), AllocError>
     requires asked { refusals.early_refusal (reading model.now) change.now ≡ None }
     requires allowed { refusals.late_refusal (reading model.now) change.now ≡ None }
     requires removal { IsRemovalOf (reading model.now) change.now removal.now }
+    requires found { target ≡ t.target_of (reading model.now) change.now }
     requires fits { HasFittingDocument (reading model.now).next change.now }
     ensures edits { IfOk result (λ p. p.0 ≡ e.link_edits (reading model.now) change.now) }
     ensures chain { IfOk result (λ p. p.1 ≡ (if is_heard then t.chain (reading model.now) change.now else [])) }
 {
-    let ties = cut_ties(alloc, model, change, removal)?;
-    let chain = heard_chain(alloc, model, change, removal, &ties, is_heard)?;
-    let edits = link_edits(alloc, model, ties, change)?;
+    let ties = cut_ties(alloc, model, change, removal, target)?;
+    let chain = heard_chain(alloc, model, change, removal, target, &ties, is_heard)?;
+    let edits = link_edits(alloc, model, ties, change, target)?;
     Ok((edits, chain))
 }
 
 /// The first refusal that planning finds. Takes no memory.
-fn late_refusal<L: LinkStore>(model: &ModelRef<L>, change: &Change) -> Option<Refused>
+fn late_refusal<L: LinkStore>(
+    model: &ModelRef<L>,
+    change: &Change,
+    target: Option<Target>,
+) -> Option<Refused>
+    requires found { target ≡ t.target_of (reading model.now) change.now }
     ensures { result ≡ refusals.late_refusal (reading model.now) change.now }
 {
     match change {
@@ -136,8 +153,7 @@ fn late_refusal<L: LinkStore>(model: &ModelRef<L>, change: &Change) -> Option<Re
             object,
             feature,
             index,
-            target,
-        } => resolve_refusal(model, far_end(*object, *feature), *index, *target),
+        } => resolve_refusal(model, far_end(*object, *feature), *index, target),
         Change::Load(resource, doc) => load_refusal(model, *resource, doc),
         Change::Set {
             node,
@@ -326,12 +342,14 @@ fn heard_chain<L: LinkStore>(
     model: &ModelRef<L>,
     change: &Change,
     removal: &Option<Removal>,
+    target: Option<Target>,
     ties: &[Tie],
     is_heard: bool,
 ) -> Result<Chain, AllocError>
     requires asked { refusals.early_refusal (reading model.now) change.now ≡ None }
     requires allowed { refusals.late_refusal (reading model.now) change.now ≡ None }
     requires removal { IsRemovalOf (reading model.now) change.now removal.now }
+    requires found { target ≡ t.target_of (reading model.now) change.now }
     requires cut { ties.now ≡ d.cut_ties (reading model.now) change.now }
     requires fits { HasFittingDocument (reading model.now).next change.now }
     ensures { IfOk result (λ c. c ≡ (if is_heard then t.chain (reading model.now) change.now else [])) }
@@ -347,6 +365,6 @@ fn heard_chain<L: LinkStore>(
         let roots = contents_end(model.meta(), *resource);
         return root_notices(alloc, model.next(), roots, doc.roots.as_slice());
     }
-    let tellings = tellings(alloc, model, change, ties)?;
+    let tellings = tellings(alloc, model, change, ties, target)?;
     notices(alloc, model, tellings)
 }

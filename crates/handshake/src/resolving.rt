@@ -1,27 +1,130 @@
-//! Why a proxy can't be resolved.
-ghost use Rattle.std.specs.Prelude.{◌≡◌, false, is_some, not, option_copied};
+//! What a proxy finds, and why it can't be resolved.
+ghost use Rattle.std.specs.Prelude.{◌≡◌, false, is_some, not, option_and_then, option_copied, IfErr, IfOk, IsTrue};
 ghost use Rattle.std.specs.Option.{option_map_or};
+ghost use Rattle.fragment_paths.specs.Finding.{at};
 ghost use Rattle.mm_types.specs.Conditions.{◌unless◌, ◌where_so◌, ◌else_by◌};
-ghost use Rattle.mm_types.specs.declared.refused.Refused.TheVariants.{Unloaded, Unresolved};
+ghost use Rattle.mm_types.specs.Same.{same_node};
+ghost use Rattle.mm_types.specs.declared.numbers.Node.TheVariants as node;
+ghost use Rattle.mm_types.specs.declared.refused.Refused.TheVariants.{Unloaded, Unmatched, Unresolved};
 ghost use Rattle.models.specs.Model.{reading};
 ghost use Rattle.models.specs.Reading.{has_uri};
 ghost use Rattle.web_uris.specs.Addresses.{uri_part};
+ghost use Rattle.handshake.specs.Plans.{looks_first};
 ghost use Rattle.handshake.specs.Refusals as refusals;
+ghost use Rattle.handshake.specs.Resolving as resolving;
+ghost use Rattle.handshake.specs.Tellings as t;
 
+use crate::change::Change;
+use crate::target::{Counterpart, Target};
+use crate::tie::{far_end, opposite_end};
+use fragment_paths::object_at;
 use links::LinkStore;
-use mm_types::{End, ObjectNo, Refused, Value};
+use mm_types::{End, Node, ObjectNo, Refused, Value};
 use models::ModelRef;
+use std::alloc::{AllocError, Global};
 use web_uris::split_address;
 
-/// Why what stands at an index can't be resolved to the object at its address, if there is one: `WrongType`, `Index`, `Duplicate`,
-/// `NotProxy`, `Unloaded` or `Unresolved`. Takes no memory.
+/// What the proxy finds that a change resolves, if it resolves one. Errs only when out of memory, and for no other change.
+pub(crate) fn target_of<L: LinkStore>(
+    alloc: Global,
+    model: &ModelRef<L>,
+    change: &Change,
+) -> Result<Option<Target>, AllocError>
+    ensures found { IfOk result (λ q. q ≡ t.target_of (reading model.now) change.now) }
+    ensures failed { IfErr result (λ _. IsTrue (looks_first change.now)) }
+{
+    match change {
+        Change::Resolve {
+            object,
+            feature,
+            index,
+        } => target_at(alloc, model, far_end(*object, *feature), *index),
+        _ => Ok(None),
+    }
+}
+
+/// The object at the address of the proxy at an index, if there are both. Errs only when out of memory.
+fn target_at<L: LinkStore>(
+    alloc: Global,
+    model: &ModelRef<L>,
+    end: End,
+    index: u32,
+) -> Result<Option<Target>, AllocError>
+    ensures { IfOk result (λ q. q ≡ resolving.target_at (reading model.now) end index) }
+{
+    let Some(address) = proxy_at(model, end, index) else {
+        return Ok(None);
+    };
+    let Some(object) = object_at(alloc, model, address)? else {
+        return Ok(None);
+    };
+    let counterpart = counterpart(alloc, model, end, object)?;
+    Ok(Some(Target {
+        object,
+        counterpart,
+    }))
+}
+
+/// The proxy that a link between an end and an object has at the opposite end, if there is one. Errs only when out of memory.
+fn counterpart<L: LinkStore>(
+    alloc: Global,
+    model: &ModelRef<L>,
+    end: End,
+    object: ObjectNo,
+) -> Result<Option<Counterpart>, AllocError>
+    ensures { IfOk result (λ q. q ≡ resolving.counterpart (reading model.now) end object) }
+{
+    match opposite_end(model, end, object) {
+        Some(far) => first_to(alloc, model, end.node, far),
+        None => Ok(None),
+    }
+}
+
+/// The first proxy at an end that has the address of a node. Errs only when out of memory.
+fn first_to<L: LinkStore>(
+    alloc: Global,
+    model: &ModelRef<L>,
+    node: Node,
+    end: End,
+) -> Result<Option<Counterpart>, AllocError>
+    ensures { IfOk result (λ q. q ≡ resolving.first_to (reading model.now) node end) }
+{
+    for index in 0..model.len(end) {
+        if leads_to(alloc, model, end, index, node)? {
+            return Ok(Some(Counterpart { end, index }));
+        }
+    }
+    Ok(None)
+}
+
+/// Whether a proxy stands at an index and has the address of a node. Errs only when out of memory.
+fn leads_to<L: LinkStore>(
+    alloc: Global,
+    model: &ModelRef<L>,
+    end: End,
+    index: u32,
+    to: Node,
+) -> Result<bool, AllocError>
+    ensures { IfOk result (λ b. b ≡ option_map_or (λ o. same_node (node.Object o) to) (option_and_then (at (reading model.now)) (resolving.proxy_at (reading model.now) end index)) false) }
+{
+    let Some(address) = proxy_at(model, end, index) else {
+        return Ok(false);
+    };
+    match object_at(alloc, model, address)? {
+        Some(object) => Ok(Node::Object(object) == to),
+        None => Ok(false),
+    }
+}
+
+/// Why what stands at an index can't be resolved to what it finds: `WrongType`, `Index`, `Duplicate`, `NotProxy`, `Unloaded`,
+/// `Unresolved` or `Unmatched`. Takes no memory.
 pub(crate) fn resolve_refusal<L: LinkStore>(
     model: &ModelRef<L>,
     end: End,
     index: u32,
-    target: Option<ObjectNo>,
+    target: Option<Target>,
 ) -> Option<Refused>
-    ensures { result ≡ refusals.resolve_refusal (reading model.now) end index target }
+    ensures { result ≡ refusals.target_refusal (reading model.now) end index target }
 {
     if is_mistyped(model, end, target) {
         return Some(Refused::WrongType);
@@ -33,37 +136,37 @@ pub(crate) fn resolve_refusal<L: LinkStore>(
         return Some(Refused::Duplicate);
     }
     match proxy_at(model, end, index) {
-        Some(text) => lost_refusal(model, text, target),
+        Some(text) => lost_refusal(model, end, text, target),
         None => Some(Refused::NotProxy),
     }
 }
 
 /// Whether the object at a proxy's address is not one of the feature's type, or the feature is an attribute.
-fn is_mistyped<L: LinkStore>(model: &ModelRef<L>, end: End, target: Option<ObjectNo>) -> bool
+fn is_mistyped<L: LinkStore>(model: &ModelRef<L>, end: End, target: Option<Target>) -> bool
     ensures { result ≡ refusals.is_mistyped (reading model.now) end target }
 {
     if !model.meta().is_reference(end.feature) {
         return true;
     }
     match target {
-        Some(object) => !model.takes(end.feature, &Value::Object(object)),
+        Some(target) => !model.takes(end.feature, &Value::Object(target.object)),
         None => false,
     }
 }
 
 /// Whether the object at a proxy's address stands in the list already.
-fn is_there_already<L: LinkStore>(model: &ModelRef<L>, end: End, target: Option<ObjectNo>) -> bool
+fn is_there_already<L: LinkStore>(model: &ModelRef<L>, end: End, target: Option<Target>) -> bool
     ensures { result ≡ refusals.is_there_already (reading model.now) end target }
 {
     match target {
-        Some(object) => model.has(end, &Value::Object(object)),
+        Some(target) => model.has(end, &Value::Object(target.object)),
         None => false,
     }
 }
 
 /// The text of the proxy at an index of an end, if one stands there. Takes no memory.
-pub fn proxy_at<'a, L: LinkStore>(model: &ModelRef<'a, L>, end: End, index: u32) -> Option<&'a str>
-    ensures { option_copied result ≡ refusals.proxy_at (reading model.now) end index }
+fn proxy_at<'a, L: LinkStore>(model: &ModelRef<'a, L>, end: End, index: u32) -> Option<&'a str>
+    ensures { option_copied result ≡ resolving.proxy_at (reading model.now) end index }
 {
     match model.value_in(end, index) {
         Some(found) => found.proxy(),
@@ -81,19 +184,28 @@ fn uri_of(text: &str) -> &str
     }
 }
 
-/// Why nothing is at the address of a proxy: `Unloaded` or `Unresolved`.
+/// Why nothing is at the address of a proxy, or nothing there leads back: `Unloaded`, `Unresolved` or `Unmatched`.
 fn lost_refusal<L: LinkStore>(
     model: &ModelRef<L>,
+    end: End,
     text: &str,
-    target: Option<ObjectNo>,
+    target: Option<Target>,
 ) -> Option<Refused>
-    ensures { result ≡ (Unloaded where_so not (has_uri (reading model.now) (uri_part text.now)) else_by Unresolved unless is_some target) }
+    ensures { result ≡ (Unloaded where_so not (has_uri (reading model.now) (uri_part text.now)) else_by Unresolved unless is_some target else_by Unmatched where_so option_map_or (resolving.is_unmatched (reading model.now) end) target false) }
 {
     if !model.has_uri(uri_of(text)) {
         return Some(Refused::Unloaded);
     }
-    if target.is_none() {
-        return Some(Refused::Unresolved);
+    match target {
+        None => Some(Refused::Unresolved),
+        Some(target) if is_unmatched(model, end, target) => Some(Refused::Unmatched),
+        Some(_) => None,
     }
-    None
+}
+
+/// Whether a reference has an opposite, and no proxy there leads back.
+fn is_unmatched<L: LinkStore>(model: &ModelRef<L>, end: End, target: Target) -> bool
+    ensures { result ≡ resolving.is_unmatched (reading model.now) end target }
+{
+    model.meta().opposite(end.feature).is_some() && target.counterpart.is_none()
 }

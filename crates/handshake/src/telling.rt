@@ -1,15 +1,17 @@
 //! What a change makes happen, end by end.
 ghost use Rattle.std.specs.Prelude.{◌≡◌, ◌∷◌, ◌++◌, [], None, not, flat_map, filter, IfOk, OnOk};
+ghost use Rattle.std.specs.Option.{option_map_or};
 ghost use Rattle.mm_types.specs.Shapes.{is_containment};
 ghost use Rattle.mm_types.specs.declared.value.Value.TheVariants as value;
 ghost use Rattle.models.specs.Model.{reading};
 ghost use Rattle.models.specs.Reading.{at_end};
 ghost use Rattle.handshake.specs.Tellings as t;
-ghost use Rattle.handshake.specs.Tellings.{destroyed_by, loaded_by};
+ghost use Rattle.handshake.specs.Tellings.{destroyed_by, loaded_by, target_of};
 
 use crate::change::Change;
 use crate::displaced::is_plain_set;
 use crate::happening::{Happening, Telling};
+use crate::target::Target;
 use crate::tie::{at_end, far_end, node_value, opposite_end, turned};
 use links::LinkStore;
 use mm_types::{End, ObjectNo, Value};
@@ -23,19 +25,17 @@ pub(crate) fn tellings<L: LinkStore>(
     model: &ModelRef<L>,
     change: &Change,
     ties: &[Tie],
+    target: Option<Target>,
 ) -> Result<Vec<Telling>, AllocError>
     requires destroys_nothing { destroyed_by change.now ≡ None }
     requires loads_nothing { loaded_by change.now ≡ None }
+    requires found { target ≡ target_of (reading model.now) change.now }
     ensures { IfOk result (λ ts. ts.items ≡ t.tellings_with (reading model.now) change.now ties.now) }
 {
     let mut out = Vec::new(alloc);
     match change {
         // `chain` makes the notices of a delete, and `loads` those of a load
-        Change::Create(_)
-        | Change::NewResource(_)
-        | Change::Delete(_)
-        | Change::Load(_, _)
-        | Change::Resolve { target: None, .. } => {}
+        Change::Create(_) | Change::NewResource(_) | Change::Delete(_) | Change::Load(_, _) => {}
         Change::Set {
             node,
             feature,
@@ -75,13 +75,32 @@ pub(crate) fn tellings<L: LinkStore>(
             object,
             feature,
             index,
-            target: Some(target),
-        } => {
-            let resolved = Happening::Resolves(*index, Value::Object(*target));
-            push(&mut out, far_end(*object, *feature), resolved)?;
-        }
+        } => push_resolved(far_end(*object, *feature), *index, target, &mut out)?,
     }
     Ok(out)
+}
+
+/// Adds what happens where a proxy is resolved: to the opposite end first.
+fn push_resolved(
+    end: End,
+    index: u32,
+    target: Option<Target>,
+    out: &mut Vec<Telling>,
+) -> Result<(), AllocError>
+    ensures { OnOk result (out.new.items ≡ out.old.items ++ option_map_or (t.resolved end index) target []) }
+{
+    let Some(target) = target else {
+        return Ok(());
+    };
+    if let Some(other) = target.counterpart {
+        let resolved = Happening::Resolves(other.index, node_value(end.node));
+        push(out, other.end, resolved)?;
+    }
+    push(
+        out,
+        end,
+        Happening::Resolves(index, Value::Object(target.object)),
+    )
 }
 
 /// Adds what happens where a single feature is set.

@@ -6,6 +6,7 @@ ghost use Rattle.models.specs.Model.{reading};
 ghost use Rattle.models.specs.Reading.{at_end as at_end_of};
 ghost use Rattle.links.specs.Links.{far_end as far_end_of};
 ghost use Rattle.handshake.specs.Displaced as d;
+ghost use Rattle.handshake.specs.Resolving as resolving;
 
 use links::LinkStore;
 use mm_types::{End, FeatureNo, Node, ObjectNo, Value};
@@ -48,7 +49,7 @@ pub(crate) fn opposite_end<L: LinkStore>(
     end: End,
     object: ObjectNo,
 ) -> Option<End>
-    ensures { result ≡ d.opposite_end (reading model.now) end object }
+    ensures { result ≡ resolving.opposite_end (reading model.now) end object }
 {
     match model.meta().opposite(end.feature) {
         Some(feature) => Some(far_end(object, feature)),

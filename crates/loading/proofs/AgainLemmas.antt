@@ -3,11 +3,11 @@ use Rattle.std.proofs.Common.{◌≡◌, ◌≢◌, ◌∙◌, ◌<◌, ◌++◌
 use Rattle.std.specs.Prelude.{◌&&◌, flat_map, nat_eq, slice_get}
 use Rattle.std.specs.List.{AllByRecursion, enumerate_from}
 use Rattle.std.specs.Option.{option_map_or}
-use Rattle.std.proofs.lemmas.Bool.{eqb-true, false_from_ne_true, true≢false}
+use Rattle.std.proofs.lemmas.Bool.{eqb-true, false≢true, false_from_ne_true, true≢false}
 use Rattle.std.proofs.lemmas.Option.{none-some, same_Some}
 use Rattle.mm_types.specs.Resolved.{Metamodel}
 use Rattle.mm_types.specs.Same.{same_end, same_feature}
-use Rattle.mm_types.specs.Shapes.{shape}
+use Rattle.mm_types.specs.Shapes.{Shape, shape}
 use Rattle.mm_types.specs.declared.end.End.{End}
 use Rattle.mm_types.specs.declared.numbers.FeatureNo.{FeatureNo}
 use Rattle.mm_types.specs.declared.numbers.ObjectNo.{ObjectNo}
@@ -25,6 +25,7 @@ use Rattle.loading.specs.LoadEdits.{far_edits, in_order, is_ascending_from, puts
 use Rattle.loading.specs.Loading.{loaded, object_end, of_contents, of_object}
 use Rattle.loading.specs.Pairs.{lower_of}
 use Rattle.loading.specs.Places.{naming, place_in}
+use Rattle.loading.proofs.FillLemmas.{is_no_proxy, others}
 use Rattle.loading.proofs.GatherLemmas.{by-contents, gathered-none, gathered-one}
 use Rattle.loading.proofs.PairLemmas.{all-at, all-flat_map, all-from_at, all-more}
 use Rattle.loading.proofs.PlacedLemmas.{lower-feature, place-is}
@@ -36,16 +37,33 @@ use Rattle.loading.proofs.TotalLemmas.{add-eq, nested, turned-eq}
 
 ---------------------------------------------------------------- values of pairs
 
--- under a reference with an opposite stand objects alone
-pub paired-object : (m : Metamodel) (f g : FeatureNo) (v : Value) → (shape m f).opposite ≡ Some g → (shape m f).is_reference ≡ true → IsSort (shape m f) v → (a : ObjectNo) × (v ≡ value.Object a)
-paired-object m f g (value.Object a) pair reference sort = (a, refl)
-paired-object m f g (value.Proxy t) pair reference sort = absurd (none-some g (sym sort.1.0 ∙ pair))
-paired-object m f g value.Null pair reference sort = absurd (true≢false (sym reference ∙ sort))
-paired-object m f g (value.Bool x) pair reference sort = absurd (true≢false (sym reference ∙ sort))
-paired-object m f g (value.Int x) pair reference sort = absurd (true≢false (sym reference ∙ sort))
-paired-object m f g (value.Text x) pair reference sort = absurd (true≢false (sym reference ∙ sort))
-paired-object m f g (value.Literal x) pair reference sort = absurd (true≢false (sym reference ∙ sort))
-paired-object m f g (value.Adapter x) pair reference sort = absurd (true≢false (sym reference ∙ sort))
+-- an object or a proxy
+abbrev pub IsTarget : Value → Type 0
+IsTarget (value.Object a) = Unit {0}
+IsTarget (value.Proxy t) = Unit {0}
+IsTarget _ = ⊥
+
+-- under a reference stands nothing else
+pub reference-target : (a : Shape) (v : Value) → a.is_reference ≡ true → IsSort a v → IsTarget v
+reference-target a (value.Object b) reference sort = tt
+reference-target a (value.Proxy t) reference sort = tt
+reference-target a value.Null reference sort = absurd (true≢false (sym reference ∙ sort))
+reference-target a (value.Bool x) reference sort = absurd (true≢false (sym reference ∙ sort))
+reference-target a (value.Int x) reference sort = absurd (true≢false (sym reference ∙ sort))
+reference-target a (value.Text x) reference sort = absurd (true≢false (sym reference ∙ sort))
+reference-target a (value.Literal x) reference sort = absurd (true≢false (sym reference ∙ sort))
+reference-target a (value.Adapter x) reference sort = absurd (true≢false (sym reference ∙ sort))
+
+-- and among what is no proxy nothing but objects
+pub target-object : (v : Value) → IsTarget v → is_no_proxy v ≡ true → (a : ObjectNo) × (v ≡ value.Object a)
+target-object (value.Object a) target plain = (a, refl)
+target-object (value.Proxy t) target plain = absurd (false≢true plain)
+target-object value.Null target plain = absurd target
+target-object (value.Bool x) target plain = absurd target
+target-object (value.Int x) target plain = absurd target
+target-object (value.Text x) target plain = absurd target
+target-object (value.Literal x) target plain = absurd target
+target-object (value.Adapter x) target plain = absurd target
 
 module _ (m : Metamodel) (doc : Doc) (sound : IsSound m doc) where
   pub answered-in : (a : ObjectNo) (f g : FeatureNo) (b : ObjectNo) (i : ℕ) → (shape m f).containing ≡ None → (shape m f).opposite ≡ Some g → slice_get (values_in doc a f) i ≡ Some (value.Object b)
@@ -54,11 +72,11 @@ module _ (m : Metamodel) (doc : Doc) (sound : IsSound m doc) where
       let c = has-content m doc sound a f i (value.Object b) at in
       c.is_sound.answered g i b (ap (λ (x : FeatureNo). (shape m x).containing) c.of ∙ plain) (ap (λ (x : FeatureNo). (shape m x).opposite) c.of ∙ pair) (ap (λ (vs : List Value). slice_get vs i) (sym c.values) ∙ at)
 
-  pub object-in : (a : ObjectNo) (f g : FeatureNo) (i : ℕ) (v : Value) → (shape m f).opposite ≡ Some g → (shape m f).is_reference ≡ true → slice_get (values_in doc a f) i ≡ Some v → (b : ObjectNo) × (v ≡ value.Object b)
-  object-in a f g i v pair reference at =
+  pub target-in : (a : ObjectNo) (f : FeatureNo) (i : ℕ) (v : Value) → (shape m f).is_reference ≡ true → slice_get (values_in doc a f) i ≡ Some v → IsTarget v
+  target-in a f i v reference at =
       let c = has-content m doc sound a f i v at in
       let sort = all-at (IsSort (shape m c.content.feature)) c.content.values i v c.is_sound.sorts (ap (λ (vs : List Value). slice_get vs i) (sym c.values) ∙ at) in
-      paired-object m f g v pair reference (subst (λ (x : FeatureNo). IsSort (shape m x) v) c.of sort)
+      reference-target (shape m f) v reference (subst (λ (x : FeatureNo). IsSort (shape m x) v) c.of sort)
 
 ---------------------------------------------------------------- the links that are put again
 
@@ -170,28 +188,34 @@ module _ (m : Metamodel) (n : ℕ) (doc : Doc) (sound : IsSound m doc) where
 
   ---------------------------------------------------------------- what comes to stand last
 
-  -- under an end of the higher feature all values that are put again, in their order
-  values-last : (d : End) (f g : FeatureNo) (o : ObjectNo) (vs : List Value) → AllByRecursion (λ v. (a : ObjectNo) × (v ≡ value.Object a)) vs
-      → flat_map (again_at d) (flat_map (value_again f g o) vs) ≡ cond (same_end (object_end n o g) d) (loaded_values n vs) []
+  -- under an end of the higher feature all objects that are put again, in their order
+  values-last : (d : End) (f g : FeatureNo) (o : ObjectNo) (vs : List Value) → AllByRecursion IsTarget vs
+      → flat_map (again_at d) (flat_map (value_again f g o) vs) ≡ cond (same_end (object_end n o g) d) (loaded_values n (others vs)) []
   values-last d f g o [] all = both (same_end (object_end n o g) d)
     where
       both : (t : Bool) → [] ≡ cond t (loaded_values n []) []
       both true = refl
       both false = refl
-  values-last d f g o (v ∷ vs) all =
-      subst (λ (w : Value). flat_map (again_at d) (flat_map (value_again f g o) (w ∷ vs)) ≡ cond (same_end (object_end n o g) d) (loaded_values n (w ∷ vs)) []) (sym all.0.1)
-      (ap (λ (xs : List Value). (if same_end (object_end n o g) d then value.Object (loaded n all.0.0) ∷ [] else []) ++ xs) (values-last d f g o vs all.1) ∙ step (same_end (object_end n o g) d) (value.Object (loaded n all.0.0)) (loaded_values n vs))
+  values-last d f g o (value.Proxy t ∷ vs) all = values-last d f g o vs all.1
+  values-last d f g o (value.Null ∷ vs) all = absurd all.0
+  values-last d f g o (value.Bool x ∷ vs) all = absurd all.0
+  values-last d f g o (value.Int x ∷ vs) all = absurd all.0
+  values-last d f g o (value.Text x ∷ vs) all = absurd all.0
+  values-last d f g o (value.Literal x ∷ vs) all = absurd all.0
+  values-last d f g o (value.Adapter x ∷ vs) all = absurd all.0
+  values-last d f g o (value.Object a ∷ vs) all =
+      ap (λ (xs : List Value). (if same_end (object_end n o g) d then value.Object (loaded n a) ∷ [] else []) ++ xs) (values-last d f g o vs all.1) ∙ step (same_end (object_end n o g) d) (value.Object (loaded n a)) (loaded_values n (others vs))
     where
       step : (t : Bool) (x : Value) (xs : List Value) → (if t then x ∷ [] else []) ++ cond t xs [] ≡ cond t (x ∷ xs) []
       step true x xs = refl
       step false x xs = refl
 
-  all-objects : (o : ObjectNo) (c : Content) → IsSoundContent m doc o c → (f : FeatureNo) → IsHigher m sound.kinds c.feature f → AllByRecursion (λ v. (a : ObjectNo) × (v ≡ value.Object a)) c.values
-  all-objects o c s f high = all-more (IsSort (shape m c.feature)) (λ v. (a : ObjectNo) × (v ≡ value.Object a)) c.values (λ v sort. paired-object m c.feature f v high.pair (opposite-reference m c.feature f high.pair) sort) s.sorts
+  all-targets : (o : ObjectNo) (c : Content) → IsSoundContent m doc o c → (f : FeatureNo) → IsHigher m sound.kinds c.feature f → AllByRecursion IsTarget c.values
+  all-targets o c s f high = all-more (IsSort (shape m c.feature)) IsTarget c.values (λ v sort. reference-target (shape m c.feature) v (opposite-reference m c.feature f high.pair) sort) s.sorts
 
   -- what is put again at an end, by its values
   abbrev pub last_of : List Value → List Value
-  last_of vs = cond (is_ascending_from 0 vs) [] (loaded_values n vs)
+  last_of vs = cond (is_ascending_from 0 vs) [] (loaded_values n (others vs))
 
   content-last : (b : ObjectNo) (g f : FeatureNo) → IsHigher m sound.kinds g f → (o : ObjectNo) (c : Content) → IsSoundContent m doc o c
       → flat_map (again_at (object_end n b g)) (content_again o c) ≡ cond (same_feature g c.feature) (cond (nat_eq o.0 b.0) (last_of c.values) []) []
@@ -203,11 +227,11 @@ module _ (m : Metamodel) (n : ℕ) (doc : Doc) (sound : IsSound m doc) where
       all-nil false q none = refl
 
       by_order : (h : FeatureNo) → IsHigher m sound.kinds c.feature h → (t : Bool)
-          → flat_map (again_at (object_end n b g)) (cond t [] (flat_map (value_again h c.feature o) c.values)) ≡ cond (same_feature g c.feature) (cond (nat_eq o.0 b.0) (cond t [] (loaded_values n c.values)) []) []
+          → flat_map (again_at (object_end n b g)) (cond t [] (flat_map (value_again h c.feature o) c.values)) ≡ cond (same_feature g c.feature) (cond (nat_eq o.0 b.0) (cond t [] (loaded_values n (others c.values))) []) []
       by_order h is true = all-nil (same_feature g c.feature) (nat_eq o.0 b.0) []
       by_order h is false =
-          values-last (object_end n b g) h c.feature o c.values (all-objects o c s h is)
-          ∙ nested (nat_eq o.0 b.0) (same_feature g c.feature) (same_end (object_end n o c.feature) (object_end n b g)) (loaded_values n c.values) (λ i. (sym (add-eq n o.0 b.0) i) && (turned-eq g.0 c.feature.0 i))
+          values-last (object_end n b g) h c.feature o c.values (all-targets o c s h is)
+          ∙ nested (nat_eq o.0 b.0) (same_feature g c.feature) (same_end (object_end n o c.feature) (object_end n b g)) (loaded_values n (others c.values)) (λ i. (sym (add-eq n o.0 b.0) i) && (turned-eq g.0 c.feature.0 i))
 
       by : (h : Option FeatureNo) → lower_of (shape m c.feature) c.feature ≡ h
           → flat_map (again_at (object_end n b g)) (option_map_or (values_again c.feature o c.values) h []) ≡ cond (same_feature g c.feature) (cond (nat_eq o.0 b.0) (last_of c.values) []) []
@@ -228,7 +252,7 @@ module _ (m : Metamodel) (n : ℕ) (doc : Doc) (sound : IsSound m doc) where
     where
       by_order : (h : FeatureNo) → IsHigher m sound.kinds c.feature h → (t : Bool) → flat_map (again_at d) (cond t [] (flat_map (value_again h c.feature o) c.values)) ≡ []
       by_order h is true = refl
-      by_order h is false = values-last d h c.feature o c.values (all-objects o c s h is) ∙ ap (λ (t : Bool). cond t (loaded_values n c.values) []) (ne-same_end (object_end n o c.feature) d (stays o c.feature h is))
+      by_order h is false = values-last d h c.feature o c.values (all-targets o c s h is) ∙ ap (λ (t : Bool). cond t (loaded_values n (others c.values)) []) (ne-same_end (object_end n o c.feature) d (stays o c.feature h is))
 
       by : (h : Option FeatureNo) → lower_of (shape m c.feature) c.feature ≡ h → flat_map (again_at d) (option_map_or (values_again c.feature o c.values) h []) ≡ []
       by None none = refl

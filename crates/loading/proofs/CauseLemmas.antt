@@ -1,6 +1,6 @@
 -- No cause of refusal applies to a document that is read.
 use Rattle.std.proofs.Common.{◌≡◌, Bool, true, false, List, Option, Some, None, ℕ, cond, refl}
-use Rattle.std.specs.Prelude.{◌||◌, Ok, is_some, not}
+use Rattle.std.specs.Prelude.{◌&&◌, ◌||◌, Ok, is_some, not}
 use Rattle.std.specs.List.{list_any}
 use Rattle.std.specs.Option.{option_map_or, option_or}
 use Rattle.std.proofs.lemmas.Bool.{or_parts}
@@ -13,7 +13,7 @@ use Rattle.doc_parts.specs.Contents.{is_content}
 use Rattle.doc_parts.specs.Faults.{has_no_class, has_other_key, is_deep, is_long, is_misshapen, of_entry, of_written}
 use Rattle.doc_parts.specs.Layout.{top}
 use Rattle.doc_parts.specs.Parts.{parts}
-use Rattle.resource_docs.specs.Causes.{IsRead, cause_of, has_cross, has_many_roots, has_other_format, has_repeat, is_one_sided, of_content, sense_cause, shape_cause, unless_faulty}
+use Rattle.resource_docs.specs.Causes.{IsRead, cause_of, has_cross, has_first_format, has_many_roots, has_other_format, has_repeat, is_one_sided, of_content, sense_cause, shape_cause, unless_faulty}
 use Rattle.resource_docs.specs.Read.{doc_read}
 use Rattle.resource_docs.specs.Texts.{Base, base_of}
 use Rattle.resource_docs.specs.Values.{has_lost}
@@ -63,13 +63,12 @@ shapely m d none =
       content = not-last cause.Value untyped (later keys values (later classes (keys else_by values) from_class));
     }
 
--- nothing repeats that may not, no list is too long, both ends of a pair name each other, and none has a proxy
+-- nothing repeats that may not, no list is too long, and both ends of a pair name each other
 pub record IsFaultless (m : Metamodel) (d : Data) (doc : Doc) : Type 0 where
   pub form : IsShapely m d
   pub repeats : of_content (λ o c. has_repeat m c) doc ≡ false
   pub long : has_many_roots m d || of_entry m (is_long m) (parts m d) ≡ false
   pub sided : of_content (is_one_sided m doc) doc ≡ false
-  pub across : of_content (λ o c. has_cross m c) doc ≡ false
 
 faultless : (m : Metamodel) (b : Base) (d : Data) → cause_of m b d ≡ None → IsFaultless m d (doc_read m b d)
 unfolding cause_of
@@ -77,8 +76,7 @@ faultless m b d none =
     let ps = parts m d in
     let doc = doc_read m b d in
     let deep = cause.Depth where_so list_any is_deep ps in
-    let cross = of_content (λ o c. has_cross m c) doc in
-    let from_cross = cause.Cross where_so cross else_by deep in
+    let from_cross = cause.Cross where_so (option_map_or has_first_format (top d) false && of_content (λ o c. has_cross m c) doc) else_by deep in
     let unanswered = of_content (is_one_sided m doc) doc in
     let one_sided = cause.OneSided where_so unanswered in
     let many = has_many_roots m d || of_entry m (is_long m) ps in
@@ -95,7 +93,6 @@ faultless m b d none =
       repeats = not-so cause.Duplicate twice from_bound from_repeated;
       long = not-so cause.Bound many (one_sided else_by from_cross) from_long;
       sided = not-so cause.OneSided unanswered from_cross from_sided;
-      across = not-so cause.Cross cross deep (later one_sided from_cross from_sided);
     }
 
 -- a document that is read is what its source is read as, and faultless

@@ -1,6 +1,6 @@
 -- What is known of a content of a document that is read, by the shape of its feature.
 use Rattle.std.proofs.Common.{◌≡◌, ◌∙◌, ℕ, zero, suc, Bool, true, false, cond, List, [], ◌∷◌, Option, Some, None, refl, sym, ap, subst}
-use Rattle.std.specs.Prelude.{◌&&◌, IfSome, filter_map, is_some, option_map, slice_get}
+use Rattle.std.specs.Prelude.{IfSome, filter_map, option_map, slice_get}
 use Rattle.std.specs.List.{AllByRecursion, enumerate_from, list_any}
 use Rattle.std.specs.Option.{option_map_or, option_or}
 use Rattle.std.proofs.lemmas.Bool.{false≢true, or_parts, true≢false}
@@ -29,13 +29,13 @@ use Rattle.web_uris.specs.declared.path.Step.{Step}
 use Rattle.json_rows.specs.Rows.{◌>>=◌, ◌such_that◌, whole_number, whole_number_of_64}
 use Rattle.doc_parts.specs.Contents.{attribute_value, conforms_to, is_short}
 use Rattle.doc_parts.specs.Parts.{Entry, Part, number_of, step_to, values_of}
-use Rattle.resource_docs.specs.Causes.{has_cross, is_proxy, repeats_value}
-use Rattle.resource_docs.specs.Read.{content_read, values_read}
+use Rattle.resource_docs.specs.Causes.{repeats_value}
+use Rattle.resource_docs.specs.Read.{values_read}
 use Rattle.resource_docs.specs.Texts.{Base, target}
 use Rattle.resource_docs.specs.Values.{led_to, object_of, value_of}
 use Rattle.resource_docs.specs.declared.target.Target.{Target}
 use Rattle.resource_docs.specs.declared.target.Target.TheVariants.{Here, Elsewhere}
-use Rattle.loading.proofs.PairLemmas.{all-and, all-at, all-every, all-filter_map, all-more}
+use Rattle.loading.proofs.PairLemmas.{all-at, all-every, all-filter_map, all-more}
 use Rattle.loading.proofs.SoundLemmas.{IsSort, all-none, filter_map-at}
 
 ---------------------------------------------------------------- kinds of values
@@ -108,25 +108,15 @@ pub if-some : {X Y : Type 0} (P : Y → Type 0) (h : X → Option Y) (xs : List 
 if-some {X} {Y} P h xs each =
     all-filter_map (λ x. Unit {0}) P h xs (λ x y u is. subst (λ (o : Option Y). IfSome o P) is (each x)) (all-every (λ x. Unit {0}) xs (λ x. tt))
 
-linked-sort : (m : Metamodel) (f : FeatureNo) (g : Feature) (class : ClassNo) (v : Value) → lookups.is_container m f ≡ false → IsLinked v → IsSort (shape_of m f g (Reference class false None)) v
-linked-sort m f g class (value.Object o) plain h = refl
-linked-sort m f g class (value.Proxy t) plain h = (refl, (refl, ap (λ (b : Bool). cond b None None) plain))
-linked-sort m f g class value.Null plain h = absurd h
-linked-sort m f g class (value.Bool b) plain h = absurd h
-linked-sort m f g class (value.Int n) plain h = absurd h
-linked-sort m f g class (value.Text p) plain h = absurd h
-linked-sort m f g class (value.Literal i) plain h = absurd h
-linked-sort m f g class (value.Adapter a) plain h = absurd h
-
-paired-sort : (m : Metamodel) (f : FeatureNo) (g : Feature) (class : ClassNo) (h : FeatureNo) (v : Value) → is_proxy v ≡ false → IsLinked v → IsSort (shape_of m f g (Reference class false (Some h))) v
-paired-sort m f g class h (value.Object o) none l = refl
-paired-sort m f g class h (value.Proxy t) none l = absurd (true≢false none)
-paired-sort m f g class h value.Null none l = absurd l
-paired-sort m f g class h (value.Bool b) none l = absurd l
-paired-sort m f g class h (value.Int n) none l = absurd l
-paired-sort m f g class h (value.Text p) none l = absurd l
-paired-sort m f g class h (value.Literal i) none l = absurd l
-paired-sort m f g class h (value.Adapter a) none l = absurd l
+linked-sort : (m : Metamodel) (f : FeatureNo) (g : Feature) (class : ClassNo) (opposite : Option FeatureNo) (v : Value) → lookups.is_container m f ≡ false → IsLinked v → IsSort (shape_of m f g (Reference class false opposite)) v
+linked-sort m f g class opposite (value.Object o) plain h = refl
+linked-sort m f g class opposite (value.Proxy t) plain h = (refl, ap (λ (b : Bool). cond b opposite None) plain)
+linked-sort m f g class opposite value.Null plain h = absurd h
+linked-sort m f g class opposite (value.Bool b) plain h = absurd h
+linked-sort m f g class opposite (value.Int n) plain h = absurd h
+linked-sort m f g class opposite (value.Text p) plain h = absurd h
+linked-sort m f g class opposite (value.Literal i) plain h = absurd h
+linked-sort m f g class opposite (value.Adapter a) plain h = absurd h
 
 ---------------------------------------------------------------- one content
 
@@ -158,24 +148,20 @@ module _ (m : Metamodel) (b : Base) (ps : List Part) (path : Path) (e : Entry) (
   plain-of g (Reference class true opposite) h q = sym (same_Some e.feature h q)
   plain-of g (Reference class false opposite) h q = absurd (none-some h (sym (ap (λ (x : Bool). cond x opposite None) not_container) ∙ q))
 
-  sorts-of : (g : Feature) (k : Kind) → is_some (shape_of m e.feature g k).opposite && list_any is_proxy (vs_of k) ≡ false → AllByRecursion (IsSort (shape_of m e.feature g k)) (vs_of k)
-  sorts-of g (Attribute t unique unsettable default) none =
+  sorts-of : (g : Feature) (k : Kind) → AllByRecursion (IsSort (shape_of m e.feature g k)) (vs_of k)
+  sorts-of g (Attribute t unique unsettable default) =
       all-more IsPlain (IsSort (shape_of m e.feature g (Attribute t unique unsettable default))) (vs_of (Attribute t unique unsettable default)) (plain-sort m e.feature g t unique unsettable default)
       (if-some IsPlain (value_of m b ps path e.feature (Attribute t unique unsettable default)) (enumerate_from 0 (values_of m e)) (λ v. attribute-plain m (shape m e.feature).is_single t v.1))
-  sorts-of g (Reference class true opposite) none =
+  sorts-of g (Reference class true opposite) =
       if-some (IsSort (shape_of m e.feature g (Reference class true opposite))) (value_of m b ps path e.feature (Reference class true opposite)) (enumerate_from 0 (values_of m e))
       (λ v. object-sort (number_of ps (with_step path (step_to m e.feature v.0))))
     where
       object-sort : (o : Option ℕ) → IfSome (option_map object_of o) (IsSort (shape_of m e.feature g (Reference class true opposite)))
       object-sort None = tt
       object-sort (Some n) = refl
-  sorts-of g (Reference class false None) none =
-      all-more IsLinked (IsSort (shape_of m e.feature g (Reference class false None))) (vs_of (Reference class false None)) (λ v. linked-sort m e.feature g class v not_container)
-      (if-some IsLinked (value_of m b ps path e.feature (Reference class false None)) (enumerate_from 0 (values_of m e)) (λ v. led-linked m ps class (as_str v.1 >>= target b)))
-  sorts-of g (Reference class false (Some h)) none =
-      all-and (λ v. is_proxy v ≡ false) IsLinked (IsSort (shape_of m e.feature g (Reference class false (Some h)))) (vs_of (Reference class false (Some h))) (λ v. paired-sort m e.feature g class h v)
-      (all-none is_proxy (vs_of (Reference class false (Some h))) none)
-      (if-some IsLinked (value_of m b ps path e.feature (Reference class false (Some h))) (enumerate_from 0 (values_of m e)) (λ v. led-linked m ps class (as_str v.1 >>= target b)))
+  sorts-of g (Reference class false opposite) =
+      all-more IsLinked (IsSort (shape_of m e.feature g (Reference class false opposite))) (vs_of (Reference class false opposite)) (λ v. linked-sort m e.feature g class opposite v not_container)
+      (if-some IsLinked (value_of m b ps path e.feature (Reference class false opposite)) (enumerate_from 0 (values_of m e)) (λ v. led-linked m ps class (as_str v.1 >>= target b)))
 
   unique-of : (g : Feature) (k : Kind) → (shape_of m e.feature g k).is_reference ≡ true → (shape_of m e.feature g k).is_unique ≡ true
   unique-of g (Attribute t unique unsettable default) q = absurd (false≢true q)
@@ -189,18 +175,17 @@ module _ (m : Metamodel) (b : Base) (ps : List Part) (path : Path) (e : Entry) (
       (step_to m e.feature r.1.0, refl, number-of-object (number_of ps (with_step path (step_to m e.feature r.1.0))) o r.3)
   numbers-of g (Reference class false opposite) h i o q at = absurd (none-some h (sym (ap (λ (x : Bool). cond x opposite None) not_container) ∙ q))
 
-  pub known-of : is_nil (values_read m b ps path e) ≡ false → has_cross m (content_read m b ps path e) ≡ false → IsKnown m ps path e.feature (values_read m b ps path e)
+  pub known-of : is_nil (values_read m b ps path e) ≡ false → IsKnown m ps path e.feature (values_read m b ps path e)
   known-of = by (lookups.feature m e.feature) refl
     where
-      by : (o : Option Feature) → lookups.feature m e.feature ≡ o → is_nil (values_read m b ps path e) ≡ false → has_cross m (content_read m b ps path e) ≡ false → IsKnown m ps path e.feature (values_read m b ps path e)
-      by None is some cross = absurd (true≢false (sym (ap (λ (x : Option Feature). is_nil (option_map_or (λ g. vs_of g.kind) x [])) is) ∙ some))
-      by (Some g) is some cross =
+      by : (o : Option Feature) → lookups.feature m e.feature ≡ o → is_nil (values_read m b ps path e) ≡ false → IsKnown m ps path e.feature (values_read m b ps path e)
+      by None is some = absurd (true≢false (sym (ap (λ (x : Option Feature). is_nil (option_map_or (λ g. vs_of g.kind) x [])) is) ∙ some))
+      by (Some g) is some =
           let shapes : shape m e.feature ≡ shape_of m e.feature g g.kind = ap (λ (x : Option Feature). option_map_or (λ y. shape_of m e.feature y y.kind) x (contents_shape m)) is in
           let values : values_read m b ps path e ≡ vs_of g.kind = ap (λ (x : Option Feature). option_map_or (λ y. vs_of y.kind) x []) is in
-          let cross_here : is_some (shape_of m e.feature g g.kind).opposite && list_any is_proxy (vs_of g.kind) ≡ false = sym (λ i. is_some (shapes i).opposite && list_any is_proxy (values i)) ∙ cross in
           record {
             plain = (λ h q. plain-of g g.kind h (sym (ap (λ (x : Shape). x.containing) shapes) ∙ q));
-            sorts = subst (λ (x : Shape). AllByRecursion (IsSort x) (values_read m b ps path e)) (sym shapes) (subst (λ (vs : List Value). AllByRecursion (IsSort (shape_of m e.feature g g.kind)) vs) (sym values) (sorts-of g g.kind cross_here));
+            sorts = subst (λ (x : Shape). AllByRecursion (IsSort x) (values_read m b ps path e)) (sym shapes) (subst (λ (vs : List Value). AllByRecursion (IsSort (shape_of m e.feature g g.kind)) vs) (sym values) (sorts-of g g.kind));
             unique = (λ q. ap (λ (x : Shape). x.is_unique) shapes ∙ unique-of g g.kind (sym (ap (λ (x : Shape). x.is_reference) shapes) ∙ q));
             numbers = (λ h i o q at. numbers-of g g.kind h i o (sym (ap (λ (x : Shape). x.containing) shapes) ∙ q) (sym (ap (λ (vs : List Value). slice_get vs i) values) ∙ at));
           }

@@ -23,7 +23,7 @@ use Rattle.web_uris.specs.Paths.{new_path, with_step}
 use Rattle.web_uris.specs.declared.path.Step.{Step}
 use Rattle.doc_parts.specs.Parts.{Entry, Part, entries, number_of, parts, root_parts}
 use Rattle.doc_parts.proofs.WayLemmas.{number_tells}
-use Rattle.resource_docs.specs.Causes.{IsRead, has_cross, has_repeat, is_one_sided, is_unanswered, of_content, repeats_value}
+use Rattle.resource_docs.specs.Causes.{IsRead, has_repeat, is_one_sided, is_unanswered, of_content, repeats_value}
 use Rattle.resource_docs.specs.Read.{content_read, contents_read, doc_read, object_read, root_number, values_in, values_under}
 use Rattle.resource_docs.specs.Texts.{Base, base_of}
 use Rattle.resource_docs.specs.declared.doc.Content.{Content}
@@ -70,7 +70,7 @@ contents-apart m names b ps p =
 
 module _ (m : Metamodel) (names : NamesAreApart m) (b : Base) (d : Data) (doc : Doc) (objects_are : doc.objects ≡ map (object_read m b (parts m d)) (parts m d))
     (roots_are : doc.roots ≡ filter_map (λ p. root_number (parts m d) p.path) (root_parts d)) (repeats : of_content (λ o c. has_repeat m c) doc ≡ false) (sided : of_content (is_one_sided m doc) doc ≡ false)
-    (across : of_content (λ o c. has_cross m c) doc ≡ false) (fits : AllByRecursion (λ (o : DocObject). AllByRecursion (λ (c : Content). length c.values ≤ LIST_VALUES) o.contents) doc.objects) where
+    (fits : AllByRecursion (λ (o : DocObject). AllByRecursion (λ (c : Content). length c.values ≤ LIST_VALUES) o.contents) doc.objects) where
   other-features : (o : ℕ) (x : DocObject) → slice_get doc.objects o ≡ Some x → Apart HaveOtherFeatures x.contents
   other-features o x at = let p = object-at m b (parts m d) doc objects_are o x at in subst (λ (y : DocObject). Apart HaveOtherFeatures y.contents) p.2 (contents-apart m names b (parts m d) p.0)
 
@@ -95,7 +95,7 @@ module _ (m : Metamodel) (names : NamesAreApart m) (b : Base) (d : Data) (doc : 
   sound-content : (o : ObjectNo) (c : Content) → IsThere doc o c → IsSoundContent m doc o c
   sound-content o c there =
       let w = written m b (parts m d) doc objects_are o c there in
-      let k = known-at m b (parts m d) doc objects_are across o c there w in
+      let k = known-at m b (parts m d) doc objects_are o c there w in
       record {
         own = own-values o c there;
         plain = k.plain;
@@ -128,7 +128,7 @@ module _ (m : Metamodel) (names : NamesAreApart m) (b : Base) (d : Data) (doc : 
   part-of o f h k a contains at =
       let v = value-there doc o f k (value.Object a) at in
       let w = written m b (parts m d) doc objects_are o v.0 v.1 in
-      let known = known-at m b (parts m d) doc objects_are across o v.0 v.1 w in
+      let known = known-at m b (parts m d) doc objects_are o v.0 v.1 w in
       let r = known.numbers h v.3.0 a (ap (λ (x : FeatureNo). (shape m x).containing) v.2 ∙ contains) v.3.1 in
       record { content = v.0; of = v.2; origin = w; step = r.0; name = r.1; number = r.2 }
 
@@ -189,14 +189,14 @@ doc-sound m accepted b d n doc is ends fits =
     let objects = ap (λ (x : Doc). x.objects) is ∙ objects-are m b d in
     let roots = ap (λ (x : Doc). x.roots) is ∙ roots-read m b d in
     let few = fitting-contents n doc fits in
-    let part = part-of m names b d doc objects roots ends.repeats ends.sided ends.across few in
+    let part = part-of m names b d doc objects roots ends.repeats ends.sided few in
     record {
       kinds = kinds-are m accepted;
-      contents = all-sound m names b d doc objects roots ends.repeats ends.sided ends.across few;
-      others = other-features m names b d doc objects roots ends.repeats ends.sided ends.across few;
-      once = (λ a c f g h i j k x p q at there. one-part m names b d doc objects roots ends.repeats ends.sided ends.across few a c f g x (part a f h j x p at) (part c g i k x q there));
-      roots_distinct = (λ j k x at there. apart-one (λ (x y : ObjectNo). x ≡ y → ⊥) doc.roots j k x x (roots-other m names b d doc objects roots ends.repeats ends.sided ends.across few) at there (λ other. other refl) (λ other. other refl));
-      root_apart = (λ a f h j k x p at root. no-part m names b d doc objects roots ends.repeats ends.sided ends.across few k x a f root (part a f h j x p at));
+      contents = all-sound m names b d doc objects roots ends.repeats ends.sided few;
+      others = other-features m names b d doc objects roots ends.repeats ends.sided few;
+      once = (λ a c f g h i j k x p q at there. one-part m names b d doc objects roots ends.repeats ends.sided few a c f g x (part a f h j x p at) (part c g i k x q there));
+      roots_distinct = (λ j k x at there. apart-one (λ (x y : ObjectNo). x ≡ y → ⊥) doc.roots j k x x (roots-other m names b d doc objects roots ends.repeats ends.sided few) at there (λ other. other refl) (λ other. other refl));
+      root_apart = (λ a f h j k x p at root. no-part m names b d doc objects roots ends.repeats ends.sided few k x a f root (part a f h j x p at));
       few_roots = fits.few;
     }
 

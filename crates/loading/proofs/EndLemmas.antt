@@ -1,6 +1,7 @@
 -- What each end has once a document's edits are made.
-use Rattle.std.proofs.Common.{◌≡◌, ◌≢◌, ◌∙◌, ◌+◌, ◌≤◌, ◌++◌, ℕ, Bool, true, false, cond, List, [], Option, Some, None, append_assoc, length, refl, sym, ap, subst}
+use Rattle.std.proofs.Common.{◌≡◌, ◌≢◌, ◌∙◌, ◌+◌, ◌≤◌, ◌++◌, ℕ, Bool, true, false, cond, List, [], Option, Some, None, append-nil, append_assoc, arith, length, refl, sym, ap, subst}
 use Rattle.std.specs.Prelude.{slice_get}
+use Rattle.std.proofs.lemmas.List.{length-map}
 use Rattle.std.proofs.lemmas.Option.{none-some}
 use Rattle.mm_types.specs.Resolved.{Metamodel}
 use Rattle.mm_types.specs.Shapes.{shape}
@@ -24,15 +25,17 @@ use Rattle.resource_docs.specs.Read.{values_in, values_under}
 use Rattle.resource_docs.specs.declared.doc.Doc.{Doc}
 use Rattle.resource_docs.specs.declared.doc.DocObject.{DocObject}
 use Rattle.loading.specs.Laws.{IsRoomFor}
-use Rattle.loading.specs.LoadEdits.{is_ascending_from, load_edits, near_edits, root_puts}
+use Rattle.loading.specs.LoadEdits.{is_ascending_from, load_edits, near_edits, proxy_edits, root_puts}
 use Rattle.loading.specs.Loading.{contents_end, loaded, object_end, of_contents, roots_loaded}
 use Rattle.loading.specs.Pairs.{lower_of}
-use Rattle.loading.proofs.AgainLemmas.{IsLowerEnd, IsNotHigher, again-edits, agains, agains-good, answered-in, last-higher, last-none, object-in}
+use Rattle.loading.proofs.AgainLemmas.{IsLowerEnd, IsNotHigher, again-edits, agains, agains-good, answered-in, last-higher, last-none, target-in, target-object}
+use Rattle.loading.proofs.FillLemmas.{AreFilled, IsReady, all_filled, at-others, end_filled, fills-kinds, is_no_proxy, others, others-ascending, others-at, others-distinct, others-loaded, proxies-loaded}
+use Rattle.loading.proofs.ProxyEndLemmas.{filled-higher, filled-none, proxies-fill}
 use Rattle.loading.proofs.GainLemmas.{IsMade, good_kinds}
-use Rattle.loading.proofs.NearLemmas.{good-ends, near-all_good, near_end, near_end-elsewhere, near_end-far, near_end-own, near_end-roots, near_made, not-contents, values-distinct}
+use Rattle.loading.proofs.NearLemmas.{good-ends, near-all_good, near_end, near_end-elsewhere, near_end-far, near_end-own, near_end-roots, near_made, not-contents, place_of, values-distinct, values-few, IsPlaceOf, at_far, at_near, at_roots, elsewhere}
 use Rattle.loading.proofs.RotateLemmas.{ArePutAgain, again_kinds, all_again, all_put_again, at-among, put_all_last, put_all_last-whole}
 use Rattle.loading.proofs.SideLemmas.{IsFarSide, IsHigher, IsNearSide, IsPlainFeature, higher, higher-far, lower-is, near-reference, near-side, not-near, opposite-reference}
-use Rattle.loading.proofs.SoundLemmas.{object-there, there-object, IsSound}
+use Rattle.loading.proofs.SoundLemmas.{filter-at, object-there, there-object, IsSound}
 use Rattle.loading.proofs.SourceLemmas.{ascending-one, ascending-test, at-loaded, at-source, loaded-at, loaded-distinct, loaded_value, loaded_values, source-at, sources-ascending, sources_from}
 use Rattle.loading.proofs.TotalLemmas.{IsElsewhere}
 
@@ -46,8 +49,14 @@ module _ (m : Metamodel) (n : ℕ) (k : ResourceNo) (doc : Doc) (sound : IsSound
   abbrev first : Links
   first = applied s (root_puts m n k doc ++ of_contents (near_edits m n) doc)
 
+  abbrev second : Links
+  second = applied (applied s (root_puts m n k doc ++ of_contents (near_edits m n) doc)) (all_again (kinds_of m) (agains m n doc sound))
+
+  abbrev fill_plan : List Edit
+  fill_plan = of_contents (proxy_edits m n) doc
+
   abbrev pub loaded_set : Links
-  loaded_set = applied (applied s (root_puts m n k doc ++ of_contents (near_edits m n) doc)) (all_again (kinds_of m) (agains m n doc sound))
+  loaded_set = applied (applied (applied s (root_puts m n k doc ++ of_contents (near_edits m n) doc)) (all_again (kinds_of m) (agains m n doc sound))) (of_contents (proxy_edits m n) doc)
 
   first-made : IsMade (kinds_of m) sound.kinds n (near_end m n k doc sound s legal kinds free room fit) (good-ends m n k doc sound s legal kinds free room fit) s first_plan
   first-made = near_made m n k doc sound s legal kinds free room fit
@@ -66,32 +75,16 @@ module _ (m : Metamodel) (n : ℕ) (k : ResourceNo) (doc : Doc) (sound : IsSound
       all_put_again (kinds_of m) sound.kinds (IsLowerEnd m n doc sound) (near_end m n k doc sound s legal kinds free room fit) (agains m n doc sound) first first-legal first-kinds first-free (λ d near. first-made.ends d)
       (agains-good m n doc sound (near_end m n k doc sound s legal kinds free room fit) (near_end-own m n k doc sound s legal kinds free room fit) (values-distinct m n k doc sound s legal kinds free room fit))
 
-  pub loaded-legal : IsLegalSet loaded_set
-  loaded-legal = plan_keeps_legal first again_plan first-legal again-made.fits
+  second-legal : IsLegalSet second
+  second-legal = plan_keeps_legal first again_plan first-legal again-made.fits
 
-  pub loaded-kinds : AreOfKind (kinds_of m) loaded_set
-  loaded-kinds = plan_keeps_kinds (kinds_of m) sound.kinds first again_plan first-kinds (again_kinds (kinds_of m) (agains m n doc sound))
-
-  ---------------------------------------------------------------- the whole plan
-
-  whole : first_plan ++ again_plan ≡ load_edits m n k doc
-  whole =
-      append_assoc (root_puts m n k doc) (of_contents (near_edits m n) doc) again_plan
-      ∙ ap (λ (es : List Edit). root_puts m n k doc ++ (of_contents (near_edits m n) doc ++ es)) (again-edits m n doc sound)
-
-  pub loaded-fits : PlanFits s (load_edits m n k doc)
-  loaded-fits = subst (PlanFits s) whole (PlanFits-append s first_plan again_plan first-made.fits again-made.fits)
-
-  pub loaded-no_cycle : PlanMakesNoCycle s (load_edits m n k doc)
-  loaded-no_cycle = subst (PlanMakesNoCycle s) whole (PlanMakesNoCycle-append s first_plan again_plan first-made.no_cycle again-made.no_cycle)
-
-  pub loaded-set_is : applied s (load_edits m n k doc) ≡ loaded_set
-  loaded-set_is = ap (applied s) (sym whole) ∙ applied-append s first_plan again_plan
+  second-kinds : AreOfKind (kinds_of m) second
+  second-kinds = plan_keeps_kinds (kinds_of m) sound.kinds first again_plan first-kinds (again_kinds (kinds_of m) (agains m n doc sound))
 
   ---------------------------------------------------------------- ends
 
-  end-stays : (d : End) → IsNotHigher m n doc sound d → end loaded_set d ≡ near_end m n k doc sound s legal kinds free room fit d
-  end-stays d stays = again-made.ends d ∙ ap (λ (us : List Value). put_all_last us (end first d)) (last-none m n doc sound d stays) ∙ first-made.ends d
+  second-stays : (d : End) → IsNotHigher m n doc sound d → end second d ≡ near_end m n k doc sound s legal kinds free room fit d
+  second-stays d stays = again-made.ends d ∙ ap (λ (us : List Value). put_all_last us (end first d)) (last-none m n doc sound d stays) ∙ first-made.ends d
 
   module _ (b : ObjectNo) (g f : FeatureNo) (high : IsHigher m sound.kinds g f) where
     abbrev vs : List Value
@@ -106,15 +99,18 @@ module _ (m : Metamodel) (n : ℕ) (k : ResourceNo) (doc : Doc) (sound : IsSound
     plain-back : (shape m f).containing ≡ None
     plain-back = sym (sound.kinds.one_container g f high.pair) ∙ high.plain
 
-    value-object : (i : ℕ) (v : Value) → slice_get (values_in doc b g) i ≡ Some v → (a : ObjectNo) × (v ≡ value.Object a)
-    value-object i v at = object-in m doc sound b g f i v high.pair (opposite-reference m g f high.pair) at
+    value-object : (i : ℕ) (v : Value) → slice_get (others (values_in doc b g)) i ≡ Some v → (a : ObjectNo) × (v ≡ value.Object a)
+    value-object i v at =
+        let x = filter-at is_no_proxy (values_in doc b g) i v at in
+        target-object v (target-in m doc sound b g x.0 v (opposite-reference m g f high.pair) x.1) x.2
 
-    from-in : (i : ℕ) (v : Value) → slice_get from i ≡ Some v → (j : ℕ) × (slice_get (loaded_values n vs) j ≡ Some v)
+    from-in : (i : ℕ) (v : Value) → slice_get from i ≡ Some v → (j : ℕ) × (slice_get (loaded_values n (others vs)) j ≡ Some v)
     from-in i v at =
         let r = source-at n (λ (x : DocObject). values_under x f) b doc.objects i v at in
         let named : slice_get (values_in doc r.0 f) r.4.0 ≡ Some (value.Object b) = there-object doc r.0 f r.1 r.4.0 (value.Object b) r.2 r.4.1 in
         let there = answered-in m doc sound r.0 f g b r.4.0 plain-back back named in
-        (there.0, loaded-at n vs there.0 (value.Object r.0) there.1 ∙ ap Some (sym r.3))
+        let kept = at-others vs there.0 (value.Object r.0) refl there.1 in
+        (kept.0, loaded-at n (others vs) kept.0 (value.Object r.0) kept.1 ∙ ap Some (sym r.3))
 
     from-object : (i : ℕ) (a : ObjectNo) → slice_get (values_in doc b g) i ≡ Some (value.Object a) → (j : ℕ) × (slice_get from j ≡ Some (value.Object (loaded n a)))
     from-object i a at =
@@ -125,24 +121,127 @@ module _ (m : Metamodel) (n : ℕ) (k : ResourceNo) (doc : Doc) (sound : IsSound
     loaded-is : (u v : Value) (a : ObjectNo) → u ≡ value.Object a → loaded_value n u ≡ v → value.Object (loaded n a) ≡ v
     loaded-is u v a is h = sym (ap (loaded_value n) is) ∙ h
 
-    in-from : (i : ℕ) (v : Value) → slice_get (loaded_values n vs) i ≡ Some v → (j : ℕ) × (slice_get from j ≡ Some v)
+    in-from : (i : ℕ) (v : Value) → slice_get (loaded_values n (others vs)) i ≡ Some v → (j : ℕ) × (slice_get from j ≡ Some v)
     in-from i v at =
-        let w = at-loaded n vs i v at in
+        let w = at-loaded n (others vs) i v at in
         let a = value-object i w.0 w.1 in
-        let r = from-object i a.0 (w.1 ∙ ap Some a.1) in
+        let x = others-at vs i w.0 w.1 in
+        let r = from-object x.0 a.0 (x.1 ∙ ap Some a.1) in
         (r.0, r.1 ∙ ap Some (loaded-is w.0 v a.0 a.1 w.2))
 
-    ordered : (t : Bool) → is_ascending_from 0 vs ≡ t → put_all_last (cond t [] (loaded_values n vs)) from ≡ loaded_values n vs
-    ordered true is = ascending-one (n + 0) from (loaded_values n vs) (sources-ascending n (λ (x : DocObject). values_under x f) b 0 doc.objects) (ascending-test n 0 vs value-object is) from-in in-from
+    ordered : (t : Bool) → is_ascending_from 0 vs ≡ t → put_all_last (cond t [] (loaded_values n (others vs))) from ≡ loaded_values n (others vs)
+    ordered true is =
+        ascending-one (n + 0) from (loaded_values n (others vs)) (sources-ascending n (λ (x : DocObject). values_under x f) b 0 doc.objects)
+        (ascending-test n 0 (others vs) value-object (others-ascending 0 vs ∙ is)) from-in in-from
     ordered false is =
-        put_all_last-whole (loaded_values n vs) from (loaded-distinct n vs (values-distinct m n k doc sound s legal kinds free room fit b g (opposite-reference m g f high.pair)))
-        (λ i w at. (let r = from-in i w at in at-among (loaded_values n vs) r.0 w r.1))
+        put_all_last-whole (loaded_values n (others vs)) from (loaded-distinct n (others vs) (others-distinct vs (values-distinct m n k doc sound s legal kinds free room fit b g (opposite-reference m g f high.pair))))
+        (λ i w at. (let r = from-in i w at in at-among (loaded_values n (others vs)) r.0 w r.1))
 
-    end-higher : end loaded_set (object_end n b g) ≡ loaded_values n (values_in doc b g)
-    end-higher =
+    second-higher : end second (object_end n b g) ≡ loaded_values n (others (values_in doc b g))
+    second-higher =
         again-made.ends (object_end n b g)
         ∙ (λ i. put_all_last (last-higher m n doc sound b g f high i) ((first-made.ends (object_end n b g) ∙ near_end-far m n k doc sound s legal kinds free room fit b g f (higher-far m sound.kinds g f high)) i))
         ∙ ordered (is_ascending_from 0 vs) refl
+
+    ready-higher : IsReady second fill_plan (object_end n b g)
+    ready-higher = record {
+      last = loaded_values n (values_in doc b g);
+      distinct = loaded-distinct n vs (values-distinct m n k doc sound s legal kinds free room fit b g (opposite-reference m g f high.pair));
+      few = (let e = length-map (values_in doc b g) (loaded_value n) in let few = values-few m n k doc sound s legal kinds free room fit b g in omega (arith, e, few));
+      waits = record {
+        there = [];
+        waiting = loaded_values n (values_in doc b g);
+        whole = refl;
+        now = second-higher ∙ sym (others-loaded n vs);
+        next = filled-higher m n doc sound b g f high ∙ sym (proxies-loaded n 0 vs);
+      };
+    }
+
+  ready-stays : (d : End) → IsNotHigher m n doc sound d → IsReady second fill_plan d
+  ready-stays d stays =
+      let last = near_end m n k doc sound s legal kinds free room fit d in
+      let good = good-ends m n k doc sound s legal kinds free room fit in
+      record {
+        last = near_end m n k doc sound s legal kinds free room fit d;
+        distinct = good.distinct d;
+        few = good.few d;
+        waits = record {
+          there = near_end m n k doc sound s legal kinds free room fit d;
+          waiting = [];
+          whole = sym (append-nil last);
+          now = second-stays d stays ∙ sym (append-nil last);
+          next = filled-none m n doc sound d stays;
+        };
+      }
+
+  -- a near side, a container and an attribute are no higher feature
+  near-stays : (o : ObjectNo) (f : FeatureNo) → IsNearSide m f → IsNotHigher m n doc sound (object_end n o f)
+  near-stays o f side = λ b g h high q. not-near (shape m f) f h (subst (λ (x : FeatureNo). lower_of (shape m x) x ≡ Some h) (ap (λ (x : End). x.feature) q) (lower-is m sound.kinds g h high)) side.near
+
+  lowest-stays : (o : ObjectNo) (g : FeatureNo) → lower_of (shape m g) g ≡ None → IsNotHigher m n doc sound (object_end n o g)
+  lowest-stays o g none = λ c i j high q. none-some j (sym none ∙ subst (λ (x : FeatureNo). lower_of (shape m x) x ≡ Some j) (ap (λ (x : End). x.feature) q) (lower-is m sound.kinds i j high))
+
+  ready : (d : End) → IsReady second fill_plan d
+  ready d = by d (place_of m n k doc sound s legal kinds free room fit d)
+    where
+      far : (b : ObjectNo) (g : FeatureNo) (o : Option FeatureNo) → lower_of (shape m g) g ≡ o → IsReady second fill_plan (object_end n b g)
+      far b g None none = ready-stays (object_end n b g) (lowest-stays b g none)
+      far b g (Some f) is = ready-higher b g f (higher m sound.kinds g f is)
+
+      by : (d : End) → IsPlaceOf m n k doc sound s legal kinds free room fit d → IsReady second fill_plan d
+      by d (at_roots q) = ready-stays d (λ b g f high p. not-contents m n k b g (p ∙ sym q))
+      by d (at_near o f q side) = subst (IsReady second fill_plan) q (ready-stays (object_end n o f) (near-stays o f side))
+      by d (at_far b g f q side) = subst (IsReady second fill_plan) q (far b g (lower_of (shape m g) g) refl)
+      by d (elsewhere outside other) = ready-stays d (λ b g f high q. outside b g (opposite-reference m g f high.pair) q)
+
+  ---------------------------------------------------------------- proxies
+
+  fill-made : AreFilled second fill_plan
+  fill-made = all_filled (kinds_of m) fill_plan second second-legal (proxies-fill m n doc sound) ready
+
+  pub loaded-legal : IsLegalSet loaded_set
+  loaded-legal = plan_keeps_legal second fill_plan second-legal fill-made.fits
+
+  pub loaded-kinds : AreOfKind (kinds_of m) loaded_set
+  loaded-kinds = plan_keeps_kinds (kinds_of m) sound.kinds second fill_plan second-kinds (fills-kinds (kinds_of m) fill_plan (proxies-fill m n doc sound))
+
+  end-last : (d : End) (r : IsReady second fill_plan d) → end loaded_set d ≡ r.last
+  end-last d r = end_filled (kinds_of m) fill_plan second second-legal (proxies-fill m n doc sound) fill-made.fits d r
+
+  end-stays : (d : End) → IsNotHigher m n doc sound d → end loaded_set d ≡ near_end m n k doc sound s legal kinds free room fit d
+  unfolding ready-stays
+  end-stays d stays = end-last d (ready-stays d stays)
+
+  end-higher : (b : ObjectNo) (g f : FeatureNo) (high : IsHigher m sound.kinds g f) → end loaded_set (object_end n b g) ≡ loaded_values n (values_in doc b g)
+  unfolding ready-higher
+  end-higher b g f high = end-last (object_end n b g) (ready-higher b g f high)
+
+  ---------------------------------------------------------------- the whole plan
+
+  abbrev two_plans : List Edit
+  two_plans = first_plan ++ again_plan
+
+  whole : two_plans ++ fill_plan ≡ load_edits m n k doc
+  whole =
+      append_assoc first_plan again_plan fill_plan
+      ∙ append_assoc (root_puts m n k doc) (of_contents (near_edits m n) doc) (again_plan ++ fill_plan)
+      ∙ ap (λ (es : List Edit). root_puts m n k doc ++ (of_contents (near_edits m n) doc ++ (es ++ fill_plan))) (again-edits m n doc sound)
+
+  second-is : applied s two_plans ≡ second
+  second-is = applied-append s first_plan again_plan
+
+  pub loaded-fits : PlanFits s (load_edits m n k doc)
+  loaded-fits =
+      subst (PlanFits s) whole (PlanFits-append s two_plans fill_plan (PlanFits-append s first_plan again_plan first-made.fits again-made.fits)
+      (subst (λ (t : Links). PlanFits t fill_plan) (sym second-is) fill-made.fits))
+
+  pub loaded-no_cycle : PlanMakesNoCycle s (load_edits m n k doc)
+  loaded-no_cycle =
+      subst (PlanMakesNoCycle s) whole (PlanMakesNoCycle-append s two_plans fill_plan (PlanMakesNoCycle-append s first_plan again_plan first-made.no_cycle again-made.no_cycle)
+      (subst (λ (t : Links). PlanMakesNoCycle t fill_plan) (sym second-is) fill-made.no_cycle))
+
+  pub loaded-set_is : applied s (load_edits m n k doc) ≡ loaded_set
+  loaded-set_is = ap (applied s) (sym whole) ∙ applied-append s two_plans fill_plan ∙ ap (λ (t : Links). applied t fill_plan) second-is
 
   pub end-roots : end loaded_set (contents_end m k) ≡ roots_loaded n doc
   end-roots = end-stays (contents_end m k) (λ b g f high q. not-contents m n k b g q) ∙ near_end-roots m n k doc sound s legal kinds free room fit
@@ -150,7 +249,7 @@ module _ (m : Metamodel) (n : ℕ) (k : ResourceNo) (doc : Doc) (sound : IsSound
   -- a near feature has what the document has there
   pub end-near : (o : ObjectNo) (f : FeatureNo) → IsNearSide m f → end loaded_set (object_end n o f) ≡ loaded_values n (values_in doc o f)
   end-near o f side =
-      end-stays (object_end n o f) (λ b g h high q. not-near (shape m f) f h (subst (λ (x : FeatureNo). lower_of (shape m x) x ≡ Some h) (ap (λ (x : End). x.feature) q) (lower-is m sound.kinds g h high)) side.near)
+      end-stays (object_end n o f) (near-stays o f side)
       ∙ near_end-own m n k doc sound s legal kinds free room fit o f side
 
   -- so has each reference that is no container

@@ -1,15 +1,15 @@
 -- The edits of a document that is read are of the kinds of their features: a proxy stands under no reference of a pair that contains.
-use Rattle.std.proofs.Common.{◌≡◌, ◌+◌, ◌++◌, Bool, true, false, List, [], ◌∷◌, Option, Some, None, ℕ, cond, map, refl, subst, sym}
-use Rattle.std.specs.Prelude.{◌&&◌, filter_map, flat_map, is_some, not, option_map, IfSome}
-use Rattle.std.specs.List.{All, enumerate_from, list_any}
+use Rattle.std.proofs.Common.{◌≡◌, ◌∙◌, ◌+◌, ◌++◌, Bool, true, false, List, [], ◌∷◌, Option, Some, None, ℕ, cond, map, ap, refl, subst, sym}
+use Rattle.std.specs.Prelude.{filter_map, flat_map, is_some, not, option_map, IfSome, if◌then◌else◌}
+use Rattle.std.specs.List.{All, AllByRecursion, enumerate_from}
 use Rattle.std.specs.Option.{option_map_or}
-use Rattle.std.proofs.lemmas.Bool.{false≢true}
+use Rattle.std.proofs.lemmas.Bool.{true≢false}
 use Rattle.std.proofs.lemmas.List.Elements.{All-cons, All-head, All-nil, All-tail}
 use Rattle.serde_json.specs.Data.{Data}
 use Rattle.mm_types.specs.Lookups as lookups
 use Rattle.mm_types.specs.Resolved.{Metamodel}
 use Rattle.mm_types.specs.Same.{is_nil}
-use Rattle.mm_types.specs.Shapes.{containing_of, contents_shape, shape, shape_of}
+use Rattle.mm_types.specs.Shapes.{contents_shape, shape, shape_of}
 use Rattle.mm_types.specs.declared.feature.Feature.{Feature}
 use Rattle.mm_types.specs.declared.feature.Kind.{Kind}
 use Rattle.mm_types.specs.declared.feature.Kind.TheVariants.{Attribute, Reference}
@@ -26,20 +26,21 @@ use Rattle.models.specs.Legal.{kinds_of}
 use Rattle.web_uris.specs.Paths.{with_step}
 use Rattle.web_uris.specs.declared.path.Path.{Path}
 use Rattle.doc_parts.specs.Parts.{Entry, Part, entries, number_of, parts, step_to, values_of}
-use Rattle.resource_docs.specs.Causes.{IsRead, has_cross, is_proxy, of_content}
+use Rattle.resource_docs.specs.Causes.{IsRead}
 use Rattle.resource_docs.specs.Read.{content_read, contents_read, doc_read, object_read, values_read}
 use Rattle.resource_docs.specs.Texts.{Base, base_of}
 use Rattle.resource_docs.specs.Values.{object_of, value_of}
 use Rattle.resource_docs.specs.declared.doc.Content.{Content}
 use Rattle.resource_docs.specs.declared.doc.Doc.{Doc}
 use Rattle.resource_docs.specs.declared.doc.DocObject.{DocObject}
-use Rattle.loading.specs.LoadEdits.{far_edits, in_order, is_ascending_from, load_edits, near_edits, put_at, puts_again, value_puts}
+use Rattle.loading.specs.LoadEdits.{far_edits, in_order, is_ascending_from, load_edits, near_edits, proxy_edits, proxy_puts, put_at, puts_again, value_puts}
 use Rattle.loading.specs.Loading.{contents_end, object_end, of_object}
 use Rattle.loading.specs.Pairs.{is_near, lower_of}
 use Rattle.loading.specs.Places.{place_in}
 use Rattle.loading.specs.declared.places.Naming.{Naming}
 use Rattle.loading.proofs.CauseLemmas.{read-faultless}
-use Rattle.loading.proofs.FitLemmas.{all-filtered, or-left, or-right}
+use Rattle.loading.proofs.FitLemmas.{all-filtered}
+use Rattle.loading.proofs.WrittenLemmas.{plain-entries}
 
 -- a proxy stands where nothing of the pair contains
 abbrev Place : Option FeatureNo → Value → Type 0
@@ -68,74 +69,48 @@ all-anywhere : (vs : List Value) → All (Place None) vs
 all-anywhere [] = All-nil (Place None)
 all-anywhere (v ∷ vs) = All-cons (Place None) v vs (anywhere v) (all-anywhere vs)
 
-no-proxy : (h : Option FeatureNo) (v : Value) → is_proxy v ≡ false → Place h v
-no-proxy h (value.Proxy t) none = absurd (false≢true (sym none))
-no-proxy h value.Null none = tt
-no-proxy h (value.Bool b) none = tt
-no-proxy h (value.Int n) none = tt
-no-proxy h (value.Text t) none = tt
-no-proxy h (value.Literal i) none = tt
-no-proxy h (value.Object o) none = tt
-no-proxy h (value.Adapter a) none = tt
-
-no-proxies : (h : Option FeatureNo) (vs : List Value) → list_any is_proxy vs ≡ false → All (Place h) vs
-no-proxies h [] none = All-nil (Place h)
-no-proxies h (v ∷ vs) none = All-cons (Place h) v vs (no-proxy h v (or-left (is_proxy v) (list_any is_proxy vs) none)) (no-proxies h vs (or-right (is_proxy v) (list_any is_proxy vs) none))
-
-uncontained : (b : Bool) (vs : List Value) → All (Place (cond b None None)) vs
-uncontained true vs = all-anywhere vs
-uncontained false vs = all-anywhere vs
-
-link-places : (m : Metamodel) (f : FeatureNo) (o : Option FeatureNo) (vs : List Value) → is_some o && list_any is_proxy vs ≡ false → All (Place (containing_of m f false o)) vs
-link-places m f None vs none = uncontained (lookups.is_container m f) vs
-link-places m f (Some g) vs none = no-proxies (containing_of m f false (Some g)) vs none
-
 part-place : (h : Option FeatureNo) (o : Option ℕ) → IfSome (option_map object_of o) (Place h)
 part-place h None = tt
 part-place h (Some k) = tt
 
-content-places : (m : Metamodel) (b : Base) (ps : List Part) (path : Path) (e : Entry) → has_cross m (content_read m b ps path e) ≡ false → ContentPlaces m (content_read m b ps path e)
-content-places m b ps path e = by (lookups.feature m e.feature)
+-- what is written stands under no container reference
+abbrev IsPlain : Metamodel → Entry → Type 0
+IsPlain m e = lookups.is_container m e.feature ≡ false
+
+content-places : (m : Metamodel) (b : Base) (ps : List Part) (path : Path) (e : Entry) → IsPlain m e → ContentPlaces m (content_read m b ps path e)
+content-places m b ps path e plain = by (lookups.feature m e.feature)
   where
-    by_kind : (g : Feature) (k : Kind) → is_some (shape_of m e.feature g k).opposite && list_any is_proxy (filter_map (value_of m b ps path e.feature k) (enumerate_from 0 (values_of m e))) ≡ false
-        → All (Place (shape_of m e.feature g k).containing) (filter_map (value_of m b ps path e.feature k) (enumerate_from 0 (values_of m e)))
-    by_kind g (Attribute t unique unsettable default) none = all-anywhere (filter_map (value_of m b ps path e.feature (Attribute t unique unsettable default)) (enumerate_from 0 (values_of m e)))
-    by_kind g (Reference class true opposite) none =
+    by_kind : (g : Feature) (k : Kind) → All (Place (shape_of m e.feature g k).containing) (filter_map (value_of m b ps path e.feature k) (enumerate_from 0 (values_of m e)))
+    by_kind g (Attribute t unique unsettable default) = all-anywhere (filter_map (value_of m b ps path e.feature (Attribute t unique unsettable default)) (enumerate_from 0 (values_of m e)))
+    by_kind g (Reference class true opposite) =
         all-filtered (Place (Some e.feature)) (value_of m b ps path e.feature (Reference class true opposite)) (enumerate_from 0 (values_of m e))
         (λ v. part-place (Some e.feature) (number_of ps (with_step path (step_to m e.feature v.0))))
-    by_kind g (Reference class false opposite) none =
-        link-places m e.feature opposite (filter_map (value_of m b ps path e.feature (Reference class false opposite)) (enumerate_from 0 (values_of m e))) none
+    by_kind g (Reference class false opposite) =
+        let vs = filter_map (value_of m b ps path e.feature (Reference class false opposite)) (enumerate_from 0 (values_of m e)) in
+        subst (λ (h : Option FeatureNo). All (Place h) vs) (sym (ap (λ (t : Bool). cond t opposite None) plain)) (all-anywhere vs)
 
     by : (o : Option Feature)
-        → is_some (option_map_or (λ g. shape_of m e.feature g g.kind) o (contents_shape m)).opposite
-        && list_any is_proxy (option_map_or (λ g. filter_map (value_of m b ps path e.feature g.kind) (enumerate_from 0 (values_of m e))) o []) ≡ false
         → All (Place (option_map_or (λ g. shape_of m e.feature g g.kind) o (contents_shape m)).containing) (option_map_or (λ g. filter_map (value_of m b ps path e.feature g.kind) (enumerate_from 0 (values_of m e))) o [])
-    by None none = All-nil (Place (contents_shape m).containing)
-    by (Some g) none = by_kind g g.kind none
+    by None = All-nil (Place (contents_shape m).containing)
+    by (Some g) = by_kind g g.kind
 
-kept-places : (m : Metamodel) (b : Bool) (c : Content) (cs : List Content) → (has_cross m c ≡ false → ContentPlaces m c) → (list_any (has_cross m) cs ≡ false → All (ContentPlaces m) cs)
-    → list_any (has_cross m) (cond b (c ∷ cs) cs) ≡ false → All (ContentPlaces m) (cond b (c ∷ cs) cs)
-kept-places m true c cs here rest none =
-    All-cons (ContentPlaces m) c cs (here (or-left (has_cross m c) (list_any (has_cross m) cs) none)) (rest (or-right (has_cross m c) (list_any (has_cross m) cs) none))
-kept-places m false c cs here rest none = rest none
+kept-places : (m : Metamodel) (b : Bool) (c : Content) (cs : List Content) → ContentPlaces m c → All (ContentPlaces m) cs → All (ContentPlaces m) (cond b (c ∷ cs) cs)
+kept-places m true c cs here rest = All-cons (ContentPlaces m) c cs here rest
+kept-places m false c cs here rest = rest
 
-contents-places : (m : Metamodel) (b : Base) (ps : List Part) (path : Path) (es : List Entry) → list_any (has_cross m) (contents_read m b ps path es) ≡ false → All (ContentPlaces m) (contents_read m b ps path es)
-contents-places m b ps path [] none = All-nil (ContentPlaces m)
-contents-places m b ps path (e ∷ es) none =
-    kept-places m (not (is_nil (values_read m b ps path e))) (content_read m b ps path e) (contents_read m b ps path es) (content-places m b ps path e) (contents-places m b ps path es) none
+contents-places : (m : Metamodel) (b : Base) (ps : List Part) (path : Path) (es : List Entry) → AllByRecursion (IsPlain m) es → All (ContentPlaces m) (contents_read m b ps path es)
+contents-places m b ps path [] plain = All-nil (ContentPlaces m)
+contents-places m b ps path (e ∷ es) plain =
+    kept-places m (not (is_nil (values_read m b ps path e))) (content_read m b ps path e) (contents_read m b ps path es) (content-places m b ps path e plain.0) (contents-places m b ps path es plain.1)
 
-objects-places : (m : Metamodel) (b : Base) (ps : List Part) (i : ℕ) (qs : List Part) → list_any (λ x. list_any (has_cross m) x.1.contents) (enumerate_from i (map (object_read m b ps) qs)) ≡ false
-    → All (ObjectPlaces m) (map (object_read m b ps) qs)
-objects-places m b ps i [] none = All-nil (ObjectPlaces m)
-objects-places m b ps i (q ∷ qs) none =
-    let here = list_any (has_cross m) (contents_read m b ps q.path (entries m q.json)) in
-    let rest = list_any (λ x. list_any (has_cross m) x.1.contents) (enumerate_from (i + 1) (map (object_read m b ps) qs)) in
-    All-cons (ObjectPlaces m) (object_read m b ps q) (map (object_read m b ps) qs)
-    (contents-places m b ps q.path (entries m q.json) (or-left here rest none)) (objects-places m b ps (i + 1) qs (or-right here rest none))
+objects-places : (m : Metamodel) (b : Base) (ps qs : List Part) → All (ObjectPlaces m) (map (object_read m b ps) qs)
+objects-places m b ps [] = All-nil (ObjectPlaces m)
+objects-places m b ps (q ∷ qs) =
+    All-cons (ObjectPlaces m) (object_read m b ps q) (map (object_read m b ps) qs) (contents-places m b ps q.path (entries m q.json) (plain-entries m q.json)) (objects-places m b ps qs)
 
-doc-places : (m : Metamodel) (b : Base) (d : Data) → of_content (λ o c. has_cross m c) (doc_read m b d) ≡ false → All (ObjectPlaces m) (doc_read m b d).objects
+doc-places : (m : Metamodel) (b : Base) (d : Data) → All (ObjectPlaces m) (doc_read m b d).objects
 unfolding doc_read
-doc-places m b d none = objects-places m b (parts m d) 0 (parts m d) none
+doc-places m b d = objects-places m b (parts m d) (parts m d)
 
 ---------------------------------------------------------------- the plan
 
@@ -204,6 +179,40 @@ far-kind m n place i (o ∷ os) =
     IsPlanOfKind-append (kinds_of m) (of_object (far_edits m n place) (i, o)) (flat_map (of_object (far_edits m n place)) (enumerate_from (i + 1) os))
     (far-contents-kind m n place (record { 0 = i }) o.contents) (far-kind m n place (i + 1) os)
 
+puts-kind : (m : Metamodel) (e : End) → (shape m e.feature).containing ≡ None → (i : ℕ) (vs : List Value) → IsPlanOfKind (kinds_of m) (flat_map (proxy_puts e) (enumerate_from i vs))
+puts-kind m e plain i [] = tt
+puts-kind m e plain i (value.Proxy t ∷ vs) = (plain, puts-kind m e plain (i + 1) vs)
+puts-kind m e plain i (value.Object a ∷ vs) = puts-kind m e plain (i + 1) vs
+puts-kind m e plain i (value.Null ∷ vs) = puts-kind m e plain (i + 1) vs
+puts-kind m e plain i (value.Bool x ∷ vs) = puts-kind m e plain (i + 1) vs
+puts-kind m e plain i (value.Int x ∷ vs) = puts-kind m e plain (i + 1) vs
+puts-kind m e plain i (value.Text t ∷ vs) = puts-kind m e plain (i + 1) vs
+puts-kind m e plain i (value.Literal x ∷ vs) = puts-kind m e plain (i + 1) vs
+puts-kind m e plain i (value.Adapter x ∷ vs) = puts-kind m e plain (i + 1) vs
+
+-- neither feature of a pair with a lower one contains
+lower-contains : (o c h : Option FeatureNo) → (if is_some c then None else h) ≡ o → is_some o ≡ true → c ≡ None
+lower-contains o None h is some = refl
+lower-contains o (Some c) h is some = absurd (true≢false (sym some ∙ ap (λ (x : Option FeatureNo). is_some x) (sym is)))
+
+proxy-kind : (m : Metamodel) (n : ℕ) (o : ObjectNo) (c : Content) → IsPlanOfKind (kinds_of m) (proxy_edits m n o c)
+proxy-kind m n o c = by (lower_of (shape m c.feature) c.feature) refl
+  where
+    by : (h : Option FeatureNo) → lower_of (shape m c.feature) c.feature ≡ h
+        → IsPlanOfKind (kinds_of m) (if is_some h then flat_map (proxy_puts (object_end n o c.feature)) (enumerate_from 0 c.values) else [])
+    by None none = tt
+    by (Some f) is = puts-kind m (object_end n o c.feature) (lower-contains (Some f) (shape m c.feature).containing _ is refl) 0 c.values
+
+proxy-contents-kind : (m : Metamodel) (n : ℕ) (o : ObjectNo) (cs : List Content) → IsPlanOfKind (kinds_of m) (flat_map (proxy_edits m n o) cs)
+proxy-contents-kind m n o [] = tt
+proxy-contents-kind m n o (c ∷ cs) = IsPlanOfKind-append (kinds_of m) (proxy_edits m n o c) (flat_map (proxy_edits m n o) cs) (proxy-kind m n o c) (proxy-contents-kind m n o cs)
+
+proxies-kind : (m : Metamodel) (n i : ℕ) (os : List DocObject) → IsPlanOfKind (kinds_of m) (flat_map (of_object (proxy_edits m n)) (enumerate_from i os))
+proxies-kind m n i [] = tt
+proxies-kind m n i (o ∷ os) =
+    IsPlanOfKind-append (kinds_of m) (of_object (proxy_edits m n) (i, o)) (flat_map (of_object (proxy_edits m n)) (enumerate_from (i + 1) os))
+    (proxy-contents-kind m n (record { 0 = i }) o.contents) (proxies-kind m n (i + 1) os)
+
 roots-kind : (m : Metamodel) (n : ℕ) (e : End) (i : ℕ) (rs : List ObjectNo) → IsPlanOfKind (kinds_of m) (map (λ x. put_at m n e x.0 x.1) (enumerate_from i rs))
 roots-kind m n e i [] = tt
 roots-kind m n e i (o ∷ rs) = ((refl, refl), roots-kind m n e (i + 1) rs)
@@ -212,10 +221,11 @@ plan-kind : (m : Metamodel) (n : ℕ) (k : ResourceNo) (doc : Doc) → All (Obje
 plan-kind m n k doc all =
     let near : List Edit = flat_map (of_object (near_edits m n)) (enumerate_from 0 doc.objects) in
     let far : List Edit = flat_map (of_object (far_edits m n (place_in m doc.objects))) (enumerate_from 0 doc.objects) in
-    IsPlanOfKind-append (kinds_of m) (map (λ x. put_at m n (contents_end m k) x.0 x.1) (enumerate_from 0 doc.roots)) (near ++ far) (roots-kind m n (contents_end m k) 0 doc.roots)
-    (IsPlanOfKind-append (kinds_of m) near far (near-kind m n 0 doc.objects all) (far-kind m n (place_in m doc.objects) 0 doc.objects))
+    let proxies : List Edit = flat_map (of_object (proxy_edits m n)) (enumerate_from 0 doc.objects) in
+    IsPlanOfKind-append (kinds_of m) (map (λ x. put_at m n (contents_end m k) x.0 x.1) (enumerate_from 0 doc.roots)) (near ++ (far ++ proxies)) (roots-kind m n (contents_end m k) 0 doc.roots)
+    (IsPlanOfKind-append (kinds_of m) near (far ++ proxies) (near-kind m n 0 doc.objects all)
+    (IsPlanOfKind-append (kinds_of m) far proxies (far-kind m n (place_in m doc.objects) 0 doc.objects) (proxies-kind m n 0 doc.objects)))
 
 pub read-kind : (m : Metamodel) (uri : List ℕ) (doc : Doc) (n : ℕ) (k : ResourceNo) → IsRead m uri doc → IsPlanOfKind (kinds_of m) (load_edits m n k doc)
 read-kind m uri doc n k read =
-    let right = read-faultless m uri doc read in
-    plan-kind m n k doc (subst (λ (x : Doc). All (ObjectPlaces m) x.objects) right.0 (doc-places m (base_of uri) read.source right.1.across))
+    plan-kind m n k doc (subst (λ (x : Doc). All (ObjectPlaces m) x.objects) (read-faultless m uri doc read).0 (doc-places m (base_of uri) read.source))

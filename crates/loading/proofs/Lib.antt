@@ -6,6 +6,7 @@ pub mod LinkLemmas
 pub mod PairLemmas
 pub mod StandLemmas
 pub mod GainLemmas
+pub mod FillLemmas
 pub mod RotateLemmas
 pub mod WholeLemmas
 pub mod NameLemmas
@@ -24,6 +25,7 @@ pub mod NearLemmas
 pub mod PlacedLemmas
 pub mod GatherLemmas
 pub mod AgainLemmas
+pub mod ProxyEndLemmas
 pub mod EndLemmas
 pub mod MadeLemmas
 pub mod SameLemmas

@@ -15,7 +15,7 @@ use Rattle.links.specs.declared.plan.Edit.{Edit}
 use Rattle.resource_docs.specs.declared.doc.Content.{Content}
 use Rattle.resource_docs.specs.declared.doc.Doc.{Doc}
 use Rattle.resource_docs.specs.declared.doc.DocObject.{DocObject}
-use Rattle.loading.specs.LoadEdits.{far_edits, is_ascending_from, is_unordered, load_edits, near_edits, put_at, puts_again}
+use Rattle.loading.specs.LoadEdits.{far_edits, is_ascending_from, is_unordered, load_edits, near_edits, proxy_edits, put_at, puts_again}
 use Rattle.loading.specs.Loading.{contents_end, of_object}
 use Rattle.loading.specs.Pairs.{lower_of}
 use Rattle.loading.specs.Places.{all_places, found_at, last_place, place_at, place_in}
@@ -69,19 +69,22 @@ pub far-found : (m : Metamodel) (n : ℕ) (os : List DocObject) (p : Places) (ol
     → new ≡ old ++ flat_map (of_object (far_edits m n (found_at p))) (enumerate_from 0 os) → new ≡ old ++ flat_map (of_object (far_edits m n (place_in m os))) (enumerate_from 0 os)
 far-found m n os p old new known made = made ∙ ap (λ place. old ++ flat_map (of_object (far_edits m n place)) (enumerate_from 0 os)) (places-found p m os known)
 
-pub all_edits : (m : Metamodel) (n : ℕ) (k : ResourceNo) (doc : Doc) (end : End) (objects : List DocObject) (roots : List ObjectNo) (none with_roots with_near all : List Edit)
+pub all_edits : (m : Metamodel) (n : ℕ) (k : ResourceNo) (doc : Doc) (end : End) (objects : List DocObject) (roots : List ObjectNo) (none with_roots with_near with_far all : List Edit)
     → objects ≡ doc.objects → roots ≡ doc.roots → end ≡ contents_end m k
     → none ≡ [] → with_roots ≡ none ++ map (λ x. put_at m n end x.0 x.1) (enumerate_from 0 roots)
     → with_near ≡ with_roots ++ flat_map (of_object (near_edits m n)) (enumerate_from 0 objects)
-    → all ≡ with_near ++ flat_map (of_object (far_edits m n (place_in m doc.objects))) (enumerate_from 0 doc.objects)
+    → with_far ≡ with_near ++ flat_map (of_object (far_edits m n (place_in m doc.objects))) (enumerate_from 0 doc.objects)
+    → all ≡ with_far ++ flat_map (of_object (proxy_edits m n)) (enumerate_from 0 objects)
     → all ≡ load_edits m n k doc
-all_edits m n k doc end objects roots none with_roots with_near all of_doc roots_of_doc at nothing by_roots by_near by_far =
+all_edits m n k doc end objects roots none with_roots with_near with_far all of_doc roots_of_doc at nothing by_roots by_near by_far by_proxies =
     let near : List DocObject → List Edit = λ os. flat_map (of_object (near_edits m n)) (enumerate_from 0 os) in
     let far : List Edit = flat_map (of_object (far_edits m n (place_in m doc.objects))) (enumerate_from 0 doc.objects) in
     let first : End → List ObjectNo → List Edit = λ e os. map (λ x. put_at m n e x.0 x.1) (enumerate_from 0 os) in
-    by_far
-    ∙ ap (λ es. es ++ far) (by_near ∙ ap (λ es. es ++ near objects) (by_roots ∙ ap (λ es. es ++ first end roots) nothing))
-    ∙ append_assoc (first end roots) (near objects) far
-    ∙ ap (λ e. first e roots ++ (near objects ++ far)) at
-    ∙ ap (λ os. first (contents_end m k) os ++ (near objects ++ far)) roots_of_doc
-    ∙ ap (λ os. first (contents_end m k) doc.roots ++ (near os ++ far)) of_doc
+    let proxies : List DocObject → List Edit = λ os. flat_map (of_object (proxy_edits m n)) (enumerate_from 0 os) in
+    by_proxies
+    ∙ ap (λ es. es ++ proxies objects) (by_far ∙ ap (λ es. es ++ far) (by_near ∙ ap (λ es. es ++ near objects) (by_roots ∙ ap (λ es. es ++ first end roots) nothing)))
+    ∙ append_assoc (first end roots ++ near objects) far (proxies objects)
+    ∙ append_assoc (first end roots) (near objects) (far ++ proxies objects)
+    ∙ ap (λ e. first e roots ++ (near objects ++ (far ++ proxies objects))) at
+    ∙ ap (λ os. first (contents_end m k) os ++ (near objects ++ (far ++ proxies objects))) roots_of_doc
+    ∙ ap (λ os. first (contents_end m k) doc.roots ++ (near os ++ (far ++ proxies os))) of_doc

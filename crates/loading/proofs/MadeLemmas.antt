@@ -230,7 +230,7 @@ module _ (m : Metamodel) (n : ℕ) (k : ResourceNo) (doc : Doc) (sound : IsSound
       (object-in o c.feature i b sort w.plain (ap (λ (vs : List Value). slice_get vs i) w.own ∙ at) (shape m c.feature).opposite refl)
   link-in o c w i (value.Proxy p) l at sort is =
       subst (λ (x : Link). In x t) (same_Some (record { end = object_end n o c.feature; index = i; far = Proxy p; container = None }) l is)
-      (proxy-in o c.feature i p sort.0 w.plain sort.1.1 (ap (λ (vs : List Value). slice_get vs i) w.own ∙ at))
+      (proxy-in o c.feature i p sort.0 w.plain sort.1 (ap (λ (vs : List Value). slice_get vs i) w.own ∙ at))
   link-in o c w i value.Null l at sort is = absurd (none-some l is)
   link-in o c w i (value.Bool x) l at sort is = absurd (none-some l is)
   link-in o c w i (value.Int x) l at sort is = absurd (none-some l is)

@@ -242,7 +242,7 @@ module _ (m : Metamodel) (n : ℕ) (k : ResourceNo) (doc : Doc) (sound : IsSound
     },
     tt,
   )
-  value-good o c s side i (value.Proxy t) sort at = ((sort.1.1, ap (λ (vs : List Value). slice_get vs i) (near_end-own o c.feature side ∙ ap (loaded_values n) s.own) ∙ loaded-at n c.values i (value.Proxy t) at), tt)
+  value-good o c s side i (value.Proxy t) sort at = ((sort.1, ap (λ (vs : List Value). slice_get vs i) (near_end-own o c.feature side ∙ ap (loaded_values n) s.own) ∙ loaded-at n c.values i (value.Proxy t) at), tt)
   value-good o c s side i value.Null sort at = tt
   value-good o c s side i (value.Bool x) sort at = tt
   value-good o c s side i (value.Int x) sort at = tt

@@ -23,10 +23,10 @@ use Rattle.resource_docs.specs.declared.doc.DocObject.{DocObject}
 use Rattle.loading.proofs.GainLemmas.{got_left}
 use Rattle.loading.proofs.PairLemmas.{Apart, all-at}
 
--- a value of a feature of that shape: a proxy stands under a reference without opposite that doesn't contain
+-- a value of a feature of that shape: a proxy stands under a reference that doesn't contain, and neither does its opposite
 abbrev pub IsSort : Shape → Value → Type 0
 IsSort a (value.Object b) = a.is_reference ≡ true
-IsSort a (value.Proxy t) = (a.is_reference ≡ true) × ((a.opposite ≡ None) × (a.containing ≡ None))
+IsSort a (value.Proxy t) = (a.is_reference ≡ true) × (a.containing ≡ None)
 IsSort a _ = a.is_reference ≡ false
 
 pub record IsSoundContent (m : Metamodel) (doc : Doc) (o : ObjectNo) (c : Content) : Type 0 where

@@ -104,7 +104,7 @@ module _ (m : Metamodel) (names : NamesAreApart m) (b : Base) (d : Data) (doc : 
         contained = λ n k g target opposite known kind number. contained-conforms m names d faultless.form o.0 w.index n k w.part e g target opposite w.here w.there known kind number;
       } in
       let taken = subst (λ (x : Content). AllByRecursion (IsTaken m doc x.feature) x.values) w.is (values-taken m b ps doc classes w.part.path e fine) in
-      let sorts = (known-at m b ps doc objects faultless.across o c there w).sorts in
+      let sorts = (known-at m b ps doc objects o c there w).sorts in
       let bounded = bounded-less (shape m e.feature) (length (values_read m b ps w.part.path e)) (length (values_of m e)) (few-read m b ps w.part.path e) (entry-bounded o.0 w.index w.part e w.here w.there) in
       record {
         has = subst (λ (x : Content). lookups.has_feature m there.object.class x.feature ≡ true) w.is (subst (λ (x : ClassNo). lookups.has_feature m x e.feature ≡ true) own has);

@@ -123,7 +123,7 @@ typed-value m doc f (value.Object o) sort taken = taken
 typed-value m doc f (value.Proxy t) sort taken = proxies (shape m f) sort
   where
     proxies : (a : Shape) → IsSort a (value.Proxy t) → legal.takes_proxies a ≡ true
-    proxies a sort = rw (sort.0, sort.1.0, sort.1.1) refl
+    proxies a sort = rw (sort.0, sort.1) refl
 typed-value m doc f value.Null sort taken = taken
 typed-value m doc f (value.Bool b) sort taken = taken
 typed-value m doc f (value.Int n) sort taken = taken

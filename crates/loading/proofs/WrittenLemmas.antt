@@ -14,7 +14,7 @@ use Rattle.mm_types.specs.declared.numbers.ClassNo.{ClassNo}
 use Rattle.mm_types.specs.declared.numbers.FeatureNo.{FeatureNo}
 use Rattle.mm_types.specs.declared.numbers.ObjectNo.{ObjectNo}
 use Rattle.doc_parts.specs.Parts.{Entry, Part, entries, entries_in, entry_at, known, new_entry}
-use Rattle.resource_docs.specs.Causes.{has_cross, of_content}
+use Rattle.resource_docs.specs.Causes.{of_content}
 use Rattle.resource_docs.specs.Read.{content_read, contents_read, object_read}
 use Rattle.resource_docs.specs.Texts.{Base}
 use Rattle.resource_docs.specs.declared.doc.Content.{Content}
@@ -89,8 +89,8 @@ module _ (m : Metamodel) (b : Base) (ps : List Part) (doc : Doc) (objects_are : 
       let e = map-at (content_read m b ps p.0.path) (entries m p.0.json) f.0 c f.1 in
       record { part = p.0; here = p.1; index = f.0; entry = e.0; there = e.1; is = e.2; some = not-true (is_nil c.values) f.2 }
 
-  pub known-at : of_content (λ o c. has_cross m c) doc ≡ false → (o : ObjectNo) (c : Content) → IsThere doc o c → (w : IsWritten m b ps o.0 c) → IsKnown m ps w.part.path c.feature c.values
-  known-at across o c there w =
+  pub known-at : (o : ObjectNo) (c : Content) → IsThere doc o c → (w : IsWritten m b ps o.0 c) → IsKnown m ps w.part.path c.feature c.values
+  known-at o c there w =
       subst (λ (x : Content). IsKnown m ps w.part.path x.feature x.values) w.is
       (known-of m b ps w.part.path w.entry (all-at (λ e. lookups.is_container m e.feature ≡ false) (entries m w.part.json) w.index w.entry (plain-entries m w.part.json) w.there)
-      (ap (λ (x : Content). is_nil x.values) w.is ∙ w.some) (ap (has_cross m) w.is ∙ none-of doc (λ o c. has_cross m c) across o c there))
+      (ap (λ (x : Content). is_nil x.values) w.is ∙ w.some))

@@ -1,7 +1,8 @@
 -- Edits in whose order a document's links and proxies come to stand where it says. First the roots, then the lists of all references but
 -- the higher of a pair: each value is put behind those before it, so each of these lists comes to stand as it is written. The ends of
 -- the higher feature gain meanwhile, each in the order of the numbers of its objects. Where the document has another order there, the
--- links of that end are taken out and put again, in its order, each at the place that it had at the lower end.
+-- links of that end are taken out and put again, in its order, each at the place that it had at the lower end. Last come the proxies of
+-- those ends, each at its place: the objects stand there by then, in their order.
 use Rattle.std.specs.Prelude.{ℕ, suc, ◌&&◌, Bool, true, not, List, [], ◌∷◌, ◌++◌, flat_map, map, nat_le, is_some, if◌then◌else◌}
 use Rattle.std.specs.List.{enumerate_from}
 use Rattle.std.specs.Option.{option_map_or}
@@ -66,5 +67,18 @@ is_unordered m c = is_some (lower_of (shape m c.feature) c.feature) && not (is_a
 abbrev pub far_edits : Metamodel → ℕ → (Naming → ℕ) → ObjectNo → Content → List Edit
 far_edits m n place b c = option_map_or (in_order m n place b c.values) (lower_of (shape m c.feature) c.feature) []
 
+-- puts a proxy at its place
+abbrev pub proxy_puts : End → ℕ × Value → List Edit
+proxy_puts e (i, value.Proxy t) = PutProxy e i t ∷ []
+proxy_puts e (i, v) = []
+
+abbrev pub proxy_edits : Metamodel → ℕ → ObjectNo → Content → List Edit
+proxy_edits m n o c =
+    if is_some (lower_of (shape m c.feature) c.feature) then flat_map (proxy_puts (object_end n o c.feature)) (enumerate_from 0 c.values) else []
+
+---------------------------------------------------------------- all
+
 abbrev pub load_edits : Metamodel → ℕ → ResourceNo → Doc → List Edit
-load_edits m n k doc = root_puts m n k doc ++ (of_contents (near_edits m n) doc ++ of_contents (far_edits m n (place_in m doc.objects)) doc)
+load_edits m n k doc =
+    root_puts m n k doc
+    ++ (of_contents (near_edits m n) doc ++ (of_contents (far_edits m n (place_in m doc.objects)) doc ++ of_contents (proxy_edits m n) doc))

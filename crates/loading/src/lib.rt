@@ -10,6 +10,7 @@ mod near;
 mod numbers;
 mod pairs;
 mod places;
+mod proxies;
 mod values;
 
 pub use fragment_paths::contents_end;

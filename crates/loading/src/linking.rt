@@ -6,7 +6,7 @@ ghost use Rattle.loading.specs.Fits.{IsFitting, IsNumbered};
 ghost use Rattle.loading.specs.LoadEdits as e;
 
 use crate::near::put_at;
-use crate::{far, near};
+use crate::{far, near, proxies};
 use fragment_paths::contents_end;
 use links::Edit;
 use mm_meta::Meta;
@@ -32,6 +32,7 @@ pub fn link_edits(
     push_roots(meta, next, roots, doc.roots.as_slice(), &mut edits)?;
     near::push_objects(meta, next, objects, &mut edits)?;
     far::push_in_order(alloc, meta, next, doc, &mut edits)?;
+    proxies::push_objects(meta, next, objects, &mut edits)?;
     Ok(edits)
 }
 

@@ -45,7 +45,7 @@ ok
 told A2 SET #0.pages 100 7 -1
 refused 8 TYPE
 bad line
-{"format":1,"roots":[{"class":"Book","features":{"name":"Emma","pages":7}}]}
+{"format":2,"roots":[{"class":"Book","features":{"name":"Emma","pages":7}}]}
 deleted 1
 told A1 REMOVE r0.contents #0 null 0
 told A2 REMOVING_ADAPTER #0 A2 null 0

@@ -1,5 +1,5 @@
 -- The models that a repository can be in.
-use Rattle.std.specs.Prelude.{◌≡◌, ◌≤◌, ℕ, ◌&&◌, ◌||◌, Bool, true, false, not, IsTrue, List, [], ◌∷◌, length, nat_le, Option, Some, None, is_some}
+use Rattle.std.specs.Prelude.{◌≡◌, ◌≤◌, ℕ, ◌&&◌, Bool, true, false, not, IsTrue, List, [], ◌∷◌, length, nat_le, Option, Some, None, is_some}
 use Rattle.std.specs.List.{All, list_all, IsDistinct}
 use Rattle.std.specs.Str.{bytes_eq}
 use Rattle.mm_types.specs.Lookups as lookups
@@ -61,9 +61,9 @@ IsLegalObject m (Some o) = IsTrue (lookups.is_concrete m o.class) × ((f : Featu
 abbrev pub kinds_of : Metamodel → Kinds
 kinds_of m = record { opposite = λ f. (shape m f).opposite; container = λ f. (shape m f).containing }
 
--- proxies may stand in a reference that has no opposite and contains nothing (EMF: EReference.isResolveProxies)
+-- proxies may stand in a reference that contains nothing, and neither does its opposite (EMF: EReference.isResolveProxies)
 abbrev pub takes_proxies : Shape → Bool
-takes_proxies a = a.is_reference && not (is_some a.opposite || is_some a.containing)
+takes_proxies a = a.is_reference && not (is_some a.containing)
 
 -- an object of a feature's type, or a proxy where the feature takes proxies
 abbrev pub is_legal_target : Reading → FeatureNo → Value → Bool

@@ -5,12 +5,13 @@ use Rattle.std.specs.Option.{option_map_or}
 use Rattle.std.proofs.lemmas.Option.{none-some, same_Some}
 use Rattle.mm_types.specs.declared.numbers.AdapterNo.{AdapterNo}
 use Rattle.mm_types.specs.declared.numbers.Node.{Node}
+use Rattle.mm_types.specs.declared.numbers.Node.TheVariants as node
 use Rattle.notice_chain.specs.Listed.{Listed}
 use Rattle.notice_chain.specs.Released.{released}
 use Rattle.notice_chain.specs.declared.notice.Notice.{Notice}
 use Rattle.adapter_list.specs.Rounds.{delivered, delivered_from}
 use Rattle.models.specs.Model.{Model, reading}
-use Rattle.models.specs.Reading.{Reading}
+use Rattle.models.specs.Reading.{Reading, at_end}
 use Rattle.removal.specs.Outer.{gone}
 use Rattle.removal.specs.Ranks.{is_in}
 use Rattle.removal.specs.declared.gone.Removal.{Removal}
@@ -18,15 +19,18 @@ use Rattle.handshake.specs.Laws.{goes_with}
 use Rattle.handshake.specs.Plans.{IsRemovalOf}
 use Rattle.handshake.specs.declared.change.Change.{Change}
 use Rattle.handshake.specs.declared.change.Change.TheVariants.{Create, Set, Unset, Add, Remove, RemoveValue, Move, Delete, NewResource, Resolve, Load}
-use Rattle.handshake.specs.Tellings.{destroyed_by}
+use Rattle.handshake.specs.Tellings.{destroyed_by, target_of}
 use Rattle.handshake.proofs.RemovalLemmas.{of-objects}
 use Rattle.removal.specs.Removals.{IsRemoval}
-use Rattle.repository.specs.Answers.{IsEarlyAnswer, answer_of}
+use Rattle.repository.specs.Answers.{IsEarlyAnswer, answer_of, is_answered_late, planned_answer}
 use Rattle.repository.specs.declared.reply.Answer.{Answer}
 use Rattle.repository.specs.declared.reply.Answer.TheVariants as answer
 use Rattle.repository.specs.Views.{command_of}
 use Rattle.repository.specs.Leaving.{LeaversAre}
 use Rattle.repository.proofs.AdapterLemmas.{released-nobody}
+use Rattle.handshake.specs.Refusals.{late_refusal}
+use Rattle.handshake.specs.declared.target.Target.{Target}
+use Rattle.handshake.proofs.KnownLemmas.{resolvable}
 
 -- where nobody's target is gone, nobody is released
 pub nobody-gone : (gone : Node → Bool) (rs : List Listed) → ((n : Node) → gone n ≡ false) → released (λ r. gone r.target) rs ≡ record { told = []; views = []; others = rs }
@@ -87,25 +91,29 @@ leavers_found r (Delete o) None rs found of is = absurd (none-some o of.whose)
 leavers_found r c (Some x) rs found of is = absurd (none-some x.object (sym of.whose))
 leavers_found r c None rs found of is = subst (LeaversAre (goes_with r c) rs) (sym is) (λ n. refl)
 
--- the answer from before planning, or how much a deletion destroys, is the whole answer
-pub whole-answer : (r : Reading) (rs : List Listed) (text : List ℕ) (c : Change) (early : Option Answer) (q : Option Removal) → IsEarlyAnswer (destroyed_by c) (answer_of r rs (command_of text c)) early
-    → IsRemovalOf r c q → unwrap_or early (answer.Destroyed (option_map_or (λ (x : Removal). length x.objects.items) q 0)) ≡ answer_of r rs (command_of text c)
-whole-answer r rs text c early q is removed = by c is removed.whose removed.found
+-- the answer from before planning, or what the plan destroys or finds, is the whole answer
+pub whole-answer : (r : Reading) (rs : List Listed) (text : List ℕ) (c : Change) (early : Option Answer) (q : Option Removal) (x : Option Target) → IsEarlyAnswer (is_answered_late c) (answer_of r rs (command_of text c)) early
+    → late_refusal r c ≡ None → IsRemovalOf r c q → x ≡ target_of r c → unwrap_or early (planned_answer q x) ≡ answer_of r rs (command_of text c)
+whole-answer r rs text c early q x is allowed removed found = by c is allowed removed.whose removed.found found
   where
     known : (a b : Answer) → early ≡ Some a → unwrap_or early b ≡ a
     known a b some = ap (λ (o : Option Answer). unwrap_or o b) some
 
-    by : (d : Change) → IsEarlyAnswer (destroyed_by d) (answer_of r rs (command_of text d)) early → option_map (λ (x : Removal). x.object) q ≡ destroyed_by d → IfSome q (IsRemoval r)
-        → unwrap_or early (answer.Destroyed (option_map_or (λ (x : Removal). length x.objects.items) q 0)) ≡ answer_of r rs (command_of text d)
-    by (Delete o) none whose found =
-        ap (λ (a : Option Answer). unwrap_or a (answer.Destroyed (option_map_or (λ (x : Removal). length x.objects.items) q 0))) none ∙ ap answer.Destroyed (of-objects length 0 r q o whose found)
-    by (Create k) some whose found = known _ _ some
-    by (Set n f v) some whose found = known _ _ some
-    by (Unset n f) some whose found = known _ _ some
-    by (Add n f v i) some whose found = known _ _ some
-    by (Remove n f i) some whose found = known _ _ some
-    by (RemoveValue n f v) some whose found = known _ _ some
-    by (Move n f to from) some whose found = known _ _ some
-    by (NewResource u) some whose found = known _ _ some
-    by (Resolve o f i b) some whose found = known _ _ some
-    by (Load k doc) some whose found = known _ _ some
+    later : (a b : Answer) → early ≡ None → b ≡ a → unwrap_or early b ≡ a
+    later a b none same = ap (λ (o : Option Answer). unwrap_or o b) none ∙ same
+
+    by : (d : Change) → IsEarlyAnswer (is_answered_late d) (answer_of r rs (command_of text d)) early → late_refusal r d ≡ None → option_map (λ (y : Removal). y.object) q ≡ destroyed_by d → IfSome q (IsRemoval r) → x ≡ target_of r d
+        → unwrap_or early (planned_answer q x) ≡ answer_of r rs (command_of text d)
+    by (Delete o) none allowed whose found nothing = later _ _ none (ap (planned_answer q) nothing ∙ ap answer.Destroyed (of-objects length 0 r q o whose found))
+    by (Resolve o f i) none allowed whose found target =
+        let known = resolvable r (at_end (node.Object o) f) i allowed in
+        later _ _ none (ap (planned_answer q) (target ∙ known.is) ∙ ap (λ (y : Option Target). answer.Object (option_map_or (λ (z : Target). z.object) y (record { 0 = 0 }))) (sym known.is))
+    by (Create k) some allowed whose found target = known _ _ some
+    by (Set n f v) some allowed whose found target = known _ _ some
+    by (Unset n f) some allowed whose found target = known _ _ some
+    by (Add n f v i) some allowed whose found target = known _ _ some
+    by (Remove n f i) some allowed whose found target = known _ _ some
+    by (RemoveValue n f v) some allowed whose found target = known _ _ some
+    by (Move n f to from) some allowed whose found target = known _ _ some
+    by (NewResource u) some allowed whose found target = known _ _ some
+    by (Load k doc) some allowed whose found target = known _ _ some

@@ -54,7 +54,6 @@ use Rattle.web_uris.specs.Joined.{joined}
 use Rattle.repository.proofs.PlanLemmas.{uri-allowed}
 use Rattle.handshake.specs.Laws.{goes_with}
 use Rattle.repository.specs.Loads.{load_of, load_refusal, reads_into}
-use Rattle.repository.specs.Resolving.{target_at}
 use Rattle.repository.proofs.LiveLemmas.{change-live, is_object, loaded-live, loaded-uris, push-live}
 use Rattle.repository.proofs.LoadLemmas.{text-read}
 use Rattle.mm_types.specs.declared.document_fault.DocFault.{DocFault}
@@ -144,7 +143,7 @@ change-keeps-node s (change.RemoveValue m f v) n stays h = either-keeps s n (sha
 change-keeps-node s (change.Move m f to from) n stays h = either-keeps s n (shape s.metamodel f).is_reference _ _ (none-keeps s n) (move-keeps s n m f to from) h
 change-keeps-node s (change.NewResource u) (node.Object o) stays h = h
 change-keeps-node s (change.NewResource u) (node.Resource k) stays h = more-resources s.values.uris u k.0 h
-change-keeps-node s (change.Resolve o f i b) n stays h = h
+change-keeps-node s (change.Resolve o f i) n stays h = h
 change-keeps-node s (change.Load k doc) (node.Object o) stays h = ap (λ (b : Bool). b && true) (loaded-live s.metamodel s.values doc o.0 (first-true _ true h))
 change-keeps-node s (change.Load k doc) (node.Resource j) stays h = subst (λ (us : List (List ℕ)). IsTrue (nat_lt j.0 (length us))) (sym (loaded-uris s.metamodel (length s.values.objects) s.values doc)) h
 
@@ -168,7 +167,7 @@ keeps-node s (RemoveValue m f v) a stays h = change-keeps-node s.model (change.R
 keeps-node s (Move m f to from) a stays h = change-keeps-node s.model (change.Move m f to from) a.target refl h
 keeps-node s (Delete o) a stays h = change-keeps-node s.model (change.Delete o) a.target stays h
 keeps-node s (CreateResource t) a stays h = resource-keeps-node s.model (joined [] t) a.target h
-keeps-node s (Resolve o f i) a stays h = change-keeps-node s.model (change.Resolve o f i (target_at (reads s) o f i)) a.target refl h
+keeps-node s (Resolve o f i) a stays h = change-keeps-node s.model (change.Resolve o f i) a.target refl h
 keeps-node s (Load k text) a stays h = load-keeps-node s.model k (reads_into (reads s) k text) a.target h
 keeps-node s (Attach number target deep view) a stays h = h
 keeps-node s (Detach number) a stays h = h
@@ -209,7 +208,7 @@ model-legal s (RemoveValue n f v) legal early late = change-keeps-legal s.model 
 model-legal s (Move n f to from) legal early late = change-keeps-legal s.model (change.Move n f to from) legal early late tt tt
 model-legal s (Delete o) legal early late = change-keeps-legal s.model (change.Delete o) legal early late tt tt
 model-legal s (CreateResource t) legal early late = resource-legal s t (joined [] t) refl legal late
-model-legal s (Resolve o f i) legal early late = change-keeps-legal s.model (change.Resolve o f i (target_at (reads s) o f i)) legal early late tt tt
+model-legal s (Resolve o f i) legal early late = change-keeps-legal s.model (change.Resolve o f i) legal early late tt tt
 model-legal s (Load k text) legal early late = load-legal s k text (reads_into (reads s) k text) refl legal early late
 model-legal s (Attach number target deep view) legal early late = legal
 model-legal s (Detach number) legal early late = legal

@@ -55,7 +55,7 @@ proper-read r text (RemoveValue n f v) proper = tt
 proper-read r text (Move n f to from) proper = tt
 proper-read r text (Delete o) proper = tt
 proper-read r text (NewResource u) proper = tt
-proper-read r text (Resolve o f i b) proper = tt
+proper-read r text (Resolve o f i) proper = tt
 
 -- joining leaves the texts that a proper change brings as they are
 pub proper-steady : (r : Reading) (text : List ℕ) (c : Change) → IsProper r text c → BringsSteadyTexts c

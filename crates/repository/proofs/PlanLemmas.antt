@@ -1,20 +1,16 @@
 -- What a plan, or its refusal, makes of its command.
 use Rattle.std.proofs.Common.{◌≡◌, inl, inr, Bool, true, false, not, IsTrue, List, [], ◌∷◌, ◌++◌, map, Option, Some, None, Ok, Err, if◌then◌else◌, refl, ap, sym, subst, ◌∙◌}
-use Rattle.std.specs.Prelude.{◌+◌, MatchBool, Result, ◌&&◌, nat_le, nat_lt, is_some, ℕ, length, option_map}
+use Rattle.std.specs.Prelude.{◌+◌, MatchBool, Result, ◌&&◌, is_some, ℕ, length, option_map, IsFalse}
 use Rattle.std.specs.Option.{option_map_or}
 use Rattle.std.proofs.lemmas.List.{append-nil}
 use Rattle.mm_types.specs.Conditions.{◌else_by◌, ◌unless◌, ◌where_so◌}
-use Rattle.mm_types.specs.declared.limits.TheConstants.{OBJECTS, RESOURCES}
 use Rattle.mm_types.specs.declared.refused.Refused.{Refused}
-use Rattle.mm_types.specs.declared.refused.Refused.TheVariants.{NoObject, NoResource, NoClass, Abstract, NoFeature, NotSingle, NotMany, WrongType, TextLength, Index, Duplicate, Bound, Recursive, Limit, NotEmpty, NotProxy, Unloaded, Unresolved, AdapterFull, Memory, ResourceExists}
-use Rattle.mm_types.specs.declared.end.End.{End}
+use Rattle.mm_types.specs.declared.refused.Refused.TheVariants.{NoObject, NoResource, NoClass, Abstract, NoFeature, NotSingle, NotMany, TextLength, AdapterFull, Memory}
 use Rattle.mm_types.specs.declared.value.Value.{Value}
-use Rattle.mm_types.specs.declared.value.Value.TheVariants as value
 use Rattle.mm_types.specs.declared.numbers.AdapterNo.{AdapterNo}
 use Rattle.mm_types.specs.declared.numbers.FeatureNo.{FeatureNo}
 use Rattle.mm_types.specs.declared.numbers.Node.{Node}
 use Rattle.mm_types.specs.declared.numbers.Node.TheVariants as node
-use Rattle.mm_types.specs.declared.numbers.ObjectNo.{ObjectNo}
 use Rattle.mm_types.specs.declared.numbers.ResourceNo.{ResourceNo}
 use Rattle.mm_types.specs.Lookups as lookups
 use Rattle.mm_types.specs.Shapes.{shape}
@@ -23,18 +19,16 @@ use Rattle.notice_chain.specs.Released.{Released, released}
 use Rattle.notice_chain.specs.View.{View}
 use Rattle.notice_chain.specs.declared.notice.Notice.{Notice}
 use Rattle.adapter_list.specs.Refusals.{IsChainRefusal}
-use Rattle.models.specs.Legal.{is_short, is_short_text}
+use Rattle.models.specs.Legal.{is_short_text}
 use Rattle.models.specs.Model.{Model, reading}
-use Rattle.models.specs.Reading.{Reading, at_end, has_feature, is_node_live, is_repeat, is_resource_there, is_value_live, place_for, takes, has_uri}
+use Rattle.models.specs.Reading.{Reading, has_feature, is_node_live, is_resource_there, is_value_live}
 use Rattle.handshake.specs.Named.{feature_refusal, many_refusal, node_refusal, value_refusal}
 use Rattle.handshake.specs.Effects as effects
-use Rattle.handshake.specs.Plans.{is_memory_refusal}
-use Rattle.handshake.specs.Displaced.{has_already}
-use Rattle.handshake.specs.Refusals.{count_at, early_refusal, gain_refusal, is_at_limit, is_full_at, is_mistyped, is_recursive, is_there_already, late_refusal, link_refusal, of_either, proxy_at, resolve_refusal, set_refusal, type_refusal, uri_refusal}
+use Rattle.handshake.specs.Plans.{is_memory_refusal, looks_first}
+use Rattle.handshake.specs.Refusals.{early_refusal, late_refusal, uri_refusal}
 use Rattle.handshake.specs.Tellings.{chain, destroyed_by}
 use Rattle.mm_types.specs.declared.document_fault.DocFault.{DocFault}
 use Rattle.resource_docs.specs.declared.doc.Doc.{Doc}
-use Rattle.loading.specs.Loading.{is_empty_resource}
 use Rattle.handshake.specs.declared.change.Change.{Change}
 use Rattle.handshake.specs.declared.change.Change.TheVariants.{Create, Set, Unset, Add, Remove, RemoveValue, Move, Delete, NewResource, Resolve, Load}
 use Rattle.repository.specs.Answers.{answer_of}
@@ -48,7 +42,6 @@ use Rattle.repository.specs.Views.{command_of}
 use Rattle.repository.proofs.AdapterLemmas.{Heard, released-nobody}
 use Rattle.std.proofs.lemmas.Option.{none-some}
 use Rattle.web_uris.proofs.JoinFacts.{joined-web}
-use Rattle.web_uris.specs.Addresses.{uri_part}
 use Rattle.handshake.specs.Laws.{goes_with}
 use Rattle.repository.specs.Loads.{load_of, load_refusal, objects_of}
 use Rattle.repository.specs.Proper.{IsProper}
@@ -82,11 +75,6 @@ module _ (s : State) (u : List ℕ) where
   asked_of : Option (List ℕ) → Option Refused
   asked_of uri = resource_refusal (reads s) u uri else_by (AdapterFull where_so is_chain_full (reads s).above (option_map_or (chain (reads s)) (option_map NewResource uri) []) s.adapters)
 
--- why a proxy is not resolved to this object
-module _ (s : State) (o : ObjectNo) (f : FeatureNo) (i : ℕ) where
-  resolved_to : Option ObjectNo → Option Refused
-  resolved_to b = feature_refusal (reads s) (node.Object o) f else_by late_refusal (reads s) (Resolve o f i b) else_by full s (Resolve o f i b)
-
 -- why a text that is read as this is not loaded
 module _ (s : State) (k : ResourceNo) where
   unfoldable pub loaded_as : Result Doc DocFault → Option Refused
@@ -94,7 +82,7 @@ module _ (s : State) (k : ResourceNo) where
 
 -- where nothing is found before planning
 refusal-planned : (s : State) (text : List ℕ) (c : Change) → IsProper (reads s) text c → early_refusal (reads s) c ≡ None → refusal_of s (command_of text c) ≡ (late_refusal (reads s) c else_by full s c)
-unfolding full asked_of resolved_to loaded_as
+unfolding full asked_of loaded_as
 refusal-planned s text (Create c) brought early = rw early refl
 refusal-planned s text (Set n f v) brought early = rw early refl
 refusal-planned s text (Unset n f) brought early = rw early refl
@@ -105,7 +93,7 @@ refusal-planned s text (Move n f to from) brought early = rw early refl
 refusal-planned s text (Delete o) brought early = rw early refl
 refusal-planned s text (NewResource u) web early =
     ap (asked_of s u) (joined-web [] u web) ∙ ap (λ (o : Option Refused). o else_by full s (NewResource u)) (uri-refused (reads s) u)
-refusal-planned s text (Resolve o f i b) own early = ap (resolved_to s o f i) (sym own) ∙ rw early refl
+refusal-planned s text (Resolve o f i) brought early = rw early refl
 refusal-planned s text (Load k doc) proper early = ap (loaded_as s k) proper.0 ∙ rw early refl
 
 -- a condition that is none of these is none of them behind another that is none
@@ -136,13 +124,13 @@ early-not-memory r (RemoveValue n f v) = many-not-memory r f (value_refusal r n 
 early-not-memory r (Move n f to from) = many-not-memory r f (feature_refusal r n f) (feature-not-memory r n f)
 early-not-memory r (Delete o) = node-not-memory r (node.Object o)
 early-not-memory r (NewResource u) = refl
-early-not-memory r (Resolve o f i b) = feature-not-memory r (node.Object o) f
+early-not-memory r (Resolve o f i) = feature-not-memory r (node.Object o) f
 early-not-memory r (Load k doc) = node-not-memory r (node.Resource k)
 
 ---------------------------------------------------------------- what is found later is not plain
 
 pub late-not-plain : (r : Reading) (c : Change) → IsNot is_plain (late_refusal r c)
-late-not-plain r c = late-not is_plain (record { wrong_type = refl; text_length = refl; index = refl; duplicate = refl; bound = refl; recursive = refl; limit = refl; resource_exists = refl; not_empty = refl; not_proxy = refl; unloaded = refl; unresolved = refl }) r c
+late-not-plain r c = late-not is_plain (record { wrong_type = refl; text_length = refl; index = refl; duplicate = refl; bound = refl; recursive = refl; limit = refl; resource_exists = refl; not_empty = refl; not_proxy = refl; unloaded = refl; unresolved = refl; unmatched = refl }) r c
 
 full-not-plain : (s : State) (c : Change) → IsNot is_plain (full s c)
 unfolding full
@@ -163,7 +151,7 @@ may-want s text (RemoveValue n f v) brought early = not-plain s text (RemoveValu
 may-want s text (Move n f to from) brought early = not-plain s text (Move n f to from) brought early
 may-want s text (Delete o) brought early = not-plain s text (Delete o) brought early
 may-want s text (NewResource u) brought early = not-plain s text (NewResource u) brought early
-may-want s text (Resolve o f i b) brought early = not-plain s text (Resolve o f i b) brought early
+may-want s text (Resolve o f i) brought early = not-plain s text (Resolve o f i) brought early
 may-want s text (Load k doc) brought early = not-plain s text (Load k doc) brought early
 
 ---------------------------------------------------------------- what is executed
@@ -178,7 +166,7 @@ refused_as s text (RemoveValue n f v) r other found = rw other (ap (step_unless 
 refused_as s text (Move n f to from) r other found = rw other (ap (step_unless s (command_of text (Move n f to from))) found)
 refused_as s text (Delete o) r other found = rw other (ap (step_unless s (command_of text (Delete o))) found)
 refused_as s text (NewResource u) r other found = rw other (ap (step_unless s (command_of text (NewResource u))) found)
-refused_as s text (Resolve o f i b) r other found = rw other (ap (step_unless s (command_of text (Resolve o f i b))) found)
+refused_as s text (Resolve o f i) r other found = rw other (ap (step_unless s (command_of text (Resolve o f i))) found)
 refused_as s text (Load k doc) r other found = rw other (ap (step_unless s (command_of text (Load k doc))) found)
 
 -- what is found first
@@ -192,7 +180,7 @@ found-first s text (RemoveValue n f v) r e = rw e refl
 found-first s text (Move n f to from) r e = rw e refl
 found-first s text (Delete o) r e = rw e refl
 found-first s text (NewResource u) r e = absurd (none-some r e)
-found-first s text (Resolve o f i b) r e = rw e refl
+found-first s text (Resolve o f i) r e = rw e refl
 found-first s text (Load k doc) r e = rw e refl
 
 pub early_err : (s : State) (text : List ℕ) (c : Change) (r : Refused) → early_refusal (reads s) c ≡ Some r → Executed s (command_of text c) (Err (record { refused = r; given_back = None })) s
@@ -208,12 +196,16 @@ out_of_memory s text (RemoveValue n f v) brought early = record { may = may-want
 out_of_memory s text (Move n f to from) brought early = record { may = may-want s text (Move n f to from) brought early; outcome = refl; state = refl }
 out_of_memory s text (Delete o) brought early = record { may = may-want s text (Delete o) brought early; outcome = refl; state = refl }
 out_of_memory s text (NewResource u) brought early = record { may = may-want s text (NewResource u) brought early; outcome = refl; state = refl }
-out_of_memory s text (Resolve o f i b) brought early = record { may = may-want s text (Resolve o f i b) brought early; outcome = refl; state = refl }
+out_of_memory s text (Resolve o f i) brought early = record { may = may-want s text (Resolve o f i) brought early; outcome = refl; state = refl }
 out_of_memory s text (Load k doc) brought early = record { may = may-want s text (Load k doc) brought early; outcome = refl; state = refl }
 
 -- what planning answers in place of a plan is such a refusal
-pub plan_refusal : (s : Model) (c : Change) (r : Refused) → late_refusal (reading s) c ≡ (if is_memory_refusal r then None else Some r) → IsPlanRefusal s c r
-plan_refusal s c r h = elim (is_memory_refusal r) as (λ b. late_refusal (reading s) c ≡ (if b then None else Some r) → MatchBool b (Unit {0}) (late_refusal (reading s) c ≡ Some r)) [ true ↦ λ _. tt | false ↦ λ found. found ] h
+pub plan_refusal : (s : Model) (c : Change) (r : Refused) → (IsFalse (is_memory_refusal r && looks_first c) → late_refusal (reading s) c ≡ (if is_memory_refusal r then None else Some r)) → IsPlanRefusal s c r
+plan_refusal s c r h =
+    elim (is_memory_refusal r) as (λ b. (IsFalse (b && looks_first c) → late_refusal (reading s) c ≡ (if b then None else Some r)) → MatchBool b (Unit {0}) (late_refusal (reading s) c ≡ Some r)) [
+      | true ↦ λ _. tt
+      | false ↦ λ found. found refl
+    ] h
 
 -- what planning refuses
 pub planned_err : (s : State) (text : List ℕ) (c : Change) (r : Refused) → IsProper (reads s) text c → early_refusal (reads s) c ≡ None → IsPlanRefusal s.model c r → Executed s (command_of text c) (Err (record { refused = r; given_back = None })) s
@@ -254,16 +246,6 @@ done_of s u made =
       after = record { model = option_map_or (effects.after s.model) made s.model; adapters = x.others ++ [] };
     }
 
--- what is done where a proxy is resolved to this object
-done_resolved : (s : State) (o : ObjectNo) (f : FeatureNo) (i : ℕ) → Option ObjectNo → Stepped
-done_resolved s o f i b =
-    let c = Resolve o f i b in
-    let x : Released = released (λ a. false) (tell_chain (reads s).above (chain (reads s) c) s.adapters) in
-    record {
-      outcome = Ok (record { answer = answer_of (reads s) s.adapters (command.Resolve o f i); told = told_list (reads s).above (chain (reads s) c) s.adapters ++ x.told; released = x.views });
-      after = record { model = effects.after s.model c; adapters = x.others ++ [] };
-    }
-
 -- what is done where a text is read as this
 done_loaded : (s : State) (k : ResourceNo) → Result Doc DocFault → Stepped
 done_loaded s k read =
@@ -279,7 +261,7 @@ abbrev pub releases_of : State → Change → List Notice → Released
 releases_of s c ns = released (λ a. goes_with (reads s) c a.target) (tell_chain (reads s).above ns s.adapters)
 
 done_change : (s : State) (text : List ℕ) (c : Change) → IsProper (reads s) text c → done s (command_of text c) ≡ replied s c (chain (reads s) c) (effects.after s.model c) (answer_of (reads s) s.adapters (command_of text c)) (releases_of s c (chain (reads s) c))
-unfolding done_of done_resolved done_loaded
+unfolding done_of done_loaded
 done_change s text (Create k) brought = let c = Create k in no_more s c (chain (reads s) c) (effects.after s.model c) (answer_of (reads s) s.adapters (command_of text c)) (releases_of s c (chain (reads s) c))
 done_change s text (Set n f v) brought = let c = Set n f v in no_more s c (chain (reads s) c) (effects.after s.model c) (answer_of (reads s) s.adapters (command_of text c)) (releases_of s c (chain (reads s) c))
 done_change s text (Unset n f) brought = let c = Unset n f in no_more s c (chain (reads s) c) (effects.after s.model c) (answer_of (reads s) s.adapters (command_of text c)) (releases_of s c (chain (reads s) c))
@@ -297,10 +279,7 @@ done_change s text (Load k doc) proper =
     ap (done_loaded s k) proper.0
     ∙ no_more s c (chain (reads s) c) (effects.after s.model c) (answer.Loaded (length doc.objects)) (releases_of s c (chain (reads s) c))
     ∙ ap (λ (a : Answer). replied s c (chain (reads s) c) (effects.after s.model c) a (releases_of s c (chain (reads s) c))) (sym (ap (λ (x : Result Doc DocFault). answer.Loaded (objects_of x)) proper.0))
-done_change s text (Resolve o f i b) own =
-    let c = Resolve o f i b in
-    ap (done_resolved s o f i) (sym own)
-    ∙ no_more s c (chain (reads s) c) (effects.after s.model c) (answer_of (reads s) s.adapters (command_of text c)) (releases_of s c (chain (reads s) c))
+done_change s text (Resolve o f i) brought = let c = Resolve o f i in no_more s c (chain (reads s) c) (effects.after s.model c) (answer_of (reads s) s.adapters (command_of text c)) (releases_of s c (chain (reads s) c))
 
 -- a change that was made, with the notices that somebody may hear
 pub changed : (s : State) (text : List ℕ) (c : Change) (made : List Notice) → IsProper (reads s) text c → early_refusal (reads s) c ≡ None → late_refusal (reads s) c ≡ None → Heard (reads s).above made (chain (reads s) c) s.adapters → is_chain_full (reads s).above made s.adapters ≡ false

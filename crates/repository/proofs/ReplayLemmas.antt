@@ -33,7 +33,6 @@ use Rattle.handshake.specs.declared.change.Change.TheVariants as change
 use Rattle.handshake.proofs.ChainLemmas.{chain-replays}
 use Rattle.repository.specs.Loads.{load_of, load_refusal, reads_into}
 use Rattle.repository.specs.Refusals.{chain, change_of, early_refusal, late_refusal, resource_refusal}
-use Rattle.repository.specs.Resolving.{target_at}
 use Rattle.repository.specs.State.{State, is_there, reads}
 use Rattle.repository.specs.Step.{model_after}
 use Rattle.repository.specs.declared.command.Command.{Command}
@@ -81,7 +80,7 @@ command-replays s (RemoveValue n f v) legal early late d before later = chain-re
 command-replays s (Move n f to from) legal early late d before later = chain-replays s.model (change.Move n f to from) legal early late tt d refl refl
 command-replays s (Delete o) legal early late d before later = chain-replays s.model (change.Delete o) legal early late tt d (goes-none s.model o d.node later) refl
 command-replays s (CreateResource t) legal early late d before later = resource-replays s t (joined [] t) legal late d
-command-replays s (Resolve o f i) legal early late d before later = chain-replays s.model (change.Resolve o f i (target_at (reads s) o f i)) legal early late tt d refl refl
+command-replays s (Resolve o f i) legal early late d before later = chain-replays s.model (change.Resolve o f i) legal early late tt d refl refl
 command-replays s (Load k text) legal early late d before later = load-replays s k text (reads_into (reads s) k text) refl legal early late d before
 command-replays s (Attach number target deep view) legal early late d before later = refl
 command-replays s (Detach number) legal early late d before later = refl

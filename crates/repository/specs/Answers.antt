@@ -1,5 +1,5 @@
 -- What a command that is not refused answers.
-use Rattle.std.specs.Prelude.{◌≡◌, ℕ, ◌&&◌, ◌||◌, Bool, List, filter, length, not, pos, int_le, int_lt, Option, Some, None, unwrap_or, if◌then◌else◌, []}
+use Rattle.std.specs.Prelude.{◌≡◌, ℕ, ◌&&◌, ◌||◌, Bool, List, filter, length, not, pos, int_le, int_lt, Option, Some, None, unwrap_or, if◌then◌else◌, [], true, false}
 use Rattle.std.specs.Option.{option_map_or}
 use Rattle.mm_types.specs.declared.numbers.AdapterNo.{AdapterNo}
 use Rattle.notice_chain.specs.View.{View}
@@ -25,7 +25,11 @@ use Rattle.fragment_paths.specs.Finding.{at}
 use Rattle.saved_docs.specs.Document.{saved}
 use Rattle.snapshots.specs.Snapshots.{snapshot_of}
 use Rattle.repository.specs.Loads.{objects_of, reads_into}
-use Rattle.repository.specs.Resolving.{target_at}
+use Rattle.handshake.specs.Resolving.{target_at}
+use Rattle.removal.specs.declared.gone.Removal.{Removal}
+use Rattle.handshake.specs.declared.change.Change.{Change}
+use Rattle.handshake.specs.declared.change.Change.TheVariants as change
+use Rattle.handshake.specs.declared.target.Target.{Target}
 
 -- what is counted of the adapter of a number
 abbrev pub count_of : List Listed → AdapterNo → (View → ℕ) → ℕ
@@ -66,7 +70,7 @@ answer_of r rs (command.RemoveValue n f v) = answer.Flag (has_value (r.values (a
 answer_of r rs (command.Move n f to from) = answer.Value (value_in (r.values (at_end n f)) from)
 answer_of r rs (command.Delete o) = answer.Destroyed (length (subtree r o))
 answer_of r rs (command.CreateResource t) = answer.Resource (record { 0 = length r.uris })
-answer_of r rs (command.Resolve o f i) = answer.Object (unwrap_or (target_at r o f i) (record { 0 = 0 }))
+answer_of r rs (command.Resolve o f i) = answer.Object (option_map_or (λ x. x.object) (target_at r (at_end (node.Object o) f) i) (record { 0 = 0 }))
 answer_of r rs (command.Load k text) = answer.Loaded (objects_of (reads_into r k text))
 answer_of r rs (command.Attach number target deep view) = answer.Done
 answer_of r rs (command.Detach number) = answer.Done
@@ -84,7 +88,17 @@ answer_of r rs (command.Snapshot n) = answer.Snapshot (snapshot_of r n)
 answer_of r rs (command.AdapterTold number) = answer.Count (count_of rs number (λ v. v.told))
 answer_of r rs (command.AdapterKept number) = answer.Count (count_of rs number (λ v. length v.kept))
 
--- what can be answered before a change is planned: all but how much a deletion destroys
-abbrev pub IsEarlyAnswer : Option ObjectNo → Answer → Option Answer → Type 0
-IsEarlyAnswer None a q = q ≡ Some a
-IsEarlyAnswer (Some o) a q = q ≡ None
+-- what can be answered before a change is planned: all but how much a deletion destroys, and what a proxy finds
+abbrev pub is_answered_late : Change → Bool
+is_answered_late (change.Delete o) = true
+is_answered_late (change.Resolve o f i) = true
+is_answered_late _ = false
+
+abbrev pub IsEarlyAnswer : Bool → Answer → Option Answer → Type 0
+IsEarlyAnswer false a q = q ≡ Some a
+IsEarlyAnswer true a q = q ≡ None
+
+-- the answer of a change that is answered once it is planned
+abbrev pub planned_answer : Option Removal → Option Target → Answer
+planned_answer q (Some x) = answer.Object x.object
+planned_answer q None = answer.Destroyed (option_map_or (λ (x : Removal). length x.objects.items) q 0)

@@ -19,7 +19,6 @@ use Rattle.handshake.specs.Tellings as planned_chain
 use Rattle.handshake.specs.declared.change.Change.{Change}
 use Rattle.handshake.specs.declared.change.Change.TheVariants as change
 use Rattle.repository.specs.Loads.{load_of, load_refusal, reads_into}
-use Rattle.repository.specs.Resolving.{target_at}
 use Rattle.repository.specs.declared.command.Command.{Command}
 use Rattle.repository.specs.declared.command.Command.TheVariants as command
 use Rattle.mm_types.specs.declared.limits.TheConstants.{RESOURCES}
@@ -29,8 +28,7 @@ use Rattle.web_uris.specs.Addresses.{has_mark}
 use Rattle.fragment_paths.specs.Fragments.{fragment}
 use Rattle.saved_docs.specs.Saved.{save_refusal}
 
--- the change that a command makes of the model, if it makes one; a proxy is resolved to the object that it finds, and a text is loaded as
--- what it is read as
+-- the change that a command makes of the model, if it makes one; a text is loaded as what it is read as
 abbrev pub change_of : Reading → Command View → Option Change
 change_of r (command.Create c) = Some (change.Create c)
 change_of r (command.Set n f v) = Some (change.Set n f v)
@@ -41,7 +39,7 @@ change_of r (command.RemoveValue n f v) = Some (change.RemoveValue n f v)
 change_of r (command.Move n f to from) = Some (change.Move n f to from)
 change_of r (command.Delete o) = Some (change.Delete o)
 change_of r (command.CreateResource t) = option_map change.NewResource (joined [] t)
-change_of r (command.Resolve o f i) = Some (change.Resolve o f i (target_at r o f i))
+change_of r (command.Resolve o f i) = Some (change.Resolve o f i)
 change_of r (command.Load k text) = load_of k (reads_into r k text)
 change_of r (command.Attach number target deep view) = None
 change_of r (command.Detach number) = None
@@ -117,7 +115,7 @@ late_refusal r rs (command.RemoveValue n f v) = planned.late_refusal r (change.R
 late_refusal r rs (command.Move n f to from) = planned.late_refusal r (change.Move n f to from)
 late_refusal r rs (command.Delete o) = planned.late_refusal r (change.Delete o)
 late_refusal r rs (command.CreateResource t) = resource_refusal r t (joined [] t)
-late_refusal r rs (command.Resolve o f i) = planned.late_refusal r (change.Resolve o f i (target_at r o f i))
+late_refusal r rs (command.Resolve o f i) = planned.late_refusal r (change.Resolve o f i)
 late_refusal r rs (command.Load k text) = load_refusal r k (reads_into r k text)
 late_refusal r rs (command.Attach number target deep view) = attach_refusal rs number view
 late_refusal r rs (command.Detach number) = None

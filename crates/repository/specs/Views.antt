@@ -24,7 +24,7 @@ command_of text (change.RemoveValue n f v) = command.RemoveValue n f v
 command_of text (change.Move n f to from) = command.Move n f to from
 command_of text (change.Delete o) = command.Delete o
 command_of text (change.NewResource u) = command.CreateResource u
-command_of text (change.Resolve o f i b) = command.Resolve o f i
+command_of text (change.Resolve o f i) = command.Resolve o f i
 command_of text (change.Load k doc) = command.Load k text
 
 -- the adapter that a command brings

@@ -1,6 +1,5 @@
 //! What is made ready for a change before anything changes.
 ghost use Rattle.std.specs.Prelude.{◌≡◌, ℕ, List, false, None, length, nat_lt, option_map, IfOk, IfErr, IfSome, OnOk};
-ghost use Rattle.std.specs.Option.{option_map_or};
 ghost use Rattle.mm_types.specs.Ends.{value_in};
 ghost use Rattle.mm_values.specs.Room as values_room;
 ghost use Rattle.notice_chain.specs.Listed.{Listed};
@@ -11,11 +10,10 @@ ghost use Rattle.models.specs.Reading.{at_end};
 ghost use Rattle.handshake.specs.Laws.{goes_with};
 ghost use Rattle.handshake.specs.Plans.{IsPlanOf};
 ghost use Rattle.handshake.specs.Refusals.{early_refusal as early_refusal_of};
-ghost use Rattle.handshake.specs.Tellings.{destroyed_by};
 ghost use Rattle.adapter_list.specs.Refusals.{IsChainRefusal};
 ghost use Rattle.adapter_list.specs.Rounds.{RoundFits, round_of};
 ghost use Rattle.notice_chain.specs.Listed.{is_chain_full};
-ghost use Rattle.repository.specs.Answers.{IsEarlyAnswer, answer_of};
+ghost use Rattle.repository.specs.Answers.{IsEarlyAnswer, answer_of, is_answered_late, planned_answer as planned_answer_of};
 ghost use Rattle.repository.specs.Leaving.{HasRoom, LeaversAre};
 ghost use Rattle.repository.specs.Proper.{IsProper};
 ghost use Rattle.repository.specs.Refusals.{IsPlanRefusal};
@@ -26,7 +24,7 @@ use crate::leaving::{Leaving, places_of, room_for};
 use crate::reply::Answer;
 use adapter_list::{AdapterList, Round};
 use adapters::Adapter;
-use handshake::{Change, Planned, plan};
+use handshake::{Change, Planned, Target, plan};
 use links::LinkStore;
 use mm_types::{End, FeatureNo, Node, ObjectNo, Refused, ResourceNo};
 use mm_values::Values;
@@ -61,7 +59,7 @@ pub(crate) fn prepare<L: LinkStore, A: Adapter>(
     let planned = plan(alloc, model, change, adapters.len() > 0)?;
     let places = places_of(alloc, adapters, &planned.removal)?;
     Ok(Prepared {
-        answer: answer.unwrap_or(destroyed_answer(&planned.removal)),
+        answer: answer.unwrap_or(planned_answer(&planned.removal, planned.target)),
         places,
         planned,
     })
@@ -98,24 +96,21 @@ pub(crate) fn reserve<L: LinkStore, A: Adapter>(
     Ok((round, leaving))
 }
 
-/// What a change answers that is not refused; `None` for a deletion, whose answer is how much its plan destroys. Errs only when out
-/// of memory.
+/// What a change answers that is not refused; `None` for a deletion and for a proxy, whose answers are what the plan destroys and finds.
+/// Errs only when out of memory.
 fn early_answer<L: LinkStore>(
     alloc: Global,
     model: &ModelRef<L>,
     change: &Change,
 ) -> Result<Option<Answer>, AllocError>
     requires proper { (text : List ℕ) × IsProper (reading model.now) text change.now }
-    ensures { IfOk result (λ q. (rs : List Listed) (text : List ℕ) → IsProper (reading model.now) text change.now → IsEarlyAnswer (destroyed_by change.now) (answer_of (reading model.now) rs (command_of text change.now)) q) }
+    ensures { IfOk result (λ q. (rs : List Listed) (text : List ℕ) → IsProper (reading model.now) text change.now → IsEarlyAnswer (is_answered_late change.now) (answer_of (reading model.now) rs (command_of text change.now)) q) }
 {
     model.is_legal();
     match change {
-        Change::Delete(_) => Ok(None),
+        Change::Delete(_) | Change::Resolve { .. } => Ok(None),
         Change::Create(_) => Ok(Some(Answer::Object(ObjectNo(model.next() as u32)))),
         Change::NewResource(_) => Ok(Some(Answer::Resource(ResourceNo(model.resources() as u32)))),
-        Change::Resolve { target, .. } => {
-            Ok(Some(Answer::Object(target.unwrap_or(ObjectNo(0)))))
-        }
         Change::Load(_, doc) => Ok(Some(Answer::Loaded(doc.objects.len() as u64))),
         Change::Set { .. } | Change::Unset { .. } => Ok(Some(Answer::Done)),
         Change::Add {
@@ -143,13 +138,14 @@ fn early_answer<L: LinkStore>(
     }
 }
 
-// How many objects go, as an answer.
-fn destroyed_answer(removal: &Option<Removal>) -> Answer
-    ensures { result ≡ answer.Destroyed (option_map_or (λ x. length x.objects.items) removal.now 0) }
+// The object that a proxy finds, or how many objects go, as an answer.
+fn planned_answer(removal: &Option<Removal>, target: Option<Target>) -> Answer
+    ensures { result ≡ planned_answer_of removal.now target }
 {
-    match removal {
-        Some(removal) => Answer::Destroyed(removal.objects.len() as u64),
-        None => Answer::Destroyed(0),
+    match (target, removal) {
+        (Some(target), _) => Answer::Object(target.object),
+        (None, Some(removal)) => Answer::Destroyed(removal.objects.len() as u64),
+        (None, None) => Answer::Destroyed(0),
     }
 }
 

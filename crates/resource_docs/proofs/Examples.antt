@@ -86,6 +86,18 @@ with-proxies : read_a (codes "{\"format\":1,\"roots\":[{\"class\":\"Person\",\"f
 unfolding on_literals
 with-proxies = refl
 
+-- a document of format 2 has a proxy in a reference with an opposite
+abbrev pub job_doc : Doc
+job_doc =
+    record {
+      objects = record { class = record { 0 = 3 }; contents = content 12 (value.Proxy (codes "http://m.example/b#/") ∷ []) ∷ [] } ∷ [];
+      roots = oid 0 ∷ [];
+    }
+
+across : read_a (codes "{\"format\":2,\"roots\":[{\"class\":\"Person\",\"features\":{\"job\":\"b#/\"}}]}") ≡ Ok job_doc
+unfolding on_literals
+across = refl
+
 -- one example of each further cause
 abbrev pub faults : List (List ℕ)
 faults =

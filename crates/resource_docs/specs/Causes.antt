@@ -12,7 +12,7 @@ use Rattle.mm_types.specs.Same.{same_value}
 use Rattle.mm_types.specs.Shapes.{contents_shape, is_bounded, is_containment, shape}
 use Rattle.mm_types.specs.declared.document_fault.DocFault.{DocFault}
 use Rattle.mm_types.specs.declared.document_fault.DocFault.TheVariants as cause
-use Rattle.mm_types.specs.declared.limits.TheConstants.{DOCUMENT_FORMAT}
+use Rattle.mm_types.specs.declared.limits.TheConstants.{DOCUMENT_FORMAT, FIRST_DOCUMENT_FORMAT}
 use Rattle.mm_types.specs.declared.numbers.FeatureNo.{FeatureNo}
 use Rattle.mm_types.specs.declared.numbers.ObjectNo.{ObjectNo}
 use Rattle.mm_types.specs.declared.refused.Refused.{Refused}
@@ -32,8 +32,11 @@ use Rattle.resource_docs.specs.declared.doc.Doc.{Doc}
 
 ---------------------------------------------------------------- 3: the format
 
+abbrev pub has_first_format : Top → Bool
+has_first_format t = int_eq t.format (pos FIRST_DOCUMENT_FORMAT)
+
 abbrev pub has_other_format : Top → Bool
-has_other_format t = not (int_eq t.format (pos DOCUMENT_FORMAT))  -- opposites across resources: another than 1 and 2
+has_other_format t = not (has_first_format t || int_eq t.format (pos DOCUMENT_FORMAT))
 
 ---------------------------------------------------------------- 9: roots
 
@@ -62,7 +65,7 @@ abbrev pub is_proxy : Value → Bool
 is_proxy (value.Proxy t) = true
 is_proxy _ = false
 
--- opposites across resources: only in a document of format 1
+-- a reference with an opposite leads to another resource: a fault of documents of the first format
 abbrev pub has_cross : Metamodel → Content → Bool
 has_cross m c = is_some (shape m c.feature).opposite && list_any is_proxy c.values
 
@@ -88,7 +91,7 @@ sense_cause m b d ps doc =
     cause.Duplicate where_so of_content (λ o c. has_repeat m c) doc else_by
     cause.Bound where_so (has_many_roots m d || of_entry m (is_long m) ps) else_by
     cause.OneSided where_so of_content (is_one_sided m doc) doc else_by
-    cause.Cross where_so of_content (λ o c. has_cross m c) doc else_by
+    cause.Cross where_so (option_map_or has_first_format (top d) false && of_content (λ o c. has_cross m c) doc) else_by
     cause.Depth where_so list_any is_deep ps
 
 unfoldable pub cause_of : Metamodel → Base → Data → Option DocFault

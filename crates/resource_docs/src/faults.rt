@@ -1,13 +1,14 @@
 //! Why a document is refused: the first cause that applies.
-ghost use Rattle.std.specs.Prelude.{◌≡◌, IfOk, List, Some, length, not};
+ghost use Rattle.std.specs.Prelude.{◌≡◌, IfOk, List, Some, false, length, not};
+ghost use Rattle.std.specs.Option.{option_map_or};
 ghost use Rattle.mm_types.specs.Shapes.{contents_shape, is_bounded};
 ghost use Rattle.serde_json.specs.Data.{Data};
 ghost use Rattle.serde_json.specs.View.{items_view};
 ghost use Rattle.doc_parts.specs.Faults.{of_entry};
 ghost use Rattle.doc_parts.specs.Found.{Knows};
-ghost use Rattle.doc_parts.specs.Layout.{new_top};
+ghost use Rattle.doc_parts.specs.Layout.{new_top, top as top_meant};
 ghost use Rattle.doc_parts.specs.Parts.{Part, root_parts};
-ghost use Rattle.resource_docs.specs.Causes.{sense_cause as sense_meant, shape_cause as shape_meant};
+ghost use Rattle.resource_docs.specs.Causes.{has_first_format as first_meant, sense_cause as sense_meant, shape_cause as shape_meant};
 ghost use Rattle.resource_docs.specs.Texts.{base_of};
 ghost use Rattle.resource_docs.specs.Values.{has_lost};
 
@@ -24,6 +25,13 @@ use mm_meta::Meta;
 use mm_types::{DocFault, limits};
 use std::alloc::AllocError;
 
+/// Whether a document has the first format.
+pub(crate) fn has_first_format(top: TopMembers) -> bool
+    ensures { result ≡ first_meant (new_top top.entry.format (items_view top.entry.roots.now.items)) }
+{
+    top.format == i64::from(limits::FIRST_DOCUMENT_FORMAT)
+}
+
 /// What is wrong with the shape of what is written, or with its names and types. Takes no memory.
 pub(crate) fn shape_cause(meta: &Meta, top: TopMembers, found: &Found) -> Option<DocFault>
     ensures { (ps : List Part) → Knows found.now ps → result ≡ shape_meant meta.now (Some (new_top top.entry.format (items_view top.entry.roots.now.items))) ps }
@@ -31,7 +39,7 @@ pub(crate) fn shape_cause(meta: &Meta, top: TopMembers, found: &Found) -> Option
     if has_misshapen(found) {
         return Some(DocFault::Layout);
     }
-    if top.format != i64::from(limits::DOCUMENT_FORMAT) {
+    if !has_first_format(top) && top.format != i64::from(limits::DOCUMENT_FORMAT) {
         return Some(DocFault::Format);
     }
     if has_unknown_class(meta, found) {
@@ -53,15 +61,16 @@ fn has_many_roots(meta: &Meta, count: usize) -> bool
     count > limits::LIST_VALUES
 }
 
-/// What is wrong with what a document leads to, with how much there is of it, or with how deep it lies; its number of
-/// roots, and whether a reference is lost, are known. Errs only where memory is refused.
+/// What is wrong with what a document leads to, with how much there is of it, or with how deep it lies; whether it has
+/// the first format, its number of roots, and whether a reference is lost, are known. Errs only where memory is refused.
 pub(crate) fn sense_cause(
     source: &Source,
+    has_first_format: bool,
     root_count: usize,
     is_lost: bool,
     doc: &Doc,
 ) -> Result<Option<DocFault>, AllocError>
-    ensures { IfOk result (λ o. (ps : List Part) (d : Data) → Knows source.now.found.now ps → root_count ≡ length (root_parts d)
+    ensures { IfOk result (λ o. (ps : List Part) (d : Data) → Knows source.now.found.now ps → has_first_format ≡ option_map_or first_meant (top_meant d) false → root_count ≡ length (root_parts d)
         → is_lost ≡ of_entry source.now.meta.now (has_lost source.now.meta.now (base_of source.now.uri.now) ps) ps
         → o ≡ sense_meant source.now.meta.now (base_of source.now.uri.now) d ps doc.now) }
 {
@@ -77,7 +86,7 @@ pub(crate) fn sense_cause(
     if has_one_sided(source.alloc, source.meta, doc)? {
         return Ok(Some(DocFault::OneSided));
     }
-    if has_crosses(source.meta, doc) {
+    if has_first_format && has_crosses(source.meta, doc) {
         return Ok(Some(DocFault::Cross));
     }
     if has_deep(source.found) {

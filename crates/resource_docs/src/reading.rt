@@ -1,16 +1,17 @@
 //! The bytes of a document are read.
-ghost use Rattle.std.specs.Prelude.{◌≡◌, ◌≤◌, Some, map};
+ghost use Rattle.std.specs.Prelude.{◌≡◌, ◌≤◌, Some, false, map};
+ghost use Rattle.std.specs.Option.{option_map_or};
 ghost use Rattle.serde_json.specs.Data.{Data, depth};
 ghost use Rattle.serde_json.specs.View.{items_view, view};
 ghost use Rattle.doc_parts.specs.Found.{Knows, roots_from};
 ghost use Rattle.doc_parts.specs.Layout.{new_top, top as top_meant};
 ghost use Rattle.doc_parts.specs.Parts.{parts, root_parts};
-ghost use Rattle.resource_docs.specs.Causes.{Answers, Reads, reads, sense_cause as sense_meant, unless_faulty};
+ghost use Rattle.resource_docs.specs.Causes.{Answers, Reads, has_first_format as first_meant, reads, sense_cause as sense_meant, unless_faulty};
 ghost use Rattle.resource_docs.specs.Read.{doc_read};
 ghost use Rattle.resource_docs.specs.Texts.{base_of};
 
 use crate::doc::Doc;
-use crate::faults::{sense_cause, shape_cause};
+use crate::faults::{has_first_format, sense_cause, shape_cause};
 use crate::objects::read_objects;
 use crate::roots::read_roots;
 use crate::source::Source;
@@ -23,9 +24,11 @@ use std::alloc::Global;
 /// How deep arrays and objects nest at most in JSON that is read.
 const NESTING: usize = 127;
 
-/// Reads the document whose parts were found and have the right shape.
-fn read_found(source: &Source, roots: &[JsonValue]) -> Result<Doc, Refused>
-    ensures { (d : Data) → Knows source.now.found.now (parts source.now.meta.now d) → root_parts d ≡ roots_from (map view roots.now)
+/// Reads the document whose parts were found and have the right shape, and of which is known whether it has the first
+/// format.
+fn read_found(source: &Source, has_first_format: bool, roots: &[JsonValue]) -> Result<Doc, Refused>
+    ensures { (d : Data) → Knows source.now.found.now (parts source.now.meta.now d) → has_first_format ≡ option_map_or first_meant (top_meant d) false
+        → root_parts d ≡ roots_from (map view roots.now)
         → Answers result (unless_faulty (sense_meant source.now.meta.now (base_of source.now.uri.now) d (parts source.now.meta.now d) (doc_read source.now.meta.now (base_of source.now.uri.now) d))
         (doc_read source.now.meta.now (base_of source.now.uri.now) d)) }
 {
@@ -42,7 +45,7 @@ fn read_found(source: &Source, roots: &[JsonValue]) -> Result<Doc, Refused>
         objects: read.objects,
         roots: numbers,
     };
-    match sense_cause(source, roots.len(), is_lost, &doc) {
+    match sense_cause(source, has_first_format, roots.len(), is_lost, &doc) {
         Ok(None) => Ok(doc),
         Ok(Some(fault)) => Err(Refused::Document(fault)),
         Err(_) => Err(Refused::Memory),
@@ -56,7 +59,7 @@ fn read_parts(source: &Source, top: TopMembers) -> Result<Doc, Refused>
 {
     match shape_cause(source.meta, top, source.found) {
         Some(fault) => Err(Refused::Document(fault)),
-        None => read_found(source, top.roots.as_slice()),
+        None => read_found(source, has_first_format(top), top.roots.as_slice()),
     }
 }
 
@@ -94,7 +97,7 @@ fn read_value(alloc: Global, meta: &Meta, uri: &str, json: &JsonValue) -> Result
 ///
 /// - `Syntax` where the bytes are no JSON, of at most 127 levels, in UTF-8;
 /// - `Layout` where the value has another shape than a document, or a key that is not listed;
-/// - `Format` where its format is not 1;
+/// - `Format` where its format is neither 1 nor 2;
 /// - `Class` where an object names no class, or an abstract one;
 /// - `Feature` where a key is no feature of the object's class, or a container reference;
 /// - `Value` where what is written under a feature is none of its type, or a text has more than 65,535 bytes;
@@ -103,7 +106,7 @@ fn read_value(alloc: Global, meta: &Meta, uri: &str, json: &JsonValue) -> Result
 /// - `Duplicate` where a list that has each value once has one twice;
 /// - `Bound` where a list has more values than its upper bound, or than 1,000,000;
 /// - `OneSided` where an object names another under a feature with opposite, and that one does not name it;
-/// - `Cross` where a reference with an opposite leads to another resource;
+/// - `Cross` where its format is 1, and a reference with an opposite leads to another resource;
 /// - `Depth` where an object stands below level 40.
 ///
 /// `Memory` where memory was refused, or where there are more than 2^32 objects or values, whatever else applies; no

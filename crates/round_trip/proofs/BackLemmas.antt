@@ -39,7 +39,7 @@ use Rattle.doc_parts.proofs.DataLemmas.{list_any-map}
 use Rattle.saved_docs.specs.Document.{document, value_data}
 use Rattle.saved_docs.specs.Saved.{IsReadAs, is_too_deep}
 use Rattle.saved_docs.specs.Written.{level, objects_in}
-use Rattle.resource_docs.specs.Causes.{cause_of, has_many_roots, has_repeat, of_content, reads, reads_bytes, reads_if, repeats_value, sense_cause, shape_cause, unless_faulty}
+use Rattle.resource_docs.specs.Causes.{cause_of, has_cross, has_first_format, has_many_roots, has_repeat, of_content, reads, reads_bytes, reads_if, repeats_value, sense_cause, shape_cause, unless_faulty}
 use Rattle.resource_docs.specs.Read.{doc_read}
 use Rattle.resource_docs.specs.Texts.{Base, base_of}
 use Rattle.resource_docs.specs.Values.{has_lost, is_lost, value_of}
@@ -60,7 +60,7 @@ use Rattle.round_trip.proofs.ValuesListLemmas.{none-passes, stands}
 use Rattle.round_trip.proofs.ListLemmas.{any-none, each-at}
 use Rattle.round_trip.proofs.NamedLemmas.{allowed, names-apart}
 use Rattle.round_trip.proofs.ShapeLemmas.{no-shape_cause, none-entry, none-part}
-use Rattle.round_trip.proofs.SideLemmas.{none-content, none-crosses, none-sided}
+use Rattle.round_trip.proofs.SideLemmas.{none-content, none-sided}
 
 ---------------------------------------------------------------- lists
 
@@ -156,13 +156,17 @@ module _ (s : Model) (legal : IsLegal s) (k : ResourceNo) (uri : List ℕ) (foun
       ap (nat_lt 40) (read.objects o inside).level
       ∙ none-passes (is_too_deep (reading s)) (objects_in (reading s) k) o (allowed (reading s) k fine.allowed).none_deep inside)
 
+  -- what is saved is no document of the first format
+  newer : option_map_or has_first_format (top d) false ≡ false
+  newer = ap (λ t. option_map_or has_first_format t false) found.top
+
   no-sense_cause : sense_cause m b d (parts m d) doc ≡ None
   no-sense_cause = λ i.
       cause.Reference where_so lost i else_by
       cause.Duplicate where_so repeated i else_by
       cause.Bound where_so long i else_by
       cause.OneSided where_so none-sided s legal k uri leads fine read i else_by
-      cause.Cross where_so none-crosses s legal k uri leads fine read i else_by
+      cause.Cross where_so (newer i && of_content (λ o c. has_cross m c) doc) else_by
       cause.Depth where_so deep i
 
   no-cause : cause_of m b d ≡ None

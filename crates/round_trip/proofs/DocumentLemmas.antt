@@ -29,6 +29,7 @@ use Rattle.fragment_paths.proofs.ObjectLemmas as ends
 use Rattle.fragment_paths.proofs.UpLemmas.{path-root}
 use Rattle.fragment_paths.specs.Finding.{roots}
 use Rattle.fragment_paths.specs.Fragments.{path_of, roots_end}
+use Rattle.mm_types.specs.declared.limits.TheConstants.{DOCUMENT_FORMAT}
 use Rattle.doc_parts.proofs.DataLemmas.{list_of-items_of}
 use Rattle.doc_parts.proofs.DepthLemmas.{parts_within}
 use Rattle.doc_parts.specs.Layout.{Top, new_top, top}
@@ -58,7 +59,7 @@ contents-contain m =
     ∙ eq-eqb (length m.features) (length m.features) refl
 
 -- the document has its roots
-top-read : (r : Reading) (k : ResourceNo) → top (document r k) ≡ Some (new_top (pos 1) (items_of (map (data_of r k) (roots r k))))
+top-read : (r : Reading) (k : ResourceNo) → top (document r k) ≡ Some (new_top (pos DOCUMENT_FORMAT) (items_of (map (data_of r k) (roots r k))))
 unfolding top document serde_json_on_literals
 top-read r k = refl
 

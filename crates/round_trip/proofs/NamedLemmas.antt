@@ -6,7 +6,7 @@ use Rattle.std.specs.List.{list_any}
 use Rattle.std.specs.Option.{option_map_or, option_or}
 use Rattle.std.proofs.lemmas.Bool.{false≢true, true≢false}
 use Rattle.std.proofs.lemmas.Option.{none-some, same_Some}
-use Rattle.mm_types.specs.Conditions.{◌else_by◌, ◌where_so◌}
+use Rattle.mm_types.specs.Conditions.{◌where_so◌}
 use Rattle.mm_types.specs.Lookups as lookups
 use Rattle.mm_types.specs.Resolved.{Metamodel}
 use Rattle.mm_types.specs.Same.{is_feature, same_object}
@@ -19,7 +19,7 @@ use Rattle.mm_types.specs.declared.numbers.Node.TheVariants as node
 use Rattle.mm_types.specs.declared.numbers.ObjectNo.{ObjectNo}
 use Rattle.mm_types.specs.declared.numbers.ResourceNo.{ResourceNo}
 use Rattle.mm_types.specs.declared.refused.Refused.{Refused}
-use Rattle.mm_types.specs.declared.refused.Refused.TheVariants.{CrossOpposite, Dangling, TooDeep}
+use Rattle.mm_types.specs.declared.refused.Refused.TheVariants.{Dangling, TooDeep}
 use Rattle.mm_types.specs.declared.value.Value.{Value}
 use Rattle.mm_types.specs.declared.value.Value.TheVariants as value
 use Rattle.links.specs.LegalSets as sets
@@ -33,7 +33,7 @@ use Rattle.containment.specs.Above.{resource_of}
 use Rattle.fragment_paths.specs.Finding.{at}
 use Rattle.fragment_paths.specs.Fragments.{address, is_in}
 use Rattle.fragment_paths.proofs.AddressLemmas.{object-found}
-use Rattle.saved_docs.specs.Saved.{is_across, is_dangling, is_too_deep, of_any_target, of_any_target_of, reference_features, save_refusal, targets_under}
+use Rattle.saved_docs.specs.Saved.{has_dangling, is_dangling, is_too_deep, reference_features, save_refusal, targets_under}
 use Rattle.saved_docs.specs.Written.{objects_in, written_features}
 use Rattle.web_uris.specs.Paths.{with_step}
 use Rattle.doc_parts.specs.Parts.{number_of, step_to}
@@ -55,8 +55,7 @@ use Rattle.round_trip.proofs.OrderLemmas.{position-there}
 
 -- nothing of what saving refuses is so
 pub record IsAllowed (r : Reading) (k : ResourceNo) : Type 0 where
-  pub none_dangling : of_any_target r k (is_dangling r) ≡ false
-  pub none_across : of_any_target r k (is_across r k) ≡ false
+  pub none_dangling : list_any (has_dangling r) (objects_in r k) ≡ false
   pub none_deep : list_any (is_too_deep r) (objects_in r k) ≡ false
 
 not-so : (f : Refused) (b : Bool) (p : Option Refused) → option_or (cond b (Some f) None) p ≡ None → (b ≡ false) × (p ≡ None)
@@ -69,21 +68,20 @@ not-last f false none = refl
 
 pub allowed : (r : Reading) (k : ResourceNo) → save_refusal r k ≡ None → IsAllowed r k
 allowed r k none =
-    let first = not-so Dangling (of_any_target r k (is_dangling r)) (CrossOpposite where_so of_any_target r k (is_across r k) else_by TooDeep where_so list_any (is_too_deep r) (objects_in r k)) none in
-    let second = not-so CrossOpposite (of_any_target r k (is_across r k)) (TooDeep where_so list_any (is_too_deep r) (objects_in r k)) first.1 in
-    record { none_dangling = first.0; none_across = second.0; none_deep = not-last TooDeep (list_any (is_too_deep r) (objects_in r k)) second.1 }
+    let first = not-so Dangling (list_any (has_dangling r) (objects_in r k)) (TooDeep where_so list_any (is_too_deep r) (objects_in r k)) none in
+    record { none_dangling = first.0; none_deep = not-last TooDeep (list_any (is_too_deep r) (objects_in r k)) first.1 }
 
 object-value : (x y : ObjectNo) → value.Object x ≡ value.Object y → x ≡ y
 object-value x y same = same_Some x y (ap reading_object same)
 
--- what holds of no target of a resource holds of none under a feature of an object of it
-pub target-not : (s : Model) (k : ResourceNo) (holds : FeatureNo → ObjectNo → Bool) (o : ObjectNo) (f : FeatureNo) (b : ObjectNo) (i : ℕ) → of_any_target (reading s) k holds ≡ false → Contains (objects_in (reading s) k) o
-    → Contains (written_features (reading s) o) f → is_containment s.metamodel f ≡ false → slice_get (values_at s (at_end (node.Object o) f)) i ≡ Some (value.Object b) → holds f b ≡ false
-target-not s k holds o f b i none inside there other at =
+-- what an object of a resource that may be saved refers to stands in a resource
+not-dangling : (s : Model) (k : ResourceNo) (o : ObjectNo) (f : FeatureNo) (b : ObjectNo) (i : ℕ) → list_any (has_dangling (reading s)) (objects_in (reading s) k) ≡ false → Contains (objects_in (reading s) k) o
+    → Contains (written_features (reading s) o) f → is_containment s.metamodel f ≡ false → slice_get (values_at s (at_end (node.Object o) f)) i ≡ Some (value.Object b) → is_dangling (reading s) b ≡ false
+not-dangling s k o f b i none inside there other at =
     let r = reading s in
-    let here = none-passes (of_any_target_of r holds) (objects_in r k) o none inside in
-    let under = none-passes (λ g. list_any (holds g) (targets_under r o g)) (reference_features r o) f here (is-kept (λ g. not (is_containment s.metamodel g)) (written_features r o) f there (ap not other)) in
-    none-passes (holds f) (targets_under r o f) b under (object-among (values_at s (at_end (node.Object o) f)) i b at)
+    let here = none-passes (has_dangling r) (objects_in r k) o none inside in
+    let under = none-passes (λ g. list_any (is_dangling r) (targets_under r o g)) (reference_features r o) f here (is-kept (λ g. not (is_containment s.metamodel g)) (written_features r o) f there (ap not other)) in
+    none-passes (is_dangling r) (targets_under r o f) b under (object-among (values_at s (at_end (node.Object o) f)) i b at)
 
 ---------------------------------------------------------------- parts
 
@@ -164,7 +162,7 @@ module _ (s : Model) (legal : IsLegal s) (k : ResourceNo) (uri : List ℕ) (lead
   is-object o f (Reference target false opposite) i v parts is = absurd parts
 
   -- what is not in the resource is no part of its objects
-  pub not-contained : (o : ObjectNo) (f : FeatureNo) (b : ObjectNo) (i : ℕ) → Contains os o → Contains (written_features (reading s) o) f → slice_get (values_at s (at_end (node.Object o) f)) i ≡ Some (value.Object b)
+  not-contained : (o : ObjectNo) (f : FeatureNo) (b : ObjectNo) (i : ℕ) → Contains os o → Contains (written_features (reading s) o) f → slice_get (values_at s (at_end (node.Object o) f)) i ≡ Some (value.Object b)
       → position (same_object b) os ≡ None → is_containment s.metamodel f ≡ false
   not-contained o f b i inside there at nowhere =
       elim (is_containment s.metamodel f) as (λ c. is_containment s.metamodel f ≡ c → c ≡ false) [
@@ -179,7 +177,7 @@ module _ (s : Model) (legal : IsLegal s) (k : ResourceNo) (uri : List ℕ) (lead
       → position (same_object b) os ≡ None → IsElsewhere (reading s) k b
   named-as o f b i inside there at nowhere =
       let other = not-contained o f b i inside there at nowhere in
-      elsewhere b (resource_of (reading s).above b) refl (not-false _ (target-not s k (is_dangling (reading s)) o f b i (allowed (reading s) k fine.allowed).none_dangling inside there other at)) nowhere
+      elsewhere b (resource_of (reading s).above b) refl (not-false _ (not-dangling s k o f b i (allowed (reading s) k fine.allowed).none_dangling inside there other at)) nowhere
 
   pub named : (o : ObjectNo) (f : FeatureNo) (b : ObjectNo) (i : ℕ) → Contains os o → Contains (written_features (reading s) o) f → slice_get (values_at s (at_end (node.Object o) f)) i ≡ Some (value.Object b) → IsNamed (reading s) k b
   named o f b i inside there at = by (position (same_object b) os) refl

@@ -1,5 +1,5 @@
 -- The objects of a resource are all different, so each one's number is its place among them.
-use Rattle.std.proofs.Common.{◌≡◌, ◌∙◌, ℕ, zero, suc, Bool, true, false, cond, List, [], ◌∷◌, ◌++◌, Option, Some, None, ap, eq-eqb, inl, inr, option_map, refl, slice_get, sym, subst}
+use Rattle.std.proofs.Common.{◌≡◌, ◌∙◌, ℕ, zero, suc, Bool, true, false, cond, List, [], ◌∷◌, Option, Some, None, ap, eq-eqb, inl, inr, option_map, refl, slice_get, sym, subst}
 use Rattle.std.specs.Prelude.{Contains, flat_map, position}
 use Rattle.std.specs.List.{IsDistinct, list_any}
 use Rattle.std.proofs.lemmas.Bool.{false≢true, or_cases}

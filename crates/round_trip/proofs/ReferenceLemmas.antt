@@ -27,7 +27,7 @@ use Rattle.fragment_paths.specs.Fragments.{address, is_in}
 use Rattle.doc_parts.specs.Contents.{conforms_to, is_short}
 use Rattle.doc_parts.specs.Parts.{Part}
 use Rattle.saved_docs.specs.Document.{reference_text}
-use Rattle.saved_docs.specs.Saved.{is_dangling, of_any_target, of_any_target_of, reference_features, targets_under}
+use Rattle.saved_docs.specs.Saved.{has_dangling, is_dangling, reference_features, targets_under}
 use Rattle.saved_docs.specs.Written.{objects_in, written_features}
 use Rattle.resource_docs.specs.Texts.{base_of}
 use Rattle.resource_docs.specs.Values.{led_to, object_of, reference_value}
@@ -66,10 +66,10 @@ module _ (s : Model) (legal : IsLegal s) (k : ResourceNo) (uri : List ℕ) (back
     somewhere : (j : ResourceNo) × (resource_of (reading s).above b ≡ Some j)
     somewhere =
         let r = reading s in
-        let none = first-none (of_any_target r k (is_dangling r)) _ ok.allowed in
-        let here = none-passes (of_any_target_of r (is_dangling r)) (objects_in r k) o none inside in
-        let there = none-passes (λ g. list_any (is_dangling r g) (targets_under r o g)) (reference_features r o) f here is-reference in
-        some-one (resource_of r.above b) (none-passes (is_dangling r f) (targets_under r o f) b there is-target)
+        let none = first-none (list_any (has_dangling r) (objects_in r k)) _ ok.allowed in
+        let here = none-passes (has_dangling r) (objects_in r k) o none inside in
+        let there = none-passes (λ g. list_any (is_dangling r) (targets_under r o g)) (reference_features r o) f here is-reference in
+        some-one (resource_of r.above b) (none-passes (is_dangling r) (targets_under r o f) b there is-target)
 
     -- its text is short
     pub text-short : is_short (reference_text (reading s) k b) ≡ true

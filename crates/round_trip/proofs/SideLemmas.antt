@@ -1,9 +1,9 @@
--- In the document of a resource both objects of a pair name each other, and no reference with an opposite leads elsewhere.
+-- In the document of a resource both objects of a pair that stand in it name each other.
 use Rattle.std.proofs.Common.{◌≡◌, ◌∙◌, ℕ, zero, suc, ◌+◌, Bool, true, false, List, [], ◌∷◌, Option, Some, None, ap, arith, eq-eqb, eqb-true, map, nat_eq, option_map, refl, slice_get, sym, subst}
-use Rattle.std.specs.Prelude.{◌&&◌, ◌||◌, Contains, IsTrue, flat_map, if◌then◌else◌, is_some, not, option_and_then, unwrap_or}
+use Rattle.std.specs.Prelude.{◌&&◌, ◌||◌, Contains, IsTrue, flat_map, if◌then◌else◌, not, option_and_then, unwrap_or}
 use Rattle.std.specs.List.{enumerate_from, list_any}
 use Rattle.std.specs.Option.{option_map_or}
-use Rattle.std.proofs.lemmas.Bool.{and_parts, false≢true, true≢false}
+use Rattle.std.proofs.lemmas.Bool.{false≢true}
 use Rattle.std.proofs.lemmas.List.Folds.{list_any-append}
 use Rattle.std.proofs.lemmas.Option.{none-some, slice_get-map}
 use Rattle.mm_meta.proofs.ShapeLemmas.{opposites_are_pairs, shape_opposite}
@@ -33,10 +33,9 @@ use Rattle.models.specs.Model.{Model, reading, values_at}
 use Rattle.models.specs.Reading.{Reading, all_features_of, at_end, has_feature, is_set}
 use Rattle.models.proofs.PlaceLemmas.{is_target}
 use Rattle.containment.proofs.PartLemmas.{legal-at, values-linked}
-use Rattle.saved_docs.specs.Saved.{is_across}
 use Rattle.saved_docs.specs.Written.{is_written, objects_in, written_features}
 use Rattle.doc_parts.proofs.DataLemmas.{list_any-map}
-use Rattle.resource_docs.specs.Causes.{has_cross, is_one_sided, is_proxy, is_unanswered, of_content}
+use Rattle.resource_docs.specs.Causes.{is_one_sided, is_unanswered, of_content}
 use Rattle.resource_docs.specs.Read.{values_in, values_under}
 use Rattle.resource_docs.specs.declared.doc.Content.{Content}
 use Rattle.resource_docs.specs.declared.doc.DocObject.{DocObject}
@@ -48,7 +47,7 @@ use Rattle.round_trip.proofs.ContainLemmas.{reference-plain}
 use Rattle.round_trip.proofs.ValuesListLemmas.{behind, in-front, is-kept, stands}
 use Rattle.round_trip.proofs.EndLemmas.{IsWrittenOf, written-of}
 use Rattle.round_trip.proofs.ListLemmas.{any-in, any-none, each-at, each-of, mapped-in}
-use Rattle.round_trip.proofs.NamedLemmas.{Addressed, IsNamed, Numbered, allowed, name-addressed, name-numbered, named, not-contained, target-not}
+use Rattle.round_trip.proofs.NamedLemmas.{Addressed, IsNamed, Numbered, name-addressed, name-numbered, named}
 use Rattle.round_trip.proofs.OrderLemmas.{objects-apart, position-there, there-position}
 
 ---------------------------------------------------------------- each content
@@ -222,41 +221,3 @@ module _ (s : Model) (legal : IsLegal s) (k : ResourceNo) (uri : List ℕ) (lead
                 list_any-map (renamed (reading s) os) (is_unanswered m doc (record { 0 = n }) f) vs
                 ∙ any-none (λ v. is_unanswered m doc (record { 0 = n }) f (renamed (reading s) os v)) vs (each-at _ vs (λ i v at. value-answered o n f w.feature i v here written w.there other at))
           ] refl
-
-  ---------------------------------------------------------------- no opposite elsewhere
-
-  -- a proxy stands in no reference with an opposite
-  proxy-alone : (o : ObjectNo) (f : FeatureNo) (i : ℕ) (t : List ℕ) → (shape m f).is_reference ≡ true → slice_get (values_at s (at_end (node.Object o) f)) i ≡ Some (value.Proxy t) → is_some (shape m f).opposite ≡ false
-  proxy-alone o f i t refers at =
-      let e = at_end (node.Object o) f in
-      let may = legal-at (reading s) e (end s.links e) i (value.Proxy t) (legal.links.ends e) (ap (λ (vs : List Value). slice_get vs i) (sym (values-linked s e refers)) ∙ at) in
-      first-none (is_some (shape m f).opposite) (is_some (shape m f).containing) (and_parts (shape m f).is_reference (not (is_some (shape m f).opposite || is_some (shape m f).containing)) may.1).1
-    where
-      first-none : (a b : Bool) → not (a || b) ≡ true → a ≡ false
-      first-none true b h = absurd (false≢true h)
-      first-none false b h = refl
-
-  value-here : (o : ObjectNo) (n : ℕ) (f g : FeatureNo) (i : ℕ) (v : Value) → slice_get os n ≡ Some o → Contains (written_features (reading s) o) f → (shape m f).opposite ≡ Some g
-      → slice_get (values_at s (at_end (node.Object o) f)) i ≡ Some v → is_proxy (renamed (reading s) os v) ≡ false
-  value-here o n f g i (value.Object b) here written opposite at = by (named s legal k uri leads fine read o f b i (stands os n o here) written at)
-    where
-      by : IsNamed (reading s) k b → is_proxy (renamed (reading s) os (value.Object b)) ≡ false
-      by (Numbered j is) = ap is_proxy (name-numbered s legal k uri leads fine read b j is)
-      by (Addressed e) =
-          let none = target-not s k (is_across (reading s) k) o f b i (allowed (reading s) k fine.allowed).none_across (stands os n o here) written (not-contained s legal k uri leads fine read o f b i (stands os n o here) written at e.nowhere) at in
-          absurd (true≢false (sym (λ j. is_some (opposite j) && not (e.other j)) ∙ none))
-  value-here o n f g i (value.Proxy t) here written opposite at =
-      absurd (true≢false (sym (ap is_some opposite) ∙ proxy-alone o f i t (opposites_are_pairs m legal.metamodel f g opposite).near_refers at))
-  value-here o n f g i v here written opposite at = refl
-
-  pub none-crosses : of_content (λ o c. has_cross m c) (copied (reading s) k) ≡ false
-  none-crosses = none-content (reading s) k (λ o c. has_cross m c) (λ n o f here written. by n o f here written (shape m f).opposite refl)
-    where
-      by : (n : ℕ) (o : ObjectNo) (f : FeatureNo) → slice_get os n ≡ Some o → Contains (written_features (reading s) o) f → (q : Option FeatureNo) → (shape m f).opposite ≡ q
-          → is_some (shape m f).opposite && list_any is_proxy (map (renamed (reading s) os) (values_at s (at_end (node.Object o) f))) ≡ false
-      by n o f here written None is = ap (λ (q : Option FeatureNo). is_some q && list_any is_proxy (map (renamed (reading s) os) (values_at s (at_end (node.Object o) f)))) is
-      by n o f here written (Some g) is =
-          let vs = values_at s (at_end (node.Object o) f) in
-          ap (λ (q : Option FeatureNo). is_some q && list_any is_proxy (map (renamed (reading s) os) vs)) is
-          ∙ list_any-map (renamed (reading s) os) is_proxy vs
-          ∙ any-none (λ v. is_proxy (renamed (reading s) os v)) vs (each-at _ vs (λ i v at. value-here o n f g i v here written is at))

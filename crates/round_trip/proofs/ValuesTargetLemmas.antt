@@ -1,5 +1,5 @@
 -- What stands at a reference: an object whose class conforms, or a proxy where the reference takes proxies. And the text of a proxy there.
-use Rattle.std.proofs.Common.{◌≡◌, ◌∙◌, ◌||◌, ℕ, Bool, true, false, List, slice_get, not, is_some, Option, Some, None, if◌then◌else◌, eq-eqb, refl, sym, ap}
+use Rattle.std.proofs.Common.{◌≡◌, ◌∙◌, ℕ, Bool, true, false, List, slice_get, Option, Some, None, if◌then◌else◌, eq-eqb, refl, sym, ap}
 use Rattle.std.specs.Option.{option_map_or}
 use Rattle.std.proofs.lemmas.Bool.{false≢true}
 use Rattle.std.proofs.lemmas.Option.{none-some, some_pair_parts}
@@ -39,12 +39,8 @@ module _ (m : Metamodel) (f : FeatureNo) (g : Feature) (target : ClassNo) (oppos
   pub contains-parts : g.kind ≡ Reference target true opposite → is_containment m f ≡ true
   contains-parts kind = ap (λ (a : Shape). is_feature f a.containing) (shape-of m f g (Reference target true opposite) known kind) ∙ eq-eqb f.0 f.0 refl
 
-  never : (b : Bool) → not (b || true) ≡ false
-  never true = refl
-  never false = refl
-
   no-proxies : g.kind ≡ Reference target true opposite → takes_proxies (shape m f) ≡ false
-  no-proxies kind = ap takes_proxies (shape-of m f g (Reference target true opposite) known kind) ∙ never (is_some opposite)
+  no-proxies kind = ap takes_proxies (shape-of m f g (Reference target true opposite) known kind)
 
   -- another reference contains nothing, unless it is a container reference
   pub links-only : g.kind ≡ Reference target false opposite → lookups.is_container m f ≡ false → is_containment m f ≡ false

@@ -1,6 +1,7 @@
 -- What is found in the document of a resource: the objects of the resource, each with the features that are written of it.
 use Rattle.std.specs.Prelude.{◌≡◌, pos, Contains, Some, map}
 use Rattle.serde_json.specs.View.{items_of}
+use Rattle.mm_types.specs.declared.limits.TheConstants.{DOCUMENT_FORMAT}
 use Rattle.mm_types.specs.declared.numbers.ObjectNo.{ObjectNo}
 use Rattle.mm_types.specs.declared.numbers.ResourceNo.{ResourceNo}
 use Rattle.models.specs.Reading.{Reading}
@@ -19,7 +20,7 @@ pub record IsPart (r : Reading) (k : ResourceNo) (o : ObjectNo) : Type 0 where
 
 -- the roots and the parts of the document are those of the resource, in loading order
 pub record AreParts (r : Reading) (k : ResourceNo) : Type 0 where
-  pub top : top (document r k) ≡ Some (new_top (pos 1) (items_of (map (data_of r k) (roots r k))))
+  pub top : top (document r k) ≡ Some (new_top (pos DOCUMENT_FORMAT) (items_of (map (data_of r k) (roots r k))))
   pub roots : root_parts (document r k) ≡ map (part_of r k) (roots r k)
   pub parts : parts r.metamodel (document r k) ≡ map (part_of r k) (objects_in r k)
   pub each : (o : ObjectNo) → Contains (objects_in r k) o → IsPart r k o

@@ -2,7 +2,7 @@
 use Rattle.std.proofs.Common.{◌≡◌, ℕ, List, [], ◌∷◌, Some, None, codes, refl}
 use Rattle.std.specs.Fmt.{digits}
 use Rattle.serde_json.proofs.OnLiterals.{serde_json_on_literals}
-use Rattle.mm_types.specs.declared.refused.Refused.TheVariants.{CrossOpposite, Dangling}
+use Rattle.mm_types.specs.declared.refused.Refused.TheVariants.{Dangling}
 use Rattle.mm_types.specs.declared.value.Value.TheVariants as value
 use Rattle.mm_meta.proofs.Library.{oid, v}
 use Rattle.models.specs.Reading.{Reading}
@@ -32,7 +32,7 @@ saved_library =
 
 -- the default of pages is left out, and so is the book's library
 its-text : saved saved_library (rid 0) ≡
-    codes "{\"format\":1,\"roots\":[{\"class\":\"Library\",\"features\":{\"books\":[{\"class\":\"Book\",\"features\":{\"name\":\"Emma\"}}],\"members\":[{\"class\":\"Person\",\"features\":{\"likes\":[\"//@books.0\"]}}]}}]}"
+    codes "{\"format\":2,\"roots\":[{\"class\":\"Library\",\"features\":{\"books\":[{\"class\":\"Book\",\"features\":{\"name\":\"Emma\"}}],\"members\":[{\"class\":\"Person\",\"features\":{\"likes\":[\"//@books.0\"]}}]}}]}"
 unfolding on_literals
 its-text = refl
 
@@ -87,8 +87,17 @@ across =
     ((end_of (resource 0) 17, v 0 ∷ []) ∷ (end_of (resource 1) 17, v 1 ∷ []) ∷ (end_of (o 1) 12, v 0 ∷ []) ∷ (end_of (o 0) 3, v 1 ∷ []) ∷ [])
     ((o 0, (Some (end_of (resource 0) 17), resource 0 ∷ [])) ∷ (o 1, (Some (end_of (resource 1) 17), resource 1 ∷ [])) ∷ [])
 
-refused-across : save_refusal across (rid 0) ≡ Some CrossOpposite
-refused-across = refl
+-- each end of the pair is written in its own resource
+may-be-across : save_refusal across (rid 0) ≡ None
+may-be-across = refl
+
+its-staff : saved across (rid 0) ≡ codes "{\"format\":2,\"roots\":[{\"class\":\"Library\",\"features\":{\"staff\":[\"http://m.example/b#/\"]}}]}"
+unfolding on_literals
+its-staff = refl
+
+its-job : saved across (rid 1) ≡ codes "{\"format\":2,\"roots\":[{\"class\":\"Person\",\"features\":{\"job\":\"http://m.example/a#/\"}}]}"
+unfolding on_literals
+its-job = refl
 
 its-address : address across (oid 1) ≡ Some (codes "http://m.example/b#/")
 its-address = refl

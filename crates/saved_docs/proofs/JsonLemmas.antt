@@ -4,6 +4,7 @@ use Rattle.std.specs.Prelude.{IfOk}
 use Rattle.std.proofs.lemmas.List.{map-append, take_all, take_more}
 use Rattle.std.proofs.lemmas.Option.{unwrap_or-slice_get}
 use Rattle.mm_types.specs.Ends.{value_in}
+use Rattle.mm_types.specs.declared.limits.TheConstants.{DOCUMENT_FORMAT}
 use Rattle.mm_types.specs.declared.numbers.ObjectNo.{ObjectNo}
 use Rattle.mm_types.specs.declared.numbers.ResourceNo.{ResourceNo}
 use Rattle.mm_types.specs.declared.value.Value.{Value}
@@ -43,7 +44,7 @@ pub object-made : (r : Reading) (k : ResourceNo) (levels n : ℕ) (o : ObjectNo)
 object-made r k levels n o x y d is class features made = made ∙ (λ i. two (codes "class") (class i) (codes "features") (features i)) ∙ ap (λ (m : ℕ). object_data r k m o) (sym is)
 
 -- the document of a resource with these roots
-pub document-made : (r : Reading) (k : ResourceNo) (os : List ObjectNo) (x y d : Data) → os ≡ roots r k → x ≡ number (unsigned 1) → y ≡ array (items_of (map (object_data r k r.next) os))
+pub document-made : (r : Reading) (k : ResourceNo) (os : List ObjectNo) (x y d : Data) → os ≡ roots r k → x ≡ number (unsigned DOCUMENT_FORMAT) → y ≡ array (items_of (map (object_data r k r.next) os))
     → d ≡ two (codes "format") x (codes "roots") y → d ≡ document r k
 unfolding document
 document-made r k os x y d all format listed made =

@@ -47,7 +47,7 @@ fn written<L: LinkStore>(
     ensures writes { saved.Writes result (reading model.now) resource }
     ensures reads { IfOk result (λ t. saved.IsReadAs (reading model.now) resource (string_bytes t)) }
 {
-    if let Some(refused) = refusal(model, resource, objects) {
+    if let Some(refused) = refusal(model, objects) {
         return Err(refused);
     }
     let mut places = Places::new(alloc, model);
@@ -73,11 +73,11 @@ fn written_below<L: LinkStore>(
 
 /// The text of a resource (EMF: XMLResource.save): `serde_json`'s compact text of its document. Written are the features that are
 /// set, but no container references; references inside the resource are fragments, and those into other resources URI, `#` and
-/// fragment. A resource that is not there has no roots.
+/// fragment. The other end of a reference with an opposite is written in its own resource. A resource that is not there has no
+/// roots.
 ///
 /// Before anything is written the whole resource is looked over: `Dangling` where an object that it refers to stands in no
-/// resource; else `CrossOpposite` where a reference with an opposite leads to another resource; else `TooDeep` where an object
-/// stands below level 40. Otherwise errs only with `Memory`.
+/// resource; else `TooDeep` where an object stands below level 40. Otherwise errs only with `Memory`.
 pub fn write_doc<L: LinkStore>(
     alloc: Global,
     model: &ModelRef<L>,

@@ -38,7 +38,7 @@ from standard input, and what each of its lines answers is printed on standard o
   at \"http://m.example/a#/\"
                            the object at an address: #0, or null
   save r0                  the document of a resource, in one line
-  load r0 {\"format\":1,\"roots\":[]}
+  load r0 {\"format\":2,\"roots\":[]}
                            makes what a document says in an empty resource: loaded 0
   resolve #2 likes 0       puts the object that a proxy finds in its place: #1
   attach A1 #0 flat        attaches an adapter, one of A1 to A8, to be told of changes: ok

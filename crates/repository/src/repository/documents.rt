@@ -90,8 +90,8 @@ impl<L: LinkStore, A: Adapter> Repository<L, A> {
     /// The document of a resource (EMF: Resource.save), as JSON without spaces: its roots with all that they contain, each with the features
     /// that are set, container references left out.
     ///
-    /// Refused, the first that applies: `NoResource`, `Dangling` where an object that is referred to is in no resource, `CrossOpposite` where a
-    /// reference with an opposite leads to another resource, `TooDeep` where objects are nested more than 40 deep, `Memory`.
+    /// Refused, the first that applies: `NoResource`, `Dangling` where an object that is referred to is in no resource, `TooDeep` where
+    /// objects are nested more than 40 deep, `Memory`.
     #[tactic(auto, using(crate::proofs::DocumentLemmas::resource_saved))]
     pub fn save(&self, resource: ResourceNo) -> Result<Text, Refused>
         ensures { Executed self.now (Save resource) (read_outcome answer.Document result) self.now }

@@ -17,8 +17,8 @@ returns-in_err-planned-clause-refused g c =
 
 pub returns-clause-answer : goal.returns-clause-answer
 returns-clause-answer g c = λ rs text proper.
-    c.unwrap_or.ensures ∙ ap (unwrap_or c.in_ok-answer.answer) c.destroyed_answer.ensures
-    ∙ whole-answer (reading c.args.model.now) rs text c.args.change _ _ (c.in_ok-answer.ensures rs text proper) c.in_ok-planned.ensures.removed
+    c.unwrap_or.ensures ∙ ap (unwrap_or c.in_ok-answer.answer) c.planned_answer.ensures
+    ∙ whole-answer (reading c.args.model.now) rs text c.args.change _ _ _ (c.in_ok-answer.ensures rs text proper) c.in_ok-planned.ensures.allowed c.in_ok-planned.ensures.removed c.in_ok-planned.ensures.found
 
 pub returns-clause-places : goal.returns-clause-places
 returns-clause-places g c = leavers_found (reading c.args.model.now) c.args.change _ c.args.adapters.now.0 _ c.in_ok-planned.ensures.removed c.in_ok-places.ensures
