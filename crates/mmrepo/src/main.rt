@@ -1,4 +1,4 @@
-//! `mmrepo --meta FILE` reads a metamodel, and runs the script on its standard input.
+//! `mmrepo --meta FILE` reads a metamodel, and runs the script on its standard input, or of a file.
 #![tactic(auto)]
 
 use adapters::{Adapter, Counter, Recorder, Window};
@@ -8,10 +8,10 @@ use mm_check::check;
 use mm_load::load_meta;
 use mm_meta::Meta;
 use mm_types::MetaFault;
-use script_program::{meta_file, run};
+use script_program::{Dress, Summary, options_of, run_dressed};
 use script_streams::{RunFault, read_all};
 use std::alloc::{AllocError, AllocFailed};
-use std::io::{BufWriter, Write};
+use std::io::{BufWriter, Read, Write};
 use std::process::ExitCode;
 use std::{env, fs, io};
 
@@ -20,6 +20,22 @@ const RECORDERS: u64 = 4;
 
 /// How many notices the last box can still count, its last one included.
 const LEFT: u64 = 2;
+
+/// The status behind a script of which a line was refused or bad, where that gives a status of its own.
+const FAULTY: u8 = 4;
+
+/// What the program is asked for.
+#[derive(Drop)]
+struct Asked {
+    /// The file of the metamodel.
+    meta: String,
+    /// The file of the script, if it has one.
+    script: Option<String>,
+    /// How answers are dressed.
+    dress: Dress,
+    /// Whether a refused or bad line gives a status of its own.
+    strict: bool,
+}
 
 /// Why the program stops before the end of the script.
 #[derive(Drop)]
@@ -77,18 +93,38 @@ fn words_of(rt: &HostRuntime) -> Result<Vec<String>, Stop> {
     Ok(words)
 }
 
-/// The path of the metamodel file, copied out of the words.
-fn path_of(rt: &HostRuntime, args: &[String]) -> Result<String, Stop> {
+/// A copy of a path.
+fn path_of(rt: &HostRuntime, path: Option<&str>) -> Result<Option<String>, Stop> {
+    match path {
+        Some(path) => Ok(Some(String::from_str(rt.alloc(), path)?)),
+        None => Ok(None),
+    }
+}
+
+/// What the words ask for, copied out of them.
+fn asked_of(rt: &HostRuntime, words: &[&str]) -> Result<Asked, Stop> {
+    let options = match options_of(rt.alloc(), words) {
+        Ok(options) => options,
+        Err(error) => return Err(Stop::Arguments(error)),
+    };
+    let script = path_of(rt, options.script)?;
+    Ok(Asked {
+        meta: String::from_str(rt.alloc(), options.meta)?,
+        script,
+        dress: options.dress,
+        strict: options.strict,
+    })
+}
+
+/// What the arguments ask for.
+fn arguments_of(rt: &HostRuntime, args: &[String]) -> Result<Asked, Stop> {
     let mut words = Vec::new(rt.alloc());
     for word in args {
         if words.push(word.as_str()).is_err() {
             return Err(Stop::Run(RunFault::Memory));
         }
     }
-    match meta_file(rt.alloc(), words.as_slice()) {
-        Ok(path) => Ok(String::from_str(rt.alloc(), path)?),
-        Err(error) => Err(Stop::Arguments(error)),
-    }
+    asked_of(rt, words.as_slice())
 }
 
 fn read_file(rt: &HostRuntime, path: &str) -> Result<Vec<u8>, Stop> {
@@ -106,24 +142,53 @@ fn load(rt: &HostRuntime, path: &str) -> Result<Box<Meta>, Stop> {
     Ok(Box::new(rt.alloc(), meta)?)
 }
 
-/// Runs the script over an empty repository, and writes what is left in the buffer, whatever the outcome.
-fn run_script<A: Adapter>(rt: &HostRuntime, meta: Box<Meta>, boxes: Vec<A>) -> Result<(), Stop> {
+/// Runs the script that a reader gives over an empty repository, and writes what is left in the buffer, whatever the outcome.
+fn run_reader<R: Read, A: Adapter>(
+    rt: &HostRuntime,
+    reader: &mut R,
+    meta: Box<Meta>,
+    boxes: Vec<A>,
+    dress: Dress,
+) -> Result<Summary, Stop> {
     let Ok(mut writer) = BufWriter::new(rt.alloc(), io::writer(rt)) else {
         return Err(Stop::Run(RunFault::Memory));
     };
     let meta = Box::into_inner(meta);
-    let outcome = run::<_, _, SlotStore, _>(rt.alloc(), &mut rt.reader(), &mut writer, meta, boxes);
+    let outcome = run_dressed::<_, _, SlotStore, _>(
+        rt.alloc(),
+        reader,
+        &mut writer,
+        meta,
+        boxes,
+        dress,
+    );
     let flushed = writer.flush();
-    outcome?;
+    let summary = outcome?;
     if flushed.is_err() {
         return Err(Stop::Run(RunFault::Write));
     }
-    Ok(())
+    Ok(summary)
+}
+
+/// Runs the script of a file, or that on standard input.
+fn run_script<A: Adapter>(
+    rt: &HostRuntime,
+    asked: &Asked,
+    meta: Box<Meta>,
+    boxes: Vec<A>,
+) -> Result<Summary, Stop> {
+    let Some(path) = &asked.script else {
+        return run_reader(rt, &mut rt.reader(), meta, boxes, asked.dress);
+    };
+    let Ok(mut file) = fs::open(rt, path.as_str()) else {
+        return Err(Stop::Run(RunFault::Read));
+    };
+    run_reader(rt, &mut file, meta, boxes, asked.dress)
 }
 
 /// Runs the script with its boxes: A1 to A4, which keep every notice, A5 and A6, which keep the last 2 and the last 100, A7,
 /// which counts, and A8, which can count two more.
-fn run_with_boxes(rt: &HostRuntime, meta: Box<Meta>) -> Result<(), Stop> {
+fn run_with_boxes(rt: &HostRuntime, asked: &Asked, meta: Box<Meta>) -> Result<Summary, Stop> {
     let mut boxes: Vec<Box<dyn Adapter>> = Vec::new(rt.alloc());
     for _ in 0..RECORDERS {
         boxes.push(Box::new(rt.alloc(), Recorder::new(rt.alloc()))?)?;
@@ -132,14 +197,24 @@ fn run_with_boxes(rt: &HostRuntime, meta: Box<Meta>) -> Result<(), Stop> {
     boxes.push(Box::new(rt.alloc(), Window::new(rt.alloc(), 100)?)?)?;
     boxes.push(Box::new(rt.alloc(), Counter::new())?)?;
     boxes.push(Box::new(rt.alloc(), Counter::starting_at(u64::MAX - LEFT))?)?;
-    run_script(rt, meta, boxes)
+    run_script(rt, asked, meta, boxes)
 }
 
-fn start(rt: &HostRuntime) -> Result<(), Stop> {
+/// The status of a run that came to its end.
+fn status_of(summary: Summary, strict: bool) -> u8 {
+    if strict && (summary.refused > 0 || summary.bad > 0) {
+        FAULTY
+    } else {
+        0
+    }
+}
+
+fn start(rt: &HostRuntime) -> Result<u8, Stop> {
     let words = words_of(rt)?;
-    let path = path_of(rt, words.as_slice())?;
-    let meta = load(rt, path.as_str())?;
-    run_with_boxes(rt, meta)
+    let asked = arguments_of(rt, words.as_slice())?;
+    let meta = load(rt, asked.meta.as_str())?;
+    let summary = run_with_boxes(rt, &asked, meta)?;
+    Ok(status_of(summary, asked.strict))
 }
 
 fn report_arguments(rt: &HostRuntime, error: clap::Error) -> u8 {
@@ -178,7 +253,7 @@ fn report(rt: &HostRuntime, stop: Stop) -> u8 {
 
 fn main(rt: HostRuntime) -> ExitCode {
     match start(&rt) {
-        Ok(()) => ExitCode::SUCCESS,
+        Ok(status) => ExitCode::from(status),
         Err(stop) => ExitCode::from(report(&rt, stop)),
     }
 }

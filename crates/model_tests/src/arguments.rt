@@ -1,6 +1,6 @@
 //! Command lines that the program takes, and others.
 use clap::error::ErrorKind;
-use script_program::meta_file;
+use script_program::{meta_file, options_of};
 use std::alloc::Global;
 use std::test::Fail;
 
@@ -14,6 +14,19 @@ fn the_file_of_the_metamodel_is_read_from_the_words(rt: HostRuntime) -> Result<(
     for (words, file) in &cases {
         assert_eq!(rt; meta_file(rt.alloc(), *words)?, *file);
     }
+    Ok(())
+}
+
+#[test]
+fn each_option_is_read_from_the_words(rt: HostRuntime) -> Result<(), Fail> {
+    let words = [
+        "mmrepo", "--meta", "a.json", "--number", "--script", "b.txt", "--strict",
+    ];
+    let options = options_of(rt.alloc(), &words)?;
+    assert_eq!(rt; options.meta, "a.json");
+    assert_eq!(rt; options.script, Some("b.txt"));
+    assert!(rt; options.dress.number && options.strict);
+    assert!(rt; !options.dress.echo && !options.dress.stop);
     Ok(())
 }
 

@@ -1,4 +1,7 @@
+mod ArgumentLemmas
 mod PoolLemmas
 mod SessionLemmas
+mod DressLemmas
 mod ScriptLemmas
 mod LostLemmas
+mod BatchLemmas

@@ -1,21 +1,25 @@
 -- A script goes on by one line, and ends.
-use Rattle.std.proofs.Common.{◌∙◌, ◌≡◌, ◌+◌, ◌<◌, ◌≤◌, ◌++◌, ℕ, List, [], ◌∷◌, Option, ap, append-nil, append_assoc, arith, length, map, refl, subst, sym}
-use Rattle.std.proofs.lemmas.Grind.{flat_map-append}
-use Rattle.std.proofs.lemmas.List.{length-append, map-append}
+use Rattle.std.proofs.Common.{◌∙◌, ◌≡◌, ◌+◌, ◌<◌, ◌≤◌, ◌++◌, ◌&&◌, ◌⊎◌, ℕ, Bool, true, false, inl, inr, List, [], ◌∷◌, Option, ap, append_assoc, arith, length, map, refl, subst, sym}
+use Rattle.std.proofs.lemmas.List.{length-append, map-append, nil_from_length}
 use Rattle.std.proofs.lemmas.List.Sums.{fold-append}
 use Rattle.std.specs.List.{fold}
 use Rattle.std.specs.Io.KnownBytes.{Appends}
 use Rattle.std.proofs.KnownBytes.{Appends-nil, Appends-trans}
 use Rattle.script_lines.specs.Forms.{form}
 use Rattle.script_lines.specs.Lines.{lines}
-use Rattle.script_program.specs.Script.{Prints, PrintsFront, RunsLine, RunsLines}
+use Rattle.script_program.specs.Batch.{PrintsDressed, PrintsDressedFront, RunsFirst}
+use Rattle.script_program.specs.Dressed.{dressed_from, dressed_line, is_fault, is_stopped, kept}
+use Rattle.script_program.specs.Script.{RunsLine, RunsLines}
 use Rattle.script_program.specs.Session.{Session}
-use Rattle.script_streams.specs.Streams.{AppendsFront}
 use Rattle.script_program.specs.Summary.{IsWithin}
-use Rattle.script_program.specs.Turns.{Printed, no_lines, summary_of, texts, with_turn}
+use Rattle.script_program.specs.Turns.{Printed, no_lines, summary_of, with_turn}
+use Rattle.script_program.specs.declared.dress.Dress.{Dress}
 use Rattle.script_program.specs.declared.summary.Summary.{Summary}
 use Rattle.script_program.specs.declared.turn.Turn.{Turn}
 use Rattle.script_program.specs.declared.turn.Turn.TheVariants.{Blank, Bad, Done, Refused, Lost}
+use Rattle.script_streams.specs.Streams.{AppendsFront}
+use Rattle.script_streams.proofs.FrontLemmas.{front_after, front_whole}
+use Rattle.script_program.proofs.DressLemmas.{dressed_push, kept_all, kept_last, stopped_last}
 
 -- ---- one more line
 
@@ -25,6 +29,13 @@ runs_more s [] [] u l p t h one = (t, subst (λ (q : Session). RunsLine q (form 
 runs_more s [] (q ∷ ps) u l p t h one = absurd h
 runs_more s (k ∷ ls) [] u l p t h one = absurd h
 runs_more s (k ∷ ls) (q ∷ ps) u l p t h one = (h.0, h.1, runs_more h.0 ls ps u l p t h.2 one)
+
+-- each line that is run prints
+pub runs_length : (s t : Session) (ls : List (List ℕ)) (ps : List Printed) → RunsLines s ls ps t → length ls ≡ length ps
+runs_length s t [] [] h = refl
+runs_length s t [] (p ∷ ps) h = absurd h
+runs_length s t (l ∷ ls) [] h = absurd h
+runs_length s t (l ∷ ls) (p ∷ ps) h = let rest = runs_length h.0 t ls ps h.2 in omega (arith, rest)
 
 within_more : (t : Turn) (s : Summary) (n : ℕ) → IsWithin s n → IsWithin (with_turn s t) (n + 1)
 within_more Blank s n w = record { lines = omega (arith, w.lines); refused = omega (arith, w.refused); bad = omega (arith, w.bad); no_memory = omega (arith, w.no_memory) }
@@ -36,99 +47,141 @@ within_more Lost s n w = record { lines = omega (arith, w.lines); refused = omeg
 summary_of_push : (ps : List Printed) (p : Printed) → summary_of (ps ++ p ∷ []) ≡ with_turn (summary_of ps) p.turn
 summary_of_push ps p = ap (fold with_turn no_lines) (map-append (λ (q : Printed). q.turn) ps (p ∷ [])) ∙ fold-append with_turn no_lines (map (λ (q : Printed). q.turn) ps) (p.turn ∷ [])
 
-texts_push : (ps : List Printed) (p : Printed) → texts (ps ++ p ∷ []) ≡ texts ps ++ p.text
-texts_push ps p = flat_map-append (λ (q : Printed). q.text) ps (p ∷ []) ∙ ap (λ x. texts ps ++ x) (append-nil p.text)
-
 -- Some first lines were run, and the rest of the bytes is what follows them.
-pub record GoesOn (z : Session) (bytes rest : List ℕ) (s : Session) (printed : List Printed) (summary : Summary) : Type 0 where
+pub record Ran (d : Dress) (z : Session) (bytes rest : List ℕ) (s : Session) (number : ℕ) (printed : List Printed) (summary : Summary) : Type 0 where
   pub done : List (List ℕ)
   pub all : done ++ lines rest ≡ lines bytes
   pub ran : RunsLines z done printed s
   pub counted : summary_of printed ≡ summary
+  pub number_is : number ≡ length done
   pub room : length done + length rest ≤ length bytes
   pub within : IsWithin summary (length done)
+  pub none_behind : kept d printed ≡ printed
 
-pub start : (z : Session) (bytes : List ℕ) → GoesOn z bytes bytes z [] no_lines
-start z bytes = record {
+-- The run has not ended, and the answers of its lines are written.
+pub record GoesOn (d : Dress) (z : Session) (bytes rest : List ℕ) (s : Session) (number : ℕ) (printed : List Printed) (summary : Summary) (old now : Option (List ℕ)) : Type 0 where
+  pub so_far : Ran d z bytes rest s number printed summary
+  pub going : is_stopped d printed ≡ false
+  pub written : Appends old now (dressed_from d 1 so_far.done printed)
+
+never : (b : Bool) → (b && false) ≡ false
+never true = refl
+never false = refl
+
+none_run : (d : Dress) (z : Session) (bytes : List ℕ) → Ran d z bytes bytes z 0 [] no_lines
+none_run d z bytes = record {
   done = [];
   all = refl;
   ran = refl;
   counted = refl;
+  number_is = refl;
   room = omega arith;
   within = record { lines = omega arith; refused = omega arith; bad = omega arith; no_memory = omega arith };
+  none_behind = kept_all d [] (never d.stop);
 }
 
-pub next : (z : Session) (bytes rest more line out : List ℕ) (s u : Session) (printed : List Printed) (summary : Summary) (t : Turn)
-    → GoesOn z bytes rest s printed summary → lines rest ≡ line ∷ lines more → length more < length rest
-    → RunsLine s (form line) (record { text = out; turn = t }) u
-    → GoesOn z bytes more u (printed ++ record { text = out; turn = t } ∷ []) (with_turn summary t)
-next z bytes rest more line out s u printed summary t g cut shorter one =
-    let p : Printed = record { text = out; turn = t } in
+pub start : (d : Dress) (z : Session) (bytes : List ℕ) (old : Option (List ℕ)) → GoesOn d z bytes bytes z 0 [] no_lines old old
+unfolding none_run
+start d z bytes old = record { so_far = none_run d z bytes; going = never d.stop; written = Appends-nil old }
+
+-- one more line is run
+one_more : (d : Dress) (z : Session) (bytes rest more line : List ℕ) (s u : Session) (number : ℕ) (printed : List Printed) (summary : Summary) (p : Printed)
+    → Ran d z bytes rest s number printed summary → is_stopped d printed ≡ false → lines rest ≡ line ∷ lines more → length more < length rest → RunsLine s (form line) p u
+    → Ran d z bytes more u (number + 1) (printed ++ p ∷ []) (with_turn summary p.turn)
+one_more d z bytes rest more line s u number printed summary p g going cut shorter one =
     let longer : length (g.done ++ line ∷ []) ≡ length g.done + 1 = length-append g.done (line ∷ []) in
     record {
       done = g.done ++ line ∷ [];
       all = append_assoc g.done (line ∷ []) (lines more) ∙ (ap (λ x. g.done ++ x) (sym cut) ∙ g.all);
       ran = runs_more z g.done printed s line p u g.ran one;
-      counted = summary_of_push printed p ∙ ap (λ (x : Summary). with_turn x t) g.counted;
-      room = let r = g.room in omega arith;
-      within = subst (IsWithin (with_turn summary t)) (sym longer) (within_more t summary (length g.done) g.within);
+      counted = summary_of_push printed p ∙ ap (λ (x : Summary). with_turn x p.turn) g.counted;
+      number_is = let n = g.number_is in omega (arith, n, longer);
+      room = let r = g.room in omega (arith, r, shorter, longer);
+      within = subst (IsWithin (with_turn summary p.turn)) (sym longer) (within_more p.turn summary (length g.done) g.within);
+      none_behind = kept_last d printed p going;
     }
 
-pub more_written : (old mid new : Option (List ℕ)) (printed : List Printed) (out : List ℕ) (t : Turn) → Appends old mid (texts printed) → Appends mid new out → Appends old new (texts (printed ++ record { text = out; turn = t } ∷ []))
-more_written old mid new printed out t one two = subst (Appends old new) (sym (texts_push printed (record { text = out; turn = t }))) (Appends-trans old mid new (texts printed) out one two)
+-- what is written of it stands behind what was written
+line_behind : (d : Dress) (z : Session) (bytes rest : List ℕ) (s : Session) (number : ℕ) (printed : List Printed) (summary : Summary) (line : List ℕ) (p : Printed)
+    → (g : Ran d z bytes rest s number printed summary)
+    → dressed_from d 1 (g.done ++ line ∷ []) (printed ++ p ∷ []) ≡ dressed_from d 1 g.done printed ++ dressed_line d (number + 1) line p
+line_behind d z bytes rest s number printed summary line p g =
+    let n = g.number_is in
+    dressed_push d 1 (number + 1) g.done printed line p (runs_length z s g.done printed g.ran) (omega (arith, n))
 
 -- ---- the ends
 
-pub finish : (z : Session) (bytes rest : List ℕ) (s : Session) (printed : List Printed) (summary : Summary) (old new : Option (List ℕ))
-    → GoesOn z bytes rest s printed summary → length rest ≡ 0 → Appends old new (texts printed) → Prints z old new bytes summary
-finish z bytes [] s printed summary old new g none wrote = record {
-  printed = printed;
-  after = s;
-  ran = subst (λ ls. RunsLines z ls printed s) (sym (append-nil g.done) ∙ g.all) g.ran;
-  counted = g.counted;
-  written = wrote;
-}
-finish z bytes (c ∷ cs) s printed summary old new g none wrote = absurd (omega arith)
+module _ (d : Dress) (z : Session) (bytes : List ℕ) where
+  first_run : (rest : List ℕ) (s : Session) (number : ℕ) (printed : List Printed) (summary : Summary) → (g : Ran d z bytes rest s number printed summary)
+      → RunsFirst d z bytes g.done (lines rest) printed s
+  first_run rest s number printed summary g = record { lines_are = sym g.all; ran = g.ran; none_behind = g.none_behind }
 
--- no line was run
-pub silent : (z : Session) (old : Option (List ℕ)) (bytes : List ℕ) → PrintsFront z old old bytes
-silent z old bytes = record {
-  first = [];
-  rest = lines bytes;
-  lines_are = refl;
-  printed = [];
-  after = z;
-  ran = refl;
-  written = ([], [], Appends-nil old, refl);
-}
+  whole_of : (rest : List ℕ) (s : Session) (number : ℕ) (printed : List Printed) (summary : Summary) (old new : Option (List ℕ)) → (g : Ran d z bytes rest s number printed summary)
+      → ((lines rest ≡ []) ⊎ (is_stopped d printed ≡ true)) → Appends old new (dressed_from d 1 g.done printed) → PrintsDressed d z old new bytes summary
+  whole_of rest s number printed summary old new g ends wrote = record {
+    first = g.done;
+    printed = printed;
+    after = s;
+    ran = record { rest = lines rest; runs = first_run rest s number printed summary g; ends = ends };
+    counted = g.counted;
+    written = subst (λ ps. Appends old new (dressed_from d 1 g.done ps)) (sym g.none_behind) wrote;
+  }
 
--- the lines that were run are all written
-pub paused : (z : Session) (bytes rest : List ℕ) (s : Session) (printed : List Printed) (summary : Summary) (old new : Option (List ℕ))
-    → GoesOn z bytes rest s printed summary → Appends old new (texts printed) → PrintsFront z old new bytes
-paused z bytes rest s printed summary old new g wrote = record {
-  first = g.done;
-  rest = lines rest;
-  lines_are = sym g.all;
-  printed = printed;
-  after = s;
-  ran = g.ran;
-  written = (texts printed, [], wrote, sym (append-nil (texts printed)));
-}
+  front_of : (rest : List ℕ) (s : Session) (number : ℕ) (printed : List Printed) (summary : Summary) (old new : Option (List ℕ)) → (g : Ran d z bytes rest s number printed summary)
+      → AppendsFront old new (dressed_from d 1 g.done printed) → PrintsDressedFront d z old new bytes
+  front_of rest s number printed summary old new g wrote = record {
+    first = g.done;
+    rest = lines rest;
+    printed = printed;
+    after = s;
+    ran = first_run rest s number printed summary g;
+    written = subst (λ ps. AppendsFront old new (dressed_from d 1 g.done ps)) (sym g.none_behind) wrote;
+  }
 
--- the last line that was run is written in part
-pub stopped : (z : Session) (bytes more out : List ℕ) (u : Session) (printed : List Printed) (summary : Summary) (t : Turn) (old mid new : Option (List ℕ))
-    → GoesOn z bytes more u (printed ++ record { text = out; turn = t } ∷ []) summary → Appends old mid (texts printed) → AppendsFront mid new out
-    → PrintsFront z old new bytes
-stopped z bytes more out u printed summary t old mid new g wrote part =
-    let p : Printed = record { text = out; turn = t } in
-    let cut : texts (printed ++ p ∷ []) ≡ (texts printed ++ part.0) ++ part.1 =
-    texts_push printed p ∙ (ap (λ x. texts printed ++ x) part.3 ∙ sym (append_assoc (texts printed) part.0 part.1)) in
-    record {
-      first = g.done;
-      rest = lines more;
-      lines_are = sym g.all;
-      printed = printed ++ p ∷ [];
-      after = u;
-      ran = g.ran;
-      written = (texts printed ++ part.0, part.1, Appends-trans old mid new (texts printed) part.0 wrote part.2, cut);
+  -- all lines were run
+  pub finish : (rest : List ℕ) (s : Session) (number : ℕ) (printed : List Printed) (summary : Summary) (old new : Option (List ℕ))
+      → GoesOn d z bytes rest s number printed summary old new → length rest ≡ 0 → PrintsDressed d z old new bytes summary
+  finish rest s number printed summary old new on none =
+      whole_of rest s number printed summary old new on.so_far (inl (ap lines (nil_from_length rest none))) on.written
+
+  -- no line was run
+  pub silent : (old : Option (List ℕ)) → PrintsDressedFront d z old old bytes
+  unfolding none_run
+  silent old = front_of bytes z 0 [] no_lines old old (none_run d z bytes) ([], [], Appends-nil old, refl)
+
+  -- the answers of the lines that were run are all written
+  pub paused : (rest : List ℕ) (s : Session) (number : ℕ) (printed : List Printed) (summary : Summary) (old new : Option (List ℕ))
+      → GoesOn d z bytes rest s number printed summary old new → PrintsDressedFront d z old new bytes
+  paused rest s number printed summary old new on = front_of rest s number printed summary old new on.so_far (front_whole old new _ on.written)
+
+  module _ (rest more line : List ℕ) (s u : Session) (number : ℕ) (printed : List Printed) (summary : Summary) (p : Printed) (old mid new : Option (List ℕ)) where
+    -- one more line is run, and the run has not ended behind it
+    pub next : GoesOn d z bytes rest s number printed summary old mid → lines rest ≡ line ∷ lines more → length more < length rest → RunsLine s (form line) p u
+        → Appends mid new (dressed_line d (number + 1) line p) → (d.stop && is_fault p.turn) ≡ false
+        → GoesOn d z bytes more u (number + 1) (printed ++ p ∷ []) (with_turn summary p.turn) old new
+    unfolding one_more
+    next on cut shorter one wrote go = record {
+      so_far = one_more d z bytes rest more line s u number printed summary p on.so_far on.going cut shorter one;
+      going = stopped_last d printed p on.going ∙ go;
+      written = subst (Appends old new) (sym (line_behind d z bytes rest s number printed summary line p on.so_far)) (Appends-trans old mid new _ _ on.written wrote);
     }
+
+    -- it ends the run
+    pub ended : GoesOn d z bytes rest s number printed summary old mid → lines rest ≡ line ∷ lines more → length more < length rest → RunsLine s (form line) p u
+        → Appends mid new (dressed_line d (number + 1) line p) → (d.stop && is_fault p.turn) ≡ true
+        → PrintsDressed d z old new bytes (with_turn summary p.turn)
+    unfolding one_more
+    ended on cut shorter one wrote stop =
+        whole_of more u (number + 1) (printed ++ p ∷ []) (with_turn summary p.turn) old new
+        (one_more d z bytes rest more line s u number printed summary p on.so_far on.going cut shorter one)
+        (inr (stopped_last d printed p on.going ∙ stop))
+        (subst (Appends old new) (sym (line_behind d z bytes rest s number printed summary line p on.so_far)) (Appends-trans old mid new _ _ on.written wrote))
+
+    -- its answer is written in part
+    pub stopped : GoesOn d z bytes rest s number printed summary old mid → lines rest ≡ line ∷ lines more → length more < length rest → RunsLine s (form line) p u
+        → AppendsFront mid new (dressed_line d (number + 1) line p) → PrintsDressedFront d z old new bytes
+    unfolding one_more
+    stopped on cut shorter one part =
+        front_of more u (number + 1) (printed ++ p ∷ []) (with_turn summary p.turn) old new
+        (one_more d z bytes rest more line s u number printed summary p on.so_far on.going cut shorter one)
+        (subst (AppendsFront old new) (sym (line_behind d z bytes rest s number printed summary line p on.so_far)) (front_after old mid new _ _ on.written part))

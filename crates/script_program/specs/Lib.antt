@@ -4,6 +4,8 @@ pub mod Session
 pub mod Bind
 pub mod Answers
 pub mod Turns
+pub mod Dressed
 pub mod Script
+pub mod Batch
 pub mod Lost
 pub mod Summary

@@ -1,66 +1,126 @@
 //! The program's command line.
-ghost use Rattle.std.specs.Prelude.{◌≡◌, Some, true, IfOk, IfErr, codes};
-ghost use Rattle.clap.specs.Words.{first_of, kind_of, matches_of, takes};
-ghost use Rattle.script_program.specs.CommandLine.{program, texts};
+ghost use Rattle.std.specs.Prelude.{◌≡◌, Some, false, true, IfOk, IfErr, codes};
+ghost use Rattle.clap.specs.Words.{app_of, first_of, found_of, kind_of, matches_of, rows_of, rule_of, takes, with_rule};
+ghost use Rattle.script_program.specs.CommandLine.{AreGiven, flag as flag_rule, is_set as sets, meta as meta_rule, program, script as script_rule, texts};
 
+use crate::dress::Dress;
+use crate::help::{ABOUT, EXPLAINED, VERSION};
 use clap::error::ErrorKind;
-use clap::{Arg, ArgAction, Command, Error};
-use std::alloc::Global;
+use clap::{Arg, ArgAction, ArgMatches, Command, Error};
+use std::alloc::{AllocError, Global};
 
-/// What `--help` says before the options.
-const ABOUT: &str = "Runs a script over a repository of objects whose classes a metamodel gives.";
+/// What the words of the command line ask for.
+#[derive(Clone, Copy)]
+pub struct Options<'a> {
+    /// The file of the metamodel, `--meta`.
+    pub meta: &'a str,
+    /// The file of the script, `--script`; without it the script is read from standard input.
+    pub script: Option<&'a str>,
+    /// How answers are dressed: `--echo`, `--number` and `--stop`.
+    pub dress: Dress,
+    /// Whether a refused or bad line gives a status of its own, `--strict`.
+    pub strict: bool,
+}
 
-/// What `--help` says behind the options.
-const EXPLAINED: &str = "\
-The metamodel is a JSON document of classes, their attributes and references. The script is read
-from standard input, and what each of its lines answers is printed on standard output:
+/// `--meta FILE`, which is required.
+fn meta<'a>(alloc: Global) -> Arg<'a>
+    ensures rule { rule_of result ≡ meta_rule }
+    ensures local { result.global ≡ false }
+{
+    Arg::new(alloc, "meta")
+        .long("meta")
+        .value_name("FILE")
+        .help("The metamodel, a JSON document")
+        .required(true)
+        .action(ArgAction::Set)
+}
 
-  new Book                 makes an object of a class: its number, as #0
-  set #0 name \"Emma\"       sets a feature of one value: ok
-  get #0 name              what a feature has: \"Emma\", and of a list [\"a\" \"b\"]
-  unset #0 name            takes a feature back to its default, and empties a list: ok
-  isset #0 name            whether a feature is set: false
-  add #0 tags \"a\"          puts a value at the end of a list: true, or false if it was not put in
-  add #0 tags \"b\" 0        puts a value at a place of a list, counted from 0: true
-  remove #0 tags 0         takes the value at a place out of a list: \"b\"
-  removevalue #0 tags \"a\"  takes a value out of a list: true, or false if it is not there
-  move #0 tags 0 2         moves the value at place 2 of a list to place 0: \"c\"
-  class #0                 the class of an object: class Book
-  container #0             the object that contains an object: #3, or null
-  contents #0              the objects that an object directly contains: [#1 #2]
-  delete #0                destroys an object and all that is below it: deleted 1
-  validate #0              the features that have fewer values than they should: [favourite]
-  resource \"http://m.example/a\"
-                           makes a resource of a URI: its number, as r0
-  add r0 contents #0       puts an object into a resource: true
-  within #0                the resource that an object is in: r0, or null
-  fragment #0              the fragment of an object in its resource: \"//@books.0\"
-  at \"http://m.example/a#/\"
-                           the object at an address: #0, or null
-  save r0                  the document of a resource, in one line
-  load r0 {\"format\":2,\"roots\":[]}
-                           makes what a document says in an empty resource: loaded 0
-  resolve #2 likes 0       puts the object that a proxy finds in its place: #1
-  attach A1 #0 flat        attaches an adapter, one of A1 to A8, to be told of changes: ok
-  attach A2 r0 deep        attaches one that is told of changes below its target too: ok
-  detach A1                detaches an adapter: ok, its last notice, and what it has heard
-  seen A1                  how many notices an adapter was told and keeps: seen 3 kept 3
+/// `--script FILE`.
+fn script<'a>(alloc: Global) -> Arg<'a>
+    ensures rule { rule_of result ≡ script_rule }
+    ensures local { result.global ≡ false }
+{
+    Arg::new(alloc, "script")
+        .long("script")
+        .value_name("FILE")
+        .help("The script, in place of standard input")
+        .action(ArgAction::Set)
+}
 
-In place of an object, contents, attach and the lines of a feature, but resolve, take a resource
-as well, as r0, whose one feature is contents.
+/// An option that takes no value.
+fn flag<'a>(alloc: Global, name: &'a str, help: &'a str) -> Arg<'a>
+    ensures rule { rule_of result ≡ flag_rule name.entry.now }
+    ensures local { result.global ≡ false }
+{
+    Arg::new(alloc, name)
+        .long(name)
+        .help(help)
+        .action(ArgAction::SetTrue)
+}
 
-A value is null, true, false, a number, a JSON string, :LITERAL or #N. What a load leaves for an
-object of another resource is printed as `proxy \"http://m.example/b#/\"`, until it is resolved.
+/// The command line of the program. Errs where memory is refused.
+fn command<'a>(alloc: Global) -> Result<Command<'a>, AllocError>
+    ensures { IfOk result (λ c. app_of c ≡ program) }
+{
+    Command::new(alloc, "mmrepo")
+        .version(VERSION)
+        .about(ABOUT)
+        .after_help(EXPLAINED)
+        .arg(meta(alloc))?
+        .arg(script(alloc))?
+        .arg(flag(
+            alloc,
+            "echo",
+            "Writes each line before its answer, as `> LINE`",
+        ))?
+        .arg(flag(
+            alloc,
+            "number",
+            "Begins each line of an answer with the number of its line, as `7: ok`",
+        ))?
+        .arg(flag(
+            alloc,
+            "stop",
+            "Ends the run behind the first line that is refused or bad",
+        ))?
+        .arg(flag(
+            alloc,
+            "strict",
+            "Exits with status 4 if a line was refused or bad",
+        ))
+}
 
-Behind an answer stands a line for each notice that an adapter was told, and then one for each
-adapter that was released. A line that can't be done prints why, as `refused 8 TYPE`, and changes
-nothing; a line that does not parse prints `bad line`; an empty line prints nothing.
+/// Whether the words set an option that takes no value.
+fn is_set(matches: &ArgMatches<'_>, name: &str) -> bool
+    ensures { result ≡ sets name.now (rows_of (found_of matches.now)) }
+{
+    match matches.get_str(name) {
+        Some(value) => value == "true",
+        None => false,
+    }
+}
 
-Example:
-  printf 'new Book\\nset #0 name \"Emma\"\\nget #0 name\\n' | mmrepo --meta library.json
-
-Exit status: 0 the script was run, 1 the metamodel is refused, 2 wrong arguments, 3 the run stopped
-because a stream failed, the input is too long or memory was refused.";
+/// What the words of the command line ask for; the first word is the program's name.
+///
+/// Errs as `clap` does: with the text of `--help` or `--version`, with what is wrong in the words, or where memory is refused.
+pub fn options_of<'a>(alloc: Global, words: &'a [&'a str]) -> Result<Options<'a>, Error>
+    // Each option is what the words give it first.
+    ensures value { IfOk result (λ o. AreGiven o (matches_of program (texts words.entry.now))) }
+    // Words that fit the command line are refused only where memory is.
+    ensures passes { IfErr result (λ e. takes program (texts words.entry.now) ≡ true → kind_of e ≡ ErrorKind.OutOfMemory) }
+{
+    let matches = command(alloc)?.try_get_matches_from(words)?;
+    Ok(Options {
+        meta: matches.get_str("meta").unwrap(),
+        script: matches.get_str("script"),
+        dress: Dress {
+            echo: is_set(&matches, "echo"),
+            number: is_set(&matches, "number"),
+            stop: is_set(&matches, "stop"),
+        },
+        strict: is_set(&matches, "strict"),
+    })
+}
 
 /// The value of `--meta` among the words of the command line, the first of which is the program's name.
 ///
@@ -71,16 +131,5 @@ pub fn meta_file<'a>(alloc: Global, words: &'a [&'a str]) -> Result<&'a str, Err
     // Words that fit the command line are refused only where memory is.
     ensures passes { IfErr result (λ e. takes program (texts words.entry.now) ≡ true → kind_of e ≡ ErrorKind.OutOfMemory) }
 {
-    let meta = Arg::new(alloc, "meta")
-        .long("meta")
-        .value_name("FILE")
-        .help("The metamodel, a JSON document")
-        .required(true)
-        .action(ArgAction::Set);
-    let command = Command::new(alloc, "mmrepo")
-        .about(ABOUT)
-        .after_help(EXPLAINED)
-        .arg(meta)?;
-    let matches = command.try_get_matches_from(words)?;
-    Ok(matches.get_str("meta").unwrap())
+    Ok(options_of(alloc, words)?.meta)
 }

@@ -4,6 +4,9 @@
 mod answers;
 mod arguments;
 mod bind;
+mod dress;
+mod dressing;
+mod help;
 pub mod laws;
 mod line;
 mod pool;
@@ -12,8 +15,9 @@ mod script;
 mod summary;
 mod turn;
 
-pub use arguments::meta_file;
-pub use script::run;
+pub use arguments::{Options, meta_file, options_of};
+pub use dress::Dress;
+pub use script::{run, run_dressed};
 pub use script_lines::parse_line;
 pub use script_streams::RunFault;
 pub use summary::Summary;

@@ -2,9 +2,12 @@
 ghost use Rattle.std.specs.Prelude.{◌≡◌, ◌≤◌, ◌<◌, IfErr, IfOk, IfSome, IsErrOf, OnErr, OnOk, length};
 ghost use Rattle.std.specs.Io.KnownBytes.{IsAtEnd, Keeps};
 ghost use Rattle.script_streams.specs.Faults.{IsReadOrTooLong, IsWriteOrMemory};
-ghost use Rattle.script_program.specs.Script.{Prints, PrintsFront, PrintsInput, PrintsInputFront};
+ghost use Rattle.script_program.specs.Batch.{PrintsDressed, PrintsDressedFront, PrintsInputDressed, PrintsInputDressedFront};
+ghost use Rattle.script_program.specs.Script.{PrintsInput, PrintsInputFront};
 ghost use Rattle.script_program.specs.Session.{first_session, session};
 
+use crate::dress::Dress;
+use crate::dressing::write_dressed;
 use crate::line::run_line;
 use crate::pool::Pool;
 use crate::summary::Summary;
@@ -15,58 +18,94 @@ use mm_types::limits::INPUT_BYTES;
 use repository::Repository;
 use script_lines::next_line;
 use script_output::Output;
-use script_streams::{RunFault, read_all, write_all};
+use script_streams::{RunFault, read_all};
 use std::alloc::Global;
 use std::io::{Read, Write};
 
-/// Runs the lines of a script in turn, and writes what each prints.
+/// Runs the lines of a script in turn, and writes what each prints as it is dressed.
 fn run_lines<W: Write, L: LinkStore, A: Adapter>(
     alloc: Global,
     writer: &mut W,
     repository: &mut Repository<L, A>,
     pool: &mut Pool<A>,
+    dress: Dress,
     input: &[u8],
 ) -> Result<Summary, RunFault>
     requires { length input.now ≤ INPUT_BYTES }
-    ensures ok { IfOk result (λ s. Prints (session repository.old pool.old) (W.contents writer.old) (W.contents writer.new) input.now s) }
-    ensures err { OnErr result (PrintsFront (session repository.old pool.old) (W.contents writer.old) (W.contents writer.new) input.now) }
+    ensures ok { IfOk result (λ s. PrintsDressed dress (session repository.old pool.old) (W.contents writer.old) (W.contents writer.new) input.now s) }
+    ensures err { OnErr result (PrintsDressedFront dress (session repository.old pool.old) (W.contents writer.old) (W.contents writer.new) input.now) }
     ensures kind { IfErr result (λ e. IsWriteOrMemory e) }
 {
     let mut output = Output::new(alloc);
     let mut summary = Summary::new();
+    let mut number = 0;
     let mut rest = input;
     'lines: while let Some((line, more)) = next_line(rest) {
         output.clear();
         let Ok(turn) = run_line(alloc, repository, pool, &mut output, line) else {
             return Err(RunFault::Memory);
         };
-        write_all(writer, output.as_bytes())?;
+        number += 1;
+        write_dressed(writer, dress, number, line, turn, output.as_bytes())?;
         summary = summary.with(turn);
+        if dress.ends_at(turn) {
+            return Ok(summary);
+        }
         rest = more;
     }
     Ok(summary)
 }
 
-/// Runs a script over an empty repository of a metamodel, and writes what each line prints.
+/// Runs a script over an empty repository of a metamodel, and writes what each line prints as it is dressed.
 fn run_input<W: Write, L: LinkStore, A: Adapter>(
     alloc: Global,
     writer: &mut W,
     meta: Meta,
     boxes: Vec<A>,
+    dress: Dress,
     input: &[u8],
 ) -> Result<Summary, RunFault>
     requires { length input.now ≤ INPUT_BYTES }
-    ensures ok { IfOk result (Prints (first_session A.heard meta boxes.items) (W.contents writer.old) (W.contents writer.new) input.now) }
-    ensures err { OnErr result (PrintsFront (first_session A.heard meta boxes.items) (W.contents writer.old) (W.contents writer.new) input.now) }
+    ensures ok { IfOk result (PrintsDressed dress (first_session A.heard meta boxes.items) (W.contents writer.old) (W.contents writer.new) input.now) }
+    ensures err { OnErr result (PrintsDressedFront dress (first_session A.heard meta boxes.items) (W.contents writer.old) (W.contents writer.new) input.now) }
     ensures kind { IfErr result (λ e. IsWriteOrMemory e) }
 {
     let Ok(mut pool) = Pool::new(alloc, boxes) else {
         return Err(RunFault::Memory);
     };
     let mut repository: Repository<L, A> = Repository::new(alloc, meta);
-    let outcome = run_lines(alloc, writer, &mut repository, &mut pool, input);
+    let outcome = run_lines(alloc, writer, &mut repository, &mut pool, dress, input);
     let _ = repository.close();
     outcome
+}
+
+/// Runs a script as `run` does, and writes what its lines print as it is dressed; where the dress says so, the run ends behind
+/// the first line that is refused or bad.
+///
+/// Errs as `run` does. The script is read to its end before its first line is run, also where the run ends earlier.
+pub fn run_dressed<R: Read, W: Write, L: LinkStore, A: Adapter>(
+    alloc: Global,
+    reader: &mut R,
+    writer: &mut W,
+    meta: Meta,
+    boxes: Vec<A>,
+    dress: Dress,
+) -> Result<Summary, RunFault>
+    // All the input was read, and what was written is what its lines print, as it is dressed.
+    ensures ok { IfOk result (PrintsInputDressed dress (R.remaining reader.old) (first_session A.heard meta boxes.items) (W.contents writer.old) (W.contents writer.new)) }
+    ensures end { OnOk result (IsAtEnd (R.remaining reader.new)) }
+    // Where a write fails or the run is out of memory, what was written is a front of what the first lines print.
+    ensures stopped { IfErr result (λ e. IsWriteOrMemory e
+        → PrintsInputDressedFront dress (R.remaining reader.old) (first_session A.heard meta boxes.items) (W.contents writer.old) (W.contents writer.new)) }
+    // After a fault in reading nothing was written.
+    ensures unread { IfErr result (λ e. IsReadOrTooLong e → Keeps (W.contents writer.old) (W.contents writer.new)) }
+    // `TooLong` is answered only where the input is too long.
+    ensures long { IsErrOf result RunFault.TooLong → IfSome (R.remaining reader.old) (λ input. INPUT_BYTES < length input) }
+{
+    match read_all(alloc, reader) {
+        Ok(input) => run_input::<W, L, A>(alloc, writer, meta, boxes, dress, input.as_slice()),
+        Err(fault) => Err(fault),
+    }
 }
 
 /// Reads a whole script, runs it over an empty repository of a metamodel, and writes what its lines print. The n-th of the
@@ -94,8 +133,5 @@ pub fn run<R: Read, W: Write, L: LinkStore, A: Adapter>(
     // `TooLong` is answered only where the input is too long.
     ensures long { IsErrOf result RunFault.TooLong → IfSome (R.remaining reader.old) (λ input. INPUT_BYTES < length input) }
 {
-    match read_all(alloc, reader) {
-        Ok(input) => run_input::<W, L, A>(alloc, writer, meta, boxes, input.as_slice()),
-        Err(fault) => Err(fault),
-    }
+    run_dressed::<R, W, L, A>(alloc, reader, writer, meta, boxes, Dress::plain())
 }

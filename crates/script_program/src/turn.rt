@@ -1,4 +1,6 @@
 //! How a line is counted.
+ghost use Rattle.std.specs.Prelude.{◌≡◌};
+ghost use Rattle.script_program.specs.Dressed.{is_fault as is_turn_of_fault};
 
 /// How a line is counted.
 #[derive(Clone, Copy, PartialEq, Eq)]
@@ -13,4 +15,13 @@ pub enum Turn {
     Refused,
     /// Its command was answered out of memory.
     Lost,
+}
+
+impl Turn {
+    /// Whether the line is refused, or bad.
+    pub(crate) fn is_fault(self) -> bool
+        ensures { result ≡ is_turn_of_fault self }
+    {
+        matches!(self, Turn::Bad | Turn::Refused | Turn::Lost)
+    }
 }

@@ -7,4 +7,4 @@ mod writing;
 
 pub use reading::read_all;
 pub use run_fault::RunFault;
-pub use writing::write_all;
+pub use writing::{write_all, write_parts};

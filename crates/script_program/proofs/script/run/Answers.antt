@@ -1,12 +1,10 @@
-use Rattle.std.proofs.Common.{Option, Some, None}
-use Rattle.std.specs.Prelude.{IfSome}
-use Rattle.script_program.specs.Session.{first_session}
-use Rattle.script_program.proofs.ScriptLemmas.{silent}
+use Rattle.std.proofs.lemmas.Result.{IfErr-weaker, IfOk-weaker}
+use Rattle.script_program.proofs.BatchLemmas.{plain_input, plain_input_front}
 use Rattle.script_program.proofs.script.run.Goals as goal
 
-all_some : {X : Type 0} (P : X → Type 0) (o : Option X) → ((x : X) → P x) → IfSome o P
-all_some P None h = tt
-all_some P (Some x) h = h x
+pub returns-clause-ok : goal.returns-clause-ok
+returns-clause-ok g c = IfOk-weaker c.run_dressed.result _ _ (λ s h. plain_input _ _ _ _ s h) (rw c.plain.ensures at c.run_dressed.ensures.ok)
 
-pub returns-in-Err-clause-stopped : goal.returns-in-Err-clause-stopped
-returns-in-Err-clause-stopped g c = λ e. all_some _ _ (λ input. silent (first_session g.A.Adapter.heard c.args.meta c.args.boxes.items) _ input)
+pub returns-clause-stopped : goal.returns-clause-stopped
+returns-clause-stopped g c =
+    IfErr-weaker c.run_dressed.result _ _ (λ e h kind. plain_input_front _ _ _ _ (h kind)) (rw c.plain.ensures at c.run_dressed.ensures.stopped)

@@ -3,4 +3,4 @@ use Rattle.script_program.proofs.ScriptLemmas.{silent}
 use Rattle.script_program.proofs.script.run_input.Goals as goal
 
 pub returns-in_default-clause-err : goal.returns-in_default-clause-err
-returns-in_default-clause-err g c = silent (first_session g.A.Adapter.heard c.args.meta c.args.boxes.items) _ c.args.input.now
+returns-in_default-clause-err g c = silent c.args.dress (first_session g.A.Adapter.heard c.args.meta c.args.boxes.items) c.args.input.now _

@@ -1,7 +1,6 @@
 use Rattle.std.proofs.Common.{length, List}
-use Rattle.std.specs.Io.KnownBytes.{Appends}
 use Rattle.script_program.specs.Session.{Session}
-use Rattle.script_program.specs.Turns.{Printed, texts}
+use Rattle.script_program.specs.Turns.{Printed}
 use Rattle.script_program.proofs.ScriptLemmas.{GoesOn}
 use Rattle.script_program.proofs.script.run_lines.Given as goal
 
@@ -10,8 +9,7 @@ invariant-lines g l =
     let first : Session = record { state = l.fn.repository; pool = l.fn.pool } in
     let now : Session = record { state = l.repository; pool = l.pool } in
     (printed : List Printed)
-    × Appends (g.W.Write.contents l.fn.writer) (g.W.Write.contents l.writer) (texts printed)
-    × GoesOn first l.input l.rest now printed l.summary
+    × GoesOn l.dress first l.input l.rest now l.number printed l.summary (g.W.Write.contents l.fn.writer) (g.W.Write.contents l.writer)
 
 abbrev pub decreases-lines : goal.decreases-lines
 decreases-lines g l = length l.rest

@@ -1,0 +1,50 @@
+-- What it is to run a script whose answers are dressed.
+use Rattle.std.specs.Prelude.{◌≡◌, ◌≤◌, ◌⊎◌, ℕ, true, List, [], ◌++◌, length, Option, IfSome}
+use Rattle.std.specs.Io.KnownBytes.{Appends}
+use Rattle.mm_types.specs.declared.limits.TheConstants.{INPUT_BYTES}
+use Rattle.script_lines.specs.Lines.{lines}
+use Rattle.script_program.specs.Dressed.{dressed, is_stopped, kept}
+use Rattle.script_program.specs.Script.{RunsLines}
+use Rattle.script_program.specs.Session.{Session}
+use Rattle.script_program.specs.Turns.{Printed, summary_of}
+use Rattle.script_program.specs.declared.dress.Dress.{Dress}
+use Rattle.script_program.specs.declared.summary.Summary.{Summary}
+use Rattle.script_streams.specs.Streams.{AppendsFront}
+
+-- The first lines of a script were run, none of them behind the end of the run, and the others were not.
+pub record RunsFirst (d : Dress) (s : Session) (bytes : List ℕ) (first rest : List (List ℕ)) (printed : List Printed) (t : Session) : Type 0 where
+  pub lines_are : lines bytes ≡ first ++ rest
+  pub ran : RunsLines s first printed t
+  pub none_behind : kept d printed ≡ printed
+
+-- All lines of a script were run, or those up to and including the first that ends the run.
+pub record RunsBatch (d : Dress) (s : Session) (bytes : List ℕ) (first : List (List ℕ)) (printed : List Printed) (t : Session) : Type 0 where
+  pub rest : List (List ℕ)
+  pub runs : RunsFirst d s bytes first rest printed t
+  pub ends : (rest ≡ []) ⊎ (is_stopped d printed ≡ true)
+
+-- A script was run to the end of its run, its answers were written as they are dressed, and the counts are theirs.
+pub record PrintsDressed (d : Dress) (s : Session) (old new : Option (List ℕ)) (bytes : List ℕ) (summary : Summary) : Type 0 where
+  pub first : List (List ℕ)
+  pub printed : List Printed
+  pub after : Session
+  pub ran : RunsBatch d s bytes first printed after
+  pub counted : summary_of printed ≡ summary
+  pub written : Appends old new (dressed d first printed)
+
+-- The first lines of a script were run, and a front of their dressed answers was written.
+pub record PrintsDressedFront (d : Dress) (s : Session) (old new : Option (List ℕ)) (bytes : List ℕ) : Type 0 where
+  pub first : List (List ℕ)
+  pub rest : List (List ℕ)
+  pub printed : List Printed
+  pub after : Session
+  pub ran : RunsFirst d s bytes first rest printed after
+  pub written : AppendsFront old new (dressed d first printed)
+
+-- Known input is no longer than it may be, and it was run to the end of its run.
+abbrev pub PrintsInputDressed : Dress → Option (List ℕ) → Session → Option (List ℕ) → Option (List ℕ) → Summary → Type 0
+PrintsInputDressed d input s old new summary = IfSome input (λ bytes. (length bytes ≤ INPUT_BYTES) × PrintsDressed d s old new bytes summary)
+
+-- The first lines of known input were run.
+abbrev pub PrintsInputDressedFront : Dress → Option (List ℕ) → Session → Option (List ℕ) → Option (List ℕ) → Type 0
+PrintsInputDressedFront d input s old new = IfSome input (λ bytes. PrintsDressedFront d s old new bytes)

@@ -1,0 +1,37 @@
+//! How the answers of a script are dressed.
+ghost use Rattle.std.specs.Prelude.{◌≡◌, ◌&&◌};
+ghost use Rattle.script_program.specs.Dressed.{is_fault, plain};
+
+use crate::turn::Turn;
+
+/// What a run writes beside the answers of its lines, and where it ends.
+#[derive(Clone, Copy)]
+pub struct Dress {
+    /// Each line that is not passed over is written before its answer, as `> LINE`.
+    pub echo: bool,
+    /// Each line of an answer begins with the number of its line in the script, as `7: ok`. Lines are counted from 1, the
+    /// ones that are passed over included.
+    pub number: bool,
+    /// The run ends behind the first line that is refused or bad.
+    pub stop: bool,
+}
+
+impl Dress {
+    /// Answers alone, of all lines.
+    pub fn plain() -> Self
+        ensures { result ≡ plain }
+    {
+        Dress {
+            echo: false,
+            number: false,
+            stop: false,
+        }
+    }
+
+    /// Whether the run ends behind a line that is counted so.
+    pub(crate) fn ends_at(self, turn: Turn) -> bool
+        ensures { result ≡ (self.stop && is_fault turn) }
+    {
+        self.stop && turn.is_fault()
+    }
+}

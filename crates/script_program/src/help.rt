@@ -1,0 +1,55 @@
+//! The texts of `--help` and `--version`.
+
+/// What `--version` says behind the program's name.
+pub(crate) const VERSION: &str = "1.0";
+
+/// What `--help` says before the options.
+pub(crate) const ABOUT: &str =
+    "Runs a script over a repository of objects whose classes a metamodel gives.";
+
+/// What `--help` says behind the options.
+pub(crate) const EXPLAINED: &str = "\
+The metamodel is a JSON document of classes, their attributes and references. The script is read
+from standard input or a file, and what each of its lines answers is printed on standard output:
+
+  new Book                 makes an object of a class: its number, as #0
+  set #0 name \"Emma\"       sets a feature of one value: ok
+  get #0 name              what a feature has: \"Emma\", and of a list [\"a\" \"b\"]
+  unset #0 name            takes a feature back to its default, and empties a list: ok
+  isset #0 name            whether a feature is set: false
+  add #0 tags \"a\"          puts a value at the end of a list: true, or false if it was not put in
+  add #0 tags \"b\" 0        puts a value at a place of a list, counted from 0: true
+  remove #0 tags 0         takes the value at a place out of a list: \"b\"
+  removevalue #0 tags \"a\"  takes a value out of a list: true, or false if it is not there
+  move #0 tags 0 2         moves the value at place 2 of a list to place 0: \"c\"
+  class #0                 the class of an object: class Book
+  container #0             the object that contains an object: #3, or null
+  contents #0              the objects that an object directly contains: [#1 #2]
+  delete #0                destroys an object and all that is below it: deleted 1
+  validate #0              the features that have fewer values than they should: [favourite]
+  resource \"http://m.example/a\"  makes a resource of a URI: its number, as r0
+  add r0 contents #0       puts an object into a resource: true
+  within #0                the resource that an object is in: r0, or null
+  fragment #0              the fragment of an object in its resource: \"//@books.0\"
+  at \"http://m.example/a#/\"  the object at an address: #0, or null
+  save r0                  the document of a resource, in one line
+  load r0 {\"format\":2,\"roots\":[]}  makes what a document says in an empty resource: loaded 0
+  resolve #2 likes 0       puts the object that a proxy finds in its place: #1
+  attach A1 #0 flat        attaches an adapter, one of A1 to A8, to be told of changes: ok
+  attach A2 r0 deep        attaches one that is told of changes below its target too: ok
+  detach A1                detaches an adapter: ok, its last notice, and what it has heard
+  seen A1                  how many notices an adapter was told and keeps: seen 3 kept 3
+
+In place of an object, contents, attach and the lines of a feature, but resolve, take a resource
+as well, as r0, whose one feature is contents.
+A value is null, true, false, a number, a JSON string, :LITERAL or #N. What a load leaves for an
+object of another resource is printed as `proxy \"http://m.example/b#/\"`, until it is resolved.
+
+Behind an answer stands a line for each notice that an adapter was told, and then one for each
+adapter that was released. A line that can't be done prints why, as `refused 8 TYPE`, and changes
+nothing; a line that does not parse prints `bad line`; an empty line prints nothing.
+
+Example: printf 'new Book\\nset #0 name \"Emma\"\\nget #0 name\\n' | mmrepo --meta library.json
+
+Exit status: 0 the script was run, 1 the metamodel is refused, 2 wrong arguments, 3 the run stopped
+because a stream failed, the input is too long or memory was refused, 4 as --strict says.";
