@@ -82,7 +82,7 @@ stored_for-put f h g (Some o) live =
     ∙ ap (λ b. unwrap_or (if b then kept h else map.get o.stored g.0) nothing_stored) turned
     ∙ elim (same_feature f g) as (λ b. unwrap_or (if b then kept h else map.get o.stored g.0) nothing_stored ≡ (if b then h else stored_under o g)) [ true ↦ unwrap_or-kept h | false ↦ refl ]
 
-stored_for-with_list : (os : Objects) (o : ObjectNo) (f : FeatureNo) (h : Stored) (p : ObjectNo) (g : FeatureNo) → IsTrue (is_object (object_at os o))
+pub stored_for-with_list : (os : Objects) (o : ObjectNo) (f : FeatureNo) (h : Stored) (p : ObjectNo) (g : FeatureNo) → IsTrue (is_object (object_at os o))
     → stored_for g (object_at (with_list os o f h) p) ≡ (if same_object o p && same_feature f g then h else stored_for g (object_at os p))
 stored_for-with_list os o f h p g live = placed os o.0 p.0 live where
   placed : (os : Objects) (k i : ℕ) → IsTrue (is_object (slice_index_or os k None)) → stored_for g (slice_index_or (slice_set os k (option_map (put_stored f h) (slice_index_or os k None))) i None) ≡ (if nat_eq k i && same_feature f g then h else stored_for g (slice_index_or os i None))

@@ -19,7 +19,10 @@ mod LostLemmas
 mod DestroyLemmas
 pub mod LoadChainLemmas
 mod LoadEndLemmas
+mod LoadHolderLemmas
+mod LoadStoredLemmas
 mod LoadValueLemmas
+mod LoadedLemmas
 pub mod LossLemmas
 mod ObjectLegalLemmas
 pub mod PlanLemmas

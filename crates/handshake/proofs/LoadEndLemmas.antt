@@ -32,14 +32,14 @@ use Rattle.resource_docs.specs.Read.{values_in, values_under}
 use Rattle.resource_docs.specs.declared.doc.Content.{Content}
 use Rattle.resource_docs.specs.declared.doc.Doc.{Doc}
 use Rattle.resource_docs.specs.declared.doc.DocObject.{DocObject}
-use Rattle.loading.specs.Loading.{contents_end, loaded, loaded_links, object_end, roots_loaded, with_links}
+use Rattle.loading.specs.Loading.{contents_end, loaded, loaded_links, loaded_value, object_end, roots_loaded, with_links}
 use Rattle.loading.specs.Typed.{IsTyped, IsTypedContent, IsTypedObject, IsTypedValue, class_in}
 use Rattle.loading.proofs.EndLemmas.{end-elsewhere, end-held, end-near, end-roots, end-values, loaded-set_is, loaded_set, one-source}
 use Rattle.loading.proofs.NearLemmas.{IsPlaceOf, at_far, at_near, at_roots, elsewhere, place_of}
 use Rattle.loading.proofs.PairLemmas.{all-at}
-use Rattle.loading.proofs.SideLemmas.{IsFarSide, IsPlainFeature, contents-shape, opposite-reference}
+use Rattle.loading.proofs.SideLemmas.{IsFarSide, IsNearSide, IsPlainFeature, contents-shape, opposite-reference}
 use Rattle.loading.proofs.SoundLemmas.{IsThere, has-content, there-object}
-use Rattle.loading.proofs.SourceLemmas.{ascending-distinct, loaded_value, loaded_values, source-at, sources-ascending, sources_from}
+use Rattle.loading.proofs.SourceLemmas.{ascending-distinct, loaded_values, source-at, sources-ascending, sources_from}
 use Rattle.containment.proofs.PartLemmas.{object-typed}
 use Rattle.handshake.specs.Laws.{comes_with}
 use Rattle.handshake.specs.Plans.{IsDocument}
@@ -100,11 +100,32 @@ module _ (s : Model) (k : ResourceNo) (doc : Doc) (legal : IsLegal s) (late : la
   pub linked-roots : end linked (contents_end m k) ≡ roots_loaded n doc
   linked-roots = end-of (contents_end m k) (roots_loaded n doc) (end-roots m n k doc (sound s k doc legal late read) s.links legal.links.set legal.links.kinds legal.links.forest (room s k doc legal late) (few s k doc legal late))
 
-  linked-values : (o : ObjectNo) (f : FeatureNo) → (shape m f).is_reference ≡ true → IsPlainFeature m f → end linked (object_end n o f) ≡ loaded_values n (values_in doc o f)
+  -- a near feature has what the document has there
+  pub linked-near : (o : ObjectNo) (f : FeatureNo) → IsNearSide m f → end linked (object_end n o f) ≡ loaded_values n (values_in doc o f)
+  linked-near o f side =
+      end-of (object_end n o f) (loaded_values n (values_in doc o f)) (end-near m n k doc (sound s k doc legal late read) s.links legal.links.set legal.links.kinds legal.links.forest (room s k doc legal late) (few s k doc legal late) o f side)
+
+  -- a container has those that name the object
+  pub linked-held : (b : ObjectNo) (g f c : FeatureNo) → IsFarSide m g f → (shape m g).containing ≡ Some c → end linked (object_end n b g) ≡ sources_from n (λ (x : DocObject). values_under x f) b 0 doc.objects
+  linked-held b g f c side contains =
+      end-of (object_end n b g) (sources_from n (λ (x : DocObject). values_under x f) b 0 doc.objects) (end-held m n k doc (sound s k doc legal late read) s.links legal.links.set legal.links.kinds legal.links.forest (room s k doc legal late) (few s k doc legal late) b g f c side contains)
+
+  -- and there is one of them at most
+  pub no-second : (b : ObjectNo) (f c : FeatureNo) → (shape m f).containing ≡ Some c → (u v : Value) (vs : List Value) → sources_from n (λ (x : DocObject). values_under x f) b 0 doc.objects ≡ u ∷ v ∷ vs → ⊥
+  no-second b f c holds u v vs is =
+      let from = sources_from n (λ (x : DocObject). values_under x f) b 0 doc.objects in
+      let first : slice_get from 0 ≡ Some u = ap (λ (vs : List Value). slice_get vs 0) is in
+      let second : slice_get from 1 ≡ Some v = ap (λ (vs : List Value). slice_get vs 1) is in
+      let same = one-source m n k doc (sound s k doc legal late read) s.links legal.links.set legal.links.kinds legal.links.forest (room s k doc legal late) (few s k doc legal late) b f c holds 0 1 u v first second in
+      let index = ascending-distinct (n + 0) from (sources-ascending n (λ (x : DocObject). values_under x f) b 0 doc.objects) 0 1 u first (second ∙ ap Some (sym same)) in
+      omega (arith, index)
+
+  -- so has each reference that is no container
+  pub linked-values : (o : ObjectNo) (f : FeatureNo) → (shape m f).is_reference ≡ true → IsPlainFeature m f → end linked (object_end n o f) ≡ loaded_values n (values_in doc o f)
   linked-values o f reference plain =
       end-of (object_end n o f) (loaded_values n (values_in doc o f)) (end-values m n k doc (sound s k doc legal late read) s.links legal.links.set legal.links.kinds legal.links.forest (room s k doc legal late) (few s k doc legal late) o f reference plain)
 
-  linked-elsewhere : (d : End) → ((o : ObjectNo) (f : FeatureNo) → (shape m f).is_reference ≡ true → object_end n o f ≢ d) → contents_end m k ≢ d → end linked d ≡ end s.links d
+  pub linked-elsewhere : (d : End) → ((o : ObjectNo) (f : FeatureNo) → (shape m f).is_reference ≡ true → object_end n o f ≢ d) → contents_end m k ≢ d → end linked d ≡ end s.links d
   linked-elsewhere d outside other =
       end-of d (end s.links d) (end-elsewhere m n k doc (sound s k doc legal late read) s.links legal.links.set legal.links.kinds legal.links.forest (room s k doc legal late) (few s k doc legal late) d outside other)
 
@@ -181,12 +202,6 @@ module _ (s : Model) (k : ResourceNo) (doc : Doc) (legal : IsLegal s) (late : la
     ---------------------------------------------------------------- containers
 
     module _ (b : ObjectNo) (g f c : FeatureNo) (side : IsFarSide m g f) (contains : (shape m g).containing ≡ Some c) where
-      from : List Value
-      from = sources_from n (λ (x : DocObject). values_under x f) b 0 doc.objects
-
-      held : end linked (object_end n b g) ≡ sources_from n (λ (x : DocObject). values_under x f) b 0 doc.objects
-      held = end-of (object_end n b g) (sources_from n (λ (x : DocObject). values_under x f) b 0 doc.objects) (end-held m n k doc (sound s k doc legal late read) s.links legal.links.set legal.links.kinds legal.links.forest (room s k doc legal late) (few s k doc legal late) b g f c side contains)
-
       -- what holds an object is one that the object may have there, and the object's class has the feature
       record IsFitting (u : Value) : Type 0 where
         has : has_feature r (node.Object (loaded n b)) g ≡ true
@@ -208,16 +223,10 @@ module _ (s : Model) (k : ResourceNo) (doc : Doc) (legal : IsLegal s) (late : la
       alone (u ∷ []) is =
           let fits = source-fits 0 u (ap (λ (vs : List Value). slice_get vs 0) is) in
           end-from r (object_end n b g) (u ∷ []) fits.has (and_from _ _ fits.takes refl) (one-bounded (shape m g))
-      alone (u ∷ v ∷ vs) is =
-          let holds = sym ((sound s k doc legal late read).kinds.one_container g f side.pair) ∙ contains in
-          let first : slice_get (sources_from n (λ (x : DocObject). values_under x f) b 0 doc.objects) 0 ≡ Some u = ap (λ (vs : List Value). slice_get vs 0) is in
-          let second : slice_get (sources_from n (λ (x : DocObject). values_under x f) b 0 doc.objects) 1 ≡ Some v = ap (λ (vs : List Value). slice_get vs 1) is in
-          let same = one-source m n k doc (sound s k doc legal late read) s.links legal.links.set legal.links.kinds legal.links.forest (room s k doc legal late) (few s k doc legal late) b f c holds 0 1 u v first second in
-          let index = ascending-distinct (n + 0) (sources_from n (λ (x : DocObject). values_under x f) b 0 doc.objects) (sources-ascending n (λ (x : DocObject). values_under x f) b 0 doc.objects) 0 1 u first (second ∙ ap Some (sym same)) in
-          absurd (omega (arith, index))
+      alone (u ∷ v ∷ vs) is = absurd (no-second b f c (sym ((sound s k doc legal late read).kinds.one_container g f side.pair) ∙ contains) u v vs is)
 
       held-legal : is_legal_end r (object_end n b g) (end linked (object_end n b g)) ≡ true
-      held-legal = subst (λ (us : List Value). is_legal_end r (object_end n b g) us ≡ true) (sym held) (alone (sources_from n (λ (x : DocObject). values_under x f) b 0 doc.objects) refl)
+      held-legal = subst (λ (us : List Value). is_legal_end r (object_end n b g) us ≡ true) (sym (linked-held b g f c side contains)) (alone (sources_from n (λ (x : DocObject). values_under x f) b 0 doc.objects) refl)
 
     ---------------------------------------------------------------- roots
 
@@ -264,8 +273,9 @@ module _ (s : Model) (k : ResourceNo) (doc : Doc) (legal : IsLegal s) (late : la
 
     at-place : (d : End) → IsPlaceOf m n k doc (sound s k doc legal late read) s.links legal.links.set legal.links.kinds legal.links.forest (room s k doc legal late) (few s k doc legal late) d → is_legal_end r d (end linked d) ≡ true
     at-place d (at_roots q) = subst (λ (y : End). is_legal_end r y (end linked y) ≡ true) q roots-legal
-    at-place d (at_near o f q side) = subst (λ (y : End). is_legal_end r y (end linked y) ≡ true) q (subst (λ (us : List Value). is_legal_end r (object_end n o f) us ≡ true) (sym (end-of (object_end n o f) (loaded_values n (values_in doc o f))
-        (end-near m n k doc (sound s k doc legal late read) s.links legal.links.set legal.links.kinds legal.links.forest (room s k doc legal late) (few s k doc legal late) o f side))) (values-legal o f side.reference (values_in doc o f) refl))
+    at-place d (at_near o f q side) =
+        subst (λ (y : End). is_legal_end r y (end linked y) ≡ true) q
+        (subst (λ (us : List Value). is_legal_end r (object_end n o f) us ≡ true) (sym (linked-near o f side)) (values-legal o f side.reference (values_in doc o f) refl))
     at-place d (at_far b g f q side) = subst (λ (y : End). is_legal_end r y (end linked y) ≡ true) q (far-legal b g f side)
     at-place d (elsewhere outside other) =
         subst (λ (us : List Value). is_legal_end r d us ≡ true) (sym (linked-elsewhere d outside other))

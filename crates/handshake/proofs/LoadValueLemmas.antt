@@ -31,7 +31,7 @@ use Rattle.handshake.proofs.ObjectLegalLemmas.{class-put, created, legal-at, put
 
 ---------------------------------------------------------------- lists of objects
 
-behind : (os ys : Objects) (i : ℕ) → slice_index_or (os ++ ys) (length os + i) None ≡ slice_index_or ys i None
+pub behind : (os ys : Objects) (i : ℕ) → slice_index_or (os ++ ys) (length os + i) None ≡ slice_index_or ys i None
 behind [] ys i = let e : 0 + i ≡ i = omega arith in ap (λ (k : ℕ). slice_index_or ys k None) e
 behind (o ∷ os) ys i = let e : suc (length os) + i ≡ suc (length os + i) = omega arith in ap (λ (k : ℕ). slice_index_or (o ∷ (os ++ ys)) k None) e ∙ behind os ys i
 
@@ -53,7 +53,7 @@ values-append v (x ∷ xs) ys = values-append (edited v x) xs ys
 
 ---------------------------------------------------------------- objects that are made
 
-abbrev fresh : DocObject → Option ObjectState
+abbrev pub fresh : DocObject → Option ObjectState
 fresh d = Some (record { class = d.class; stored = finmap.empty })
 
 made : (v : ValuesState) (ds : List DocObject) → applied v (map (λ d. NewObject d.class) ds) ≡ record v { objects = v.objects ++ map fresh ds }
@@ -162,13 +162,14 @@ module _ (m : Metamodel) (v : ValuesState) (doc : Doc) (typed : IsTyped m doc) (
   abbrev ds : List DocObject
   ds = doc.objects
 
-  abbrev after_made : ValuesState
+  -- the values once the objects are made
+  abbrev pub after_made : ValuesState
   after_made = record v { objects = v.objects ++ map fresh doc.objects }
 
   abbrev each : AllByRecursion (IsTypedObject m doc) ds
   each = recursion_from_All (IsTypedObject m doc) doc.objects typed.objects
 
-  made-class : (o : ObjectNo) → class_of after_made (loaded n o) ≡ class_in doc o
+  pub made-class : (o : ObjectNo) → class_of after_made (loaded n o) ≡ class_in doc o
   made-class o = ap (option_map (λ (x : ObjectState). x.class)) (behind v.objects (map fresh ds) o.0) ∙ fresh-class ds o.0
 
   all-puts : AllByRecursion (IsLegalPut m n (class_of after_made)) (of_contents (attribute_edits m n) doc)
@@ -183,10 +184,13 @@ module _ (m : Metamodel) (v : ValuesState) (doc : Doc) (typed : IsTyped m doc) (
       (recursion_from_All (IsTypedContent m doc y.1.class) y.1.contents object.contents)))
       (numbered-all ds)
 
+  -- first the objects are made, and then their lists are put
+  pub two-steps : applied v (loaded_values m (length v.objects) doc) ≡ applied (record v { objects = v.objects ++ map fresh doc.objects }) (of_contents (attribute_edits m (length v.objects)) doc)
+  two-steps = values-append v (map (λ d. NewObject d.class) ds) (of_contents (attribute_edits m n) doc) ∙ ap (λ (w : ValuesState). applied w (of_contents (attribute_edits m n) doc)) (made v ds)
+
   pub load-values : AreLoaded m n doc v (applied v (loaded_values m n doc))
   load-values =
       let es = of_contents (attribute_edits m n) doc in
-      let whole : applied v (loaded_values m n doc) ≡ applied after_made es = values-append v (map (λ d. NewObject d.class) ds) es ∙ ap (λ (w : ValuesState). applied w es) (made v ds) in
       let put = puts m n (class_of after_made) after_made es (λ o. refl) (All-append (IsLegalObject m) v.objects (map fresh ds) legal (fresh-legal m doc ds each)) all-puts in
       let is : AreLoaded m n doc v (applied after_made es) = record {
         count = put.count ∙ length-append v.objects (map fresh ds) ∙ ap (λ (k : ℕ). n + k) (length-map ds fresh);
@@ -195,4 +199,4 @@ module _ (m : Metamodel) (v : ValuesState) (doc : Doc) (typed : IsTyped m doc) (
         classes = λ o. put.classes (loaded n o) ∙ made-class o;
         uris = put.uris;
       } in
-      subst (AreLoaded m n doc v) (sym whole) is
+      subst (AreLoaded m n doc v) (sym two-steps) is

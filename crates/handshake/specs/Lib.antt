@@ -9,3 +9,4 @@ pub mod Edits
 pub mod Refusals
 pub mod Plans
 pub mod Laws
+pub mod Loaded

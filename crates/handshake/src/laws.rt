@@ -4,9 +4,12 @@ ghost use Rattle.mm_types.specs.Ends.{Ends};
 ghost use Rattle.mm_types.specs.Resolved.{Metamodel};
 ghost use Rattle.mm_types.specs.declared.numbers.FeatureNo.{FeatureNo};
 ghost use Rattle.mm_types.specs.declared.numbers.Node.{Node};
+ghost use Rattle.mm_types.specs.declared.numbers.ResourceNo.{ResourceNo};
 ghost use Rattle.models.specs.Model.{Model};
+ghost use Rattle.resource_docs.specs.declared.doc.Doc.{Doc};
 ghost use Rattle.notice_chain.specs.Replay.{replayed_all};
 ghost use Rattle.handshake.specs.Laws.{ChainReplays, CutsNoLinkTwice, FarEndsAreApart, KeepsLegal, KeepsSteady, TellsNoEndTwice};
+ghost use Rattle.handshake.specs.Loaded.{LoadsEnds};
 ghost use Rattle.handshake.specs.Telling.{happened_all, has_flag, told};
 ghost use Rattle.handshake.specs.declared.change.Change.{Change};
 ghost use Rattle.handshake.specs.declared.happening.Telling.{Telling};
@@ -45,4 +48,12 @@ pub fn a_chain_tells_no_end_twice()
 /// A change of a legal model, where nothing refuses it, cuts no link twice, by whichever of its ends the link is named.
 pub fn a_change_cuts_no_link_twice()
     ensures { (s : Model) (c : Change) → CutsNoLinkTwice s c }
+{}
+
+/// A load into a resource of a legal model, where nothing refuses it, leaves what the document says, if the document is one that reading
+/// gives. The objects of the document get the numbers that follow on. Each can be read as the document has it: its class, its attributes
+/// and their flags, its references with both ends of each pair, its container reference, and the end that holds it. The resource holds
+/// the roots in their order. Nothing else has changed (EMF: XMLResource.load).
+pub fn a_load_reads_as_its_document()
+    ensures { (s : Model) (k : ResourceNo) (doc : Doc) → LoadsEnds s k doc }
 {}

@@ -26,7 +26,7 @@ use Rattle.resource_docs.specs.declared.doc.Doc.{Doc}
 use Rattle.resource_docs.specs.declared.doc.DocObject.{DocObject}
 use Rattle.loading.specs.Laws.{IsRoomFor}
 use Rattle.loading.specs.LoadEdits.{is_ascending_from, load_edits, near_edits, proxy_edits, root_puts}
-use Rattle.loading.specs.Loading.{contents_end, loaded, object_end, of_contents, roots_loaded}
+use Rattle.loading.specs.Loading.{contents_end, loaded, loaded_value, object_end, of_contents, roots_loaded}
 use Rattle.loading.specs.Pairs.{lower_of}
 use Rattle.loading.proofs.AgainLemmas.{IsLowerEnd, IsNotHigher, again-edits, agains, agains-good, answered-in, last-higher, last-none, target-in, target-object}
 use Rattle.loading.proofs.FillLemmas.{AreFilled, IsReady, all_filled, at-others, end_filled, fills-kinds, is_no_proxy, others, others-ascending, others-at, others-distinct, others-loaded, proxies-loaded}
@@ -36,7 +36,7 @@ use Rattle.loading.proofs.NearLemmas.{good-ends, near-all_good, near_end, near_e
 use Rattle.loading.proofs.RotateLemmas.{ArePutAgain, again_kinds, all_again, all_put_again, at-among, put_all_last, put_all_last-whole}
 use Rattle.loading.proofs.SideLemmas.{IsFarSide, IsHigher, IsNearSide, IsPlainFeature, higher, higher-far, lower-is, near-reference, near-side, not-near, opposite-reference}
 use Rattle.loading.proofs.SoundLemmas.{filter-at, object-there, there-object, IsSound}
-use Rattle.loading.proofs.SourceLemmas.{ascending-one, ascending-test, at-loaded, at-source, loaded-at, loaded-distinct, loaded_value, loaded_values, source-at, sources-ascending, sources_from}
+use Rattle.loading.proofs.SourceLemmas.{ascending-one, ascending-test, at-loaded, at-source, loaded-at, loaded-distinct, loaded_values, source-at, sources-ascending, sources_from}
 use Rattle.loading.proofs.TotalLemmas.{IsElsewhere}
 
 module _ (m : Metamodel) (n : ℕ) (k : ResourceNo) (doc : Doc) (sound : IsSound m doc) (s : Links) (legal : IsLegalSet s) (kinds : AreOfKind (kinds_of m) s) (free : HasNoCycle s) (room : IsRoomFor m n k s) (fit : n + length doc.objects ≤ OBJECTS) where

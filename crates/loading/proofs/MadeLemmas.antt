@@ -32,13 +32,13 @@ use Rattle.resource_docs.specs.declared.doc.Content.{Content}
 use Rattle.resource_docs.specs.declared.doc.Doc.{Doc}
 use Rattle.resource_docs.specs.declared.doc.DocObject.{DocObject}
 use Rattle.loading.specs.Laws.{IsRoomFor}
-use Rattle.loading.specs.Loading.{content_links, far_index, link_of, link_to, loaded, loaded_links, object_end, of_contents, of_object, root_link, with_links}
+use Rattle.loading.specs.Loading.{content_links, far_index, link_of, link_to, loaded, loaded_links, loaded_value, object_end, of_contents, of_object, root_link, with_links}
 use Rattle.loading.proofs.AgainLemmas.{answered-in}
 use Rattle.loading.proofs.EndLemmas.{end-elsewhere, end-held, end-roots, end-values, one-source, loaded-kinds, loaded-legal, loaded_set}
 use Rattle.loading.proofs.PairLemmas.{numbered-all, all-append, all-at, all-filter_map, all-flat_map, all-map, all-more}
 use Rattle.loading.proofs.SideLemmas.{IsFarSide, IsNearSide, IsPlainFeature, contents-shape, near-contained, opposite-reference, sides}
 use Rattle.loading.proofs.SoundLemmas.{at-map, first-of, object-there, AreSoundContents, IsSort, IsSound, IsSoundContent}
-use Rattle.loading.proofs.SourceLemmas.{at-source, loaded-at, loaded_value, sources_from}
+use Rattle.loading.proofs.SourceLemmas.{at-source, loaded-at, sources_from}
 use Rattle.links.proofs.ShownLemmas.{IsShown, shown_in}
 
 ---------------------------------------------------------------- links inserted

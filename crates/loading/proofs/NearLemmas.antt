@@ -30,13 +30,13 @@ use Rattle.resource_docs.specs.declared.doc.Doc.{Doc}
 use Rattle.resource_docs.specs.declared.doc.DocObject.{DocObject}
 use Rattle.loading.specs.Laws.{IsRoomFor}
 use Rattle.loading.specs.LoadEdits.{near_edits, put_at, root_puts, value_puts}
-use Rattle.loading.specs.Loading.{contents_end, loaded, object_end, of_contents, of_object, roots_loaded}
+use Rattle.loading.specs.Loading.{contents_end, loaded, loaded_value, object_end, of_contents, of_object, roots_loaded}
 use Rattle.loading.specs.Pairs.{is_near}
 use Rattle.loading.proofs.GainLemmas.{AreGood, IsBefore, IsGood, IsMade, gains, plan_made}
 use Rattle.loading.proofs.PairLemmas.{all-more, numbered-all, all-append, all-at, all-flat_map, all-map}
 use Rattle.loading.proofs.SideLemmas.{IsFarSide, IsNearSide, contents-shape, near-side, sides}
 use Rattle.loading.proofs.SoundLemmas.{at-map, AreSoundContents, IsSort, IsSound, IsSoundContent, has-content, map-at}
-use Rattle.loading.proofs.SourceLemmas.{ascending-distinct, at-loaded, loaded-at, loaded-distinct, loaded-same, loaded-value-object, loaded_value, loaded_values, same-object, sources-ascending, sources-few, sources_from}
+use Rattle.loading.proofs.SourceLemmas.{ascending-distinct, at-loaded, loaded-at, loaded-distinct, loaded-same, loaded-value-object, loaded_values, same-object, sources-ascending, sources-few, sources_from}
 use Rattle.loading.proofs.TotalLemmas.{IsElsewhere, near-far, near-none, near-own, root-gain-none, root-gain-own}
 
 pub not-contents : (m : Metamodel) (n : ℕ) (k : ResourceNo) (o : ObjectNo) (f : FeatureNo) → object_end n o f ≡ contents_end m k → ⊥

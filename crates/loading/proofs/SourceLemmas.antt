@@ -15,7 +15,7 @@ use Rattle.mm_types.specs.declared.value.Value.TheVariants as value
 use Rattle.links.specs.LegalSets.{IsDistinct}
 use Rattle.resource_docs.specs.declared.doc.Content.{Content}
 use Rattle.loading.specs.LoadEdits.{is_ascending_from}
-use Rattle.loading.specs.Loading.{loaded}
+use Rattle.loading.specs.Loading.{loaded, loaded_value}
 use Rattle.loading.proofs.PairLemmas.{Apart, all-more, numbered-at}
 use Rattle.loading.proofs.SoundLemmas.{at-map, map-at, HaveOtherFeatures, any-at, at-flat_map, at-numbered, flat_map-at}
 
@@ -66,11 +66,7 @@ one-content {Y = Y} f g (c ∷ cs) nil apart =
 
 ---------------------------------------------------------------- objects by their new numbers
 
--- a value, an object by the number that it gets
-abbrev pub loaded_value : ℕ → Value → Value
-loaded_value n (value.Object b) = value.Object (loaded n b)
-loaded_value n v = v
-
+-- values, objects by the numbers that they get
 abbrev pub loaded_values : ℕ → List Value → List Value
 loaded_values n vs = map (loaded_value n) vs
 

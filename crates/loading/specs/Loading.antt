@@ -29,6 +29,11 @@ use Rattle.resource_docs.specs.Read.{values_in}
 abbrev pub loaded : ℕ → ObjectNo → ObjectNo
 loaded n o = record { 0 = n + o.0 }
 
+-- a value, an object by the number that it gets
+abbrev pub loaded_value : ℕ → Value → Value
+loaded_value n (value.Object b) = value.Object (loaded n b)
+loaded_value n v = v
+
 abbrev pub roots_loaded : ℕ → Doc → List Value
 roots_loaded n doc = map (λ o. value.Object (loaded n o)) doc.roots
 

@@ -1,0 +1,82 @@
+-- What can be read of a model once a document is loaded into a resource: of the new objects and the roots, what the document says; of all
+-- else, what was there before.
+use Rattle.std.specs.Prelude.{◌≡◌, ◌+◌, ◌<◌, ℕ, ◌&&◌, true, false, not, [], ◌∷◌, length, map, Some, slice_get}
+use Rattle.mm_types.specs.Lookups as lookups
+use Rattle.mm_types.specs.Resolved.{Metamodel}
+use Rattle.mm_types.specs.Same.{is_nil}
+use Rattle.mm_types.specs.Shapes.{is_containment, shape}
+use Rattle.mm_types.specs.declared.end.End.{End}
+use Rattle.mm_types.specs.declared.numbers.FeatureNo.{FeatureNo}
+use Rattle.mm_types.specs.declared.numbers.Node.{Node}
+use Rattle.mm_types.specs.declared.numbers.Node.TheVariants as node
+use Rattle.mm_types.specs.declared.numbers.ObjectNo.{ObjectNo}
+use Rattle.mm_types.specs.declared.numbers.ResourceNo.{ResourceNo}
+use Rattle.mm_types.specs.declared.value.Value.TheVariants as value
+use Rattle.models.specs.Model.{Model, attribute_values, reading}
+use Rattle.models.specs.Reading.{Reading}
+use Rattle.resource_docs.specs.Read.{values_in}
+use Rattle.resource_docs.specs.declared.doc.Doc.{Doc}
+use Rattle.loading.specs.Loading.{contents_end, loaded, loaded_value, object_end, roots_loaded}
+use Rattle.loading.specs.Typed.{class_in}
+use Rattle.handshake.specs.declared.change.Change.TheVariants.{Load}
+use Rattle.handshake.specs.Effects.{after}
+use Rattle.handshake.specs.Laws.{OfAllowed, comes_with}
+use Rattle.handshake.specs.Plans.{HasReadDocument}
+
+-- a feature of an object of a document is written with another object of it
+abbrev pub IsWrittenWith : Doc → ObjectNo → FeatureNo → ObjectNo → Type 0
+IsWrittenWith doc o f b = (i : ℕ) × (slice_get (values_in doc o f) i ≡ Some (value.Object b))
+
+-- f is a container reference, and c is its opposite
+abbrev pub IsContainer : Metamodel → FeatureNo → FeatureNo → Type 0
+IsContainer m f c = (lookups.is_container m f ≡ true) × ((shape m f).opposite ≡ Some c)
+
+-- the objects of a document, by the numbers that follow on those before: r is read before, and t after
+pub record HasObjectsOf (r : Reading) (doc : Doc) (t : Reading) : Type 0 where
+  pub next : t.next ≡ r.next + length doc.objects
+  -- each has its class
+  pub classes : (o : ObjectNo) → t.class (loaded r.next o) ≡ class_in doc o
+  -- an attribute has what is written, and else its default
+  pub attributes : (o : ObjectNo) (f : FeatureNo) → (shape r.metamodel f).is_reference ≡ false
+      → t.values (object_end r.next o f) ≡ attribute_values (shape r.metamodel f) (values_in doc o f)
+  -- a single unsettable attribute is set where it is written; nothing else has the flag
+  pub flags : (o : ObjectNo) (f : FeatureNo)
+      → t.flag (object_end r.next o f) ≡ ((shape r.metamodel f).is_unsettable && ((shape r.metamodel f).is_single && not (is_nil (values_in doc o f))))
+  -- a reference that is no container reference has what is written, in that order: objects by their new numbers, and proxies
+  pub references : (o : ObjectNo) (f : FeatureNo) → (shape r.metamodel f).is_reference ≡ true → lookups.is_container r.metamodel f ≡ false
+      → t.values (object_end r.next o f) ≡ map (loaded_value r.next) (values_in doc o f)
+  -- a container reference has the object whose containment is written with its own object, and nothing where none is
+  pub containers : (o b : ObjectNo) (f c : FeatureNo) → IsContainer r.metamodel f c → IsWrittenWith doc b c o
+      → t.values (object_end r.next o f) ≡ value.Object (loaded r.next b) ∷ []
+  pub no_containers : (o : ObjectNo) (f c : FeatureNo) → IsContainer r.metamodel f c → ((b : ObjectNo) → IsWrittenWith doc b c o → ⊥)
+      → t.values (object_end r.next o f) ≡ []
+  -- what a containment is written with is held there
+  pub holders : (o b : ObjectNo) (f : FeatureNo) → is_containment r.metamodel f ≡ true → IsWrittenWith doc o f b
+      → t.holder (node.Object (loaded r.next b)) ≡ Some (object_end r.next o f)
+
+-- the roots of a document, in a resource
+pub record HasRootsOf (r : Reading) (k : ResourceNo) (doc : Doc) (t : Reading) : Type 0 where
+  -- they stand in their order
+  pub contents : t.values (contents_end r.metamodel k) ≡ roots_loaded r.next doc
+  -- each is held there
+  pub holders : (i : ℕ) (o : ObjectNo) → slice_get doc.roots i ≡ Some o → t.holder (node.Object (loaded r.next o)) ≡ Some (contents_end r.metamodel k)
+
+-- all else is as it was: the metamodel, the URIs, and what can be read of each node with no new number, but for the roots of the resource
+pub record IsElseAsBefore (r : Reading) (k : ResourceNo) (doc : Doc) (t : Reading) : Type 0 where
+  pub metamodel : t.metamodel ≡ r.metamodel
+  pub uris : t.uris ≡ r.uris
+  pub classes : (o : ObjectNo) → o.0 < r.next → t.class o ≡ r.class o
+  pub values : (d : End) → comes_with r (Load k doc) d.node ≡ false → (contents_end r.metamodel k ≡ d → ⊥) → t.values d ≡ r.values d
+  pub flags : (d : End) → comes_with r (Load k doc) d.node ≡ false → t.flag d ≡ r.flag d
+  pub holders : (n : Node) → comes_with r (Load k doc) n ≡ false → t.holder n ≡ r.holder n
+  pub above : (n : Node) → comes_with r (Load k doc) n ≡ false → t.above n ≡ r.above n
+
+-- a document was loaded into a resource
+pub record IsLoaded (r : Reading) (k : ResourceNo) (doc : Doc) (t : Reading) : Type 0 where
+  pub objects : HasObjectsOf r doc t
+  pub roots : HasRootsOf r k doc t
+  pub others : IsElseAsBefore r k doc t
+
+-- the load of a document that reading gives leaves what the document says
+abbrev pub LoadsEnds : Model → ResourceNo → Doc → Type 0
+LoadsEnds s k doc = OfAllowed (λ s c. HasReadDocument s.metamodel c → IsLoaded (reading s) k doc (reading (after s c))) s (Load k doc)
