@@ -20,13 +20,14 @@ fn the_file_of_the_metamodel_is_read_from_the_words(rt: HostRuntime) -> Result<(
 #[test]
 fn each_option_is_read_from_the_words(rt: HostRuntime) -> Result<(), Fail> {
     let words = [
-        "mmrepo", "--meta", "a.json", "--number", "--script", "b.txt", "--strict",
+        "mmrepo", "--meta", "a.json", "--number", "--script", "b.txt", "--strict", "--live",
     ];
     let options = options_of(rt.alloc(), &words)?;
     assert_eq!(rt; options.meta, "a.json");
     assert_eq!(rt; options.script, Some("b.txt"));
     assert!(rt; options.dress.number && options.strict);
     assert!(rt; !options.dress.echo && !options.dress.stop);
+    assert!(rt; options.live && !options.explain);
     Ok(())
 }
 

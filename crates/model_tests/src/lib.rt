@@ -37,6 +37,8 @@ mod library;
 #[cfg(test)]
 mod list_calls;
 #[cfg(test)]
+mod live_runs;
+#[cfg(test)]
 mod no_links;
 #[cfg(test)]
 mod notices;

@@ -5,3 +5,4 @@ mod DressLemmas
 mod ScriptLemmas
 mod LostLemmas
 mod BatchLemmas
+mod LiveLemmas

@@ -7,7 +7,7 @@ use Rattle.std.specs.Io.KnownBytes.{Appends}
 use Rattle.std.proofs.KnownBytes.{Appends-nil, Appends-trans}
 use Rattle.script_lines.specs.Forms.{form}
 use Rattle.script_lines.specs.Lines.{lines}
-use Rattle.script_program.specs.Batch.{PrintsDressed, PrintsDressedFront, RunsFirst}
+use Rattle.script_program.specs.Batch.{AnswersFront, AnswersLine, PrintsDressed, PrintsDressedFront, RunsFirst}
 use Rattle.script_program.specs.Dressed.{dressed_from, dressed_line, is_fault, is_stopped, kept}
 use Rattle.script_program.specs.Script.{RunsLine, RunsLines}
 use Rattle.script_program.specs.Session.{Session}
@@ -23,7 +23,7 @@ use Rattle.script_program.proofs.DressLemmas.{dressed_push, kept_all, kept_last,
 
 -- ---- one more line
 
-runs_more : (s : Session) (ls : List (List ℕ)) (ps : List Printed) (u : Session) (l : List ℕ) (p : Printed) (t : Session)
+pub runs_more : (s : Session) (ls : List (List ℕ)) (ps : List Printed) (u : Session) (l : List ℕ) (p : Printed) (t : Session)
     → RunsLines s ls ps u → RunsLine u (form l) p t → RunsLines s (ls ++ l ∷ []) (ps ++ p ∷ []) t
 runs_more s [] [] u l p t h one = (t, subst (λ (q : Session). RunsLine q (form l) p t) h one, refl)
 runs_more s [] (q ∷ ps) u l p t h one = absurd h
@@ -37,14 +37,14 @@ runs_length s t [] (p ∷ ps) h = absurd h
 runs_length s t (l ∷ ls) [] h = absurd h
 runs_length s t (l ∷ ls) (p ∷ ps) h = let rest = runs_length h.0 t ls ps h.2 in omega (arith, rest)
 
-within_more : (t : Turn) (s : Summary) (n : ℕ) → IsWithin s n → IsWithin (with_turn s t) (n + 1)
+pub within_more : (t : Turn) (s : Summary) (n : ℕ) → IsWithin s n → IsWithin (with_turn s t) (n + 1)
 within_more Blank s n w = record { lines = omega (arith, w.lines); refused = omega (arith, w.refused); bad = omega (arith, w.bad); no_memory = omega (arith, w.no_memory) }
 within_more Bad s n w = record { lines = omega (arith, w.lines); refused = omega (arith, w.refused); bad = omega (arith, w.bad); no_memory = omega (arith, w.no_memory) }
 within_more Done s n w = record { lines = omega (arith, w.lines); refused = omega (arith, w.refused); bad = omega (arith, w.bad); no_memory = omega (arith, w.no_memory) }
 within_more Refused s n w = record { lines = omega (arith, w.lines); refused = omega (arith, w.refused); bad = omega (arith, w.bad); no_memory = omega (arith, w.no_memory) }
 within_more Lost s n w = record { lines = omega (arith, w.lines); refused = omega (arith, w.refused); bad = omega (arith, w.bad); no_memory = omega (arith, w.no_memory) }
 
-summary_of_push : (ps : List Printed) (p : Printed) → summary_of (ps ++ p ∷ []) ≡ with_turn (summary_of ps) p.turn
+pub summary_of_push : (ps : List Printed) (p : Printed) → summary_of (ps ++ p ∷ []) ≡ with_turn (summary_of ps) p.turn
 summary_of_push ps p = ap (fold with_turn no_lines) (map-append (λ (q : Printed). q.turn) ps (p ∷ [])) ∙ fold-append with_turn no_lines (map (λ (q : Printed). q.turn) ps) (p.turn ∷ [])
 
 -- Some first lines were run, and the rest of the bytes is what follows them.
@@ -154,34 +154,44 @@ module _ (d : Dress) (z : Session) (bytes : List ℕ) where
       → GoesOn d z bytes rest s number printed summary old new → PrintsDressedFront d z old new bytes
   paused rest s number printed summary old new on = front_of rest s number printed summary old new on.so_far (front_whole old new _ on.written)
 
-  module _ (rest more line : List ℕ) (s u : Session) (number : ℕ) (printed : List Printed) (summary : Summary) (p : Printed) (old mid new : Option (List ℕ)) where
+  module _ (rest more line : List ℕ) (s : Session) (number : ℕ) (printed : List Printed) (summary : Summary) (old mid new : Option (List ℕ)) where
     -- one more line is run, and the run has not ended behind it
-    pub next : GoesOn d z bytes rest s number printed summary old mid → lines rest ≡ line ∷ lines more → length more < length rest → RunsLine s (form line) p u
-        → Appends mid new (dressed_line d (number + 1) line p) → (d.stop && is_fault p.turn) ≡ false
-        → GoesOn d z bytes more u (number + 1) (printed ++ p ∷ []) (with_turn summary p.turn) old new
+    pub next : (u : Session) (turn : Turn) → GoesOn d z bytes rest s number printed summary old mid → lines rest ≡ line ∷ lines more → length more < length rest
+        → (one : AnswersLine d (number + 1) line s mid new turn u) → (d.stop && is_fault turn) ≡ false
+        → GoesOn d z bytes more u (number + 1) (printed ++ one.printed ∷ []) (with_turn summary turn) old new
     unfolding one_more
-    next on cut shorter one wrote go = record {
-      so_far = one_more d z bytes rest more line s u number printed summary p on.so_far on.going cut shorter one;
-      going = stopped_last d printed p on.going ∙ go;
-      written = subst (Appends old new) (sym (line_behind d z bytes rest s number printed summary line p on.so_far)) (Appends-trans old mid new _ _ on.written wrote);
-    }
+    next u turn on cut shorter one go =
+        let p = one.printed in
+        let is : p.turn ≡ turn = one.counted in
+        let grown = one_more d z bytes rest more line s u number printed summary p on.so_far on.going cut shorter one.ran in
+        let goes : GoesOn d z bytes more u (number + 1) (printed ++ p ∷ []) (with_turn summary p.turn) old new = record {
+          so_far = grown;
+          going = stopped_last d printed p on.going ∙ (ap (λ t. d.stop && is_fault t) is ∙ go);
+          written = subst (Appends old new) (sym (line_behind d z bytes rest s number printed summary line p on.so_far)) (Appends-trans old mid new _ _ on.written one.written);
+        } in
+        subst (λ t. GoesOn d z bytes more u (number + 1) (printed ++ p ∷ []) (with_turn summary t) old new) is goes
 
     -- it ends the run
-    pub ended : GoesOn d z bytes rest s number printed summary old mid → lines rest ≡ line ∷ lines more → length more < length rest → RunsLine s (form line) p u
-        → Appends mid new (dressed_line d (number + 1) line p) → (d.stop && is_fault p.turn) ≡ true
-        → PrintsDressed d z old new bytes (with_turn summary p.turn)
+    pub ended : (u : Session) (turn : Turn) → GoesOn d z bytes rest s number printed summary old mid → lines rest ≡ line ∷ lines more → length more < length rest
+        → AnswersLine d (number + 1) line s mid new turn u → (d.stop && is_fault turn) ≡ true
+        → PrintsDressed d z old new bytes (with_turn summary turn)
     unfolding one_more
-    ended on cut shorter one wrote stop =
-        whole_of more u (number + 1) (printed ++ p ∷ []) (with_turn summary p.turn) old new
-        (one_more d z bytes rest more line s u number printed summary p on.so_far on.going cut shorter one)
-        (inr (stopped_last d printed p on.going ∙ stop))
-        (subst (Appends old new) (sym (line_behind d z bytes rest s number printed summary line p on.so_far)) (Appends-trans old mid new _ _ on.written wrote))
+    ended u turn on cut shorter one stop =
+        let p = one.printed in
+        let is : p.turn ≡ turn = one.counted in
+        let whole = whole_of more u (number + 1) (printed ++ p ∷ []) (with_turn summary p.turn) old new
+        (one_more d z bytes rest more line s u number printed summary p on.so_far on.going cut shorter one.ran)
+        (inr (stopped_last d printed p on.going ∙ (ap (λ t. d.stop && is_fault t) is ∙ stop)))
+        (subst (Appends old new) (sym (line_behind d z bytes rest s number printed summary line p on.so_far)) (Appends-trans old mid new _ _ on.written one.written)) in
+        subst (λ t. PrintsDressed d z old new bytes (with_turn summary t)) is whole
 
-    -- its answer is written in part
-    pub stopped : GoesOn d z bytes rest s number printed summary old mid → lines rest ≡ line ∷ lines more → length more < length rest → RunsLine s (form line) p u
-        → AppendsFront mid new (dressed_line d (number + 1) line p) → PrintsDressedFront d z old new bytes
+    -- its answer is written in part, or nothing of it
+    pub stopped : GoesOn d z bytes rest s number printed summary old mid → lines rest ≡ line ∷ lines more → length more < length rest
+        → (new ≡ mid) ⊎ AnswersFront d (number + 1) line s mid new → PrintsDressedFront d z old new bytes
     unfolding one_more
-    stopped on cut shorter one part =
-        front_of more u (number + 1) (printed ++ p ∷ []) (with_turn summary p.turn) old new
-        (one_more d z bytes rest more line s u number printed summary p on.so_far on.going cut shorter one)
-        (subst (AppendsFront old new) (sym (line_behind d z bytes rest s number printed summary line p on.so_far)) (front_after old mid new _ _ on.written part))
+    stopped on cut shorter (inl same) = subst (λ w. PrintsDressedFront d z old w bytes) (sym same) (paused rest s number printed summary old mid on)
+    stopped on cut shorter (inr one) =
+        let p = one.printed in
+        front_of more one.after (number + 1) (printed ++ p ∷ []) (with_turn summary p.turn) old new
+        (one_more d z bytes rest more line s one.after number printed summary p on.so_far on.going cut shorter one.ran)
+        (subst (AppendsFront old new) (sym (line_behind d z bytes rest s number printed summary line p on.so_far)) (front_after old mid new _ _ on.written one.written))

@@ -2,13 +2,15 @@
 use Rattle.std.specs.Prelude.{◌≡◌, ◌≤◌, ◌⊎◌, ℕ, true, List, [], ◌++◌, length, Option, IfSome}
 use Rattle.std.specs.Io.KnownBytes.{Appends}
 use Rattle.mm_types.specs.declared.limits.TheConstants.{INPUT_BYTES}
+use Rattle.script_lines.specs.Forms.{form}
 use Rattle.script_lines.specs.Lines.{lines}
-use Rattle.script_program.specs.Dressed.{dressed, is_stopped, kept}
-use Rattle.script_program.specs.Script.{RunsLines}
+use Rattle.script_program.specs.Dressed.{dressed, dressed_line, is_stopped, kept}
+use Rattle.script_program.specs.Script.{RunsLine, RunsLines}
 use Rattle.script_program.specs.Session.{Session}
 use Rattle.script_program.specs.Turns.{Printed, summary_of}
 use Rattle.script_program.specs.declared.dress.Dress.{Dress}
 use Rattle.script_program.specs.declared.summary.Summary.{Summary}
+use Rattle.script_program.specs.declared.turn.Turn.{Turn}
 use Rattle.script_streams.specs.Streams.{AppendsFront}
 
 -- The first lines of a script were run, none of them behind the end of the run, and the others were not.
@@ -16,6 +18,20 @@ pub record RunsFirst (d : Dress) (s : Session) (bytes : List ℕ) (first rest : 
   pub lines_are : lines bytes ≡ first ++ rest
   pub ran : RunsLines s first printed t
   pub none_behind : kept d printed ≡ printed
+
+-- A line was run, and what it prints was written as it is dressed.
+pub record AnswersLine (d : Dress) (number : ℕ) (line : List ℕ) (s : Session) (old new : Option (List ℕ)) (turn : Turn) (t : Session) : Type 0 where
+  pub printed : Printed
+  pub ran : RunsLine s (form line) printed t
+  pub counted : printed.turn ≡ turn
+  pub written : Appends old new (dressed_line d number line printed)
+
+-- A line was run, and a front of what it prints was written.
+pub record AnswersFront (d : Dress) (number : ℕ) (line : List ℕ) (s : Session) (old new : Option (List ℕ)) : Type 0 where
+  pub printed : Printed
+  pub after : Session
+  pub ran : RunsLine s (form line) printed after
+  pub written : AppendsFront old new (dressed_line d number line printed)
 
 -- All lines of a script were run, or those up to and including the first that ends the run.
 pub record RunsBatch (d : Dress) (s : Session) (bytes : List ℕ) (first : List (List ℕ)) (printed : List Printed) (t : Session) : Type 0 where

@@ -7,5 +7,6 @@ pub mod Turns
 pub mod Dressed
 pub mod Script
 pub mod Batch
+pub mod Live
 pub mod Lost
 pub mod Summary

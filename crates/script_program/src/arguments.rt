@@ -4,7 +4,7 @@ ghost use Rattle.clap.specs.Words.{app_of, first_of, found_of, kind_of, matches_
 ghost use Rattle.script_program.specs.CommandLine.{AreGiven, flag as flag_rule, is_set as sets, meta as meta_rule, program, script as script_rule, texts};
 
 use crate::dress::Dress;
-use crate::help::{ABOUT, EXPLAINED, VERSION};
+use crate::help::{ABOUT, ECHO, EXPLAIN, EXPLAINED, LIVE, NUMBER, STOP, STRICT, VERSION};
 use clap::error::ErrorKind;
 use clap::{Arg, ArgAction, ArgMatches, Command, Error};
 use std::alloc::{AllocError, Global};
@@ -20,6 +20,10 @@ pub struct Options<'a> {
     pub dress: Dress,
     /// Whether a refused or bad line gives a status of its own, `--strict`.
     pub strict: bool,
+    /// Whether each line is answered before the next is read, `--live`.
+    pub live: bool,
+    /// Whether a refusal says which names and numbers it is about, `--explain`.
+    pub explain: bool,
 }
 
 /// `--meta FILE`, which is required.
@@ -68,26 +72,12 @@ fn command<'a>(alloc: Global) -> Result<Command<'a>, AllocError>
         .after_help(EXPLAINED)
         .arg(meta(alloc))?
         .arg(script(alloc))?
-        .arg(flag(
-            alloc,
-            "echo",
-            "Writes each line before its answer, as `> LINE`",
-        ))?
-        .arg(flag(
-            alloc,
-            "number",
-            "Begins each line of an answer with the number of its line, as `7: ok`",
-        ))?
-        .arg(flag(
-            alloc,
-            "stop",
-            "Ends the run behind the first line that is refused or bad",
-        ))?
-        .arg(flag(
-            alloc,
-            "strict",
-            "Exits with status 4 if a line was refused or bad",
-        ))
+        .arg(flag(alloc, "echo", ECHO))?
+        .arg(flag(alloc, "number", NUMBER))?
+        .arg(flag(alloc, "stop", STOP))?
+        .arg(flag(alloc, "strict", STRICT))?
+        .arg(flag(alloc, "live", LIVE))?
+        .arg(flag(alloc, "explain", EXPLAIN))
 }
 
 /// Whether the words set an option that takes no value.
@@ -119,6 +109,8 @@ pub fn options_of<'a>(alloc: Global, words: &'a [&'a str]) -> Result<Options<'a>
             stop: is_set(&matches, "stop"),
         },
         strict: is_set(&matches, "strict"),
+        live: is_set(&matches, "live"),
+        explain: is_set(&matches, "explain"),
     })
 }
 

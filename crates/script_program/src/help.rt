@@ -7,10 +7,29 @@ pub(crate) const VERSION: &str = "1.0";
 pub(crate) const ABOUT: &str =
     "Runs a script over a repository of objects whose classes a metamodel gives.";
 
+/// What `--help` says of `--echo`.
+pub(crate) const ECHO: &str = "Writes each line before its answer, as `> LINE`";
+
+/// What `--help` says of `--number`.
+pub(crate) const NUMBER: &str =
+    "Begins each line of an answer with the number of its line, as `7: ok`";
+
+/// What `--help` says of `--stop`.
+pub(crate) const STOP: &str = "Ends the run behind the first line that is refused or bad";
+
+/// What `--help` says of `--strict`.
+pub(crate) const STRICT: &str = "Exits with status 4 if a line was refused or bad";
+
+/// What `--help` says of `--live`.
+pub(crate) const LIVE: &str =
+    "Answers each line before it reads the next, with an empty line behind";
+
+/// What `--help` says of `--explain`.
+pub(crate) const EXPLAIN: &str = "Says behind a refusal what it is about";
+
 /// What `--help` says behind the options.
 pub(crate) const EXPLAINED: &str = "\
-The metamodel is a JSON document of classes, their attributes and references. The script is read
-from standard input or a file, and what each of its lines answers is printed on standard output:
+The metamodel is a JSON document. What each line of the script answers is printed:
 
   new Book                 makes an object of a class: its number, as #0
   set #0 name \"Emma\"       sets a feature of one value: ok
@@ -35,7 +54,7 @@ from standard input or a file, and what each of its lines answers is printed on 
   save r0                  the document of a resource, in one line
   load r0 {\"format\":2,\"roots\":[]}  makes what a document says in an empty resource: loaded 0
   resolve #2 likes 0       puts the object that a proxy finds in its place: #1
-  attach A1 #0 flat        attaches an adapter, one of A1 to A8, to be told of changes: ok
+  attach A1 #0 flat        attaches an adapter, A1 to A8 (--live: A1000), to be told of changes: ok
   attach A2 r0 deep        attaches one that is told of changes below its target too: ok
   detach A1                detaches an adapter: ok, its last notice, and what it has heard
   seen A1                  how many notices an adapter was told and keeps: seen 3 kept 3

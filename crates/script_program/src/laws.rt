@@ -1,8 +1,9 @@
 //! Laws of the definitions, each the contract of a function that does nothing.
-ghost use Rattle.std.specs.Prelude.{◌≡◌, ◌++◌, [], List, ℕ, length, true};
+ghost use Rattle.std.specs.Prelude.{◌≡◌, ◌++◌, [], List, ℕ, length, map, true};
 ghost use Rattle.script_lines.specs.Lines.{lines};
 ghost use Rattle.script_program.specs.Batch.{RunsBatch};
 ghost use Rattle.script_program.specs.Dressed.{dressed, plain, until_fault};
+ghost use Rattle.script_program.specs.Live.{live_text, with_empty_line};
 ghost use Rattle.script_program.specs.Lost.{AreCommands, lost_lines, script};
 ghost use Rattle.script_program.specs.Session.{Session};
 ghost use Rattle.script_program.specs.Script.{RunsLines};
@@ -41,4 +42,11 @@ pub fn a_plain_script_is_its_text()
     ensures whole { (ls : List (List ℕ)) (printed : List Printed) → length ls ≡ length printed → dressed plain ls printed ≡ texts printed }
     ensures stop { (ls : List (List ℕ)) (printed : List Printed) → length ls ≡ length printed
         → dressed (record plain { stop = true }) ls printed ≡ texts (until_fault printed) }
+{}
+
+/// What is written for a live run is made of the same answers as the text of the script: each has an empty line behind.
+pub fn a_live_run_writes_the_script_with_empty_lines()
+    ensures texts { (printed : List Printed) → live_text printed ≡ texts (map with_empty_line printed) }
+    ensures script { (s t : Session) (bytes : List ℕ) (printed : List Printed) → RunsLines s (lines bytes) printed t
+        → live_text (script s bytes (lost_lines printed)) ≡ live_text printed }
 {}

@@ -9,6 +9,7 @@ mod dressing;
 mod help;
 pub mod laws;
 mod line;
+mod live;
 mod pool;
 mod request;
 mod script;
@@ -17,6 +18,7 @@ mod turn;
 
 pub use arguments::{Options, meta_file, options_of};
 pub use dress::Dress;
+pub use live::run_live;
 pub use script::{run, run_dressed};
 pub use script_lines::parse_line;
 pub use script_streams::RunFault;

@@ -1,8 +1,8 @@
 //! A script is run.
-ghost use Rattle.std.specs.Prelude.{◌≡◌, ◌≤◌, ◌<◌, IfErr, IfOk, IfSome, IsErrOf, OnErr, OnOk, length};
+ghost use Rattle.std.specs.Prelude.{◌≡◌, ◌≤◌, ◌<◌, ◌⊎◌, IfErr, IfOk, IfSome, IsErrOf, OnErr, OnOk, length};
 ghost use Rattle.std.specs.Io.KnownBytes.{IsAtEnd, Keeps};
 ghost use Rattle.script_streams.specs.Faults.{IsReadOrTooLong, IsWriteOrMemory};
-ghost use Rattle.script_program.specs.Batch.{PrintsDressed, PrintsDressedFront, PrintsInputDressed, PrintsInputDressedFront};
+ghost use Rattle.script_program.specs.Batch.{AnswersFront, AnswersLine, PrintsDressed, PrintsDressedFront, PrintsInputDressed, PrintsInputDressedFront};
 ghost use Rattle.script_program.specs.Script.{PrintsInput, PrintsInputFront};
 ghost use Rattle.script_program.specs.Session.{first_session, session};
 
@@ -11,6 +11,7 @@ use crate::dressing::write_dressed;
 use crate::line::run_line;
 use crate::pool::Pool;
 use crate::summary::Summary;
+use crate::turn::Turn;
 use adapters::Adapter;
 use links::LinkStore;
 use mm_meta::Meta;
@@ -21,6 +22,33 @@ use script_output::Output;
 use script_streams::{RunFault, read_all};
 use std::alloc::Global;
 use std::io::{Read, Write};
+
+/// Runs a line of a script, and writes what it prints as it is dressed; the output is room for that.
+///
+/// Errs with `Memory` where memory is refused to the run itself, and with `Write` where a write errs or takes no byte.
+pub(crate) fn answer_line<W: Write, L: LinkStore, A: Adapter>(
+    alloc: Global,
+    writer: &mut W,
+    repository: &mut Repository<L, A>,
+    pool: &mut Pool<A>,
+    output: &mut Output,
+    dress: Dress,
+    number: u64,
+    line: &[u8],
+) -> Result<Turn, RunFault>
+    ensures ok { IfOk result (λ t. AnswersLine dress number line.now (session repository.old pool.old) (W.contents writer.old) (W.contents writer.new) t
+        (session repository.new pool.new)) }
+    ensures err { OnErr result ((W.contents writer.new ≡ W.contents writer.old)
+        ⊎ AnswersFront dress number line.now (session repository.old pool.old) (W.contents writer.old) (W.contents writer.new)) }
+    ensures kind { IfErr result (λ e. IsWriteOrMemory e) }
+{
+    output.clear();
+    let Ok(turn) = run_line(alloc, repository, pool, output, line) else {
+        return Err(RunFault::Memory);
+    };
+    write_dressed(writer, dress, number, line, turn, output.as_bytes())?;
+    Ok(turn)
+}
 
 /// Runs the lines of a script in turn, and writes what each prints as it is dressed.
 fn run_lines<W: Write, L: LinkStore, A: Adapter>(
@@ -41,12 +69,17 @@ fn run_lines<W: Write, L: LinkStore, A: Adapter>(
     let mut number = 0;
     let mut rest = input;
     'lines: while let Some((line, more)) = next_line(rest) {
-        output.clear();
-        let Ok(turn) = run_line(alloc, repository, pool, &mut output, line) else {
-            return Err(RunFault::Memory);
-        };
         number += 1;
-        write_dressed(writer, dress, number, line, turn, output.as_bytes())?;
+        let turn = answer_line(
+            alloc,
+            writer,
+            repository,
+            pool,
+            &mut output,
+            dress,
+            number,
+            line,
+        )?;
         summary = summary.with(turn);
         if dress.ends_at(turn) {
             return Ok(summary);

@@ -1,10 +1,9 @@
 //! The counts of a run.
-ghost use Rattle.std.specs.Prelude.{◌≡◌};
+ghost use Rattle.std.specs.Prelude.{◌≡◌, ◌-◌, ◌^◌};
 ghost use Rattle.script_program.specs.Turns.{no_lines, with_turn};
 ghost use Rattle.script_program.specs.Summary.{IsWithin};
 
 use crate::turn::Turn;
-use mm_types::limits::INPUT_BYTES;
 
 /// The counts of a run that came to its end.
 #[derive(Clone, Copy, Debug, PartialEq, Eq)]
@@ -33,7 +32,7 @@ impl Summary {
 
     /// The counts after one more line.
     pub(crate) fn with(self, turn: Turn) -> Self
-        requires { IsWithin self INPUT_BYTES }
+        requires { IsWithin self (2 ^ 64 - 2) }
         ensures { result ≡ with_turn self turn }
     {
         let refused = matches!(turn, Turn::Refused | Turn::Lost);

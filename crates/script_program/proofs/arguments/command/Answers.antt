@@ -14,4 +14,6 @@ returns c =
     let three = c.in_ok-arg-3.ensures.shape c.flag.ensures.local ∙ ap₂ with_rule two c.flag.ensures.rule in
     let four = c.in_ok-arg-4.ensures.shape c.flag-2.ensures.local ∙ ap₂ with_rule three c.flag-2.ensures.rule in
     let five = c.in_ok-arg-5.ensures.shape c.flag-3.ensures.local ∙ ap₂ with_rule four c.flag-3.ensures.rule in
-    IfOk-weaker c.arg-6.result _ _ (λ r h. h.shape c.flag-4.ensures.local ∙ ap₂ with_rule five c.flag-4.ensures.rule) c.arg-6.ensures
+    let six = c.in_ok-arg-6.ensures.shape c.flag-4.ensures.local ∙ ap₂ with_rule five c.flag-4.ensures.rule in
+    let seven = c.in_ok-arg-7.ensures.shape c.flag-5.ensures.local ∙ ap₂ with_rule six c.flag-5.ensures.rule in
+    IfOk-weaker c.arg-8.result _ _ (λ r h. h.shape c.flag-6.ensures.local ∙ ap₂ with_rule seven c.flag-6.ensures.rule) c.arg-8.ensures

@@ -32,4 +32,6 @@ returns-clause-value c =
       number = c.is_set-2.ensures ∙ ap (is_set (codes "number")) rows;
       stop = c.is_set-3.ensures ∙ ap (is_set (codes "stop")) rows;
       strict = c.is_set-4.ensures ∙ ap (is_set (codes "strict")) rows;
+      live = c.is_set-5.ensures ∙ ap (is_set (codes "live")) rows;
+      explain = c.is_set-6.ensures ∙ ap (is_set (codes "explain")) rows;
     }

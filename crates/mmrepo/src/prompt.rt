@@ -1,0 +1,41 @@
+//! Standard input, which asks for a line where a person types.
+use std::io;
+use std::io::{IsTerminal, Read, StdinLock};
+
+/// What stands on standard error while a line is waited for.
+const PROMPT: &str = "> ";
+
+/// Standard input. On a terminal each read asks for a line on standard error.
+#[derive(Drop)]
+pub(crate) struct Prompted<'a> {
+    rt: &'a HostRuntime,
+    stdin: StdinLock<'a>,
+    is_terminal: bool,
+}
+
+impl<'a> Prompted<'a> {
+    pub(crate) fn new(rt: &'a HostRuntime) -> Self {
+        let stdin = rt.reader();
+        let is_terminal = stdin.is_terminal();
+        Prompted {
+            rt,
+            stdin,
+            is_terminal,
+        }
+    }
+}
+
+impl Read for Prompted<'_> {
+    fn read(&mut self, buf: &mut [u8]) -> io::Result<usize> {
+        if !self.is_terminal {
+            return self.stdin.read(buf);
+        }
+        let _ = eprint!(self.rt; "{PROMPT}");
+        let read = self.stdin.read(buf);
+        if matches!(read, Ok(0)) {
+            // A prompt that nothing was typed behind is left as a line.
+            let _ = eprintln!(self.rt);
+        }
+        read
+    }
+}

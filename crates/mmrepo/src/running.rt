@@ -1,0 +1,126 @@
+//! The script is run.
+use crate::asked::Asked;
+use crate::prompt::Prompted;
+use crate::stop::Stop;
+use adapters::{Adapter, Counter, Recorder, Window};
+use link_store::SlotStore;
+use mm_meta::Meta;
+use script_program::{Dress, Summary, run_dressed, run_live};
+use script_streams::RunFault;
+use std::io::{BufReader, BufWriter, Printer, Read, Write};
+use std::{fs, io};
+
+/// How many boxes a run has.
+const BOXES: u32 = 8;
+
+/// How many boxes a live run has.
+const LIVE_BOXES: u32 = 1000;
+
+/// How many notices A8 can still count, its last one included.
+const LEFT: u64 = 2;
+
+/// The status behind a script of which a line was refused or bad, where that gives a status of its own.
+const FAULTY: u8 = 4;
+
+/// Standard output behind a buffer.
+fn writer_of(rt: &HostRuntime) -> Result<BufWriter<Printer<'_, HostRuntime>>, Stop> {
+    match BufWriter::new(rt.alloc(), io::writer(rt)) {
+        Ok(writer) => Ok(writer),
+        Err(_) => Err(Stop::Run(RunFault::Memory)),
+    }
+}
+
+/// Writes what is left in the buffer, whatever the outcome of a run.
+fn ended<W: Write>(writer: &mut W, outcome: Result<Summary, RunFault>) -> Result<Summary, Stop> {
+    let flushed = writer.flush();
+    let summary = outcome?;
+    if flushed.is_err() {
+        return Err(Stop::Run(RunFault::Write));
+    }
+    Ok(summary)
+}
+
+/// Runs the script that a reader gives over an empty repository.
+fn run_reader<R: Read, A: Adapter>(
+    rt: &HostRuntime,
+    reader: &mut R,
+    meta: Box<Meta>,
+    boxes: Vec<A>,
+    dress: Dress,
+) -> Result<Summary, Stop> {
+    let mut writer = writer_of(rt)?;
+    let meta = Box::into_inner(meta);
+    let outcome = run_dressed::<_, _, SlotStore, _>(
+        rt.alloc(),
+        reader,
+        &mut writer,
+        meta,
+        boxes,
+        dress,
+    );
+    ended(&mut writer, outcome)
+}
+
+/// Answers the lines that come on standard input, each before the next is read.
+fn run_dialogue<A: Adapter>(
+    rt: &HostRuntime,
+    meta: Box<Meta>,
+    boxes: Vec<A>,
+) -> Result<Summary, Stop> {
+    let Ok(mut reader) = BufReader::new(rt.alloc(), Prompted::new(rt)) else {
+        return Err(Stop::Run(RunFault::Memory));
+    };
+    let mut writer = writer_of(rt)?;
+    let meta = Box::into_inner(meta);
+    let outcome = run_live::<_, _, SlotStore, _>(rt.alloc(), &mut reader, &mut writer, meta, boxes);
+    ended(&mut writer, outcome)
+}
+
+/// Runs the script of a file, or that on standard input.
+fn run_script<A: Adapter>(
+    rt: &HostRuntime,
+    asked: &Asked,
+    meta: Box<Meta>,
+    boxes: Vec<A>,
+) -> Result<Summary, Stop> {
+    if asked.live {
+        return run_dialogue(rt, meta, boxes);
+    }
+    let Some(path) = &asked.script else {
+        return run_reader(rt, &mut rt.reader(), meta, boxes, asked.dress);
+    };
+    let Ok(mut file) = fs::open(rt, path.as_str()) else {
+        return Err(Stop::Run(RunFault::Read));
+    };
+    run_reader(rt, &mut file, meta, boxes, asked.dress)
+}
+
+/// Runs the script with its boxes: A1 to A4, which keep every notice, A5 and A6, which keep the last 2 and the last 100, A7,
+/// which counts, and A8, which can count two more. A live run has more that count, so that a long one keeps no notices.
+pub(crate) fn run_with_boxes(
+    rt: &HostRuntime,
+    asked: &Asked,
+    meta: Box<Meta>,
+) -> Result<Summary, Stop> {
+    let last = if asked.live { LIVE_BOXES } else { BOXES };
+    let mut boxes: Vec<Box<dyn Adapter>> = Vec::new(rt.alloc());
+    for no in 1..=last {
+        match no {
+            1..=4 => boxes.push(Box::new(rt.alloc(), Recorder::new(rt.alloc()))?)?,
+            5 => boxes.push(Box::new(rt.alloc(), Window::new(rt.alloc(), 2)?)?)?,
+            6 => boxes.push(Box::new(rt.alloc(), Window::new(rt.alloc(), 100)?)?)?,
+            8 => boxes.push(Box::new(rt.alloc(), Counter::starting_at(u64::MAX - LEFT))?)?,
+            _ => boxes.push(Box::new(rt.alloc(), Counter::new())?)?,
+        }
+    }
+    run_script(rt, asked, meta, boxes)
+}
+
+/// The status of a run that came to its end.
+pub(crate) fn status_of(summary: Summary, strict: bool) -> u8 {
+    if strict && (summary.refused > 0 || summary.bad > 0) {
+        FAULTY
+    } else {
+        0
+    }
+}

@@ -1,0 +1,87 @@
+//! Why the program stops, and what it says of that.
+use clap::error::ErrorKind;
+use mm_types::MetaFault;
+use script_streams::RunFault;
+use std::alloc::{AllocError, AllocFailed};
+
+/// Why the program stops before the end of the script.
+#[derive(Drop)]
+pub(crate) enum Stop {
+    /// The words are no arguments of the program, or ask for help.
+    Arguments(clap::Error),
+    /// An argument is not UTF-8.
+    NotUtf8,
+    /// An option is given that a live run does not take.
+    NotLive(&'static str),
+    /// The metamodel is refused.
+    Metamodel(MetaFault),
+    /// A stream failed, an input is too long, or memory was refused.
+    Run(RunFault),
+}
+
+impl From<AllocError> for Stop {
+    fn from(_error: AllocError) -> Stop {
+        Stop::Run(RunFault::Memory)
+    }
+}
+
+impl<T: Drop> From<AllocFailed<T>> for Stop {
+    fn from(_error: AllocFailed<T>) -> Stop {
+        Stop::Run(RunFault::Memory)
+    }
+}
+
+impl From<RunFault> for Stop {
+    fn from(fault: RunFault) -> Stop {
+        Stop::Run(fault)
+    }
+}
+
+impl From<MetaFault> for Stop {
+    fn from(fault: MetaFault) -> Stop {
+        match fault {
+            MetaFault::Memory => Stop::Run(RunFault::Memory),
+            _ => Stop::Metamodel(fault),
+        }
+    }
+}
+
+fn report_arguments(rt: &HostRuntime, error: clap::Error) -> u8 {
+    if matches!(error.kind(), ErrorKind::OutOfMemory) {
+        return report_run(rt, RunFault::Memory);
+    }
+    let is_help = !error.use_stderr();
+    let _ = error.print(rt);
+    if is_help { 0 } else { 2 }
+}
+
+fn report_not_utf8(rt: &HostRuntime) -> u8 {
+    let _ = eprintln!(rt; "error: an argument is not UTF-8");
+    2
+}
+
+fn report_not_live(rt: &HostRuntime, option: &str) -> u8 {
+    let _ = eprintln!(rt; "error: --live can't be used with {option}");
+    2
+}
+
+fn report_metamodel(rt: &HostRuntime, fault: MetaFault) -> u8 {
+    let _ = eprintln!(rt; "metamodel refused: {fault}");
+    1
+}
+
+fn report_run(rt: &HostRuntime, fault: RunFault) -> u8 {
+    let _ = eprintln!(rt; "run stopped: {fault}");
+    3
+}
+
+/// Says on standard error why the program stops, and answers its status.
+pub(crate) fn report(rt: &HostRuntime, stop: Stop) -> u8 {
+    match stop {
+        Stop::Arguments(error) => report_arguments(rt, error),
+        Stop::NotUtf8 => report_not_utf8(rt),
+        Stop::NotLive(option) => report_not_live(rt, option),
+        Stop::Metamodel(fault) => report_metamodel(rt, fault),
+        Stop::Run(fault) => report_run(rt, fault),
+    }
+}

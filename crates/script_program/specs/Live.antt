@@ -1,0 +1,70 @@
+-- What it is to run a script live: each line is answered before the next is read, and an empty line stands behind its answer.
+use Rattle.std.specs.Prelude.{◌≡◌, ◌≤◌, ◌^◌, ◌-◌, ◌⊎◌, ℕ, nat_lt, true, List, [], ◌∷◌, ◌++◌, length, Option, IfSome}
+use Rattle.std.specs.List.{flat_map, list_any}
+use Rattle.std.specs.Io.KnownBytes.{Appends}
+use Rattle.mm_types.specs.declared.limits.TheConstants.{INPUT_BYTES}
+use Rattle.script_lines.specs.Forms.{form}
+use Rattle.script_lines.specs.Lines.{lines}
+use Rattle.script_lines.specs.declared.grammar.TheConstants.{NEWLINE}
+use Rattle.script_program.specs.Script.{RunsLine, RunsLines}
+use Rattle.script_program.specs.Session.{Session}
+use Rattle.script_program.specs.Turns.{Printed, summary_of}
+use Rattle.script_program.specs.declared.summary.Summary.{Summary}
+use Rattle.script_program.specs.declared.turn.Turn.{Turn}
+use Rattle.script_streams.specs.Streams.{AppendsFront}
+
+-- what is written for a line that prints this: the answer, and an empty line
+abbrev pub live_answer : Printed → List ℕ
+live_answer p = p.text ++ NEWLINE ∷ []
+
+-- a line that prints this prints an empty line behind it too
+abbrev pub with_empty_line : Printed → Printed
+with_empty_line p = record p { text = live_answer p }
+
+-- what is written for lines that print this
+abbrev pub live_text : List Printed → List ℕ
+live_text = flat_map live_answer
+
+-- A line was run, and its answer was written with an empty line behind.
+pub record AnswersLive (line : List ℕ) (s : Session) (old new : Option (List ℕ)) (turn : Turn) (t : Session) : Type 0 where
+  pub printed : Printed
+  pub ran : RunsLine s (form line) printed t
+  pub counted : printed.turn ≡ turn
+  pub written : Appends old new (live_answer printed)
+
+-- A line was run, and a front of that was written.
+pub record AnswersLiveFront (line : List ℕ) (s : Session) (old new : Option (List ℕ)) : Type 0 where
+  pub printed : Printed
+  pub after : Session
+  pub ran : RunsLine s (form line) printed after
+  pub written : AppendsFront old new (live_answer printed)
+
+-- All lines of a script were run, their answers were written, each with an empty line behind, and the counts are theirs.
+pub record PrintsLive (s : Session) (old new : Option (List ℕ)) (bytes : List ℕ) (summary : Summary) : Type 0 where
+  pub printed : List Printed
+  pub after : Session
+  pub ran : RunsLines s (lines bytes) printed after
+  pub counted : summary_of printed ≡ summary
+  pub written : Appends old new (live_text printed)
+
+-- The first lines of a script were run, and a front of what is written for them was written.
+pub record PrintsLiveFront (s : Session) (old new : Option (List ℕ)) (bytes : List ℕ) : Type 0 where
+  pub first : List (List ℕ)
+  pub rest : List (List ℕ)
+  pub lines_are : lines bytes ≡ first ++ rest
+  pub printed : List Printed
+  pub after : Session
+  pub ran : RunsLines s first printed after
+  pub written : AppendsFront old new (live_text printed)
+
+-- Known input was run to its end.
+abbrev pub PrintsInputLive : Option (List ℕ) → Session → Option (List ℕ) → Option (List ℕ) → Summary → Type 0
+PrintsInputLive input s old new summary = IfSome input (λ bytes. PrintsLive s old new bytes summary)
+
+-- The first lines of known input were run.
+abbrev pub PrintsInputLiveFront : Option (List ℕ) → Session → Option (List ℕ) → Option (List ℕ) → Type 0
+PrintsInputLiveFront input s old new = IfSome input (λ bytes. PrintsLiveFront s old new bytes)
+
+-- a line of a script is longer than it may be, or there are as many lines as a run can count
+abbrev pub IsTooLong : List ℕ → Type 0
+IsTooLong bytes = (list_any (λ l. nat_lt INPUT_BYTES (length l)) (lines bytes) ≡ true) ⊎ (2 ^ 64 - 1 ≤ length (lines bytes))

@@ -1,0 +1,126 @@
+//! A script is run live: each line is answered before the next is read.
+ghost use Rattle.std.specs.Prelude.{◌≡◌, ◌⊎◌, IfErr, IfOk, IfSome, IsErrOf, OnErr, OnOk, OnSome, length};
+ghost use Rattle.std.specs.Io.Buffered.{reader_remaining};
+ghost use Rattle.std.specs.Io.KnownBytes.{IsAtEnd};
+ghost use Rattle.script_streams.specs.Faults.{IsWriteOrMemory};
+ghost use Rattle.script_program.specs.Live.{AnswersLive, AnswersLiveFront, IsTooLong, PrintsInputLive, PrintsInputLiveFront};
+ghost use Rattle.script_program.specs.Session.{first_session, session};
+
+use crate::dress::Dress;
+use crate::pool::Pool;
+use crate::script::answer_line;
+use crate::summary::Summary;
+use crate::turn::Turn;
+use adapters::Adapter;
+use links::LinkStore;
+use mm_meta::Meta;
+use repository::Repository;
+use script_output::Output;
+use script_streams::{LineEnd, RunFault, read_line, write_all};
+use std::alloc::Global;
+use std::io::{BufReader, Read, Write};
+
+/// What stands behind an answer.
+const BEHIND: &[u8] = b"\n";
+
+/// Runs a line, and writes what it prints with an empty line behind; the output is room for that.
+///
+/// Errs with `Memory` where memory is refused to the run itself, and with `Write` where a write errs or takes no byte.
+fn answer_live<W: Write, L: LinkStore, A: Adapter>(
+    alloc: Global,
+    writer: &mut W,
+    repository: &mut Repository<L, A>,
+    pool: &mut Pool<A>,
+    output: &mut Output,
+    line: &[u8],
+) -> Result<Turn, RunFault>
+    ensures ok { IfOk result (λ t. AnswersLive line.now (session repository.old pool.old) (W.contents writer.old) (W.contents writer.new) t
+        (session repository.new pool.new)) }
+    ensures err { OnErr result ((W.contents writer.new ≡ W.contents writer.old)
+        ⊎ AnswersLiveFront line.now (session repository.old pool.old) (W.contents writer.old) (W.contents writer.new)) }
+    ensures kind { IfErr result (λ e. IsWriteOrMemory e) }
+{
+    // A plain answer shows no number.
+    let turn = answer_line(
+        alloc,
+        writer,
+        repository,
+        pool,
+        output,
+        Dress::plain(),
+        0,
+        line,
+    )?;
+    write_all(writer, BEHIND)?;
+    Ok(turn)
+}
+
+/// Reads the lines of a script in turn, and answers each before it reads the next.
+fn answer_lines<R: Read, W: Write, L: LinkStore, A: Adapter>(
+    alloc: Global,
+    reader: &mut BufReader<R>,
+    writer: &mut W,
+    repository: &mut Repository<L, A>,
+    pool: &mut Pool<A>,
+) -> Result<Summary, RunFault>
+    ensures ok { IfOk result (λ s. PrintsInputLive (reader_remaining R.remaining reader.old) (session repository.old pool.old) (W.contents writer.old) (W.contents writer.new) s) }
+    ensures end { OnOk result (OnSome (reader_remaining R.remaining reader.old) (IsAtEnd (reader_remaining R.remaining reader.new))) }
+    ensures err { OnErr result (PrintsInputLiveFront (reader_remaining R.remaining reader.old) (session repository.old pool.old) (W.contents writer.old) (W.contents writer.new)) }
+    ensures long { IsErrOf result RunFault.TooLong → IfSome (reader_remaining R.remaining reader.old) IsTooLong }
+{
+    let (mut line, mut output) = (Vec::new(alloc), Output::new(alloc));
+    let mut summary = Summary::new();
+    let mut number = 0;
+    'lines: while number < u64::MAX {
+        let end = read_line(reader, writer, &mut line)?;
+        if end == LineEnd::Input && line.is_empty() {
+            return Ok(summary);
+        }
+        let turn = answer_live(
+            alloc,
+            writer,
+            repository,
+            pool,
+            &mut output,
+            line.as_slice(),
+        )?;
+        summary = summary.with(turn);
+        if end == LineEnd::Input {
+            return Ok(summary);
+        }
+        number += 1;
+    }
+    Err(RunFault::TooLong)
+}
+
+/// Runs a script as `run` does, but answers each line before it reads the next: what a line prints is written with an empty
+/// line behind, and a line that is passed over has an empty line alone. Where the next line may have to be waited for, the
+/// writer is flushed before.
+///
+/// Errs with `Read` where a read errs, with `TooLong` where a line has more than `INPUT_BYTES` bytes or the script more than
+/// `u64::MAX - 1` lines, with `Write` where a write or a flush errs or a write takes no byte, and with `Memory` where memory is
+/// refused to the run itself: then what was written is a front of what the first lines print. Where memory is refused to the
+/// repository, the line prints `refused 28 MEMORY`, and the run goes on.
+pub fn run_live<R: Read, W: Write, L: LinkStore, A: Adapter>(
+    alloc: Global,
+    reader: &mut BufReader<R>,
+    writer: &mut W,
+    meta: Meta,
+    boxes: Vec<A>,
+) -> Result<Summary, RunFault>
+    // All the input was read, and what was written is what its lines print, with an empty line behind each.
+    ensures ok { IfOk result (λ s. PrintsInputLive (reader_remaining R.remaining reader.old) (first_session A.heard meta boxes.items) (W.contents writer.old) (W.contents writer.new) s) }
+    ensures end { OnOk result (OnSome (reader_remaining R.remaining reader.old) (IsAtEnd (reader_remaining R.remaining reader.new))) }
+    // Whatever stops the run, what was written is a front of what the first lines print.
+    ensures stopped { OnErr result (PrintsInputLiveFront (reader_remaining R.remaining reader.old) (first_session A.heard meta boxes.items) (W.contents writer.old) (W.contents writer.new)) }
+    // `TooLong` is answered only where a line is too long, or there are too many.
+    ensures long { IsErrOf result RunFault.TooLong → IfSome (reader_remaining R.remaining reader.old) IsTooLong }
+{
+    let Ok(mut pool) = Pool::new(alloc, boxes) else {
+        return Err(RunFault::Memory);
+    };
+    let mut repository: Repository<L, A> = Repository::new(alloc, meta);
+    let outcome = answer_lines(alloc, reader, writer, &mut repository, &mut pool);
+    let _ = repository.close();
+    outcome
+}

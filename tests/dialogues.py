@@ -1,0 +1,148 @@
+"""Dialogues with a built program in live mode: over pipes, on a terminal, and with callers that go away.
+
+Each function below `DIALOGUES` has one dialogue, and returns whether the program kept to docs/SCRIPT.md.
+"""
+import os
+import pathlib
+import pty
+import select
+import subprocess
+
+LIBRARY = pathlib.Path(__file__).resolve().parent.parent / 'examples/library.json'
+LONGEST = 16_777_216  # bytes of a line
+SECONDS = 60  # the most that an answer may take to come
+STOPPED = 'run stopped: {}\n'.format
+
+
+def started(program, stdin=subprocess.PIPE):
+    """The program in live mode over the library, with pipes."""
+    words = [program, '--meta', LIBRARY, '--live']
+    return subprocess.Popen(words, stdin=stdin, stdout=subprocess.PIPE, stderr=subprocess.PIPE, bufsize=0)
+
+
+def received(stream, count):
+    """The next bytes of a stream, so many of them, or those that come in time."""
+    text = b''
+    while len(text) < count and select.select([stream], [], [], SECONDS)[0]:
+        piece = os.read(stream.fileno(), count - len(text))
+        if not piece:
+            break
+        text += piece
+    return text
+
+
+def is_silent(stream):
+    """Whether nothing comes on a stream for a moment."""
+    return not select.select([stream], [], [], 0.2)[0]
+
+
+def answers(running, line, answer):
+    """Whether the program answers a line, or the rest of one, with the answer, and then waits."""
+    running.stdin.write(line)
+    return received(running.stdout, len(answer)) == answer and is_silent(running.stdout)
+
+
+def ends(running, status, said, printed=b''):
+    """Whether a program whose input has ended prints the rest, says this on standard error, and has this status."""
+    out, err = running.communicate(timeout=SECONDS)
+    return (running.returncode, err.decode(), out) == (status, said, printed)
+
+
+def each_line_is_answered(program):
+    """An answer is there before the next line is sent, notices and released adapters included."""
+    running = started(program)
+    told = b'ok\ntold A9 SET #0.pages 100 5 -1\n\n'
+    released = b'ok\ntold A9 REMOVING_ADAPTER #0 A9 null 0\nreleased A9 told 2 kept 0\n\n'
+    dialogue = [(b'new Book\n', b'#0\n\n'), (b'\n', b'\n'), (b'attach A9 #0 flat\n', b'ok\n\n')]
+    dialogue += [(b'set #0 pages 5\n', told), (b'frob\n', b'bad line\n\n'), (b'detach A9\n', released)]
+    return all(answers(running, line, answer) for line, answer in dialogue) and ends(running, 0, '')
+
+
+def half_a_line_waits(program):
+    """What was answered is there while the rest of a line is waited for, and a line may come in pieces."""
+    running = started(program)
+    pieces = [(b'new Book\nnew B', b'#0\n\n'), (b'oo', b''), (b'k\nnew Book\nget #0', b'#1\n\n#2\n\n'), (b' pages\n', b'100\n\n')]
+    return all(answers(running, piece, answer) for piece, answer in pieces) and ends(running, 0, '')
+
+
+def last_line_needs_no_newline(program):
+    """The end of the input ends a line, and the run."""
+    running = started(program)
+    return answers(running, b'new Book\nnew Book', b'#0\n\n') and ends(running, 0, '', b'#1\n\n')
+
+
+def caller_stops_listening(program):
+    """A program that nobody listens to stops at its next answer."""
+    running = started(program)
+    if not answers(running, b'new Book\n', b'#0\n\n'):
+        return False
+    running.stdout.close()
+    running.stdin.write(b'new Book\n')
+    return running.wait(SECONDS) == 3 and running.stderr.read().decode() == STOPPED('WRITE')
+
+
+def caller_takes_one_line(program):
+    """A caller takes the first line of many answers and goes."""
+    words = f'yes "new Book" | {{ "{program}" --meta "{LIBRARY}" --live; echo $? >&2; }} | head -n 1'
+    done = subprocess.run(['bash', '-c', words], stdout=subprocess.PIPE, stderr=subprocess.PIPE, timeout=SECONDS)
+    return done.stdout == b'#0\n' and done.stderr.decode().endswith(STOPPED('WRITE') + '3\n')
+
+
+def line_never_ends(program):
+    """A line that does not end is read no further than it may be long, and the lines before it were answered."""
+    running = started(program)
+    if not answers(running, b'new Book\n', b'#0\n\n'):
+        return False
+    piece, sent = b' ' * 65_536, 0
+    try:
+        while sent < 2 * LONGEST:
+            sent += running.stdin.write(piece)
+    except BrokenPipeError:
+        pass
+    is_stopped = running.wait(SECONDS) == 3 and running.stderr.read().decode() == STOPPED('TOO_LONG')
+    running.stdin.close()
+    return is_stopped and sent < LONGEST + 1_000_000
+
+
+def terminal_is_prompted(program):
+    """On a terminal a prompt stands on standard error whenever a line is waited for."""
+    master, slave = pty.openpty()
+    running = started(program, slave)
+    os.close(slave)
+    is_asked = received(running.stderr, 2) == b'> '
+    os.write(master, b'new Book\n')
+    is_answered = received(running.stdout, 4) == b'#0\n\n' and received(running.stderr, 2) == b'> '
+    os.write(master, b'\x04')
+    ended = running.communicate(timeout=SECONDS) == (b'', b'\n') and running.returncode == 0
+    os.close(master)
+    return is_asked and is_answered and ended
+
+
+def examples_are_answered_alike(program):
+    """Live mode answers a script as a batch does, with one empty line for each line of the script, and no other."""
+    for file in LIBRARY.parent.glob('*.txt'):
+        script = file.read_bytes()
+        done = subprocess.run([program, '--meta', LIBRARY, '--live'], input=script, stdout=subprocess.PIPE, timeout=SECONDS)
+        lines = done.stdout.splitlines(keepends=True)
+        if b''.join(line for line in lines if line != b'\n') != file.with_suffix('.out').read_bytes():
+            return False
+        if lines.count(b'\n') != len(script.splitlines()):
+            return False
+    return True
+
+
+DIALOGUES = (
+    each_line_is_answered,
+    half_a_line_waits,
+    last_line_needs_no_newline,
+    caller_stops_listening,
+    caller_takes_one_line,
+    line_never_ends,
+    terminal_is_prompted,
+    examples_are_answered_alike,
+)
+
+
+def hold(program):
+    """Whether each dialogue goes as it should, by its name."""
+    return {talk.__name__: program.exists() and talk(program) for talk in DIALOGUES}
