@@ -1,0 +1,35 @@
+"""A client of `mmrepo`, a reflective model repository. docs/PYTHON.md has a whole example.
+
+    with Repository("library.json") as repo:
+        book = repo.create("Book")
+        book.name = "Emma"
+"""
+
+from .errors import (
+    BadLine,
+    CallableFailed,
+    IndexRefused,
+    MetamodelRefused,
+    MmrepoError,
+    NotStarted,
+    ProgramEnded,
+    ProgramError,
+    Refused,
+    ReplyCut,
+    ReplyNotUnderstood,
+    RepositoryClosed,
+)
+from .lists import FeatureList
+from .metamodel import EAttribute, EClass, EClassifier, EDataType, EEnum, EReference, EStructuralFeature, Metamodel
+from .notices import Kind, Notice, View
+from .objects import EObject
+from .repository import Repository, Resolved
+from .resources import Resource
+from .values import Literal, Proxy, Value
+
+__all__ = [
+    'BadLine', 'CallableFailed', 'EAttribute', 'EClass', 'EClassifier', 'EDataType', 'EEnum', 'EObject', 'EReference',
+    'EStructuralFeature', 'FeatureList', 'IndexRefused', 'Kind', 'Literal', 'Metamodel', 'MetamodelRefused', 'MmrepoError',
+    'NotStarted', 'Notice', 'ProgramEnded', 'ProgramError', 'Proxy', 'Refused', 'ReplyCut', 'ReplyNotUnderstood',
+    'Repository', 'RepositoryClosed', 'Resolved', 'Resource', 'Value', 'View',
+]

@@ -1,0 +1,116 @@
+"""The errors of this package. Each of them is a MmrepoError."""
+
+from __future__ import annotations
+
+from typing import Any, Callable, Optional, Tuple
+
+SHOWN = 200  # the most characters of a line that a message shows
+
+
+def shown(line: str) -> str:
+    """A line as a message shows it: its beginning, where it is long."""
+    return line if len(line) <= SHOWN else line[:SHOWN] + ' ..'
+
+
+class MmrepoError(Exception):
+    """The base of all errors of this package."""
+
+
+class Refused(MmrepoError):
+    """A command was refused, and nothing has changed. docs/SCRIPT.md lists the refusals.
+
+    `number` and `name` tell which it is, as 8 and `TYPE`; `cause` has the number and the name of the cause, where a
+    document was refused, and is None elsewhere; `command` is the line of the script.
+    """
+
+    def __init__(self, command: str, number: int, name: str, cause: Optional[Tuple[int, str]] = None) -> None:
+        super().__init__(command, number, name, cause)
+        self.command = command
+        self.number = number
+        self.name = name
+        self.cause = cause
+
+    def __str__(self) -> str:
+        cause = f' {self.cause[0]} {self.cause[1]}' if self.cause else ''
+        return f'refused {self.number} {self.name}{cause}: {shown(self.command)}'
+
+
+class IndexRefused(Refused, IndexError):
+    """The refusal 10 INDEX: a place is past the end of a list."""
+
+
+class BadLine(MmrepoError):
+    """The program does not know a command: it is older than this package. `command` is the line."""
+
+    def __init__(self, command: str) -> None:
+        super().__init__(command)
+        self.command = command
+
+    def __str__(self) -> str:
+        return f'the program does not know the line: {shown(self.command)}'
+
+
+class MetamodelRefused(MmrepoError):
+    """The metamodel has a fault. `fault` is what the program tells of it, as `7 CYCLE class 0`; docs/METAMODEL.md lists the faults."""
+
+    def __init__(self, file: str, fault: str) -> None:
+        super().__init__(file, fault)
+        self.file = file
+        self.fault = fault
+
+    def __str__(self) -> str:
+        return f'{self.file}: metamodel refused: {self.fault}'
+
+
+class ProgramError(MmrepoError):
+    """The program can't be used, and its process is ended.
+
+    `status` is the status with which it ended by itself, or None; below 0 it is the signal that ended it. `said` is what it
+    wrote on standard error.
+    """
+
+    def __init__(self, why: str, status: Optional[int] = None, said: str = '') -> None:
+        super().__init__(why, status, said)
+        self.why = why
+        self.status = status
+        self.said = said
+
+    def __str__(self) -> str:
+        status = '' if self.status is None else f', status {self.status}'
+        said = f': {self.said}' if self.said else ''
+        return f'{self.why}{status}{said}'
+
+
+class NotStarted(ProgramError):
+    """There is no program of the name, or the system does not run it."""
+
+
+class ProgramEnded(ProgramError):
+    """The program ended before it answered."""
+
+
+class ReplyCut(ProgramError):
+    """The program ended in the middle of an answer."""
+
+
+class ReplyNotUnderstood(ProgramError):
+    """The program answered what no command answers."""
+
+
+class CallableFailed(MmrepoError):
+    """A callable that was attached raised an error, which is the `__cause__`. The process is ended.
+
+    `callable` is what was called, and `notice` what it was handed.
+    """
+
+    def __init__(self, callable: Callable[..., Any], notice: Any) -> None:
+        super().__init__(callable, notice)
+        self.callable = callable
+        self.notice = notice
+
+    def __str__(self) -> str:
+        return f'{self.callable!r} failed on {self.notice!r}: {self.__cause__!r}'
+
+
+class RepositoryClosed(MmrepoError):
+    """The repository takes no more commands. Its text says why."""

@@ -1,0 +1,148 @@
+"""The values of a feature that is many-valued."""
+
+from __future__ import annotations
+
+import operator
+from typing import TYPE_CHECKING, Any, Iterable, Iterator, List, Optional, Sequence, Union, overload
+
+from .metamodel import EStructuralFeature
+from .values import Value, place_word
+
+if TYPE_CHECKING:
+    from .objects import EObject, Node
+
+
+class FeatureList(Sequence[Any]):
+    """The list of a feature of a node. It keeps no values: each use asks the program for all of them, or changes some.
+
+    A place is counted from 0, or from the end where it is below 0. A refused command raises a Refused, and has changed
+    nothing: BOUND if the list is full, TYPE if the feature can't have a value. There is no assignment to a place, since the
+    repository has no command for it.
+    """
+
+    __slots__ = ('_node', '_name', '_feature')
+    __hash__ = None  # type: ignore[assignment]
+
+    def __init__(self, node: Node, name: str, feature: Optional[EStructuralFeature]) -> None:
+        """The list of a feature; a resource has no feature for its `contents`."""
+        self._node = node
+        self._name = name
+        self._feature = feature
+
+    def is_of(self, node: Node, name: str) -> bool:
+        """Whether it is the list of a node under a name."""
+        return self._node is node and self._name == name
+
+    # What it has
+
+    def _values(self) -> List[Any]:
+        """All values, at this moment."""
+        return self._node._session.values(f'get {self._node._word} {self._name}')
+
+    def __len__(self) -> int:
+        return len(self._values())
+
+    def __iter__(self) -> Iterator[Any]:
+        """Goes through the values that there are when it begins."""
+        return iter(self._values())
+
+    def __reversed__(self) -> Iterator[Any]:
+        return reversed(self._values())
+
+    def __contains__(self, value: object) -> bool:
+        return value in self._values()
+
+    @overload
+    def __getitem__(self, place: int) -> Any: ...
+
+    @overload
+    def __getitem__(self, place: slice) -> List[Any]: ...
+
+    def __getitem__(self, place: Union[int, slice]) -> Any:
+        """The value at a place, or a list of the values of a slice; an IndexError if there is no such place."""
+        return self._values()[place]
+
+    def index(self, value: Any, *bounds: int) -> int:
+        """The first place of a value; a ValueError if the list does not have it."""
+        return self._values().index(value, *bounds)
+
+    def count(self, value: Any) -> int:
+        """How often it has a value."""
+        return self._values().count(value)
+
+    def __eq__(self, other: object) -> bool:
+        """Whether it has the values of another list, in the same order."""
+        if isinstance(other, (list, FeatureList)):
+            return self._values() == list(other)
+        return NotImplemented
+
+    def __repr__(self) -> str:
+        return repr(self._values())
+
+    # What changes it
+
+    def _give(self, command: str, words: str) -> str:
+        """The line of a command on this list."""
+        return f'{command} {self._node._word} {self._name} {words}'
+
+    def _word(self, value: Any) -> str:
+        """The word of a value."""
+        return self._node._session.value_word(value, self._feature)
+
+    def _place(self, place: int) -> str:
+        """The word of a place; an IndexError if it is before the first."""
+        place = operator.index(place)
+        return place_word(place if place >= 0 else place + len(self))
+
+    def append(self, value: Value) -> bool:
+        """Puts a value at the end. False: the list has it already and repeats none, so nothing has changed."""
+        return self._node._session.flag(self._give('add', self._word(value)))
+
+    def extend(self, values: Iterable[Value]) -> None:
+        """Appends values, one command each. If one is refused those before it stay."""
+        for value in list(values):
+            self.append(value)
+
+    def __iadd__(self, values: Iterable[Value]) -> FeatureList:
+        self.extend(values)
+        return self
+
+    def insert(self, place: int, value: Value) -> None:
+        """Puts a value before the one at a place, or at the end if it is the place behind the last.
+
+        An IndexError comes for a place beyond it; DUPLICATE is refused if the list has the value and repeats none.
+        """
+        self._node._session.flag(self._give('add', f'{self._word(value)} {self._place(place)}'))
+
+    def remove(self, value: Value) -> None:
+        """Takes a value out, where it comes first; a ValueError if the list does not have it."""
+        if not self._node._session.flag(self._give('removevalue', self._word(value))):
+            raise ValueError(f'{value!r} is not in the list')
+
+    def pop(self, place: int = -1) -> Any:
+        """Takes the value at a place out, and gives it; an IndexError if there is none."""
+        return self._node._session.value(self._give('remove', self._place(place)))
+
+    def __delitem__(self, place: Union[int, slice]) -> None:
+        """Takes out the value at a place; or those of a slice, the last one first, by a command each."""
+        if isinstance(place, slice):
+            for at in sorted(range(*place.indices(len(self))), reverse=True):
+                self.pop(at)
+        else:
+            self.pop(place)
+
+    def __setitem__(self, place: Any, value: Any) -> None:
+        """A TypeError: no command replaces a value, and two commands would leave the list changed if the second is refused."""
+        raise TypeError('no value is assigned to a place: remove the one, and insert the other')
+
+    def clear(self) -> None:
+        """Takes all values out, by one command, the last one first."""
+        self._node._session.done(f'unset {self._node._word} {self._name}')
+
+    def move(self, to: int, place: int) -> Any:
+        """Takes the value at a place out, and puts it in at the place `to` of what remains; gives the value."""
+        return self._node._session.value(self._give('move', f'{self._place(to)} {self._place(place)}'))
+
+    def resolve(self, place: int) -> EObject:
+        """Puts the object that the proxy at a place finds there, and gives it. The refusals are those of `resolve` of an object."""
+        return self._node._session.object(self._give('resolve', self._place(place)))

@@ -1,0 +1,158 @@
+"""Notices: what is told of a change, and the views that hear it."""
+
+from __future__ import annotations
+
+import enum
+import heapq
+import re
+from collections import deque
+from typing import TYPE_CHECKING, Any, Callable, Deque, Dict, List, NamedTuple, Optional, Tuple, Union
+
+from .values import Named, value_at
+
+if TYPE_CHECKING:
+    from .objects import EObject
+    from .resources import Resource
+    from .session import Session
+
+FIRST_ADAPTER = 9  # A9 and those behind it keep no notices
+
+_HEAD = re.compile(r'told (A[0-9]+) ([A-Z_]+) ([#r][0-9]+)(?:\.([A-Za-z_][A-Za-z0-9_]*))? ')
+_PLACE = re.compile(r' (-1|[0-9]+)')
+_RELEASED = re.compile(r'released (A[0-9]+) told [0-9]+ kept [0-9]+')
+
+
+class Kind(enum.IntEnum):
+    """The kinds of notices, with the names and numbers of EMF."""
+
+    SET = 1
+    UNSET = 2
+    ADD = 3
+    REMOVE = 4
+    MOVE = 7
+    REMOVING_ADAPTER = 8
+    RESOLVE = 9
+
+
+class Notice(NamedTuple):
+    """A change of one feature of one node. docs/ADAPTERS.md says what is told when.
+
+    `notifier` is the object or the resource, and `feature` the name of its feature. `old` and `new` are the value before and
+    the value after; `position` is the place in a list, or -1. A MOVE has the old place as `old`. REMOVING_ADAPTER has no
+    feature, and the view as `old`.
+    """
+
+    kind: Kind
+    notifier: Union[EObject, Resource]
+    feature: Optional[str]
+    old: Any
+    new: Any
+    position: int
+
+
+Hearer = Callable[[Notice], Any]
+
+
+def told_of(line: str, named: Named) -> Tuple[str, Notice]:
+    """The adapter and the notice of a `told` line; a ValueError if it is none."""
+    head = _HEAD.match(line)
+    if head is None:
+        raise ValueError('no notice')
+    adapter, kind, notifier, feature = head.groups()
+    if kind not in Kind.__members__:
+        raise ValueError(f'{kind} is no kind')
+    old, at = value_at(line, head.end(), named)
+    if not line.startswith(' ', at):
+        raise ValueError('no value after')
+    new, at = value_at(line, at + 1, named)
+    place = _PLACE.fullmatch(line, at)
+    if place is None:
+        raise ValueError('no position')
+    return adapter, Notice(Kind[kind], named(notifier), feature, old, new, int(place.group(1)))
+
+
+class View:
+    """A callable that is attached to nodes. `attach` of a repository makes it."""
+
+    def __init__(self, session: Session, word: str, hearer: Hearer) -> None:
+        self._session = session
+        self._word = word
+        self.hearer = hearer
+        self.is_attached = True
+
+    def watch(self, node: Union[EObject, Resource], deep: bool = True) -> bool:
+        """Attaches it to a further node. False: it was attached there before, and nothing has changed."""
+        self._session.check_node(node)
+        self._check()
+        return self._session.flag(f'watch {self._word} {node._word} {depth(deep)}')
+
+    def unwatch(self, node: Union[EObject, Resource]) -> bool:
+        """Takes it away from a node; from its last node it is detached. False: it was not attached there."""
+        self._session.check_node(node)
+        self._check()
+        return self._session.flag(f'unwatch {self._word} {node._word}')
+
+    def detach(self) -> bool:
+        """Detaches it from all its nodes. It hears REMOVING_ADAPTER, and nothing after. False: it was detached before."""
+        if not self.is_attached:
+            return False
+        self._session.done(f'detach {self._word}')
+        return True
+
+    def _check(self) -> None:
+        """A ValueError if it is attached no more: its number may be another's by now."""
+        if not self.is_attached:
+            raise ValueError('the view is attached no more')
+
+    def __repr__(self) -> str:
+        name = getattr(self.hearer, '__name__', repr(self.hearer))
+        return f'<View {self._word} of {name}{"" if self.is_attached else ", detached"}>'
+
+
+class Views:
+    """The views that are attached, the numbers that are free, and the notices that no callable was handed yet."""
+
+    def __init__(self) -> None:
+        self._attached: Dict[str, View] = {}
+        self._free: List[int] = []
+        self._next = FIRST_ADAPTER
+        self.waiting: Deque[Tuple[View, Notice]] = deque()
+
+    def add(self, session: Session, hearer: Hearer) -> View:
+        """A view with the lowest free number."""
+        if self._free:
+            number = heapq.heappop(self._free)
+        else:
+            number = self._next
+            self._next += 1
+        view = View(session, f'A{number}', hearer)
+        self._attached[view._word] = view
+        return view
+
+    def release(self, word: str) -> None:
+        """Takes a view away. Its number is free."""
+        self._attached.pop(word).is_attached = False
+        heapq.heappush(self._free, int(word[1:]))
+
+    def named(self, word: str) -> View:
+        """The view of an adapter; a ValueError if there is none."""
+        view = self._attached.get(word)
+        if view is None:
+            raise ValueError(f'no view {word} is attached')
+        return view
+
+    def hear(self, line: str, named: Named) -> None:
+        """Takes a line that stands behind an answer; a ValueError if it is no notice and releases no view."""
+        if line.startswith('told '):
+            word, notice = told_of(line, named)
+            self.waiting.append((self.named(word), notice))
+            return
+        released = _RELEASED.fullmatch(line)
+        if released is None:
+            raise ValueError('no notice')
+        self.release(self.named(released.group(1))._word)
+
+
+def depth(deep: bool) -> str:
+    """The word that says how deep a view hears."""
+    return 'deep' if deep else 'flat'

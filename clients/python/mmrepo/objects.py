@@ -1,0 +1,173 @@
+"""Objects of a repository."""
+
+from __future__ import annotations
+
+from typing import TYPE_CHECKING, Any, Iterable, Iterator, List, Optional, Union
+
+from .lists import FeatureList
+from .metamodel import EClass, EStructuralFeature
+from .values import Value, name_word, place_word
+
+if TYPE_CHECKING:
+    from .resources import Resource
+    from .session import Session
+
+FeatureName = Union[str, EStructuralFeature]
+
+
+class Node:
+    """An object or a resource. It is known by its number; all that it has is asked of the program."""
+
+    __slots__ = ('_session', '_word', '__weakref__')
+    _session: Session
+    _word: str
+
+    def __init__(self, session: Session, word: str) -> None:
+        object.__setattr__(self, '_session', session)
+        object.__setattr__(self, '_word', word)
+
+
+class EObject(Node):
+    """An object. Its features are attributes, and items under their names.
+
+    A feature that is named as something of this class, as `delete`, is an item alone. Each method is one command of the
+    program, and a command that is refused raises a Refused: NO_OBJECT if the object is deleted.
+    """
+
+    __slots__ = ('_class',)
+    _class: Optional[EClass]
+
+    def __init__(self, session: Session, word: str, eclass: Optional[EClass]) -> None:
+        """`create` of a repository makes objects."""
+        super().__init__(session, word)
+        object.__setattr__(self, '_class', eclass)
+
+    # What a feature has
+
+    def eGet(self, feature: FeatureName) -> Any:
+        """The value of a feature of one value: a Value. Of a list a FeatureList, which asks at each use what it has."""
+        name = _name_of(feature)
+        found = self.eClass.findEStructuralFeature(name)
+        if found is not None and found.many:
+            return FeatureList(self, found.name, found)
+        return self._session.value(f'get {self._word} {name_word(name)}')
+
+    def eSet(self, feature: FeatureName, value: Value) -> None:
+        """Sets a feature of one value. None is null; the name of a literal sets a feature of an enumeration."""
+        name = _name_of(feature)
+        if isinstance(value, FeatureList) and value.is_of(self, name):
+            return  # `book.tags += [..]` has changed the list, and assigns it to itself
+        if isinstance(value, (list, FeatureList)):
+            raise TypeError(f'a list is no value: change {name} by its methods')
+        word = self._session.value_word(value, self.eClass.findEStructuralFeature(name))
+        self._session.done(f'set {self._word} {name_word(name)} {word}')
+
+    def eIsSet(self, feature: FeatureName) -> bool:
+        """Whether a feature is set, as `isset` of docs/SCRIPT.md has it."""
+        return self._session.flag(f'isset {self._word} {name_word(_name_of(feature))}')
+
+    def eUnset(self, feature: FeatureName) -> None:
+        """Takes a feature back to its default, and empties a list."""
+        self._session.done(f'unset {self._word} {name_word(_name_of(feature))}')
+
+    def __getitem__(self, name: str) -> Any:
+        """The value of a feature, as `eGet` gives it."""
+        return self.eGet(name)
+
+    def __setitem__(self, name: str, value: Value) -> None:
+        """Sets a feature, as `eSet` does."""
+        self.eSet(name, value)
+
+    def __delitem__(self, name: str) -> None:
+        """Unsets a feature, as `eUnset` does."""
+        self.eUnset(name)
+
+    def __getattr__(self, name: str) -> Any:
+        """The value of a feature. An AttributeError comes if the class has no feature of the name."""
+        self._check_feature(name)
+        return self.eGet(name)
+
+    def __setattr__(self, name: str, value: Any) -> None:
+        """Sets a feature. An AttributeError comes if the class has no feature of the name, or if the name is one of EObject."""
+        self._check_feature(name)
+        self.eSet(name, value)
+
+    def __delattr__(self, name: str) -> None:
+        """Unsets a feature. An AttributeError comes as it does for setting one."""
+        self._check_feature(name)
+        self.eUnset(name)
+
+    def _check_feature(self, name: str) -> None:
+        """Refuses what is no feature, or can't be reached as an attribute."""
+        if hasattr(type(self), name):
+            raise AttributeError(f'{name} is a name of EObject: write [{name!r}] for the feature')
+        if name.startswith('__'):
+            raise AttributeError(name)  # Python looks for methods under such names, which is no reason for a command
+        if self.eClass.findEStructuralFeature(name) is None:
+            raise AttributeError(f'class {self.eClass.name} has no feature {name}')
+
+    def __dir__(self) -> Iterable[str]:
+        """The names of the class and those of the features."""
+        features = [] if self._class is None else [it.name for it in self._class.eAllStructuralFeatures()]
+        return [*super().__dir__(), *features]
+
+    # Where it stands
+
+    @property
+    def eClass(self) -> EClass:
+        """The class of the object. It is asked once."""
+        if self._class is None:
+            object.__setattr__(self, '_class', self._session.class_of(self._word))
+        assert self._class is not None
+        return self._class
+
+    def eContainer(self) -> Optional[EObject]:
+        """The object that contains it, or None."""
+        return self._session.optional(f'container {self._word}')
+
+    @property
+    def eContents(self) -> List[EObject]:
+        """The objects that it directly contains, by feature in the order of all features of its class."""
+        return self._session.values(f'contents {self._word}')
+
+    def eAllContents(self) -> Iterator[EObject]:
+        """All objects below it, each before what it contains. Each is asked for its contents when the one behind it is needed."""
+        waiting = self.eContents[::-1]
+        while waiting:
+            top = waiting.pop()
+            yield top
+            waiting.extend(top.eContents[::-1])
+
+    @property
+    def eResource(self) -> Optional[Resource]:
+        """The resource that it is in, through however many containers, or None."""
+        return self._session.within(f'within {self._word}')
+
+    def fragment(self) -> str:
+        """The way to it from a root of its resource, as `//@books.0`. It is refused (DANGLING) in no resource."""
+        return self._session.text(f'fragment {self._word}')
+
+    # What is done with it
+
+    def validate(self) -> List[str]:
+        """The names of the features that have fewer values than they should."""
+        return self._session.names(f'validate {self._word}')
+
+    def resolve(self, feature: FeatureName, place: int = 0) -> EObject:
+        """Puts the object that a proxy finds in its place, and gives it: at a place of a list, at 0 of a single reference.
+
+        The refusals are those of `resolve` in docs/SCRIPT.md, as UNLOADED and UNRESOLVED.
+        """
+        return self._session.object(f'resolve {self._word} {name_word(_name_of(feature))} {place_word(place)}')
+
+    def delete(self) -> int:
+        """Destroys it and all that is below it, and takes them out of every end that holds them. Gives how many went."""
+        return self._session.counts(f'delete {self._word}', 'deleted')[0]
+
+    def __repr__(self) -> str:
+        return f'<{"EObject" if self._class is None else self._class.name} {self._word}>'
+
+
+def _name_of(feature: FeatureName) -> str:
+    """The name of a feature, which is given by it or as itself."""
+    return feature.name if isinstance(feature, EStructuralFeature) else feature

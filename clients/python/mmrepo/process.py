@@ -1,0 +1,146 @@
+"""The process of the program: a line goes to it, and the lines of its answer come back."""
+
+from __future__ import annotations
+
+import os
+import shutil
+import subprocess
+import tempfile
+from typing import List, Optional, Tuple
+
+from .errors import (
+    MetamodelRefused,
+    MmrepoError,
+    NotStarted,
+    ProgramEnded,
+    ReplyCut,
+    ReplyNotUnderstood,
+    RepositoryClosed,
+    shown,
+)
+
+LONGEST_LINE = 16_777_216  # bytes
+SECONDS_TO_END = 60  # how long a program that takes no more lines may take to end
+REFUSED = 'metamodel refused: '
+
+
+def program_file(given: Optional[str]) -> str:
+    """The file of the program: the one given, else that of the environment's MMREPO, else `mmrepo` on the PATH."""
+    name = given or os.environ.get('MMREPO') or 'mmrepo'
+    found = shutil.which(name)
+    if found is None:
+        raise NotStarted(f'no program {name}: name it by program=, by MMREPO in the environment, or put mmrepo on the PATH')
+    return found
+
+
+class Program:
+    """A program that runs in its live mode over a metamodel."""
+
+    def __init__(self, file: str, metamodel: str) -> None:
+        """Starts it. A NotStarted comes if the system does not run the file; a MetamodelRefused for a fault of the metamodel."""
+        self._metamodel = metamodel
+        self._closed: Optional[str] = None  # why it takes no more lines
+        self._said = tempfile.TemporaryFile()
+        command = [file, '--meta', os.path.abspath(metamodel), '--live']
+        try:
+            # In a session of its own no Ctrl-C of a terminal ends it, and a file, other than a pipe, is never full.
+            self._process = subprocess.Popen(
+                command, stdin=subprocess.PIPE, stdout=subprocess.PIPE, stderr=self._said, start_new_session=True
+            )
+        except (OSError, ValueError) as found:
+            self._said.close()
+            raise NotStarted(f'{file} was not started: {found}') from found
+        assert self._process.stdin is not None and self._process.stdout is not None
+        self._input, self._output = self._process.stdin, self._process.stdout
+        # A line that is passed over has an empty answer, and shows that the metamodel was accepted.
+        if self.exchange(''):
+            raise self.not_understood('', 'an answer to an empty line')
+
+    def exchange(self, line: str) -> List[str]:
+        """The lines of the answer to a line, without the empty one behind them.
+
+        A ValueError comes before anything is sent if the line is too long, if it has a newline, or if it has half of a
+        surrogate pair.
+        """
+        data = line.encode('utf-8')
+        if len(data) > LONGEST_LINE:
+            raise ValueError(f'a line has at most {LONGEST_LINE} bytes, and this one {len(data)}')
+        if b'\n' in data:
+            raise ValueError('a line has no newline')
+        if self._closed is not None:
+            raise RepositoryClosed(self._closed)
+        try:
+            return self._answer(line, data + b'\n')
+        except BaseException:
+            # Half of an answer may still come, so nothing that is read from now on belongs to a line.
+            self.end(f'the exchange of a line failed: {shown(line)}')
+            raise
+
+    def _answer(self, line: str, data: bytes) -> List[str]:
+        """Sends a line, and reads up to the empty line behind its answer."""
+        try:
+            self._input.write(data)
+            self._input.flush()
+        except OSError:
+            raise self._failure(line, False) from None
+        lines: List[str] = []
+        while True:
+            found = self._output.readline()
+            if found == b'\n':
+                return lines
+            if not found.endswith(b'\n'):
+                raise self._failure(line, bool(lines or found))
+            try:
+                lines.append(found[:-1].decode('utf-8'))
+            except UnicodeDecodeError:
+                raise self.not_understood(line, repr(found)) from None
+
+    def _failure(self, line: str, is_cut: bool) -> MmrepoError:
+        """The error for a program that ended by itself, or took no more."""
+        status, said = self._ending()
+        if status == 1 and said.startswith(REFUSED):
+            return MetamodelRefused(self._metamodel, said[len(REFUSED):])
+        kind = ReplyCut if is_cut else ProgramEnded
+        what = 'the answer was cut' if is_cut else 'the program ended'
+        return kind(f'{what}, at the line `{shown(line)}`', status, said)
+
+    def _ending(self) -> Tuple[Optional[int], str]:
+        """The status with which the process ended, None if it had to be ended, and what it wrote on standard error."""
+        try:
+            status: Optional[int] = self._process.wait(SECONDS_TO_END)
+        except subprocess.TimeoutExpired:
+            status = None
+        self._said.seek(0)
+        said = self._said.read().decode('utf-8', 'replace').strip()
+        self.end('the program ended')
+        return status, said
+
+    def not_understood(self, line: str, answer: str) -> ReplyNotUnderstood:
+        """Ends the process, and gives the error for an answer that no command has."""
+        self.end('the program answered what no command answers')
+        return ReplyNotUnderstood(f'not understood: {shown(answer)}, at the line `{shown(line)}`')
+
+    def end(self, why: str) -> None:
+        """Ends the process at once. Further lines raise a RepositoryClosed with the reason."""
+        if self._closed is None:
+            self._closed = why
+        self._process.kill()
+        self._process.wait()
+        for stream in (self._input, self._output, self._said):
+            try:
+                stream.close()
+            except OSError:
+                pass  # what was not written yet has no reader
+
+    def close(self) -> None:
+        """Ends the input, and waits for the program; a ProgramEnded comes if it ends with another status than 0."""
+        if self._closed is not None:
+            return
+        self._closed = 'the repository is closed'
+        try:
+            self._process.communicate(timeout=SECONDS_TO_END)
+        except subprocess.TimeoutExpired:
+            self._process.kill()
+        status, said = self._ending()
+        if status != 0:
+            raise ProgramEnded('the program ended, when it was closed', status, said)

@@ -1,0 +1,106 @@
+"""A repository: what a program has in its live mode."""
+
+from __future__ import annotations
+
+import os
+from types import TracebackType
+from typing import NamedTuple, Optional, Type, Union
+
+from .metamodel import EClass, Metamodel
+from .notices import Hearer, View, depth
+from .objects import EObject
+from .process import Program, program_file
+from .resources import Resource
+from .session import Session
+from .values import name_word, text_word
+
+
+class Resolved(NamedTuple):
+    """How many proxies were replaced by their objects, and how many are left."""
+
+    resolved: int
+    left: int
+
+
+class Repository:
+    """Objects of a metamodel, in a process of the program. It is for one thread, and lives until it is closed.
+
+    Each call is a command of docs/SCRIPT.md. A command that is refused raises a Refused, and has changed nothing.
+    """
+
+    def __init__(self, metamodel: Union[str, os.PathLike], program: Union[None, str, os.PathLike] = None) -> None:
+        """Starts the program over the file of a metamodel. The program is the one given, else that of the environment's
+        MMREPO, else `mmrepo` on the PATH.
+
+        An OSError comes if the file can't be read, a MetamodelRefused for a fault of the metamodel, and a NotStarted if
+        there is no program.
+        """
+        path = os.fspath(metamodel)
+        with open(path, 'rb') as file:
+            document = file.read()
+        running = Program(program_file(None if program is None else os.fspath(program)), path)
+        try:
+            self._session = Session(running, Metamodel(document))
+        except BaseException:
+            running.end('the metamodel was not read')
+            raise
+
+    @property
+    def metamodel(self) -> Metamodel:
+        """The classes and enumerations."""
+        return self._session.metamodel
+
+    def create(self, eclass: Union[str, EClass]) -> EObject:
+        """Makes an object of a class. It is refused if there is no such class (NO_CLASS) or it is abstract (ABSTRACT)."""
+        name = name_word(eclass.name if isinstance(eclass, EClass) else eclass)
+        return self._session.object(f'new {name}', self.metamodel.classes.get(name))
+
+    def resource(self, uri: str) -> Resource:
+        """Makes a resource of a URI of http or https. It is refused for another text (BAD_URI) and for a URI that a
+        resource has (RESOURCE_EXISTS)."""
+        return self._session.resource(f'resource {text_word(uri)}', uri)
+
+    def at(self, address: str) -> Optional[EObject]:
+        """The object at an address: the URI of a resource, `#` and a fragment. None: nothing is there."""
+        return self._session.optional(f'at {text_word(address)}')
+
+    def resolve_all(self) -> Resolved:
+        """Resolves all proxies that find an object which their reference can take."""
+        return Resolved(*self._session.counts('resolveall', 'resolved', 'left'))
+
+    def attach(self, hearer: Hearer, node: Union[EObject, Resource], deep: bool = True) -> View:
+        """Attaches a callable to a node. From the next command on it is handed each notice there, and if it is `deep` each
+        one of the nodes below it, after the command that told them.
+
+        A callable may give commands; the notices of a command that it gives are handed out after those that wait. An error
+        in it ends the process, and raises a CallableFailed.
+        """
+        if not callable(hearer):
+            raise TypeError(f'{hearer!r} is not callable')
+        self._session.check_node(node)
+        view = self._session.views.add(self._session, hearer)
+        try:
+            self._session.done(f'attach {view._word} {node._word} {depth(deep)}')
+        except BaseException:
+            self._session.views.release(view._word)
+            raise
+        return view
+
+    def close(self) -> None:
+        """Ends the process. Nothing is told; further calls raise a RepositoryClosed, but a further `close` does nothing.
+
+        A ProgramEnded comes if the program ends with another status than 0.
+        """
+        self._session.program.close()
+
+    def __enter__(self) -> Repository:
+        return self
+
+    def __exit__(
+        self, kind: Optional[Type[BaseException]], error: Optional[BaseException], trace: Optional[TracebackType]
+    ) -> None:
+        """Closes it. After an error the process is ended at once, and the error stays the one that is raised."""
+        if kind is None:
+            self.close()
+        else:
+            self._session.program.end('the repository is closed')

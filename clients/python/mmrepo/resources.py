@@ -1,0 +1,65 @@
+"""Resources of a repository."""
+
+from __future__ import annotations
+
+from typing import TYPE_CHECKING, List
+
+from .lists import FeatureList
+from .objects import EObject, Node
+from .values import Value
+
+if TYPE_CHECKING:
+    from .session import Session
+
+
+class Resource(Node):
+    """A resource: objects that are its roots, and all that they contain. `uri` is the text that it was made of."""
+
+    __slots__ = ('uri',)
+    uri: str
+
+    def __init__(self, session: Session, word: str, uri: str) -> None:
+        """`resource` of a repository makes resources."""
+        super().__init__(session, word)
+        self.uri = uri
+
+    @property
+    def contents(self) -> FeatureList:
+        """Its roots: a list that can be changed."""
+        return FeatureList(self, 'contents', None)
+
+    @contents.setter
+    def contents(self, value: FeatureList) -> None:
+        """Takes the list itself, so that `resource.contents += [..]` works."""
+        if not (isinstance(value, FeatureList) and value.is_of(self, 'contents')):
+            raise AttributeError('contents is changed by the methods of its list')
+
+    @property
+    def eContents(self) -> List[EObject]:
+        """The roots, at this moment."""
+        return self._session.values(f'contents {self._word}')
+
+    def append(self, root: Value) -> bool:
+        """Puts an object among the roots, as the last of them. It leaves the container, or the resource, that it was in."""
+        return self.contents.append(root)
+
+    def remove(self, root: Value) -> None:
+        """Takes an object out of the roots; a ValueError if it is none of them."""
+        self.contents.remove(root)
+
+    def load(self, text: str) -> int:
+        """Makes what a document says (docs/DOCUMENTS.md), all of it or nothing, and gives how many objects were made.
+
+        It is refused if the resource has roots (NOT_EMPTY), and if the document can't be read (DOCUMENT, with a cause). A
+        ValueError comes, and nothing is sent, if the line of the command is longer than 16,777,216 bytes.
+        """
+        # The document goes on one line. A newline may stand between tokens, and so may a tab; inside of a text of the
+        # document neither may.
+        return self._session.counts(f'load {self._word} ' + text.replace('\n', '\t'), 'loaded')[0]
+
+    def save(self) -> str:
+        """The document of the resource, in one line. It is refused as `save` of docs/SCRIPT.md is, as DANGLING."""
+        return self._session.document(f'save {self._word}')
+
+    def __repr__(self) -> str:
+        return f'<Resource {self._word}>'

@@ -1,0 +1,110 @@
+"""What the tests of the client share: repositories of the program, and programs that do wrong."""
+
+import os
+import sys
+import tempfile
+import unittest
+from contextlib import contextmanager
+from pathlib import Path
+
+TOP = Path(__file__).resolve().parent.parent.parent
+CLIENT = TOP / 'clients/python'
+PROGRAM = Path(os.environ.get('MMREPO') or TOP / 'crates/mmrepo/out/mmrepo').resolve()
+LIBRARY = TOP / 'examples/library.json'
+
+sys.path.insert(0, str(CLIENT))
+
+from mmrepo import BadLine, Refused, Repository  # noqa: E402
+
+# A class with a feature of each type, one that is named as a method, and one that is named as a part of a line.
+KINDS = """
+{"enums": [{"name": "Colour", "literals": ["RED", "BLUE"]}],
+ "classes": [
+  {"name": "Kind", "features": [
+   {"name": "text", "kind": "attribute", "type": "EString"},
+   {"name": "texts", "kind": "attribute", "type": "EString", "upper": -1, "unique": false},
+   {"name": "int", "kind": "attribute", "type": "EInt"},
+   {"name": "ints", "kind": "attribute", "type": "EInt", "upper": -1},
+   {"name": "long", "kind": "attribute", "type": "ELong"},
+   {"name": "longs", "kind": "attribute", "type": "ELong", "upper": -1},
+   {"name": "truth", "kind": "attribute", "type": "EBoolean"},
+   {"name": "truths", "kind": "attribute", "type": "EBoolean", "upper": -1, "unique": false},
+   {"name": "colour", "kind": "attribute", "type": "Colour"},
+   {"name": "colours", "kind": "attribute", "type": "Colour", "upper": -1, "unique": false},
+   {"name": "delete", "kind": "attribute", "type": "EString", "default": "a default"},
+   {"name": "_word", "kind": "attribute", "type": "EInt"},
+   {"name": "__x__", "kind": "attribute", "type": "EInt"}
+  ]}
+ ]}
+"""
+
+BEGIN = """
+import os, sys
+def lines():
+    for line in sys.stdin:
+        yield line
+def say(text):
+    sys.stdout.write(text)
+    sys.stdout.flush()
+sys.stdin.readline()
+say('\\n')
+"""
+
+
+class ClientTest(unittest.TestCase):
+    """A test that has a folder, and repositories that are closed behind it."""
+
+    maxDiff = None
+
+    def setUp(self):
+        self.room = tempfile.TemporaryDirectory()
+        self.addCleanup(self.room.cleanup)
+
+    def file(self, name, content):
+        """The path of a file that is made of a text or of bytes."""
+        path = Path(self.room.name, name)
+        path.write_bytes(content if isinstance(content, bytes) else content.encode())
+        return path
+
+    def opened(self, metamodel=LIBRARY, program=PROGRAM):
+        """A repository."""
+        repo = Repository(metamodel, program)
+        self.addCleanup(repo.close)
+        return repo
+
+    def kinds(self):
+        """A repository of the metamodel KINDS."""
+        return self.opened(self.file('kinds.json', KINDS))
+
+    def fake(self, body, begin=BEGIN):
+        """The path of a program that accepts the metamodel and then runs a body of Python."""
+        path = self.file('fake', f'#!{sys.executable}\n{begin}\n{body}\n')
+        path.chmod(0o755)
+        return path
+
+    @contextmanager
+    def refused(self, number, name, cause=None):
+        """Checks that a command is refused so."""
+        with self.assertRaises(Refused) as found:
+            yield
+        self.assertEqual((found.exception.number, found.exception.name, found.exception.cause), (number, name, cause))
+
+    @contextmanager
+    def newer(self):
+        """Skips a test if the program has no such command."""
+        try:
+            yield
+        except BadLine as older:
+            self.skipTest(str(older))
+
+
+class LibraryTest(ClientTest):
+    """A test over a repository of examples/library.json."""
+
+    def setUp(self):
+        super().setUp()
+        self.repo = self.opened()
+
+    def made(self, *classes):
+        """An object of each class."""
+        return [self.repo.create(name) for name in classes]

@@ -1,0 +1,60 @@
+"""The examples of docs/PYTHON.md and the README do what they say, and the page names what there is."""
+
+import os
+import re
+import subprocess
+import sys
+import textwrap
+
+from support import CLIENT, PROGRAM, TOP, ClientTest
+
+import mmrepo
+
+PAGE = (TOP / 'docs/PYTHON.md').read_text()
+
+
+def block(language):
+    """The text of the one block of a language."""
+    found = re.findall(rf'^```{language}\n(.*?)^```$', PAGE, re.M | re.S)
+    assert len(found) == 1, f'{len(found)} blocks of {language}'
+    return found[0]
+
+
+class Page(ClientTest):
+    """The page on the client."""
+
+    def run_code(self, code, folder):
+        """What a piece of Python prints in a folder, with the client and the program at hand."""
+        environment = {**os.environ, 'PYTHONPATH': str(CLIENT), 'MMREPO': str(PROGRAM), 'PYTHONDONTWRITEBYTECODE': '1'}
+        command = [sys.executable, '-W', 'error', '-c', code]
+        done = subprocess.run(command, cwd=folder, env=environment, stdout=subprocess.PIPE, stderr=subprocess.PIPE)
+        self.assertEqual(done.stderr.decode(), '')
+        return done.stdout.decode()
+
+    def test_example(self):
+        self.file('library.json', block('json'))
+        self.assertEqual(self.run_code(block('python'), self.room.name), block('text'))
+
+    def test_readme(self):
+        """The lines of the README: what they print stands behind the last of them."""
+        lines = re.search(r'^    with mmrepo\..*\n(?:     .*\n)+', (TOP / 'README.md').read_text(), re.M).group()
+        done = self.run_code('import mmrepo\n' + textwrap.dedent(lines), TOP)
+        self.assertEqual(done, lines.rpartition('# ')[2])
+
+    def test_errors(self):
+        things = {name: getattr(mmrepo, name) for name in mmrepo.__all__}
+        errors = {name for name, it in things.items() if isinstance(it, type) and issubclass(it, Exception)}
+        named = set(re.findall(r'`([A-Z]\w+)`', PAGE))
+        self.assertEqual(errors - {'ProgramError'} - named, set())
+
+    def test_names(self):
+        """Each method and property of an object, a list, a resource, a view and a repository stands on the page."""
+        hidden = {'is_of', 'hearer', 'is_attached', 'close', 'uri', 'metamodel'}
+        for kind in (mmrepo.EObject, mmrepo.FeatureList, mmrepo.Resource, mmrepo.View, mmrepo.Repository):
+            for name in vars(kind):
+                if not name.startswith('_') and name not in hidden:
+                    self.assertRegex(PAGE, rf'\b{name}\b', f'{kind.__name__}.{name}')
+
+    def test_exported(self):
+        for name in set(mmrepo.__all__) - {'Value'}:
+            self.assertTrue(getattr(mmrepo, name).__doc__, name)
