@@ -17,6 +17,8 @@ pub(crate) struct Asked {
     pub(crate) strict: bool,
     /// Whether each line is answered before the next is read.
     pub(crate) live: bool,
+    /// Whether it says what to mend, behind what it reports.
+    pub(crate) explain: bool,
 }
 
 /// The words that the program was called with.
@@ -77,6 +79,7 @@ fn asked_of(rt: &HostRuntime, words: &[&str]) -> Result<Asked, Stop> {
         dress: options.dress,
         strict: options.strict,
         live: options.live,
+        explain: options.explain,
     })
 }
 

@@ -2,14 +2,16 @@
 #![tactic(auto)]
 
 mod asked;
+mod explained;
 mod metamodel;
 mod prompt;
 mod running;
 mod stop;
+mod watched;
 
 use crate::asked::{arguments_of, words_of};
-use crate::metamodel::load;
-use crate::running::{run_with_boxes, status_of};
+use crate::metamodel::{load, read_meta};
+use crate::running::{run_asked, status_of};
 use crate::stop::{Stop, report};
 use std::process::ExitCode;
 
@@ -17,8 +19,9 @@ use std::process::ExitCode;
 fn start(rt: &HostRuntime) -> Result<u8, Stop> {
     let words = words_of(rt)?;
     let asked = arguments_of(rt, words.as_slice())?;
-    let meta = load(rt, asked.meta.as_str())?;
-    let summary = run_with_boxes(rt, &asked, meta)?;
+    let bytes = read_meta(rt, &asked)?;
+    let meta = load(rt, &asked, bytes.as_slice())?;
+    let summary = run_asked(rt, &asked, meta, bytes)?;
     Ok(status_of(summary, asked.strict))
 }
 

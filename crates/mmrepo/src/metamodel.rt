@@ -1,24 +1,37 @@
 //! The metamodel is read and checked.
+use crate::asked::Asked;
+use crate::explained::{explained_fault, explained_open, explained_read};
 use crate::stop::Stop;
 use mm_check::check;
 use mm_load::load_meta;
 use mm_meta::Meta;
-use script_streams::{RunFault, read_all};
+use mm_types::MetaFault;
+use script_streams::read_all;
+use std::alloc::Global;
 use std::fs;
 
-/// The bytes of a file.
-fn read_file(rt: &HostRuntime, path: &str) -> Result<Vec<u8>, Stop> {
-    let Ok(mut file) = fs::open(rt, path) else {
-        return Err(Stop::Run(RunFault::Read));
+/// The bytes of the file of the metamodel.
+pub(crate) fn read_meta(rt: &HostRuntime, asked: &Asked) -> Result<Vec<u8>, Stop> {
+    let path = asked.meta.as_str();
+    let mut file = match fs::open(rt, path) {
+        Ok(file) => file,
+        Err(error) => return Err(explained_open(rt, asked.explain, path, error)),
     };
-    let bytes = read_all(rt.alloc(), &mut file)?;
-    Ok(bytes)
+    match read_all(rt.alloc(), &mut file) {
+        Ok(bytes) => Ok(bytes),
+        Err(fault) => Err(explained_read(rt, asked.explain, path, fault)),
+    }
 }
 
-/// The metamodel of a file.
-pub(crate) fn load(rt: &HostRuntime, path: &str) -> Result<Box<Meta>, Stop> {
-    let bytes = read_file(rt, path)?;
-    let raw = load_meta(rt.alloc(), bytes.as_slice())?;
-    let meta = check(rt.alloc(), raw)?;
-    Ok(Box::new(rt.alloc(), meta)?)
+/// The metamodel of a document.
+fn meta_of(alloc: Global, bytes: &[u8]) -> Result<Meta, MetaFault> {
+    check(alloc, load_meta(alloc, bytes)?)
+}
+
+/// The metamodel of a document that was read.
+pub(crate) fn load(rt: &HostRuntime, asked: &Asked, bytes: &[u8]) -> Result<Box<Meta>, Stop> {
+    match meta_of(rt.alloc(), bytes) {
+        Ok(meta) => Ok(Box::new(rt.alloc(), meta)?),
+        Err(fault) => Err(explained_fault(rt, asked.explain, bytes, fault)),
+    }
 }

@@ -1,12 +1,16 @@
 //! The script is run.
 use crate::asked::Asked;
+use crate::explained::{explained_open, explained_run};
 use crate::prompt::Prompted;
 use crate::stop::Stop;
+use crate::watched::Watched;
 use adapters::{Adapter, Counter, Recorder, Window};
+use explain_scripts::Watch;
 use link_store::SlotStore;
 use mm_meta::Meta;
 use script_program::{Dress, Summary, run_dressed, run_live};
 use script_streams::RunFault;
+use std::cell::RefCell;
 use std::io::{BufReader, BufWriter, Printer, Read, Write};
 use std::{fs, io};
 
@@ -31,34 +35,39 @@ fn writer_of(rt: &HostRuntime) -> Result<BufWriter<Printer<'_, HostRuntime>>, St
 }
 
 /// Writes what is left in the buffer, whatever the outcome of a run.
-fn ended<W: Write>(writer: &mut W, outcome: Result<Summary, RunFault>) -> Result<Summary, Stop> {
+fn ended<W: Write>(
+    writer: &mut W,
+    outcome: Result<Summary, RunFault>,
+) -> Result<Summary, RunFault> {
     let flushed = writer.flush();
     let summary = outcome?;
     if flushed.is_err() {
-        return Err(Stop::Run(RunFault::Write));
+        return Err(RunFault::Write);
     }
     Ok(summary)
 }
 
 /// Runs the script that a reader gives over an empty repository.
-fn run_reader<R: Read, A: Adapter>(
+fn run_reader<R: Read + Drop, A: Adapter>(
     rt: &HostRuntime,
-    reader: &mut R,
+    reader: R,
     meta: Box<Meta>,
     boxes: Vec<A>,
     dress: Dress,
+    watch: Option<&RefCell<Watch<'_>>>,
 ) -> Result<Summary, Stop> {
-    let mut writer = writer_of(rt)?;
+    let mut reader = Watched::new(rt, reader, watch);
+    let mut writer = Watched::new(rt, writer_of(rt)?, watch);
     let meta = Box::into_inner(meta);
     let outcome = run_dressed::<_, _, SlotStore, _>(
         rt.alloc(),
-        reader,
+        &mut reader,
         &mut writer,
         meta,
         boxes,
         dress,
     );
-    ended(&mut writer, outcome)
+    Ok(ended(&mut writer, outcome)?)
 }
 
 /// Answers the lines that come on standard input, each before the next is read.
@@ -66,14 +75,16 @@ fn run_dialogue<A: Adapter>(
     rt: &HostRuntime,
     meta: Box<Meta>,
     boxes: Vec<A>,
+    watch: Option<&RefCell<Watch<'_>>>,
 ) -> Result<Summary, Stop> {
-    let Ok(mut reader) = BufReader::new(rt.alloc(), Prompted::new(rt)) else {
+    let stream = Watched::new(rt, Prompted::new(rt), watch);
+    let Ok(mut reader) = BufReader::new(rt.alloc(), stream) else {
         return Err(Stop::Run(RunFault::Memory));
     };
-    let mut writer = writer_of(rt)?;
+    let mut writer = Watched::new(rt, writer_of(rt)?, watch);
     let meta = Box::into_inner(meta);
     let outcome = run_live::<_, _, SlotStore, _>(rt.alloc(), &mut reader, &mut writer, meta, boxes);
-    ended(&mut writer, outcome)
+    Ok(ended(&mut writer, outcome)?)
 }
 
 /// Runs the script of a file, or that on standard input.
@@ -82,25 +93,31 @@ fn run_script<A: Adapter>(
     asked: &Asked,
     meta: Box<Meta>,
     boxes: Vec<A>,
+    watch: Option<&RefCell<Watch<'_>>>,
 ) -> Result<Summary, Stop> {
     if asked.live {
-        return run_dialogue(rt, meta, boxes);
+        return run_dialogue(rt, meta, boxes, watch);
     }
     let Some(path) = &asked.script else {
-        return run_reader(rt, &mut rt.reader(), meta, boxes, asked.dress);
+        return run_reader(rt, rt.reader(), meta, boxes, asked.dress, watch);
     };
-    let Ok(mut file) = fs::open(rt, path.as_str()) else {
-        return Err(Stop::Run(RunFault::Read));
+    let file = match fs::open(rt, path.as_str()) {
+        Ok(file) => file,
+        Err(error) => return Err(explained_open(rt, asked.explain, path.as_str(), error)),
     };
-    run_reader(rt, &mut file, meta, boxes, asked.dress)
+    match run_reader(rt, file, meta, boxes, asked.dress, watch) {
+        Err(Stop::Run(fault)) => Err(explained_run(rt, asked.explain, path.as_str(), fault)),
+        outcome => outcome,
+    }
 }
 
 /// Runs the script with its boxes: A1 to A4, which keep every notice, A5 and A6, which keep the last 2 and the last 100, A7,
 /// which counts, and A8, which can count two more. A live run has more that count, so that a long one keeps no notices.
-pub(crate) fn run_with_boxes(
+fn run_with_boxes(
     rt: &HostRuntime,
     asked: &Asked,
     meta: Box<Meta>,
+    watch: Option<&RefCell<Watch<'_>>>,
 ) -> Result<Summary, Stop> {
     let last = if asked.live { LIVE_BOXES } else { BOXES };
     let mut boxes: Vec<Box<dyn Adapter>> = Vec::new(rt.alloc());
@@ -113,7 +130,32 @@ pub(crate) fn run_with_boxes(
             _ => boxes.push(Box::new(rt.alloc(), Counter::new())?)?,
         }
     }
-    run_script(rt, asked, meta, boxes)
+    run_script(rt, asked, meta, boxes, watch)
+}
+
+/// Runs the script, and explains its bad lines and the documents that are refused.
+fn run_explained(
+    rt: &HostRuntime,
+    asked: &Asked,
+    meta: Box<Meta>,
+    document: &[u8],
+) -> Result<Summary, Stop> {
+    let watch = RefCell::new(Watch::new(rt.alloc(), document, asked.dress.number));
+    run_with_boxes(rt, asked, meta, Some(&watch))
+}
+
+/// Runs the script as it is asked for. The document of the metamodel is let go where nothing is explained.
+pub(crate) fn run_asked(
+    rt: &HostRuntime,
+    asked: &Asked,
+    meta: Box<Meta>,
+    document: Vec<u8>,
+) -> Result<Summary, Stop> {
+    if asked.explain {
+        return run_explained(rt, asked, meta, document.as_slice());
+    }
+    drop(document);
+    run_with_boxes(rt, asked, meta, None)
 }
 
 /// The status of a run that came to its end.

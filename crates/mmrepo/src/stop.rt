@@ -17,6 +17,10 @@ pub(crate) enum Stop {
     Metamodel(MetaFault),
     /// A stream failed, an input is too long, or memory was refused.
     Run(RunFault),
+    /// The metamodel is refused, and a text says what to mend.
+    Mend(MetaFault, String),
+    /// A file is not read, and a text says why.
+    Explained(RunFault, String),
 }
 
 impl From<AllocError> for Stop {
@@ -75,6 +79,12 @@ fn report_run(rt: &HostRuntime, fault: RunFault) -> u8 {
     3
 }
 
+/// Says on standard error what a status is explained by, and answers it.
+fn explain(rt: &HostRuntime, status: u8, text: &str) -> u8 {
+    let _ = eprint!(rt; "{text}");
+    status
+}
+
 /// Says on standard error why the program stops, and answers its status.
 pub(crate) fn report(rt: &HostRuntime, stop: Stop) -> u8 {
     match stop {
@@ -83,5 +93,7 @@ pub(crate) fn report(rt: &HostRuntime, stop: Stop) -> u8 {
         Stop::NotLive(option) => report_not_live(rt, option),
         Stop::Metamodel(fault) => report_metamodel(rt, fault),
         Stop::Run(fault) => report_run(rt, fault),
+        Stop::Mend(fault, text) => explain(rt, report_metamodel(rt, fault), text.as_str()),
+        Stop::Explained(fault, text) => explain(rt, report_run(rt, fault), text.as_str()),
     }
 }

@@ -19,4 +19,5 @@ pub use form::Form;
 pub use line::{Line, parse_line};
 pub use lines::next_line;
 pub use name::Name;
+pub use words::{MOST_WORDS, words_of};
 pub use written_value::WrittenValue;

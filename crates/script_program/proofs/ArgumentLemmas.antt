@@ -2,7 +2,7 @@
 use Rattle.std.proofs.Common.{◌≡◌, ◌∙◌, ◌<◌, ◌≤◌, ℕ, zero, suc, true, false, inl, inr, is_some, List, [], ◌∷◌, None, ap, arith, codes, length, map, refl, slice_index, subst, sym}
 use Rattle.std.specs.List.{All, list_all, slice_index_or}
 use Rattle.std.specs.Str.{bytes_eq}
-use Rattle.clap.specs.Built.{IsAuto, IsParsedFrom, IsPlain, IsPlainArg}
+use Rattle.clap.specs.Built.{IsParsedFrom, IsPlain, IsPlainArg}
 use Rattle.clap.specs.Facts.{args_of, unwrap_or_range}
 use Rattle.clap.specs.Matches.{first_value, found_of}
 use Rattle.clap.specs.Simple.{IsSimple, IsSimpleArg, is_ready, is_ready_leaf}

@@ -1,10 +1,11 @@
 use Rattle.std.proofs.Common.{◌≡◌, ◌<◌, ◌++◌, [], ◌∷◌, length, rules}
 use Rattle.std.proofs.lemmas.Result.{err_from_is_err_and}
+use Rattle.std.proofs.KnownBytes.{Keeps-refl}
 use Rattle.std.specs.Io.Buffered.{reader_remaining}
 use Rattle.script_streams.specs.declared.line.LineEnd.TheVariants.{Input}
 use Rattle.script_program.specs.Live.{AnswersLive}
 use Rattle.script_program.specs.Session.{Session}
-use Rattle.script_program.proofs.LiveLemmas.{at_end, begin, finish, next, stopped, too_long}
+use Rattle.script_program.proofs.LiveLemmas.{at_end, begin, ended, finish, next, paused, stopped, too_long}
 use Rattle.script_program.proofs.live.answer_lines.Goals.{else-eq-via-else-eq, else-eq-via-then-eq+else-is_empty}
 use Rattle.script_program.proofs.live.answer_lines.Goals as goal
 
@@ -80,3 +81,36 @@ lines-preserved g c =
     (contents c.read_line.new.writer) (remaining c.read_line.new.reader) after line c.in_ok-end.end c.in_ok-turn.turn (contents c.answer_live.new.writer) i.1
     c.in_ok-end.ensures.keeps c.in_ok-end.ensures.ok some one in
     (i.0 ++ one.printed ∷ [], rw c.with-summary.ensures goes)
+
+pub returns-in_err-end-clause-err : goal.returns-in_err-end-clause-err
+returns-in_err-end-clause-err g c =
+    let remaining = reader_remaining g.R.Read.remaining in
+    let first : Session = record { state = c.args.repository.now; pool = c.args.pool.now } in
+    let now : Session = record { state = c.lines.repository; pool = c.lines.pool } in
+    let i = c.lines.invariant in
+    let e = err_from_is_err_and c.from_residual.result c.from_residual.ensures.1 in
+    rw e.1 (paused first (remaining c.args.reader.now) (remaining c.lines.reader) now c.lines.number i.0 c.lines.summary _ _ (g.W.Write.contents c.read_line.new.writer) i.1 c.in_err-end.ensures.keeps)
+
+pub returns-then-is_empty-clause-ok : goal.returns-then-is_empty-clause-ok
+returns-then-is_empty-clause-ok g c =
+    let last : c.in_ok-end.end ≡ Input = search rules in
+    let line = c.read_line.new.line.items in
+    let none : length line ≡ 0 = search rules in
+    let remaining = reader_remaining g.R.Read.remaining in
+    let contents = g.W.Write.contents in
+    let first : Session = record { state = c.args.repository.now; pool = c.args.pool.now } in
+    let now : Session = record { state = c.lines.repository; pool = c.lines.pool } in
+    let i = c.lines.invariant in
+    let read = rw last at c.in_ok-end.ensures.ok in
+    let goes = ended first (remaining c.args.reader.now) (contents c.args.writer.now) (remaining c.lines.reader) now c.lines.number i.0 c.lines.summary (contents c.lines.writer)
+    (contents c.read_line.new.writer) (remaining c.read_line.new.reader) line i.1 c.in_ok-end.ensures.keeps read none in
+    finish first (remaining c.args.reader.now) (remaining c.read_line.new.reader) now _ _ _ _ _ goes
+    (at_end (remaining c.args.reader.now) (remaining c.lines.reader) (remaining c.read_line.new.reader) i.1.done line i.1.read read)
+
+pub returns-clause-err : goal.returns-clause-err
+returns-clause-err g c =
+    let remaining = reader_remaining g.R.Read.remaining in
+    let first : Session = record { state = c.args.repository.now; pool = c.args.pool.now } in
+    let now : Session = record { state = c.lines.repository; pool = c.lines.pool } in
+    let i = c.lines.invariant in
+    paused first (remaining c.args.reader.now) (remaining c.lines.reader) now c.lines.number i.0 c.lines.summary _ _ (g.W.Write.contents c.lines.writer) i.1 (Keeps-refl (g.W.Write.contents c.lines.writer))

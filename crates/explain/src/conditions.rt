@@ -1,0 +1,93 @@
+//! What is wrong with a metamodel whose document has the right layout.
+use crate::bounds::{explain_bounds, explain_container, explain_default};
+use crate::duplicates::explain_duplicate;
+use crate::inherited::explain_cycle;
+use crate::named::{Named, enum_at, feature_at, name_at, opposite_of};
+use crate::opposites::{explain_both, explain_opposite};
+use crate::types::{explain_super, explain_type};
+use mm_types::names::is_name;
+use mm_types::{Condition, Place, RawFeature, RawMeta};
+use std::alloc::{AllocError, Global};
+
+fn is_bad(name: &str) -> bool {
+    !is_name(name.as_bytes())
+}
+
+/// The first literal of an enumeration that is no name.
+fn bad_literal(raw: &RawMeta, i: usize) -> Option<&str> {
+    'literals: for literal in enum_at(raw, i)?.literals.as_slice() {
+        if is_bad(literal.as_str()) {
+            return Some(literal.as_str());
+        }
+    }
+    None
+}
+
+/// The name at a place, or a literal there, that is none.
+fn bad_name(at: Named<'_>) -> &str {
+    let name = name_at(at.raw, at.place);
+    match at.place {
+        Place::Enum(i) if !is_bad(name) => bad_literal(at.raw, i).unwrap_or(name),
+        _ => name,
+    }
+}
+
+/// A name that is none.
+fn explain_name(out: &mut String, at: Named<'_>) -> Result<(), AllocError> {
+    let name = bad_name(at);
+    writeln!(
+        out,
+        "{at}: {name:?} is no name; a name is a letter or _, and then letters, digits and _"
+    )
+}
+
+/// A fault of the opposite of a reference.
+fn explain_end(
+    out: &mut String,
+    condition: Condition,
+    at: Named<'_>,
+    feature: &RawFeature,
+) -> Result<(), AllocError> {
+    match opposite_of(feature) {
+        Some(opposite) => match condition {
+            Condition::BothContain => explain_both(out, at, feature, opposite),
+            Condition::ContainerBound => explain_container(out, at, feature, opposite),
+            _ => explain_opposite(out, at, feature, opposite),
+        },
+        None => Ok(()),
+    }
+}
+
+/// A fault of a feature.
+fn explain_feature(
+    alloc: Global,
+    out: &mut String,
+    condition: Condition,
+    at: Named<'_>,
+) -> Result<(), AllocError> {
+    let Some(feature) = feature_at(at.raw, at.place) else {
+        return Ok(());
+    };
+    match condition {
+        Condition::NoType => explain_type(alloc, out, at, feature),
+        Condition::Bounds => explain_bounds(out, at, feature),
+        Condition::Default => explain_default(out, at, feature),
+        _ => explain_end(out, condition, at, feature),
+    }
+}
+
+/// Adds what is wrong at the place of a condition.
+pub(crate) fn explain_condition(
+    alloc: Global,
+    out: &mut String,
+    condition: Condition,
+    at: Named<'_>,
+) -> Result<(), AllocError> {
+    match (condition, at.place) {
+        (Condition::Name, _) => explain_name(out, at),
+        (Condition::DuplicateName, _) => explain_duplicate(alloc, out, at),
+        (Condition::NoType, Place::Class(c)) => explain_super(alloc, out, at, c),
+        (Condition::Cycle, Place::Class(c)) => explain_cycle(alloc, out, at, c),
+        _ => explain_feature(alloc, out, condition, at),
+    }
+}

@@ -1,0 +1,129 @@
+//! Names that stand twice where they may stand once.
+use crate::inherited::Ancestry;
+use crate::named::{Named, class_at, class_named, enum_at, enum_named, name_at};
+use crate::near::is_among;
+use mm_types::{Place, RawMeta, Text};
+use std::alloc::{AllocError, Global};
+use std::collections::BTreeMap;
+
+/// The names that no enumeration and no class may have.
+const RESERVED: [&str; 5] = ["EString", "EInt", "ELong", "EBoolean", "Resource"];
+
+/// The first position of a text before another position.
+fn position_before(texts: &[Text], end: usize, text: &str) -> Option<usize> {
+    'texts: for (i, other) in texts.iter().enumerate() {
+        if i < end && other.as_str() == text {
+            return Some(i);
+        }
+    }
+    None
+}
+
+/// Texts that the array of a key has twice.
+fn explain_repeated(
+    out: &mut String,
+    at: Named<'_>,
+    key: &str,
+    texts: &[Text],
+) -> Result<(), AllocError> {
+    'texts: for (j, text) in texts.iter().enumerate() {
+        if let Some(i) = position_before(texts, j, text.as_str()) {
+            writeln!(out, "{at}: {key}[{i}] and {key}[{j}] are the same name")?;
+        }
+    }
+    Ok(())
+}
+
+fn features_of(alloc: Global, raw: &RawMeta, class: usize) -> Result<Vec<Place>, AllocError> {
+    let ancestry = Ancestry::of(alloc, raw, class)?;
+    ancestry.features(alloc, raw)
+}
+
+/// The first two places at which one name stands.
+fn clash_in(
+    alloc: Global,
+    raw: &RawMeta,
+    places: &[Place],
+) -> Result<Option<(Place, Place)>, AllocError> {
+    let mut seen: BTreeMap<&str, Place> = BTreeMap::new(alloc);
+    'places: for place in places {
+        if let Some(first) = seen.insert(name_at(raw, *place), *place)? {
+            return Ok(Some((first, *place)));
+        }
+    }
+    Ok(None)
+}
+
+fn explain_places(
+    alloc: Global,
+    out: &mut String,
+    at: Named<'_>,
+    places: &[Place],
+) -> Result<(), AllocError> {
+    let raw = at.raw;
+    match clash_in(alloc, raw, places)? {
+        Some((first, second)) => {
+            let first = Named { raw, place: first };
+            let second = Named { raw, place: second };
+            writeln!(
+                out,
+                "{at}: it has two features of one name: {first}, and {second}"
+            )
+        }
+        None => Ok(()),
+    }
+}
+
+/// Two features of a class, own or inherited, that have one name.
+fn explain_clash(
+    alloc: Global,
+    out: &mut String,
+    at: Named<'_>,
+    class: usize,
+) -> Result<(), AllocError> {
+    let places = features_of(alloc, at.raw, class)?;
+    explain_places(alloc, out, at, places.as_slice())
+}
+
+/// What stands twice in an enumeration or a class.
+fn explain_inner(alloc: Global, out: &mut String, at: Named<'_>) -> Result<(), AllocError> {
+    match at.place {
+        Place::Enum(i) => match enum_at(at.raw, i) {
+            Some(found) => explain_repeated(out, at, "literals", found.literals.as_slice()),
+            None => Ok(()),
+        },
+        Place::Class(c) => {
+            if let Some(found) = class_at(at.raw, c) {
+                explain_repeated(out, at, "supers", found.supers.as_slice())?;
+            }
+            explain_clash(alloc, out, at, c)
+        }
+        Place::Feature(_, _) => Ok(()),
+    }
+}
+
+/// Where an enumeration or a class has the name of a later one.
+fn earlier(raw: &RawMeta, name: &str, place: Place) -> Option<Place> {
+    match (place, enum_named(raw, name), class_named(raw, name)) {
+        (Place::Enum(i), Some(e), _) if e < i => Some(Place::Enum(e)),
+        (Place::Class(_), Some(e), _) => Some(Place::Enum(e)),
+        (Place::Class(c), None, Some(k)) if k < c => Some(Place::Class(k)),
+        _ => None,
+    }
+}
+
+/// A name that stands twice where it may stand once.
+pub(crate) fn explain_duplicate(
+    alloc: Global,
+    out: &mut String,
+    at: Named<'_>,
+) -> Result<(), AllocError> {
+    let name = name_at(at.raw, at.place);
+    if is_among(&RESERVED, name) {
+        return writeln!(out, "{at}: the name is reserved for a type of EMF");
+    }
+    match earlier(at.raw, name, at.place) {
+        Some(first) => writeln!(out, "{at}: {first} and {} have one name", at.place),
+        None => explain_inner(alloc, out, at),
+    }
+}

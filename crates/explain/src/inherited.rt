@@ -1,0 +1,162 @@
+//! What a class inherits: the way round a cycle of supertypes, and two features of one name.
+use crate::named::{Named, class_at, class_named, name_at};
+use mm_types::{Place, RawMeta};
+use std::alloc::{AllocError, Global};
+use std::fmt;
+
+/// A class that was reached from another one by supertypes, and the position among those reached of the class before it.
+#[derive(Drop)]
+struct Reached {
+    class: usize,
+    before: usize,
+}
+
+/// The classes that are reached from a class by supertypes, each once, the class itself first.
+#[derive(Drop)]
+pub(crate) struct Ancestry {
+    reached: Vec<Reached>,
+}
+
+impl Ancestry {
+    fn has(&self, class: usize) -> bool {
+        'reached: for reached in &self.reached {
+            if reached.class == class {
+                return true;
+            }
+        }
+        false
+    }
+
+    fn class_at(&self, position: usize) -> Option<usize> {
+        Some(self.reached.get(position)?.class)
+    }
+
+    /// Adds the direct supertypes of a class that was reached.
+    fn add_supers(&mut self, raw: &RawMeta, class: usize, before: usize) -> Result<(), AllocError> {
+        let supers = match class_at(raw, class) {
+            Some(class) => class.supers.as_slice(),
+            None => &[],
+        };
+        'supers: for name in supers {
+            match class_named(raw, name.as_str()) {
+                Some(class) if !self.has(class) => self.reached.push(Reached { class, before })?,
+                _ => {}
+            }
+        }
+        Ok(())
+    }
+
+    /// The ancestry of a class.
+    pub(crate) fn of(alloc: Global, raw: &RawMeta, class: usize) -> Result<Ancestry, AllocError> {
+        let mut found = Ancestry {
+            reached: Vec::new(alloc),
+        };
+        found.reached.push(Reached { class, before: 0 })?;
+        'classes: for i in 0..raw.classes().len() {
+            match found.class_at(i) {
+                Some(class) => found.add_supers(raw, class, i)?,
+                None => return Ok(found),
+            }
+        }
+        Ok(found)
+    }
+}
+
+/// Adds the places of as many features of a class as it declares.
+fn add_features(places: &mut Vec<Place>, class: usize, count: usize) -> Result<(), AllocError> {
+    'features: for i in 0..count {
+        places.push(Place::Feature(class, i))?;
+    }
+    Ok(())
+}
+
+/// Classes on a way, the last one first, as a reader is told of them.
+#[derive(Drop)]
+struct Way<'m> {
+    raw: &'m RawMeta,
+    classes: &'m [usize],
+}
+
+impl fmt::Display for Way<'_> {
+    fn fmt<W: fmt::Write>(&self, f: &mut fmt::Formatter<W>) -> fmt::Result {
+        'classes: for class in self.classes.iter().rev() {
+            let name = name_at(self.raw, Place::Class(*class));
+            write!(f, "{name}, ")?;
+        }
+        Ok(())
+    }
+}
+
+impl Ancestry {
+    /// The places of the features of all classes that were reached.
+    pub(crate) fn features(&self, alloc: Global, raw: &RawMeta) -> Result<Vec<Place>, AllocError> {
+        let mut places = Vec::new(alloc);
+        'classes: for reached in &self.reached {
+            if let Some(class) = class_at(raw, reached.class) {
+                add_features(&mut places, reached.class, class.features.len())?;
+            }
+        }
+        Ok(places)
+    }
+
+    /// The position of the first class that was reached and names one as its supertype.
+    fn below(&self, raw: &RawMeta, name: &str) -> Option<usize> {
+        'reached: for (i, reached) in self.reached.as_slice().iter().enumerate() {
+            if names_super(raw, reached.class, name) {
+                return Some(i);
+            }
+        }
+        None
+    }
+
+    /// The classes on the way to the one that was reached at a position, that one first.
+    fn way_to(&self, alloc: Global, position: usize) -> Result<Vec<usize>, AllocError> {
+        let mut way = Vec::new(alloc);
+        let mut at = position;
+        'steps: for _ in 0..self.reached.len() {
+            let Some(reached) = self.reached.get(at) else {
+                return Ok(way);
+            };
+            way.push(reached.class)?;
+            if at == 0 {
+                return Ok(way);
+            }
+            at = reached.before;
+        }
+        Ok(way)
+    }
+}
+
+fn names_super(raw: &RawMeta, class: usize, name: &str) -> bool {
+    let Some(class) = class_at(raw, class) else {
+        return false;
+    };
+    'supers: for found in class.supers.as_slice() {
+        if found.as_str() == name {
+            return true;
+        }
+    }
+    false
+}
+
+/// The way on which a class is its own supertype.
+pub(crate) fn explain_cycle(
+    alloc: Global,
+    out: &mut String,
+    at: Named<'_>,
+    class: usize,
+) -> Result<(), AllocError> {
+    let raw = at.raw;
+    let name = name_at(raw, at.place);
+    let ancestry = Ancestry::of(alloc, raw, class)?;
+    let Some(last) = ancestry.below(raw, name) else {
+        return Ok(());
+    };
+    let way = ancestry.way_to(alloc, last)?;
+    let classes = way.as_slice();
+    writeln!(
+        out,
+        "{at}: its supertypes lead back to it: {}{name}",
+        Way { raw, classes }
+    )
+}

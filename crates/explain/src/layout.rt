@@ -1,0 +1,199 @@
+//! What is wrong with the layout of a document, or with how much there is of it: unknown and absent keys, and values that are
+//! written in another way.
+use crate::near::{is_among, nearest};
+use crate::rows::{
+    ATTRIBUTE, CLASS, DOCUMENT, ENUMERATION, FEATURE, MISPLACED, REFERENCE, Row, advice_in,
+};
+use crate::shown::Shown;
+use crate::values::explain_value;
+use serde_json::{Map, Value};
+use std::alloc::{AllocError, Global};
+
+/// How many bytes of an explanation are enough: where there are as many, no further object is looked at.
+const ENOUGH: usize = 4096;
+
+/// The names of the keys that are listed.
+fn listed(alloc: Global, rows: &[Row]) -> Result<Vec<&'static str>, AllocError> {
+    let mut keys = Vec::new(alloc);
+    'rows: for row in rows {
+        keys.push(row.key)?;
+    }
+    Ok(keys)
+}
+
+fn explain_unknown(
+    alloc: Global,
+    out: &mut String,
+    place: &str,
+    keys: &[&str],
+    key: &str,
+) -> Result<(), AllocError> {
+    if let Some(advice) = advice_in(&MISPLACED, key) {
+        return writeln!(out, "{place}: unknown key {key:?}; {advice}");
+    }
+    match nearest(alloc, key, keys)? {
+        Some(meant) => writeln!(out, "{place}: unknown key {key:?}; is {meant:?} meant?"),
+        None => writeln!(out, "{place}: unknown key {key:?}"),
+    }
+}
+
+/// The keys that are not listed.
+fn explain_keys(
+    alloc: Global,
+    out: &mut String,
+    place: &str,
+    keys: &[&str],
+    members: &Map<String, Value>,
+) -> Result<(), AllocError> {
+    'keys: for key in members.keys() {
+        if !is_among(keys, key.as_str()) {
+            explain_unknown(alloc, out, place, keys, key.as_str())?;
+        }
+    }
+    Ok(())
+}
+
+fn explain_row(
+    out: &mut String,
+    place: &str,
+    row: &Row,
+    members: &Map<String, Value>,
+) -> Result<(), AllocError> {
+    match members.get(row.key) {
+        Some(json) => explain_value(out, place, row, json),
+        None if row.is_required => writeln!(out, "{place}: the key {:?} is absent", row.key),
+        None => Ok(()),
+    }
+}
+
+fn explain_rows(
+    out: &mut String,
+    place: &str,
+    rows: &[Row],
+    members: &Map<String, Value>,
+) -> Result<(), AllocError> {
+    'rows: for row in rows {
+        explain_row(out, place, row, members)?;
+    }
+    Ok(())
+}
+
+/// Adds a line for each key of an object that is unknown or absent, and for each value that is written in another way than
+/// its row says. Where the text has more than 4,096 bytes already nothing is added. Errs only where memory is refused.
+pub fn explain_object(
+    alloc: Global,
+    out: &mut String,
+    place: &str,
+    rows: &[Row],
+    json: &Value,
+) -> Result<(), AllocError> {
+    if out.len() > ENOUGH {
+        return Ok(());
+    }
+    match json.as_object() {
+        Some(members) => {
+            explain_rows(out, place, rows, members)?;
+            let keys = listed(alloc, rows)?;
+            explain_keys(alloc, out, place, keys.as_slice(), members)
+        }
+        None => writeln!(
+            out,
+            "{place}: it is {}, and has to be an object",
+            Shown(json)
+        ),
+    }
+}
+
+/// The items of an array that stands under a key; none where there is no such array.
+fn items_at<'v>(json: &'v Value, key: &str) -> &'v [Value] {
+    match json.get(key) {
+        Some(Value::Array(items)) => items.as_slice(),
+        _ => &[],
+    }
+}
+
+/// Whether an attribute is unsettable and not single.
+fn unsets_many(json: &Value) -> bool {
+    let is_single = match json.get("upper") {
+        Some(upper) => upper.as_i64() == Some(1),
+        None => true,
+    };
+    match json.get("unsettable") {
+        Some(Value::Bool(true)) => !is_single,
+        _ => false,
+    }
+}
+
+fn explain_attribute(
+    alloc: Global,
+    out: &mut String,
+    place: &str,
+    json: &Value,
+) -> Result<(), AllocError> {
+    explain_object(alloc, out, place, &ATTRIBUTE, json)?;
+    if unsets_many(json) {
+        return writeln!(
+            out,
+            "{place}: \"unsettable\" is true, and goes with \"upper\" 1 alone"
+        );
+    }
+    Ok(())
+}
+
+fn explain_feature(
+    alloc: Global,
+    out: &mut String,
+    place: &str,
+    json: &Value,
+) -> Result<(), AllocError> {
+    match json.get("kind") {
+        Some(Value::String(kind)) if kind.as_str() == "attribute" => {
+            explain_attribute(alloc, out, place, json)
+        }
+        Some(Value::String(kind)) if kind.as_str() == "reference" => {
+            explain_object(alloc, out, place, &REFERENCE, json)
+        }
+        _ => explain_object(alloc, out, place, &FEATURE, json),
+    }
+}
+
+fn explain_features(
+    alloc: Global,
+    out: &mut String,
+    class: usize,
+    features: &[Value],
+) -> Result<(), AllocError> {
+    'features: for (i, json) in features.iter().enumerate() {
+        let place = format!(in alloc; "classes[{class}].features[{i}]")?;
+        explain_feature(alloc, out, place.as_str(), json)?;
+    }
+    Ok(())
+}
+
+fn explain_classes(alloc: Global, out: &mut String, classes: &[Value]) -> Result<(), AllocError> {
+    'classes: for (c, json) in classes.iter().enumerate() {
+        let place = format!(in alloc; "classes[{c}]")?;
+        explain_object(alloc, out, place.as_str(), &CLASS, json)?;
+        explain_features(alloc, out, c, items_at(json, "features"))?;
+    }
+    Ok(())
+}
+
+fn explain_enums(alloc: Global, out: &mut String, enums: &[Value]) -> Result<(), AllocError> {
+    'enums: for (i, json) in enums.iter().enumerate() {
+        let place = format!(in alloc; "enums[{i}]")?;
+        explain_object(alloc, out, place.as_str(), &ENUMERATION, json)?;
+    }
+    Ok(())
+}
+
+/// Adds a line for each fault of the layout of a document, and for each limit that is passed.
+pub(crate) fn explain_layout(
+    alloc: Global,
+    out: &mut String,
+    json: &Value,
+) -> Result<(), AllocError> {
+    explain_object(alloc, out, "document", &DOCUMENT, json)?;
+    explain_enums(alloc, out, items_at(json, "enums"))?;
+    explain_classes(alloc, out, items_at(json, "classes"))
+}

@@ -1,0 +1,25 @@
+//! What to mend in a metamodel that is refused, in words: lines for a reader, behind the fault that `mm_load` or `mm_check`
+//! answers.
+//!
+//! No contract says what a text is. The functions are proved safe and ending; cases of the program show their texts.
+#![tactic(auto)]
+
+mod bounds;
+mod conditions;
+mod duplicates;
+mod inherited;
+mod layout;
+mod metamodel;
+mod named;
+mod near;
+mod opposites;
+mod rows;
+mod shown;
+mod types;
+mod values;
+
+pub use layout::explain_object;
+pub use metamodel::explain_meta;
+pub use near::nearest;
+pub use rows::{Row, Sort};
+pub use shown::Shown;

@@ -1,0 +1,63 @@
+//! What to mend in a metamodel that is refused.
+use crate::conditions::explain_condition;
+use crate::layout::explain_layout;
+use crate::named::Named;
+use mm_load::load_meta;
+use mm_types::{Condition, MetaFault, Place};
+use serde_json::Value;
+use std::alloc::{AllocError, Global};
+
+/// Where the bytes are no JSON, or else what is wrong with the layout of what they are.
+fn explain_bytes(alloc: Global, out: &mut String, bytes: &[u8]) -> Result<(), AllocError> {
+    match Value::from_slice(alloc, bytes) {
+        Ok(json) => explain_layout(alloc, out, &json),
+        Err(error) if error.is_memory() => Err(AllocError),
+        Err(error) => {
+            let line = error.line();
+            let column = error.column();
+            if error.is_eof() {
+                return writeln!(
+                    out,
+                    "line {line}, column {column}: the bytes end within the JSON"
+                );
+            }
+            writeln!(
+                out,
+                "line {line}, column {column}: from here on the bytes are no JSON"
+            )
+        }
+    }
+}
+
+/// What is wrong at the place of a condition.
+fn explain_place(
+    alloc: Global,
+    out: &mut String,
+    bytes: &[u8],
+    condition: Condition,
+    place: Place,
+) -> Result<(), AllocError> {
+    match load_meta(alloc, bytes) {
+        Ok(raw) => explain_condition(alloc, out, condition, Named { raw: &raw, place }),
+        Err(_) => Ok(()),
+    }
+}
+
+/// What to mend in a document for which a fault was answered: a line, ended by a newline, for each place that is found.
+///
+/// `Syntax` has the line and the column, counted from 1. `Layout` and `Limit` have a line for each key and each value that
+/// is wrong, until the text has 4,096 bytes: an object is named by the positions of arrays, as `classes[3].features[2]`. The
+/// other faults have the names of classes and features. Errs only where memory is refused.
+pub fn explain_meta(alloc: Global, bytes: &[u8], fault: MetaFault) -> Result<String, AllocError> {
+    let mut out = String::new(alloc);
+    match fault {
+        MetaFault::IllFormed(condition, place) => {
+            explain_place(alloc, &mut out, bytes, condition, place)?;
+        }
+        MetaFault::Memory => {}
+        MetaFault::Syntax | MetaFault::Layout | MetaFault::Limit => {
+            explain_bytes(alloc, &mut out, bytes)?;
+        }
+    }
+    Ok(out)
+}

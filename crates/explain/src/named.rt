@@ -1,0 +1,96 @@
+//! The classes, features and enumerations of a document, by their names and places.
+use mm_types::{Enumeration, Place, RawClass, RawFeature, RawKind, RawMeta};
+use std::fmt;
+
+/// A place of a document as a reader is told of it: by the names that stand there.
+#[derive(Clone, Copy)]
+pub(crate) struct Named<'m> {
+    pub(crate) raw: &'m RawMeta,
+    pub(crate) place: Place,
+}
+
+impl fmt::Display for Named<'_> {
+    fn fmt<W: fmt::Write>(&self, f: &mut fmt::Formatter<W>) -> fmt::Result {
+        let name = name_at(self.raw, self.place);
+        match self.place {
+            Place::Enum(_) => write!(f, "enumeration {name}"),
+            Place::Class(_) => write!(f, "class {name}"),
+            Place::Feature(c, _) => {
+                let class = name_at(self.raw, Place::Class(c));
+                write!(f, "class {class}, feature {name}")
+            }
+        }
+    }
+}
+
+/// The enumeration at a position.
+pub(crate) fn enum_at(raw: &RawMeta, i: usize) -> Option<&Enumeration> {
+    raw.enums().get(i)
+}
+
+/// The class at a position.
+pub(crate) fn class_at(raw: &RawMeta, c: usize) -> Option<&RawClass> {
+    raw.classes().get(c)
+}
+
+/// The feature at a place.
+pub(crate) fn feature_at(raw: &RawMeta, place: Place) -> Option<&RawFeature> {
+    match place {
+        Place::Feature(c, i) => class_at(raw, c)?.features.as_slice().get(i),
+        Place::Enum(_) | Place::Class(_) => None,
+    }
+}
+
+fn found_name(raw: &RawMeta, place: Place) -> Option<&str> {
+    match place {
+        Place::Enum(i) => Some(enum_at(raw, i)?.name.as_str()),
+        Place::Class(c) => Some(class_at(raw, c)?.name.as_str()),
+        Place::Feature(_, _) => Some(feature_at(raw, place)?.name.as_str()),
+    }
+}
+
+/// The name at a place; empty where there is no such place.
+pub(crate) fn name_at(raw: &RawMeta, place: Place) -> &str {
+    found_name(raw, place).unwrap_or("")
+}
+
+/// The position of the first enumeration of a name.
+pub(crate) fn enum_named(raw: &RawMeta, name: &str) -> Option<usize> {
+    'enums: for (i, found) in raw.enums().iter().enumerate() {
+        if found.name.as_str() == name {
+            return Some(i);
+        }
+    }
+    None
+}
+
+/// The position of the first class of a name.
+pub(crate) fn class_named(raw: &RawMeta, name: &str) -> Option<usize> {
+    'classes: for (i, found) in raw.classes().iter().enumerate() {
+        if found.name.as_str() == name {
+            return Some(i);
+        }
+    }
+    None
+}
+
+/// The feature of a name that a class declares itself.
+pub(crate) fn feature_named<'m>(class: &'m RawClass, name: &str) -> Option<&'m RawFeature> {
+    'features: for found in class.features.as_slice() {
+        if found.name.as_str() == name {
+            return Some(found);
+        }
+    }
+    None
+}
+
+/// The name of the opposite of a reference; an attribute has none.
+pub(crate) fn opposite_of(feature: &RawFeature) -> Option<&str> {
+    match &feature.kind {
+        RawKind::Reference {
+            opposite: Some(opposite),
+            ..
+        } => Some(opposite.as_str()),
+        _ => None,
+    }
+}

@@ -1,0 +1,41 @@
+//! Which word may be meant.
+use std::alloc::{AllocError, Global};
+use strsim::levenshtein;
+
+/// How many bytes a word has at most for which a near one is looked for: no key, verb or type is longer.
+const LONGEST: usize = 64;
+
+/// How many edits a word lies at most from one that is near it.
+const MOST_EDITS: usize = 2;
+
+/// Of some words the one that the fewest edits lead to from a word: at most two, and fewer than it has letters. Errs only
+/// where memory is refused.
+pub fn nearest<'a>(
+    alloc: Global,
+    word: &str,
+    others: &[&'a str],
+) -> Result<Option<&'a str>, AllocError> {
+    let mut found = None;
+    if word.len() > LONGEST {
+        return Ok(found);
+    }
+    let mut least = MOST_EDITS + 1;
+    'others: for other in others {
+        let edits = levenshtein(alloc, word, other)?;
+        if edits < least && edits < other.len() {
+            least = edits;
+            found = Some(*other);
+        }
+    }
+    Ok(found)
+}
+
+/// Whether a word is one of some.
+pub(crate) fn is_among(words: &[&str], word: &str) -> bool {
+    'words: for other in words {
+        if *other == word {
+            return true;
+        }
+    }
+    false
+}

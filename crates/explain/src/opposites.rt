@@ -1,0 +1,90 @@
+//! What is wrong with the opposite of a reference.
+use crate::named::{Named, class_at, class_named, feature_named, name_at, opposite_of};
+use mm_types::{Place, RawFeature, RawKind, RawMeta};
+use std::alloc::AllocError;
+
+/// The feature of a name that the type of a reference declares itself.
+fn declared_of<'m>(raw: &'m RawMeta, feature: &RawFeature, name: &str) -> Option<&'m RawFeature> {
+    let class = class_named(raw, feature.type_name.as_str())?;
+    feature_named(class_at(raw, class)?, name)
+}
+
+/// The name of the class that declares what stands at a place.
+fn owner_of(at: Named<'_>) -> &str {
+    match at.place {
+        Place::Feature(c, _) => name_at(at.raw, Place::Class(c)),
+        Place::Enum(_) | Place::Class(_) => "",
+    }
+}
+
+/// What is wrong with a feature that a reference names as its opposite, and a name that this is about.
+fn wrong_with<'m>(
+    at: Named<'_>,
+    feature: &RawFeature,
+    other: &'m RawFeature,
+) -> (&'static str, Option<&'m str>) {
+    if matches!(other.kind, RawKind::Attribute { .. }) {
+        return ("is an attribute", None);
+    }
+    let Some(back) = opposite_of(other) else {
+        return ("names no opposite", None);
+    };
+    if back != feature.name.as_str() {
+        return ("names", Some(back));
+    }
+    if other.type_name.as_str() != owner_of(at) {
+        return ("has the type", Some(other.type_name.as_str()));
+    }
+    ("is the reference itself", None)
+}
+
+/// A reference whose opposite is declared by its type, and is none of it.
+fn explain_declared(
+    out: &mut String,
+    at: Named<'_>,
+    feature: &RawFeature,
+    other: &RawFeature,
+) -> Result<(), AllocError> {
+    let name = other.name.as_str();
+    let class = feature.type_name.as_str();
+    match wrong_with(at, feature, other) {
+        (what, Some(word)) => {
+            writeln!(
+                out,
+                "{at}: its opposite {name:?} of {class} {what} {word:?}"
+            )
+        }
+        (what, None) => writeln!(out, "{at}: its opposite {name:?} of {class} {what}"),
+    }
+}
+
+/// A reference whose opposite is none.
+pub(crate) fn explain_opposite(
+    out: &mut String,
+    at: Named<'_>,
+    feature: &RawFeature,
+    opposite: &str,
+) -> Result<(), AllocError> {
+    let class = feature.type_name.as_str();
+    match declared_of(at.raw, feature, opposite) {
+        Some(other) => explain_declared(out, at, feature, other),
+        None => writeln!(
+            out,
+            "{at}: its opposite {opposite:?} is no feature that {class} declares itself"
+        ),
+    }
+}
+
+/// A reference and its opposite that are both containments.
+pub(crate) fn explain_both(
+    out: &mut String,
+    at: Named<'_>,
+    feature: &RawFeature,
+    opposite: &str,
+) -> Result<(), AllocError> {
+    let class = feature.type_name.as_str();
+    writeln!(
+        out,
+        "{at}: it and its opposite {opposite:?} of {class} are both containments; only the end of the holder may be one"
+    )
+}

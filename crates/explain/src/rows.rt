@@ -1,0 +1,229 @@
+//! The keys of the objects of a metamodel document, as `docs/METAMODEL.md` has them, and keys that stand there by mistake.
+use mm_types::limits;
+
+/// How the value of a key is written.
+pub enum Sort {
+    /// A text of at most so many bytes.
+    Text(usize),
+    /// `true` or `false`.
+    Flag,
+    /// A whole number of 32 bits, signed.
+    Number,
+    /// `"attribute"` or `"reference"`.
+    Kind,
+    /// An array of at most so many texts, each of at most as many bytes as a name may have.
+    Texts(usize),
+    /// An array of at most so many objects.
+    Objects(usize),
+    /// An object.
+    Object,
+}
+
+/// A key of an object.
+pub struct Row {
+    /// Its name.
+    pub key: &'static str,
+    /// How its value is written.
+    pub sort: Sort,
+    /// Whether it may not be absent.
+    pub is_required: bool,
+}
+
+/// The keys of a document.
+pub(crate) const DOCUMENT: [Row; 2] = [ENUMS, CLASSES];
+
+/// The keys of an enumeration.
+pub(crate) const ENUMERATION: [Row; 2] = [NAME, LITERALS];
+
+/// The keys of a class.
+pub(crate) const CLASS: [Row; 4] = [NAME, ABSTRACT, SUPERS, FEATURES];
+
+/// The keys of an attribute.
+pub(crate) const ATTRIBUTE: [Row; 8] = [
+    NAME, KIND, TYPE, LOWER, UPPER, UNIQUE, UNSETTABLE, DEFAULT,
+];
+
+/// The keys of a reference.
+pub(crate) const REFERENCE: [Row; 7] = [NAME, KIND, TYPE, LOWER, UPPER, CONTAINMENT, OPPOSITE];
+
+/// The keys of a feature of whichever kind.
+pub(crate) const FEATURE: [Row; 10] = [
+    NAME,
+    KIND,
+    TYPE,
+    LOWER,
+    UPPER,
+    UNIQUE,
+    UNSETTABLE,
+    DEFAULT,
+    CONTAINMENT,
+    OPPOSITE,
+];
+
+const ENUMS: Row = Row {
+    key: "enums",
+    sort: Sort::Objects(limits::ENUMS),
+    is_required: false,
+};
+
+const CLASSES: Row = Row {
+    key: "classes",
+    sort: Sort::Objects(limits::CLASSES),
+    is_required: true,
+};
+
+const LITERALS: Row = Row {
+    key: "literals",
+    sort: Sort::Texts(limits::LITERALS),
+    is_required: true,
+};
+
+const ABSTRACT: Row = Row {
+    key: "abstract",
+    sort: Sort::Flag,
+    is_required: false,
+};
+
+const SUPERS: Row = Row {
+    key: "supers",
+    sort: Sort::Texts(limits::SUPERS),
+    is_required: false,
+};
+
+const FEATURES: Row = Row {
+    key: "features",
+    sort: Sort::Objects(limits::OWN_FEATURES),
+    is_required: false,
+};
+
+const NAME: Row = Row {
+    key: "name",
+    sort: Sort::Text(limits::NAME_BYTES),
+    is_required: true,
+};
+
+const KIND: Row = Row {
+    key: "kind",
+    sort: Sort::Kind,
+    is_required: true,
+};
+
+const TYPE: Row = Row {
+    key: "type",
+    sort: Sort::Text(limits::NAME_BYTES),
+    is_required: true,
+};
+
+const LOWER: Row = Row {
+    key: "lower",
+    sort: Sort::Number,
+    is_required: false,
+};
+
+const UPPER: Row = Row {
+    key: "upper",
+    sort: Sort::Number,
+    is_required: false,
+};
+
+const UNIQUE: Row = Row {
+    key: "unique",
+    sort: Sort::Flag,
+    is_required: false,
+};
+
+const UNSETTABLE: Row = Row {
+    key: "unsettable",
+    sort: Sort::Flag,
+    is_required: false,
+};
+
+const DEFAULT: Row = Row {
+    key: "default",
+    sort: Sort::Text(limits::TEXT_BYTES),
+    is_required: false,
+};
+
+const CONTAINMENT: Row = Row {
+    key: "containment",
+    sort: Sort::Flag,
+    is_required: false,
+};
+
+const OPPOSITE: Row = Row {
+    key: "opposite",
+    sort: Sort::Text(limits::NAME_BYTES),
+    is_required: false,
+};
+
+/// What is said of a key that stands where it is not listed: those of Ecore and of similar formats, and those of another object.
+pub(crate) const MISPLACED: [(&str, &str); 30] = [
+    ("upperBound", "a feature has \"upper\""),
+    ("lowerBound", "a feature has \"lower\""),
+    (
+        "many",
+        "a feature has \"upper\", and -1 stands for any number",
+    ),
+    ("required", "a feature has \"lower\""),
+    ("eType", "a feature has \"type\""),
+    ("eOpposite", "a reference has \"opposite\""),
+    ("xsi:type", "a feature has \"kind\""),
+    ("eClass", "a feature has \"kind\""),
+    ("defaultValue", "an attribute has \"default\""),
+    ("defaultValueLiteral", "an attribute has \"default\""),
+    ("eSuperTypes", "a class has \"supers\""),
+    ("superTypes", "a class has \"supers\""),
+    ("extends", "a class has \"supers\""),
+    ("eStructuralFeatures", "a class has \"features\""),
+    ("attributes", "a class has \"features\""),
+    ("references", "a class has \"features\""),
+    ("isAbstract", "a class has \"abstract\""),
+    ("interface", "a class has \"abstract\""),
+    ("eClassifiers", "a metamodel has \"classes\" and \"enums\""),
+    ("eLiterals", "an enumeration has \"literals\""),
+    (
+        "nsURI",
+        "a metamodel has no URI and no prefix; leave it out",
+    ),
+    (
+        "nsPrefix",
+        "a metamodel has no URI and no prefix; leave it out",
+    ),
+    ("ordered", "every list is ordered; leave it out"),
+    (
+        "unique",
+        "only an attribute has it; the list of a reference never repeats an object",
+    ),
+    ("unsettable", "only an attribute has it"),
+    ("default", "only an attribute has it"),
+    ("containment", "only a reference has it"),
+    ("opposite", "only a reference has it"),
+    ("name", "a metamodel has no name; leave it out"),
+    ("enums", "only the document has it"),
+];
+
+/// What is said beside of the value of a key that is written in another way.
+pub(crate) const ADVICE: [(&str, &str); 3] = [
+    ("upper", "; -1 stands for any number"),
+    (
+        "default",
+        "; a default is a text whatever the type, as \"100\"",
+    ),
+    (
+        "literals",
+        "; each literal is a name, and its value is its position",
+    ),
+];
+
+/// What a table says of a word.
+pub(crate) fn advice_in(
+    table: &[(&'static str, &'static str)],
+    word: &str,
+) -> Option<&'static str> {
+    'rows: for row in table {
+        if row.0 == word {
+            return Some(row.1);
+        }
+    }
+    None
+}

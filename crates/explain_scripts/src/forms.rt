@@ -1,0 +1,137 @@
+//! The forms of the lines of a script, and what stands in them.
+use script_lines::{Line, parse_line};
+use std::alloc::{AllocError, Global};
+
+/// The forms, as `docs/SCRIPT.md` has them.
+pub(crate) static FORMS: [&str; 25] = [
+    "new NAME",
+    "set NODE NAME VALUE",
+    "unset NODE NAME",
+    "get NODE NAME",
+    "add NODE NAME VALUE",
+    "add NODE NAME VALUE N",
+    "remove NODE NAME N",
+    "removevalue NODE NAME VALUE",
+    "move NODE NAME N N",
+    "resource STR",
+    "load RES REST",
+    "resolve OBJ NAME N",
+    "isset NODE NAME",
+    "delete OBJ",
+    "validate OBJ",
+    "class OBJ",
+    "container OBJ",
+    "within OBJ",
+    "contents NODE",
+    "fragment OBJ",
+    "at STR",
+    "save RES",
+    "attach AD NODE flat|deep",
+    "detach AD",
+    "seen AD",
+];
+
+/// A word of a form that stands for others.
+pub(crate) struct Sort {
+    name: &'static str,
+    /// What makes a line of the language if such a word follows it.
+    before: &'static str,
+    /// What such a word is.
+    pub(crate) wanted: &'static str,
+}
+
+static SORTS: [Sort; 9] = [
+    Sort {
+        name: "NAME",
+        before: "new",
+        wanted: "a name: a letter or _, and then letters, digits and _",
+    },
+    Sort {
+        name: "N",
+        before: "remove #0 x",
+        wanted: "a number, as 0 or 17",
+    },
+    Sort {
+        name: "OBJ",
+        before: "class",
+        wanted: "an object, as #0",
+    },
+    Sort {
+        name: "RES",
+        before: "save",
+        wanted: "a resource, as r0",
+    },
+    Sort {
+        name: "NODE",
+        before: "contents",
+        wanted: "an object or a resource, as #0 or r0",
+    },
+    Sort {
+        name: "AD",
+        before: "seen",
+        wanted: "an adapter, as A1",
+    },
+    Sort {
+        name: "STR",
+        before: "at",
+        wanted: "a text in quotation marks, as \"Emma\"",
+    },
+    Sort {
+        name: "VALUE",
+        before: "set #0 x",
+        wanted: "a value: null, true, false, a whole number, a text in quotation marks, :LITERAL, or an object, as #0",
+    },
+    Sort {
+        name: "flat|deep",
+        before: "attach A1 #0",
+        wanted: "flat or deep",
+    },
+];
+
+/// The sort of a word of a form; the rest of a line has none.
+pub(crate) fn sort_of(word: &str) -> Option<&'static Sort> {
+    'sorts: for sort in SORTS.iter() {
+        if sort.name == word {
+            return Some(sort);
+        }
+    }
+    None
+}
+
+/// Whether a word of a line is one of a sort. Errs only where memory is refused.
+pub(crate) fn is_of(alloc: Global, sort: &Sort, word: &str) -> Result<bool, AllocError> {
+    let before = sort.before;
+    let line = format!(in alloc; "{before} {word}")?;
+    let parsed = parse_line(alloc, line.as_str().as_bytes())?;
+    Ok(matches!(parsed, Line::Form(_)))
+}
+
+/// The verb of a form.
+pub(crate) fn verb_of(form: &str) -> &str {
+    form.split(' ').next().unwrap_or(form)
+}
+
+/// How many words a form has.
+pub(crate) fn count_of(form: &str) -> usize {
+    form.split(' ').count()
+}
+
+/// The form of a verb: the one of so many words, or else the first.
+pub(crate) fn form_of(verb: &str, count: usize) -> Option<&'static str> {
+    let mut found = None;
+    'forms: for form in FORMS.iter() {
+        if verb_of(form) == verb && (found.is_none() || count_of(form) == count) {
+            found = Some(*form);
+        }
+    }
+    found
+}
+
+/// All verbs.
+pub(crate) fn verbs(alloc: Global) -> Result<Vec<&'static str>, AllocError> {
+    let mut verbs = Vec::new(alloc);
+    'forms: for form in FORMS.iter() {
+        verbs.push(verb_of(form))?;
+    }
+    Ok(verbs)
+}

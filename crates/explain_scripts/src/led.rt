@@ -1,0 +1,67 @@
+//! What the text of a reference leads to.
+use crate::parts::Part;
+use std::alloc::{AllocError, Global};
+use std::collections::BTreeMap;
+use web_uris::{UriFault, joined, parse, split_address};
+
+/// What the text of a reference leads to.
+#[derive(Clone, Copy)]
+pub(crate) enum Led {
+    /// It is no fragment, and no URI with a fragment.
+    Bad,
+    /// No object of the document.
+    Nowhere,
+    /// The part of a number.
+    Here(usize),
+    /// Another resource.
+    Elsewhere,
+}
+
+/// The numbers of parts by their fragments.
+pub(crate) type Fragments<'p> = BTreeMap<&'p str, usize>;
+
+/// The numbers of parts by their fragments.
+pub(crate) fn fragments_of<'p>(
+    alloc: Global,
+    parts: &'p [Part<'_>],
+) -> Result<Fragments<'p>, AllocError> {
+    let mut fragments = BTreeMap::new(alloc);
+    'parts: for (number, part) in parts.iter().enumerate() {
+        fragments.insert(part.fragment.as_str(), number)?;
+    }
+    Ok(fragments)
+}
+
+/// What the text before the `#` of an address leads to, where that is no object of the document itself.
+fn led_elsewhere(alloc: Global, uri: &str, part: &str) -> Result<Option<Led>, AllocError> {
+    if part.is_empty() {
+        return Ok(None);
+    }
+    match joined(alloc, uri, part) {
+        Ok(meant) if meant.as_str() == uri => Ok(None),
+        Ok(_) => Ok(Some(Led::Elsewhere)),
+        Err(UriFault::Bad) => Ok(Some(Led::Bad)),
+        Err(UriFault::Memory) => Err(AllocError),
+    }
+}
+
+/// What the text of a reference leads to, in the resource of a URI. Errs only where memory is refused.
+pub(crate) fn led_by(
+    alloc: Global,
+    uri: &str,
+    fragments: &Fragments<'_>,
+    text: &str,
+) -> Result<Led, AllocError> {
+    let (part, fragment) = split_address(text).unwrap_or(("", text));
+    let Some(path) = parse(alloc, fragment)? else {
+        return Ok(Led::Bad);
+    };
+    if let Some(led) = led_elsewhere(alloc, uri, part)? {
+        return Ok(led);
+    }
+    let fragment = path.text(alloc, false)?;
+    match fragments.get(fragment.as_str()).copied() {
+        Some(number) => Ok(Led::Here(number)),
+        None => Ok(Led::Nowhere),
+    }
+}

@@ -1,0 +1,19 @@
+//! What to mend in a script: of each line that is bad which word is wrong, and of each document that is refused where.
+//!
+//! `Watch` goes over the lines of a script and what they print side by side. No contract says what a text is. The functions
+//! are proved safe and ending; cases of the program show their texts.
+#![tactic(auto)]
+
+mod answer;
+mod bad_line;
+mod content;
+mod document;
+mod forms;
+mod led;
+mod links;
+mod parts;
+mod repeats;
+mod shape;
+mod watch;
+
+pub use watch::Watch;

@@ -1,0 +1,223 @@
+//! What is wrong with references: where they lead, and whether the other end names them.
+use crate::led::{Fragments, Led, fragments_of, led_by};
+use crate::parts::{At, Entry, Part};
+use doc_parts::{class_of, conforms_to, values_of};
+use mm_meta::Meta;
+use mm_types::{ClassNo, FeatureNo, Kind};
+use serde_json::Value;
+use std::alloc::{AllocError, Global};
+use std::collections::BTreeSet;
+
+/// A reference that is written in a document.
+#[derive(Drop)]
+pub(crate) struct Link<'e> {
+    pub(crate) at: At<'e>,
+    pub(crate) text: &'e str,
+    pub(crate) part: usize,
+    pub(crate) feature: FeatureNo,
+    pub(crate) led: Led,
+}
+
+/// What the links of a document are found by.
+#[derive(Drop)]
+struct Source<'d, 'p> {
+    alloc: Global,
+    meta: &'d Meta,
+    uri: &'d str,
+    fragments: &'d Fragments<'p>,
+}
+
+fn add_links<'e>(
+    source: &Source<'_, '_>,
+    links: &mut Vec<Link<'e>>,
+    entry: &'e Entry<'_>,
+    values: &'e [Value],
+) -> Result<(), AllocError> {
+    'values: for (i, json) in values.iter().enumerate() {
+        if let Some(text) = json.as_str() {
+            let led = led_by(source.alloc, source.uri, source.fragments, text)?;
+            links.push(Link {
+                at: entry.at(i),
+                text,
+                part: entry.part,
+                feature: entry.feature,
+                led,
+            })?;
+        }
+    }
+    Ok(())
+}
+
+/// The class of the objects that a reference without containment holds.
+fn target_of(meta: &Meta, feature: FeatureNo) -> Option<ClassNo> {
+    match &meta.feature(feature)?.kind {
+        Kind::Reference {
+            target,
+            containment: false,
+            ..
+        } => Some(*target),
+        _ => None,
+    }
+}
+
+fn links_in<'e>(
+    source: &Source<'_, '_>,
+    entries: &'e [Entry<'_>],
+) -> Result<Vec<Link<'e>>, AllocError> {
+    let mut links = Vec::new(source.alloc);
+    'entries: for entry in entries {
+        if target_of(source.meta, entry.feature).is_some() {
+            let values = values_of(source.meta, entry.feature, entry.content);
+            add_links(source, &mut links, entry, values)?;
+        }
+    }
+    Ok(links)
+}
+
+/// The references that are written in a document, in the resource of a URI. Errs only where memory is refused.
+pub(crate) fn links_of<'e>(
+    alloc: Global,
+    meta: &Meta,
+    uri: &str,
+    parts: &[Part<'_>],
+    entries: &'e [Entry<'_>],
+) -> Result<Vec<Link<'e>>, AllocError> {
+    let fragments = fragments_of(alloc, parts)?;
+    let source = Source {
+        alloc,
+        meta,
+        uri,
+        fragments: &fragments,
+    };
+    links_in(&source, entries)
+}
+
+/// A reference that leads nowhere, or to an object of another class.
+fn explain_lost(
+    out: &mut String,
+    meta: &Meta,
+    parts: &[Part<'_>],
+    link: &Link<'_>,
+) -> Result<(), AllocError> {
+    let at = link.at;
+    let text = link.text;
+    let number = match link.led {
+        Led::Elsewhere => return Ok(()),
+        Led::Bad => return writeln!(
+            out,
+            "{at}: {text:?} is no fragment and no URI with a fragment"
+        ),
+        Led::Nowhere => return writeln!(out, "{at}: {text:?} leads to no object of the document"),
+        Led::Here(number) => number,
+    };
+    match (parts.get(number), target_of(meta, link.feature)) {
+        (Some(part), Some(target)) if !conforms_to(meta, target, part.json) => {
+            explain_class(out, meta, link, part.json, target)
+        }
+        _ => Ok(()),
+    }
+}
+
+fn explain_class(
+    out: &mut String,
+    meta: &Meta,
+    link: &Link<'_>,
+    json: &Value,
+    target: ClassNo,
+) -> Result<(), AllocError> {
+    let found = match class_of(meta, json) {
+        Some(class) => meta.class_name(class),
+        None => "",
+    };
+    let wanted = meta.class_name(target);
+    writeln!(
+        out,
+        "{}: {:?} leads to a {found}, and a {wanted} is wanted",
+        link.at, link.text
+    )
+}
+
+/// Lost references.
+pub(crate) fn explain_references(
+    out: &mut String,
+    meta: &Meta,
+    parts: &[Part<'_>],
+    links: &[Link<'_>],
+) -> Result<(), AllocError> {
+    'links: for link in links {
+        explain_lost(out, meta, parts, link)?;
+    }
+    Ok(())
+}
+
+/// References with an opposite that lead to another resource.
+pub(crate) fn explain_crosses(
+    out: &mut String,
+    meta: &Meta,
+    links: &[Link<'_>],
+) -> Result<(), AllocError> {
+    'links: for link in links {
+        if matches!(link.led, Led::Elsewhere) && meta.opposite(link.feature).is_some() {
+            let at = link.at;
+            let text = link.text;
+            writeln!(
+                out,
+                "{at}: {text:?} leads to another resource, and has an opposite; that takes \"format\" 2"
+            )?;
+        }
+    }
+    Ok(())
+}
+
+/// That a part names another under a feature.
+type Naming = (usize, u32, usize);
+
+fn namings_of(alloc: Global, links: &[Link<'_>]) -> Result<BTreeSet<Naming>, AllocError> {
+    let mut namings = BTreeSet::new(alloc);
+    'links: for link in links {
+        if let Led::Here(named) = link.led {
+            namings.insert((link.part, link.feature.0, named))?;
+        }
+    }
+    Ok(namings)
+}
+
+fn explain_one_sided(
+    out: &mut String,
+    meta: &Meta,
+    parts: &[Part<'_>],
+    namings: &BTreeSet<Naming>,
+    link: &Link<'_>,
+) -> Result<(), AllocError> {
+    let (Led::Here(named), Some(opposite)) = (link.led, meta.opposite(link.feature)) else {
+        return Ok(());
+    };
+    if namings.contains(&(named, opposite.0, link.part)) {
+        return Ok(());
+    }
+    let back = match parts.get(link.part) {
+        Some(part) => part.fragment.as_str(),
+        None => "",
+    };
+    let name = meta.feature_name(opposite);
+    writeln!(
+        out,
+        "{}: {:?} does not name it back: its {name} lacks {back:?}",
+        link.at, link.text
+    )
+}
+
+/// References with an opposite that the other end does not name back.
+pub(crate) fn explain_ends(
+    alloc: Global,
+    out: &mut String,
+    meta: &Meta,
+    parts: &[Part<'_>],
+    links: &[Link<'_>],
+) -> Result<(), AllocError> {
+    let namings = namings_of(alloc, links)?;
+    'links: for link in links {
+        explain_one_sided(out, meta, parts, &namings, link)?;
+    }
+    Ok(())
+}

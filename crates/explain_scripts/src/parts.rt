@@ -1,0 +1,218 @@
+//! The objects of a document and what stands under their features, each with its place.
+use doc_parts::{content_at, known, values_of};
+use mm_meta::Meta;
+use mm_types::{ClassNo, FeatureNo};
+use serde_json::{Map, Value};
+use std::alloc::{AllocError, Global};
+use std::collections::VecDeque;
+use std::fmt;
+
+/// What stands where an object should.
+#[derive(Drop)]
+pub(crate) struct Part<'v> {
+    /// Where it stands in the JSON, as `line 7: roots[0].features.books[1]`.
+    pub(crate) path: String,
+    /// Its fragment with the position of its root, as `/0/@books.1`.
+    pub(crate) fragment: String,
+    pub(crate) level: usize,
+    pub(crate) json: &'v Value,
+}
+
+/// What is written under a feature of a part.
+#[derive(Drop)]
+pub(crate) struct Entry<'v> {
+    /// Where it stands in the JSON, as `line 7: roots[0].features.books`.
+    pub(crate) path: String,
+    /// The number of the part.
+    pub(crate) part: usize,
+    pub(crate) feature: FeatureNo,
+    pub(crate) content: &'v Value,
+    /// Whether it has one value, and no array of values.
+    pub(crate) is_single: bool,
+}
+
+/// A value that is written under a feature: the only one, or one at a position.
+#[derive(Clone, Copy)]
+pub(crate) struct At<'e> {
+    pub(crate) path: &'e str,
+    pub(crate) is_single: bool,
+    pub(crate) index: usize,
+}
+
+impl fmt::Display for At<'_> {
+    fn fmt<W: fmt::Write>(&self, f: &mut fmt::Formatter<W>) -> fmt::Result {
+        let path = self.path;
+        let index = self.index;
+        if self.is_single {
+            write!(f, "{path}")
+        } else {
+            write!(f, "{path}[{index}]")
+        }
+    }
+}
+
+impl Entry<'_> {
+    /// The place of a value under it.
+    pub(crate) fn at(&self, index: usize) -> At<'_> {
+        At {
+            path: self.path.as_str(),
+            is_single: self.is_single,
+            index,
+        }
+    }
+}
+
+/// Adds what is written under a feature of a part.
+fn add_entry<'v>(
+    alloc: Global,
+    meta: &Meta,
+    entries: &mut Vec<Entry<'v>>,
+    number: usize,
+    path: &str,
+    members: &'v Map<String, Value>,
+    feature: FeatureNo,
+) -> Result<(), AllocError> {
+    let Some(content) = content_at(meta, members, feature) else {
+        return Ok(());
+    };
+    let name = meta.feature_name(feature);
+    entries.push(Entry {
+        path: format!(in alloc; "{path}.features.{name}")?,
+        part: number,
+        feature,
+        content,
+        is_single: meta.is_single(feature),
+    })?;
+    Ok(())
+}
+
+fn add_entries<'v>(
+    alloc: Global,
+    meta: &Meta,
+    entries: &mut Vec<Entry<'v>>,
+    number: usize,
+    part: &Part<'v>,
+) -> Result<(), AllocError> {
+    let Some((class, members)) = known(meta, part.json) else {
+        return Ok(());
+    };
+    'features: for feature in meta.features(class).unwrap_or(&[]) {
+        add_entry(
+            alloc,
+            meta,
+            entries,
+            number,
+            part.path.as_str(),
+            members,
+            *feature,
+        )?;
+    }
+    Ok(())
+}
+
+/// What is written under the features of parts.
+pub(crate) fn entries_of<'v>(
+    alloc: Global,
+    meta: &Meta,
+    parts: &[Part<'v>],
+) -> Result<Vec<Entry<'v>>, AllocError> {
+    let mut entries = Vec::new(alloc);
+    'parts: for (number, part) in parts.iter().enumerate() {
+        add_entries(alloc, meta, &mut entries, number, part)?;
+    }
+    Ok(entries)
+}
+
+/// Adds the parts that stand under a containment of a part.
+fn add_below<'v>(
+    alloc: Global,
+    queue: &mut VecDeque<Part<'v>>,
+    part: &Part<'v>,
+    name: &str,
+    is_single: bool,
+    values: &'v [Value],
+) -> Result<(), AllocError> {
+    let path = format!(in alloc; "{}.features.{name}", part.path.as_str())?;
+    let above = part.fragment.as_str();
+    'values: for (index, json) in values.iter().enumerate() {
+        let path = At {
+            path: path.as_str(),
+            is_single,
+            index,
+        }
+        .to_string(alloc)?;
+        let fragment = if is_single {
+            format!(in alloc; "{above}/@{name}")?
+        } else {
+            format!(in alloc; "{above}/@{name}.{index}")?
+        };
+        let level = part.level.saturating_add(1);
+        queue.push_back(Part {
+            path,
+            fragment,
+            level,
+            json,
+        })?;
+    }
+    Ok(())
+}
+
+fn add_features<'v>(
+    alloc: Global,
+    meta: &Meta,
+    queue: &mut VecDeque<Part<'v>>,
+    part: &Part<'v>,
+    class: ClassNo,
+    members: &'v Map<String, Value>,
+) -> Result<(), AllocError> {
+    'features: for feature in meta.features(class).unwrap_or(&[]) {
+        if meta.is_containment(*feature)
+            && let Some(content) = content_at(meta, members, *feature)
+        {
+            let name = meta.feature_name(*feature);
+            let values = values_of(meta, *feature, content);
+            add_below(alloc, queue, part, name, meta.is_single(*feature), values)?;
+        }
+    }
+    Ok(())
+}
+
+fn roots_of<'v>(
+    alloc: Global,
+    place: &str,
+    roots: &'v [Value],
+) -> Result<VecDeque<Part<'v>>, AllocError> {
+    let mut queue = VecDeque::new(alloc);
+    'roots: for (i, json) in roots.iter().enumerate() {
+        let path = format!(in alloc; "{place}: roots[{i}]")?;
+        let fragment = format!(in alloc; "/{i}")?;
+        queue.push_back(Part {
+            path,
+            fragment,
+            level: 1,
+            json,
+        })?;
+    }
+    Ok(queue)
+}
+
+/// What stands where an object should, level by level.
+pub(crate) fn parts_of<'v>(
+    alloc: Global,
+    meta: &Meta,
+    place: &str,
+    roots: &'v [Value],
+) -> Result<Vec<Part<'v>>, AllocError> {
+    let mut queue = roots_of(alloc, place, roots)?;
+    let mut parts = Vec::new(alloc);
+    'parts: for _ in 0..u64::MAX {
+        let Some(part) = queue.pop_front() else {
+            return Ok(parts);
+        };
+        if let Some((class, members)) = known(meta, part.json) {
+            add_features(alloc, meta, &mut queue, &part, class, members)?;
+        }
+        parts.push(part)?;
+    }
+    Ok(parts)
+}

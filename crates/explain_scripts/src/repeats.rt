@@ -1,0 +1,92 @@
+//! Values that stand twice in a list that has each value once.
+use crate::led::Led;
+use crate::links::Link;
+use crate::parts::Entry;
+use doc_parts::values_of;
+use mm_meta::Meta;
+use mm_types::Kind;
+use serde_json::Value;
+use std::alloc::{AllocError, Global};
+use std::collections::BTreeMap;
+
+/// Values of an attribute that stand twice.
+fn explain_equal(
+    alloc: Global,
+    out: &mut String,
+    entry: &Entry<'_>,
+    values: &[Value],
+) -> Result<(), AllocError> {
+    let mut seen: BTreeMap<String, usize> = BTreeMap::new(alloc);
+    'values: for (i, json) in values.iter().enumerate() {
+        if let Some(first) = seen.insert(json.to_string(alloc)?, i)? {
+            let path = entry.path.as_str();
+            writeln!(out, "{path}: [{first}] and [{i}] are the same value")?;
+        }
+    }
+    Ok(())
+}
+
+fn explain_entry(
+    alloc: Global,
+    out: &mut String,
+    meta: &Meta,
+    entry: &Entry<'_>,
+) -> Result<(), AllocError> {
+    let is_attribute = match meta.feature(entry.feature) {
+        Some(feature) => matches!(feature.kind, Kind::Attribute { .. }),
+        None => false,
+    };
+    if !is_attribute || !meta.is_unique(entry.feature) {
+        return Ok(());
+    }
+    explain_equal(
+        alloc,
+        out,
+        entry,
+        values_of(meta, entry.feature, entry.content),
+    )
+}
+
+/// What a link leads to: the part and the feature that have it, and the number behind that of the part it leads to, or 0 and
+/// its text.
+type Target<'e> = (usize, u32, usize, &'e str);
+
+fn target_of<'e>(link: &Link<'e>) -> Option<Target<'e>> {
+    match link.led {
+        Led::Here(named) => Some((link.part, link.feature.0, named.saturating_add(1), "")),
+        Led::Elsewhere => Some((link.part, link.feature.0, 0, link.text)),
+        Led::Bad | Led::Nowhere => None,
+    }
+}
+
+/// References of one list that lead to the same object.
+fn explain_links(alloc: Global, out: &mut String, links: &[Link<'_>]) -> Result<(), AllocError> {
+    let mut seen: BTreeMap<Target<'_>, usize> = BTreeMap::new(alloc);
+    'links: for link in links {
+        if let Some(target) = target_of(link)
+            && let Some(first) = seen.insert(target, link.at.index)?
+        {
+            let at = link.at;
+            writeln!(
+                out,
+                "{at}: {:?} is the object that [{first}] names too",
+                link.text
+            )?;
+        }
+    }
+    Ok(())
+}
+
+/// Values that stand twice.
+pub(crate) fn explain_repeats(
+    alloc: Global,
+    out: &mut String,
+    meta: &Meta,
+    entries: &[Entry<'_>],
+    links: &[Link<'_>],
+) -> Result<(), AllocError> {
+    'entries: for entry in entries {
+        explain_entry(alloc, out, meta, entry)?;
+    }
+    explain_links(alloc, out, links)
+}

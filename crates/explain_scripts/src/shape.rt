@@ -1,0 +1,190 @@
+//! What is wrong with the shape of a document: its layout, its format, the classes and features that it names, and its depth.
+use crate::parts::Part;
+use doc_parts::known;
+use explain::{Row, Sort, explain_object, nearest};
+use mm_meta::Meta;
+use mm_types::{ClassNo, FeatureNo, limits};
+use serde_json::{Map, Value};
+use std::alloc::{AllocError, Global};
+
+const DOCUMENT: [Row; 2] = [
+    Row {
+        key: "format",
+        sort: Sort::Number,
+        is_required: true,
+    },
+    Row {
+        key: "roots",
+        sort: Sort::Objects(limits::LIST_VALUES),
+        is_required: true,
+    },
+];
+
+const OBJECT: [Row; 2] = [
+    Row {
+        key: "class",
+        sort: Sort::Text(limits::TEXT_BYTES),
+        is_required: true,
+    },
+    Row {
+        key: "features",
+        sort: Sort::Object,
+        is_required: true,
+    },
+];
+
+/// The document's own keys.
+pub(crate) fn explain_top(
+    alloc: Global,
+    out: &mut String,
+    place: &str,
+    json: &Value,
+) -> Result<(), AllocError> {
+    explain_object(alloc, out, place, &DOCUMENT, json)
+}
+
+/// The keys of each object.
+pub(crate) fn explain_objects(
+    alloc: Global,
+    out: &mut String,
+    parts: &[Part<'_>],
+) -> Result<(), AllocError> {
+    'parts: for part in parts {
+        explain_object(alloc, out, part.path.as_str(), &OBJECT, part.json)?;
+    }
+    Ok(())
+}
+
+/// The names of the classes.
+fn class_names<'m>(alloc: Global, meta: &'m Meta) -> Result<Vec<&'m str>, AllocError> {
+    let mut names = Vec::new(alloc);
+    'classes: for number in 0..limits::CLASSES as u32 {
+        match meta.class(ClassNo(number)) {
+            Some(class) => names.push(class.name.as_str())?,
+            None => return Ok(names),
+        }
+    }
+    Ok(names)
+}
+
+fn explain_class(
+    alloc: Global,
+    out: &mut String,
+    meta: &Meta,
+    path: &str,
+    name: &str,
+) -> Result<(), AllocError> {
+    if let Some(class) = meta.class_by_name(name) {
+        return if meta.is_concrete(class) {
+            Ok(())
+        } else {
+            writeln!(out, "{path}: class {name} is abstract; name a subclass")
+        };
+    }
+    let names = class_names(alloc, meta)?;
+    match nearest(alloc, name, names.as_slice())? {
+        Some(meant) => writeln!(out, "{path}: {name:?} is no class; is {meant:?} meant?"),
+        None => writeln!(out, "{path}: {name:?} is no class"),
+    }
+}
+
+/// Names of classes that are none, or abstract.
+pub(crate) fn explain_classes(
+    alloc: Global,
+    out: &mut String,
+    meta: &Meta,
+    parts: &[Part<'_>],
+) -> Result<(), AllocError> {
+    'parts: for part in parts {
+        if let Some(Value::String(name)) = part.json.get("class") {
+            explain_class(alloc, out, meta, part.path.as_str(), name.as_str())?;
+        }
+    }
+    Ok(())
+}
+
+fn feature_names<'m>(
+    alloc: Global,
+    meta: &'m Meta,
+    features: &[FeatureNo],
+) -> Result<Vec<&'m str>, AllocError> {
+    let mut names = Vec::new(alloc);
+    'features: for feature in features {
+        names.push(meta.feature_name(*feature))?;
+    }
+    Ok(names)
+}
+
+fn explain_key(
+    alloc: Global,
+    out: &mut String,
+    meta: &Meta,
+    path: &str,
+    class: ClassNo,
+    key: &str,
+) -> Result<(), AllocError> {
+    let name = meta.class_name(class);
+    if let Some(feature) = meta.feature_by_name(class, key) {
+        return if meta.is_container(feature) {
+            writeln!(
+                out,
+                "{path}.features: {key:?} leads to the container, and is left out"
+            )
+        } else {
+            Ok(())
+        };
+    }
+    let names = feature_names(alloc, meta, meta.features(class).unwrap_or(&[]))?;
+    match nearest(alloc, key, names.as_slice())? {
+        Some(meant) => writeln!(
+            out,
+            "{path}.features: {key:?} is no feature of {name}; is {meant:?} meant?"
+        ),
+        None => writeln!(out, "{path}.features: {key:?} is no feature of {name}"),
+    }
+}
+
+fn explain_members(
+    alloc: Global,
+    out: &mut String,
+    meta: &Meta,
+    path: &str,
+    class: ClassNo,
+    members: &Map<String, Value>,
+) -> Result<(), AllocError> {
+    'keys: for key in members.keys() {
+        explain_key(alloc, out, meta, path, class, key.as_str())?;
+    }
+    Ok(())
+}
+
+/// Names of features that are none, or container references.
+pub(crate) fn explain_features(
+    alloc: Global,
+    out: &mut String,
+    meta: &Meta,
+    parts: &[Part<'_>],
+) -> Result<(), AllocError> {
+    'parts: for part in parts {
+        if let Some((class, members)) = known(meta, part.json) {
+            explain_members(alloc, out, meta, part.path.as_str(), class, members)?;
+        }
+    }
+    Ok(())
+}
+
+/// Objects below the last level.
+pub(crate) fn explain_depth(out: &mut String, parts: &[Part<'_>]) -> Result<(), AllocError> {
+    'parts: for part in parts {
+        if part.level > limits::LEVELS {
+            let path = part.path.as_str();
+            return writeln!(
+                out,
+                "{path}: it stands at level {}, and the last is {}",
+                part.level,
+                limits::LEVELS
+            );
+        }
+    }
+    Ok(())
+}
