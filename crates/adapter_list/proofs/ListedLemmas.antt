@@ -1,16 +1,12 @@
 -- What one write to the list of attached adapters shows.
-use Rattle.std.proofs.Common.{◌≡◌, ℕ, ◌+◌, ◌-◌, ◌≤◌, ◌<◌, Bool, cond, Some, None, List, [], ◌∷◌, ◌++◌, map, length, get_or, set, take, drop, remove, position, count_by, slice_get, option_map, false, pos, zero, suc, subst, refl, sym, ap, ◌∙◌, arith, slice_index, All, ◌^◌}
-use Rattle.std.specs.List.{prefix_len, fold}
+use Rattle.std.proofs.Common.{◌≡◌, ℕ, ◌+◌, ◌-◌, ◌≤◌, ◌<◌, Bool, cond, Some, List, [], ◌∷◌, ◌++◌, map, length, get_or, set, take, drop, remove, position, count_by, slice_get, option_map, zero, suc, subst, refl, sym, ap, ◌∙◌, arith, slice_index, All, ◌^◌}
+use Rattle.std.specs.List.{AllByRecursion, prefix_len, fold}
 use Rattle.std.proofs.lemmas.Option.{slice_get-map, slice_get_read}
 use Rattle.std.proofs.lemmas.List.{take-map, drop-map, map-append, length-map}
-use Rattle.std.proofs.lemmas.List.Elements.{All-append, All-drop, All-get_or, All-map, All-push, All-rest, All-set, All-take, All-weaker}
-use Rattle.notice_chain.specs.View.{View, hear}
-use Rattle.notice_chain.specs.Listed.{Listed, told_all, last_notice, release, has_no}
-use Rattle.mm_types.specs.Same.{same_node}
-use Rattle.notice_chain.specs.declared.kind.NoticeKind.TheVariants.{RemovingAdapter}
+use Rattle.std.proofs.lemmas.List.Elements.{All-append, All-drop, All-get_or, All-map, All-push, All-rest, All-set, All-take, All-weaker, recursion_from_All}
+use Rattle.notice_chain.specs.View.{View}
+use Rattle.notice_chain.specs.Listed.{Listed, told_all}
 use Rattle.notice_chain.specs.declared.notice.Notice.{Notice}
-use Rattle.mm_types.specs.declared.value.Value.TheVariants.{Null, Adapter}
-use Rattle.mm_types.specs.declared.numbers.AdapterNo.{AdapterNo}
 use Rattle.adapter_list.specs.declared.attached.Attached.{Attached}
 use Rattle.adapter_list.specs.Attached.{AreReady, HasReserve, IsReady, listed_one, listed, places_of, numbers_of}
 use Rattle.adapter_list.specs.Rounds.{tell_at, use_place}
@@ -48,15 +44,6 @@ module _ {X Y : Type 0} (f : X → Y) where
   remove-map xs i = rw (take-map f i xs, drop-map f (suc i) xs, map-append f (take i xs) (drop (suc i) xs))
 
 module _ {A : Type 0} where
-  pub release-at : (heard : A → View) (xs : List (Attached A)) (number : AdapterNo) (i : ℕ) (x : Attached A) (n : Notice) (v : View) → Some i ≡ position (has_no number) (listed heard xs) → i < length xs → x ≡ get_or xs i x → n ≡ last_notice (take i (listed heard xs)) (listed_one heard x) → v ≡ hear (heard x.adapter) n → Some (record { notice = n; view = v; others = listed heard (remove xs i) }) ≡ release number (listed heard xs)
-  release-at heard xs number i x n v at h e nn vv =
-      let there : position (has_no number) (listed heard xs) ≡ Some i = sym at in
-      let one : slice_get (listed heard xs) i ≡ Some (listed_one heard x) = slice_get-map (listed_one heard) xs i ∙ ap (option_map (listed_one heard)) (slice_get_read xs (length xs) i x refl h e) in
-      rw (there, one, remove-map (listed_one heard) xs i, ← nn, vv)
-
-  pub last_notice-listed : (heard : A → View) (xs : List (Attached A)) (i : ℕ) (x : Attached A) (k : ℕ) → k ≡ count_by (λ a. same_node a.target x.target) (take i xs) → record { notifier = x.target; feature = None; kind = RemovingAdapter; old_value = Adapter x.no; new_value = Null; position = pos k; was_set = false } ≡ last_notice (take i (listed heard xs)) (listed_one heard x)
-  last_notice-listed heard xs i x k e = rw (e, take-map (listed_one heard) i xs, count_by-map (listed_one heard) (λ q. same_node q.target x.target) (take i xs))
-
   pub places_of-grow : (places : A → ℕ) (xs : List (Attached A)) (i : ℕ) (x y : Attached A) → x ≡ get_or xs i x → places x.adapter ≤ places y.adapter → (k : ℕ) → slice_index (places_of places xs) k ≤ slice_index (places_of places (set xs i y)) k
   places_of-grow places [] i x y e l k = omega arith
   places_of-grow places (z ∷ zs) zero x y e l zero = let q : places x.adapter ≡ places z.adapter = ap (λ (w : Attached A). places w.adapter) e in omega arith
@@ -84,11 +71,6 @@ module _ {A : Type 0} where
   read_once (z ∷ zs) zero x y h e k = e ∙ sym k
   read_once (z ∷ zs) (suc i) x y h e k = read_once zs i x y (omega arith) e k
 
-  pub release-absent : (heard : A → View) (xs : List (Attached A)) (number : AdapterNo) → None ≡ position (has_no number) (listed heard xs) → None ≡ release number (listed heard xs)
-  release-absent heard xs number at =
-      let there : position (has_no number) (listed heard xs) ≡ None = sym at in
-      rw there
-
   pub numbers_of-set : (xs : List (Attached A)) (i : ℕ) (x y : Attached A) → x ≡ get_or xs i x → y.no ≡ x.no → numbers_of (set xs i y) ≡ numbers_of xs
   numbers_of-set [] i x y e p = refl
   numbers_of-set (z ∷ zs) zero x y e p = ap (λ k. k ∷ numbers_of zs) (p ∙ ap (λ (q : Attached A). q.no) e)
@@ -106,15 +88,15 @@ module _ {A : Type 0} where
 
 module _ {A : Type 0} (heard : A → View) (places : A → ℕ) where
   abbrev ready : Attached A → Type 0
-  ready a = IsReady (heard a.adapter) (places a.adapter)
+  ready a = IsReady (heard a.adapter) (length a.targets.items) (places a.adapter)
 
-  pub AreReady-at : (xs : List (Attached A)) (i : ℕ) (x : Attached A) → AreReady heard places xs → i < length xs → x ≡ get_or xs i x → IsReady (heard x.adapter) (places x.adapter)
+  pub AreReady-at : (xs : List (Attached A)) (i : ℕ) (x : Attached A) → AreReady heard places xs → i < length xs → x ≡ get_or xs i x → IsReady (heard x.adapter) (length x.targets.items) (places x.adapter)
   AreReady-at xs i x h l e = subst ready (sym e) (All-get_or ready xs i x l h)
 
-  pub AreReady-set : (xs : List (Attached A)) (i : ℕ) (y : Attached A) → AreReady heard places xs → IsReady (heard y.adapter) (places y.adapter) → AreReady heard places (set xs i y)
+  pub AreReady-set : (xs : List (Attached A)) (i : ℕ) (y : Attached A) → AreReady heard places xs → IsReady (heard y.adapter) (length y.targets.items) (places y.adapter) → AreReady heard places (set xs i y)
   AreReady-set xs i y h k = All-set ready xs i y k h
 
-  pub AreReady-push : (xs : List (Attached A)) (x : Attached A) → AreReady heard places xs → IsReady (heard x.adapter) (places x.adapter) → AreReady heard places (xs ++ x ∷ [])
+  pub AreReady-push : (xs : List (Attached A)) (x : Attached A) → AreReady heard places xs → IsReady (heard x.adapter) (length x.targets.items) (places x.adapter) → AreReady heard places (xs ++ x ∷ [])
   AreReady-push xs x h k = All-push ready xs x h k
 
   pub AreReady-remove : (xs : List (Attached A)) (i : ℕ) → AreReady heard places xs → AreReady heard places (remove xs i)
@@ -123,10 +105,14 @@ module _ {A : Type 0} (heard : A → View) (places : A → ℕ) where
   pub AreReady-rest : (x : Attached A) (xs ys : List (Attached A)) → ys ≡ x ∷ xs → AreReady heard places ys → AreReady heard places xs
   AreReady-rest x xs ys e h = All-rest ready x xs ys e h
 
-  pub HasReserve-from_ready : (xs : List (Attached A)) → AreReady heard places xs → HasReserve (places_of places xs)
-  HasReserve-from_ready xs h =
-      All-map (λ p. 1 ≤ p) (λ (a : Attached A). places a.adapter) xs (All-weaker ready (λ a. 1 ≤ places a.adapter) (λ a r. r.reserve) xs h)
+  reserve_from : (ys : List (Attached A)) → AllByRecursion ready ys → HasReserve (listed heard ys) (places_of places ys)
+  reserve_from [] h k = omega arith
+  reserve_from (y ∷ ys) h zero = h.0.reserve
+  reserve_from (y ∷ ys) h (suc k) = reserve_from ys h.1 k
 
-  pub countable-from_ready : (xs : List (Attached A)) → AreReady heard places xs → All (λ r. r.view.told + 1 < 2 ^ 64) (listed heard xs)
+  pub HasReserve-from_ready : (xs : List (Attached A)) → AreReady heard places xs → HasReserve (listed heard xs) (places_of places xs)
+  HasReserve-from_ready xs h = reserve_from xs (recursion_from_All ready xs h)
+
+  pub countable-from_ready : (xs : List (Attached A)) → AreReady heard places xs → All (λ r. r.view.told + length r.targets < 2 ^ 64) (listed heard xs)
   countable-from_ready xs h =
-      All-map (λ r. r.view.told + 1 < 2 ^ 64) (listed_one heard) xs (All-weaker ready (λ a. (heard a.adapter).told + 1 < 2 ^ 64) (λ a r. omega (arith, r.reserve, r.countable)) xs h)
+      All-map (λ r. r.view.told + length r.targets < 2 ^ 64) (listed_one heard) xs (All-weaker ready (λ a. (heard a.adapter).told + length a.targets.items < 2 ^ 64) (λ a r. omega (arith, r.reserve, r.countable)) xs h)

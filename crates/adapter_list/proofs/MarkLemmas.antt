@@ -2,6 +2,8 @@
 use Rattle.std.proofs.Common.{◌≡◌, ◌≤◌, ◌<◌, ◌++◌, ℕ, zero, suc, Bool, true, false, List, [], ◌∷◌, get_or, set, take, replicate, length, insert, nat_eq, if◌then◌else◌, refl, sym, ap, subst, ◌∙◌, arith, eqb-true}
 use Rattle.std.proofs.lemmas.Bool.{eqb-false, false≢true}
 use Rattle.std.proofs.lemmas.List.{get_or-set_other, get_or-set_same}
+use Rattle.mm_types.proofs.SameLemmas.{same_node-true}
+use Rattle.mm_types.specs.Same.{same_node}
 use Rattle.mm_types.specs.declared.numbers.Node.{Node}
 use Rattle.mm_types.specs.declared.numbers.Node.TheVariants as node
 use Rattle.mm_types.specs.declared.numbers.ObjectNo.{ObjectNo}
@@ -69,10 +71,13 @@ pub mark-put : (b c : Bool) (es : List Entry) (i : ℕ) (e : Entry) → c ≡ is
 mark-put true c es i e same = is_any-some (insert es i e) (insert-some es i e)
 mark-put false c es i e same = same
 
--- the marks of nodes whose adapters go
-pub mark-left : (b c : Bool) (es : List Entry) → c ≡ is_any es → (if b then false else c) ≡ is_any (if b then [] else es)
-mark-left true c es same = refl
-mark-left false c es same = same
+-- the marks after the entry of an adapter is taken out
+pub mark-removed : (x y : Node) (v c : Bool) (old new : TargetLists) → v ≡ is_any (entries_in new x) → c ≡ is_any (entries_in old y) → (same_node x y ≡ false → entries_in new y ≡ entries_in old y) → (if same_node x y then v else c) ≡ is_any (entries_in new y)
+mark-removed x y v c old new here there others =
+    elim (same_node x y) as (λ b. same_node x y ≡ b → (if b then v else c) ≡ is_any (entries_in new y)) [
+      | true ↦ λ same. here ∙ ap (λ (z : Node). is_any (entries_in new z)) (same_node-true x y same)
+      | false ↦ λ other. there ∙ ap is_any (sym (others other))
+    ] refl
 
 pub marks-lengthened : (b : Bool) (old new : List Bool) (n k : ℕ) → new ≡ (if b then take n old ++ replicate k false else old) → length old ≤ n → (i : ℕ) → get_or new i false ≡ get_or old i false
 marks-lengthened true old new n k is low i = ap (λ bs. get_or bs i false) is ∙ marks-longer old n k low i

@@ -1,6 +1,6 @@
 -- How an adapter is found by its number, and why one is not taken.
-use Rattle.std.proofs.Common.{◌≡◌, ℕ, ◌<◌, Bool, true, false, cond, ◌||◌, ◌++◌, if◌then◌else◌, nat_lt, nat_le, List, [], ◌∷◌, map, length, get_or, position, slice_get, Some, None, option_map, option_and_then, refl, sym, ap, subst, ◌∙◌, arith}
-use Rattle.std.specs.List.{IsDistinct, find, list_any, position_or_len}
+use Rattle.std.proofs.Common.{◌≡◌, ℕ, ◌<◌, Bool, filter, true, false, cond, ◌||◌, ◌++◌, if◌then◌else◌, nat_lt, nat_le, List, [], ◌∷◌, map, length, get_or, position, slice_get, Some, None, option_map, option_and_then, refl, subst, sym, ap, ◌∙◌, arith}
+use Rattle.std.specs.List.{AllByRecursion, IsDistinct, find, list_any, position_or_len}
 use Rattle.std.proofs.lemmas.List.Folds.{find_at}
 use Rattle.std.proofs.lemmas.List.{map-append}
 use Rattle.indexmap.specs.IndexSet.{insert_key}
@@ -10,7 +10,7 @@ use Rattle.mm_types.specs.declared.limits.TheConstants.{ADAPTERS}
 use Rattle.mm_types.specs.declared.numbers.AdapterNo.{AdapterNo}
 use Rattle.mm_types.specs.declared.refused.Refused.TheVariants as refused
 use Rattle.notice_chain.specs.View.{View}
-use Rattle.notice_chain.specs.Listed.{HasDistinctNumbers, Listed, adapter, has_no, same_no}
+use Rattle.notice_chain.specs.Listed.{HasDistinctNumbers, Listed, adapter, has_no, same_no, targets_len}
 use Rattle.adapter_list.specs.declared.attached.Attached.{Attached}
 use Rattle.adapter_list.specs.Attached.{listed_one, listed, numbers_of}
 use Rattle.adapter_list.specs.Refusals.{list_refusal}
@@ -47,20 +47,20 @@ module _ {A : Type 0} (heard : A → View) (xs : List (Attached A)) where
   pub adapter-absent : (number : AdapterNo) → None ≡ position (has_no number) (listed heard xs) → None ≡ adapter number (listed heard xs)
   adapter-absent number at = sym (find-position (has_no number) (listed heard xs) ∙ ap (option_and_then (slice_get (listed heard xs))) (sym at))
 
-below : (n : ℕ) → n < ADAPTERS → nat_le ADAPTERS n ≡ false
+pub below : (n : ℕ) → n < ADAPTERS → nat_le ADAPTERS n ≡ false
 below n h = grind (arith, h)
 
-pub list_refusal-taken : (rs : List Listed) (number : AdapterNo) → length rs < ADAPTERS → true ≡ list_any (has_no number) rs → Some refused.AdapterTaken ≡ list_refusal rs number
-list_refusal-taken rs number few taken = rw (below (length rs) few, ← taken) refl
+pub list_refusal-taken : (rs : List Listed) (number : AdapterNo) → targets_len rs < ADAPTERS → true ≡ list_any (has_no number) rs → Some refused.AdapterTaken ≡ list_refusal rs number
+list_refusal-taken rs number few taken = rw (below (targets_len rs) few, ← taken) refl
 
-pub list_refusal-none : (rs : List Listed) (number : AdapterNo) → length rs < ADAPTERS → false ≡ list_any (has_no number) rs → None ≡ list_refusal rs number
-list_refusal-none rs number few taken = rw (below (length rs) few, ← taken) refl
+pub list_refusal-none : (rs : List Listed) (number : AdapterNo) → targets_len rs < ADAPTERS → false ≡ list_any (has_no number) rs → None ≡ list_refusal rs number
+list_refusal-none rs number few taken = rw (below (targets_len rs) few, ← taken) refl
 
 -- a number that the list takes: there is room for one more, and it is new
-pub allowed_from_none : (rs : List Listed) (number : AdapterNo) → None ≡ list_refusal rs number → (length rs < ADAPTERS) × (list_any (has_no number) rs ≡ false)
-allowed_from_none rs number none = by (nat_le ADAPTERS (length rs)) refl (list_any (has_no number) rs) refl none
+pub allowed_from_none : (rs : List Listed) (number : AdapterNo) → None ≡ list_refusal rs number → (targets_len rs < ADAPTERS) × (list_any (has_no number) rs ≡ false)
+allowed_from_none rs number none = by (nat_le ADAPTERS (targets_len rs)) refl (list_any (has_no number) rs) refl none
   where
-    by : (b : Bool) → nat_le ADAPTERS (length rs) ≡ b → (d : Bool) → list_any (has_no number) rs ≡ d → None ≡ (cond b (Some refused.Limit) (cond d (Some refused.AdapterTaken) None)) → (length rs < ADAPTERS) × (list_any (has_no number) rs ≡ false)
+    by : (b : Bool) → nat_le ADAPTERS (targets_len rs) ≡ b → (d : Bool) → list_any (has_no number) rs ≡ d → None ≡ (cond b (Some refused.Limit) (cond d (Some refused.AdapterTaken) None)) → (targets_len rs < ADAPTERS) × (list_any (has_no number) rs ≡ false)
     by true h d k e = absurd (none-some _ e)
     by false h true k e = absurd (none-some _ e)
     by false h false k e = (leb-false _ _ h, k)
@@ -70,6 +70,18 @@ pub numbers_of-push : {A : Type 0} (xs after : List (Attached A)) (x : Attached 
 numbers_of-push xs after x keys new e absent inserted pushed =
     inserted ∙ ap (λ b. if b then keys else (keys ++ (x.no ∷ []))) absent ∙ ap (λ ks. ks ++ (x.no ∷ [])) e ∙ sym (ap numbers_of pushed ∙ map-append (λ a. a.no) xs (x ∷ []))
 
--- the numbers of those who are listed are distinct
 pub distinct-numbers : {A : Type 0} (heard : A → View) (xs : List (Attached A)) (keys : List AdapterNo) → keys ≡ numbers_of xs → IsDistinct same_no keys → HasDistinctNumbers (listed heard xs)
 distinct-numbers heard xs keys is distinct = subst (IsDistinct same_no) (is ∙ sym (map-listed heard xs xs)) distinct
+
+----------------------------------------------------------------- some of them
+
+-- keys that are distinct stay so where some go
+module _ {X K : Type 0} (eq : K → K → Bool) (f : X → K) (p : X → Bool) where
+  apart-filter : (k : K) (xs : List X) → AllByRecursion (λ j. eq k j ≡ false) (map f xs) → AllByRecursion (λ j. eq k j ≡ false) (map f (filter p xs))
+  apart-filter k [] h = tt
+  apart-filter k (x ∷ xs) h = elim (p x) as (λ b. AllByRecursion (λ j. eq k j ≡ false) (map f (cond b (x ∷ filter p xs) (filter p xs)))) [ true ↦ (h.0, apart-filter k xs h.1) | false ↦ apart-filter k xs h.1 ]
+
+  pub distinct-filter : (xs : List X) → IsDistinct eq (map f xs) → IsDistinct eq (map f (filter p xs))
+  unfolding IsDistinct
+  distinct-filter [] h = tt
+  distinct-filter (x ∷ xs) h = elim (p x) as (λ b. IsDistinct eq (map f (cond b (x ∷ filter p xs) (filter p xs)))) [ true ↦ (apart-filter (f x) xs h.0, distinct-filter xs h.1) | false ↦ distinct-filter xs h.1 ]

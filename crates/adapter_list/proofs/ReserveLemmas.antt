@@ -8,7 +8,6 @@ use Rattle.std.proofs.lemmas.Bool.Decides.{nat_tests}
 use Rattle.std.specs.Option.{option_map_or}
 use Rattle.std.proofs.lemmas.Bool.{eqb-false, false≢true, ne_eqb}
 use Rattle.std.proofs.lemmas.List.{drop_all, drop_more}
-use Rattle.std.proofs.lemmas.List.Elements.{All-get_or}
 use Rattle.adapters.specs.declared.adapter.NoRoom.{NoRoom}
 use Rattle.adapters.specs.declared.adapter.NoRoom.TheVariants as room
 use Rattle.mm_types.specs.declared.refused.Refused.TheVariants as refused
@@ -19,6 +18,7 @@ use Rattle.adapter_list.specs.Attached.{HasReserve}
 use Rattle.adapter_list.specs.Counts.{IsCounted, IsFirstFull, IsFullFor, IsReadyFor, copies_len, is_place_of, told_at_place}
 use Rattle.adapter_list.specs.Refusals.{IsChainRefusal, refusal_of}
 use Rattle.adapter_list.specs.Rounds.{round_copies}
+use Rattle.adapter_list.specs.Targets.{targets_at}
 use Rattle.adapter_list.proofs.DeliveryLemmas.{copies_for-here, copies_for-other}
 use Rattle.adapter_list.proofs.RoundLemmas.{copies_for-round_copies}
 
@@ -145,10 +145,11 @@ ready-more rs ps qs k n same more h = record { places = λ low. let few = h.plac
 abbrev pub AreAsked : List Listed → List ℕ → List (ℕ × Notice) → List ℕ → Type 0
 AreAsked rs ps cs rest = (k : ℕ) → list_any (nat_eq k) rest ≡ false → IsReadyFor rs ps k (copies_len cs k)
 
-pub asked-none : (rs : List Listed) (ps : List ℕ) (cs : List (ℕ × Notice)) (all : List ℕ) → HasReserve ps → ((k : ℕ) → list_any (nat_eq k) all ≡ is_place_of cs k) → AreAsked rs ps cs all
+pub asked-none : (rs : List Listed) (ps : List ℕ) (cs : List (ℕ × Notice)) (all : List ℕ) → HasReserve rs ps → ((k : ℕ) → list_any (nat_eq k) all ≡ is_place_of cs k) → AreAsked rs ps cs all
 asked-none rs ps cs all reserve places = λ k other.
     let none : copies_len cs k ≡ 0 = is_place-none cs k (sym (places k) ∙ other) in
-    record { places = λ low. let one = All-get_or (λ p. 1 ≤ p) ps k 0 low reserve in omega (arith, none, one); countable = λ some. absurd (omega (arith, none, some)) }
+    let room = reserve k in
+    record { places = λ low. omega (arith, none, room); countable = λ some. absurd (omega (arith, none, some)) }
 
 in-at : (all : List ℕ) (i : ℕ) → i < length all → list_any (nat_eq (get_or all i 0)) all ≡ true
 in-at [] i low = absurd (omega (arith, low))
@@ -215,7 +216,7 @@ there [] k h = absurd (omega (arith, h))
 there (r ∷ rs) zero h = (r, refl)
 there (r ∷ rs) (suc k) h = there rs k (omega (arith, h))
 
-told-there : (rs : List Listed) (k : ℕ) (r : Listed) → slice_get rs k ≡ Some r → told_at_place rs k ≡ r.view.told
+pub told-there : (rs : List Listed) (k : ℕ) (r : Listed) → slice_get rs k ≡ Some r → told_at_place rs k ≡ r.view.told
 told-there [] k r e = absurd (none-of e)
   where
     none-of : None ≡ Some r → ⊥
@@ -223,12 +224,20 @@ told-there [] k r e = absurd (none-of e)
 told-there (q ∷ rs) zero r e = let first : q ≡ r = cc in ap (λ (x : Listed). x.view.told) first
 told-there (q ∷ rs) (suc k) r e = told-there rs k r e
 
-not-full : (n : ℕ) (v : View) → (0 < n → v.told + (n + 1) < 2 ^ 64) → is_full n v ≡ false
-not-full n v h = both (nat_lt 0 n) (nat_le (2 ^ 64) (v.told + (n + 1))) refl refl
+pub targets-there : (rs : List Listed) (k : ℕ) (r : Listed) → slice_get rs k ≡ Some r → targets_at rs k ≡ length r.targets
+targets-there [] k r e = absurd (none-of e)
   where
-    both : (a b : Bool) → nat_lt 0 n ≡ a → nat_le (2 ^ 64) (v.told + (n + 1)) ≡ b → (nat_lt 0 n && nat_le (2 ^ 64) (v.told + (n + 1))) ≡ false
-    both false b p q = ap (λ c. c && nat_le (2 ^ 64) (v.told + (n + 1))) p
-    both true false p q = ap (λ c. c && nat_le (2 ^ 64) (v.told + (n + 1))) p ∙ q
+    none-of : None ≡ Some r → ⊥
+    none-of q = cc
+targets-there (q ∷ rs) zero r e = let first : q ≡ r = cc in ap (λ (x : Listed). length x.targets) first
+targets-there (q ∷ rs) (suc k) r e = targets-there rs k r e
+
+not-full : (n t : ℕ) (v : View) → (0 < n → v.told + (n + t) < 2 ^ 64) → is_full n t v ≡ false
+not-full n t v h = both (nat_lt 0 n) (nat_le (2 ^ 64) (v.told + (n + t))) refl refl
+  where
+    both : (a b : Bool) → nat_lt 0 n ≡ a → nat_le (2 ^ 64) (v.told + (n + t)) ≡ b → (nat_lt 0 n && nat_le (2 ^ 64) (v.told + (n + t))) ≡ false
+    both false b p q = ap (λ c. c && nat_le (2 ^ 64) (v.told + (n + t))) p
+    both true false p q = ap (λ c. c && nat_le (2 ^ 64) (v.told + (n + t))) p ∙ q
     both true true p q = absurd (let some : 0 < n = grind (arith, p) in let room = h some in let past = leb-true _ _ q in omega (arith, room, past))
 
 module _ (up : Above) (ns : List Notice) (rs : List Listed) where
@@ -238,13 +247,14 @@ module _ (up : Above) (ns : List Notice) (rs : List Listed) where
   -- where each adapter is ready for its copies, none is full
   pub chain-counted : (ps : List ℕ) → ((k : ℕ) → IsReadyFor rs ps k (copies_len (round_copies up ns rs) k)) → is_chain_full up ns rs ≡ false
   chain-counted ps ready =
-      any-none (λ r. is_full (length (heard_of up ns r)) r.view) rs (λ k r e.
-      not-full (length (heard_of up ns r)) r.view (λ some.
+      any-none (λ r. is_full (length (heard_of up ns r)) (length r.targets) r.view) rs (λ k r e.
+      not-full (length (heard_of up ns r)) (length r.targets) r.view (λ some.
       let room = (ready k).countable in
       let many = copies_len-heard k r e in
       let told = told-there rs k r e in
+      let targets = targets-there rs k r e in
       let few = room (omega (arith, some, many)) in
-      omega (arith, few, many, told)))
+      omega (arith, few, many, told, targets)))
 
   pub chain-full : (k : ℕ) → IsFullFor rs (round_copies up ns rs) k → is_chain_full up ns rs ≡ true
   chain-full k f =
@@ -252,9 +262,10 @@ module _ (up : Above) (ns : List Notice) (rs : List Listed) where
       let e : slice_get rs k ≡ Some r = (there rs k f.within).1 in
       let many = copies_len-heard k r e in
       let told = told-there rs k r e in
+      let targets = targets-there rs k r e in
       let some : 0 < length (heard_of up ns r) = omega (arith, f.some, many) in
-      let past : 2 ^ 64 ≤ r.view.told + (length (heard_of up ns r) + 1) = omega (arith, f.full, many, told) in
-      any-some (λ q. is_full (length (heard_of up ns q)) q.view) rs k r e (rw (le-leb _ _ some, le-leb _ _ past) refl)
+      let past : 2 ^ 64 ≤ r.view.told + (length (heard_of up ns r) + length r.targets) = omega (arith, f.full, many, told, targets) in
+      any-some (λ q. is_full (length (heard_of up ns q)) (length q.targets) q.view) rs k r e (rw (le-leb _ _ some, le-leb _ _ past) refl)
 
 -- why a chain is refused
 pub refusal-is : (full : Bool) (e : NoRoom) → (e ≡ room.Full → full ≡ true) → IsChainRefusal full (refusal_of e)

@@ -4,6 +4,7 @@ use Rattle.std.specs.List.{list_any}
 use Rattle.notice_chain.specs.Listed.{Listed}
 use Rattle.notice_chain.specs.declared.notice.Notice.{Notice}
 use Rattle.adapter_list.specs.Rounds.{copies_for}
+use Rattle.adapter_list.specs.Targets.{targets_at}
 
 -- how many copies the adapter at place k gets
 abbrev pub copies_len : List (ℕ × Notice) → ℕ → ℕ
@@ -18,16 +19,16 @@ IsCounted (Some n) rest all = (0 < n) × (n + rest ≡ all)
 abbrev pub told_at_place : List Listed → ℕ → ℕ
 told_at_place rs k = slice_index (map (λ r. r.view.told) rs) k
 
--- the adapter at place k has a place for each of n notices and one more, and can count them all
+-- the adapter at place k has a place for each of n notices and one more for each of its targets, and can count them all
 pub record IsReadyFor (rs : List Listed) (ps : List ℕ) (k n : ℕ) : Type 0 where
-  pub places : k < length ps → n < slice_index ps k
-  pub countable : 0 < n → told_at_place rs k + (n + 1) < 2 ^ 64
+  pub places : k < length ps → n + targets_at rs k ≤ slice_index ps k
+  pub countable : 0 < n → told_at_place rs k + (n + targets_at rs k) < 2 ^ 64
 
 -- an adapter can't count the copies that it gets
 pub record IsFullFor (rs : List Listed) (cs : List (ℕ × Notice)) (k : ℕ) : Type 0 where
   pub within : k < length rs
   pub some : 0 < copies_len cs k
-  pub full : 2 ^ 64 ≤ told_at_place rs k + (copies_len cs k + 1)
+  pub full : 2 ^ 64 ≤ told_at_place rs k + (copies_len cs k + targets_at rs k)
 
 -- it is the first in attach order that refuses its copies: each before it is ready for those that it gets
 pub record IsFirstFull (rs : List Listed) (ps : List ℕ) (cs : List (ℕ × Notice)) (k : ℕ) : Type 0 where

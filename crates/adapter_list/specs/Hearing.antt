@@ -1,23 +1,33 @@
 -- The adapters that hear the notices of a node, by their places in attach order, and the copies that they get.
-use Rattle.std.specs.Prelude.{◌≡◌, ℕ, suc, ◌&&◌, ◌||◌, Bool, List, [], ◌∷◌, map, IfSome, if◌then◌else◌}
+use Rattle.std.specs.Prelude.{◌≡◌, ℕ, suc, Bool, List, [], ◌∷◌, map, IfSome, if◌then◌else◌}
 use Rattle.std.specs.List.{list_any}
-use Rattle.mm_types.specs.Same.{same_node}
 use Rattle.mm_types.specs.declared.numbers.Node.{Node}
-use Rattle.notice_chain.specs.Listed.{Above, Listed}
+use Rattle.mm_types.specs.declared.numbers.Node.TheVariants as node
+use Rattle.mm_types.specs.declared.numbers.ObjectNo.{ObjectNo}
+use Rattle.notice_chain.specs.Listed.{Above, Listed, brings_in, has_target}
 use Rattle.notice_chain.specs.declared.notice.Notice.{Notice}
 use Rattle.adapter_list.specs.declared.hearers.Hearers.{Hearers}
 
 -- an adapter hears the notices of a node
 abbrev pub hears_node : Above → Node → Listed → Bool
-hears_node up x r = same_node r.target x || (r.deep && list_any (same_node r.target) (up x))
+hears_node up x r = list_any (brings_in up x) r.targets
 
--- the places of those who hear the notices of a node, where the first adapter stands at place k
-abbrev pub hearers_from : Above → Node → ℕ → List Listed → List ℕ
-hearers_from up x k [] = []
-hearers_from up x k (r ∷ rs) = if hears_node up x r then k ∷ hearers_from up x (suc k) rs else hearers_from up x (suc k) rs
+-- the places of the adapters of which something is so, where the first adapter stands at place k
+abbrev pub places_from : (Listed → Bool) → ℕ → List Listed → List ℕ
+places_from p k [] = []
+places_from p k (r ∷ rs) = if p r then k ∷ places_from p (suc k) rs else places_from p (suc k) rs
 
+-- the places of those who hear the notices of a node
 abbrev pub hearers : Above → Node → List Listed → List ℕ
-hearers up x rs = hearers_from up x 0 rs
+hearers up x rs = places_from (hears_node up x) 0 rs
+
+-- an adapter has one of some objects as a target
+abbrev pub is_touched : List ObjectNo → Listed → Bool
+is_touched os r = list_any (λ o. has_target (node.Object o) r) os
+
+-- the places of the adapters that have one of some objects as a target
+abbrev pub touched : List ObjectNo → List Listed → List ℕ
+touched os rs = places_from (is_touched os) 0 rs
 
 -- what was found last is right: it is of no node, or has the hearers of its node
 abbrev pub AreKnown : Above → List Listed → Hearers → Type 0

@@ -1,6 +1,6 @@
 -- The adapters of each node: what a table of them has, and what it is to have.
-use Rattle.std.specs.Prelude.{◌≡◌, ℕ, ◌<◌, ◌&&◌, ◌||◌, not, Bool, true, false, List, [], ◌∷◌, get_or, slice_get, length, nat_eq, Option, Some, None, IfSome, ⊤, if◌then◌else◌}
-use Rattle.std.specs.List.{filter_map}
+use Rattle.std.specs.Prelude.{◌≡◌, ℕ, ◌<◌, ◌&&◌, ◌||◌, not, Bool, true, false, List, [], ◌∷◌, get_or, slice_get, length, map, nat_eq, slice_index, Option, option_map, IfSome, ⊤, if◌then◌else◌}
+use Rattle.std.specs.List.{IsDistinct, filter_map, find}
 use Rattle.std.specs.Option.{option_map_or}
 use Rattle.indexmap.specs.IndexMap.{get}
 use Rattle.mm_types.specs.Same.{same_node}
@@ -8,7 +8,7 @@ use Rattle.mm_types.specs.declared.numbers.AdapterNo.{AdapterNo}
 use Rattle.mm_types.specs.declared.numbers.Node.{Node}
 use Rattle.mm_types.specs.declared.numbers.Node.TheVariants as node
 use Rattle.mm_types.specs.declared.numbers.ObjectNo.{ObjectNo}
-use Rattle.notice_chain.specs.Listed.{Listed, has_no, has_target}
+use Rattle.notice_chain.specs.Listed.{Listed, has_no, is_at}
 use Rattle.adapter_list.specs.declared.target_lists.Entry.{Entry}
 use Rattle.adapter_list.specs.declared.target_lists.NodeKey.{NodeKey}
 use Rattle.adapter_list.specs.declared.target_lists.TargetLists.{TargetLists}
@@ -34,11 +34,11 @@ entries_in t x = option_map_or (λ v. v.items) (get same_key t.lists (key x)) []
 abbrev pub HasNoEmpty : TargetLists → Type 0
 HasNoEmpty t = (q : NodeKey) → IfSome (get same_key t.lists q) (λ v. 0 < length v.items)
 
--- the entry of an adapter at a node, if that is its target
+-- the entry of an adapter at a node, if that is a target of it
 abbrev pub entry_of : Node → Listed → Option Entry
-entry_of x r = if has_target x r then Some (record { no = r.no; deep = r.deep }) else None
+entry_of x r = option_map (λ t. record { no = r.no; deep = t.deep }) (find (is_at x) r.targets)
 
--- the adapters that have a node as their target, in attach order
+-- the adapters that have a node as a target, in attach order
 abbrev pub entries : Node → List Listed → List Entry
 entries x rs = filter_map (entry_of x) rs
 
@@ -73,26 +73,28 @@ abbrev pub HasMarkRoom : List Bool → Node → Type 0
 HasMarkRoom bs (node.Object o) = o.0 < length bs
 HasMarkRoom bs (node.Resource k) = ⊤
 
--- the adapters of some nodes are taken out, and their marks
-pub record Forgets (t u : TargetLists) (bs cs : List Bool) (gone : Node → Bool) : Type 0 where
-  pub entries_left : (x : Node) → entries_in u x ≡ (if gone x then [] else entries_in t x)
-  pub marks_left : (o : ObjectNo) → get_or cs o.0 false ≡ (if gone (node.Object o) then false else get_or bs o.0 false)
-  pub none_empty : HasNoEmpty t → HasNoEmpty u
-
 ---------------------------------------------------------------- places
 
 -- the adapter at place k has a number
 abbrev pub has_number_at : List Listed → AdapterNo → ℕ → Bool
 has_number_at rs number k = option_map_or (has_no number) (slice_get rs k) false
 
--- an adapter is attached to a node; and is deep, where only those are asked for
+-- a target of an adapter is the node; and is deep, where only deep ones are asked for
 abbrev pub is_attached : Node → Bool → Listed → Bool
-is_attached x only_deep r = (not only_deep || r.deep) && has_target x r
+is_attached x only_deep r = option_map_or (λ t. not only_deep || t.deep) (find (is_at x) r.targets) false
 
--- the adapter at place k is
+-- one of the adapter at place k is
 abbrev pub is_attached_at : List Listed → Node → Bool → ℕ → Bool
 is_attached_at rs x only_deep k = option_map_or (is_attached x only_deep) (slice_get rs k) false
+
+-- how many targets the adapter at place k has
+abbrev pub targets_at : List Listed → ℕ → ℕ
+targets_at rs k = slice_index (map (λ r. length r.targets) rs) k
 
 -- an entry is of the adapter at place k, and is asked for
 abbrev pub finds : List Listed → Bool → ℕ → Entry → Bool
 finds rs only_deep k e = (not only_deep || e.deep) && has_number_at rs e.no k
+
+-- an adapter has no target twice
+abbrev pub IsOnce : Listed → Type 0
+IsOnce r = IsDistinct same_node (map (λ t. t.node) r.targets)

@@ -1,16 +1,17 @@
 //! One attached adapter.
 use adapters::Adapter;
-use mm_types::{AdapterNo, Node};
+use mm_types::AdapterNo;
+use notice_chain::Target;
+use std::collections::VecDeque;
 
-/// An adapter with its number and its target.
+/// An adapter with its number and its targets.
 #[derive(Drop)]
 pub struct Attached<A = Box<dyn Adapter>> {
     /// The number under which it is attached.
     pub no: AdapterNo,
-    /// The node whose notices it hears.
-    pub target: Node,
-    /// Whether it hears the notices of all nodes below its target too (EMF: EContentAdapter).
-    pub deep: bool,
+    /// The nodes whose notices it hears, each once, in the order in which it got them. A ring, since a deletion takes
+    /// many of them in that order.
+    pub targets: VecDeque<Target>,
     /// The adapter itself.
     pub adapter: A,
 }

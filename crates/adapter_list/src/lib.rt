@@ -18,5 +18,6 @@ mod target_lists;
 
 pub use attach_refused::AttachRefused;
 pub use attached::Attached;
+pub use hearers::Hearers;
 pub use list::AdapterList;
 pub use round::Round;

@@ -1,39 +1,46 @@
 //! The list of attached adapters.
-ghost use Rattle.std.specs.Prelude.{◌≡◌, ◌+◌, ◌^◌, ◌≤◌, ◌<◌, [], length, option_map, slice_get, All, IfSome, position};
-ghost use Rattle.notice_chain.specs.Listed.{HasDistinctNumbers, adapter, has_no};
+ghost use Rattle.std.specs.Prelude.{◌≡◌, ◌+◌, ◌^◌, ◌≤◌, ◌<◌, [], length, option_map, slice_get, All, IfSome, List, position};
+ghost use Rattle.mm_types.specs.declared.numbers.AdapterNo.{AdapterNo};
+ghost use Rattle.notice_chain.specs.declared.target.Target.{Target};
+ghost use Rattle.notice_chain.specs.Listed.{HasDistinctNumbers, HasDistinctTargets, adapter, has_no, targets_len};
 ghost use Rattle.adapter_list.specs.Attached.{listed_one, HasReserve};
 
 mod attach;
 mod hear;
 mod release;
-mod release_gone;
 mod reserve;
 mod tell;
+mod touched;
+mod watch;
 
 use crate::attached::Attached;
 use crate::target_lists::TargetLists;
 use adapters::Adapter;
 use indexmap::IndexSet;
+use mm_types::AdapterNo;
 use mm_types::limits::ADAPTERS;
-use mm_types::{AdapterNo, Node};
+use notice_chain::Target;
 use std::alloc::Global;
+use std::collections::VecDeque;
 use std::marker::Model;
 
-/// The attached adapters, in attach order (EMF: the adapters of all notifiers). It is seen as two lists: the adapters by what
-/// they have heard, and how many places each has, which only a delivery mentions.
+/// The attached adapters, in attach order (EMF: the adapters of all notifiers). It is seen as two lists: the adapters with their
+/// targets, by what they have heard, and how many places each has, which only a delivery mentions.
 ///
-/// Their numbers are distinct, at most 100,000 are attached, and each has a place in reserve for its last notice, which it can
-/// count.
+/// Their numbers are distinct, they have at most 100,000 targets, no adapter one twice, and each has a place in reserve for each
+/// of its targets, for its last notice from it, and can count these.
 #[derive(Drop)]
 pub struct AdapterList<A: Adapter> {
     alloc: Global,
     attached: Vec<Attached<A>>,
     /// The numbers of `attached`, in the same order, to find an adapter by its number.
     numbers: IndexSet<AdapterNo>,
-    /// For each node those that are attached to it, in attach order.
+    /// For each node the adapters that have it as a target, in attach order.
     by_target: TargetLists,
-    /// For each object whether any is attached to it.
+    /// For each object whether it is a target of any.
     marks: Vec<bool>,
+    /// How many targets there are.
+    targets_len: usize,
     /// Always empty: `close` fills it, and takes no memory for that.
     released: Vec<(AdapterNo, A)>,
 }
@@ -47,7 +54,7 @@ impl<A: Adapter> Model for AdapterList<A> {
 
     ghost view = { λ l. (listed A.heard l.attached.items, places_of A.places l.attached.items) };
 
-    ghost invariant = { λ l. IsSound A.heard A.places l.attached.items l.numbers.keys l.by_target l.marks.items (vec_len l.released) (vec_capacity l.released) };
+    ghost invariant = { λ l. IsSound A.heard A.places l.attached.items l.numbers.keys l.by_target l.marks.items l.targets_len (vec_len l.released) (vec_capacity l.released) };
 }
 
 impl<A: Adapter> AdapterList<A> {
@@ -61,6 +68,7 @@ impl<A: Adapter> AdapterList<A> {
             numbers: IndexSet::new(alloc),
             by_target: TargetLists::new(alloc),
             marks: Vec::new(alloc),
+            targets_len: 0,
             released: Vec::new(alloc),
         }
     }
@@ -72,12 +80,22 @@ impl<A: Adapter> AdapterList<A> {
         self.attached.len()
     }
 
-    /// The number and the target of the adapter at `i` in attach order; None past the last. Takes no memory.
-    pub fn at(&self, i: usize) -> Option<(AdapterNo, Node)>
-        ensures { result ≡ option_map (λ r. (r.no, r.target)) (slice_get self.now.0 i) }
+    /// The number and the targets of the adapter at `i` in attach order; None past the last. Takes no memory.
+    pub fn at(&self, i: usize) -> Option<(AdapterNo, &VecDeque<Target>)>
+        ensures { option_map {U = AdapterNo × List Target} (λ p. (p.0, p.1.now.items)) result ≡ option_map (λ r. (r.no, r.targets)) (slice_get self.now.0 i) }
     {
         match self.attached.get(i) {
-            Some(one) => Some((one.no, one.target)),
+            Some(one) => Some((one.no, &one.targets)),
+            None => None,
+        }
+    }
+
+    /// The targets of the adapter of a number, in the order in which it got them; None where it is not attached. Takes no memory.
+    pub fn targets(&self, no: AdapterNo) -> Option<&VecDeque<Target>>
+        ensures { option_map (λ ts. ts.now.items) result ≡ option_map (λ r. r.targets) (adapter no self.now.0) }
+    {
+        match self.find(no) {
+            Some(one) => Some(&one.targets),
             None => None,
         }
     }
@@ -102,13 +120,15 @@ impl<A: Adapter> AdapterList<A> {
         }
     }
 
-    /// What holds of every list, for callers whose proofs need it: there are no more adapters than there may be, their numbers
-    /// are distinct, each can count its last notice, and each has a place in reserve for it.
+    /// What holds of every list, for callers whose proofs need it: there are no more targets than there may be, the numbers of the
+    /// adapters are distinct, none has a target twice, and each has a place in reserve for each of its targets, and can count a
+    /// notice for each.
     pub fn keeps_its_rules(&self)
-        ensures few { length self.now.0 ≤ ADAPTERS }
+        ensures few { targets_len self.now.0 ≤ ADAPTERS }
         ensures distinct { HasDistinctNumbers self.now.0 }
-        ensures countable { All (λ r. r.view.told + 1 < 2 ^ 64) self.now.0 }
-        ensures reserve { HasReserve self.now.1 }
+        ensures once { HasDistinctTargets self.now.0 }
+        ensures countable { All (λ r. r.view.told + length r.targets < 2 ^ 64) self.now.0 }
+        ensures reserve { HasReserve self.now.0 self.now.1 }
         ensures places { length self.now.1 ≡ length self.now.0 }
     {
         let _ = &self.alloc;

@@ -3,7 +3,7 @@ use script_lines::{Line, parse_line};
 use std::alloc::{AllocError, Global};
 
 /// The forms, as `docs/SCRIPT.md` has them.
-pub(crate) static FORMS: [&str; 25] = [
+pub(crate) static FORMS: [&str; 27] = [
     "new NAME",
     "set NODE NAME VALUE",
     "unset NODE NAME",
@@ -28,6 +28,8 @@ pub(crate) static FORMS: [&str; 25] = [
     "save RES",
     "attach AD NODE flat|deep",
     "detach AD",
+    "watch AD NODE flat|deep",
+    "unwatch AD NODE",
     "seen AD",
 ];
 

@@ -1,4 +1,4 @@
-//! Adapters that are attached, notified, refused and detached.
+//! Adapters that are attached, given targets, notified and refused.
 use crate::no_links::without_links;
 use crate::notices::added;
 use crate::telling::{Kind, NEARLY_FULL, adapter, attach, tell, three, three_notices};
@@ -28,7 +28,7 @@ fn refused_to_three<A: Adapter>(
     let mut list = three(alloc, [1, 1, 1], first, second, third)?;
     let chain = three_notices(alloc)?;
     let store = without_links(alloc);
-    let refused = tell(&store, &mut *list, &chain).err();
+    let refused = tell(alloc, &store, &mut *list, &chain).err();
     Ok((refused, told_of_three(&*list)))
 }
 
@@ -79,13 +79,20 @@ fn counters(alloc: Global) -> Result<Box<AdapterList<Counter>>, Fail> {
     )
 }
 
-/// The number and the target of the adapter at each place, and at the place past the last.
+/// The number and the first target of the adapter at each place, and at the place past the last.
 const PLACES: [Option<(AdapterNo, Node)>; 4] = [
     Some((AdapterNo(5), Node::Object(ObjectNo(1)))),
     Some((AdapterNo(6), Node::Object(ObjectNo(2)))),
     Some((AdapterNo(7), Node::Object(ObjectNo(1)))),
     None,
 ];
+
+/// The number and the first target of the adapter at a place.
+fn first_at<A: Adapter>(list: &AdapterList<A>, i: usize) -> Option<(AdapterNo, Node)> {
+    let (no, targets) = list.at(i)?;
+    let target = targets.front()?;
+    Some((no, target.node))
+}
 
 /// Who hears a notice.
 fn audience<A: Adapter>(
@@ -102,7 +109,7 @@ fn adapters_stand_in_attach_order(rt: HostRuntime) -> Result<(), Fail> {
     let list = counters(rt.alloc())?;
     assert_eq!(rt; list.len(), 3);
     for (i, wanted) in PLACES.iter().enumerate() {
-        assert!(rt; list.at(i) == *wanted, "at {i}");
+        assert!(rt; first_at(&list, i) == *wanted, "at {i}");
     }
     assert_eq!(rt; list.told(AdapterNo(8)), None);
     assert_eq!(rt; list.kept_len(AdapterNo(5)), Some(0));
@@ -127,7 +134,7 @@ fn delivered<A: Adapter>(alloc: Global, first: A, second: A, third: A) -> Result
     let mut list = three(alloc, [1, 2, 1], first, second, third)?;
     let chain = three_notices(alloc)?;
     let store = without_links(alloc);
-    let told = told(alloc, &tell(&store, &mut *list, &chain)?)?;
+    let told = told(alloc, &tell(alloc, &store, &mut *list, &chain)?)?;
     let (counts, kept) = (told_of_three(&*list), list.kept_len(AdapterNo(5)));
     Ok(format!(in alloc; "{told}told {counts:?} kept {kept:?}")?)
 }
@@ -150,27 +157,9 @@ fn a_window_of_two_in_a_list_keeps_two_of_three(rt: HostRuntime) -> Result<(), F
     attach(&mut list, 5, 1, Window::new(rt.alloc(), 2)?)?;
     let notices = vec![in rt.alloc(); added(1, 0), added(1, 1), added(1, 2)]?;
     let store = without_links(rt.alloc());
-    assert!(rt; tell(&store, &mut *list, &Chain::from_vec(notices)).is_ok());
+    assert!(rt; tell(rt.alloc(), &store, &mut *list, &Chain::from_vec(notices)).is_ok());
     assert_eq!(rt; list.told(AdapterNo(5)), Some(3));
     assert_eq!(rt; list.kept_len(AdapterNo(5)), Some(2));
-    Ok(())
-}
-
-/// The position in the last notice of an adapter that is detached, and how many it was told.
-fn detached<A: Adapter>(list: &mut AdapterList<A>, no: u32) -> Option<(i64, u64)> {
-    match list.detach(AdapterNo(no)) {
-        Some((notice, adapter)) => Some((notice.position, adapter.told())),
-        None => None,
-    }
-}
-
-#[test]
-fn a_detached_adapter_is_told_its_index_at_the_target(rt: HostRuntime) -> Result<(), Fail> {
-    let mut list = counters(rt.alloc())?;
-    assert_eq!(rt; detached(&mut list, 7), Some((1, 1)));
-    assert_eq!(rt; detached(&mut list, 5), Some((0, 1)));
-    assert_eq!(rt; detached(&mut list, 5), None);
-    assert_eq!(rt; list.len(), 1);
     Ok(())
 }
 
@@ -183,5 +172,41 @@ fn a_taken_number_and_a_full_adapter_are_not_attached(rt: HostRuntime) -> Result
     let last = Counter::starting_at(18446744073709551615);
     assert_eq!(rt; attach(&mut list, 6, 2, last), Err(Refused::AdapterFull));
     assert_eq!(rt; list.len(), 1);
+    Ok(())
+}
+
+/// The targets of an adapter, each with whether it is deep.
+fn targets<A: Adapter>(
+    alloc: Global,
+    list: &AdapterList<A>,
+    no: u32,
+) -> Result<String, AllocError> {
+    match list.targets(AdapterNo(no)) {
+        Some(targets) => format!(in alloc; "{targets:?}"),
+        None => format!(in alloc; "none"),
+    }
+}
+
+#[test]
+fn an_adapter_gets_targets_and_hears_of_each(rt: HostRuntime) -> Result<(), Fail> {
+    let mut list = counters(rt.alloc())?;
+    let two = Node::Object(ObjectNo(2));
+    assert_eq!(rt; list.watch(AdapterNo(7), two, true), Ok(true));
+    assert_eq!(rt; list.watch(AdapterNo(7), two, false), Ok(false));
+    assert_eq!(rt;
+        list.watch(AdapterNo(8), two, false),
+        Err(Refused::NoAdapter)
+    );
+    assert!(rt; list.is_target(AdapterNo(7), two));
+    assert!(rt; !list.is_target(AdapterNo(5), two));
+    let found = targets(rt.alloc(), &list, 7)?;
+    assert_eq!(rt;
+        found.as_str(),
+        "[Target { node: Object(ObjectNo(1)), deep: false }, Target { node: Object(ObjectNo(2)), deep: true }]"
+    );
+    let heard = audience(rt.alloc(), &list, &added(2, 0))?;
+    assert_eq!(rt; heard.as_str(), "[AdapterNo(6), AdapterNo(7)]");
+    let touched = list.touched(&[ObjectNo(2)])?;
+    assert_eq!(rt; touched.as_slice(), [1, 2].as_slice());
     Ok(())
 }

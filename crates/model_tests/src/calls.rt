@@ -1,5 +1,5 @@
 //! The calls that concern a repository's adapters, each done and refused.
-use crate::books::{NAME, RowRepository, attach, object, one_book, text};
+use crate::books::{BOOK, NAME, RowRepository, attach, object, one_book, text};
 use crate::replies::{given, made, outcome_text};
 use crate::telling::{Kind, adapter};
 use adapters::{Adapter, Counter};
@@ -70,6 +70,43 @@ fn an_adapter_is_attached_counted_and_detached(rt: HostRuntime) -> Result<(), Fa
     let window = adapter(rt.alloc(), Kind::WindowOfOne)?;
     let found = calls_at_a_book(rt.alloc(), window)?;
     assert_eq!(rt; found.as_str(), CALLED);
+    Ok(())
+}
+
+/// What the calls give that concern one target of an adapter, which is at a book and gets another.
+fn calls_of_targets<A: Adapter>(
+    alloc: Global,
+    repository: &mut RowRepository<A>,
+    adapter: A,
+) -> Result<String, Fail> {
+    let attached = attached(alloc, repository, adapter)?;
+    made(repository.create(BOOK))?;
+    let watched = given(alloc, repository.watch(NO, object(1), false))?;
+    let again = given(alloc, repository.watch(NO, object(1), true))?;
+    let first = given(alloc, repository.unwatch(NO, object(0)))?;
+    let none = given(alloc, repository.unwatch(NO, object(0)))?;
+    let last = given(alloc, repository.unwatch(NO, object(1)))?;
+    Ok(format!(in alloc; "{attached}\n{watched}\n{again}\n{first}\n{none}\n{last}")?)
+}
+
+/// What these calls give over books of their own.
+fn targets_at_a_book<A: Adapter>(alloc: Global, adapter: A) -> Result<String, Fail> {
+    let mut repository = one_book(alloc)?;
+    calls_of_targets(alloc, &mut repository, adapter)
+}
+
+const TARGETS: &str = "Done
+Flag(true)
+Flag(false)
+Flag(true); A5 REMOVING_ADAPTER Adapter(AdapterNo(5)) Null 0 false
+Flag(false)
+Flag(true); A5 REMOVING_ADAPTER Adapter(AdapterNo(5)) Null 0 false; A5 back, 2 told, REMOVING_ADAPTER 0";
+
+#[test]
+fn an_adapter_gets_a_target_and_loses_both(rt: HostRuntime) -> Result<(), Fail> {
+    let window = adapter(rt.alloc(), Kind::WindowOfOne)?;
+    let found = targets_at_a_book(rt.alloc(), window)?;
+    assert_eq!(rt; found.as_str(), TARGETS);
     Ok(())
 }
 
@@ -183,5 +220,13 @@ fn refused_calls_say_why(rt: HostRuntime) -> Result<(), Fail> {
     assert_eq!(rt; repository.adapter_told(no), Err(Refused::NoAdapter));
     assert_eq!(rt; repository.adapter_kept(no), Err(Refused::NoAdapter));
     assert_eq!(rt; made(repository.detach(no)), Err(Refused::NoAdapter));
+    assert_eq!(rt;
+        made(repository.watch(no, object(0), true)),
+        Err(Refused::NoAdapter)
+    );
+    assert_eq!(rt;
+        made(repository.unwatch(no, object(0))),
+        Err(Refused::NoAdapter)
+    );
     Ok(())
 }

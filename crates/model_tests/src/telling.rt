@@ -7,8 +7,8 @@ ghost use Rattle.notice_chain.specs.Listed.{tell_chain, told_list};
 use crate::books::object;
 use crate::notices::added;
 use crate::poor::Poor;
-use adapter_list::AdapterList;
 use adapter_list::laws::the_round_of_a_chain_tells_it;
+use adapter_list::{AdapterList, Hearers};
 use adapters::{Adapter, Counter, Recorder, Window};
 use link_store::LinkStore;
 use mm_types::{AdapterNo, Refused};
@@ -86,6 +86,7 @@ pub(crate) fn three_notices(alloc: Global) -> Result<Chain, AllocError> {
 
 /// Delivers a chain by the containers of a store; gives who was told what, in order. Its contract is what a caller can say of the two calls together.
 pub(crate) fn tell<L: LinkStore, A: Adapter>(
+    alloc: Global,
     store: &L,
     list: &mut AdapterList<A>,
     chain: &Chain,
@@ -97,7 +98,7 @@ pub(crate) fn tell<L: LinkStore, A: Adapter>(
     ensures refused { OnErr result (list.new.0 ≡ list.old.0) }
 {
     the_round_of_a_chain_tells_it();
-    match list.reserve_all(store, chain) {
+    match list.reserve_all(store, chain, &mut Hearers::new(alloc)) {
         Ok(round) => Ok(list.deliver(round)),
         Err(reason) => Err(reason),
     }

@@ -1,123 +1,165 @@
--- What releasing one adapter, and all of them, gives.
-use Rattle.std.proofs.Common.{◌≡◌, ℕ, suc, ◌+◌, Bool, true, false, cond, nat_eq, nat_lt, List, [], ◌∷◌, ◌++◌, map, take, remove, length, position, slice_get, Option, Some, None, option_map, option_and_then, if◌then◌else◌, refl, sym, ap, ◌∙◌, arith, append_assoc, eqb-true, eq-eqb, le-leb}
-use Rattle.std.specs.List.{AllByRecursion, IsDistinct, list_any, position_or_len}
-use Rattle.std.proofs.lemmas.Bool.{lt-ltb, ltb-true, ltb-false, le-ltb, or_from, or_parts}
-use Rattle.std.proofs.lemmas.List.{append-nil}
+-- What letting some targets go, and then others, gives; and what letting all of them go gives.
+use Rattle.std.proofs.Common.{◌≡◌, ◌+◌, ◌<◌, ℕ, Bool, true, false, cond, not, ◌&&◌, ◌||◌, List, [], ◌∷◌, ◌++◌, map, filter, length, if◌then◌else◌, refl, sym, ap, ◌∙◌, append_assoc, eq-eqb, le-leb}
+use Rattle.std.specs.List.{AllByRecursion, IsDistinct, list_any, prefix_len}
+use Rattle.std.proofs.lemmas.Bool.{eqb-false, ne_eqb}
+use Rattle.std.proofs.lemmas.List.Elements.{recursion_from_All}
 use Rattle.std.proofs.lemmas.Map.Keys.{IsDistinct-head, IsDistinct-tail}
+use Rattle.mm_types.proofs.SameLemmas.{same_node-self, same_node-true}
+use Rattle.mm_types.specs.Same.{same_node}
 use Rattle.mm_types.specs.declared.numbers.AdapterNo.{AdapterNo}
-use Rattle.notice_chain.specs.View.{hear}
-use Rattle.notice_chain.specs.Listed.{HasDistinctNumbers, Listed, Release, has_no, last_notice, release, release_all, release_first, same_no}
-use Rattle.notice_chain.specs.Released.{Released, released, released_after, released_one, with_released}
+use Rattle.mm_types.specs.declared.numbers.Node.{Node}
+use Rattle.notice_chain.specs.View.{View, hear, hear_all}
+use Rattle.notice_chain.specs.Listed.{HasDistinctNumbers, HasDistinctTargets, HaveTargets, Listed, has_no, has_target, is_at, is_target, same_no, with_changed}
+use Rattle.notice_chain.specs.Released.{Released, Spot, all_released, has_targets, having, index_at, is_any, last_notice, leaving, losing, released, released_where, removing, spots, staying, told_of_all, told_of_leaving, without, without_all}
+use Rattle.notice_chain.specs.declared.target.Target.{Target}
 
----------------------------------------------------------------- the first that passes
+pub without_all-append : (ss ts : List Spot) (rs : List Listed) → without_all (ss ++ ts) rs ≡ without_all ts (without_all ss rs)
+without_all-append [] ts rs = refl
+without_all-append (s ∷ ss) ts rs = without_all-append ss ts (without s rs)
 
-pub position-first : {X : Type 0} (p : X → Bool) (x : X) (xs : List X) → p x ≡ true → position p (x ∷ xs) ≡ Some 0
-position-first p x xs h =
-    let more : nat_lt 0 (length (x ∷ xs)) ≡ true = le-leb _ _ (omega arith) in
-    rw (h, more) refl
+pub told_of_all-append : (ss ts : List Spot) (rs : List Listed) → told_of_all (ss ++ ts) rs ≡ told_of_all ss rs ++ told_of_all ts (without_all ss rs)
+told_of_all-append [] ts rs = refl
+told_of_all-append (s ∷ ss) ts rs =
+    ap (λ ns. told_of_leaving s rs ++ ns) (told_of_all-append ss ts (without s rs)) ∙ sym (append_assoc (told_of_leaving s rs) (told_of_all ss (without s rs)) (told_of_all ts (without_all ss (without s rs))))
 
-pub position-rest : {X : Type 0} (p : X → Bool) (x : X) (xs : List X) → p x ≡ false → position p (x ∷ xs) ≡ option_map suc (position p xs)
-position-rest p x xs h =
-    let k = position_or_len p xs in
-    let later : position p (x ∷ xs) ≡ cond (nat_lt (1 + k) (suc (length xs))) (Some (1 + k)) None = rw h refl in
-    later ∙ elim (nat_lt k (length xs)) as (λ b. nat_lt k (length xs) ≡ b → cond (nat_lt (1 + k) (suc (length xs))) (Some (1 + k)) None ≡ option_map suc (cond b (Some k) None)) [
-      | true ↦ λ q. let inside : nat_lt (1 + k) (suc (length xs)) ≡ true = lt-ltb _ _ (omega (arith, ltb-true k (length xs) q)) in
-          let next : 1 + k ≡ suc k = omega arith in
-          rw inside (ap Some next)
-      | false ↦ λ q. let past : nat_lt (1 + k) (suc (length xs)) ≡ false = le-ltb _ _ (omega (arith, ltb-false k (length xs) q)) in
-          rw past refl
+---------------------------------------------------------------- each has a target
+
+all-have : (rs : List Listed) → AllByRecursion (λ r. 0 < length r.targets) rs → (staying rs ≡ rs) × (leaving rs ≡ [])
+all-have [] h = (refl, refl)
+all-have (r ∷ rs) h =
+    let rest = all-have rs h.1 in
+    let has : has_targets r ≡ true = le-leb _ _ h.0 in (
+      ap (λ b. cond b (r ∷ staying rs) (staying rs)) has ∙ ap (λ (qs : List Listed). r ∷ qs) rest.0,
+      ap (λ b. map (λ (q : Listed). (q.no, q.view)) (cond (not b) (r ∷ filter (λ q. not (has_targets q)) rs) (filter (λ q. not (has_targets q)) rs))) has ∙ rest.1,
+    )
+
+-- where each has a target all stay, and nobody leaves
+pub all-stay : (rs : List Listed) → HaveTargets rs → (staying rs ≡ rs) × (leaving rs ≡ [])
+all-stay rs h = all-have rs (recursion_from_All (λ (r : Listed). 0 < length r.targets) rs h)
+
+-- letting targets go, in its parts
+pub released-parts : (ss : List Spot) (rs : List Listed) → HaveTargets rs → released ss rs ≡ record { told = told_of_all ss rs; views = leaving (without_all ss rs); others = staying (without_all ss rs) }
+released-parts [] rs some = let all = all-stay rs some in λ i. let x : Released = record { told = []; views = sym all.1 i; others = sym all.0 i } in x
+released-parts (s ∷ ss) rs some = refl
+
+---------------------------------------------------------------- all targets of one adapter
+
+-- the adapter once all its targets have gone, where nobody before it has any of them
+abbrev finished : Listed → Listed
+finished r = record { no = r.no; targets = []; view = hear_all r.view (map (λ t. removing r.no t.node 0) r.targets) }
+
+abbrev AreBare : List Listed → Type 0
+AreBare ds = AllByRecursion (λ d. d.targets ≡ []) ds
+
+module _ (number : AdapterNo) where
+  changed-behind : (f : Listed → Listed) (ds rs : List Listed) (r : Listed) → list_any (has_no number) ds ≡ false → has_no number r ≡ true → with_changed number f (ds ++ r ∷ rs) ≡ ds ++ f r ∷ rs
+  changed-behind f [] rs r none has = ap (λ b. if b then (f r ∷ rs) else r ∷ with_changed number f rs) has
+  changed-behind f (d ∷ ds) rs r none has =
+      elim (has_no number d) as (λ b. (b || list_any (has_no number) ds) ≡ false → (if b then (f d ∷ (ds ++ r ∷ rs)) else d ∷ with_changed number f (ds ++ r ∷ rs)) ≡ d ∷ (ds ++ f r ∷ rs)) [
+        | true ↦ λ h. absurd (true-false h)
+        | false ↦ λ h. ap (λ (qs : List Listed). d ∷ qs) (changed-behind f ds rs r h has)
+      ] none
+    where
+      true-false : true ≡ false → ⊥
+      true-false h = cc
+
+  target-behind : (x : Node) (ds rs : List Listed) (r : Listed) → has_no number r ≡ true → has_target x r ≡ true → is_target number x (ds ++ r ∷ rs) ≡ true
+  target-behind x [] rs r has target = ap (λ b. (b && has_target x r) || is_target number x rs) has ∙ ap (λ b. b || is_target number x rs) target
+  target-behind x (d ∷ ds) rs r has target = ap (λ b. (has_no number d && has_target x d) || b) (target-behind x ds rs r has target) ∙ or-true (has_no number d && has_target x d)
+    where
+      or-true : (b : Bool) → (b || true) ≡ true
+      or-true true = refl
+      or-true false = refl
+
+  -- those without targets are not counted
+  index-behind : (x : Node) (ds rs : List Listed) (r : Listed) → AreBare ds → has_no number r ≡ true → has_target x r ≡ true → index_at (number, x) (ds ++ r ∷ rs) ≡ 0
+  index-behind x [] rs r bare has target =
+      ap (λ b. prefix_len (λ q. not (has_no number q)) (cond b (r ∷ having x rs) (having x rs))) target ∙ ap (λ b. cond (not b) (1 + prefix_len (λ q. not (has_no number q)) (having x rs)) 0) has
+  index-behind x (d ∷ ds) rs r bare has target =
+      let other : has_target x d ≡ false = ap (λ (ts : List Target). list_any (is_at x) ts) bare.0 in
+      ap (λ b. prefix_len (λ q. not (has_no number q)) (cond b (d ∷ having x (ds ++ r ∷ rs)) (having x (ds ++ r ∷ rs)))) other ∙ index-behind x ds rs r bare.1 has target
+
+-- two nodes are the same in either order
+turned : (x y : Node) → same_node x y ≡ false → same_node y x ≡ false
+turned x y other =
+    elim (same_node y x) as (λ b. same_node y x ≡ b → b ≡ false) [
+      | true ↦ λ same. sym (same_node-self y) ∙ ap (λ (z : Node). same_node z y) (same_node-true y x same) ∙ other
+      | false ↦ λ _. refl
     ] refl
 
----------------------------------------------------------------- one adapter
+none-there : (x : Node) (ts : List Target) → AllByRecursion (λ y. same_node x y ≡ false) (map (λ t. t.node) ts) → filter (λ t. not (is_at x t)) ts ≡ ts
+none-there x [] h = refl
+none-there x (t ∷ ts) h = ap (λ b. cond (not b) (t ∷ filter (λ q. not (is_at x q)) ts) (filter (λ q. not (is_at x q)) ts)) (turned x t.node h.0) ∙ ap (λ (qs : List Target). t ∷ qs) (none-there x ts h.1)
 
--- the release of the adapter at i of some, where others stay before them
-release_past : List Listed → List Listed → ℕ → Listed → Release
-release_past stay rs i r = let n = last_notice (stay ++ take i rs) r in record { notice = n; view = hear r.view n; others = stay ++ remove rs i }
+all-gone : (number : AdapterNo) (ds rs : List Listed) (ts : List Target) (v : View) → AreBare ds → list_any (has_no number) ds ≡ false → IsDistinct same_node (map (λ t. t.node) ts)
+    → without_all (map (λ t. (number, t.node)) ts) (ds ++ record { no = number; targets = ts; view = v } ∷ rs) ≡ ds ++ record { no = number; targets = []; view = hear_all v (map (λ t. removing number t.node 0) ts) } ∷ rs
+all-gone number ds rs [] v bare apart once = refl
+all-gone number ds rs (t ∷ ts) v bare apart once =
+    let r : Listed = record { no = number; targets = t ∷ ts; view = v } in
+    let all = ds ++ r ∷ rs in
+    let has : has_no number r ≡ true = eq-eqb number.0 number.0 refl in
+    let target : has_target t.node r ≡ true = ap (λ b. b || list_any (is_at t.node) ts) (same_node-self t.node) in
+    let index : last_notice (number, t.node) all ≡ removing number t.node 0 = ap (λ (k : ℕ). removing number t.node k) (index-behind number t.node ds rs r bare has target) in
+    let left : filter (λ q. not (is_at t.node q)) (t ∷ ts) ≡ ts = ap (λ b. cond (not b) (t ∷ filter (λ q. not (is_at t.node q)) ts) (filter (λ q. not (is_at t.node q)) ts)) (same_node-self t.node) ∙ none-there t.node ts (IsDistinct-head same_node t.node (map (λ q. q.node) ts) once) in
+    let lost : losing t.node (last_notice (number, t.node) all) r ≡ record { no = number; targets = ts; view = hear v (removing number t.node 0) } = λ i. let x : Listed = record { no = number; targets = left i; view = hear v (index i) } in x in
+    let next : without (number, t.node) all ≡ ds ++ record { no = number; targets = ts; view = hear v (removing number t.node 0) } ∷ rs =
+    ap (λ b. if b then with_changed number (losing t.node (last_notice (number, t.node) all)) all else all) (target-behind number t.node ds rs r has target)
+    ∙ changed-behind number (losing t.node (last_notice (number, t.node) all)) ds rs r apart has
+    ∙ ap (λ (q : Listed). ds ++ q ∷ rs) lost in
+    ap (without_all (map (λ q. (number, q.node)) ts)) next ∙ all-gone number ds rs ts (hear v (removing number t.node 0)) bare apart (IsDistinct-tail same_node t.node (map (λ q. q.node) ts) once)
 
-release_next : List Listed → List Listed → Listed → Release
-release_next stay rs r = let n = last_notice stay r in record { notice = n; view = hear r.view n; others = stay ++ rs }
+---------------------------------------------------------------- all targets of all
 
-release_among : List Listed → AdapterNo → List Listed → Option Release
-release_among stay number [] = None
-release_among stay number (r ∷ rs) = if has_no number r then Some (release_next stay rs r) else release_among (stay ++ r ∷ []) number rs
+bare-last : (ds : List Listed) (r : Listed) → AreBare ds → AreBare (ds ++ finished r ∷ [])
+bare-last [] r h = (refl, tt)
+bare-last (d ∷ ds) r h = (h.0, bare-last ds r h.1)
 
-release_past-first : (stay rs : List Listed) (r : Listed) → release_next stay rs r ≡ release_past stay (r ∷ rs) 0 r
-unfolding release_past release_next
-release_past-first stay rs r =
-    let kept : stay ≡ stay ++ [] = sym (append-nil stay) in
-    ap (λ (before : List Listed). let n = last_notice before r in let x : Release = record { notice = n; view = hear r.view n; others = stay ++ rs } in x) kept
+-- no adapter of some has the number of one of others
+abbrev AreApart : List Listed → List Listed → Type 0
+AreApart ds rs = AllByRecursion (λ r. list_any (has_no r.no) ds ≡ false) rs
 
-release_past-rest : (stay rs : List Listed) (r : Listed) (i : ℕ) (q : Listed) → release_past (stay ++ r ∷ []) rs i q ≡ release_past stay (r ∷ rs) (suc i) q
-unfolding release_past
-release_past-rest stay rs r i q =
-    let front : (stay ++ r ∷ []) ++ take i rs ≡ stay ++ take (suc i) (r ∷ rs) = append_assoc stay (r ∷ []) (take i rs) in
-    let back : (stay ++ r ∷ []) ++ remove rs i ≡ stay ++ remove (r ∷ rs) (suc i) = append_assoc stay (r ∷ []) (remove rs i) in
-    ap (λ (before : List Listed). let n = last_notice before q in let x : Release = record { notice = n; view = hear q.view n; others = (stay ++ r ∷ []) ++ remove rs i } in x) front
-    ∙ ap (λ (others : List Listed). let n = last_notice (stay ++ take (suc i) (r ∷ rs)) q in let x : Release = record { notice = n; view = hear q.view n; others = others } in x) back
+apart-last : (ds : List Listed) (r : Listed) (rs : List Listed) → AreApart ds rs → AllByRecursion (λ k. same_no r.no k ≡ false) (map (λ q. q.no) rs) → AreApart (ds ++ finished r ∷ []) rs
+apart-last ds r [] h apart = tt
+apart-last ds r (q ∷ rs) h apart = (one ds h.0, apart-last ds r rs h.1 apart.1)
+  where
+    other : has_no q.no r ≡ false
+    other = ne_eqb q.no.0 r.no.0 (λ (e : q.no.0 ≡ r.no.0). eqb-false r.no.0 q.no.0 apart.0 (sym e))
 
-at : List Listed → List Listed → Option ℕ → Option Release
-at stay rs o = option_and_then (λ i. option_map (release_past stay rs i) (slice_get rs i)) o
+    one : (es : List Listed) → list_any (has_no q.no) es ≡ false → list_any (has_no q.no) (es ++ finished r ∷ []) ≡ false
+    one [] none = ap (λ b. b || false) other
+    one (e ∷ es) none =
+        elim (has_no q.no e) as (λ b. (b || list_any (has_no q.no) es) ≡ false → (b || list_any (has_no q.no) (es ++ finished r ∷ [])) ≡ false) [
+          | true ↦ λ k. k
+          | false ↦ λ k. one es k
+        ] none
 
-at-rest : (stay rs : List Listed) (r : Listed) (o : Option ℕ) → at (stay ++ r ∷ []) rs o ≡ at stay (r ∷ rs) (option_map suc o)
-unfolding at
-at-rest stay rs r None = refl
-at-rest stay rs r (Some i) = elim (slice_get rs i) as (λ q. option_map (release_past (stay ++ r ∷ []) rs i) q ≡ option_map (release_past stay (r ∷ rs) (suc i)) q) [
-  | None ↦ refl
-  | Some q ↦ ap Some (release_past-rest stay rs r i q)
-]
+all-pass : (ts : List Target) → filter (λ t. true) ts ≡ ts
+all-pass [] = refl
+all-pass (t ∷ ts) = ap (λ (qs : List Target). t ∷ qs) (all-pass ts)
 
-release_among-at : (stay : List Listed) (number : AdapterNo) (rs : List Listed) → release_among stay number rs ≡ at stay rs (position (has_no number) rs)
-unfolding release_among at
-release_among-at stay number [] = refl
-release_among-at stay number (r ∷ rs) =
-    elim (has_no number r) as (λ b. has_no number r ≡ b → (if b then Some (release_next stay rs r) else release_among (stay ++ r ∷ []) number rs) ≡ at stay (r ∷ rs) (position (has_no number) (r ∷ rs))) [
-      | true ↦ λ h. ap Some (release_past-first stay rs r) ∙ ap (at stay (r ∷ rs)) (sym (position-first (has_no number) r rs h))
-      | false ↦ λ h. release_among-at (stay ++ r ∷ []) number rs ∙ at-rest stay rs r (position (has_no number) rs) ∙ ap (at stay (r ∷ rs)) (sym (position-rest (has_no number) r rs h))
-    ] refl
+all-finished : (ds rs : List Listed) → AreBare ds → AreApart ds rs → HasDistinctNumbers rs → AllByRecursion (λ r. IsDistinct same_node (map (λ t. t.node) r.targets)) rs → without_all (spots is_any rs) (ds ++ rs) ≡ ds ++ map finished rs
+all-finished ds [] bare apart distinct once = refl
+all-finished ds (r ∷ rs) bare apart distinct once =
+    let head = IsDistinct-head same_no r.no (map (λ q. q.no) rs) distinct in
+    let more = ds ++ finished r ∷ [] in
+    without_all-append (map (λ t. (r.no, t.node)) (filter (λ t. true) r.targets)) (spots is_any rs) (ds ++ r ∷ rs)
+    ∙ ap (λ (ts : List Target). without_all (spots is_any rs) (without_all (map (λ t. (r.no, t.node)) ts) (ds ++ r ∷ rs))) (all-pass r.targets)
+    ∙ ap (without_all (spots is_any rs)) (all-gone r.no ds rs r.targets r.view bare apart.0 once.0 ∙ sym (append_assoc ds (finished r ∷ []) rs))
+    ∙ all-finished more rs (bare-last ds r bare) (apart-last ds r rs apart.1 head) (IsDistinct-tail same_no r.no (map (λ q. q.no) rs) distinct) once.1
+    ∙ append_assoc ds (finished r ∷ []) (map finished rs)
 
-released_after-none : (stay : List Listed) (number : AdapterNo) (rs : List Listed) → list_any (has_no number) rs ≡ false → released_after stay (has_no number) rs ≡ record { told = []; views = []; others = stay ++ rs }
-released_after-none stay number [] h = ap (λ (others : List Listed). let x : Released = record { told = []; views = []; others = others } in x) (sym (append-nil stay))
-released_after-none stay number (r ∷ rs) h =
-    let both = or_parts (has_no number r) (list_any (has_no number) rs) h in
-    let later = released_after-none (stay ++ r ∷ []) number rs both.1 in
-    let same : (stay ++ r ∷ []) ++ rs ≡ stay ++ r ∷ rs = append_assoc stay (r ∷ []) rs in
-    rw both.0 (later ∙ ap (λ (others : List Listed). let x : Released = record { told = []; views = []; others = others } in x) same)
+finished-leave : (rs : List Listed) → leaving (map finished rs) ≡ all_released rs
+finished-leave [] = refl
+finished-leave (r ∷ rs) = ap (λ vs. (r.no, hear_all r.view (map (λ t. removing r.no t.node 0) r.targets)) ∷ vs) (finished-leave rs)
 
--- the numbers after one are others
-no_later : (number : AdapterNo) (r : Listed) (rs : List Listed) → has_no number r ≡ true → AllByRecursion (λ y. same_no r.no y ≡ false) (map (λ q. q.no) rs) → list_any (has_no number) rs ≡ false
-no_later number r [] h others = refl
-no_later number r (q ∷ rs) h others =
-    let other : has_no number q ≡ false = ap (λ k. nat_eq k q.no.0) (eqb-true number.0 r.no.0 h) ∙ others.0 in
-    or_from (has_no number q) (list_any (has_no number) rs) other (no_later number r rs h others.1)
+none-apart : (rs : List Listed) → AreApart [] rs
+none-apart [] = tt
+none-apart (r ∷ rs) = (refl, none-apart rs)
 
-released_after-one : (stay : List Listed) (number : AdapterNo) (rs : List Listed) → IsDistinct same_no (map (λ r. r.no) rs) → released_after stay (has_no number) rs ≡ released_one number (stay ++ rs) (release_among stay number rs)
-unfolding release_among release_next
-released_after-one stay number [] apart = ap (λ (others : List Listed). let x : Released = record { told = []; views = []; others = others } in x) (sym (append-nil stay))
-released_after-one stay number (r ∷ rs) apart =
-    elim (has_no number r) as (λ b. has_no number r ≡ b → (if b then with_released r (last_notice stay r) (released_after stay (has_no number) rs) else released_after (stay ++ r ∷ []) (has_no number) rs) ≡ released_one number (stay ++ r ∷ rs) (if b then Some (release_next stay rs r) else release_among (stay ++ r ∷ []) number rs)) [
-      | true ↦ λ h.
-          let none = no_later number r rs h (IsDistinct-head same_no r.no (map (λ q. q.no) rs) apart) in
-          let one : r.no.0 ≡ number.0 = sym (eqb-true number.0 r.no.0 h) in
-          ap (with_released r (last_notice stay r)) (released_after-none stay number rs none)
-          ∙ ap (λ (k : ℕ). released_one (record { 0 = k }) (stay ++ r ∷ rs) (Some (release_next stay rs r))) one
-      | false ↦ λ h.
-          released_after-one (stay ++ r ∷ []) number rs (IsDistinct-tail same_no r.no (map (λ q. q.no) rs) apart)
-          ∙ ap (λ (others : List Listed). released_one number others (release_among (stay ++ r ∷ []) number rs)) (append_assoc stay (r ∷ []) rs)
-    ] refl
+pub released-all : (rs : List Listed) → HasDistinctNumbers rs → HasDistinctTargets rs → HaveTargets rs → (released_where is_any rs).views ≡ all_released rs
+released-all rs distinct once some =
+    ap (λ (x : Released). x.views) (released-parts (spots is_any rs) rs some)
+    ∙ ap leaving (all-finished [] rs tt (none-apart rs) distinct (recursion_from_All (λ (r : Listed). IsDistinct same_node (map (λ t. t.node) r.targets)) rs once))
+    ∙ finished-leave rs
 
-pub released-one : (number : AdapterNo) (rs : List Listed) → HasDistinctNumbers rs → released (has_no number) rs ≡ released_one number rs (release number rs)
-unfolding at release_past
-released-one number rs apart = released_after-one [] number rs apart ∙ ap (released_one number rs) (release_among-at [] number rs)
-
----------------------------------------------------------------- the first, and all
-
-pub release-first : (r : Listed) (rs : List Listed) → release r.no (r ∷ rs) ≡ Some (release_first r rs)
-release-first r rs =
-    let more : nat_lt 0 (length (r ∷ rs)) ≡ true = le-leb _ _ (omega arith) in
-    rw (eq-eqb r.no.0 r.no.0 refl, more)
-
-pub released-all : (rs : List Listed) → (released (λ r. true) rs).views ≡ release_all rs
-released-all [] = refl
-released-all (r ∷ rs) = ap (λ xs. (r.no, hear r.view (last_notice [] r)) ∷ xs) (released-all rs)
-
-pub ruleset releasing = (release-first, released-all, released-one)
+pub ruleset releasing = (without_all-append, told_of_all-append, released-all)

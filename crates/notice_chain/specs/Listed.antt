@@ -1,19 +1,17 @@
--- The attached adapters in attach order: which of them hear a notice, and what notifying and releasing them does.
-use Rattle.std.specs.Prelude.{ℕ, ◌+◌, Bool, false, ◌&&◌, ◌||◌, nat_eq, nat_lt, nat_le, pos, List, [], ◌∷◌, ◌++◌, map, filter, take, length, count_by, position, remove, slice_get, ◌^◌, Option, None, option_and_then, option_map}
+-- The attached adapters in attach order, each with its targets: which of them hear a notice, and what notifying them does.
+use Rattle.std.specs.Prelude.{ℕ, ◌+◌, ◌<◌, Bool, ◌&&◌, ◌||◌, nat_eq, nat_lt, nat_le, List, [], ◌∷◌, ◌++◌, map, filter, length, ◌^◌, Option, if◌then◌else◌, All, sum_by}
 use Rattle.std.specs.List.{IsDistinct, list_any, find}
 use Rattle.mm_types.specs.declared.numbers.AdapterNo.{AdapterNo}
 use Rattle.mm_types.specs.declared.numbers.Node.{Node}
 use Rattle.mm_types.specs.Same.{same_node}
-use Rattle.mm_types.specs.declared.value.Value.TheVariants.{Null, Adapter}
-use Rattle.notice_chain.specs.View.{View, hear, hear_all}
+use Rattle.notice_chain.specs.View.{View, hear_all}
 use Rattle.notice_chain.specs.declared.notice.Notice.{Notice}
-use Rattle.notice_chain.specs.declared.kind.NoticeKind.TheVariants.{RemovingAdapter}
+use Rattle.notice_chain.specs.declared.target.Target.{Target}
 
--- one attached adapter
+-- one attached adapter, with its targets in the order in which it got them
 pub record Listed : Type 0 where
   pub no : AdapterNo
-  pub target : Node
-  pub deep : Bool
+  pub targets : List Target
   pub view : View
 
 -- two numbers are the same
@@ -23,16 +21,48 @@ same_no x y = nat_eq x.0 y.0
 abbrev pub has_no : AdapterNo → Listed → Bool
 has_no number r = same_no number r.no
 
+abbrev pub is_at : Node → Target → Bool
+is_at x t = same_node t.node x
+
 abbrev pub has_target : Node → Listed → Bool
-has_target target r = same_node r.target target
+has_target x r = list_any (is_at x) r.targets
 
 -- no two have the same number
 abbrev pub HasDistinctNumbers : List Listed → Type 0
 HasDistinctNumbers rs = IsDistinct same_no (map (λ r. r.no) rs)
 
+-- no adapter has a target twice
+abbrev pub HasDistinctTargets : List Listed → Type 0
+HasDistinctTargets rs = All (λ r. IsDistinct same_node (map (λ t. t.node) r.targets)) rs
+
+-- each adapter has a target
+abbrev pub HaveTargets : List Listed → Type 0
+HaveTargets rs = All (λ r. 0 < length r.targets) rs
+
+-- how many targets they have together
+abbrev pub targets_len : List Listed → ℕ
+targets_len rs = sum_by (λ r. length r.targets) rs
+
 -- the adapter of a number
 abbrev pub adapter : AdapterNo → List Listed → Option Listed
 adapter number rs = find (has_no number) rs
+
+-- the adapter of a number has a node as a target
+abbrev pub is_target : AdapterNo → Node → List Listed → Bool
+is_target number x rs = list_any (λ r. has_no number r && has_target x r) rs
+
+-- the adapters after one change of the first of a number, if there is one
+abbrev pub with_changed : AdapterNo → (Listed → Listed) → List Listed → List Listed
+with_changed number change [] = []
+with_changed number change (r ∷ rs) = if has_no number r then (change r ∷ rs) else r ∷ with_changed number change rs
+
+-- an adapter with one target more, the last that it got
+abbrev pub with_target : Target → Listed → Listed
+with_target t r = record { no = r.no; targets = r.targets ++ t ∷ []; view = r.view }
+
+-- the adapters once the one of a number has one target more
+abbrev pub watched : AdapterNo → Target → List Listed → List Listed
+watched number t rs = with_changed number (with_target t) rs
 
 ----------------------------------------------------------------- notifying
 
@@ -40,9 +70,13 @@ adapter number rs = find (has_no number) rs
 abbrev pub Above : Type 0
 Above = Node → List Node
 
--- an adapter hears the notices of its target, and a deep one those of all nodes below its target too
+-- a target brings in its own notices, and a deep one those of all nodes below it too
+abbrev pub brings_in : Above → Node → Target → Bool
+brings_in up x t = same_node t.node x || (t.deep && list_any (same_node t.node) (up x))
+
+-- an adapter hears a notice, once, if any of its targets brings it in
 abbrev pub hears : Above → Listed → Notice → Bool
-hears up r n = same_node r.target n.notifier || (r.deep && list_any (same_node r.target) (up n.notifier))
+hears up r n = list_any (brings_in up n.notifier) r.targets
 
 -- the notices of a chain that it hears, in order
 abbrev pub heard_of : Above → List Notice → Listed → List Notice
@@ -58,7 +92,7 @@ audience_numbers up n rs = map (λ r. r.no) (audience up n rs)
 
 -- the adapter after some notices
 abbrev pub told_all : Listed → List Notice → Listed
-told_all r ns = record { no = r.no; target = r.target; deep = r.deep; view = hear_all r.view ns }
+told_all r ns = record { no = r.no; targets = r.targets; view = hear_all r.view ns }
 
 -- the adapters after a chain: each has heard its own notices of it in turn, whatever the others hear
 abbrev pub tell_chain : Above → List Notice → List Listed → List Listed
@@ -75,50 +109,10 @@ told_list up (n ∷ ns) rs = told_of up n rs ++ told_list up ns rs
 
 ----------------------------------------------------------------- counting on
 
--- an adapter that is to hear k notices, k above 0, and then its last one, would count past the greatest u64
-abbrev pub is_full : ℕ → View → Bool
-is_full k v = nat_lt 0 k && nat_le (2 ^ 64) (v.told + (k + 1))
+-- an adapter of t targets that is to hear k notices, k above 0, and then one for each of its targets, would count past the greatest u64
+abbrev pub is_full : ℕ → ℕ → View → Bool
+is_full k t v = nat_lt 0 k && nat_le (2 ^ 64) (v.told + (k + t))
 
 -- one of the adapters can't count the notices of a chain that it hears
 abbrev pub is_chain_full : Above → List Notice → List Listed → Bool
-is_chain_full up ns rs = list_any (λ r. is_full (length (heard_of up ns r)) r.view) rs
-
------------------------------------------------------------------ releasing
-
--- the last notice of the adapter of a number, at this index among those with its target
-abbrev pub removing : AdapterNo → Node → ℕ → Notice
-removing number target index =
-    record {
-      notifier = target;
-      feature = None;
-      kind = RemovingAdapter;
-      old_value = Adapter number;
-      new_value = Null;
-      position = pos index;
-      was_set = false;
-    }
-
--- the last notice of an adapter, where others stand before it
-abbrev pub last_notice : List Listed → Listed → Notice
-last_notice before r = removing r.no r.target (count_by (has_target r.target) before)
-
--- what the release of an adapter gives: its last notice, its view after it, and the adapters that stay
-pub record Release : Type 0 where
-  pub notice : Notice
-  pub view : View
-  pub others : List Listed
-
-abbrev pub release_at : List Listed → ℕ → Listed → Release
-release_at rs i r = let n = last_notice (take i rs) r in record { notice = n; view = hear r.view n; others = remove rs i }
-
--- the adapter of a number, released
-abbrev pub release : AdapterNo → List Listed → Option Release
-release number rs = option_and_then (λ i. option_map (release_at rs i) (slice_get rs i)) (position (has_no number) rs)
-
--- the first of all, released: its index is 0
-abbrev pub release_first : Listed → List Listed → Release
-release_first r rs = let n = last_notice [] r in record { notice = n; view = hear r.view n; others = rs }
-
--- all released in attach order, each gone before the next is notified: each number with its view after its last notice
-abbrev pub release_all : List Listed → List (AdapterNo × View)
-release_all rs = map (λ r. (r.no, hear r.view (last_notice [] r))) rs
+is_chain_full up ns rs = list_any (λ r. is_full (length (heard_of up ns r)) (length r.targets) r.view) rs

@@ -1,8 +1,6 @@
--- What chains and releases make of the adapters.
-use Rattle.std.proofs.Common.{◌≡◌, ◌∙◌, Bool, true, false, List, [], ◌∷◌, ◌++◌, length, nat_lt, if◌then◌else◌, refl, sym, ap, append_assoc, arith, le-leb}
-use Rattle.std.proofs.lemmas.List.{append-nil}
+-- What chains make of the adapters.
+use Rattle.std.proofs.Common.{◌≡◌, ◌∙◌, Bool, true, false, List, [], ◌∷◌, length, nat_lt, if◌then◌else◌, refl, sym, ap, arith, le-leb}
 use Rattle.notice_chain.specs.Listed.{Above, Listed, is_chain_full, tell_chain, told_list}
-use Rattle.notice_chain.specs.Released.{Released, released, released_after}
 use Rattle.notice_chain.specs.declared.notice.Notice.{Notice}
 
 ---------------------------------------------------------------- no notices
@@ -41,14 +39,3 @@ heard_where_attached up made chain (r ∷ rs) e =
       adapters = ap (λ ns. tell_chain up ns (r ∷ rs)) same;
       full = ap (λ ns. is_chain_full up ns (r ∷ rs)) same;
     }
-
----------------------------------------------------------------- nobody is released
-
-released_after-nobody : (stay rs : List Listed) → released_after stay (λ a. false) rs ≡ record { told = []; views = []; others = stay ++ rs }
-released_after-nobody stay [] = ap (λ (others : List Listed). let x : Released = record { told = []; views = []; others = others } in x) (sym (append-nil stay))
-released_after-nobody stay (r ∷ rs) =
-    released_after-nobody (stay ++ r ∷ []) rs
-    ∙ ap (λ (others : List Listed). let x : Released = record { told = []; views = []; others = others } in x) (append_assoc stay (r ∷ []) rs)
-
-pub released-nobody : (rs : List Listed) → released (λ a. false) rs ≡ record { told = []; views = []; others = rs }
-released-nobody rs = released_after-nobody [] rs

@@ -1,98 +1,144 @@
--- Who leaves with what a change destroys.
-use Rattle.std.proofs.Common.{◌≡◌, ℕ, zero, suc, ◌+◌, ◌<◌, Bool, false, List, [], ◌∷◌, ◌++◌, length, map, drop, slice_get, Option, None, Some, option_map, append_assoc, refl, ap, sym, subst, ◌∙◌, arith}
+-- Which targets go with what a change destroys.
+use Rattle.std.proofs.Common.{◌≡◌, ℕ, suc, ◌+◌, ◌≤◌, ◌<◌, ◌||◌, Bool, true, false, cond, List, [], ◌∷◌, ◌++◌, length, map, filter, drop, get_or, slice_get, Option, None, Some, option_map, append_assoc, refl, ap, sym, subst, ◌∙◌, arith}
 use Rattle.std.specs.Prelude.{IfSome, unwrap_or}
+use Rattle.std.specs.List.{flat_map, list_any}
 use Rattle.std.specs.Option.{option_map_or}
+use Rattle.std.proofs.lemmas.Bool.{or_parts}
+use Rattle.std.proofs.lemmas.List.{append-nil, drop_all, drop_more}
+use Rattle.std.proofs.lemmas.List.Elements.{All-cons, All-head, All-nil, All-tail}
 use Rattle.std.proofs.lemmas.Option.{none-some, same_Some}
+use Rattle.mm_types.specs.Same.{same_node}
 use Rattle.mm_types.specs.declared.numbers.AdapterNo.{AdapterNo}
 use Rattle.mm_types.specs.declared.numbers.Node.{Node}
 use Rattle.mm_types.specs.declared.numbers.Node.TheVariants as node
-use Rattle.notice_chain.specs.Listed.{Listed}
-use Rattle.notice_chain.specs.Released.{released}
+use Rattle.mm_types.specs.declared.numbers.ObjectNo.{ObjectNo}
+use Rattle.notice_chain.specs.Listed.{HaveTargets, Listed, is_at, told_all}
+use Rattle.notice_chain.specs.Released.{Spot, is_gone_at, spots, spots_of}
 use Rattle.notice_chain.specs.declared.notice.Notice.{Notice}
-use Rattle.adapter_list.specs.Rounds.{delivered, delivered_from}
-use Rattle.models.specs.Model.{Model, reading}
+use Rattle.notice_chain.specs.declared.target.Target.{Target}
+use Rattle.adapter_list.specs.Hearing.{is_touched, places_from, touched}
+use Rattle.adapter_list.specs.Rounds.{copies_for, delivered, delivered_from}
+use Rattle.containment.specs.Forest.{is_node_among}
 use Rattle.models.specs.Reading.{Reading, at_end}
 use Rattle.removal.specs.Outer.{gone}
 use Rattle.removal.specs.Ranks.{is_in}
+use Rattle.removal.specs.Removals.{IsRemoval}
 use Rattle.removal.specs.declared.gone.Removal.{Removal}
-use Rattle.handshake.specs.Laws.{goes_with}
 use Rattle.handshake.specs.Plans.{IsRemovalOf}
+use Rattle.handshake.specs.Refusals.{late_refusal}
+use Rattle.handshake.specs.Tellings.{destroyed_by, target_of}
 use Rattle.handshake.specs.declared.change.Change.{Change}
 use Rattle.handshake.specs.declared.change.Change.TheVariants.{Create, Set, Unset, Add, Remove, RemoveValue, Move, Delete, NewResource, Resolve, Load}
-use Rattle.handshake.specs.Tellings.{destroyed_by, target_of}
+use Rattle.handshake.specs.declared.target.Target.{Target as Found}
+use Rattle.handshake.proofs.KnownLemmas.{resolvable}
 use Rattle.handshake.proofs.RemovalLemmas.{of-objects}
-use Rattle.removal.specs.Removals.{IsRemoval}
 use Rattle.repository.specs.Answers.{IsEarlyAnswer, answer_of, is_answered_late, planned_answer}
+use Rattle.repository.specs.Leaving.{going_with}
+use Rattle.repository.specs.Views.{command_of}
 use Rattle.repository.specs.declared.reply.Answer.{Answer}
 use Rattle.repository.specs.declared.reply.Answer.TheVariants as answer
-use Rattle.repository.specs.Views.{command_of}
-use Rattle.repository.specs.Leaving.{LeaversAre}
-use Rattle.repository.proofs.AdapterLemmas.{released-nobody}
-use Rattle.handshake.specs.Refusals.{late_refusal}
-use Rattle.handshake.specs.declared.target.Target.{Target}
-use Rattle.handshake.proofs.KnownLemmas.{resolvable}
 
--- where nobody's target is gone, nobody is released
-pub nobody-gone : (gone : Node → Bool) (rs : List Listed) → ((n : Node) → gone n ≡ false) → released (λ r. gone r.target) rs ≡ record { told = []; views = []; others = rs }
-nobody-gone gone rs stays = ap (λ (goes : Listed → Bool). released goes rs) (λ i r. stays r.target i) ∙ released-nobody rs
+-- what is delivered changes no target
+spots-from : (goes : AdapterNo → Node → Bool) (k : ℕ) (cs : List (ℕ × Notice)) (rs : List Listed) → spots goes (delivered_from k cs rs) ≡ spots goes rs
+spots-from goes k cs [] = refl
+spots-from goes k cs (r ∷ rs) = ap (λ (ss : List Spot). spots_of goes r ++ ss) (spots-from goes (suc k) cs rs)
 
-module _ (gone : Node → Bool) where
-  by_place : List Listed → List Bool
-  by_place rs = map (λ r. gone r.target) rs
+pub some-delivered : (cs : List (ℕ × Notice)) (rs : List Listed) → HaveTargets rs → HaveTargets (delivered cs rs)
+some-delivered cs rs = from 0 rs
+  where
+    from : (k : ℕ) (rs : List Listed) → HaveTargets rs → HaveTargets (delivered_from k cs rs)
+    from k [] some = All-nil (λ (r : Listed). 0 < length r.targets)
+    from k (r ∷ rs) some =
+        let P : Listed → Type 0 = λ q. 0 < length q.targets in
+        All-cons P (told_all r (copies_for k cs)) (delivered_from (suc k) cs rs) (All-head P r rs some) (from (suc k) rs (All-tail P r rs some))
 
-  -- from a place on, the adapter there comes first
-  place-at : (rs : List Listed) (i : ℕ) (number : AdapterNo) (n : Node) → option_map {U = AdapterNo × Node} (λ r. (r.no, r.target)) (slice_get rs i) ≡ Some (number, n) → by_place (drop i rs) ≡ gone n ∷ by_place (drop (suc i) rs)
-  unfolding by_place
-  place-at [] i number n at = absurd (none-some _ at)
-  place-at (r ∷ rs) zero number n at = ap (λ (q : AdapterNo × Node). gone q.1 ∷ by_place rs) (same_Some _ _ at)
-  place-at (r ∷ rs) (suc i) number n at = place-at rs i number n at
+---------------------------------------------------------------- the targets at what is destroyed
 
-  -- one more place
-  pub one_more_place : (rs : List Listed) (i : ℕ) (number : AdapterNo) (n : Node) (out : List Bool) → option_map {U = AdapterNo × Node} (λ r. (r.no, r.target)) (slice_get rs i) ≡ Some (number, n)
-      → out ++ map (λ r. gone r.target) (drop i rs) ≡ map (λ r. gone r.target) rs → (out ++ gone n ∷ []) ++ map (λ r. gone r.target) (drop (i + 1) rs) ≡ map (λ r. gone r.target) rs
-  unfolding by_place
-  one_more_place rs i number n out at whole =
-      let on : i + 1 ≡ suc i = omega arith in
-      ap (λ (k : ℕ). (out ++ gone n ∷ []) ++ by_place (drop k rs)) on
-      ∙ append_assoc out (gone n ∷ []) (by_place (drop (suc i) rs))
-      ∙ ap (λ (bs : List Bool). out ++ bs) (sym (place-at rs i number n at))
-      ∙ whole
+any-both : {X : Type 0} (p q : X → Bool) (xs : List X) → list_any (λ x. p x || q x) xs ≡ false → (list_any p xs ≡ false) × (list_any q xs ≡ false)
+any-both p q [] h = (refl, refl)
+any-both p q (x ∷ xs) h =
+    let parts = or_parts (p x || q x) (list_any (λ y. p y || q y) xs) h in
+    let here = or_parts (p x) (q x) parts.0 in
+    let later = any-both p q xs parts.1 in
+    (ap (λ b. b || list_any p xs) here.0 ∙ later.0, ap (λ b. b || list_any q xs) here.1 ∙ later.1)
 
-  -- what is delivered changes no target
-  targets_from : (k : ℕ) (cs : List (ℕ × Notice)) (rs : List Listed) → by_place (delivered_from k cs rs) ≡ by_place rs
-  unfolding by_place
-  targets_from k cs [] = refl
-  targets_from k cs (r ∷ rs) = ap (λ (bs : List Bool). gone r.target ∷ bs) (targets_from (suc k) cs rs)
+none-at : (os : List ObjectNo) (n : Node) → list_any (λ o. same_node n (node.Object o)) os ≡ false → is_node_among os n ≡ false
+none-at os (node.Object p) h = h
+none-at os (node.Resource k) h = refl
 
-  pub targets-delivered : (cs : List (ℕ × Notice)) (rs : List Listed) → map (λ r. gone r.target) (delivered cs rs) ≡ map (λ r. gone r.target) rs
-  unfolding by_place
-  targets-delivered cs rs = targets_from 0 cs rs
+-- these nodes, as targets of an adapter
+abbrev spots_at : AdapterNo → List Target → List Spot
+spots_at k ts = map (λ t. (k, t.node)) ts
 
--- an adapter stands at each place below their number
-pub someone-at : (rs : List Listed) (i : ℕ) → i < length rs → option_map {U = AdapterNo × Node} (λ r. (r.no, r.target)) (slice_get rs i) ≡ None → ⊥
-someone-at [] i low none = omega (arith, low)
-someone-at (r ∷ rs) zero low none = none-some _ (sym none)
-someone-at (r ∷ rs) (suc i) low none = someone-at rs i (omega (arith, low)) none
+-- an adapter that has none of some objects as a target loses none with them
+untouched : (os : List ObjectNo) (k : AdapterNo) (ts : List Target) → list_any (λ o. list_any (is_at (node.Object o)) ts) os ≡ false → spots_at k (filter (λ t. is_node_among os t.node) ts) ≡ []
+untouched os k [] h = refl
+untouched os k (t ∷ ts) h =
+    let both = any-both (λ o. same_node t.node (node.Object o)) (λ o. list_any (is_at (node.Object o)) ts) os h in
+    let rest : List Target = filter (λ q. is_node_among os q.node) ts in
+    ap (λ b. spots_at k (cond b (t ∷ rest) rest)) (none-at os t.node both.0) ∙ untouched os k ts both.1
 
--- who leaves with a change, as it was found in the model and then kept with the room
-pub leavers_known : (s m : Model) (c : Change) (rs old : List Listed) (kept found : Option (List Bool)) → m ≡ s → rs ≡ old → LeaversAre (goes_with (reading m) c) old found → kept ≡ found → LeaversAre (goes_with (reading s) c) rs kept
-leavers_known s m c rs old kept found is same are as_found =
-    subst (λ (q : Option (List Bool)). LeaversAre (goes_with (reading s) c) rs q) (sym as_found)
-    (subst (λ (xs : List Listed). LeaversAre (goes_with (reading s) c) xs found) (sym same)
-    (subst (λ (n : Model). LeaversAre (goes_with (reading n) c) old found) is are))
+-- those at some places, where the adapters that are not there lose none
+module _ (os : List ObjectNo) (all : List Listed) where
+  goes : AdapterNo → Node → Bool
+  goes k n = is_node_among os n
 
--- who leaves with what goes leaves with the change
-pub leavers_found : (r : Reading) (c : Change) (q : Option Removal) (rs : List Listed) (found : Option (List Bool)) → IsRemovalOf r c q → found ≡ option_map (λ (x : Removal). map (λ (l : Listed). is_in x.numbers l.target) rs) q → LeaversAre (goes_with r c) rs found
-leavers_found r (Delete o) (Some x) rs found of is =
-    let same : x.object ≡ o = same_Some x.object o of.whose in
-    let goes : is_in x.numbers ≡ gone r o = (λ i n. of.found.numbers n i) ∙ ap (gone r) same in
-    subst (LeaversAre (gone r o) rs) (sym is) (ap (λ (g : Node → Bool). map (λ (l : Listed). g l.target) rs) goes)
-leavers_found r (Delete o) None rs found of is = absurd (none-some o of.whose)
-leavers_found r c (Some x) rs found of is = absurd (none-some x.object (sym of.whose))
-leavers_found r c None rs found of is = subst (LeaversAre (goes_with r c) rs) (sym is) (λ n. refl)
+  abbrev at_place : ℕ → List Spot
+  at_place k = option_map_or (spots_of (λ j n. is_node_among os n)) (slice_get all k) []
+
+  by-places : (k : ℕ) (rs : List Listed) → ((i : ℕ) → slice_get all (k + i) ≡ slice_get rs i) → flat_map at_place (places_from (is_touched os) k rs) ≡ spots (λ j n. is_node_among os n) rs
+  by-places k [] here = refl
+  by-places k (r ∷ rs) here =
+      let first : slice_get all k ≡ Some r = subst (λ (j : ℕ). slice_get all j ≡ Some r) (let e : k + 0 ≡ k = omega arith in e) (here 0) in
+      let rest = by-places (suc k) rs (λ i. subst (λ (j : ℕ). slice_get all j ≡ slice_get rs i) (let e : k + suc i ≡ suc k + i = omega arith in e) (here (suc i))) in
+      elim (is_touched os r) as (λ b. is_touched os r ≡ b → flat_map at_place (cond b (k ∷ places_from (is_touched os) (suc k) rs) (places_from (is_touched os) (suc k) rs)) ≡ spots_of (λ j n. is_node_among os n) r ++ spots (λ j n. is_node_among os n) rs) [
+        | true ↦ λ _. ap (λ (o : Option Listed). option_map_or (spots_of (λ j n. is_node_among os n)) o [] ++ flat_map at_place (places_from (is_touched os) (suc k) rs)) first ∙ ap (λ (ss : List Spot). spots_of (λ j n. is_node_among os n) r ++ ss) rest
+        | false ↦ λ none. rest ∙ sym (ap (λ (ss : List Spot). ss ++ spots (λ j n. is_node_among os n) rs) (untouched os r.no r.targets none))
+      ] refl
+
+  pub at-places : flat_map at_place (touched os all) ≡ spots (λ j n. is_node_among os n) all
+  at-places = by-places 0 all (λ i. let e : 0 + i ≡ i = omega arith in ap (slice_get all) e)
+
+-- the targets at what a removal has are those at its objects
+pub gone-spots : (r : Reading) (x : Removal) (rs : List Listed) → IsRemoval r x → flat_map (λ k. option_map_or (spots_of (is_gone_at (is_in x.numbers))) (slice_get rs k) []) (touched x.objects.items rs) ≡ spots (is_gone_at (is_in x.numbers)) rs
+gone-spots r x rs is =
+    let same : (n : Node) → is_in x.numbers n ≡ is_node_among x.objects.items n = λ n. is.numbers n ∙ ap (λ (os : List ObjectNo). is_node_among os n) (sym is.objects) in
+    subst (λ (g : Node → Bool). flat_map (λ k. option_map_or (spots_of (is_gone_at g)) (slice_get rs k) []) (touched x.objects.items rs) ≡ spots (is_gone_at g) rs) (λ i n. sym (same n) i) (at-places x.objects.items rs)
+
+-- the adapter at a place, as it was read
+pub spots-there : (g : Node → Bool) (k : AdapterNo) (ts : List Target) (q : Option Listed) → Some (k, ts) ≡ option_map (λ (r : Listed). let p : AdapterNo × List Target = (r.no, r.targets) in p) q → option_map_or (spots_of (is_gone_at g)) q [] ≡ map (λ t. (k, t.node)) (filter (λ t. g t.node) ts)
+spots-there g k ts None is = absurd (none-some (k, ts) (sym is))
+spots-there g k ts (Some r) is = ap (λ (p : AdapterNo × List Target). map (λ (t : Target). let s : Spot = (p.0, t.node) in s) (filter (λ t. g t.node) p.1)) (sym (same_Some (k, ts) (r.no, r.targets) is))
+
+pub spots-nowhere : (g : Node → Bool) (q : Option Listed) → None ≡ option_map (λ (r : Listed). let p : AdapterNo × List Target = (r.no, r.targets) in p) q → option_map_or (spots_of (is_gone_at g)) q [] ≡ []
+spots-nowhere g None is = refl
+spots-nowhere g (Some r) is = absurd (none-some (r.no, r.targets) is)
+
+-- one place more
+pub spots-more : (f : ℕ → List Spot) (ks : List ℕ) (i : ℕ) (out new all : List Spot) → i < length ks → new ≡ out ++ f (get_or ks i 0) → out ++ flat_map f (drop i ks) ≡ all → new ++ flat_map f (drop (i + 1) ks) ≡ all
+spots-more f ks i out new all low made whole =
+    ap (λ (ss : List Spot). ss ++ flat_map f (drop (i + 1) ks)) made
+    ∙ append_assoc out (f (get_or ks i 0)) (flat_map f (drop (i + 1) ks))
+    ∙ ap (λ (js : List ℕ). out ++ flat_map f js) (sym (drop_more ks i 0 low))
+    ∙ whole
+
+pub spots-end : (f : ℕ → List Spot) (ks : List ℕ) (i : ℕ) (out all : List Spot) → length ks ≤ i → out ++ flat_map f (drop i ks) ≡ all → out ≡ all
+spots-end f ks i out all past whole = sym (append-nil out) ∙ ap (λ (js : List ℕ). out ++ flat_map f js) (sym (drop_all i ks past)) ∙ whole
+
+-- which targets go with a change, as they were found in the model
+pub spots-found : (r : Reading) (c : Change) (q : Option Removal) (rs : List Listed) → IsRemovalOf r c q → option_map_or (λ x. spots (is_gone_at (is_in x.numbers)) rs) q [] ≡ going_with r rs c
+spots-found r c q rs of = by q (destroyed_by c) of.whose of.found
+  where
+    by : (q : Option Removal) (o : Option ObjectNo) → option_map (λ (x : Removal). x.object) q ≡ o → IfSome q (IsRemoval r) → option_map_or (λ x. spots (is_gone_at (is_in x.numbers)) rs) q [] ≡ option_map_or (λ k. spots (is_gone_at (gone r k)) rs) o []
+    by None None is found = refl
+    by None (Some o) is found = absurd (none-some o is)
+    by (Some x) None is found = absurd (none-some x.object (sym is))
+    by (Some x) (Some o) is found =
+        let goes : is_in x.numbers ≡ gone r o = (λ i n. found.numbers n i) ∙ ap (gone r) (same_Some x.object o is) in
+        ap (λ (g : Node → Bool). spots (is_gone_at g) rs) goes
 
 -- the answer from before planning, or what the plan destroys or finds, is the whole answer
-pub whole-answer : (r : Reading) (rs : List Listed) (text : List ℕ) (c : Change) (early : Option Answer) (q : Option Removal) (x : Option Target) → IsEarlyAnswer (is_answered_late c) (answer_of r rs (command_of text c)) early
+pub whole-answer : (r : Reading) (rs : List Listed) (text : List ℕ) (c : Change) (early : Option Answer) (q : Option Removal) (x : Option Found) → IsEarlyAnswer (is_answered_late c) (answer_of r rs (command_of text c)) early
     → late_refusal r c ≡ None → IsRemovalOf r c q → x ≡ target_of r c → unwrap_or early (planned_answer q x) ≡ answer_of r rs (command_of text c)
 whole-answer r rs text c early q x is allowed removed found = by c is allowed removed.whose removed.found found
   where
@@ -107,7 +153,7 @@ whole-answer r rs text c early q x is allowed removed found = by c is allowed re
     by (Delete o) none allowed whose found nothing = later _ _ none (ap (planned_answer q) nothing ∙ ap answer.Destroyed (of-objects length 0 r q o whose found))
     by (Resolve o f i) none allowed whose found target =
         let known = resolvable r (at_end (node.Object o) f) i allowed in
-        later _ _ none (ap (planned_answer q) (target ∙ known.is) ∙ ap (λ (y : Option Target). answer.Object (option_map_or (λ (z : Target). z.object) y (record { 0 = 0 }))) (sym known.is))
+        later _ _ none (ap (planned_answer q) (target ∙ known.is) ∙ ap (λ (y : Option Found). answer.Object (option_map_or (λ (z : Found). z.object) y (record { 0 = 0 }))) (sym known.is))
     by (Create k) some allowed whose found target = known _ _ some
     by (Set n f v) some allowed whose found target = known _ _ some
     by (Unset n f) some allowed whose found target = known _ _ some

@@ -1,5 +1,6 @@
 pub mod AdapterLemmas
 pub mod OthersLemmas
+pub mod SpotLemmas
 pub mod QuietLemmas
 pub mod AttachLemmas
 pub mod LeavingLemmas

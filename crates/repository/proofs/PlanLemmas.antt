@@ -1,8 +1,7 @@
 -- What a plan, or its refusal, makes of its command.
-use Rattle.std.proofs.Common.{◌≡◌, inl, inr, Bool, true, false, not, IsTrue, List, [], ◌∷◌, ◌++◌, map, Option, Some, None, Ok, Err, if◌then◌else◌, refl, ap, sym, subst, ◌∙◌}
-use Rattle.std.specs.Prelude.{◌+◌, MatchBool, Result, ◌&&◌, is_some, ℕ, length, option_map, IsFalse}
+use Rattle.std.proofs.Common.{◌≡◌, inl, inr, Bool, true, false, not, IsTrue, List, [], ◌++◌, Option, Some, None, Ok, Err, if◌then◌else◌, refl, ap, sym, subst, ◌∙◌}
+use Rattle.std.specs.Prelude.{MatchBool, Result, ◌&&◌, is_some, ℕ, option_map, IsFalse}
 use Rattle.std.specs.Option.{option_map_or}
-use Rattle.std.proofs.lemmas.List.{append-nil}
 use Rattle.mm_types.specs.Conditions.{◌else_by◌, ◌unless◌, ◌where_so◌}
 use Rattle.mm_types.specs.declared.refused.Refused.{Refused}
 use Rattle.mm_types.specs.declared.refused.Refused.TheVariants.{NoObject, NoResource, NoClass, Abstract, NoFeature, NotSingle, NotMany, TextLength, AdapterFull, Memory}
@@ -14,7 +13,7 @@ use Rattle.mm_types.specs.declared.numbers.Node.TheVariants as node
 use Rattle.mm_types.specs.declared.numbers.ResourceNo.{ResourceNo}
 use Rattle.mm_types.specs.Lookups as lookups
 use Rattle.mm_types.specs.Shapes.{shape}
-use Rattle.notice_chain.specs.Listed.{Above, Listed, is_chain_full, tell_chain, told_list}
+use Rattle.notice_chain.specs.Listed.{is_chain_full, tell_chain, told_list}
 use Rattle.notice_chain.specs.Released.{Released, released}
 use Rattle.notice_chain.specs.View.{View}
 use Rattle.notice_chain.specs.declared.notice.Notice.{Notice}
@@ -26,7 +25,7 @@ use Rattle.handshake.specs.Named.{feature_refusal, many_refusal, node_refusal, v
 use Rattle.handshake.specs.Effects as effects
 use Rattle.handshake.specs.Plans.{is_memory_refusal, looks_first}
 use Rattle.handshake.specs.Refusals.{early_refusal, late_refusal, uri_refusal}
-use Rattle.handshake.specs.Tellings.{chain, destroyed_by}
+use Rattle.handshake.specs.Tellings.{chain}
 use Rattle.mm_types.specs.declared.document_fault.DocFault.{DocFault}
 use Rattle.resource_docs.specs.declared.doc.Doc.{Doc}
 use Rattle.handshake.specs.declared.change.Change.{Change}
@@ -39,10 +38,10 @@ use Rattle.repository.specs.Run.{Executed, is_plain, may_want_memory}
 use Rattle.repository.specs.State.{State, reads}
 use Rattle.repository.specs.Step.{Stepped, done, refusal_of, step, step_unless}
 use Rattle.repository.specs.Views.{command_of}
-use Rattle.repository.proofs.AdapterLemmas.{Heard, released-nobody}
+use Rattle.repository.proofs.AdapterLemmas.{Heard}
 use Rattle.std.proofs.lemmas.Option.{none-some}
 use Rattle.web_uris.proofs.JoinFacts.{joined-web}
-use Rattle.handshake.specs.Laws.{goes_with}
+use Rattle.repository.specs.Leaving.{going_with}
 use Rattle.repository.specs.Loads.{load_of, load_refusal, objects_of}
 use Rattle.repository.specs.Proper.{IsProper}
 use Rattle.repository.specs.Refusals.{IsPlanRefusal, resource_refusal}
@@ -227,59 +226,45 @@ replied s c ns m a x = record {
   after = record { model = m; adapters = x.others };
 }
 
-no_more : (s : State) (c : Change) (ns : List Notice) (m : Model) (a : Answer) (x : Released) → (let y : Stepped = record {
-  outcome = Ok (record { answer = a; told = told_list (reads s).above ns s.adapters ++ x.told; released = x.views });
-  after = record { model = m; adapters = x.others ++ [] };
-} in y) ≡ replied s c ns m a x
-no_more s c ns m a x =
-    ap (λ (rs : List Listed). let y : Stepped = record {
-      outcome = Ok (record { answer = a; told = told_list (reads s).above ns s.adapters ++ x.told; released = x.views });
-      after = record { model = m; adapters = rs };
-    } in y) (append-nil x.others)
-
 done_of : (s : State) (u : List ℕ) → Option Change → Stepped
 done_of s u made =
     let ns = option_map_or (chain (reads s)) made [] in
-    let x : Released = released (λ a. false) (tell_chain (reads s).above ns s.adapters) in
+    let x : Released = released [] (tell_chain (reads s).above ns s.adapters) in
     record {
       outcome = Ok (record { answer = answer_of (reads s) s.adapters (command.CreateResource u); told = told_list (reads s).above ns s.adapters ++ x.told; released = x.views });
-      after = record { model = option_map_or (effects.after s.model) made s.model; adapters = x.others ++ [] };
+      after = record { model = option_map_or (effects.after s.model) made s.model; adapters = x.others };
     }
 
 -- what is done where a text is read as this
 done_loaded : (s : State) (k : ResourceNo) → Result Doc DocFault → Stepped
 done_loaded s k read =
     let ns = option_map_or (chain (reads s)) (load_of k read) [] in
-    let x : Released = released (λ a. false) (tell_chain (reads s).above ns s.adapters) in
+    let x : Released = released [] (tell_chain (reads s).above ns s.adapters) in
     record {
       outcome = Ok (record { answer = answer.Loaded (objects_of read); told = told_list (reads s).above ns s.adapters ++ x.told; released = x.views });
-      after = record { model = option_map_or (effects.after s.model) (load_of k read) s.model; adapters = x.others ++ [] };
+      after = record { model = option_map_or (effects.after s.model) (load_of k read) s.model; adapters = x.others };
     }
 
 -- who is released by a change that tells these notices
 abbrev pub releases_of : State → Change → List Notice → Released
-releases_of s c ns = released (λ a. goes_with (reads s) c a.target) (tell_chain (reads s).above ns s.adapters)
+releases_of s c ns = released (going_with (reads s) s.adapters c) (tell_chain (reads s).above ns s.adapters)
 
 done_change : (s : State) (text : List ℕ) (c : Change) → IsProper (reads s) text c → done s (command_of text c) ≡ replied s c (chain (reads s) c) (effects.after s.model c) (answer_of (reads s) s.adapters (command_of text c)) (releases_of s c (chain (reads s) c))
 unfolding done_of done_loaded
-done_change s text (Create k) brought = let c = Create k in no_more s c (chain (reads s) c) (effects.after s.model c) (answer_of (reads s) s.adapters (command_of text c)) (releases_of s c (chain (reads s) c))
-done_change s text (Set n f v) brought = let c = Set n f v in no_more s c (chain (reads s) c) (effects.after s.model c) (answer_of (reads s) s.adapters (command_of text c)) (releases_of s c (chain (reads s) c))
-done_change s text (Unset n f) brought = let c = Unset n f in no_more s c (chain (reads s) c) (effects.after s.model c) (answer_of (reads s) s.adapters (command_of text c)) (releases_of s c (chain (reads s) c))
-done_change s text (Add n f v i) brought = let c = Add n f v i in no_more s c (chain (reads s) c) (effects.after s.model c) (answer_of (reads s) s.adapters (command_of text c)) (releases_of s c (chain (reads s) c))
-done_change s text (Remove n f i) brought = let c = Remove n f i in no_more s c (chain (reads s) c) (effects.after s.model c) (answer_of (reads s) s.adapters (command_of text c)) (releases_of s c (chain (reads s) c))
-done_change s text (RemoveValue n f v) brought = let c = RemoveValue n f v in no_more s c (chain (reads s) c) (effects.after s.model c) (answer_of (reads s) s.adapters (command_of text c)) (releases_of s c (chain (reads s) c))
-done_change s text (Move n f to from) brought = let c = Move n f to from in no_more s c (chain (reads s) c) (effects.after s.model c) (answer_of (reads s) s.adapters (command_of text c)) (releases_of s c (chain (reads s) c))
-done_change s text (Delete o) brought = let c = Delete o in no_more s c (chain (reads s) c) (effects.after s.model c) (answer_of (reads s) s.adapters (command_of text c)) (releases_of s c (chain (reads s) c))
-done_change s text (NewResource u) web =
-    let c = NewResource u in
-    ap (λ (o : Option (List ℕ)). done_of s u (option_map NewResource o)) (joined-web [] u web)
-    ∙ no_more s c (chain (reads s) c) (effects.after s.model c) (answer_of (reads s) s.adapters (command_of text c)) (releases_of s c (chain (reads s) c))
+done_change s text (Create k) brought = refl
+done_change s text (Set n f v) brought = refl
+done_change s text (Unset n f) brought = refl
+done_change s text (Add n f v i) brought = refl
+done_change s text (Remove n f i) brought = refl
+done_change s text (RemoveValue n f v) brought = refl
+done_change s text (Move n f to from) brought = refl
+done_change s text (Delete o) brought = refl
+done_change s text (NewResource u) web = ap (λ (o : Option (List ℕ)). done_of s u (option_map NewResource o)) (joined-web [] u web)
 done_change s text (Load k doc) proper =
     let c = Load k doc in
     ap (done_loaded s k) proper.0
-    ∙ no_more s c (chain (reads s) c) (effects.after s.model c) (answer.Loaded (length doc.objects)) (releases_of s c (chain (reads s) c))
     ∙ ap (λ (a : Answer). replied s c (chain (reads s) c) (effects.after s.model c) a (releases_of s c (chain (reads s) c))) (sym (ap (λ (x : Result Doc DocFault). answer.Loaded (objects_of x)) proper.0))
-done_change s text (Resolve o f i) brought = let c = Resolve o f i in no_more s c (chain (reads s) c) (effects.after s.model c) (answer_of (reads s) s.adapters (command_of text c)) (releases_of s c (chain (reads s) c))
+done_change s text (Resolve o f i) brought = refl
 
 -- a change that was made, with the notices that somebody may hear
 pub changed : (s : State) (text : List ℕ) (c : Change) (made : List Notice) → IsProper (reads s) text c → early_refusal (reads s) c ≡ None → late_refusal (reads s) c ≡ None → Heard (reads s).above made (chain (reads s) c) s.adapters → is_chain_full (reads s).above made s.adapters ≡ false
@@ -296,15 +281,3 @@ pub changed_to : (s t : State) (text : List ℕ) (c : Change) (made : List Notic
 changed_to s t text c made a told views brought early late heard free answered told_is views_are model adapters =
     changed s text c made brought early late heard free
     ∙ sym (λ i. record { outcome = Ok (record { answer = answered i; told = told_is i; released = views_are i }); after = record { model = model i; adapters = adapters i } })
-
----------------------------------------------------------------- who leaves
-
--- a change that destroys nothing releases nobody
-pub nobody-leaves : (s : State) (c : Change) (ns : List Notice) → destroyed_by c ≡ None → releases_of s c ns ≡ record { told = []; views = []; others = tell_chain (reads s).above ns s.adapters }
-nobody-leaves s (Delete o) ns none = absurd (none-some o (sym none))
-nobody-leaves s _ ns none = released-nobody (tell_chain (reads s).above ns s.adapters)
-
--- to be notified changes no target
-pub targets-tell_chain : (up : Above) (ns : List Notice) (rs : List Listed) (p : Node → Bool) → map (λ r. p r.target) (tell_chain up ns rs) ≡ map (λ r. p r.target) rs
-targets-tell_chain up ns [] p = refl
-targets-tell_chain up ns (r ∷ rs) p = ap (λ (bs : List Bool). p r.target ∷ bs) (targets-tell_chain up ns rs p)

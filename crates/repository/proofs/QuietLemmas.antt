@@ -1,12 +1,10 @@
 -- Commands that notify nobody.
-use Rattle.std.proofs.Common.{◌≡◌, ◌∙◌, false, List, [], ◌++◌, Option, Some, None, Ok, refl, ap}
-use Rattle.std.proofs.lemmas.List.{append-nil}
+use Rattle.std.proofs.Common.{◌≡◌, ◌∙◌, List, [], Option, Some, None, Ok, refl, ap}
 use Rattle.mm_types.specs.Conditions.{◌else_by◌, ◌where_so◌}
 use Rattle.mm_types.specs.declared.refused.Refused.{Refused}
 use Rattle.mm_types.specs.declared.refused.Refused.TheVariants.{AdapterFull}
 use Rattle.notice_chain.specs.View.{View}
 use Rattle.notice_chain.specs.Listed.{Above, Listed, is_chain_full, tell_chain}
-use Rattle.notice_chain.specs.Released.{Released, released}
 use Rattle.mm_types.specs.declared.numbers.AdapterNo.{AdapterNo}
 use Rattle.mm_types.specs.declared.numbers.FeatureNo.{FeatureNo}
 use Rattle.mm_types.specs.declared.numbers.Node.{Node}
@@ -20,33 +18,27 @@ use Rattle.repository.specs.Step.{Stepped, step, step_unless}
 use Rattle.repository.specs.declared.command.Command.{Command}
 use Rattle.repository.specs.declared.command.Command.TheVariants.{AdapterKept, AdapterTold, Class, Container, Contents, Get, IsSet, Resource, Snapshot, Validate}
 use Rattle.repository.specs.declared.reply.Answer.{Answer}
-use Rattle.repository.proofs.AdapterLemmas.{is_chain_full-nil, released-nobody, tell_chain-nil}
+use Rattle.repository.proofs.AdapterLemmas.{is_chain_full-nil, tell_chain-nil}
 
-pub releases-quiet : (up : Above) (rs : List Listed) → released (λ a. false) (tell_chain up [] rs) ≡ record { told = []; views = []; others = rs }
-releases-quiet up rs = ap (released (λ a. false)) (tell_chain-nil up rs) ∙ released-nobody rs
-
--- what is done by a command that tells nothing, releases nobody, and attaches these
-pub done_quiet : (up : Above) (m : Model) (rs js : List Listed) (a : Answer) → (let x : Released = released (λ a. false) (tell_chain up [] rs) in let y : Stepped = record {
-  outcome = Ok (record { answer = a; told = x.told; released = x.views });
-  after = record { model = m; adapters = x.others ++ js };
+-- what is done by a command that tells nothing and lets nobody go, and then does this to the adapters
+pub done_quiet : (up : Above) (m : Model) (rs : List Listed) (j : List Listed → List Listed) (a : Answer) → (let y : Stepped = record {
+  outcome = Ok (record { answer = a; told = []; released = [] });
+  after = record { model = m; adapters = j (tell_chain up [] rs) };
 } in y) ≡ record {
   outcome = Ok (record { answer = a; told = []; released = [] });
-  after = record { model = m; adapters = rs ++ js };
+  after = record { model = m; adapters = j rs };
 }
-done_quiet up m rs js a = ap (λ (x : Released). let y : Stepped = record {
-  outcome = Ok (record { answer = a; told = x.told; released = x.views });
-  after = record { model = m; adapters = x.others ++ js };
-} in y) (releases-quiet up rs)
+done_quiet up m rs j a = ap (λ (qs : List Listed). let y : Stepped = record {
+  outcome = Ok (record { answer = a; told = []; released = [] });
+  after = record { model = m; adapters = j qs };
+} in y) (tell_chain-nil up rs)
 
 -- and by a read
-pub done_read : (s : State) (a : Answer) → (let x : Released = released (λ a. false) (tell_chain (reads s).above [] s.adapters) in let y : Stepped = record {
-  outcome = Ok (record { answer = a; told = x.told; released = x.views });
-  after = record { model = s.model; adapters = x.others ++ [] };
-} in y) ≡ record { outcome = Ok (record { answer = a; told = []; released = [] }); after = s }
-done_read s a = done_quiet (reads s).above s.model s.adapters [] a ∙ ap (λ (rs : List Listed). let y : Stepped = record {
+pub done_read : (s : State) (a : Answer) → (let y : Stepped = record {
   outcome = Ok (record { answer = a; told = []; released = [] });
-  after = record { model = s.model; adapters = rs };
-} in y) (append-nil s.adapters)
+  after = record { model = s.model; adapters = tell_chain (reads s).above [] s.adapters };
+} in y) ≡ record { outcome = Ok (record { answer = a; told = []; released = [] }); after = s }
+done_read s a = done_quiet (reads s).above s.model s.adapters (λ rs. rs) a
 
 -- no adapter is too full for a chain of no notices
 pub refusal_quiet : (up : Above) (o : Option Refused) (rs : List Listed) → (o else_by (AdapterFull where_so is_chain_full up [] rs)) ≡ o

@@ -1,14 +1,14 @@
--- What is remembered of fragments stays true where no link that contains is edited.
+-- What is remembered of fragments, and of who hears a node, stays true where no link that contains is edited.
 use Rattle.std.proofs.Common.{◌≡◌, ◌∙◌, ℕ, Bool, true, false, List, Option, Some, None, refl, sym, ap, subst, inl, inr, eqb-true, arith}
-use Rattle.std.specs.Prelude.{◌⊎◌, cond, if◌then◌else◌, is_some}
+use Rattle.std.specs.Prelude.{cond, if◌then◌else◌, is_some, IfSome, [], ◌∷◌, suc}
 use Rattle.std.specs.FinMap as map
 use Rattle.std.specs.Ordering.{eq_by_cmp, nat_cmp}
 use Rattle.std.proofs.lemmas.Bool.Decides.{nat_tests}
 use Rattle.std.proofs.lemmas.Cmp.{nat_cmp_total}
-use Rattle.std.proofs.lemmas.Option.{none-some, same_Some}
+use Rattle.std.proofs.lemmas.Option.{none-some}
 use Rattle.mm_types.specs.Resolved.{Metamodel}
 use Rattle.mm_types.specs.Same.{is_feature}
-use Rattle.mm_types.specs.Shapes.{is_containment, shape}
+use Rattle.mm_types.specs.Shapes.{shape}
 use Rattle.mm_types.specs.declared.numbers.FeatureNo.{FeatureNo}
 use Rattle.mm_types.specs.declared.numbers.Node.{Node}
 use Rattle.mm_types.specs.declared.numbers.ObjectNo.{ObjectNo}
@@ -19,13 +19,19 @@ use Rattle.links.specs.Links.{Links}
 use Rattle.links.specs.Plans.{IsPlanOfKind, PlanFits, applied}
 use Rattle.links.specs.declared.plan.Edit.{Edit}
 use Rattle.models.specs.Legal.{IsLegal, kinds_of}
-use Rattle.models.specs.Model.{model_of, reading, values_at}
+use Rattle.models.specs.Model.{model_of, reading}
 use Rattle.models.specs.Reading.{Reading, at_end}
 use Rattle.containment.proofs.PartLemmas.{contains-reference, kinds-are, values-linked}
-use Rattle.fragment_paths.proofs.StayLemmas.{fragment-stays}
+use Rattle.fragment_paths.proofs.StayLemmas.{above-stays, fragment-stays}
 use Rattle.fragment_paths.specs.Fragments.{fragment}
 use Rattle.fragment_paths.specs.Kept.{Kept, MayKeep, is_full_for, with_room}
 use Rattle.fragment_paths.specs.Laws.{HaveSameParts}
+use Rattle.links.specs.Holders.{above}
+use Rattle.notice_chain.specs.Listed.{Above, Listed}
+use Rattle.notice_chain.specs.declared.notice.Notice.{Notice}
+use Rattle.adapter_list.specs.Hearing.{AreKnown, hearers, hears_node, places_from}
+use Rattle.adapter_list.specs.Rounds.{delivered, delivered_from}
+use Rattle.adapter_list.specs.declared.hearers.Hearers.{Hearers}
 use Rattle.repository.specs.Repository.{KeepsFragments}
 
 -- nothing is kept in the empty map
@@ -60,6 +66,26 @@ module _ (m : Metamodel) (v w : ValuesState) (a : Links) (plan : List Edit) (leg
         | true ↦ λ h. none-kept (reading (model_of m w (applied a plan)))
         | false ↦ λ h o t there. fragment-stays m v w a (applied a plan) legal after (parts-stay h) o ∙ keeps o t there
       ] refl
+
+  -- who hears a node is who heard it
+  pub hearers-after : (rs : List Listed) (h : Hearers) → AreKnown (above a) rs h → touches_containment (kinds_of m) plan ≡ false → AreKnown (above (applied a plan)) rs h
+  hearers-after rs h known out = subst (λ (up : Above). AreKnown up rs h) (λ i n. sym (above-stays m v w a (applied a plan) legal after (parts-stay out) n) i) known
+
+-- who was notified hears the same as before
+places-told : (up : Above) (x : Node) (k j : ℕ) (cs : List (ℕ × Notice)) (rs : List Listed) → places_from (hears_node up x) k (delivered_from j cs rs) ≡ places_from (hears_node up x) k rs
+places-told up x k j cs [] = refl
+places-told up x k j cs (r ∷ rs) =
+    elim (hears_node up x r) as (λ b. (if b then k ∷ places_from (hears_node up x) (suc k) (delivered_from (suc j) cs rs) else places_from (hears_node up x) (suc k) (delivered_from (suc j) cs rs)) ≡ (if b then k ∷ places_from (hears_node up x) (suc k) rs else places_from (hears_node up x) (suc k) rs)) [
+      | true ↦ ap (λ (ks : List ℕ). k ∷ ks) (places-told up x (suc k) (suc j) cs rs)
+      | false ↦ places-told up x (suc k) (suc j) cs rs
+    ]
+
+pub known-delivered : (up : Above) (cs : List (ℕ × Notice)) (rs : List Listed) (h : Hearers) → AreKnown up rs h → AreKnown up (delivered cs rs) h
+known-delivered up cs rs h known =
+    elim h.node as (λ o. IfSome o (λ x. h.places.items ≡ hearers up x rs) → IfSome o (λ x. h.places.items ≡ hearers up x (delivered cs rs))) [
+      | None ↦ λ _. tt
+      | Some x ↦ λ is. is ∙ sym (places-told up x 0 0 cs rs)
+    ] known
 
 -- a text that is kept, where it is its object's fragment
 pub kept-more : (r : Reading) (old new : Kept) (o : ObjectNo) (t : List ℕ) → MayKeep old o t new → fragment r o ≡ Some t → KeepsFragments r old → KeepsFragments r new

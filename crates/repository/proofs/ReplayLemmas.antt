@@ -1,5 +1,5 @@
 -- What one command makes of the ends of a node that is there before and after it.
-use Rattle.std.proofs.Common.{◌≡◌, ◌||◌, ℕ, Bool, true, false, IsTrue, List, [], ◌∷◌, map, Option, Some, None, Ok, Err, option_map, refl, sym, ap, ◌∙◌}
+use Rattle.std.proofs.Common.{◌≡◌, ◌&&◌, ◌||◌, ℕ, Bool, true, false, cond, IsTrue, List, [], ◌∷◌, map, Option, Some, None, Ok, Err, option_map, refl, sym, ap, ◌∙◌}
 use Rattle.std.specs.Prelude.{Result}
 use Rattle.std.specs.List.{list_any}
 use Rattle.std.specs.Option.{option_map_or}
@@ -15,10 +15,11 @@ use Rattle.mm_types.specs.declared.numbers.FeatureNo.{FeatureNo}
 use Rattle.mm_types.specs.declared.numbers.ResourceNo.{ResourceNo}
 use Rattle.mm_types.specs.declared.numbers.Node.{Node}
 use Rattle.mm_types.specs.declared.numbers.Node.TheVariants as node
-use Rattle.notice_chain.specs.Listed.{Listed, heard_of, hears}
+use Rattle.notice_chain.specs.Listed.{Above, Listed, brings_in, heard_of, hears}
 use Rattle.notice_chain.specs.Replay.{names, naming, replayed_all, replayed_each}
 use Rattle.notice_chain.specs.View.{View}
 use Rattle.notice_chain.specs.declared.notice.Notice.{Notice}
+use Rattle.notice_chain.specs.declared.target.Target.{Target}
 use Rattle.notice_chain.proofs.ReplayLemmas.{replayed_all-at}
 use Rattle.resource_docs.specs.declared.doc.Doc.{Doc}
 use Rattle.web_uris.specs.Joined.{joined}
@@ -33,16 +34,18 @@ use Rattle.handshake.specs.declared.change.Change.TheVariants as change
 use Rattle.handshake.proofs.ChainLemmas.{chain-replays}
 use Rattle.repository.specs.Loads.{load_of, load_refusal, reads_into}
 use Rattle.repository.specs.Refusals.{chain, change_of, early_refusal, late_refusal, resource_refusal}
+use Rattle.repository.specs.Enough.{is_deep_of}
 use Rattle.repository.specs.State.{State, is_there, reads}
 use Rattle.repository.specs.Step.{model_after}
 use Rattle.repository.specs.declared.command.Command.{Command}
-use Rattle.repository.specs.declared.command.Command.TheVariants.{Create, Set, Unset, Add, Remove, RemoveValue, Move, Delete, Attach, Detach, Get, IsSet, Container, Contents, Class, AdapterTold, AdapterKept, CreateResource, Resolve, Load, Resource, Validate, Fragment, ObjectAt, Save, Snapshot}
+use Rattle.repository.specs.declared.command.Command.TheVariants.{Create, Set, Unset, Add, Remove, RemoveValue, Move, Delete, Attach, Watch, Unwatch, Detach, Get, IsSet, Container, Contents, Class, AdapterTold, AdapterKept, CreateResource, Resolve, Load, Resource, Validate, Fragment, ObjectAt, Save, Snapshot}
+use Rattle.repository.proofs.AttachedLemmas.{AreOfNoFeature}
 use Rattle.repository.proofs.LoadLemmas.{text-read}
 use Rattle.repository.proofs.PlanLemmas.{uri-allowed}
 use Rattle.snapshots.specs.Replayed.{end_of}
 use Rattle.snapshots.specs.declared.snapshot.FeatureState.{FeatureState}
 use Rattle.snapshots.specs.declared.snapshot.NodeState.{NodeState}
-use Rattle.snapshots.specs.Snapshots.{feature_state, flag_of, node_state}
+use Rattle.snapshots.specs.Snapshots.{class_at, feature_state, flag_of, node_state}
 use Rattle.repository.proofs.KeptNodeLemmas.{class-by, comes-none, features-by, goes-none, metamodel-by, model_by}
 use Rattle.snapshots.proofs.NodeLemmas.{feature_after, feature_after-flag, feature_after-plain, filter-filter, node_after, node_after-features, same_values-each}
 
@@ -83,6 +86,8 @@ command-replays s (CreateResource t) legal early late d before later = resource-
 command-replays s (Resolve o f i) legal early late d before later = chain-replays s.model (change.Resolve o f i) legal early late tt d refl refl
 command-replays s (Load k text) legal early late d before later = load-replays s k text (reads_into (reads s) k text) refl legal early late d before
 command-replays s (Attach number target deep view) legal early late d before later = refl
+command-replays s (Watch number target deep) legal early late d before later = refl
+command-replays s (Unwatch number target) legal early late d before later = refl
 command-replays s (Detach number) legal early late d before later = refl
 command-replays s (Get n f) legal early late d before later = refl
 command-replays s (IsSet n f) legal early late d before later = refl
@@ -100,18 +105,38 @@ command-replays s (AdapterKept number) legal early late d before later = refl
 
 ---------------------------------------------------------------- what is heard of it
 
--- an adapter at a node that is above another hears each notice that names an end of the other
-hears-named : (r : Reading) (a : Listed) (d : End) → a.deep ≡ true → is_within r a.target d.node ≡ true → (x : Notice) → names d x ≡ true → hears r.above a x ≡ true
-hears-named r a d deep within x named =
+deep-brings : (up : Above) (target x : Node) (ts : List Target) → list_any (λ t. t.deep && same_node t.node target) ts ≡ true → (same_node target x || list_any (same_node target) (up x)) ≡ true → list_any (brings_in up x) ts ≡ true
+deep-brings up target x [] deep within = deep
+deep-brings up target x (t ∷ ts) deep within =
+    elim (t.deep && same_node t.node target) as (λ b. (t.deep && same_node t.node target) ≡ b → (b || list_any (λ q. q.deep && same_node q.node target) ts) ≡ true → (brings_in up x t || list_any (brings_in up x) ts) ≡ true) [
+      | true ↦ λ here _.
+          let parts = and_parts t.deep (same_node t.node target) here in
+          let brings : brings_in up x t ≡ true = ap (λ d. same_node t.node x || (d && list_any (same_node t.node) (up x))) parts.0 ∙ ap (λ (n : Node). same_node n x || list_any (same_node n) (up x)) (same_node-true t.node target parts.1) ∙ within in
+          ap (λ b. b || list_any (brings_in up x) ts) brings
+      | false ↦ λ _ later. ap (λ b. brings_in up x t || b) (deep-brings up target x ts later within) ∙ last (brings_in up x t)
+    ] refl deep
+  where
+    last : (b : Bool) → (b || true) ≡ true
+    last true = refl
+    last false = refl
+
+-- an adapter with a deep target that is above a node, or is the node, hears each notice that names an end of the node
+hears-named : (r : Reading) (a : Listed) (target : Node) (d : End) → is_deep_of target a ≡ true → is_within r target d.node ≡ true → (x : Notice) → names d x ≡ true → hears r.above a x ≡ true
+hears-named r a target d deep within x named =
     let at : x.notifier ≡ d.node = by x.feature named in
-    rw deep (ap (λ (n : Node). same_node a.target n || list_any (same_node a.target) (r.above n)) at ∙ within)
+    deep-brings r.above target x.notifier a.targets deep (ap (λ (n : Node). same_node target n || list_any (same_node target) (r.above n)) at ∙ within)
   where
     by : (f : Option FeatureNo) → option_map_or (λ y. same_end y d) (option_map (λ g. let e : End = record { node = x.notifier; feature = g } in e) f) false ≡ true → x.notifier ≡ d.node
     by None h = absurd (cc)
     by (Some g) h = same_node-true x.notifier d.node (and_parts _ _ h).0
 
-pub heard-naming : (r : Reading) (a : Listed) (ns : List Notice) (d : End) → a.deep ≡ true → is_within r a.target d.node ≡ true → naming d (heard_of r.above ns a) ≡ naming d ns
-heard-naming r a ns d deep within = filter-filter (names d) (λ n. hears r.above a n) ns (hears-named r a d deep within)
+pub heard-naming : (r : Reading) (a : Listed) (target : Node) (ns : List Notice) (d : End) → is_deep_of target a ≡ true → is_within r target d.node ≡ true → naming d (heard_of r.above ns a) ≡ naming d ns
+heard-naming r a target ns d deep within = filter-filter (names d) (λ n. hears r.above a n) ns (hears-named r a target d deep within)
+
+-- a notice of no feature names no end
+unnamed : (d : End) (ns : List Notice) → AreOfNoFeature ns → naming d ns ≡ []
+unnamed d [] h = refl
+unnamed d (n ∷ ns) h = ap (λ (o : Option FeatureNo). cond (option_map_or (λ y. same_end y d) (option_map (λ g. let e : End = record { node = n.notifier; feature = g } in e) o) false) (n ∷ naming d ns) (naming d ns)) h.0 ∙ unnamed d ns h.1
 
 ---------------------------------------------------------------- one node
 
@@ -129,10 +154,10 @@ map-step g a b [] h = refl
 map-step g a b (f ∷ fs) h = λ i. h f i ∷ map-step g a b fs h i
 
 -- of a node that is there before and after a command, what is heard of the command makes what the node has before it what it has after it
-pub node-step : (s : State) (c : Command View) (a : Listed) (n : Node) → models.IsLegal s.model → early_refusal (reads s) s.adapters c ≡ None → late_refusal (reads s) s.adapters c ≡ None
-    → a.deep ≡ true → is_within (reads s) a.target n ≡ true → IsThere s.model n → IsThere (model_after s.model c) n
+pub node-step : (s : State) (c : Command View) (a : Listed) (target n : Node) → models.IsLegal s.model → early_refusal (reads s) s.adapters c ≡ None → late_refusal (reads s) s.adapters c ≡ None
+    → is_deep_of target a ≡ true → is_within (reads s) target n ≡ true → IsThere s.model n → IsThere (model_after s.model c) n
     → node_after (heard_of (reads s).above (chain (reads s) c) a) (node_state (reads s) n) ≡ node_state (reading (model_after s.model c)) n
-node-step s c a n legal early late deep within before later =
+node-step s c a target n legal early late deep within before later =
     let r = reads s in
     let o = change_of r c in
     let t = model_after s.model c in
@@ -143,7 +168,7 @@ node-step s c a n legal early late deep within before later =
     λ (f : FeatureNo).
     let d = at_end n f in
     let all : replayed_each (has_flag m f) (naming d ns) (held_at r d) ≡ held_at (reading t) d = sym (replayed_all-at (has_flag m) (held_at r) ns d) ∙ command-replays s c legal early late d before later in
-    let heard : replayed_each (has_flag m f) (naming d hs) (held_at r d) ≡ held_at (reading t) d = ap (λ xs. replayed_each (has_flag m f) xs (held_at r d)) (heard-naming r a ns d deep within) ∙ all in
+    let heard : replayed_each (has_flag m f) (naming d hs) (held_at r d) ≡ held_at (reading t) d = ap (λ xs. replayed_each (has_flag m f) xs (held_at r d)) (heard-naming r a target ns d deep within) ∙ all in
     feature-step n hs f (has_flag m f) (held_at r d) (held_at (reading t) d) heard
     ∙ ap (λ (q : Metamodel). state_of f (shape q f).is_unsettable (held_at (reading t) d)) (sym (metamodel-by s.model o)) in
     let features : map (feature_after n hs) (map (feature_state r n) (all_features_of r n)) ≡ map (feature_state (reading t) n) (all_features_of (reading t) n) =
@@ -152,3 +177,13 @@ node-step s c a n legal early late deep within before later =
     let class = sym (class-by s.model o n before later) in
     node_after-features hs (node_state r n)
     ∙ (λ i. let y : NodeState = record { node = n; class = class i; features = features i } in y)
+
+-- and notices of no feature make nothing of it
+pub node-same : (r : Reading) (n : Node) (ns : List Notice) → AreOfNoFeature ns → node_after ns (node_state r n) ≡ node_state r n
+node-same r n ns none =
+    let ends : (f : FeatureNo) → feature_after n ns (feature_state r n f) ≡ feature_state r n f =
+    λ (f : FeatureNo).
+    let d = at_end n f in
+    feature-step n ns f (shape r.metamodel f).is_unsettable (held_at r d) (held_at r d) (ap (λ xs. replayed_each (shape r.metamodel f).is_unsettable xs (held_at r d)) (unnamed d ns none)) in
+    node_after-features ns (node_state r n)
+    ∙ ap (λ (fs : List FeatureState). let y : NodeState = record { node = n; class = class_at r n; features = fs } in y) (map-step (feature_after n ns) (feature_state r n) (feature_state r n) (all_features_of r n) ends)

@@ -80,10 +80,10 @@ module _ (s : State) where
   done_by : Option (List ℕ) → Stepped
   done_by uri =
       let ns = option_map_or (chain (reads s)) (option_map NewResource uri) [] in
-      let x : Released = released (λ a. false) (tell_chain (reads s).above ns s.adapters) in
+      let x : Released = released [] (tell_chain (reads s).above ns s.adapters) in
       record {
         outcome = Ok (record { answer = answer_of (reads s) s.adapters (CreateResource []); told = told_list (reads s).above ns s.adapters ++ x.told; released = x.views });
-        after = record { model = option_map_or (effects.after s.model) (option_map NewResource uri) s.model; adapters = x.others ++ [] };
+        after = record { model = option_map_or (effects.after s.model) (option_map NewResource uri) s.model; adapters = x.others };
       }
 
   unless_by : Option Refused → Option (List ℕ) → Stepped

@@ -1,7 +1,6 @@
--- In a legal state a node that is the target of an adapter, or below it, is there.
-use Rattle.std.proofs.Common.{◌≡◌, ◌||◌, Bool, true, false, IsTrue, List, [], ◌∷◌, Option, Some, None, is_some, option_map, if◌then◌else◌, refl, sym, ap, ◌∙◌, subst}
+-- In a legal state a node that is a deep target of an adapter, or below it, is there.
+use Rattle.std.proofs.Common.{◌≡◌, ◌&&◌, ◌||◌, true, false, IsTrue, List, [], ◌∷◌, Some, None, option_map, if◌then◌else◌, refl, sym, ap, subst}
 use Rattle.std.specs.List.{All, find, list_any}
-use Rattle.std.specs.Option.{option_map_or}
 use Rattle.std.proofs.lemmas.List.Elements.{All-head, All-tail}
 use Rattle.std.proofs.lemmas.Option.{none-some, same_Some}
 use Rattle.mm_types.specs.Same.{node_value, same_node}
@@ -21,6 +20,9 @@ use Rattle.models.specs.Reading.{is_within}
 use Rattle.containment.proofs.AboveLemmas.{above-root, parent-resource}
 use Rattle.containment.proofs.PartLemmas.{legal-at, taken-live}
 use Rattle.notice_chain.specs.Listed.{Listed, adapter, has_no}
+use Rattle.notice_chain.specs.declared.target.Target.{Target}
+use Rattle.std.proofs.lemmas.Bool.{and_parts}
+use Rattle.repository.specs.Enough.{is_deep_of}
 use Rattle.repository.specs.State.{State, IsLegal, IsLegalAdapter, is_there, reads}
 
 -- what a node contains lives
@@ -61,6 +63,15 @@ found-legal P k (r ∷ rs) a h all =
       | false ↦ λ e. found-legal P k rs a e (All-tail P r rs all)
     ] h
 
--- the target of an attached adapter is there
-pub target-there : (s : State) (number : AdapterNo) (a : Listed) → IsLegal s → adapter number s.adapters ≡ Some a → IsTrue (is_there (reads s) a.target)
-target-there s number a legal some = (found-legal (IsLegalAdapter (reads s)) number s.adapters a some legal.adapters).target
+deep-there : (s : Model) (target : Node) (ts : List Target) → All (λ t. IsTrue (is_there (reading s) t.node)) ts → list_any (λ t. t.deep && same_node t.node target) ts ≡ true → IsTrue (is_there (reading s) target)
+deep-there s target [] all h = absurd (let no : false ≡ true = h in cc)
+deep-there s target (t ∷ ts) all h =
+    let P : Target → Type 0 = λ q. IsTrue (is_there (reading s) q.node) in
+    elim (t.deep && same_node t.node target) as (λ b. (t.deep && same_node t.node target) ≡ b → (b || list_any (λ q. q.deep && same_node q.node target) ts) ≡ true → IsTrue (is_there (reading s) target)) [
+      | true ↦ λ here _. subst (λ (n : Node). IsTrue (is_there (reading s) n)) (same_node-true t.node target (and_parts t.deep _ here).1) (All-head P t ts all)
+      | false ↦ λ _ later. deep-there s target ts (All-tail P t ts all) later
+    ] refl h
+
+-- a deep target of an attached adapter is there
+pub target-there : (s : State) (number : AdapterNo) (target : Node) (a : Listed) → IsLegal s → adapter number s.adapters ≡ Some a → is_deep_of target a ≡ true → IsTrue (is_there (reads s) target)
+target-there s number target a legal some deep = deep-there s.model target a.targets (found-legal (IsLegalAdapter (reads s)) number s.adapters a some legal.adapters).targets deep

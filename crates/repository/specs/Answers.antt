@@ -3,7 +3,7 @@ use Rattle.std.specs.Prelude.{◌≡◌, ℕ, ◌&&◌, ◌||◌, Bool, List, fi
 use Rattle.std.specs.Option.{option_map_or}
 use Rattle.mm_types.specs.declared.numbers.AdapterNo.{AdapterNo}
 use Rattle.notice_chain.specs.View.{View}
-use Rattle.notice_chain.specs.Listed.{Listed, adapter}
+use Rattle.notice_chain.specs.Listed.{Listed, adapter, is_target}
 use Rattle.mm_types.specs.Ends.{has_value, value_in}
 use Rattle.mm_types.specs.declared.end.End.{End}
 use Rattle.mm_types.specs.declared.numbers.Node.TheVariants as node
@@ -73,6 +73,8 @@ answer_of r rs (command.CreateResource t) = answer.Resource (record { 0 = length
 answer_of r rs (command.Resolve o f i) = answer.Object (option_map_or (λ x. x.object) (target_at r (at_end (node.Object o) f) i) (record { 0 = 0 }))
 answer_of r rs (command.Load k text) = answer.Loaded (objects_of (reads_into r k text))
 answer_of r rs (command.Attach number target deep view) = answer.Done
+answer_of r rs (command.Watch number target deep) = answer.Flag (not (is_target number target rs))
+answer_of r rs (command.Unwatch number target) = answer.Flag (is_target number target rs)
 answer_of r rs (command.Detach number) = answer.Done
 answer_of r rs (command.Get n f) = got_answer (got r (at_end n f))
 answer_of r rs (command.IsSet n f) = answer.Flag (is_set r (at_end n f))

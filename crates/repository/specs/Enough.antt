@@ -1,6 +1,7 @@
--- That notices are enough: a deep adapter that keeps all that it hears can tell, from a snapshot of its target, what each node at and
--- below the target has later, without a further look.
+-- That notices are enough: an adapter that keeps all that it hears can tell, from a snapshot of a deep target of it, what each node at
+-- and below that target has later, without a further look.
 use Rattle.std.specs.Prelude.{◌≡◌, ◌&&◌, Bool, true, false, IsTrue, List, [], ◌∷◌, drop, length, Some, None}
+use Rattle.std.specs.List.{list_any}
 use Rattle.std.specs.Option.{option_map_or}
 use Rattle.mm_types.specs.Same.{same_node}
 use Rattle.mm_types.specs.declared.end.End.{End}
@@ -41,9 +42,13 @@ abbrev pub AllAlong : (State → Type 0) → State → List (Command View) → T
 AllAlong P s [] = P s
 AllAlong P s (c ∷ cs) = P s × AllAlong P (step s c).after cs
 
+-- a node is a deep target of an adapter
+abbrev pub is_deep_of : Node → Listed → Bool
+is_deep_of target a = list_any (λ t. t.deep && same_node t.node target) a.targets
+
 -- a node is a deep target of an attached adapter
 abbrev pub is_deep_target : AdapterNo → Node → State → Bool
-is_deep_target number target s = option_map_or (λ (a : Listed). a.deep && same_node a.target target) (adapter number s.adapters) false
+is_deep_target number target s = option_map_or (is_deep_of target) (adapter number s.adapters) false
 
 abbrev pub HasDeepTarget : AdapterNo → Node → State → Type 0
 HasDeepTarget number target s = IsTrue (is_deep_target number target s)
@@ -52,9 +57,9 @@ HasDeepTarget number target s = IsTrue (is_deep_target number target s)
 abbrev pub IsAtOrBelow : Node → Node → State → Type 0
 IsAtOrBelow target n s = is_within (reads s) target n ≡ true
 
--- A target is a deep one of an adapter without a bound in each state of a run, and a node is that target or below it in each. Then the
--- snapshot of the target at the begin, replayed with the notices that the adapter has kept since, has of the node what the snapshot at
--- the end has.
+-- A node is a deep target of an adapter without a bound in each state of a run, whatever other targets come and go, and a second node is
+-- that target or below it in each. Then the snapshot of the target at the begin, replayed with the notices that the adapter has kept since, has of the second node what the
+-- snapshot at the end has.
 abbrev pub NoticesAreEnough : State → List (Command View) → AdapterNo → Node → Listed → Listed → Node → Type 0
 NoticesAreEnough s cs number target a b n =
     IsLegal s

@@ -9,7 +9,7 @@ use Rattle.mm_types.specs.declared.numbers.Node.TheVariants as node
 use Rattle.notice_chain.specs.View.{View}
 use Rattle.notice_chain.specs.Listed.{Listed, adapter, is_chain_full}
 use Rattle.notice_chain.specs.declared.notice.Notice.{Notice}
-use Rattle.adapter_list.specs.Refusals.{attach_refusal}
+use Rattle.adapter_list.specs.Refusals.{attach_refusal, watch_refusal}
 use Rattle.models.specs.Model.{Model, reading}
 use Rattle.models.specs.Reading.{Reading, has_uri}
 use Rattle.handshake.specs.Named.{feature_refusal, node_refusal, object_refusal}
@@ -42,6 +42,8 @@ change_of r (command.CreateResource t) = option_map change.NewResource (joined [
 change_of r (command.Resolve o f i) = Some (change.Resolve o f i)
 change_of r (command.Load k text) = load_of k (reads_into r k text)
 change_of r (command.Attach number target deep view) = None
+change_of r (command.Watch number target deep) = None
+change_of r (command.Unwatch number target) = None
 change_of r (command.Detach number) = None
 change_of r (command.Get n f) = None
 change_of r (command.IsSet n f) = None
@@ -79,6 +81,8 @@ early_refusal r rs (command.CreateResource t) = None
 early_refusal r rs (command.Resolve o f i) = feature_refusal r (node.Object o) f
 early_refusal r rs (command.Load k text) = node_refusal r (node.Resource k)
 early_refusal r rs (command.Attach number target deep view) = node_refusal r target
+early_refusal r rs (command.Watch number target deep) = node_refusal r target
+early_refusal r rs (command.Unwatch number target) = node_refusal r target else_by adapter_refusal rs number
 early_refusal r rs (command.Detach number) = adapter_refusal rs number
 early_refusal r rs (command.Get n f) = feature_refusal r n f
 early_refusal r rs (command.IsSet n f) = feature_refusal r n f
@@ -118,6 +122,8 @@ late_refusal r rs (command.CreateResource t) = resource_refusal r t (joined [] t
 late_refusal r rs (command.Resolve o f i) = planned.late_refusal r (change.Resolve o f i)
 late_refusal r rs (command.Load k text) = load_refusal r k (reads_into r k text)
 late_refusal r rs (command.Attach number target deep view) = attach_refusal rs number view
+late_refusal r rs (command.Watch number target deep) = watch_refusal rs number target
+late_refusal r rs (command.Unwatch number target) = None
 late_refusal r rs (command.Detach number) = None
 late_refusal r rs (command.Get n f) = None
 late_refusal r rs (command.IsSet n f) = None

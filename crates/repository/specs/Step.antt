@@ -1,11 +1,11 @@
 -- What a command does: its reply and the state after it.
-use Rattle.std.specs.Prelude.{true, Bool, false, List, [], ◌∷◌, ◌++◌, Option, Some, None, Ok, Err}
+use Rattle.std.specs.Prelude.{List, [], ◌∷◌, ◌++◌, Option, Some, None, Ok, Err, if◌then◌else◌}
 use Rattle.std.specs.Option.{option_map_or}
 use Rattle.mm_types.specs.declared.numbers.AdapterNo.{AdapterNo}
 use Rattle.mm_types.specs.declared.refused.Refused.{Refused}
 use Rattle.notice_chain.specs.View.{View}
-use Rattle.notice_chain.specs.Listed.{Listed, has_no, tell_chain, told_list}
-use Rattle.notice_chain.specs.Released.{Released, released}
+use Rattle.notice_chain.specs.Listed.{Listed, is_target, tell_chain, told_list, watched}
+use Rattle.notice_chain.specs.Released.{Released, Spot, is_any, is_gone_at, is_of, released, released_where, spots}
 use Rattle.models.specs.Model.{Model, reading}
 use Rattle.models.specs.Reading.{Reading}
 use Rattle.removal.specs.Outer.{gone}
@@ -31,67 +31,27 @@ failure c r = record { refused = r; given_back = brought c }
 abbrev pub refused : State → Command View → Refused → Stepped
 refused s c r = record { outcome = Err (failure c r); after = s }
 
--- whether a command releases an adapter: the one that it names, or one whose target it destroys
-abbrev pub leaves : Reading → Command View → Listed → Bool
-leaves r (command.Create c) a = false
-leaves r (command.Set n f v) a = false
-leaves r (command.Unset n f) a = false
-leaves r (command.Add n f v i) a = false
-leaves r (command.Remove n f i) a = false
-leaves r (command.RemoveValue n f v) a = false
-leaves r (command.Move n f to from) a = false
-leaves r (command.Delete o) a = gone r o a.target
-leaves r (command.CreateResource t) a = false
-leaves r (command.Resolve o f i) a = false
-leaves r (command.Load k text) a = false
-leaves r (command.Attach number target deep view) a = false
-leaves r (command.Detach number) a = has_no number a
-leaves r (command.Get n f) a = false
-leaves r (command.IsSet n f) a = false
-leaves r (command.Container o) a = false
-leaves r (command.Resource o) a = false
-leaves r (command.Contents n) a = false
-leaves r (command.Validate o) a = false
-leaves r (command.Fragment o) a = false
-leaves r (command.ObjectAt t) a = false
-leaves r (command.Save k) a = false
-leaves r (command.Class o) a = false
-leaves r (command.Snapshot n) a = false
-leaves r (command.AdapterTold number) a = false
-leaves r (command.AdapterKept number) a = false
+-- the targets that go with a command: those at what it destroys, the one that it names, or all of an adapter
+abbrev pub going : Reading → List Listed → Command View → List Spot
+going r rs (command.Delete o) = spots (is_gone_at (gone r o)) rs
+going r rs (command.Unwatch number target) = (number, target) ∷ []
+going r rs (command.Detach number) = spots (is_of number) rs
+going r rs _ = []
 
 -- the adapter that it attaches
 abbrev pub joins : Command View → List Listed
-joins (command.Create c) = []
-joins (command.Set n f v) = []
-joins (command.Unset n f) = []
-joins (command.Add n f v i) = []
-joins (command.Remove n f i) = []
-joins (command.RemoveValue n f v) = []
-joins (command.Move n f to from) = []
-joins (command.Delete o) = []
-joins (command.CreateResource t) = []
-joins (command.Resolve o f i) = []
-joins (command.Load k text) = []
-joins (command.Attach number target deep view) = record { no = number; target = target; deep = deep; view = view } ∷ []
-joins (command.Detach number) = []
-joins (command.Get n f) = []
-joins (command.IsSet n f) = []
-joins (command.Container o) = []
-joins (command.Resource o) = []
-joins (command.Contents n) = []
-joins (command.Validate o) = []
-joins (command.Fragment o) = []
-joins (command.ObjectAt t) = []
-joins (command.Save k) = []
-joins (command.Class o) = []
-joins (command.Snapshot n) = []
-joins (command.AdapterTold number) = []
-joins (command.AdapterKept number) = []
+joins (command.Attach number target deep view) = record { no = number; targets = record { node = target; deep = deep } ∷ []; view = view } ∷ []
+joins _ = []
 
--- the chain is told to those that hear it by what is above the notifiers before the command, and then those that leave are told their last notice
+-- the adapters once it has attached that one, or has given one a target that it had not
+abbrev pub joined_by : Command View → List Listed → List Listed
+joined_by (command.Attach number target deep view) rs = rs ++ joins (command.Attach number target deep view)
+joined_by (command.Watch number target deep) rs = if is_target number target rs then rs else watched number (record { node = target; deep = deep }) rs
+joined_by _ rs = rs
+
+-- the chain is told to those that hear it by what is above the notifiers before the command, and then the targets go
 abbrev pub releases : Reading → List Listed → Command View → Released
-releases r rs c = released (leaves r c) (tell_chain r.above (chain r c) rs)
+releases r rs c = released (going r rs c) (tell_chain r.above (chain r c) rs)
 
 abbrev pub reply : Reading → List Listed → Command View → Reply View
 reply r rs c =
@@ -102,7 +62,7 @@ reply r rs c =
     }
 
 abbrev pub adapters_after : Reading → List Listed → Command View → List Listed
-adapters_after r rs c = (releases r rs c).others ++ joins c
+adapters_after r rs c = joined_by c (releases r rs c).others
 
 abbrev pub model_after : Model → Command View → Model
 model_after s c = option_map_or (effects.after s) (change_of (reading s) c) s
@@ -127,4 +87,4 @@ step s c = step_unless s c (refusal_of s c)
 
 -- closing releases all adapters: each number with its view after its last notice
 abbrev pub closed : State → List (AdapterNo × View)
-closed s = (released (λ a. true) s.adapters).views
+closed s = (released_where is_any s.adapters).views

@@ -41,6 +41,8 @@ brought (command.CreateResource t) = None
 brought (command.Resolve o f i) = None
 brought (command.Load k text) = None
 brought (command.Attach number target deep adapter) = Some adapter
+brought (command.Watch number target deep) = None
+brought (command.Unwatch number target) = None
 brought (command.Detach number) = None
 brought (command.Get n f) = None
 brought (command.IsSet n f) = None
@@ -70,6 +72,8 @@ module _ {A : Type 0} (heard : A → View) where
   command_view (command.Resolve o f i) = command.Resolve o f i
   command_view (command.Load k text) = command.Load k text
   command_view (command.Attach number target deep adapter) = command.Attach number target deep (heard adapter)
+  command_view (command.Watch number target deep) = command.Watch number target deep
+  command_view (command.Unwatch number target) = command.Unwatch number target
   command_view (command.Detach number) = command.Detach number
   command_view (command.Get n f) = command.Get n f
   command_view (command.IsSet n f) = command.IsSet n f

@@ -68,7 +68,19 @@ pub enum Command<A = Box<dyn Adapter>> {
         deep: bool,
         adapter: A,
     },
-    /// Detaches an adapter, and gives it back with its last notice told (EMF: Notifier.eAdapters().remove).
+    /// Gives an adapter one target more (EMF: Notifier.eAdapters().add of an adapter that is attached elsewhere).
+    Watch {
+        no: AdapterNo,
+        target: Node,
+        deep: bool,
+    },
+    /// Takes one target from an adapter, and gives it back if that was its last one (EMF: Notifier.eAdapters().remove).
+    Unwatch {
+        no: AdapterNo,
+        target: Node,
+    },
+    /// Detaches an adapter from all its targets, and gives it back with its last notices told (EMF:
+    /// Notifier.eAdapters().remove).
     Detach(AdapterNo),
     /// Asks for what a feature has (EMF: EObject.eGet; MOF 2.5.1: Reflection, Object.get).
     Get {

@@ -1,118 +1,163 @@
-//! The adapters that leave with what a change destroys.
-ghost use Rattle.std.specs.Prelude.{◌≡◌, ◌+◌, ◌^◌, ◌<◌, ◌≤◌, ◌++◌, Bool, true, None, count_by, length, map, option_map, vec_capacity, vec_len, IfOk, IfSome, MatchOption};
-ghost use Rattle.mm_types.specs.declared.numbers.Node.{Node};
+//! The targets that go, and the adapters that leave with their last ones.
+ghost use Rattle.std.specs.Prelude.{◌≡◌, ◌+◌, ◌^◌, ◌<◌, ◌≤◌, ◌++◌, ◌∷◌, [], filter, length, map, vec_capacity, vec_len, IfOk, IfSome, OnOk};
+ghost use Rattle.std.specs.Option.{option_map_or};
+ghost use Rattle.models.specs.Reading.{Reading};
 ghost use Rattle.adapter_list.specs.Attached.{views_of};
 ghost use Rattle.adapter_list.specs.Rounds.{RoundFits};
-ghost use Rattle.notice_chain.specs.Released.{released as released_of};
+ghost use Rattle.notice_chain.specs.Listed.{HaveTargets};
+ghost use Rattle.notice_chain.specs.Released.{is_gone_at, released as released_of, spots as spots_where};
 ghost use Rattle.removal.specs.Ranks.{is_in};
-ghost use Rattle.repository.specs.Leaving.{HasRoom, LeaversAre, leavers};
+ghost use Rattle.removal.specs.Removals.{IsRemoval};
+ghost use Rattle.repository.specs.Leaving.{HasRoom, leavers, spots_in};
 
 use adapter_list::{AdapterList, Round};
 use adapters::Adapter;
-use mm_types::AdapterNo;
-use notice_chain::Notice;
+use mm_types::{AdapterNo, Node};
+use notice_chain::{Notice, Target};
 use removal::Removal;
 use std::alloc::{AllocError, Global};
+use std::collections::VecDeque;
 
-/// Which adapters leave with what goes, by their places in attach order; `None` where nothing goes.
-pub(crate) fn places_of<A: Adapter>(
+/// One target of an adapter.
+pub(crate) fn one_spot(
+    alloc: Global,
+    no: AdapterNo,
+    node: Node,
+) -> Result<Vec<(AdapterNo, Node)>, AllocError>
+    ensures { IfOk result (λ v. v.items ≡ (no, node) ∷ []) }
+{
+    let mut spots = Vec::with_capacity(alloc, 1)?;
+    spots.push_reserved((no, node));
+    Ok(spots)
+}
+
+/// All targets of an adapter, in the order in which it got them.
+pub(crate) fn own_spots(
+    alloc: Global,
+    no: AdapterNo,
+    targets: &VecDeque<Target>,
+) -> Result<Vec<(AdapterNo, Node)>, AllocError>
+    ensures { IfOk result (λ v. v.items ≡ map (λ t. (no, t.node)) targets.now.items) }
+{
+    let mut spots = Vec::with_capacity(alloc, targets.len())?;
+    for index in 0..targets.len() {
+        spots.push_reserved((no, targets[index].node));
+    }
+    Ok(spots)
+}
+
+/// The targets that go with what a change destroys.
+pub(crate) fn spots_gone<A: Adapter>(
     alloc: Global,
     adapters: &AdapterList<A>,
     removal: &Option<Removal>,
-) -> Result<Option<Vec<bool>>, AllocError>
-    ensures { IfOk result (λ q. option_map (λ bs. bs.items) q ≡ option_map (λ x. map (λ r. is_in x.numbers r.target) adapters.now.0) removal.now) }
+) -> Result<Vec<(AdapterNo, Node)>, AllocError>
+    requires { (r : Reading) × IfSome removal.now (IsRemoval r) }
+    ensures { IfOk result (λ v. v.items ≡ option_map_or (λ x. spots_where (is_gone_at (is_in x.numbers)) adapters.now.0) removal.now []) }
 {
     match removal {
-        Some(removal) => Ok(Some(places(alloc, adapters, removal)?)),
-        None => Ok(None),
+        Some(removal) => spots_with(alloc, adapters, removal),
+        None => Ok(Vec::new(alloc)),
     }
 }
 
-/// Which adapters leave with an object: those whose targets go with it.
-fn places<A: Adapter>(
+/// The targets that go with an object. Only the adapters that have some of them are looked at.
+fn spots_with<A: Adapter>(
     alloc: Global,
     adapters: &AdapterList<A>,
     removal: &Removal,
-) -> Result<Vec<bool>, AllocError>
-    ensures { IfOk result (λ bs. bs.items ≡ map (λ r. is_in removal.now.numbers r.target) adapters.now.0) }
+) -> Result<Vec<(AdapterNo, Node)>, AllocError>
+    requires { (r : Reading) × IsRemoval r removal.now }
+    ensures { IfOk result (λ v. v.items ≡ spots_where (is_gone_at (is_in removal.now.numbers)) adapters.now.0) }
 {
-    let mut leaves = Vec::new(alloc);
-    for place in 0..adapters.len() {
-        if let Some((_, target)) = adapters.at(place) {
-            leaves.push(removal.has(target))?;
+    let places = adapters.touched(&removal.objects)?;
+    let mut spots = Vec::new(alloc);
+    for place in &places {
+        if let Some((no, targets)) = adapters.at(*place) {
+            add_gone(&mut spots, removal, no, targets)?;
         }
     }
-    Ok(leaves)
+    Ok(spots)
 }
 
-/// Who leaves, and room for all that is told and for those that are handed out: made before anything changes.
+/// Adds the targets of an adapter that go.
+fn add_gone(
+    spots: &mut Vec<(AdapterNo, Node)>,
+    removal: &Removal,
+    no: AdapterNo,
+    targets: &VecDeque<Target>,
+) -> Result<(), AllocError>
+    ensures { OnOk result (spots.new.items ≡ spots.old.items ++ map (λ t. (no, t.node)) (filter (λ t. is_in removal.now.numbers t.node) targets.now.items)) }
+{
+    for index in 0..targets.len() {
+        let node = targets[index].node;
+        if removal.has(node) {
+            spots.push((no, node))?;
+        }
+    }
+    Ok(())
+}
+
+/// Which targets go, and room for all that is told and for the adapters that are handed out: made before anything changes.
 #[derive(Drop)]
 pub(crate) struct Leaving<A> {
-    /// Who leaves, by places in attach order.
-    pub places: Vec<bool>,
+    /// The adapters in attach order, the targets of each in the order in which it got them.
+    pub spots: Vec<(AdapterNo, Node)>,
     pub told: Vec<(AdapterNo, Notice)>,
     pub released: Vec<(AdapterNo, A)>,
 }
 
 impl<A: Adapter> Leaving<A> {
-    /// Room for so many notices of a chain, and then for the last notices of those that leave.
+    /// Room for so many notices of a chain, and then for the last notices from targets that go.
     pub(crate) fn reserve(
         alloc: Global,
-        places: Vec<bool>,
+        spots: Vec<(AdapterNo, Node)>,
         chain_told: usize,
     ) -> Result<Self, AllocError>
         requires { chain_told < 2 ^ 63 }
-        ensures places { IfOk result (λ x. x.places.items ≡ places.items) }
+        ensures spots { IfOk result (λ x. x.spots.items ≡ spots.items) }
         ensures room { IfOk result (HasRoom chain_told) }
     {
-        let count = count(&places);
-        let told = Vec::with_capacity(alloc, chain_told + count)?;
-        let released = Vec::with_capacity(alloc, count)?;
+        let told = Vec::with_capacity(alloc, chain_told + spots.len())?;
+        let released = Vec::with_capacity(alloc, spots.len())?;
         Ok(Leaving {
-            places,
+            spots,
             told,
             released,
         })
     }
 }
 
-/// How many leave.
-fn count(places: &[bool]) -> usize
-    ensures count { result ≡ count_by (λ b. b) places.now }
-    ensures small { result < 2 ^ 63 }
-{
-    places.iter().filter(|leaves| **leaves).count()
-}
-
-/// Room for those that leave, if a change destroys anything.
+/// Room for the targets that go, if any do.
 pub(crate) fn room_for<A: Adapter>(
     alloc: Global,
-    leaves: Option<Vec<bool>>,
+    spots: Vec<(AdapterNo, Node)>,
     chain_told: usize,
 ) -> Result<Option<Leaving<A>>, AllocError>
     requires { chain_told < 2 ^ 63 }
-    ensures places { IfOk result (λ q. option_map (λ x. x.places.items) q ≡ option_map (λ bs. bs.items) leaves) }
+    ensures spots { IfOk result (λ q. spots_in q ≡ spots.items) }
     ensures room { IfOk result (λ q. IfSome q (HasRoom chain_told)) }
 {
-    match leaves {
-        Some(places) => Ok(Some(Leaving::reserve(alloc, places, chain_told)?)),
-        None => Ok(None),
+    if spots.is_empty() {
+        return Ok(None);
     }
+    Ok(Some(Leaving::reserve(alloc, spots, chain_told)?))
 }
 
-/// Delivers a round, and then releases the adapters that leave. Gives who was notified of what, and the released.
+/// Delivers the notices of a round, and then lets the targets go that there is room for. Gives who was told of what, and the adapters
+/// that are handed out.
 pub(crate) fn notify<A: Adapter>(
     alloc: Global,
     adapters: &mut AdapterList<A>,
     round: Round,
     leaving: Option<Leaving<A>>,
 ) -> (Vec<(AdapterNo, Notice)>, Vec<(AdapterNo, A)>)
-    requires reserved { RoundFits adapters.old.0 adapters.old.1 round }
-    requires leavers { (gone : Node → Bool) × LeaversAre gone adapters.old.0 (option_map (λ x. x.places.items) leaving) }
+    requires fits { RoundFits adapters.old.0 adapters.old.1 round }
+    requires some { HaveTargets adapters.old.0 }
     requires room { IfSome leaving (HasRoom (length round.told)) }
-    ensures others { (gone : Node → Bool) → LeaversAre gone adapters.old.0 (option_map (λ x. x.places.items) leaving) → adapters.new.0 ≡ (leavers gone round.copies adapters.old.0).others }
-    ensures told { (gone : Node → Bool) → LeaversAre gone adapters.old.0 (option_map (λ x. x.places.items) leaving) → result.0.items ≡ round.told ++ (leavers gone round.copies adapters.old.0).told }
-    ensures released { (gone : Node → Bool) → LeaversAre gone adapters.old.0 (option_map (λ x. x.places.items) leaving) → views_of A.heard result.1.items ≡ (leavers gone round.copies adapters.old.0).views }
+    ensures others { adapters.new.0 ≡ (leavers (spots_in leaving) round.copies adapters.old.0).others }
+    ensures told { result.0.items ≡ round.told ++ (leavers (spots_in leaving) round.copies adapters.old.0).told }
+    ensures released { views_of A.heard result.1.items ≡ (leavers (spots_in leaving) round.copies adapters.old.0).views }
 {
     let told = adapters.deliver(round);
     match leaving {
@@ -121,25 +166,25 @@ pub(crate) fn notify<A: Adapter>(
     }
 }
 
-/// Releases the adapters that leave: their last notices are told behind those of a chain.
-fn let_go<A: Adapter>(
+/// Lets targets go: their last notices are told behind those of a chain.
+pub(crate) fn let_go<A: Adapter>(
     adapters: &mut AdapterList<A>,
     leaving: Leaving<A>,
     chain_told: Vec<(AdapterNo, Notice)>,
 ) -> (Vec<(AdapterNo, Notice)>, Vec<(AdapterNo, A)>)
-    requires gone { (gone : Node → Bool) × (leaving.places.items ≡ map (λ r. gone r.target) adapters.old.0) }
+    requires some { HaveTargets adapters.old.0 }
     requires room { HasRoom (length chain_told.items) leaving }
-    ensures others { (gone : Node → Bool) → leaving.places.items ≡ map (λ r. gone r.target) adapters.old.0 → adapters.new.0 ≡ (released_of (λ r. gone r.target) adapters.old.0).others }
-    ensures told { (gone : Node → Bool) → leaving.places.items ≡ map (λ r. gone r.target) adapters.old.0 → result.0.items ≡ chain_told.items ++ (released_of (λ r. gone r.target) adapters.old.0).told }
-    ensures released { (gone : Node → Bool) → leaving.places.items ≡ map (λ r. gone r.target) adapters.old.0 → views_of A.heard result.1.items ≡ (released_of (λ r. gone r.target) adapters.old.0).views }
+    ensures others { adapters.new.0 ≡ (released_of leaving.spots.items adapters.old.0).others }
+    ensures told { result.0.items ≡ chain_told.items ++ (released_of leaving.spots.items adapters.old.0).told }
+    ensures released { views_of A.heard result.1.items ≡ (released_of leaving.spots.items adapters.old.0).views }
 {
     let Leaving {
-        places,
+        spots,
         mut told,
         mut released,
     } = leaving;
     move_all(chain_told, &mut told);
-    adapters.release(&places, &mut told, &mut released);
+    adapters.release(&spots, &mut told, &mut released);
     (told, released)
 }
 

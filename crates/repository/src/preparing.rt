@@ -1,5 +1,5 @@
 //! What is made ready for a change before anything changes.
-ghost use Rattle.std.specs.Prelude.{◌≡◌, ℕ, List, false, None, length, nat_lt, option_map, IfOk, IfErr, IfSome, OnOk};
+ghost use Rattle.std.specs.Prelude.{◌≡◌, ℕ, List, false, None, length, nat_lt, IfOk, IfErr, IfSome, OnOk};
 ghost use Rattle.mm_types.specs.Ends.{value_in};
 ghost use Rattle.mm_values.specs.Room as values_room;
 ghost use Rattle.notice_chain.specs.Listed.{Listed};
@@ -7,37 +7,37 @@ ghost use Rattle.links.specs.Holders.{HasNoCycle, above};
 ghost use Rattle.links.specs.LegalSets.{IsLegalSet, Kinds};
 ghost use Rattle.models.specs.Model.{reading};
 ghost use Rattle.models.specs.Reading.{at_end};
-ghost use Rattle.handshake.specs.Laws.{goes_with};
 ghost use Rattle.handshake.specs.Plans.{IsPlanOf};
 ghost use Rattle.handshake.specs.Refusals.{early_refusal as early_refusal_of};
+ghost use Rattle.adapter_list.specs.Hearing.{AreKnown};
 ghost use Rattle.adapter_list.specs.Refusals.{IsChainRefusal};
 ghost use Rattle.adapter_list.specs.Rounds.{RoundFits, round_of};
 ghost use Rattle.notice_chain.specs.Listed.{is_chain_full};
 ghost use Rattle.repository.specs.Answers.{IsEarlyAnswer, answer_of, is_answered_late, planned_answer as planned_answer_of};
-ghost use Rattle.repository.specs.Leaving.{HasRoom, LeaversAre};
+ghost use Rattle.repository.specs.Leaving.{HasRoom, going_with, spots_in};
 ghost use Rattle.repository.specs.Proper.{IsProper};
 ghost use Rattle.repository.specs.Refusals.{IsPlanRefusal};
 ghost use Rattle.repository.specs.Views.{command_of};
 ghost use Rattle.repository.specs.declared.reply.Answer.TheVariants as answer;
 
-use crate::leaving::{Leaving, places_of, room_for};
+use crate::leaving::{Leaving, room_for, spots_gone};
 use crate::reply::Answer;
-use adapter_list::{AdapterList, Round};
+use adapter_list::{AdapterList, Hearers, Round};
 use adapters::Adapter;
 use handshake::{Change, Planned, Target, plan};
 use links::LinkStore;
-use mm_types::{End, FeatureNo, Node, ObjectNo, Refused, ResourceNo};
+use mm_types::{AdapterNo, End, FeatureNo, Node, ObjectNo, Refused, ResourceNo};
 use mm_values::Values;
 use models::{ModelRef, copied};
 use removal::Removal;
 use std::alloc::{AllocError, Global};
 
-/// What a change answers, who leaves with what it destroys, and its plan.
+/// What a change answers, which targets go with what it destroys, and its plan.
 #[derive(Drop)]
 pub(crate) struct Prepared {
     pub answer: Answer,
-    /// By places in attach order; `None` where nothing is destroyed.
-    pub places: Option<Vec<bool>>,
+    /// The adapters in attach order, the targets of each in the order in which it got them.
+    pub spots: Vec<(AdapterNo, Node)>,
     pub planned: Planned,
 }
 
@@ -51,31 +51,35 @@ pub(crate) fn prepare<L: LinkStore, A: Adapter>(
     requires asked { early_refusal_of (reading model.now) change ≡ None }
     requires proper { (text : List ℕ) × IsProper (reading model.now) text change }
     ensures answer { IfOk result (λ p. (rs : List Listed) (text : List ℕ) → IsProper (reading model.now) text change → p.answer ≡ answer_of (reading model.now) rs (command_of text change)) }
-    ensures places { IfOk result (λ p. LeaversAre (goes_with (reading model.now) change) adapters.now.0 (option_map (λ bs. bs.items) p.places)) }
+    ensures spots { IfOk result (λ p. p.spots.items ≡ going_with (reading model.now) adapters.now.0 change) }
     ensures planned { IfOk result (λ p. IsPlanOf (nat_lt 0 (length adapters.now.0)) model.now change p.planned) }
     ensures refused { IfErr result (λ r. IsPlanRefusal model.now change r) }
 {
     let answer = early_answer(alloc, model, &change)?;
     let planned = plan(alloc, model, change, adapters.len() > 0)?;
-    let places = places_of(alloc, adapters, &planned.removal)?;
+    let spots = spots_gone(alloc, adapters, &planned.removal)?;
     Ok(Prepared {
         answer: answer.unwrap_or(planned_answer(&planned.removal, planned.target)),
-        places,
+        spots,
         planned,
     })
 }
 
-/// Takes all memory that a plan needs, all places that the adapters need, and room for those that leave. Nothing changes.
+/// Takes all memory that a plan needs, all places that the adapters need, and room for what is told of the targets that go. Nothing
+/// changes.
 pub(crate) fn reserve<L: LinkStore, A: Adapter>(
     alloc: Global,
     store: &mut L,
     values: &mut Values,
     adapters: &mut AdapterList<A>,
     planned: &Planned,
-    places: Option<Vec<bool>>,
+    spots: Vec<(AdapterNo, Node)>,
+    hearers: &mut Hearers,
 ) -> Result<(Round, Option<Leaving<A>>), Refused>
     requires legal { IsLegalSet (L.links store.old) }
     requires no_cycle { HasNoCycle (L.links store.old) }
+    requires known { AreKnown (above (L.links store.old)) adapters.old.0 hearers.old }
+    ensures known { AreKnown (above (L.links store.old)) adapters.old.0 hearers.new }
     ensures links { L.links store.new ≡ L.links store.old }
     ensures kinds { (m : Kinds) → L.kinds store.old m → L.kinds store.new m }
     ensures values { values_room.values_of values.new ≡ values_room.values_of values.old }
@@ -85,14 +89,14 @@ pub(crate) fn reserve<L: LinkStore, A: Adapter>(
     ensures round { IfOk result (λ p. p.0 ≡ round_of (above (L.links store.old)) planned.now.chain adapters.old.0) }
     ensures fits { IfOk result (λ p. RoundFits adapters.new.0 adapters.new.1 p.0) }
     ensures counted { OnOk result (is_chain_full (above (L.links store.old)) planned.now.chain adapters.old.0 ≡ false) }
-    ensures places { IfOk result (λ p. option_map (λ x. x.places.items) p.1 ≡ option_map (λ bs. bs.items) places) }
+    ensures spots { IfOk result (λ p. spots_in p.1 ≡ spots.items) }
     ensures room { IfOk result (λ p. IfSome p.1 (HasRoom (length p.0.told))) }
     ensures reason { IfErr result (IsChainRefusal (is_chain_full (above (L.links store.old)) planned.now.chain adapters.old.0)) }
 {
     store.reserve_for(&planned.edits)?;
     values.reserve_for(&planned.values)?;
-    let round = adapters.reserve_all(store, &planned.chain)?;
-    let leaving = room_for(alloc, places, round.told_len())?;
+    let round = adapters.reserve_all(store, &planned.chain, hearers)?;
+    let leaving = room_for(alloc, spots, round.told_len())?;
     Ok((round, leaving))
 }
 

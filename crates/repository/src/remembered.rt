@@ -1,9 +1,12 @@
-//! When what is remembered of fragments is let go.
+//! When what is remembered of fragments, and of who hears a node, is let go.
 ghost use Rattle.std.specs.FinMap as map;
-ghost use Rattle.std.specs.Prelude.{◌≡◌, if◌then◌else◌, is_some};
+ghost use Rattle.std.specs.Prelude.{◌≡◌, false, if◌then◌else◌, is_some, List};
 ghost use Rattle.links.specs.Laws.{contains_by, edit_end, touches_containment as touches};
 ghost use Rattle.models.specs.Legal.{kinds_of};
+ghost use Rattle.notice_chain.specs.Listed.{Above, Listed};
+ghost use Rattle.adapter_list.specs.Hearing.{AreKnown};
 
+use adapter_list::Hearers;
 use fragment_paths::PathCache;
 use links::{Edit, Plan};
 use mm_meta::Meta;
@@ -22,11 +25,23 @@ fn touches_containment(meta: &Meta, edits: &Plan) -> bool
     edits.as_slice().iter().any(|e| is_of_containment(meta, e))
 }
 
-/// Lets all remembered fragments go, where a plan edits a link that contains. Takes no memory.
-pub(crate) fn forget_touched(paths: &mut PathCache, meta: &Meta, edits: &Plan)
-    ensures { paths.new ≡ (if touches (kinds_of meta.now) edits.now then map.empty else paths.old) }
+/// Lets go what is remembered and may be wrong after a change: the fragments where a plan edits a link that contains, and who hears a
+/// node there too, or where targets go. Takes no memory.
+pub(crate) fn forget_touched(
+    paths: &mut PathCache,
+    hearers: &mut Hearers,
+    meta: &Meta,
+    edits: &Plan,
+    targets_go: bool,
+)
+    ensures paths { paths.new ≡ (if touches (kinds_of meta.now) edits.now then map.empty else paths.old) }
+    ensures hearers { (up : Above) (rs : List Listed) → (touches (kinds_of meta.now) edits.now ≡ false → targets_go ≡ false → AreKnown up rs hearers.old) → AreKnown up rs hearers.new }
 {
-    if touches_containment(meta, edits) {
+    let touched = touches_containment(meta, edits);
+    if touched {
         paths.clear();
+    }
+    if touched || targets_go {
+        hearers.forget();
     }
 }

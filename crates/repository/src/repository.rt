@@ -14,7 +14,7 @@ mod resolving;
 mod resources;
 mod validation;
 
-use adapter_list::AdapterList;
+use adapter_list::{AdapterList, Hearers};
 use adapters::Adapter;
 use fragment_paths::PathCache;
 use links::LinkStore;
@@ -39,6 +39,8 @@ pub struct Repository<L: LinkStore, A: Adapter = Box<dyn Adapter>> {
     adapters: AdapterList<A>,
     /// Fragments that were asked for, until a containing link changes.
     paths: PathCache,
+    /// Who heard the last notice, until a containing link changes, or an adapter gets or loses a target.
+    hearers: Hearers,
 }
 
 impl<L: LinkStore, A: Adapter> Model for Repository<L, A> {
@@ -70,6 +72,7 @@ impl<L: LinkStore, A: Adapter> Repository<L, A> {
             store: L::empty(alloc),
             adapters: AdapterList::new(alloc),
             paths: PathCache::new(alloc),
+            hearers: Hearers::new(alloc),
         }
     }
 

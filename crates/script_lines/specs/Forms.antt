@@ -112,6 +112,14 @@ depth_in w = if bytes_eq w (codes "flat") then Some false else if bytes_eq w (co
 abbrev pub attach_form : List ℕ → List ℕ → List ℕ → Option Form
 attach_form a n d = option_map (λ p. asks.Attach p.0.0 p.0.1 p.1) (option_zip (option_zip (adapter_in a) (node_in n)) (depth_in d))
 
+-- `watch AD NODE flat` or `watch AD NODE deep`
+abbrev pub watch_form : List ℕ → List ℕ → List ℕ → Option Form
+watch_form a n d = option_map (λ p. asks.Watch p.0.0 p.0.1 p.1) (option_zip (option_zip (adapter_in a) (node_in n)) (depth_in d))
+
+-- `unwatch AD NODE`
+abbrev pub unwatch_form : List ℕ → List ℕ → Option Form
+unwatch_form a n = option_map (λ p. asks.Unwatch p.0 p.1) (option_zip (adapter_in a) (node_in n))
+
 -- the forms of a verb and an object
 abbrev pub with_object : List ℕ → List ℕ → Option Form
 with_object verb o =
@@ -146,6 +154,7 @@ with_two verb a b =
     if bytes_eq verb (codes "get") then get_form a b
     else if bytes_eq verb (codes "isset") then isset_form a b
     else if bytes_eq verb (codes "unset") then unset_form a b
+    else if bytes_eq verb (codes "unwatch") then unwatch_form a b
     else None
 
 -- the forms of a verb and three arguments
@@ -157,6 +166,7 @@ with_three verb a b c =
     else if bytes_eq verb (codes "remove") then remove_form a b c
     else if bytes_eq verb (codes "removevalue") then removevalue_form a b c
     else if bytes_eq verb (codes "resolve") then resolve_form a b c
+    else if bytes_eq verb (codes "watch") then watch_form a b c
     else None
 
 -- the forms of a verb and four arguments

@@ -61,7 +61,18 @@ pub enum Form<'a> {
         target: Node,
         deep: bool,
     },
-    /// An adapter detached (EMF: Notifier.eAdapters().remove).
+    /// One target more for an adapter that is attached (EMF: Notifier.eAdapters().add).
+    Watch {
+        no: AdapterNo,
+        target: Node,
+        deep: bool,
+    },
+    /// One target less (EMF: Notifier.eAdapters().remove).
+    Unwatch {
+        no: AdapterNo,
+        target: Node,
+    },
+    /// An adapter detached from all its targets (EMF: Notifier.eAdapters().remove).
     Detach(AdapterNo),
     /// Whether a feature is set (EMF: EObject.eIsSet).
     IsSet {

@@ -2,6 +2,7 @@
 //! line asks for.
 #![tactic(auto)]
 
+mod adapter_forms;
 mod form;
 pub mod grammar;
 pub mod laws;

@@ -1,12 +1,11 @@
 //! The form that the words of a line fit.
 ghost use Rattle.std.specs.Prelude.{◌≡◌, IfOk, map};
-ghost use Rattle.script_lines.specs.Forms.{add_at_form, add_form, at_form, attach_form, class_form, container_form, contents_form, delete_form, depth_in, detach_form, form_of as the_form_of, fragment_form, get_form, isset_form, move_form, new_form, remove_form, removevalue_form, resolve_form, resource_form, save_form, seen_form, set_form, unset_form, validate_form, with_four, with_object, with_one, with_three, with_two, with_word, within_form};
+ghost use Rattle.script_lines.specs.Forms.{add_at_form, add_form, at_form, class_form, container_form, contents_form, delete_form, form_of as the_form_of, fragment_form, get_form, isset_form, move_form, new_form, remove_form, removevalue_form, resolve_form, resource_form, save_form, set_form, unset_form, validate_form, with_four, with_object, with_one, with_three, with_two, with_word, within_form};
 
+use crate::adapter_forms::{attach_of, detach_of, seen_of, unwatch_of, watch_of};
 use crate::form::Form;
 use crate::name::Name;
-use crate::values::{
-    adapter_of, feature_of, feature_value_of, node_of, object_of, resource_no_of, string_of,
-};
+use crate::values::{feature_of, feature_value_of, node_of, object_of, resource_no_of, string_of};
 use mm_types::integers::natural_of;
 use std::alloc::{AllocError, Global};
 
@@ -91,20 +90,6 @@ fn contents_of<'a>(node: &str) -> Option<Form<'a>>
     ensures { result ≡ contents_form node.now }
 {
     Some(Form::Contents(node_of(node)?))
-}
-
-/// `detach AD`
-fn detach_of<'a>(adapter: &str) -> Option<Form<'a>>
-    ensures { result ≡ detach_form adapter.now }
-{
-    Some(Form::Detach(adapter_of(adapter)?))
-}
-
-/// `seen AD`
-fn seen_of<'a>(adapter: &str) -> Option<Form<'a>>
-    ensures { result ≡ seen_form adapter.now }
-{
-    Some(Form::Seen(adapter_of(adapter)?))
 }
 
 /// `get NODE NAME`
@@ -245,29 +230,6 @@ fn move_of<'a>(node: &str, feature: &'a str, to: &str, from: &str) -> Option<For
     })
 }
 
-/// Whether an adapter is deep, as a word says it: `flat` or `deep`.
-fn depth_of(word: &str) -> Option<bool>
-    ensures { result ≡ depth_in word.now }
-{
-    if word == "flat" {
-        Some(false)
-    } else if word == "deep" {
-        Some(true)
-    } else {
-        None
-    }
-}
-
-/// `attach AD NODE flat` or `attach AD NODE deep`
-fn attach_of<'a>(adapter: &str, target: &str, depth: &str) -> Option<Form<'a>>
-    ensures { result ≡ attach_form adapter.now target.now depth.now }
-{
-    let no = adapter_of(adapter)?;
-    let target = node_of(target)?;
-    let deep = depth_of(depth)?;
-    Some(Form::Attach { no, target, deep })
-}
-
 /// The form of a verb and an object.
 fn with_object_of<'a>(verb: &str, object: &str) -> Option<Form<'a>>
     ensures { result ≡ with_object verb.now object.now }
@@ -331,6 +293,8 @@ fn with_two_of<'a>(verb: &str, a: &str, b: &'a str) -> Option<Form<'a>>
         isset_of(a, b)
     } else if verb == "unset" {
         unset_of(a, b)
+    } else if verb == "unwatch" {
+        unwatch_of(a, b)
     } else {
         None
     }
@@ -358,6 +322,8 @@ fn with_three_of<'a>(
         removevalue_of(alloc, a, b, c)
     } else if verb == "resolve" {
         Ok(resolve_of(a, b, c))
+    } else if verb == "watch" {
+        Ok(watch_of(a, b, c))
     } else {
         Ok(None)
     }

@@ -1,5 +1,5 @@
 -- What comes back of a command that was executed.
-use Rattle.std.proofs.Common.{◌≡◌, ◌∙◌, [], Option, Ok, Err, refl, ap}
+use Rattle.std.proofs.Common.{◌∷◌, ◌≡◌, ◌∙◌, [], Option, Ok, Err, refl, ap}
 use Rattle.std.specs.Option.{option_map_or, option_zip}
 use Rattle.std.proofs.lemmas.List.Elements.{All-cons, All-head, All-nil}
 use Rattle.notice_chain.specs.View.{View}
@@ -8,7 +8,7 @@ use Rattle.repository.specs.Run.{Executed}
 use Rattle.repository.specs.State.{State}
 use Rattle.repository.specs.Views.{Outcome, brought}
 use Rattle.repository.specs.declared.command.Command.{Command}
-use Rattle.repository.specs.declared.command.Command.TheVariants.{Create, Set, Unset, Add, Remove, RemoveValue, Move, Delete, Attach, Detach, Get, IsSet, Container, Contents, Class, AdapterTold, AdapterKept, CreateResource, Resolve, Load, Resource, Validate, Fragment, ObjectAt, Save, Snapshot}
+use Rattle.repository.specs.declared.command.Command.TheVariants.{Create, Set, Unset, Add, Remove, RemoveValue, Move, Delete, Attach, Watch, Unwatch, Detach, Get, IsSet, Container, Contents, Class, AdapterTold, AdapterKept, CreateResource, Resolve, Load, Resource, Validate, Fragment, ObjectAt, Save, Snapshot}
 use Rattle.repository.proofs.RunLemmas.{refused-nothing}
 use Rattle.script_lines.specs.declared.form.Form.{Form}
 use Rattle.script_lines.specs.declared.form.Form.TheVariants as asks
@@ -29,7 +29,9 @@ undone before (Move n f to from) h = refl
 undone before (CreateResource t) h = refl
 undone before (Resolve o f i) h = refl
 undone before (Load k text) h = refl
-undone before (Attach number target deep view) h = put-back before number view (All-head (λ (a : Listed). box_of before a.no ≡ Ok a.view) (record { no = number; target = target; deep = deep; view = view }) [] h)
+undone before (Attach number target deep view) h = put-back before number view (All-head (λ (a : Listed). box_of before a.no ≡ Ok a.view) (record { no = number; targets = record { node = target; deep = deep } ∷ []; view = view }) [] h)
+undone before (Watch number target deep) h = refl
+undone before (Unwatch number target) h = refl
 undone before (Detach number) h = refl
 undone before (Get n f) h = refl
 undone before (IsSet n f) h = refl
@@ -68,6 +70,8 @@ bind-given s (asks.Attach number target deep) =
       | Ok v ↦ λ e. All-cons (λ (a : Listed). box_of s.pool a.no ≡ Ok a.view) _ [] e (All-nil (λ (a : Listed). box_of s.pool a.no ≡ Ok a.view))
       | Err r ↦ λ e. tt
     ] refl
+bind-given s (asks.Watch number target deep) = All-nil (λ (a : Listed). box_of s.pool a.no ≡ Ok a.view)
+bind-given s (asks.Unwatch number target) = All-nil (λ (a : Listed). box_of s.pool a.no ≡ Ok a.view)
 bind-given s (asks.Detach number) = All-nil (λ (a : Listed). box_of s.pool a.no ≡ Ok a.view)
 bind-given s (asks.Get n feature) = All-nil (λ (a : Listed). box_of s.pool a.no ≡ Ok a.view)
 bind-given s (asks.IsSet n feature) = All-nil (λ (a : Listed). box_of s.pool a.no ≡ Ok a.view)

@@ -36,6 +36,8 @@ feature_of (command.Create c) = record { 0 = NOTHING }
 feature_of (command.CreateResource t) = record { 0 = NOTHING }
 feature_of (command.Load k text) = record { 0 = NOTHING }
 feature_of (command.Attach number target deep view) = record { 0 = NOTHING }
+feature_of (command.Watch number target deep) = record { 0 = NOTHING }
+feature_of (command.Unwatch number target) = record { 0 = NOTHING }
 feature_of (command.Detach number) = record { 0 = NOTHING }
 feature_of (command.Container o) = record { 0 = NOTHING }
 feature_of (command.Resource o) = record { 0 = NOTHING }

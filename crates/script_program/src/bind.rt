@@ -66,6 +66,10 @@ pub(crate) fn bind<L: LinkStore, A: Adapter>(
             index,
         } => Request::Execute(resolve_command(repository, object, feature, index)),
         Form::Attach { no, target, deep } => attach_request(pool, no, target, deep),
+        Form::Watch { no, target, deep } => {
+            Request::Execute(Command::Watch { no, target, deep })
+        }
+        Form::Unwatch { no, target } => Request::Execute(Command::Unwatch { no, target }),
         Form::Detach(no) => Request::Execute(Command::Detach(no)),
         Form::Get { node, feature } => Request::Execute(get_command(repository, node, feature)),
         Form::IsSet { node, feature } => Request::Execute(isset_command(repository, node, feature)),

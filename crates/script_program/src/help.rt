@@ -55,12 +55,13 @@ The metamodel is a JSON document. What each line of the script answers is printe
   load r0 {\"format\":2,\"roots\":[]}  makes what a document says in an empty resource: loaded 0
   resolve #2 likes 0       puts the object that a proxy finds in its place: #1
   attach A1 #0 flat        attaches an adapter, A1 to A8 (--live: A1000), to be told of changes: ok
-  attach A2 r0 deep        attaches one that is told of changes below its target too: ok
-  detach A1                detaches an adapter: ok, its last notice, and what it has heard
+  watch A1 r0 deep         gives it one target more, here with all that is below it: true
+  unwatch A1 #0            takes a target from it; with its last one it is released: true
+  detach A1                takes all its targets: ok, its last notices, and what it has heard
   seen A1                  how many notices an adapter was told and keeps: seen 3 kept 3
 
-In place of an object, contents, attach and the lines of a feature, but resolve, take a resource
-as well, as r0, whose one feature is contents.
+In place of an object, contents, attach, watch, unwatch and the lines of a feature, but resolve,
+take a resource as well, as r0, whose one feature is contents.
 A value is null, true, false, a number, a JSON string, :LITERAL or #N. What a load leaves for an
 object of another resource is printed as `proxy \"http://m.example/b#/\"`, until it is resolved.
 

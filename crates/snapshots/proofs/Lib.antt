@@ -1,4 +1,5 @@
 pub mod FrontLemmas
+mod PositionLemmas
 pub mod PlaceLemmas
 pub mod SearchLemmas
 mod Examples

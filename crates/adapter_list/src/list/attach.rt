@@ -10,11 +10,13 @@ use crate::refusal::refusal;
 use crate::target_lists::Entry;
 use adapters::Adapter;
 use mm_types::{AdapterNo, Node, Refused, limits};
+use notice_chain::Target;
+use std::collections::VecDeque;
 
 impl<A: Adapter> AdapterList<A> {
     /// Attaches an adapter last in attach order, and reserves a place for its last notice (EMF: `eAdapters().add`).
     ///
-    /// Refused, in this order, with Limit where 100,000 are attached, AdapterTaken where the number is attached and
+    /// Refused, in this order, with Limit where there are 100,000 targets, AdapterTaken where the number is attached and
     /// AdapterFull where the adapter can't count its last notice; or with Memory when out of memory. The adapter comes back
     /// with what it has heard, and the list is unchanged.
     pub fn attach(
@@ -24,7 +26,7 @@ impl<A: Adapter> AdapterList<A> {
         deep: bool,
         mut adapter: A,
     ) -> Result<(), AttachRefused<A>>
-        ensures ok { OnOk result (self.new.0 ≡ self.old.0 ++ (record { no = no; target = target; deep = deep; view = A.heard adapter } ∷ [])) }
+        ensures ok { OnOk result (self.new.0 ≡ self.old.0 ++ (record { no = no; targets = record { node = target; deep = deep } ∷ []; view = A.heard adapter } ∷ [])) }
         ensures allowed { OnOk result (attach_refusal self.old.0 no (A.heard adapter) ≡ None) }
         ensures reason { IfErr result (λ e. but_memory e.reason ≡ attach_refusal self.old.0 no (A.heard adapter)) }
         ensures given_back { IfErr result (λ e. A.heard e.adapter ≡ A.heard adapter) }
@@ -45,6 +47,10 @@ impl<A: Adapter> AdapterList<A> {
         if self.numbers.reserve(1).is_err() {
             return refuse(Refused::Memory, adapter);
         }
+        let Ok(mut targets) = VecDeque::with_capacity(self.alloc, 1) else {
+            return refuse(Refused::Memory, adapter);
+        };
+        targets.push_back_reserved(Target { node: target, deep });
         if reserve_mark(&mut self.marks, target).is_err() {
             return refuse(Refused::Memory, adapter);
         }
@@ -57,10 +63,10 @@ impl<A: Adapter> AdapterList<A> {
         let _ = self.numbers.insert(no);
         self.attached.push_reserved(Attached {
             no,
-            target,
-            deep,
+            targets,
             adapter,
         });
+        self.targets_len += 1;
         Ok(())
     }
 
@@ -68,7 +74,7 @@ impl<A: Adapter> AdapterList<A> {
     fn list_refusal(&self, no: AdapterNo) -> Option<Refused>
         ensures { result ≡ list_refusal self.now.0 no }
     {
-        if self.attached.len() >= limits::ADAPTERS {
+        if self.targets_len >= limits::ADAPTERS {
             return Some(Refused::Limit);
         }
         if self.numbers.contains(&no) {

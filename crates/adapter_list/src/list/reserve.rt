@@ -2,6 +2,7 @@
 ghost use Rattle.std.specs.Prelude.{◌≡◌, ◌≤◌, ◌<◌, ◌+◌, ◌^◌, ◌↔◌, ℕ, map, length, slice_index, OnOk, IfErr, IsErrOf};
 ghost use Rattle.std.specs.List.{AllByRecursion};
 ghost use Rattle.adapter_list.specs.Counts.{IsFirstFull, IsReadyFor, copies_len, told_at_place};
+ghost use Rattle.adapter_list.specs.Targets.{targets_at};
 
 use super::AdapterList;
 use crate::counts::{counts_of, places_of};
@@ -9,7 +10,7 @@ use adapters::{Adapter, NoRoom};
 use notice_chain::Notice;
 
 impl<A: Adapter> AdapterList<A> {
-    /// Makes sure that each adapter has a place for each of the copies that it gets, and one more for its last notice. Each that
+    /// Makes sure that each adapter has a place for each of the copies that it gets, and one more for each of its targets. Each that
     /// gets some is asked once, in attach order, and the first that refuses decides. None loses a place.
     pub(super) fn reserve_places(&mut self, copies: &[(usize, Notice)]) -> Result<(), NoRoom>
         requires within { AllByRecursion (λ c. c.0 < length self.old.1) copies.now }
@@ -38,7 +39,7 @@ impl<A: Adapter> AdapterList<A> {
         Ok(())
     }
 
-    /// Makes sure that the adapter at `place` has a place for each of so many copies, and one more.
+    /// Makes sure that the adapter at `place` has a place for each of as many copies, and one more for each of its targets.
     fn reserve_for(&mut self, place: usize, count: usize) -> Result<(), NoRoom>
         requires within { place < length self.old.1 }
         requires fits { count < 2 ^ 63 }
@@ -46,9 +47,19 @@ impl<A: Adapter> AdapterList<A> {
         ensures as_many { length self.new.1 ≡ length self.old.1 }
         ensures no_fewer { (k : ℕ) → slice_index self.old.1 k ≤ slice_index self.new.1 k }
         ensures ok { OnOk result (IsReadyFor self.old.0 self.new.1 place count) }
-        ensures full { IsErrOf result NoRoom.Full ↔ (2 ^ 64 ≤ told_at_place self.old.0 place + (count + 1)) }
+        ensures full { IsErrOf result NoRoom.Full ↔ (2 ^ 64 ≤ told_at_place self.old.0 place + (count + targets_at self.old.0 place)) }
     {
-        self.reserve_at(place, count as u64 + 1)
+        let targets = self.targets_of(place);
+        self.reserve_at(place, count as u64 + targets as u64)
+    }
+
+    /// How many targets the adapter at `place` has.
+    pub(super) fn targets_of(&self, place: usize) -> usize
+        requires within { place < length self.now.1 }
+        ensures count { result ≡ targets_at self.now.0 place }
+        ensures few { result < 2 ^ 63 }
+    {
+        self.attached[place].targets.len()
     }
 
     /// Makes sure that the adapter at `place` has `n` places.

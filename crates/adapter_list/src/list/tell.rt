@@ -1,11 +1,12 @@
 //! Which adapters hear a notice, what is reserved for a chain, and its delivery.
-ghost use Rattle.std.specs.Prelude.{◌≡◌, ℕ, ◌≤◌, ◌<◌, ◌∷◌, [], ◌++◌, length, slice_index, false, All, OnOk, IfOk, IfErr};
+ghost use Rattle.std.specs.Prelude.{◌≡◌, ℕ, ◌≤◌, ◌<◌, ◌++◌, length, slice_index, false, All, OnOk, IfOk, IfErr};
 ghost use Rattle.links.specs.Holders.{HasNoCycle, above};
 ghost use Rattle.links.specs.LegalSets.{IsLegalSet};
 ghost use Rattle.notice_chain.specs.Listed.{audience_numbers, is_chain_full};
 ghost use Rattle.adapter_list.specs.Counts.{IsFirstFull};
-ghost use Rattle.adapter_list.specs.Hearing.{copies_at};
+ghost use Rattle.adapter_list.specs.Hearing.{AreKnown, copies_at};
 ghost use Rattle.adapter_list.specs.Refusals.{IsChainRefusal};
+ghost use Rattle.adapter_list.specs.Targets.{targets_at};
 ghost use Rattle.adapter_list.specs.Rounds.{RoundFits, RoundView, round_copies, round_of, delivered, tell_at, told_by, use_place};
 
 use super::AdapterList;
@@ -38,16 +39,23 @@ impl<A: Adapter> AdapterList<A> {
         Ok(numbers)
     }
 
-    /// Reserves all that a chain needs: for each adapter a place for each notice of it that it hears, and one more for its last
-    /// notice; and the copies of the notices. Who hears them goes by the containers that `store` has now, so it is called before
-    /// the change. Whatever the answer, the adapters have heard and keep what they did, and none has fewer places: a round that
+    /// Reserves all that a chain needs: for each adapter a place for each notice of it that it hears, and one more for each of
+    /// its targets; and the copies of the notices. Who hears them goes by the containers that `store` has now, so it is called before
+    /// the change; who hears the node of the last notice is remembered in `hearers`. Whatever the answer, the adapters have heard and keep what they did, and none has fewer places: a round that
     /// fitted them still does.
     ///
     /// Refused with AdapterFull where an adapter can't count the notices that it hears, or with Memory when out of memory. The
     /// first that refuses decides, in attach order: with AdapterFull each one before it has the places that it needs.
-    pub fn reserve_all<L: LinkStore>(&mut self, store: &L, chain: &Chain) -> Result<Round, Refused>
+    pub fn reserve_all<L: LinkStore>(
+        &mut self,
+        store: &L,
+        chain: &Chain,
+        hearers: &mut Hearers,
+    ) -> Result<Round, Refused>
         requires legal { IsLegalSet (L.links store.now) }
         requires no_cycle { HasNoCycle (L.links store.now) }
+        requires known { AreKnown (above (L.links store.now)) self.old.0 hearers.old }
+        ensures known { AreKnown (above (L.links store.now)) self.old.0 hearers.new }
         ensures kept { self.new.0 ≡ self.old.0 }
         ensures round { IfOk result (λ r. r ≡ round_of (above (L.links store.now)) chain.now self.old.0) }
         ensures fits { IfOk result (λ r. RoundFits self.new.0 self.new.1 r) }
@@ -58,7 +66,7 @@ impl<A: Adapter> AdapterList<A> {
         ensures still_fits { (r : RoundView) → RoundFits self.old.0 self.old.1 r → RoundFits self.new.0 self.new.1 r }
     {
         self.keeps_its_rules();
-        let Ok(round) = self.round(store, chain.as_slice()) else {
+        let Ok(round) = self.round(store, chain.as_slice(), hearers) else {
             return Err(Refused::Memory);
         };
         match self.reserve_places(round.copies()) {
@@ -88,7 +96,7 @@ impl<A: Adapter> AdapterList<A> {
     /// Notifies the adapter at `place`.
     fn tell_at(&mut self, place: usize, notice: Notice)
         requires within { place < length self.old.1 }
-        requires two { 2 ≤ slice_index self.old.1 place }
+        requires spare { targets_at self.old.0 place < slice_index self.old.1 place }
         ensures heard { self.new.0 ≡ tell_at self.old.0 place notice }
         ensures places { self.new.1 ≡ use_place self.old.1 place }
     {
@@ -97,15 +105,21 @@ impl<A: Adapter> AdapterList<A> {
     }
 
     /// The round of a chain. Notices of one notifier that follow each other have their hearers found once.
-    fn round<L: LinkStore>(&self, store: &L, chain: &[Notice]) -> Result<Round, AllocError>
+    fn round<L: LinkStore>(
+        &self,
+        store: &L,
+        chain: &[Notice],
+        hearers: &mut Hearers,
+    ) -> Result<Round, AllocError>
         requires legal { IsLegalSet (L.links store.now) }
         requires no_cycle { HasNoCycle (L.links store.now) }
-        ensures { IfOk result (λ r. r ≡ round_of (above (L.links store.now)) chain.now self.now.0) }
+        requires known { AreKnown (above (L.links store.now)) self.now.0 hearers.old }
+        ensures known { AreKnown (above (L.links store.now)) self.now.0 hearers.new }
+        ensures round { IfOk result (λ r. r ≡ round_of (above (L.links store.now)) chain.now self.now.0) }
     {
         let mut round = Round::new(self.alloc);
-        let mut hearers = Hearers::new(self.alloc);
         for notice in chain {
-            self.find_hearers(store, notice.notifier, &mut hearers)?;
+            self.find_hearers(store, notice.notifier, hearers)?;
             self.add_copies(&hearers.places, notice, &mut round)?;
         }
         Ok(round)

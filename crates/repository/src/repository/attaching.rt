@@ -5,10 +5,12 @@ ghost use Rattle.notice_chain.specs.Listed.{adapter};
 ghost use Rattle.repository.specs.Run.{Executed, change_outcome, read_outcome};
 ghost use Rattle.repository.specs.Step.{closed};
 ghost use Rattle.repository.specs.Views.{changed_view, outcome_view};
-ghost use Rattle.repository.specs.declared.command.Command.TheVariants.{AdapterKept, AdapterTold, Attach, Detach};
+ghost use Rattle.repository.specs.declared.command.Command.TheVariants.{AdapterKept, AdapterTold, Attach, Detach, Unwatch, Watch};
+ghost use Rattle.repository.specs.Leaving.{LetsGo};
 ghost use Rattle.repository.specs.declared.reply.Answer.TheVariants as answer;
 
 use super::Repository;
+use crate::leaving::{Leaving, let_go, one_spot, own_spots};
 use crate::reads::reply;
 use crate::reply::{Answer, Failure, Reply};
 use adapter_list::AttachRefused;
@@ -18,10 +20,10 @@ use links::LinkStore;
 use mm_types::{AdapterNo, Node, Refused, Seq};
 
 impl<L: LinkStore, A: Adapter> Repository<L, A> {
-    /// Attaches an adapter to a node, last in attach order (EMF: Notifier.eAdapters().add). A deep one is also notified of what
-    /// happens below the node.
+    /// Attaches an adapter to a node, its first target, last in attach order (EMF: Notifier.eAdapters().add). A deep one is also
+    /// notified of what happens below the node.
     ///
-    /// Refused, the first that applies: `NoObject`, `NoResource`, `Limit` where 100,000 are attached, `AdapterTaken` where the
+    /// Refused, the first that applies: `NoObject`, `NoResource`, `Limit` where there are 100,000 targets, `AdapterTaken` where the
     /// number is attached, `AdapterFull` where it can't count its last notice, `Memory`. A refused adapter comes back with what
     /// it has heard.
     pub fn attach(
@@ -42,32 +44,83 @@ impl<L: LinkStore, A: Adapter> Repository<L, A> {
         if let Err(refused) = self.adapters.attach(no, target, deep, adapter) {
             return Err(failure(refused));
         }
+        self.hearers.forget();
         Ok(reply(self.alloc, Answer::Done))
     }
 
-    /// Detaches an adapter: it is notified of REMOVING_ADAPTER, its last notice, and comes back (EMF:
-    /// Notifier.eAdapters().remove).
+    /// Gives an adapter one target more, flat or deep (EMF: Notifier.eAdapters().add of an adapter that is attached elsewhere).
+    /// Whatever brings a notice to it, it hears each once. Answers false, and nothing changes, where the node is a target of it
+    /// already; whether that one is deep stays as it is.
+    ///
+    /// Refused, the first that applies: `NoObject`, `NoResource`, `Limit` where there are 100,000 targets, `NoAdapter` where the
+    /// number is not attached, `AdapterFull` where it can't count a last notice from each target, `Memory`. At a node that is a
+    /// target of it only the first two apply.
+    pub fn watch(&mut self, no: AdapterNo, target: Node, deep: bool) -> Result<Reply<A>, Refused>
+        ensures { Executed self.old (Watch no target deep) (change_outcome (changed_view A.heard result)) self.new }
+    {
+        if let Some(refused) = node_refusal(&self.model(), target) {
+            return Err(refused);
+        }
+        let added = match self.adapters.watch(no, target, deep) {
+            Ok(added) => added,
+            Err(refused) => return Err(refused),
+        };
+        self.hearers.forget();
+        Ok(reply(self.alloc, Answer::Flag(added)))
+    }
+
+    /// Takes one target from an adapter: it is notified of REMOVING_ADAPTER, its last notice from there, and comes back if that
+    /// was its last target (EMF: Notifier.eAdapters().remove). Answers false, and nobody is notified, where the node is no target
+    /// of it.
+    ///
+    /// Refused, the first that applies: `NoObject`, `NoResource`, `NoAdapter` where the number is not attached, `Memory`.
+    pub fn unwatch(&mut self, no: AdapterNo, target: Node) -> Result<Reply<A>, Refused>
+        ensures { Executed self.old (Unwatch no target) (change_outcome (changed_view A.heard result)) self.new }
+    {
+        if let Some(refused) = node_refusal(&self.model(), target) {
+            return Err(refused);
+        }
+        if self.adapters.told(no).is_none() {
+            return Err(Refused::NoAdapter);
+        }
+        let answer = Answer::Flag(self.adapters.is_target(no, target));
+        let Ok(spots) = one_spot(self.alloc, no, target) else {
+            return Err(Refused::Memory);
+        };
+        self.release(spots, answer)
+    }
+
+    /// Detaches an adapter from all its targets, in the order in which it got them: it is notified of REMOVING_ADAPTER from each, and
+    /// comes back (EMF: Notifier.eAdapters().remove).
     ///
     /// Refused with `NoAdapter` where the number is not attached, or `Memory`.
     pub fn detach(&mut self, no: AdapterNo) -> Result<Reply<A>, Refused>
         ensures { Executed self.old (Detach no) (change_outcome (changed_view A.heard result)) self.new }
     {
-        if self.adapters.told(no).is_none() {
+        let Some(targets) = self.adapters.targets(no) else {
             return Err(Refused::NoAdapter);
-        }
-        let (Ok(mut told), Ok(mut released)) = (
-            Vec::with_capacity(self.alloc, 1),
-            Vec::with_capacity(self.alloc, 1),
-        ) else {
+        };
+        let Ok(spots) = own_spots(self.alloc, no, targets) else {
             return Err(Refused::Memory);
         };
-        let Some((notice, adapter)) = self.adapters.detach(no) else {
-            return Err(Refused::NoAdapter);
+        self.release(spots, Answer::Done)
+    }
+
+    /// Lets targets go, and answers this. Refused with `Memory` alone.
+    fn release(
+        &mut self,
+        spots: Vec<(AdapterNo, Node)>,
+        answer: Answer,
+    ) -> Result<Reply<A>, Refused>
+        ensures { LetsGo self.old spots.items answer (changed_view A.heard result) self.new }
+    {
+        let Ok(leaving) = Leaving::reserve(self.alloc, spots, 0) else {
+            return Err(Refused::Memory);
         };
-        told.push_reserved((no, notice));
-        released.push_reserved((no, adapter));
+        self.hearers.forget();
+        let (told, released) = let_go(&mut self.adapters, leaving, Vec::new(self.alloc));
         Ok(Reply {
-            answer: Answer::Done,
+            answer,
             told: Seq::from_vec(told),
             released: Seq::from_vec(released),
         })
@@ -97,8 +150,8 @@ impl<L: LinkStore, A: Adapter> Repository<L, A> {
         }
     }
 
-    /// Gives every adapter back, in attach order: each is notified of REMOVING_ADAPTER, and is gone before the next one is
-    /// notified. Takes no memory.
+    /// Gives every adapter back, in attach order: each is notified of REMOVING_ADAPTER from each of its targets, and is gone before
+    /// the next one is notified. Takes no memory.
     pub fn close(self) -> Vec<(AdapterNo, A)>
         ensures { map (λ b. (b.0, A.heard b.1)) result.items ≡ closed self }
     {

@@ -65,8 +65,8 @@ impl<L: LinkStore, A: Adapter> Repository<L, A> {
 
     /// Destroys an object and all that is below it, and takes them out of every end that holds them (EMF: EcoreUtil.delete,
     /// recursively). Their numbers are given to no other object. Notifies the adapters at each end of another node that loses something, by
-    /// feature number, then by node, then by position, and last at the end that contained the object. Then the adapters at what is
-    /// destroyed are released, each with its last notice, and handed out. Answers how many objects were destroyed.
+    /// feature number, then by node, then by position, and last at the end that contained the object. Then the targets that are
+    /// destroyed go: each adapter is notified of that, and handed out if it has no other target. Answers how many objects were destroyed.
     ///
     /// Refused, the first that applies: `NoObject`, `AdapterFull`, `Memory`.
     pub fn delete(&mut self, object: ObjectNo) -> Result<Reply<A>, Refused>
@@ -100,7 +100,7 @@ impl<L: LinkStore, A: Adapter> Repository<L, A> {
         };
         let Prepared {
             answer,
-            places,
+            spots,
             planned,
         } = prepared;
         let (round, leaving) = match reserve(
@@ -109,16 +109,23 @@ impl<L: LinkStore, A: Adapter> Repository<L, A> {
             &mut self.values,
             &mut self.adapters,
             &planned,
-            places,
+            spots,
+            &mut self.hearers,
         ) {
             Ok(reserved) => reserved,
             Err(refused) => return Err(refused),
         };
-        forget_touched(&mut self.paths, &self.meta, &planned.edits);
+        forget_touched(
+            &mut self.paths,
+            &mut self.hearers,
+            &self.meta,
+            &planned.edits,
+            leaving.is_some(),
+        );
         // The edits.
         self.store.apply(planned.edits);
         self.values.apply(planned.values);
-        // The notices, and then the last ones of the adapters that leave.
+        // The notices, and then the last ones from the targets that go.
         let (told, released) = notify(self.alloc, &mut self.adapters, round, leaving);
         Ok(Reply {
             answer,

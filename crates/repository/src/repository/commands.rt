@@ -66,6 +66,8 @@ impl<L: LinkStore, A: Adapter> Repository<L, A> {
                 deep,
                 adapter,
             } => self.attach(no, target, deep, adapter),
+            Command::Watch { no, target, deep } => outcome(self.watch(no, target, deep)),
+            Command::Unwatch { no, target } => outcome(self.unwatch(no, target)),
             Command::Detach(no) => outcome(self.detach(no)),
             Command::Get { node, feature } => outcome(replied(alloc, self.e_get(node, feature))),
             Command::IsSet { node, feature } => {

@@ -2,7 +2,7 @@ use Rattle.std.proofs.Common.{◌∙◌, ap}
 use Rattle.std.specs.Prelude.{unwrap_or}
 use Rattle.std.proofs.lemmas.Result.{err_from_is_err_and}
 use Rattle.models.specs.Model.{reading}
-use Rattle.repository.proofs.LeavingLemmas.{leavers_found, whole-answer}
+use Rattle.repository.proofs.LeavingLemmas.{spots-found, whole-answer}
 use Rattle.repository.proofs.LoadLemmas.{proper-read}
 use Rattle.repository.proofs.PlanLemmas.{plan_refusal}
 use Rattle.repository.proofs.preparing.prepare.Goals as goal
@@ -20,5 +20,8 @@ returns-clause-answer g c = λ rs text proper.
     c.unwrap_or.ensures ∙ ap (unwrap_or c.in_ok-answer.answer) c.planned_answer.ensures
     ∙ whole-answer (reading c.args.model.now) rs text c.args.change _ _ _ (c.in_ok-answer.ensures rs text proper) c.in_ok-planned.ensures.allowed c.in_ok-planned.ensures.removed c.in_ok-planned.ensures.found
 
-pub returns-clause-places : goal.returns-clause-places
-returns-clause-places g c = leavers_found (reading c.args.model.now) c.args.change _ c.args.adapters.now.0 _ c.in_ok-planned.ensures.removed c.in_ok-places.ensures
+pub spots_gone-requires : goal.spots_gone-requires
+spots_gone-requires g c = (reading c.args.model.now, c.in_ok-planned.ensures.removed.found)
+
+pub returns-clause-spots : goal.returns-clause-spots
+returns-clause-spots g c = c.in_ok-spots.ensures ∙ spots-found (reading c.args.model.now) c.args.change _ c.args.adapters.now.0 c.in_ok-planned.ensures.removed

@@ -1,4 +1,4 @@
-use Rattle.std.proofs.Common.{◌≡◌, ◌∙◌, ◌++◌, ℕ, inl, inr, List, [], ap, append-nil, subst, sym}
+use Rattle.std.proofs.Common.{◌≡◌, ◌∙◌, ◌++◌, ℕ, inl, inr, List, ap, append-nil, subst, sym}
 use Rattle.script_lines.specs.Lines.{lines}
 use Rattle.script_program.specs.Batch.{RunsBatch}
 use Rattle.script_program.specs.Dressed.{dressed, dressed_from, kept}

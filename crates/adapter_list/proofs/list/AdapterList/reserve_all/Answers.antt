@@ -1,10 +1,11 @@
-use Rattle.std.proofs.Common.{◌≡◌, ◌<◌, List, ℕ, length, slice_index, true, ap, sym, subst, ◌∙◌}
+use Rattle.std.proofs.Common.{◌≡◌, ◌+◌, ◌<◌, ◌≤◌, List, ℕ, length, slice_index, true, ap, sym, subst, ◌∙◌}
 use Rattle.links.specs.Holders.{above}
 use Rattle.adapters.specs.declared.adapter.NoRoom.TheVariants as room
 use Rattle.notice_chain.specs.Listed.{Listed, is_chain_full}
 use Rattle.notice_chain.specs.declared.notice.Notice.{Notice}
 use Rattle.adapter_list.specs.Counts.{IsFirstFull, IsFullFor, IsReadyFor, copies_len}
 use Rattle.adapter_list.specs.Rounds.{RoundView, RoundFits, heard_at, round_copies, round_of}
+use Rattle.adapter_list.specs.Targets.{targets_at}
 use Rattle.adapter_list.proofs.DeliveryLemmas.{AreWithin}
 use Rattle.adapter_list.proofs.ReserveLemmas.{chain-counted, chain-full, full-from, refusal-is}
 use Rattle.adapter_list.proofs.RoundLemmas.{CopiesFit-round_copies, copies_for-round_copies, told_by-round_copies, within-round_copies}
@@ -15,7 +16,7 @@ reserve_places-requires g c =
     let up = above (g.L.LinkStore.links c.args.store.now) in
     let ns = c.as_slice.result.now in
     let rs = c.args.self.now.0 in
-    let copies : c.copies.result.now ≡ round_copies up ns rs = c.copies.ensures ∙ ap (λ (r : RoundView). r.copies) c.in-Ok.ensures in
+    let copies : c.copies.result.now ≡ round_copies up ns rs = c.copies.ensures ∙ ap (λ (r : RoundView). r.copies) c.in-Ok.ensures.round in
     record { within = subst (λ (cs : List (ℕ × Notice)). AreWithin (length c.args.self.now.1) cs) (sym copies) (subst (λ (n : ℕ). AreWithin n (round_copies up ns rs)) (sym c.keeps_its_rules.ensures.places) (within-round_copies up ns rs)) }
 
 pub returns-in-Ok-reserve_places-clause-fits : goal.returns-in-Ok-reserve_places-clause-fits
@@ -24,12 +25,12 @@ returns-in-Ok-reserve_places-clause-fits g c =
     let ns = c.as_slice.result.now in
     let rs = c.args.self.now.0 in
     let ps = c.reserve_places.new.self.1 in
-    let copies : c.copies.result.now ≡ round_copies up ns rs = c.copies.ensures ∙ ap (λ (r : RoundView). r.copies) c.in-Ok.ensures in
+    let copies : c.copies.result.now ≡ round_copies up ns rs = c.copies.ensures ∙ ap (λ (r : RoundView). r.copies) c.in-Ok.ensures.round in
     let long : length rs ≡ length ps = sym (c.in-Ok-reserve_places.ensures.as_many ∙ c.keeps_its_rules.ensures.places) in
     let ready : (k : ℕ) → IsReadyFor rs ps k (copies_len (round_copies up ns rs) k) = λ k. subst (λ (cs : List (ℕ × Notice)). IsReadyFor rs ps k (copies_len cs k)) copies (c.in-Ok-reserve_places.ensures.ok k) in
-    let room : (k : ℕ) → k < length ps → length (heard_at up ns rs k) < slice_index ps k = λ k low. subst (λ (ms : List Notice). length ms < slice_index ps k) (copies_for-round_copies up ns rs k) ((ready k).places low) in
+    let room : (k : ℕ) → k < length ps → length (heard_at up ns rs k) + targets_at rs k ≤ slice_index ps k = λ k low. subst (λ (ms : List Notice). length ms + targets_at rs k ≤ slice_index ps k) (copies_for-round_copies up ns rs k) ((ready k).places low) in
     let fits : RoundFits rs ps (round_of up ns rs) = record { copies_fit = CopiesFit-round_copies up ns rs ps long room; told_is = sym (told_by-round_copies up ns rs) } in
-    subst (λ (qs : List Listed). RoundFits qs ps c.in-Ok.round) (sym c.in-Ok-reserve_places.ensures.kept) (subst (λ (r : RoundView). RoundFits rs ps r) (sym c.in-Ok.ensures) fits)
+    subst (λ (qs : List Listed). RoundFits qs ps c.in-Ok.round) (sym c.in-Ok-reserve_places.ensures.kept) (subst (λ (r : RoundView). RoundFits rs ps r) (sym c.in-Ok.ensures.round) fits)
 
 pub returns-in-Ok-reserve_places-clause-counted : goal.returns-in-Ok-reserve_places-clause-counted
 returns-in-Ok-reserve_places-clause-counted g c =
@@ -37,7 +38,7 @@ returns-in-Ok-reserve_places-clause-counted g c =
     let ns = c.as_slice.result.now in
     let rs = c.args.self.now.0 in
     let ps = c.reserve_places.new.self.1 in
-    let copies : c.copies.result.now ≡ round_copies up ns rs = c.copies.ensures ∙ ap (λ (r : RoundView). r.copies) c.in-Ok.ensures in
+    let copies : c.copies.result.now ≡ round_copies up ns rs = c.copies.ensures ∙ ap (λ (r : RoundView). r.copies) c.in-Ok.ensures.round in
     let ready : (k : ℕ) → IsReadyFor rs ps k (copies_len (round_copies up ns rs) k) = λ k. subst (λ (cs : List (ℕ × Notice)). IsReadyFor rs ps k (copies_len cs k)) copies (c.in-Ok-reserve_places.ensures.ok k) in
     ap (λ (ms : List Notice). is_chain_full up ms rs) (sym c.as_slice.ensures) ∙ chain-counted up ns rs ps ready
 
@@ -46,7 +47,7 @@ returns-in-Err-clause-reason g c =
     let up = above (g.L.LinkStore.links c.args.store.now) in
     let ns = c.as_slice.result.now in
     let rs = c.args.self.now.0 in
-    let copies : c.copies.result.now ≡ round_copies up ns rs = c.copies.ensures ∙ ap (λ (r : RoundView). r.copies) c.in-Ok.ensures in
+    let copies : c.copies.result.now ≡ round_copies up ns rs = c.copies.ensures ∙ ap (λ (r : RoundView). r.copies) c.in-Ok.ensures.round in
     let full : c.in-Err.reason ≡ room.Full → is_chain_full up c.args.chain.now rs ≡ true =
     λ is. let one = c.in-Err.ensures.full is in
     ap (λ (ms : List Notice). is_chain_full up ms rs) (sym c.as_slice.ensures) ∙ chain-full up ns rs one.0 (subst (λ (cs : List (ℕ × Notice)). IsFullFor rs cs one.0) copies one.1.full) in
@@ -57,6 +58,6 @@ returns-in-Err-clause-first g c = λ is.
     let up = above (g.L.LinkStore.links c.args.store.now) in
     let rs = c.args.self.now.0 in
     let qs = c.reserve_places.new.self.1 in
-    let copies : c.copies.result.now ≡ round_copies up c.args.chain.now rs = c.copies.ensures ∙ ap (λ (r : RoundView). r.copies) c.in-Ok.ensures ∙ ap (λ (ms : List Notice). round_copies up ms rs) c.as_slice.ensures in
+    let copies : c.copies.result.now ≡ round_copies up c.args.chain.now rs = c.copies.ensures ∙ ap (λ (r : RoundView). r.copies) c.in-Ok.ensures.round ∙ ap (λ (ms : List Notice). round_copies up ms rs) c.as_slice.ensures in
     let one = c.in-Err.ensures.full (full-from c.in-Err.reason (sym c.refusal.ensures ∙ is)) in
     (one.0, subst (λ (cs : List (ℕ × Notice)). IsFirstFull rs qs cs one.0) copies one.1)

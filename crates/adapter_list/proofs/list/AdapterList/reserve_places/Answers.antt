@@ -4,6 +4,7 @@ use Rattle.std.specs.List.Sorted.{IsStrictlySortedBy}
 use Rattle.std.specs.Ordering.{nat_cmp}
 use Rattle.notice_chain.specs.Listed.{Listed}
 use Rattle.adapter_list.specs.Counts.{IsFullFor, IsReadyFor, copies_len, is_place_of, told_at_place}
+use Rattle.adapter_list.specs.Targets.{targets_at}
 use Rattle.adapter_list.proofs.ReserveLemmas.{asked-all, asked-more, asked-none, asked-some, asked-within, copies_len-le, count-is, first-full}
 use Rattle.adapter_list.proofs.list.AdapterList.reserve_places.Goals as goal
 
@@ -34,8 +35,8 @@ returns-in-Err-clause-full g c = λ is.
     let places : (k : ℕ) → list_any (nat_eq k) all ≡ is_place_of cs k = λ k. ap (list_any (nat_eq k)) c.deref-place-items.ensures.value ∙ c.in-Ok-places_of.ensures.places k in
     let count : c.unwrap_or-count.result ≡ copies_len cs x = c.unwrap_or-count.ensures ∙ ap (λ o. unwrap_or o 0) (c.copied.ensures ∙ c.get.ensures.value) ∙ count-is cs x _ (c.in-Ok.ensures x) in
     let within = asked-within cs all places i c.loop-place-test.true (length c.args.self.now.1) c.requires.within in
-    let past : 2 ^ 64 ≤ told_at_place c.loop-place.self.0 x + (c.unwrap_or-count.result + 1) = c.in-Err.ensures.full.0 (ap Err is) in
-    let here : 2 ^ 64 ≤ told_at_place rs x + (c.unwrap_or-count.result + 1) = subst (λ (ss : List Listed). 2 ^ 64 ≤ told_at_place ss x + (c.unwrap_or-count.result + 1)) c.loop-place.invariant.kept past in
+    let past : 2 ^ 64 ≤ told_at_place c.loop-place.self.0 x + (c.unwrap_or-count.result + targets_at c.loop-place.self.0 x) = c.in-Err.ensures.full.0 (ap Err is) in
+    let here : 2 ^ 64 ≤ told_at_place rs x + (c.unwrap_or-count.result + targets_at rs x) = subst (λ (ss : List Listed). 2 ^ 64 ≤ told_at_place ss x + (c.unwrap_or-count.result + targets_at ss x)) c.loop-place.invariant.kept past in
     let sorted : IsStrictlySortedBy nat_cmp all = subst (IsStrictlySortedBy nat_cmp) (sym c.deref-place-items.ensures.value) c.in-Ok-places_of.ensures.sorted in
     let full : IsFullFor rs cs x = record { within = omega (arith, within, c.keeps_its_rules.ensures.places); some = asked-some cs all places i c.loop-place-test.true; full = omega (arith, here, count) } in
     (x, first-full rs c.loop-place.self.1 c.reserve_for.new.self.1 cs all i sorted c.loop-place-test.true c.in-Err.ensures.as_many c.in-Err.ensures.no_fewer c.loop-place.invariant.asked full)

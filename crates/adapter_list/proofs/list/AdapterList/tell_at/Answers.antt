@@ -1,22 +1,28 @@
-use Rattle.std.proofs.Common.{rules, ◌≤◌, ◌<◌, ◌∙◌, arith, length, refl, sym, slice_index}
+use Rattle.std.proofs.Common.{rules, ◌<◌, ◌∙◌, ap, arith, length, refl, subst, sym, slice_index}
 use Rattle.std.proofs.lemmas.List.{length-map}
-use Rattle.adapter_list.specs.Attached.{places_of}
+use Rattle.adapter_list.specs.Attached.{listed, places_of}
 use Rattle.adapter_list.proofs.ListedLemmas.{listed-set, places_of-set, numbers_of-set, AreReady-set, slice_index-map}
-use Rattle.adapter_list.proofs.TiedLemmas.{tied-told}
+use Rattle.notice_chain.specs.Listed.{HasDistinctTargets, targets_len}
+use Rattle.adapter_list.specs.Targets.{entries, targets_at}
+use Rattle.adapter_list.proofs.TargetLemmas.{entries-tell_at, once-tell_at, targets_at-here, targets_len-tell_at}
 use Rattle.adapter_list.proofs.list.AdapterList.tell_at.Goals as goal
 
 pub invariant_of-self : goal.invariant_of-self
 invariant_of-self g c =
     let within : c.args.place < length c.self.inside.attached.items = rw (length-map) at (rw (← c.self.view_is) at c.requires.within) in
-    let two : 2 ≤ slice_index (places_of g.A.Adapter.places c.self.inside.attached.items) c.args.place = rw (← c.self.view_is) at c.requires.two in
+    let spare : targets_at (listed g.A.Adapter.heard c.self.inside.attached.items) c.args.place < slice_index (places_of g.A.Adapter.places c.self.inside.attached.items) c.args.place = rw (← c.self.view_is) at c.requires.spare in
     let at = slice_index-map (λ a. g.A.Adapter.places a.adapter) c.self.inside.attached.items c.args.place _ within c.index_mut-one.ensures.value in
-    let one : 1 ≤ g.A.Adapter.places c.notify_changed.new.self = omega (arith, two, at, c.notify_changed.ensures.one_place_used) in
+    let many = targets_at-here g.A.Adapter.heard c.self.inside.attached.items c.args.place _ within c.index_mut-one.ensures.value in
+    let items = c.self.inside.attached.items in
+    let heard = listed-set g.A.Adapter.heard items c.args.place c.args.notice _ _ c.index_mut-one.ensures.value (rw c.notify_changed.ensures.view) in
     record {
-      few = search rules;
-      ready = AreReady-set g.A.Adapter.heard g.A.Adapter.places c.self.inside.attached.items c.args.place _ c.self.invariant.ready (record { reserve = one; countable = c.notify_changed.ensures.countable });
+      few = c.self.invariant.few;
+      counted = c.self.invariant.counted ∙ sym (ap targets_len heard ∙ targets_len-tell_at (listed g.A.Adapter.heard items) c.args.place c.args.notice);
+      ready = AreReady-set g.A.Adapter.heard g.A.Adapter.places c.self.inside.attached.items c.args.place _ c.self.invariant.ready (record { reserve = omega (arith, spare, many, at, c.notify_changed.ensures.one_place_used); countable = c.notify_changed.ensures.countable });
       numbered = c.self.invariant.numbered ∙ sym (numbers_of-set c.self.inside.attached.items c.args.place _ _ c.index_mut-one.ensures.value refl);
       distinct = c.self.invariant.distinct;
-      tied = tied-told g.A.Adapter.heard c.self.inside.attached.items c.args.place _ _ c.index_mut-one.ensures.value c.self.inside.by_target c.self.invariant.tied c.args.notice (rw c.notify_changed.ensures.view);
+      once = subst HasDistinctTargets (sym heard) (once-tell_at (listed g.A.Adapter.heard items) c.args.place c.args.notice c.self.invariant.once);
+      tied = λ x. c.self.invariant.tied x ∙ sym (ap (entries x) heard ∙ entries-tell_at x (listed g.A.Adapter.heard items) c.args.place c.args.notice);
       none_empty = c.self.invariant.none_empty;
       marked = c.self.invariant.marked;
       unused = c.self.invariant.unused;

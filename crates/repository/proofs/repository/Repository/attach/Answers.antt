@@ -41,4 +41,4 @@ invariant_of-self-2 g c =
     let is : s.model ≡ c.model.result = sym (c.model.ensures ∙ ap (λ (t : State). t.model) (sym c.self.view_is)) in
     let there = ap (λ (m : Model). node_refusal (reading m) a.target) is ∙ sym c.node_refusal.ensures ∙ c.in_default.is in
     let done = c.in_default-attach.ensures in
-    rw done.ok (record { legal = executed-legal s _ (Attach a.no a.target a.deep (g.A.Adapter.heard a.adapter)) (Ok (record { answer = answer.Done; told = []; released = [] })) (attached s a.no a.target a.deep (g.A.Adapter.heard a.adapter) there done.allowed) c.self.invariant.legal; steady = c.self.invariant.steady; kinds_are = c.self.invariant.kinds_are; paths = c.self.invariant.paths })
+    rw done.ok (record { legal = executed-legal s _ (Attach a.no a.target a.deep (g.A.Adapter.heard a.adapter)) (Ok (record { answer = answer.Done; told = []; released = [] })) (attached s a.no a.target a.deep (g.A.Adapter.heard a.adapter) there done.allowed) c.self.invariant.legal; steady = c.self.invariant.steady; kinds_are = c.self.invariant.kinds_are; paths = c.self.invariant.paths; hearers = rw c.forget.ensures tt })

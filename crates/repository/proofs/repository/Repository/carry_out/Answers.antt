@@ -1,11 +1,14 @@
-use Rattle.std.proofs.Common.{◌≡◌, ◌∙◌, ◌++◌, ℕ, List, None, Err, nat_lt, length, sym, ap, subst}
+use Rattle.std.proofs.Common.{◌≡◌, ◌∙◌, ◌++◌, ◌<◌, ℕ, true, false, List, [], Option, Some, None, is_some, nat_lt, length, refl, sym, ap, subst}
 use Rattle.mm_values.specs.Values.{ValuesState, applied}
 use Rattle.mm_values.specs.Room.{values_of}
-use Rattle.notice_chain.specs.Listed.{Listed, tell_chain, told_list}
-use Rattle.notice_chain.specs.Released.{Released, released}
+use Rattle.notice_chain.specs.Listed.{HaveTargets, Listed, tell_chain, told_list}
+use Rattle.notice_chain.specs.Released.{Released, Spot, released}
 use Rattle.notice_chain.specs.declared.notice.Notice.{Notice}
 use Rattle.adapter_list.specs.Attached.{views_of}
+use Rattle.adapter_list.specs.Hearing.{AreKnown}
 use Rattle.adapter_list.specs.Rounds.{RoundView, delivered, round_copies}
+use Rattle.links.specs.Holders.{above}
+use Rattle.repository.specs.declared.leaving.Leaving.{Leaving}
 use Rattle.adapter_list.proofs.RoundLemmas.{delivered-round_copies}
 use Rattle.links.specs.Links.{Links}
 use Rattle.links.specs.Plans as links
@@ -17,25 +20,28 @@ use Rattle.models.specs.Legal.{kinds_of}
 use Rattle.models.specs.Model.{Model, model_of, reading}
 use Rattle.models.specs.Steady.{HasSteadyTexts}
 use Rattle.handshake.specs.Effects.{after}
-use Rattle.handshake.specs.Laws.{goes_with}
 use Rattle.handshake.specs.Plans.{IsPlanOf}
 use Rattle.handshake.specs.Refusals.{early_refusal}
 use Rattle.handshake.specs.Tellings.{chain}
 use Rattle.handshake.proofs.ProxyLemmas.{change-keeps-steady}
 use Rattle.repository.specs.Answers.{answer_of}
-use Rattle.repository.specs.Leaving.{leavers}
+use Rattle.repository.specs.Leaving.{going_with, leavers, spots_in}
 use Rattle.repository.specs.Proper.{IsProper}
 use Rattle.repository.specs.Refusals.{IsPlanRefusal}
 use Rattle.repository.specs.Views.{command_of}
 use Rattle.repository.specs.Repository.{KeepsFragments, state}
-use Rattle.repository.specs.State.{IsLegal, State, reads}
+use Rattle.repository.specs.State.{IsLegal, IsLegalAdapter, State, reads}
+use Rattle.std.proofs.lemmas.List.Elements.{All-weaker}
 use Rattle.repository.proofs.AdapterLemmas.{Heard, heard_where_attached}
-use Rattle.repository.proofs.LeavingLemmas.{leavers_known}
-use Rattle.repository.proofs.RememberedLemmas.{kept-after}
+use Rattle.repository.proofs.RememberedLemmas.{hearers-after, kept-after, known-delivered}
 use Rattle.repository.proofs.PlanLemmas.{chain_err, changed_to, planned_err, releases_of}
 use Rattle.repository.proofs.LegalLemmas.{stepped-legal}
 use Rattle.repository.proofs.LoadLemmas.{proper-steady}
 use Rattle.repository.proofs.repository.Repository.carry_out.Goals as goal
+
+none-go : {A : Type 0} (q : Option (Leaving A)) → is_some q ≡ false → spots_in q ≡ []
+none-go None h = refl
+none-go (Some x) h = absurd (let no : true ≡ false = h in cc)
 
 pub returns-in-Err : goal.returns-in-Err
 returns-in-Err g c =
@@ -61,13 +67,8 @@ returns-in-Err-reserve g c =
     rw (← c.self.view_is, c.reserve.ensures.links, c.reserve.ensures.values, c.reserve.ensures.adapters)
     (chain_err s text c.args.change c.in-Ok.prepared.planned.chain c.in-Err-reserve.refused proper early plan.allowed heard c.in-Err-reserve.ensures.reason)
 
-pub notify-told-requires-clause-leavers : goal.notify-told-requires-clause-leavers
-notify-told-requires-clause-leavers g c =
-    let s : State = state g.L.LinkStore.links c.self.inside in
-    let is : c.model-model.result ≡ s.model = c.model-model.ensures ∙ ap (λ (t : State). t.model) (sym c.self.view_is) in
-    let gone = goes_with (reads s) c.args.change in
-    let are = leavers_known s.model c.model-model.result c.args.change _ _ _ _ is c.reserve.ensures.adapters c.in-Ok.ensures.places c.in-Ok-reserve.ensures.places in
-    (gone, are)
+pub notify-told-requires-clause-some : goal.notify-told-requires-clause-some
+notify-told-requires-clause-some g c = subst HaveTargets (sym c.reserve.ensures.adapters) (All-weaker (IsLegalAdapter _) (λ (a : Listed). 0 < length a.targets) (λ a h. h.some) c.self.inside.adapters.0 c.self.invariant.legal.adapters)
 
 pub returns : goal.returns
 returns g c =
@@ -83,15 +84,15 @@ returns g c =
     let values = c.apply-2.ensures ∙ ap (λ (v : ValuesState). applied v c.in-Ok.prepared.planned.values) c.reserve.ensures.values ∙ plan.values_made in
     let made_links = c.apply.ensures.links ∙ ap (λ (l : Links). links.applied l c.in-Ok.prepared.planned.edits) c.reserve.ensures.links ∙ plan.links_made in
     let answered = subst (λ (m : Model). c.in-Ok.prepared.answer ≡ answer_of (reading m) s.adapters (command_of text c.args.change)) is (c.in-Ok.ensures.answer s.adapters text (subst (λ (m : Model). IsProper (reading m) text c.args.change) (sym is) proper)) in
-    let gone = goes_with (reads s) c.args.change in
-    let are = leavers_known s.model c.model-model.result c.args.change _ _ _ _ is c.reserve.ensures.adapters c.in-Ok.ensures.places c.in-Ok-reserve.ensures.places in
     let rs : List Listed = c.reserve.new.adapters.0 in
     let round : RoundView = c.in-Ok-reserve.reserved.0 in
     let delivery : delivered round.copies rs ≡ tell_chain up ns s.adapters = ap (λ (r : RoundView). delivered r.copies rs) c.in-Ok-reserve.ensures.round ∙ ap (delivered (round_copies up ns s.adapters)) c.reserve.ensures.adapters ∙ delivered-round_copies up ns s.adapters in
-    let left : leavers gone round.copies rs ≡ releases_of s c.args.change ns = ap (λ (xs : List Listed). released (λ r. gone r.target) xs) delivery in
-    let told = c.from_vec.ensures ∙ c.notify-told.ensures.told gone are ∙ ap (λ (r : RoundView). r.told ++ (leavers gone round.copies rs).told) c.in-Ok-reserve.ensures.round ∙ ap (λ (x : Released). told_list up ns s.adapters ++ x.told) left in
-    let views = ap (views_of g.A.Adapter.heard) c.from_vec-2.ensures ∙ c.notify-told.ensures.released gone are ∙ ap (λ (x : Released). x.views) left in
-    let adapters = c.notify-told.ensures.others gone are ∙ ap (λ (x : Released). x.others) left in
+    let ss = spots_in c.in-Ok-reserve.reserved.1 in
+    let go : ss ≡ going_with (reads s) s.adapters c.args.change = c.in-Ok-reserve.ensures.spots ∙ c.in-Ok.ensures.spots ∙ ap (λ (m : Model). going_with (reading m) s.adapters c.args.change) is in
+    let left : leavers ss round.copies rs ≡ releases_of s c.args.change ns = λ i. released (go i) (delivery i) in
+    let told = c.from_vec.ensures ∙ c.notify-told.ensures.told ∙ ap (λ (r : RoundView). r.told ++ (leavers ss round.copies rs).told) c.in-Ok-reserve.ensures.round ∙ ap (λ (x : Released). told_list up ns s.adapters ++ x.told) left in
+    let views = ap (views_of g.A.Adapter.heard) c.from_vec-2.ensures ∙ c.notify-told.ensures.released ∙ ap (λ (x : Released). x.views) left in
+    let adapters = c.notify-told.ensures.others ∙ ap (λ (x : Released). x.others) left in
     let t : State = record { model = model_of c.self.inside.meta (values_of c.apply-2.new.self) (g.L.LinkStore.links c.apply.new.self); adapters = c.notify-told.new.adapters.0 } in
     rw (← c.self.view_is)
     (changed_to s t text c.args.change ns c.in-Ok.prepared.answer c.from_vec.result (views_of g.A.Adapter.heard c.from_vec-2.result) proper early plan.allowed heard c.in-Ok-reserve.ensures.counted answered told views
@@ -108,6 +109,7 @@ invariant_of-self g c =
       steady = subst HasSteadyTexts same c.self.invariant.steady;
       kinds_are = c.reserve.ensures.kinds (kinds_of m) c.self.invariant.kinds_are;
       paths = subst (λ (x : Model). KeepsFragments (reading x) c.self.inside.paths) same c.self.invariant.paths;
+      hearers = subst (λ (l : Links). AreKnown (above l) c.reserve.new.adapters.0 c.reserve.new.hearers) (sym c.reserve.ensures.links) (subst (λ (rs : List Listed). AreKnown (above (g.L.LinkStore.links c.self.inside.store)) rs c.reserve.new.hearers) (sym c.reserve.ensures.adapters) c.reserve.ensures.known);
     }
 
 pub invariant_of-self-2 : goal.invariant_of-self-2
@@ -130,7 +132,18 @@ invariant_of-self-2 g c =
       legal = legal;
       steady = subst HasSteadyTexts (sym made) (change-keeps-steady s.model c.args.change c.self.invariant.steady (proper-steady (reads s) text c.args.change proper));
       kinds_are = c.apply.ensures.kinds (kinds_of m) (c.reserve.ensures.kinds (kinds_of m) c.self.invariant.kinds_are) plan.of_kind;
-      paths = subst (KeepsFragments (reading (model_of m w (g.L.LinkStore.links c.apply.new.self)))) (sym c.forget_touched.ensures)
+      paths = subst (KeepsFragments (reading (model_of m w (g.L.LinkStore.links c.apply.new.self)))) (sym c.forget_touched.ensures.paths)
           (subst (λ (l : Links). KeepsFragments (reading (model_of m w l)) (if touches_containment (kinds_of m) edits then map.empty else c.self.inside.paths)) (sym applied_links)
           (kept-after m (values_of c.self.inside.values) w (g.L.LinkStore.links c.self.inside.store) edits c.self.invariant.legal.model legal_after plan.fits plan.of_kind c.self.inside.paths c.self.invariant.paths));
+      hearers = c.forget_touched.ensures.hearers (above (g.L.LinkStore.links c.apply.new.self)) c.notify-told.new.adapters.0 (λ out stay.
+          let old = g.L.LinkStore.links c.self.inside.store in
+          let rs : List Listed = c.reserve.new.adapters.0 in
+          let copies = c.in-Ok-reserve.reserved.0.copies in
+          let known : AreKnown (above old) rs c.reserve.new.hearers = subst (λ (qs : List Listed). AreKnown (above old) qs c.reserve.new.hearers) (sym c.reserve.ensures.adapters) c.reserve.ensures.known in
+          let told = known-delivered (above old) copies rs c.reserve.new.hearers known in
+          let moved = hearers-after m (values_of c.self.inside.values) w old edits c.self.invariant.legal.model legal_after plan.fits plan.of_kind (delivered copies rs) c.reserve.new.hearers told out in
+          let nobody : spots_in c.in-Ok-reserve.reserved.1 ≡ [] = none-go c.in-Ok-reserve.reserved.1 (sym c.is_some.ensures ∙ stay) in
+          let others : c.notify-told.new.adapters.0 ≡ delivered copies rs = c.notify-told.ensures.others ∙ ap (λ (ss : List Spot). (leavers ss copies rs).others) nobody in
+          subst (λ (l : Links). AreKnown (above l) c.notify-told.new.adapters.0 c.reserve.new.hearers) (sym applied_links)
+          (subst (λ (qs : List Listed). AreKnown (above (links.applied old edits)) qs c.reserve.new.hearers) (sym others) moved));
     }

@@ -15,4 +15,5 @@ invariant_of-result g c =
       steady = rw (c.new.ensures, c.empty.ensures.links) (empty-steady c.args.meta);
       kinds_are = c.empty.ensures.kinds (kinds_of c.args.meta) (kinds-are c.args.meta accepted);
       paths = rw c.new-3.ensures (λ o t h. none-at _ o t h);
+      hearers = rw c.new-4.ensures tt;
     }

@@ -15,4 +15,5 @@ invariant_of-self g c =
       steady = c.self.invariant.steady;
       kinds_are = c.self.invariant.kinds_are;
       paths = kept-more (reads s) c.self.inside.paths c.keep.new.self c.args.object c.as_str.result.now c.keep.ensures found c.self.invariant.paths;
+      hearers = c.self.invariant.hearers;
     }

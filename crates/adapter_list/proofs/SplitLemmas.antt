@@ -1,0 +1,117 @@
+-- A list that is turned once around, those of no targets left out.
+use Rattle.std.proofs.Common.{le-leb, option_map, ◌≡◌, ◌≤◌, ◌+◌, ℕ, zero, suc, Bool, true, false, cond, not, nat_lt, List, [], ◌∷◌, ◌++◌, map, filter, take, length, if◌then◌else◌, refl, sym, ap, subst, ◌∙◌, arith, append_assoc}
+use Rattle.std.specs.List.{IsDistinct, cons_option, find}
+use Rattle.std.proofs.lemmas.List.{append-nil, take-append-le}
+use Rattle.std.proofs.lemmas.List.Elements.{All-filter}
+use Rattle.std.proofs.lemmas.List.Sums.{count_by-le-length, length-filter, sum_by-cons}
+use Rattle.mm_types.specs.declared.numbers.AdapterNo.{AdapterNo}
+use Rattle.mm_types.specs.declared.numbers.Node.{Node}
+use Rattle.notice_chain.specs.View.{View}
+use Rattle.notice_chain.specs.Listed.{HasDistinctTargets, Listed, is_at, same_no, targets_len}
+use Rattle.notice_chain.specs.Released.{has_targets, leaving, staying}
+use Rattle.notice_chain.specs.declared.target.Target.{Target}
+use Rattle.adapter_list.specs.Attached.{AreReady, IsReady, IsSound, listed, listed_one, numbers_of}
+use Rattle.adapter_list.specs.Targets.{AreTied, IsOnce, entries, entry_of}
+use Rattle.adapter_list.specs.declared.target_lists.Entry.{Entry}
+use Rattle.adapter_list.specs.declared.target_lists.TargetLists.{TargetLists}
+use Rattle.adapter_list.proofs.NumberLemmas.{distinct-filter}
+use Rattle.adapter_list.specs.declared.attached.Attached.{Attached}
+
+module _ {X : Type 0} (p : X → Bool) where
+  abbrev pub turn : ℕ → List X → List X
+  turn zero xs = xs
+  turn (suc k) [] = []
+  turn (suc k) (x ∷ xs) = if p x then turn k (xs ++ x ∷ []) else turn k xs
+
+  turn-behind : (xs ys : List X) → turn (length xs) (xs ++ ys) ≡ ys ++ filter p xs
+  turn-behind [] ys = sym (append-nil ys)
+  turn-behind (x ∷ xs) ys =
+      elim (p x) as (λ b. (if b then turn (length xs) ((xs ++ ys) ++ x ∷ []) else turn (length xs) (xs ++ ys)) ≡ ys ++ cond b (x ∷ filter p xs) (filter p xs)) [
+        | true ↦ ap (turn (length xs)) (append_assoc xs ys (x ∷ [])) ∙ turn-behind xs (ys ++ x ∷ []) ∙ append_assoc ys (x ∷ []) (filter p xs)
+        | false ↦ turn-behind xs ys
+      ]
+
+  pub turn-all : (xs : List X) (k : ℕ) → k ≡ length xs → turn k xs ≡ filter p xs
+  turn-all xs k e = ap (λ (j : ℕ). turn j xs) e ∙ ap (turn (length xs)) (sym (append-nil xs)) ∙ turn-behind xs []
+
+  module _ (xs rest : List X) (x : X) (j k : ℕ) (is : xs ≡ x ∷ rest) (next : j ≡ suc k) where
+    pub turn-kept : p x ≡ true → turn k (rest ++ x ∷ []) ≡ turn j xs
+    turn-kept e = sym (ap (λ (i : ℕ). turn i xs) next ∙ ap (turn (suc k)) is ∙ ap (λ b. if b then turn k (rest ++ x ∷ []) else turn k rest) e)
+
+    pub turn-gone : p x ≡ false → turn k rest ≡ turn j xs
+    turn-gone e = sym (ap (λ (i : ℕ). turn i xs) next ∙ ap (turn (suc k)) is ∙ ap (λ b. if b then turn k (rest ++ x ∷ []) else turn k rest) e)
+
+module _ {A : Type 0} (heard : A → View) where
+  abbrev pub has : Attached A → Bool
+  has a = has_targets (listed_one heard a)
+
+  abbrev pub leaving_of : ℕ → List (Attached A) → List (AdapterNo × View)
+  leaving_of k xs = leaving (listed heard (take k xs))
+
+  module _ (xs rest : List (Attached A)) (x : Attached A) (j k : ℕ) (is : xs ≡ x ∷ rest) (next : j ≡ suc k) where
+    pub leaving-gone : has x ≡ false → leaving_of j xs ≡ (x.no, heard x.adapter) ∷ leaving_of k rest
+    leaving-gone e = ap (λ (i : ℕ). leaving_of i xs) next ∙ ap (leaving_of (suc k)) is ∙ ap (λ b. map (λ (r : Listed). (r.no, r.view)) (cond (not b) (listed_one heard x ∷ filter (λ r. not (has_targets r)) (listed heard (take k rest))) (filter (λ r. not (has_targets r)) (listed heard (take k rest))))) e
+
+    pub leaving-kept : k ≤ length rest → has x ≡ true → leaving_of j xs ≡ leaving_of k (rest ++ x ∷ [])
+    leaving-kept few e =
+        ap (λ (i : ℕ). leaving_of i xs) next ∙ ap (leaving_of (suc k)) is ∙ ap (λ b. map (λ (r : Listed). (r.no, r.view)) (cond (not b) (listed_one heard x ∷ filter (λ r. not (has_targets r)) (listed heard (take k rest))) (filter (λ r. not (has_targets r)) (listed heard (take k rest))))) e
+        ∙ ap (λ ys. leaving (listed heard ys)) (sym (cut k rest (x ∷ []) few))
+      where
+        cut : (n : ℕ) (ys zs : List (Attached A)) → n ≤ length ys → take n (ys ++ zs) ≡ take n ys
+        cut n ys zs h = rw take-append-le
+
+----------------------------------------------------------------- those that stay
+
+fewer : {X : Type 0} (p : X → Bool) (xs : List X) → length (filter p xs) ≤ length xs
+fewer p xs = let few = count_by-le-length p xs in omega (arith, few, length-filter p xs)
+
+-- an adapter without targets has no entry
+stay-one : (y : Node) (r : Listed) (rs : List Listed) → entries y (staying rs) ≡ entries y rs → (ts : List Target) → r.targets ≡ ts → entries y (cond (nat_lt 0 (length ts)) (r ∷ staying rs) (staying rs)) ≡ cons_option (entry_of y r) (entries y rs)
+stay-one y r rs rest [] none = rest ∙ ap (λ (ts : List Target). cons_option (option_map (λ t. let e : Entry = record { no = r.no; deep = t.deep } in e) (find (is_at y) ts)) (entries y rs)) (sym none)
+stay-one y r rs rest (t ∷ ts) some =
+    let yes : nat_lt 0 (length (t ∷ ts)) ≡ true = le-leb _ _ (omega arith) in
+    ap (λ b. entries y (cond b (r ∷ staying rs) (staying rs))) yes ∙ ap (cons_option (entry_of y r)) rest
+
+pub entries-staying : (y : Node) (rs : List Listed) → entries y (staying rs) ≡ entries y rs
+entries-staying y [] = refl
+entries-staying y (r ∷ rs) = stay-one y r rs (entries-staying y rs) r.targets refl
+
+len-one : (r : Listed) (rs : List Listed) → targets_len (staying rs) ≡ targets_len rs → (ts : List Target) → r.targets ≡ ts → targets_len (cond (nat_lt 0 (length ts)) (r ∷ staying rs) (staying rs)) ≡ length r.targets + targets_len rs
+len-one r rs rest [] none = let bare : length r.targets ≡ 0 = ap (λ (ts : List Target). length ts) none in omega (arith, rest, bare)
+len-one r rs rest (t ∷ ts) some =
+    let yes : nat_lt 0 (length (t ∷ ts)) ≡ true = le-leb _ _ (omega arith) in
+    ap (λ b. targets_len (cond b (r ∷ staying rs) (staying rs))) yes ∙ sum_by-cons (λ (q : Listed). length q.targets) r (staying rs) ∙ ap (λ (n : ℕ). length r.targets + n) rest
+
+pub targets_len-staying : (rs : List Listed) → targets_len (staying rs) ≡ targets_len rs
+targets_len-staying [] = refl
+targets_len-staying (r ∷ rs) = len-one r rs (targets_len-staying rs) r.targets refl ∙ sym (sum_by-cons (λ (q : Listed). length q.targets) r rs)
+
+module _ {A : Type 0} (heard : A → View) where
+  listed-staying : (xs : List (Attached A)) → listed heard (filter (has heard) xs) ≡ staying (listed heard xs)
+  listed-staying [] = refl
+  listed-staying (x ∷ xs) = elim (has heard x) as (λ b. listed heard (cond b (x ∷ filter (has heard) xs) (filter (has heard) xs)) ≡ cond b (listed_one heard x ∷ staying (listed heard xs)) (staying (listed heard xs))) [ true ↦ ap (λ rs. listed_one heard x ∷ rs) (listed-staying xs) | false ↦ listed-staying xs ]
+
+-- all that is known of a sound list once those without targets are taken out of the adapters
+pub record Stays {A : Type 0} (heard : A → View) (places : A → ℕ) (xs ys : List (Attached A)) (t : TargetLists) (count : ℕ) : Type 0 where
+  pub fewer : length ys ≤ length xs
+  pub now : listed heard ys ≡ staying (listed heard xs)
+  pub counted : count ≡ targets_len (listed heard ys)
+  pub ready : AreReady heard places ys
+  pub distinct : IsDistinct same_no (numbers_of ys)
+  pub once : HasDistinctTargets (listed heard ys)
+  pub tied : AreTied t (listed heard ys)
+
+pub stays : {A : Type 0} {heard : A → View} {places : A → ℕ} {xs : List (Attached A)} {keys : List AdapterNo} {t : TargetLists} {bs : List Bool} {count used room : ℕ} → IsSound heard places xs keys t bs count used room → (ys : List (Attached A)) → ys ≡ filter (has heard) xs → Stays heard places xs ys t count
+stays {heard = heard} {places = places} {xs = xs} sound ys is =
+    let rs = listed heard xs in
+    let now : listed heard ys ≡ staying rs = ap (listed heard) is ∙ listed-staying heard xs in
+    let few = fewer (has heard) xs in
+    record {
+      fewer = omega (arith, few, ap (λ (zs : List (Attached _)). length zs) is);
+      now = now;
+      counted = sound.counted ∙ sym (ap targets_len now ∙ targets_len-staying rs);
+      ready = subst (AreReady heard places) (sym is) (All-filter (has heard) (λ a. IsReady (heard a.adapter) (length a.targets.items) (places a.adapter)) xs sound.ready);
+      distinct = subst (λ (zs : List (Attached _)). IsDistinct same_no (numbers_of zs)) (sym is) (distinct-filter same_no (λ (a : Attached _). a.no) (has heard) xs (subst (IsDistinct same_no) sound.numbered sound.distinct));
+      once = subst HasDistinctTargets (sym now) (All-filter has_targets IsOnce rs sound.once);
+      tied = λ y. sound.tied y ∙ sym (ap (entries y) now ∙ entries-staying y rs);
+    }

@@ -1,0 +1,42 @@
+//! Which adapters have objects as targets.
+ghost use Rattle.std.specs.Prelude.{◌≡◌, ◌||◌, ℕ, false, IfOk, OnOk};
+ghost use Rattle.std.specs.BTreeSet.{contains};
+ghost use Rattle.std.specs.List.{list_any};
+ghost use Rattle.std.specs.Ordering.{nat_cmp};
+ghost use Rattle.mm_types.specs.declared.numbers.Node.TheVariants as node;
+ghost use Rattle.adapter_list.specs.Hearing.{touched as touched_by};
+ghost use Rattle.adapter_list.specs.Targets.{is_attached_at};
+
+use super::AdapterList;
+use crate::counts::in_order;
+use adapters::Adapter;
+use mm_types::{Node, ObjectNo};
+use std::alloc::AllocError;
+use std::collections::BTreeSet;
+
+impl<A: Adapter> AdapterList<A> {
+    /// The places, in attach order, of the adapters that have one of some objects as a target. Only the adapters of those objects
+    /// are looked at. Errs only when out of memory.
+    pub fn touched(&self, objects: &[ObjectNo]) -> Result<Vec<usize>, AllocError>
+        ensures { IfOk result (λ v. v.items ≡ touched_by objects.now self.now.0) }
+    {
+        let mut places = BTreeSet::new(self.alloc);
+        self.add_objects(objects, &mut places)?;
+        let found = in_order(self.alloc, &places)?;
+        Ok(found)
+    }
+
+    /// Adds the places of the adapters that have one of some objects as a target.
+    fn add_objects(
+        &self,
+        objects: &[ObjectNo],
+        places: &mut BTreeSet<usize>,
+    ) -> Result<(), AllocError>
+        ensures { OnOk result ((k : ℕ) → contains nat_cmp places.new k ≡ (contains nat_cmp places.old k || list_any (λ o. is_attached_at self.now.0 (node.Object o) false k) objects.now)) }
+    {
+        for object in objects {
+            self.add_marked(Node::Object(*object), false, places)?;
+        }
+        Ok(())
+    }
+}

@@ -1,0 +1,129 @@
+//! Giving an attached adapter one target more.
+ghost use Rattle.std.specs.Prelude.{◌≡◌, ◌<◌, None, Some, false, not, length, nat_lt, position, slice_index, take, OnErr, OnOk, IfOk, IfErr, if◌then◌else◌};
+ghost use Rattle.std.specs.Option.{option_map_or};
+ghost use Rattle.mm_types.specs.declared.limits.TheConstants.{ADAPTERS};
+ghost use Rattle.notice_chain.specs.Listed.{adapter, has_no, is_target, targets_len, watched};
+ghost use Rattle.adapter_list.specs.Refusals.{but_memory, target_refusal, watch_refusal};
+ghost use Rattle.adapter_list.specs.Targets.{entries, targets_at};
+
+use super::AdapterList;
+use crate::marks::{reserve_mark, set_mark};
+use crate::refusal::refusal;
+use crate::target_lists::Entry;
+use adapters::Adapter;
+use mm_types::{AdapterNo, Node, Refused, limits};
+use notice_chain::Target;
+use std::alloc::AllocError;
+
+impl<A: Adapter> AdapterList<A> {
+    /// Gives an adapter a target, the last of its targets, and reserves a place for its last notice from it. False, and nothing
+    /// changes, where the node is a target of it; whether that one is deep stays as it is.
+    ///
+    /// Refused, in this order, with Limit where there are 100,000 targets, NoAdapter where the number is not attached and
+    /// AdapterFull where the adapter can't count a last notice from each target; or with Memory when out of memory. The adapters
+    /// have heard and keep what they did.
+    pub fn watch(&mut self, no: AdapterNo, node: Node, deep: bool) -> Result<bool, Refused>
+        ensures added { IfOk result (λ added. added ≡ not (is_target no node self.old.0)) }
+        ensures ok { OnOk result (self.new.0 ≡ (if is_target no node self.old.0 then self.old.0 else watched no (record { node = node; deep = deep }) self.old.0)) }
+        ensures allowed { OnOk result (watch_refusal self.old.0 no node ≡ None) }
+        ensures reason { IfErr result (λ e. but_memory e ≡ watch_refusal self.old.0 no node) }
+        ensures kept { OnErr result (self.new.0 ≡ self.old.0) }
+    {
+        if self.is_target(no, node) {
+            return Ok(false);
+        }
+        if self.targets_len >= limits::ADAPTERS {
+            return Err(Refused::Limit);
+        }
+        let Some(place) = self.place_of(no) else {
+            return Err(Refused::NoAdapter);
+        };
+        self.add_target(place, no, node, deep)?;
+        Ok(true)
+    }
+
+    /// Whether the adapter of a number has a node as a target. Only the adapters that have it are looked at. Takes no memory.
+    pub fn is_target(&self, no: AdapterNo, node: Node) -> bool
+        ensures { result ≡ is_target no node self.now.0 }
+    {
+        self.by_target.index_of(node, no).is_some()
+    }
+
+    /// Gives the adapter at `place`, which has the number `no`, a target that it has not.
+    fn add_target(
+        &mut self,
+        place: usize,
+        no: AdapterNo,
+        node: Node,
+        deep: bool,
+    ) -> Result<(), Refused>
+        requires placed { Some place ≡ position (has_no no) self.old.0 }
+        requires within { place < length self.old.0 }
+        requires apart { is_target no node self.old.0 ≡ false }
+        requires few { targets_len self.old.0 < ADAPTERS }
+        ensures ok { OnOk result (self.new.0 ≡ watched no (record { node = node; deep = deep }) self.old.0) }
+        ensures allowed { OnOk result (target_refusal (adapter no self.old.0) ≡ None) }
+        ensures reason { IfErr result (λ e. but_memory e ≡ target_refusal (adapter no self.old.0)) }
+        ensures kept { OnErr result (self.new.0 ≡ self.old.0) }
+    {
+        self.keeps_its_rules();
+        let count = self.targets_of(place);
+        if let Err(reason) = self.reserve_at(place, count as u64 + 1) {
+            return Err(refusal(reason));
+        }
+        if self.put_target(place, no, node, deep).is_err() {
+            return Err(Refused::Memory);
+        }
+        Ok(())
+    }
+
+    /// Gives the adapter at `place`, which has the number `no` and a place in reserve for it, a target that it has not.
+    fn put_target(
+        &mut self,
+        place: usize,
+        no: AdapterNo,
+        node: Node,
+        deep: bool,
+    ) -> Result<(), AllocError>
+        requires placed { Some place ≡ position (has_no no) self.old.0 }
+        requires within { place < length self.old.0 }
+        requires apart { is_target no node self.old.0 ≡ false }
+        requires few { targets_len self.old.0 < ADAPTERS }
+        requires spare { targets_at self.old.0 place < slice_index self.old.1 place }
+        ensures ok { OnOk result (self.new.0 ≡ watched no (record { node = node; deep = deep }) self.old.0) }
+        ensures kept { OnErr result (self.new.0 ≡ self.old.0) }
+    {
+        let index = self.index_before(place, node);
+        let one = &mut self.attached[place];
+        one.targets.reserve(1)?;
+        reserve_mark(&mut self.marks, node)?;
+        self.by_target.insert(node, index, Entry { no, deep })?;
+        set_mark(&mut self.marks, node, true);
+        one.targets.push_back_reserved(Target { node, deep });
+        self.targets_len += 1;
+        Ok(())
+    }
+
+    /// How many of the adapters before `place` have a node as a target. Only those that have it are looked at.
+    fn index_before(&self, place: usize, node: Node) -> usize
+        ensures { result ≡ length (entries node (take place self.now.0)) }
+    {
+        let mut index = 0;
+        for entry in self.by_target.at(node) {
+            if self.is_before(entry.no, place) {
+                index += 1;
+            }
+        }
+        index
+    }
+
+    /// Whether the adapter of a number stands before `place`.
+    fn is_before(&self, no: AdapterNo, place: usize) -> bool
+        ensures { result ≡ option_map_or (λ k. nat_lt k place) (position (has_no no) self.now.0) false }
+    {
+        match self.place_of(no) {
+            Some(other) => other < place,
+            None => false,
+        }
+    }
+}
