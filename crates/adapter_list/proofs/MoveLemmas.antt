@@ -4,6 +4,7 @@ use Rattle.std.specs.List.{AllByRecursion, cons_option, find, list_any, position
 use Rattle.std.proofs.lemmas.Bool.{false≢true, le-ltb, lt-ltb, ltb-false, ltb-true}
 use Rattle.std.proofs.lemmas.Map.Keys.{IsDistinct-head, IsDistinct-tail}
 use Rattle.mm_types.proofs.SameLemmas.{same_node-true}
+use Rattle.mm_types.proofs.PositionLemmas.{position-first, position-rest}
 use Rattle.mm_types.specs.Same.{same_node}
 use Rattle.mm_types.specs.declared.numbers.AdapterNo.{AdapterNo}
 use Rattle.mm_types.specs.declared.numbers.Node.{Node}
@@ -110,23 +111,6 @@ entries-others x y number n (r ∷ rs) other =
     ]
 
 ----------------------------------------------------------------- where an adapter stands
-
-pub position-first : {X : Type 0} (p : X → Bool) (x : X) (xs : List X) → p x ≡ true → position p (x ∷ xs) ≡ Some 0
-position-first p x xs h =
-    let more : nat_lt 0 (length (x ∷ xs)) ≡ true = le-leb _ _ (omega arith) in
-    rw (h, more) refl
-
-pub position-rest : {X : Type 0} (p : X → Bool) (x : X) (xs : List X) → p x ≡ false → position p (x ∷ xs) ≡ option_map suc (position p xs)
-position-rest p x xs h =
-    let k = position_or_len p xs in
-    let later : position p (x ∷ xs) ≡ cond (nat_lt (1 + k) (suc (length xs))) (Some (1 + k)) None = rw h refl in
-    later ∙ elim (nat_lt k (length xs)) as (λ b. nat_lt k (length xs) ≡ b → cond (nat_lt (1 + k) (suc (length xs))) (Some (1 + k)) None ≡ option_map suc (cond b (Some k) None)) [
-      | true ↦ λ q. let inside : nat_lt (1 + k) (suc (length xs)) ≡ true = lt-ltb _ _ (omega (arith, ltb-true k (length xs) q)) in
-          let next : 1 + k ≡ suc k = omega arith in
-          rw inside (ap Some next)
-      | false ↦ λ q. let past : nat_lt (1 + k) (suc (length xs)) ≡ false = le-ltb _ _ (omega (arith, ltb-false k (length xs) q)) in
-          rw past refl
-    ] refl
 
 abbrev pub at-number : AdapterNo → Entry → Bool
 at-number number e = same_no number e.no

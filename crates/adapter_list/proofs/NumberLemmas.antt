@@ -6,7 +6,7 @@ use Rattle.std.proofs.lemmas.List.{map-append}
 use Rattle.indexmap.specs.IndexSet.{insert_key}
 use Rattle.std.proofs.lemmas.Option.{slice_get-map, slice_get_read, slice_get_past, none-some}
 use Rattle.std.proofs.lemmas.Bool.{leb-false, ltb-false}
-use Rattle.mm_types.specs.declared.limits.TheConstants.{ADAPTERS}
+use Rattle.mm_types.specs.declared.limits.TheConstants.{TARGETS}
 use Rattle.mm_types.specs.declared.numbers.AdapterNo.{AdapterNo}
 use Rattle.mm_types.specs.declared.refused.Refused.TheVariants as refused
 use Rattle.notice_chain.specs.View.{View}
@@ -47,20 +47,20 @@ module _ {A : Type 0} (heard : A → View) (xs : List (Attached A)) where
   pub adapter-absent : (number : AdapterNo) → None ≡ position (has_no number) (listed heard xs) → None ≡ adapter number (listed heard xs)
   adapter-absent number at = sym (find-position (has_no number) (listed heard xs) ∙ ap (option_and_then (slice_get (listed heard xs))) (sym at))
 
-pub below : (n : ℕ) → n < ADAPTERS → nat_le ADAPTERS n ≡ false
+pub below : (n : ℕ) → n < TARGETS → nat_le TARGETS n ≡ false
 below n h = grind (arith, h)
 
-pub list_refusal-taken : (rs : List Listed) (number : AdapterNo) → targets_len rs < ADAPTERS → true ≡ list_any (has_no number) rs → Some refused.AdapterTaken ≡ list_refusal rs number
+pub list_refusal-taken : (rs : List Listed) (number : AdapterNo) → targets_len rs < TARGETS → true ≡ list_any (has_no number) rs → Some refused.AdapterTaken ≡ list_refusal rs number
 list_refusal-taken rs number few taken = rw (below (targets_len rs) few, ← taken) refl
 
-pub list_refusal-none : (rs : List Listed) (number : AdapterNo) → targets_len rs < ADAPTERS → false ≡ list_any (has_no number) rs → None ≡ list_refusal rs number
+pub list_refusal-none : (rs : List Listed) (number : AdapterNo) → targets_len rs < TARGETS → false ≡ list_any (has_no number) rs → None ≡ list_refusal rs number
 list_refusal-none rs number few taken = rw (below (targets_len rs) few, ← taken) refl
 
 -- a number that the list takes: there is room for one more, and it is new
-pub allowed_from_none : (rs : List Listed) (number : AdapterNo) → None ≡ list_refusal rs number → (targets_len rs < ADAPTERS) × (list_any (has_no number) rs ≡ false)
-allowed_from_none rs number none = by (nat_le ADAPTERS (targets_len rs)) refl (list_any (has_no number) rs) refl none
+pub allowed_from_none : (rs : List Listed) (number : AdapterNo) → None ≡ list_refusal rs number → (targets_len rs < TARGETS) × (list_any (has_no number) rs ≡ false)
+allowed_from_none rs number none = by (nat_le TARGETS (targets_len rs)) refl (list_any (has_no number) rs) refl none
   where
-    by : (b : Bool) → nat_le ADAPTERS (targets_len rs) ≡ b → (d : Bool) → list_any (has_no number) rs ≡ d → None ≡ (cond b (Some refused.Limit) (cond d (Some refused.AdapterTaken) None)) → (targets_len rs < ADAPTERS) × (list_any (has_no number) rs ≡ false)
+    by : (b : Bool) → nat_le TARGETS (targets_len rs) ≡ b → (d : Bool) → list_any (has_no number) rs ≡ d → None ≡ (cond b (Some refused.Limit) (cond d (Some refused.AdapterTaken) None)) → (targets_len rs < TARGETS) × (list_any (has_no number) rs ≡ false)
     by true h d k e = absurd (none-some _ e)
     by false h true k e = absurd (none-some _ e)
     by false h false k e = (leb-false _ _ h, k)

@@ -9,7 +9,7 @@ use Rattle.std.proofs.lemmas.Map.Keys.{IsDistinct-head, IsDistinct-tail}
 use Rattle.mm_types.proofs.SameLemmas.{same_node-true}
 use Rattle.mm_types.specs.Same.{same_node}
 use Rattle.mm_types.specs.declared.numbers.AdapterNo.{AdapterNo}
-use Rattle.mm_types.specs.declared.limits.TheConstants.{ADAPTERS}
+use Rattle.mm_types.specs.declared.limits.TheConstants.{TARGETS}
 use Rattle.mm_types.specs.declared.numbers.Node.{Node}
 use Rattle.mm_types.specs.declared.numbers.Node.TheVariants as node
 use Rattle.mm_types.specs.declared.refused.Refused.TheVariants as refused
@@ -28,7 +28,8 @@ use Rattle.adapter_list.specs.declared.target_lists.TargetLists.{TargetLists}
 use Rattle.adapter_list.proofs.GoingLemmas.{changed-set, listed-put, total-from}
 use Rattle.adapter_list.proofs.ListedLemmas.{AreReady-at, AreReady-set, listed-set_same, numbers_of-set}
 use Rattle.adapter_list.proofs.MarkLemmas.{mark-put}
-use Rattle.adapter_list.proofs.MoveLemmas.{has-some, no-entry, position-first, position-rest, with-entry}
+use Rattle.adapter_list.proofs.MoveLemmas.{has-some, no-entry, with-entry}
+use Rattle.mm_types.proofs.PositionLemmas.{position-first, position-rest}
 use Rattle.adapter_list.proofs.NumberLemmas.{below, distinct-numbers, find-position}
 use Rattle.adapter_list.proofs.PlaceLemmas.{flipped, no-some, number-at, once-there, passes-at}
 use Rattle.adapter_list.proofs.ReserveLemmas.{targets-there, there, told-there}
@@ -217,7 +218,7 @@ module _ {A : Type 0} {heard : A → View} {places : A → ℕ} {xs : List (Atta
     listed-watched = put-there ∙ sym (changed-set number (with_target q) (listed heard xs) i (listed_one heard x) (distinct-numbers heard xs keys sound.numbered sound.distinct) stands-at has-number)
 
     -- with a place in reserve, and its entry and its mark
-    pub sound-watched : length x.targets.items < places x.adapter → count < ADAPTERS → (index : ℕ) → index ≡ length (entries q.node (take i (listed heard xs)))
+    pub sound-watched : length x.targets.items < places x.adapter → count < TARGETS → (index : ℕ) → index ≡ length (entries q.node (take i (listed heard xs)))
         → ((z : Node) → entries_in u z ≡ (if same_node q.node z then insert (entries_in t z) index (record { no = number; deep = q.deep }) else entries_in t z)) → AreSetAt bs q.node true cs
         → IsSound heard places (set xs i y) keys u cs (count + 1) used room
     sound-watched spare few index index_is entry marks =
@@ -285,7 +286,7 @@ target-allowed rs number i n at low many fits =
     ] refl
 
 -- no adapter has the number
-pub watch-unknown : (rs : List Listed) (number : AdapterNo) (x : Node) → is_target number x rs ≡ false → targets_len rs < ADAPTERS → None ≡ position (has_no number) rs → Some refused.NoAdapter ≡ watch_refusal rs number x
+pub watch-unknown : (rs : List Listed) (number : AdapterNo) (x : Node) → is_target number x rs ≡ false → targets_len rs < TARGETS → None ≡ position (has_no number) rs → Some refused.NoAdapter ≡ watch_refusal rs number x
 watch-unknown rs number x other few absent =
     let none : adapter number rs ≡ None = find-position (has_no number) rs ∙ ap (option_and_then (slice_get rs)) (sym absent) in
-    sym (ap (λ b. if b then None else if nat_le ADAPTERS (targets_len rs) then Some refused.Limit else target_refusal (adapter number rs)) other ∙ ap (λ b. if b then Some refused.Limit else target_refusal (adapter number rs)) (below (targets_len rs) few) ∙ ap target_refusal none)
+    sym (ap (λ b. if b then None else if nat_le TARGETS (targets_len rs) then Some refused.Limit else target_refusal (adapter number rs)) other ∙ ap (λ b. if b then Some refused.Limit else target_refusal (adapter number rs)) (below (targets_len rs) few) ∙ ap target_refusal none)

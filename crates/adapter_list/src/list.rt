@@ -18,7 +18,7 @@ use crate::target_lists::TargetLists;
 use adapters::Adapter;
 use indexmap::IndexSet;
 use mm_types::AdapterNo;
-use mm_types::limits::ADAPTERS;
+use mm_types::limits::TARGETS;
 use notice_chain::Target;
 use std::alloc::Global;
 use std::collections::VecDeque;
@@ -124,7 +124,7 @@ impl<A: Adapter> AdapterList<A> {
     /// adapters are distinct, none has a target twice, and each has a place in reserve for each of its targets, and can count a
     /// notice for each.
     pub fn keeps_its_rules(&self)
-        ensures few { targets_len self.now.0 ≤ ADAPTERS }
+        ensures few { targets_len self.now.0 ≤ TARGETS }
         ensures distinct { HasDistinctNumbers self.now.0 }
         ensures once { HasDistinctTargets self.now.0 }
         ensures countable { All (λ r. r.view.told + length r.targets < 2 ^ 64) self.now.0 }

@@ -1,5 +1,5 @@
-//! The nodes above a node: all of them, whether one is among them, the topmost, and the resource that it is.
-ghost use Rattle.std.specs.Prelude.{◌≡◌, IfOk};
+//! The nodes above a node: whether one is among them, the topmost, and the resource that it is.
+ghost use Rattle.std.specs.Prelude.{◌≡◌};
 ghost use Rattle.std.specs.List.{list_any};
 ghost use Rattle.std.specs.Option.{option_map};
 ghost use Rattle.mm_types.specs.Same.{same_node};
@@ -10,26 +10,6 @@ ghost use Rattle.containment.specs.Above.{resource_of, root_of as root};
 
 use links::LinkStore;
 use mm_types::{Node, ObjectNo, ResourceNo};
-use std::alloc::{AllocError, Global};
-
-/// The nodes above a node, the nearest first. Errs only when out of memory.
-pub fn nodes_above<L: LinkStore>(
-    alloc: Global,
-    store: &L,
-    node: Node,
-) -> Result<Vec<Node>, AllocError>
-    requires legal { IsLegalSet (L.links store.now) }
-    requires no_cycle { HasNoCycle (L.links store.now) }
-    ensures { IfOk result (λ v. v.items ≡ above_of (L.links store.now) node) }
-{
-    let mut found = Vec::new(alloc);
-    let mut at = node;
-    while let Some(next) = parent_of(store, at) {
-        found.push(next)?;
-        at = next;
-    }
-    Ok(found)
-}
 
 /// Whether `above` is among the nodes above `node` (EMF: EcoreUtil.isAncestor, where the two differ). No node is above itself.
 /// Takes no memory.

@@ -16,11 +16,11 @@ ghost use Rattle.handshake.specs.Tellings.{target_of};
 
 use crate::change::Change;
 use crate::target::Target;
-use crate::tie::{at_end, far_end, is_among, node_value, opposite_end};
+use crate::tie::{far_end, is_among, node_value, opposite_end};
 use links::LinkStore;
 use mm_meta::Meta;
 use mm_types::{End, Node, ObjectNo, Value};
-use models::{Found, ModelRef};
+use models::{Found, ModelRef, at_end};
 use removal::{Removal, Tie, tree_ties};
 use std::alloc::{AllocError, Global};
 

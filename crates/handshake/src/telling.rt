@@ -12,10 +12,10 @@ use crate::change::Change;
 use crate::displaced::is_plain_set;
 use crate::happening::{Happening, Telling};
 use crate::target::Target;
-use crate::tie::{at_end, far_end, node_value, opposite_end, turned};
+use crate::tie::{far_end, node_value, opposite_end, turned};
 use links::LinkStore;
 use mm_types::{End, ObjectNo, Value};
-use models::ModelRef;
+use models::{ModelRef, at_end};
 use removal::Tie;
 use std::alloc::{AllocError, Global};
 

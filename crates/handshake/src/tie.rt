@@ -3,7 +3,6 @@ ghost use Rattle.std.specs.Prelude.{◌≡◌};
 ghost use Rattle.std.specs.List.{list_any};
 ghost use Rattle.mm_types.specs.Same as same;
 ghost use Rattle.models.specs.Model.{reading};
-ghost use Rattle.models.specs.Reading.{at_end as at_end_of};
 ghost use Rattle.links.specs.Links.{far_end as far_end_of};
 ghost use Rattle.handshake.specs.Displaced as d;
 ghost use Rattle.handshake.specs.Resolving as resolving;
@@ -20,16 +19,6 @@ pub(crate) fn node_value(node: Node) -> Value
     match node {
         Node::Object(object) => Value::Object(object),
         Node::Resource(_) => Value::Null,
-    }
-}
-
-/// The end of a node under a feature.
-pub(crate) fn at_end(node: &Node, feature: &FeatureNo) -> End
-    ensures { result ≡ at_end_of node.now feature.now }
-{
-    End {
-        node: *node,
-        feature: *feature,
     }
 }
 

@@ -21,6 +21,8 @@ use Rattle.resource_docs.specs.declared.doc.Doc.{Doc}
 use Rattle.loading.specs.Loading.{contents_end, loaded, object_end, of_contents}
 use Rattle.loading.specs.Pairs.{is_near, lower_of}
 use Rattle.loading.specs.Places.{naming, place_in}
+use Rattle.loading.specs.declared.passes.Pass.{Pass}
+use Rattle.loading.specs.declared.passes.Pass.TheVariants.{Near, Proxies}
 use Rattle.loading.specs.declared.places.Naming.{Naming}
 
 -- puts an object of the document at a place
@@ -77,6 +79,11 @@ proxy_edits m n o c =
     if is_some (lower_of (shape m c.feature) c.feature) then flat_map (proxy_puts (object_end n o c.feature)) (enumerate_from 0 c.values) else []
 
 ---------------------------------------------------------------- all
+
+-- what a pass over the contents puts
+abbrev pub pass_edits : Pass → Metamodel → ℕ → ObjectNo → Content → List Edit
+pass_edits Near = near_edits
+pass_edits Proxies = proxy_edits
 
 abbrev pub load_edits : Metamodel → ℕ → ResourceNo → Doc → List Edit
 load_edits m n k doc =

@@ -9,6 +9,7 @@ mod linking;
 mod near;
 mod numbers;
 mod pairs;
+mod passes;
 mod places;
 mod proxies;
 mod values;

@@ -5,8 +5,9 @@ ghost use Rattle.mm_types.specs.declared.limits.TheConstants.{LIST_VALUES};
 ghost use Rattle.loading.specs.Fits.{IsFitting, IsNumbered};
 ghost use Rattle.loading.specs.LoadEdits as e;
 
+use crate::far;
 use crate::near::put_at;
-use crate::{far, near, proxies};
+use crate::passes::{Pass, push_objects};
 use fragment_paths::contents_end;
 use links::Edit;
 use mm_meta::Meta;
@@ -30,9 +31,9 @@ pub fn link_edits(
     let mut edits = Vec::new(alloc);
     let roots = contents_end(meta, resource);
     push_roots(meta, next, roots, doc.roots.as_slice(), &mut edits)?;
-    near::push_objects(meta, next, objects, &mut edits)?;
+    push_objects(meta, next, Pass::Near, objects, &mut edits)?;
     far::push_in_order(alloc, meta, next, doc, &mut edits)?;
-    proxies::push_objects(meta, next, objects, &mut edits)?;
+    push_objects(meta, next, Pass::Proxies, objects, &mut edits)?;
     Ok(edits)
 }
 

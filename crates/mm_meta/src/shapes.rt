@@ -1,10 +1,10 @@
-//! What a metamodel says of the shape of a feature, also of the one of resources, and the names of its classes and features.
-ghost use Rattle.std.specs.Prelude.{◌≡◌};
+//! What a metamodel says of the shape of a feature, also of the one of resources, and the names of its classes, features and literals.
+ghost use Rattle.std.specs.Prelude.{◌≡◌, option_copied, option_and_then};
 ghost use Rattle.mm_types.specs.Lookups as m;
 ghost use Rattle.mm_types.specs.Shapes.{is_full_list, shape};
 
 use crate::meta::Meta;
-use mm_types::{ClassNo, FeatureNo, Kind};
+use mm_types::{ClassNo, DataType, FeatureNo, Kind};
 
 impl Meta {
     /// Whether a class is there and is concrete.
@@ -94,6 +94,25 @@ impl Meta {
         match self.feature(feature) {
             Some(feature) => feature.name.as_str(),
             None => "",
+        }
+    }
+
+    /// The name of a literal of a feature's type; no name if the type has no literal of the index. Takes no memory.
+    pub fn literal_text(&self, feature: FeatureNo, index: u32) -> &str
+        ensures { result.now ≡ m.literal_text self.now feature index }
+    {
+        self.literal_in(feature, index).unwrap_or("")
+    }
+
+    fn literal_in(&self, feature: FeatureNo, index: u32) -> Option<&str>
+        ensures { option_copied result ≡ option_and_then (λ g. m.literal_in self.now g.kind index) (m.feature self.now feature) }
+    {
+        match &self.feature(feature)?.kind {
+            Kind::Attribute {
+                value_type: DataType::Enum(enumeration),
+                ..
+            } => self.literal(*enumeration, index),
+            _ => None,
         }
     }
 }

@@ -1,5 +1,5 @@
 -- What a resolved metamodel says of its classes, features and enumerations by number and by name.
-use Rattle.std.specs.Prelude.{ℕ, zero, suc, ◌<◌, ◌&&◌, ◌||◌, pos, Bool, true, false, not, List, [], length, map, position, slice_get, nat_lt, Option, None, is_some, option_map, option_and_then, nat_eq}
+use Rattle.std.specs.Prelude.{ℕ, zero, suc, ◌<◌, ◌&&◌, ◌||◌, pos, Bool, true, false, not, List, [], length, map, position, slice_get, nat_lt, Option, None, is_some, option_map, option_and_then, unwrap_or, nat_eq}
 use Rattle.std.specs.List.{find, list_any}
 use Rattle.std.specs.Option.{option_map_or}
 use Rattle.std.specs.Ordering.{int_eq}
@@ -98,6 +98,14 @@ is_container m f = option_map_or (λ g. is_containment_kind g.kind) (option_and_
 -- the name of a literal, and the index of a name
 abbrev pub literal : Metamodel → ℕ → ℕ → Option (List ℕ)
 literal m e i = option_and_then (λ en. slice_get en.literals i) (slice_get m.enums e)
+
+-- the name of a literal of an attribute's type, no name where there is none
+abbrev pub literal_in : Metamodel → Kind → ℕ → Option (List ℕ)
+literal_in m (Attribute (Enum e) unique unsettable default) i = literal m e i
+literal_in m _ i = None
+
+abbrev pub literal_text : Metamodel → FeatureNo → ℕ → List ℕ
+literal_text m f i = unwrap_or (option_and_then (λ g. literal_in m g.kind i) (feature m f)) []
 
 abbrev pub literal_by_name : Metamodel → ℕ → List ℕ → Option ℕ
 literal_by_name m e name = literal_named m.enums e name

@@ -12,4 +12,4 @@ mod reads;
 pub use features::{is_short, is_short_text};
 pub use lists::copied_list;
 pub use model_ref::ModelRef;
-pub use reads::{Found, copied, is_same};
+pub use reads::{Found, at_end, copied, is_same};

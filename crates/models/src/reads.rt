@@ -221,6 +221,16 @@ fn is_attribute_set(meta: &Meta, values: &Values, end: End) -> bool
     !is_same(value, default)
 }
 
+/// The end of a node under a feature.
+pub fn at_end(node: &Node, feature: &FeatureNo) -> End
+    ensures { result ≡ r.at_end node.now feature.now }
+{
+    End {
+        node: *node,
+        feature: *feature,
+    }
+}
+
 /// Whether two values are the same.
 pub fn is_same(a: &Value, b: &Value) -> bool
     ensures { result ≡ same_value a.now b.now }

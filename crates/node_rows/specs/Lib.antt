@@ -3,3 +3,4 @@ pub mod Rows
 pub mod Tables
 pub mod Cells
 pub mod Growth
+pub mod Order

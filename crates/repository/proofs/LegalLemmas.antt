@@ -7,7 +7,7 @@ use Rattle.std.proofs.lemmas.Bool.{or_parts, leb-false, ltb-false}
 use Rattle.std.proofs.lemmas.List.Elements.{All-append, All-cons, All-nil, All-head, All-tail, All-weaker}
 use Rattle.std.proofs.lemmas.List.Sums.{sum_by-cons, sum_by_push}
 use Rattle.mm_types.specs.Conditions.{◌where_so◌}
-use Rattle.mm_types.specs.declared.limits.TheConstants.{ADAPTERS}
+use Rattle.mm_types.specs.declared.limits.TheConstants.{TARGETS}
 use Rattle.mm_types.specs.declared.numbers.AdapterNo.{AdapterNo}
 use Rattle.mm_types.specs.declared.numbers.FeatureNo.{FeatureNo}
 use Rattle.mm_types.specs.declared.numbers.Node.{Node}
@@ -328,7 +328,7 @@ told-legal up r ns (a ∷ rs) free legal =
 
 -- what is needed of the adapters after a command
 pub record AreLegal (r : Reading) (rs : List Listed) : Type 0 where
-  pub few : targets_len rs ≤ ADAPTERS
+  pub few : targets_len rs ≤ TARGETS
   pub distinct : HasDistinctNumbers rs
   pub adapters : All (IsLegalAdapter r) rs
 
@@ -376,9 +376,9 @@ stays-legal r t rs keeps legal = record {
 ---------------------------------------------------------------- one more adapter, or target
 
 -- the list takes one target more, and an adapter of this number
-pub list-free : (rs : List Listed) (number : AdapterNo) → list_refusal rs number ≡ None → (targets_len rs < ADAPTERS) × (list_any (has_no number) rs ≡ false)
+pub list-free : (rs : List Listed) (number : AdapterNo) → list_refusal rs number ≡ None → (targets_len rs < TARGETS) × (list_any (has_no number) rs ≡ false)
 list-free rs number none =
-    elim (is_at_limit rs) as (λ b. is_at_limit rs ≡ b → (if b then Some Limit else if list_any (has_no number) rs then Some AdapterTaken else None) ≡ None → (targets_len rs < ADAPTERS) × (list_any (has_no number) rs ≡ false)) [
+    elim (is_at_limit rs) as (λ b. is_at_limit rs ≡ b → (if b then Some Limit else if list_any (has_no number) rs then Some AdapterTaken else None) ≡ None → (targets_len rs < TARGETS) × (list_any (has_no number) rs ≡ false)) [
       | true ↦ λ e f. absurd (subst IsThere f tt)
       | false ↦ λ e f. (leb-false _ _ e, where-none AdapterTaken _ f)
     ] refl none
@@ -445,7 +445,7 @@ watch-legal r rs number target deep early late legal =
     elim (is_target number target rs) as (λ b. is_target number target rs ≡ b → (if b then None else if is_at_limit rs then Some Limit else target_refusal (adapter number rs)) ≡ None → AreLegal r (if b then rs else watched number t rs)) [
       | true ↦ λ _ _. legal
       | false ↦ λ apart free.
-          let room : (targets_len rs < ADAPTERS) × (target_refusal (adapter number rs) ≡ None) = below free in
+          let room : (targets_len rs < TARGETS) × (target_refusal (adapter number rs) ≡ None) = below free in
           record {
             few = omega (arith, len-watched number t rs, room.0);
             distinct = subst (IsDistinct same_no) (sym (numbers-watched number t rs)) legal.distinct;
@@ -453,9 +453,9 @@ watch-legal r rs number target deep early late legal =
           }
     ] refl late
   where
-    below : (if is_at_limit rs then Some Limit else target_refusal (adapter number rs)) ≡ None → (targets_len rs < ADAPTERS) × (target_refusal (adapter number rs) ≡ None)
+    below : (if is_at_limit rs then Some Limit else target_refusal (adapter number rs)) ≡ None → (targets_len rs < TARGETS) × (target_refusal (adapter number rs) ≡ None)
     below free =
-        elim (is_at_limit rs) as (λ b. is_at_limit rs ≡ b → (if b then Some Limit else target_refusal (adapter number rs)) ≡ None → (targets_len rs < ADAPTERS) × (target_refusal (adapter number rs) ≡ None)) [
+        elim (is_at_limit rs) as (λ b. is_at_limit rs ≡ b → (if b then Some Limit else target_refusal (adapter number rs)) ≡ None → (targets_len rs < TARGETS) × (target_refusal (adapter number rs) ≡ None)) [
           | true ↦ λ e f. absurd (subst IsThere f tt)
           | false ↦ λ e f. (leb-false _ _ e, f)
         ] refl free

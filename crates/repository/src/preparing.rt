@@ -6,7 +6,6 @@ ghost use Rattle.notice_chain.specs.Listed.{Listed};
 ghost use Rattle.links.specs.Holders.{HasNoCycle, above};
 ghost use Rattle.links.specs.LegalSets.{IsLegalSet, Kinds};
 ghost use Rattle.models.specs.Model.{reading};
-ghost use Rattle.models.specs.Reading.{at_end};
 ghost use Rattle.handshake.specs.Plans.{IsPlanOf};
 ghost use Rattle.handshake.specs.Refusals.{early_refusal as early_refusal_of};
 ghost use Rattle.adapter_list.specs.Hearing.{AreKnown};
@@ -28,7 +27,7 @@ use handshake::{Change, Planned, Target, plan};
 use links::LinkStore;
 use mm_types::{AdapterNo, End, FeatureNo, Node, ObjectNo, Refused, ResourceNo};
 use mm_values::Values;
-use models::{ModelRef, copied};
+use models::{ModelRef, at_end, copied};
 use removal::Removal;
 use std::alloc::{AllocError, Global};
 
@@ -164,13 +163,4 @@ fn value_answer<L: LinkStore>(
 {
     let value = copied(alloc, model.value_in(end, index))?;
     Ok(Answer::Value(value))
-}
-
-fn at_end(node: &Node, feature: &FeatureNo) -> End
-    ensures { result ≡ at_end node.now feature.now }
-{
-    End {
-        node: *node,
-        feature: *feature,
-    }
 }

@@ -22,7 +22,8 @@ use Rattle.mm_types.specs.declared.value.Value.TheVariants as value
 use Rattle.models.specs.Legal as legal
 use Rattle.models.specs.Reading.{Reading}
 use Rattle.doc_parts.specs.Contents.{attribute_value, is_short, text_value}
-use Rattle.saved_docs.specs.Document.{literal_in, value_data}
+use Rattle.mm_types.specs.Lookups.{literal_in}
+use Rattle.saved_docs.specs.Document.{value_data}
 use Rattle.round_trip.proofs.LiteralLemmas.{literal-read}
 use Rattle.round_trip.specs.Copied.{renamed}
 

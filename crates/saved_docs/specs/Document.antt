@@ -28,14 +28,6 @@ use Rattle.saved_docs.specs.Written.{written_features}
 abbrev pub reference_text : Reading → ResourceNo → ObjectNo → List ℕ
 reference_text r k o = unwrap_or (reference r k o) []
 
--- the name of a literal of an attribute's type
-abbrev pub literal_in : Metamodel → Kind → ℕ → Option (List ℕ)
-literal_in m (Attribute (Enum e) unique unsettable default) i = lookups.literal m e i
-literal_in m _ i = None
-
-abbrev pub literal_text : Metamodel → FeatureNo → ℕ → List ℕ
-literal_text m f i = unwrap_or (option_and_then (λ g. literal_in m g.kind i) (lookups.feature m f)) []
-
 ---------------------------------------------------------------- values
 
 -- members, and these put among them: serde_json keeps them in the order of their keys
@@ -54,7 +46,7 @@ plain_data m f value.Null = null
 plain_data m f (value.Bool b) = boolean b
 plain_data m f (value.Int z) = number (of_integer z)
 plain_data m f (value.Text t) = string t
-plain_data m f (value.Literal i) = string (literal_text m f i)
+plain_data m f (value.Literal i) = string (lookups.literal_text m f i)
 plain_data m f (value.Object o) = null
 plain_data m f (value.Proxy t) = string t
 plain_data m f (value.Adapter a) = null

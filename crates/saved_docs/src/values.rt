@@ -8,7 +8,7 @@ ghost use Rattle.serde_json.specs.View.{items_of, members_view, view};
 ghost use Rattle.saved_docs.specs.Document as spec;
 ghost use Rattle.saved_docs.specs.Written as written;
 
-use crate::names::{class_name, literal_text};
+use crate::names::class_name;
 use crate::source::Source;
 use crate::written::is_written;
 use fragment_paths::reference;
@@ -69,7 +69,7 @@ fn plain_value(
         Value::Bool(truth) => Ok(JsonValue::Bool(*truth)),
         Value::Int(number) => Ok(JsonValue::from(*number)),
         Value::Text(text) => text_value(alloc, text.as_str()),
-        Value::Literal(index) => text_value(alloc, literal_text(meta, feature, *index)),
+        Value::Literal(index) => text_value(alloc, meta.literal_text(feature, *index)),
         Value::Proxy(text) => text_value(alloc, text.as_str()),
     }
 }

@@ -1,5 +1,5 @@
 -- The names that a metamodel has for what is printed.
-use Rattle.std.specs.Prelude.{ℕ, List, [], Option, Some, None, option_and_then, unwrap_or, codes}
+use Rattle.std.specs.Prelude.{ℕ, List, [], Option, Some, None, option_and_then, codes}
 use Rattle.std.specs.Option.{option_map_or}
 use Rattle.mm_types.specs.Lookups as lookups
 use Rattle.mm_types.specs.Resolved.{Metamodel}
@@ -36,7 +36,7 @@ literal_name m f value.Null = []
 literal_name m f (value.Bool b) = []
 literal_name m f (value.Int n) = []
 literal_name m f (value.Text t) = []
-literal_name m f (value.Literal i) = unwrap_or (option_and_then (λ e. lookups.literal m e i) (enum_of m f)) []
+literal_name m f (value.Literal i) = lookups.literal_text m f i
 literal_name m f (value.Object o) = []
 literal_name m f (value.Proxy t) = []
 literal_name m f (value.Adapter a) = []

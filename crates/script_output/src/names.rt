@@ -1,7 +1,5 @@
 //! The names that a metamodel has for what is printed.
 ghost use Rattle.std.specs.Prelude.{◌≡◌};
-ghost use Rattle.std.specs.Option.{option_copied, option_and_then};
-ghost use Rattle.mm_types.specs.Lookups.{literal};
 ghost use Rattle.script_output.specs.Names as n;
 
 use mm_meta::Meta;
@@ -48,13 +46,7 @@ pub fn literal_name<'a>(meta: &'a Meta, feature: FeatureNo, value: &Value) -> &'
     ensures { result.now ≡ n.literal_name meta.now feature value.now }
 {
     match value {
-        Value::Literal(index) => literal_at(meta, feature, *index).unwrap_or(""),
+        Value::Literal(index) => meta.literal_text(feature, *index),
         _ => "",
     }
-}
-
-fn literal_at<'a>(meta: &'a Meta, feature: FeatureNo, index: u32) -> Option<&'a str>
-    ensures { option_copied result ≡ option_and_then (λ e. literal meta.now e index) (n.enum_of meta.now feature) }
-{
-    meta.literal(enum_of(meta, feature)?, index)
 }

@@ -1,5 +1,4 @@
 pub mod FrontLemmas
-mod PositionLemmas
 pub mod PlaceLemmas
 pub mod SearchLemmas
 mod Examples

@@ -74,7 +74,7 @@ impl<A: Adapter> AdapterList<A> {
     fn list_refusal(&self, no: AdapterNo) -> Option<Refused>
         ensures { result ≡ list_refusal self.now.0 no }
     {
-        if self.targets_len >= limits::ADAPTERS {
+        if self.targets_len >= limits::TARGETS {
             return Some(Refused::Limit);
         }
         if self.numbers.contains(&no) {

@@ -13,7 +13,7 @@ use crate::attached::Attached;
 use crate::marks::set_mark;
 use adapters::Adapter;
 use indexmap::IndexSet;
-use mm_types::limits::ADAPTERS;
+use mm_types::limits::TARGETS;
 use mm_types::{AdapterNo, Node, Value};
 use notice_chain::{Notice, NoticeKind, Target};
 use std::collections::VecDeque;
@@ -164,7 +164,7 @@ fn tell_all_last<A: Adapter>(adapter: &mut A, no: AdapterNo, targets: &VecDeque<
 
 /// The last notice of an adapter from a target, with its index among the adapters that have that target.
 fn last_notice(no: AdapterNo, target: Node, index: usize) -> Notice
-    requires { index ≤ ADAPTERS }
+    requires { index ≤ TARGETS }
     ensures { result ≡ removing no target index }
 {
     Notice {

@@ -1,7 +1,7 @@
 //! Giving an attached adapter one target more.
 ghost use Rattle.std.specs.Prelude.{◌≡◌, ◌<◌, None, Some, false, not, length, nat_lt, position, slice_index, take, OnErr, OnOk, IfOk, IfErr, if◌then◌else◌};
 ghost use Rattle.std.specs.Option.{option_map_or};
-ghost use Rattle.mm_types.specs.declared.limits.TheConstants.{ADAPTERS};
+ghost use Rattle.mm_types.specs.declared.limits.TheConstants.{TARGETS};
 ghost use Rattle.notice_chain.specs.Listed.{adapter, has_no, is_target, targets_len, watched};
 ghost use Rattle.adapter_list.specs.Refusals.{but_memory, target_refusal, watch_refusal};
 ghost use Rattle.adapter_list.specs.Targets.{entries, targets_at};
@@ -32,7 +32,7 @@ impl<A: Adapter> AdapterList<A> {
         if self.is_target(no, node) {
             return Ok(false);
         }
-        if self.targets_len >= limits::ADAPTERS {
+        if self.targets_len >= limits::TARGETS {
             return Err(Refused::Limit);
         }
         let Some(place) = self.place_of(no) else {
@@ -60,7 +60,7 @@ impl<A: Adapter> AdapterList<A> {
         requires placed { Some place ≡ position (has_no no) self.old.0 }
         requires within { place < length self.old.0 }
         requires apart { is_target no node self.old.0 ≡ false }
-        requires few { targets_len self.old.0 < ADAPTERS }
+        requires few { targets_len self.old.0 < TARGETS }
         ensures ok { OnOk result (self.new.0 ≡ watched no (record { node = node; deep = deep }) self.old.0) }
         ensures allowed { OnOk result (target_refusal (adapter no self.old.0) ≡ None) }
         ensures reason { IfErr result (λ e. but_memory e ≡ target_refusal (adapter no self.old.0)) }
@@ -88,7 +88,7 @@ impl<A: Adapter> AdapterList<A> {
         requires placed { Some place ≡ position (has_no no) self.old.0 }
         requires within { place < length self.old.0 }
         requires apart { is_target no node self.old.0 ≡ false }
-        requires few { targets_len self.old.0 < ADAPTERS }
+        requires few { targets_len self.old.0 < TARGETS }
         requires spare { targets_at self.old.0 place < slice_index self.old.1 place }
         ensures ok { OnOk result (self.new.0 ≡ watched no (record { node = node; deep = deep }) self.old.0) }
         ensures kept { OnErr result (self.new.0 ≡ self.old.0) }

@@ -7,7 +7,7 @@ use Rattle.std.proofs.lemmas.Grind.{common_steps}
 use Rattle.mm_types.specs.Same.{same_node}
 use Rattle.mm_types.specs.declared.numbers.Node.{Node}
 use Rattle.mm_types.specs.declared.numbers.Node.TheVariants as node
-use Rattle.mm_types.specs.declared.limits.TheConstants.{ADAPTERS}
+use Rattle.mm_types.specs.declared.limits.TheConstants.{TARGETS}
 use Rattle.notice_chain.specs.Listed.{HasDistinctTargets, same_no, targets_len}
 use Rattle.notice_chain.specs.declared.target.Target.{Target}
 use Rattle.adapter_list.specs.Attached.{listed, listed_one}
@@ -36,7 +36,7 @@ invariant_of-self-2 g c =
     let now : listed heard c.push_reserved.new.self.items ≡ rs ++ listed_one heard x ∷ [] = ap (listed heard) pushed ∙ map-append (listed_one heard) items (x ∷ []) in
     let place : 1 ≤ g.A.Adapter.places c.reserve.new.self = grind (arith, common_steps) in
     let allowed = allowed_from_none rs c.args.no (rw (← c.self.view_is) at c.in_default.ensures) in
-    let few : targets_len rs < ADAPTERS = allowed.0 in
+    let few : targets_len rs < TARGETS = allowed.0 in
     let more = targets_len-push rs (listed_one heard x) t only in
     let many : length c.push_reserved.new.self.items ≡ length items + 1 = ap (λ ys. length ys) pushed ∙ length-append items (x ∷ []) in
     let new : list_any (same_no c.args.no) keys ≡ false = list_any-numbers heard items keys c.args.no c.self.invariant.numbered ∙ allowed.1 in
