@@ -13,4 +13,5 @@ pub mod MoveLemmas
 pub mod GoingLemmas
 pub mod AttachLemmas
 pub mod SplitLemmas
+pub mod SomeLemmas
 pub mod WatchLemmas

@@ -1,7 +1,7 @@
 -- What the lists per node are once one target goes, and where its adapter stands in its list.
-use Rattle.std.proofs.Common.{◌≡◌, ◌+◌, ℕ, suc, Bool, true, false, cond, not, ◌&&◌, ◌||◌, nat_eq, List, [], ◌∷◌, map, filter, length, remove, Option, Some, None, option_map, position, nat_lt, le-leb, if◌then◌else◌, refl, sym, ap, ◌∙◌, arith, eqb-true}
-use Rattle.std.specs.List.{AllByRecursion, cons_option, find, list_any, position_or_len, prefix_len}
-use Rattle.std.proofs.lemmas.Bool.{false≢true, le-ltb, lt-ltb, ltb-false, ltb-true}
+use Rattle.std.proofs.Common.{◌≡◌, ◌+◌, ℕ, suc, Bool, true, false, cond, not, ◌&&◌, ◌||◌, nat_eq, List, [], ◌∷◌, map, filter, remove, Option, Some, None, option_map, position, if◌then◌else◌, refl, sym, ap, ◌∙◌, arith, eqb-true}
+use Rattle.std.specs.List.{AllByRecursion, cons_option, find, list_any, prefix_len}
+use Rattle.std.proofs.lemmas.Bool.{false≢true}
 use Rattle.std.proofs.lemmas.Map.Keys.{IsDistinct-head, IsDistinct-tail}
 use Rattle.mm_types.proofs.SameLemmas.{same_node-true}
 use Rattle.mm_types.proofs.PositionLemmas.{position-first, position-rest}

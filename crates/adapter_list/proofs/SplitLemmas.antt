@@ -62,7 +62,7 @@ module _ {A : Type 0} (heard : A → View) where
 
 ----------------------------------------------------------------- those that stay
 
-fewer : {X : Type 0} (p : X → Bool) (xs : List X) → length (filter p xs) ≤ length xs
+pub fewer : {X : Type 0} (p : X → Bool) (xs : List X) → length (filter p xs) ≤ length xs
 fewer p xs = let few = count_by-le-length p xs in omega (arith, few, length-filter p xs)
 
 -- an adapter without targets has no entry

@@ -16,7 +16,7 @@ use Rattle.mm_types.specs.declared.refused.Refused.TheVariants as refused
 use Rattle.adapters.specs.declared.adapter.NoRoom.{NoRoom}
 use Rattle.adapters.specs.declared.adapter.NoRoom.TheVariants as room
 use Rattle.notice_chain.specs.View.{View}
-use Rattle.notice_chain.specs.Listed.{HasDistinctNumbers, HasDistinctTargets, Listed, adapter, has_no, has_target, is_at, is_target, same_no, targets_len, watched, with_target}
+use Rattle.notice_chain.specs.Listed.{HasDistinctNumbers, HasDistinctTargets, HaveTargets, Listed, adapter, has_no, has_target, is_at, is_target, same_no, targets_len, watched, with_target}
 use Rattle.notice_chain.specs.declared.target.Target.{Target}
 use Rattle.adapter_list.specs.Attached.{IsSound, listed, listed_one}
 use Rattle.adapter_list.specs.Counts.{told_at_place}
@@ -32,6 +32,7 @@ use Rattle.adapter_list.proofs.MoveLemmas.{has-some, no-entry, with-entry}
 use Rattle.mm_types.proofs.PositionLemmas.{position-first, position-rest}
 use Rattle.adapter_list.proofs.NumberLemmas.{below, distinct-numbers, find-position}
 use Rattle.adapter_list.proofs.PlaceLemmas.{flipped, no-some, number-at, once-there, passes-at}
+use Rattle.adapter_list.proofs.SomeLemmas.{some-set}
 use Rattle.adapter_list.proofs.ReserveLemmas.{targets-there, there, told-there}
 
 ----------------------------------------------------------------- one adapter
@@ -201,6 +202,9 @@ module _ {A : Type 0} {heard : A → View} {places : A → ℕ} {xs : List (Atta
         releasable = omega (arith, as-many, sound.releasable);
       }
 
+  pub some-same : y.targets.items ≡ x.targets.items → HaveTargets (listed heard xs) → HaveTargets (listed heard (set xs i y))
+  some-same targets each = subst HaveTargets (sym (listed-same heard xs i x y is same_number targets same_adapter)) each
+
   module _ (q : Target) (number : AdapterNo) (at : Some i ≡ position (has_no number) (listed heard xs)) (none : is_target number q.node (listed heard xs) ≡ false) (targets : y.targets.items ≡ x.targets.items ++ q ∷ []) where
     stands-at : slice_get (listed heard xs) i ≡ Some (listed_one heard x)
     stands-at = slice_get-map (listed_one heard) xs i ∙ ap (option_map (listed_one heard)) (slice_get_read xs (length xs) i x refl low is)
@@ -216,6 +220,9 @@ module _ {A : Type 0} {heard : A → View} {places : A → ℕ} {xs : List (Atta
     -- its adapter, with one target more
     pub listed-watched : listed heard (set xs i y) ≡ watched number q (listed heard xs)
     listed-watched = put-there ∙ sym (changed-set number (with_target q) (listed heard xs) i (listed_one heard x) (distinct-numbers heard xs keys sound.numbered sound.distinct) stands-at has-number)
+
+    pub some-watched : HaveTargets (listed heard xs) → HaveTargets (listed heard (set xs i y))
+    some-watched each = subst HaveTargets (sym put-there) (some-set (listed heard xs) i (listed_one heard x) q each)
 
     -- with a place in reserve, and its entry and its mark
     pub sound-watched : length x.targets.items < places x.adapter → count < TARGETS → (index : ℕ) → index ≡ length (entries q.node (take i (listed heard xs)))

@@ -8,16 +8,21 @@
 mod attach_refused;
 mod attached;
 mod counts;
+mod detached;
+mod going;
 mod hearers;
 pub mod laws;
 mod list;
 mod marks;
 mod refusal;
+mod release;
 mod round;
 mod target_lists;
 
 pub use attach_refused::AttachRefused;
 pub use attached::Attached;
+pub use detached::Detached;
 pub use hearers::Hearers;
 pub use list::AdapterList;
+pub use release::Release;
 pub use round::Round;

@@ -2,7 +2,7 @@
 ghost use Rattle.std.specs.Prelude.{◌≡◌, ◌+◌, ◌^◌, ◌≤◌, ◌<◌, [], length, option_map, slice_get, All, IfSome, List, position};
 ghost use Rattle.mm_types.specs.declared.numbers.AdapterNo.{AdapterNo};
 ghost use Rattle.notice_chain.specs.declared.target.Target.{Target};
-ghost use Rattle.notice_chain.specs.Listed.{HasDistinctNumbers, HasDistinctTargets, adapter, has_no, targets_len};
+ghost use Rattle.notice_chain.specs.Listed.{HasDistinctNumbers, HasDistinctTargets, HaveTargets, adapter, has_no, targets_len};
 ghost use Rattle.adapter_list.specs.Attached.{listed_one, HasReserve};
 
 mod attach;
@@ -27,34 +27,34 @@ use std::marker::Model;
 /// The attached adapters, in attach order (EMF: the adapters of all notifiers). It is seen as two lists: the adapters with their
 /// targets, by what they have heard, and how many places each has, which only a delivery mentions.
 ///
-/// Their numbers are distinct, they have at most 100,000 targets, no adapter one twice, and each has a place in reserve for each
-/// of its targets, for its last notice from it, and can count these.
+/// Their numbers are distinct. They have at most 100,000 targets, each adapter at least one, and none has one twice. Each has a
+/// place in reserve for each of its targets, for its last notice from it, and can count those notices.
 #[derive(Drop)]
 pub struct AdapterList<A: Adapter> {
-    alloc: Global,
-    attached: Vec<Attached<A>>,
+    pub(crate) alloc: Global,
+    pub(crate) attached: Vec<Attached<A>>,
     /// The numbers of `attached`, in the same order, to find an adapter by its number.
-    numbers: IndexSet<AdapterNo>,
+    pub(crate) numbers: IndexSet<AdapterNo>,
     /// For each node the adapters that have it as a target, in attach order.
-    by_target: TargetLists,
+    pub(crate) by_target: TargetLists,
     /// For each object whether it is a target of any.
-    marks: Vec<bool>,
+    pub(crate) marks: Vec<bool>,
     /// How many targets there are.
-    targets_len: usize,
+    pub(crate) targets_len: usize,
     /// Always empty: `close` fills it, and takes no memory for that.
-    released: Vec<(AdapterNo, A)>,
+    pub(crate) released: Vec<(AdapterNo, A)>,
 }
 
 impl<A: Adapter> Model for AdapterList<A> {
     ghost use Rattle.std.specs.Prelude.{List, ℕ, vec_len, vec_capacity};
     ghost use Rattle.notice_chain.specs.Listed.{Listed};
-    ghost use Rattle.adapter_list.specs.Attached.{listed, places_of, IsSound};
+    ghost use Rattle.adapter_list.specs.Attached.{listed, places_of, IsWhole};
 
     ghost Value = { List Listed × List ℕ };
 
     ghost view = { λ l. (listed A.heard l.attached.items, places_of A.places l.attached.items) };
 
-    ghost invariant = { λ l. IsSound A.heard A.places l.attached.items l.numbers.keys l.by_target l.marks.items l.targets_len (vec_len l.released) (vec_capacity l.released) };
+    ghost invariant = { λ l. IsWhole A.heard A.places l.attached.items l.numbers.keys l.by_target l.marks.items l.targets_len (vec_len l.released) (vec_capacity l.released) };
 }
 
 impl<A: Adapter> AdapterList<A> {
@@ -121,11 +121,12 @@ impl<A: Adapter> AdapterList<A> {
     }
 
     /// What holds of every list, for callers whose proofs need it: there are no more targets than there may be, the numbers of the
-    /// adapters are distinct, none has a target twice, and each has a place in reserve for each of its targets, and can count a
-    /// notice for each.
+    /// adapters are distinct, each has a target, none has one twice, and each has a place in reserve for each of its targets, and can
+    /// count a notice for each.
     pub fn keeps_its_rules(&self)
         ensures few { targets_len self.now.0 ≤ TARGETS }
         ensures distinct { HasDistinctNumbers self.now.0 }
+        ensures some { HaveTargets self.now.0 }
         ensures once { HasDistinctTargets self.now.0 }
         ensures countable { All (λ r. r.view.told + length r.targets < 2 ^ 64) self.now.0 }
         ensures reserve { HasReserve self.now.0 self.now.1 }

@@ -52,7 +52,8 @@ use Rattle.repository.specs.Laws.{KeepsLegal}
 use Rattle.notice_chain.specs.Released.{Spot, is_gone_at, is_of, released, spots, spots_of}
 use Rattle.repository.proofs.AdapterLemmas.{tell_chain-nil}
 use Rattle.repository.proofs.OthersLemmas.{distinct-push}
-use Rattle.repository.proofs.SpotLemmas.{HoldsOn, NoneGoes, both-each, left-of, others-distinct, others-each, others-free, others-len, others-some}
+use Rattle.adapter_list.proofs.SomeLemmas.{others-some}
+use Rattle.repository.proofs.SpotLemmas.{HoldsOn, NoneGoes, both-each, left-of, others-distinct, others-each, others-free, others-len}
 use Rattle.removal.specs.Outer.{gone}
 use Rattle.mm_types.proofs.SameLemmas.{same_node-self, same_node-true}
 use Rattle.std.specs.Str.{bytes_eq}

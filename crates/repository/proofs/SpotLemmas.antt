@@ -11,8 +11,8 @@ use Rattle.mm_types.specs.Same.{same_node}
 use Rattle.mm_types.specs.declared.numbers.AdapterNo.{AdapterNo}
 use Rattle.mm_types.specs.declared.numbers.Node.{Node}
 use Rattle.notice_chain.specs.View.{View}
-use Rattle.notice_chain.specs.Listed.{HasDistinctNumbers, HaveTargets, Listed, has_no, has_target, is_at, is_target, same_no, targets_len, with_changed}
-use Rattle.notice_chain.specs.Released.{Spot, has_targets, last_notice, leaving, losing, released, spots, spots_of, staying, without, without_all}
+use Rattle.notice_chain.specs.Listed.{HasDistinctNumbers, Listed, has_no, has_target, is_at, is_target, same_no, targets_len, with_changed}
+use Rattle.notice_chain.specs.Released.{Spot, has_targets, last_notice, losing, released, spots, spots_of, without, without_all}
 use Rattle.notice_chain.specs.declared.notice.Notice.{Notice}
 use Rattle.notice_chain.specs.declared.target.Target.{Target}
 use Rattle.adapter_list.proofs.MoveLemmas.{none-later, only}
@@ -84,24 +84,6 @@ pub others-each : (P : Listed → Type 0) → HoldsOn P → (ss : List Spot) (rs
 others-each P on [] rs distinct all = all
 others-each P on (s ∷ ss) rs distinct all = All-filter has_targets P (without_all (s ∷ ss) rs) (all-each P on (s ∷ ss) rs distinct all)
 
----------------------------------------------------------------- each has a target
-
-lt-true : (m n : ℕ) → nat_lt m n ≡ true → m < n
-lt-true m n h = grind (arith)
-
-some-staying : (rs : List Listed) → HaveTargets (staying rs)
-some-staying [] = All-nil (λ (r : Listed). 0 < length r.targets)
-some-staying (r ∷ rs) =
-    let P : Listed → Type 0 = λ q. 0 < length q.targets in
-    elim (has_targets r) as (λ b. has_targets r ≡ b → All P (cond b (r ∷ staying rs) (staying rs))) [
-      | true ↦ λ some. All-cons P r (staying rs) (lt-true 0 (length r.targets) some) (some-staying rs)
-      | false ↦ λ _. some-staying rs
-    ] refl
-
-pub others-some : (ss : List Spot) (rs : List Listed) → HaveTargets rs → HaveTargets (released ss rs).others
-others-some [] rs some = some
-others-some (s ∷ ss) rs some = some-staying (without_all (s ∷ ss) rs)
-
 ---------------------------------------------------------------- how many targets
 
 few-losing : (x : Node) (ts : List Target) → length (filter (λ t. not (is_at x t)) ts) ≤ length ts
@@ -137,50 +119,6 @@ len-all (s ∷ ss) rs = omega (arith, len-all ss (without s rs), len-without s r
 pub others-len : (ss : List Spot) (rs : List Listed) → targets_len (released ss rs).others ≤ targets_len rs
 others-len [] rs = omega arith
 others-len (s ∷ ss) rs = omega (arith, targets_len-staying (without_all (s ∷ ss) rs), len-all (s ∷ ss) rs)
-
----------------------------------------------------------------- how many leave
-
-abbrev bare : List Listed → List Listed
-bare rs = filter (λ r. not (has_targets r)) rs
-
-bare-first : (r : Listed) (rs : List Listed) → length (bare (r ∷ rs)) ≤ suc (length (bare rs))
-bare-first r rs = elim (has_targets r) as (λ b. length (cond (not b) (r ∷ bare rs) (bare rs)) ≤ suc (length (bare rs))) [ true ↦ omega arith | false ↦ omega arith ]
-
-bare-behind : (r : Listed) (rs : List Listed) → length (bare rs) ≤ length (bare (r ∷ rs))
-bare-behind r rs = elim (has_targets r) as (λ b. length (bare rs) ≤ length (cond (not b) (r ∷ bare rs) (bare rs))) [ true ↦ omega arith | false ↦ omega arith ]
-
-bare-same : (r : Listed) (xs ys : List Listed) → length (bare xs) ≤ suc (length (bare ys)) → length (bare (r ∷ xs)) ≤ suc (length (bare (r ∷ ys)))
-bare-same r xs ys h = elim (has_targets r) as (λ b. length (cond (not b) (r ∷ bare xs) (bare xs)) ≤ suc (length (cond (not b) (r ∷ bare ys) (bare ys)))) [ true ↦ omega (arith, h) | false ↦ omega (arith, h) ]
-
-bare-changed : (k : AdapterNo) (x : Node) (n : Notice) (rs : List Listed) → length (bare (with_changed k (losing x n) rs)) ≤ suc (length (bare rs))
-bare-changed k x n [] = omega arith
-bare-changed k x n (r ∷ rs) =
-    elim (has_no k r) as (λ b. length (bare (if b then (losing x n r ∷ rs) else r ∷ with_changed k (losing x n) rs)) ≤ suc (length (bare (r ∷ rs)))) [
-      | true ↦ omega (arith, bare-first (losing x n r) rs, bare-behind r rs)
-      | false ↦ bare-same r (with_changed k (losing x n) rs) rs (bare-changed k x n rs)
-    ]
-
-bare-without : (s : Spot) (rs : List Listed) → length (bare (without s rs)) ≤ suc (length (bare rs))
-bare-without s rs =
-    elim (is_target s.0 s.1 rs) as (λ b. length (bare (if b then with_changed s.0 (losing s.1 (last_notice s rs)) rs else rs)) ≤ suc (length (bare rs))) [
-      | true ↦ bare-changed s.0 s.1 (last_notice s rs) rs
-      | false ↦ omega arith
-    ]
-
-bare-all : (ss : List Spot) (rs : List Listed) → length (bare (without_all ss rs)) ≤ length (bare rs) + length ss
-bare-all [] rs = omega arith
-bare-all (s ∷ ss) rs = omega (arith, bare-all ss (without s rs), bare-without s rs)
-
-none-bare : (rs : List Listed) → HaveTargets rs → length (bare rs) ≡ 0
-none-bare [] some = refl
-none-bare (r ∷ rs) some =
-    let P : Listed → Type 0 = λ q. 0 < length q.targets in
-    let has : has_targets r ≡ true = le-leb _ _ (All-head P r rs some) in
-    ap (λ b. length (cond (not b) (r ∷ bare rs) (bare rs))) has ∙ none-bare rs (All-tail P r rs some)
-
--- no more leave than targets go
-pub few-leave : (ss : List Spot) (rs : List Listed) → HaveTargets rs → length (leaving (without_all ss rs)) ≤ length ss
-few-leave ss rs some = omega (arith, length-map (bare (without_all ss rs)) (λ (r : Listed). let p : AdapterNo × View = (r.no, r.view) in p), bare-all ss rs, none-bare rs some)
 
 ---------------------------------------------------------------- which targets are left
 

@@ -41,12 +41,30 @@ impl<A: Adapter> AdapterList<A> {
 
     /// Reserves all that a chain needs: for each adapter a place for each notice of it that it hears, and one more for each of
     /// its targets; and the copies of the notices. Who hears them goes by the containers that `store` has now, so it is called before
-    /// the change; who hears the node of the last notice is remembered in `hearers`. Whatever the answer, the adapters have heard and keep what they did, and none has fewer places: a round that
+    /// the change. Whatever the answer, the adapters have heard and keep what they did, and none has fewer places: a round that
     /// fitted them still does.
     ///
     /// Refused with AdapterFull where an adapter can't count the notices that it hears, or with Memory when out of memory. The
     /// first that refuses decides, in attach order: with AdapterFull each one before it has the places that it needs.
-    pub fn reserve_all<L: LinkStore>(
+    pub fn reserve_all<L: LinkStore>(&mut self, store: &L, chain: &Chain) -> Result<Round, Refused>
+        requires legal { IsLegalSet (L.links store.now) }
+        requires no_cycle { HasNoCycle (L.links store.now) }
+        ensures kept { self.new.0 ≡ self.old.0 }
+        ensures round { IfOk result (λ r. r ≡ round_of (above (L.links store.now)) chain.now self.old.0) }
+        ensures fits { IfOk result (λ r. RoundFits self.new.0 self.new.1 r) }
+        ensures counted { OnOk result (is_chain_full (above (L.links store.now)) chain.now self.old.0 ≡ false) }
+        ensures reason { IfErr result (λ e. IsChainRefusal (is_chain_full (above (L.links store.now)) chain.now self.old.0) e) }
+        ensures first { IfErr result (λ e. e ≡ Refused.AdapterFull → (k : ℕ) × IsFirstFull self.old.0 self.new.1 (round_copies (above (L.links store.now)) chain.now self.old.0) k) }
+        ensures no_fewer { (k : ℕ) → slice_index self.old.1 k ≤ slice_index self.new.1 k }
+        ensures still_fits { (r : RoundView) → RoundFits self.old.0 self.old.1 r → RoundFits self.new.0 self.new.1 r }
+    {
+        let mut hearers = Hearers::new(self.alloc);
+        self.reserve_known(store, chain, &mut hearers)
+    }
+
+    /// The same, where it is known who hears some node: its hearers aren't looked for again. In `hearers` is remembered who hears the
+    /// node of the last notice.
+    pub fn reserve_known<L: LinkStore>(
         &mut self,
         store: &L,
         chain: &Chain,

@@ -13,6 +13,6 @@ returns-else-is_marked g c = λ k.
     let inside = c.self.inside in
     let rs = c.args.self.now.0 in
     let none : entries c.args.node rs ≡ [] =
-    ap (λ v. entries c.args.node v.0) (sym c.self.view_is) ∙ sym (c.self.invariant.tied c.args.node)
-    ∙ unmarked-none inside.marks.items inside.by_target c.args.node c.self.invariant.marked (ap (λ bs. is_marked bs c.args.node) (sym c.deref.ensures.value) ∙ sym c.is_marked.ensures ∙ c.if-is_marked.false) in
-    none-found c.args.node c.args.only_deep rs k (rw (← c.self.view_is) (distinct-numbers heard inside.attached.items inside.numbers.keys c.self.invariant.numbered c.self.invariant.distinct)) none (contains nat_cmp c.args.places.now k)
+    ap (λ v. entries c.args.node v.0) (sym c.self.view_is) ∙ sym (c.self.invariant.sound.tied c.args.node)
+    ∙ unmarked-none inside.marks.items inside.by_target c.args.node c.self.invariant.sound.marked (ap (λ bs. is_marked bs c.args.node) (sym c.deref.ensures.value) ∙ sym c.is_marked.ensures ∙ c.if-is_marked.false) in
+    none-found c.args.node c.args.only_deep rs k (rw (← c.self.view_is) (distinct-numbers heard inside.attached.items inside.numbers.keys c.self.invariant.sound.numbered c.self.invariant.sound.distinct)) none (contains nat_cmp c.args.places.now k)

@@ -1,12 +1,10 @@
-use Rattle.std.proofs.Common.{rules, ◌≡◌, ◌++◌, ℕ, List, [], ap, subst, sym, ◌∙◌, arith, length, map}
+use Rattle.std.proofs.Common.{rules, ◌≡◌, ◌++◌, ℕ, List, [], ap, subst, sym, ◌∙◌, arith, length}
 use Rattle.std.proofs.lemmas.List.{append-nil, nil_from_length}
 use Rattle.std.proofs.lemmas.Grind.{common_steps}
 use Rattle.std.proofs.lemmas.List.Elements.{All-head}
 use Rattle.std.specs.Vec.Iter.{into_iter_items}
 use Rattle.notice_chain.specs.Listed.{Listed}
-use Rattle.notice_chain.specs.Released.{all_released, removing}
-use Rattle.notice_chain.specs.View.{hear_all}
-use Rattle.notice_chain.specs.declared.target.Target.{Target}
+use Rattle.notice_chain.specs.Released.{all_released}
 use Rattle.adapter_list.specs.Attached.{AreReady, IsReady, listed, views_of}
 use Rattle.adapter_list.specs.declared.attached.Attached.{Attached}
 use Rattle.adapter_list.proofs.ListedLemmas.{AreReady-rest}
@@ -37,12 +35,12 @@ loop-one-preserved g c =
 pub loop-one-init : goal.loop-one-init
 loop-one-init g c =
     let all : into_iter_items c.into_iter-one-iterator.result ≡ c.self.inside.attached.items = search rules in
-    let unused : length c.self.inside.released.items ≡ 0 = omega (arith, c.self.invariant.unused) in
+    let unused : length c.self.inside.released.items ≡ 0 = omega (arith, c.self.invariant.sound.unused) in
     let none : c.self.inside.released.items ≡ [] = nil_from_length c.self.inside.released.items unused in
     record {
       can = tt;
       ends = tt;
-      ready = rw all c.self.invariant.ready;
+      ready = rw all c.self.invariant.sound.ready;
       releasable = search rules;
       released = rw (none, all) (ap (λ (v : List Listed × List ℕ). all_released v.0) c.self.view_is);
     }

@@ -48,8 +48,8 @@ returns g c =
     let rs = c.args.self.now.0 in
     let p = before rs c.args.place in
     let es = c.at-entry-items.result.now in
-    let tied : es ≡ entries c.args.node rs = c.at-entry-items.ensures ∙ c.self.invariant.tied c.args.node ∙ ap (λ v. entries c.args.node v.0) c.self.view_is in
-    let distinct : HasDistinctNumbers rs = subst HasDistinctNumbers (ap (λ v. v.0) c.self.view_is) (distinct-numbers g.A.Adapter.heard c.self.inside.attached.items c.self.inside.numbers.keys c.self.invariant.numbered c.self.invariant.distinct) in
+    let tied : es ≡ entries c.args.node rs = c.at-entry-items.ensures ∙ c.self.invariant.sound.tied c.args.node ∙ ap (λ v. entries c.args.node v.0) c.self.view_is in
+    let distinct : HasDistinctNumbers rs = subst HasDistinctNumbers (ap (λ v. v.0) c.self.view_is) (distinct-numbers g.A.Adapter.heard c.self.inside.attached.items c.self.inside.numbers.keys c.self.invariant.sound.numbered c.self.invariant.sound.distinct) in
     c.loop-entry.invariant
     ∙ ap (λ (ds : List Entry). length (filter p ds)) (take_all c.loop-entry.entry-index es c.loop-entry-test.false ∙ tied)
     ∙ entries-before c.args.node rs c.args.place distinct

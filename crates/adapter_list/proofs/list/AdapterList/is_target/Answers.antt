@@ -13,5 +13,5 @@ is-some false i = refl
 pub returns : goal.returns
 returns g c =
     let rs = c.args.self.now.0 in
-    let found = position-found c.self.invariant rs (ap (λ v. v.0) c.self.view_is) c.args.node c.args.no in
+    let found = position-found c.self.invariant.sound rs (ap (λ v. v.0) c.self.view_is) c.args.node c.args.no in
     c.is_some.ensures ∙ ap is_some (c.index_of.ensures ∙ found) ∙ is-some (is_target c.args.no c.args.node rs) (index_at (c.args.no, c.args.node) rs)

@@ -11,15 +11,18 @@ invariant_of-result g c =
     let none = c.new.ensures.items in
     let no_entry = c.new-3.ensures.entries in
     record {
-      few = search rules;
-      counted = search rules;
-      ready = search rules;
-      numbered = search rules;
-      distinct = search rules;
-      once = search rules;
-      tied = λ x. no_entry x ∙ sym (ap (λ (xs : List (Attached g.row.A.Denot)). entries x (listed heard xs)) none);
-      none_empty = c.new-3.ensures.none_empty;
-      marked = λ o. ap (λ bs. get_or bs o.0 false) c.new-4.ensures.items ∙ sym (ap is_any (no_entry (node.Object o)));
-      unused = search rules;
-      releasable = search rules;
+      sound = record {
+        few = search rules;
+        counted = search rules;
+        ready = search rules;
+        numbered = search rules;
+        distinct = search rules;
+        once = search rules;
+        tied = λ x. no_entry x ∙ sym (ap (λ (xs : List (Attached g.row.A.Denot)). entries x (listed heard xs)) none);
+        none_empty = c.new-3.ensures.none_empty;
+        marked = λ o. ap (λ bs. get_or bs o.0 false) c.new-4.ensures.items ∙ sym (ap is_any (no_entry (node.Object o)));
+        unused = search rules;
+        releasable = search rules;
+      };
+      some = search rules;
     }

@@ -13,13 +13,13 @@ use Rattle.adapter_list.proofs.ListedLemmas.{slice_index-map}
 use Rattle.adapter_list.proofs.ReleaseLemmas.{from_err, from_ok}
 use Rattle.adapter_list.proofs.TableLemmas.{on_err-all}
 use Rattle.adapter_list.proofs.TargetLemmas.{targets_at-here}
-use Rattle.adapter_list.proofs.WatchLemmas.{before-low, listed-same, listed-watched, sound-same, sound-watched}
+use Rattle.adapter_list.proofs.WatchLemmas.{before-low, listed-same, listed-watched, some-same, some-watched, sound-same, sound-watched}
 use Rattle.adapter_list.proofs.list.AdapterList.put_target.Goals as goal
 
 pub insert-requires : goal.insert-requires
 insert-requires g c =
     let rs = c.args.self.now.0 in
-    let tied : entries_in c.self.inside.by_target c.args.node ≡ entries c.args.node rs = c.self.invariant.tied c.args.node ∙ ap (λ v. entries c.args.node v.0) c.self.view_is in
+    let tied : entries_in c.self.inside.by_target c.args.node ≡ entries c.args.node rs = c.self.invariant.sound.tied c.args.node ∙ ap (λ v. entries c.args.node v.0) c.self.view_is in
     let low = before-low c.args.node rs c.args.place in
     omega (arith, low, c.index_before-index.ensures, ap (λ (es : List Entry). length es) tied)
 
@@ -29,7 +29,7 @@ invariant_of-self g c =
     let within : c.args.place < length items = rw (length-map) at (rw (← c.self.view_is) at c.requires.within) in
     let one = c.index_mut-one.result.now in
     let after : Attached g.row.A.Denot = record { no = one.no; targets = c.reserve.new.self; adapter = one.adapter } in
-    sound-same c.self.invariant c.args.place one after within c.index_mut-one.ensures.value refl refl c.self.inside.by_target c.self.inside.marks.items (λ h. h) c.reserve.ensures.items (λ z. refl) (λ i. refl)
+    record { sound = sound-same c.self.invariant.sound c.args.place one after within c.index_mut-one.ensures.value refl refl c.self.inside.by_target c.self.inside.marks.items (λ h. h) c.reserve.ensures.items (λ z. refl) (λ i. refl); some = some-same c.self.invariant.sound c.args.place one after within c.index_mut-one.ensures.value refl refl c.self.inside.by_target c.self.inside.marks.items (λ h. h) c.reserve.ensures.items c.self.invariant.some }
 
 pub invariant_of-self-in_err-reserve_mark : goal.invariant_of-self-in_err-reserve_mark
 invariant_of-self-in_err-reserve_mark g c =
@@ -37,7 +37,7 @@ invariant_of-self-in_err-reserve_mark g c =
     let within : c.args.place < length items = rw (length-map) at (rw (← c.self.view_is) at c.requires.within) in
     let one = c.index_mut-one.result.now in
     let after : Attached g.row.A.Denot = record { no = one.no; targets = c.reserve.new.self; adapter = one.adapter } in
-    sound-same c.self.invariant c.args.place one after within c.index_mut-one.ensures.value refl refl c.self.inside.by_target c.reserve_mark.new.marks.items (λ h. h) c.reserve.ensures.items (λ z. refl) c.reserve_mark.ensures.same
+    record { sound = sound-same c.self.invariant.sound c.args.place one after within c.index_mut-one.ensures.value refl refl c.self.inside.by_target c.reserve_mark.new.marks.items (λ h. h) c.reserve.ensures.items (λ z. refl) c.reserve_mark.ensures.same; some = some-same c.self.invariant.sound c.args.place one after within c.index_mut-one.ensures.value refl refl c.self.inside.by_target c.reserve_mark.new.marks.items (λ h. h) c.reserve.ensures.items c.self.invariant.some }
 
 pub invariant_of-self-in_err-insert : goal.invariant_of-self-in_err-insert
 invariant_of-self-in_err-insert g c =
@@ -46,7 +46,7 @@ invariant_of-self-in_err-insert g c =
     let one = c.index_mut-one.result.now in
     let after : Attached g.row.A.Denot = record { no = one.no; targets = c.reserve.new.self; adapter = one.adapter } in
     let kept : (z : Node) → entries_in c.insert.new.self z ≡ entries_in c.self.inside.by_target z = from_err _ c.insert.result (search rules) c.insert.ensures.err in
-    sound-same c.self.invariant c.args.place one after within c.index_mut-one.ensures.value refl refl c.insert.new.self c.reserve_mark.new.marks.items c.insert.ensures.none_empty c.reserve.ensures.items kept c.reserve_mark.ensures.same
+    record { sound = sound-same c.self.invariant.sound c.args.place one after within c.index_mut-one.ensures.value refl refl c.insert.new.self c.reserve_mark.new.marks.items c.insert.ensures.none_empty c.reserve.ensures.items kept c.reserve_mark.ensures.same; some = some-same c.self.invariant.sound c.args.place one after within c.index_mut-one.ensures.value refl refl c.insert.new.self c.reserve_mark.new.marks.items c.insert.ensures.none_empty c.reserve.ensures.items c.self.invariant.some }
 
 pub invariant_of-self-2 : goal.invariant_of-self-2
 invariant_of-self-2 g c =
@@ -67,9 +67,12 @@ invariant_of-self-2 g c =
     let room : slice_index c.args.self.now.1 place ≡ g.A.Adapter.places one.adapter = ap (λ v. slice_index v.1 place) (sym c.self.view_is) ∙ slice_index-map (λ a. g.A.Adapter.places a.adapter) items place one within c.index_mut-one.ensures.value in
     let put : (z : Node) → entries_in c.insert.new.self z ≡ (if same_node c.args.node z then insert (entries_in c.self.inside.by_target z) index e else entries_in c.self.inside.by_target z) = from_ok _ c.insert.result (search rules) c.insert.ensures.ok in
     let marks : AreSetAt c.self.inside.marks.items c.args.node true c.set_mark.new.marks.items = λ o. c.set_mark.ensures o ∙ ap (λ b. if same_node c.args.node (node.Object o) then true else b) (c.reserve_mark.ensures.same o.0) in
-    sound-watched c.self.invariant place one after within c.index_mut-one.ensures.value refl refl c.insert.new.self c.set_mark.new.marks.items c.insert.ensures.none_empty q c.args.no at none targets
-    (omega (arith, many, room, c.requires.spare)) (omega (arith, c.requires.few, c.self.invariant.counted, ap (λ (qs : List Listed). targets_len qs) seen)) index
-    (c.index_before-index.ensures ∙ ap (λ (qs : List Listed). length (entries c.args.node (take place qs))) seen) put marks
+    record {
+      sound = sound-watched c.self.invariant.sound place one after within c.index_mut-one.ensures.value refl refl c.insert.new.self c.set_mark.new.marks.items c.insert.ensures.none_empty q c.args.no at none targets
+          (omega (arith, many, room, c.requires.spare)) (omega (arith, c.requires.few, c.self.invariant.sound.counted, ap (λ (qs : List Listed). targets_len qs) seen)) index
+          (c.index_before-index.ensures ∙ ap (λ (qs : List Listed). length (entries c.args.node (take place qs))) seen) put marks;
+      some = some-watched c.self.invariant.sound place one after within c.index_mut-one.ensures.value refl refl c.insert.new.self c.set_mark.new.marks.items c.insert.ensures.none_empty q c.args.no at none targets c.self.invariant.some;
+    }
 
 pub returns-in_err-reserve-clause-kept : goal.returns-in_err-reserve-clause-kept
 returns-in_err-reserve-clause-kept g c =
@@ -105,5 +108,5 @@ returns-clause-ok g c =
     let targets : c.push_back_reserved.new.self.items ≡ one.targets.items ++ q ∷ [] = c.push_back_reserved.ensures.items ∙ ap (λ ts. ts ++ q ∷ []) c.reserve.ensures.items in
     let at = subst (λ (qs : List Listed). Some place ≡ position (has_no c.args.no) qs) seen c.requires.placed in
     let none : is_target c.args.no c.args.node rs ≡ false = subst (λ (qs : List Listed). is_target c.args.no c.args.node qs ≡ false) seen c.requires.apart in
-    listed-watched c.self.invariant place one after within c.index_mut-one.ensures.value refl refl c.insert.new.self c.set_mark.new.marks.items c.insert.ensures.none_empty q c.args.no at none targets
+    listed-watched c.self.invariant.sound place one after within c.index_mut-one.ensures.value refl refl c.insert.new.self c.set_mark.new.marks.items c.insert.ensures.none_empty q c.args.no at none targets
     ∙ ap (watched c.args.no q) (sym seen)

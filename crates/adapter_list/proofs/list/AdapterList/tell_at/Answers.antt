@@ -2,8 +2,9 @@ use Rattle.std.proofs.Common.{rules, ◌<◌, ◌∙◌, ap, arith, length, refl
 use Rattle.std.proofs.lemmas.List.{length-map}
 use Rattle.adapter_list.specs.Attached.{listed, places_of}
 use Rattle.adapter_list.proofs.ListedLemmas.{listed-set, places_of-set, numbers_of-set, AreReady-set, slice_index-map}
-use Rattle.notice_chain.specs.Listed.{HasDistinctTargets, targets_len}
+use Rattle.notice_chain.specs.Listed.{HasDistinctTargets, HaveTargets, targets_len}
 use Rattle.adapter_list.specs.Targets.{entries, targets_at}
+use Rattle.adapter_list.proofs.SomeLemmas.{some-tell_at}
 use Rattle.adapter_list.proofs.TargetLemmas.{entries-tell_at, once-tell_at, targets_at-here, targets_len-tell_at}
 use Rattle.adapter_list.proofs.list.AdapterList.tell_at.Goals as goal
 
@@ -16,17 +17,20 @@ invariant_of-self g c =
     let items = c.self.inside.attached.items in
     let heard = listed-set g.A.Adapter.heard items c.args.place c.args.notice _ _ c.index_mut-one.ensures.value (rw c.notify_changed.ensures.view) in
     record {
-      few = c.self.invariant.few;
-      counted = c.self.invariant.counted ∙ sym (ap targets_len heard ∙ targets_len-tell_at (listed g.A.Adapter.heard items) c.args.place c.args.notice);
-      ready = AreReady-set g.A.Adapter.heard g.A.Adapter.places c.self.inside.attached.items c.args.place _ c.self.invariant.ready (record { reserve = omega (arith, spare, many, at, c.notify_changed.ensures.one_place_used); countable = c.notify_changed.ensures.countable });
-      numbered = c.self.invariant.numbered ∙ sym (numbers_of-set c.self.inside.attached.items c.args.place _ _ c.index_mut-one.ensures.value refl);
-      distinct = c.self.invariant.distinct;
-      once = subst HasDistinctTargets (sym heard) (once-tell_at (listed g.A.Adapter.heard items) c.args.place c.args.notice c.self.invariant.once);
-      tied = λ x. c.self.invariant.tied x ∙ sym (ap (entries x) heard ∙ entries-tell_at x (listed g.A.Adapter.heard items) c.args.place c.args.notice);
-      none_empty = c.self.invariant.none_empty;
-      marked = c.self.invariant.marked;
-      unused = c.self.invariant.unused;
-      releasable = search rules;
+      sound = record {
+        few = c.self.invariant.sound.few;
+        counted = c.self.invariant.sound.counted ∙ sym (ap targets_len heard ∙ targets_len-tell_at (listed g.A.Adapter.heard items) c.args.place c.args.notice);
+        ready = AreReady-set g.A.Adapter.heard g.A.Adapter.places c.self.inside.attached.items c.args.place _ c.self.invariant.sound.ready (record { reserve = omega (arith, spare, many, at, c.notify_changed.ensures.one_place_used); countable = c.notify_changed.ensures.countable });
+        numbered = c.self.invariant.sound.numbered ∙ sym (numbers_of-set c.self.inside.attached.items c.args.place _ _ c.index_mut-one.ensures.value refl);
+        distinct = c.self.invariant.sound.distinct;
+        once = subst HasDistinctTargets (sym heard) (once-tell_at (listed g.A.Adapter.heard items) c.args.place c.args.notice c.self.invariant.sound.once);
+        tied = λ x. c.self.invariant.sound.tied x ∙ sym (ap (entries x) heard ∙ entries-tell_at x (listed g.A.Adapter.heard items) c.args.place c.args.notice);
+        none_empty = c.self.invariant.sound.none_empty;
+        marked = c.self.invariant.sound.marked;
+        unused = c.self.invariant.sound.unused;
+        releasable = search rules;
+      };
+      some = subst HaveTargets (sym heard) (some-tell_at (listed g.A.Adapter.heard items) c.args.place c.args.notice c.self.invariant.some);
     }
 
 pub returns-clause-heard : goal.returns-clause-heard

@@ -9,7 +9,7 @@ use Rattle.adapter_list.specs.Targets.{targets_at}
 use Rattle.adapter_list.proofs.DeliveryLemmas.{AreWithin}
 use Rattle.adapter_list.proofs.ReserveLemmas.{chain-counted, chain-full, full-from, refusal-is}
 use Rattle.adapter_list.proofs.RoundLemmas.{CopiesFit-round_copies, copies_for-round_copies, told_by-round_copies, within-round_copies}
-use Rattle.adapter_list.proofs.list.AdapterList.reserve_all.Goals as goal
+use Rattle.adapter_list.proofs.list.AdapterList.reserve_known.Goals as goal
 
 pub reserve_places-requires : goal.reserve_places-requires
 reserve_places-requires g c =

@@ -1,11 +1,11 @@
-use Rattle.std.proofs.Common.{◌≡◌, ap, sym, subst, ◌∙◌, arith, filter, length}
+use Rattle.std.proofs.Common.{◌≡◌, refl, ap, sym, subst, ◌∙◌, arith, filter, length}
 use Rattle.std.specs.List.{IsDistinct}
 use Rattle.std.proofs.lemmas.List.{length-map}
 use Rattle.notice_chain.specs.Listed.{same_no}
 use Rattle.notice_chain.specs.Released.{staying}
 use Rattle.adapter_list.specs.Attached.{numbers_of}
 use Rattle.adapter_list.proofs.SplitLemmas.{has, stays}
-use Rattle.adapter_list.proofs.list.AdapterList.hand_out.Goals as goal
+use Rattle.adapter_list.proofs.going.Going.hand_out.Goals as goal
 
 pub renumber-requires-clause-room : goal.renumber-requires-clause-room
 renumber-requires-clause-room g c =
@@ -33,11 +33,11 @@ invariant_of-self g c =
       tied = stay.tied;
       none_empty = c.self.invariant.none_empty;
       marked = c.self.invariant.marked;
-      unused = c.self.invariant.unused;
-      releasable = omega (arith, stay.fewer, c.self.invariant.releasable);
+      unused = refl;
+      releasable = omega arith;
     }
 
 pub returns-clause-others : goal.returns-clause-others
 returns-clause-others g c =
     let stay = stays c.self.invariant c.split.result.items (c.split.ensures.stay ∙ ap (λ v. filter (has g.A.Adapter.heard) v.items) c.replace-attached.ensures.value) in
-    stay.now ∙ ap (λ v. staying v.0) c.self.view_is
+    stay.now ∙ ap staying c.self.view_is

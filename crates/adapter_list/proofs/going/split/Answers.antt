@@ -1,4 +1,4 @@
-use Rattle.std.proofs.Common.{◌≡◌, ◌≤◌, ◌<◌, ◌+◌, ◌-◌, ◌++◌, ◌∷◌, [], suc, true, false, ap, sym, ◌∙◌, arith, append_assoc, length, length-append, filter, le-leb}
+use Rattle.std.proofs.Common.{◌≡◌, ◌≤◌, ◌<◌, ◌+◌, ◌-◌, ◌++◌, ◌∷◌, [], suc, true, false, ap, sym, ◌∙◌, refl, arith, append_assoc, length, length-append, filter, le-leb}
 use Rattle.std.specs.Option.{option_to_list}
 use Rattle.std.proofs.lemmas.Bool.{le-ltb}
 use Rattle.std.proofs.lemmas.Grind.{common_steps}
@@ -7,7 +7,7 @@ use Rattle.mm_types.specs.declared.numbers.AdapterNo.{AdapterNo}
 use Rattle.notice_chain.specs.Released.{leaving}
 use Rattle.adapter_list.specs.Attached.{listed, views_of}
 use Rattle.adapter_list.proofs.SplitLemmas.{has, leaving-gone, leaving-kept, leaving_of, turn, turn-all, turn-gone, turn-kept}
-use Rattle.adapter_list.proofs.list.release.split.Goals as goal
+use Rattle.adapter_list.proofs.going.split.Goals as goal
 
 pub loop-left-preserved : goal.loop-left-preserved
 loop-left-preserved g c =
@@ -28,6 +28,7 @@ loop-left-preserved g c =
     record {
       many = omega (arith, few, more);
       room = omega (arith, c.loop-left.invariant.room, ap (λ vs. length vs) same);
+      same_room = c.loop-left.invariant.same_room;
       stay = ap (turn (has heard) k) now ∙ turn-kept (has heard) before rest one c.loop-left.left k first next kept ∙ c.loop-left.invariant.stay;
       released = ap (λ vs. views_of heard c.loop-left.released.items ++ vs) same ∙ c.loop-left.invariant.released;
     }
@@ -64,6 +65,7 @@ loop-left-preserved-then-is_empty g c =
     record {
       many = omega (arith, c.loop-left.invariant.many, long, next);
       room = omega (arith, c.loop-left.invariant.room, ap (λ vs. length vs) more, c.push_reserved.ensures.len, c.push_reserved.ensures.capacity);
+      same_room = omega (arith, c.push_reserved.ensures.capacity, c.loop-left.invariant.same_room);
       stay = turn-gone (has heard) before rest one c.loop-left.left k first next gone ∙ c.loop-left.invariant.stay;
       released = ap (λ vs. vs ++ leaving_of heard k rest) views ∙ append_assoc (views_of heard c.loop-left.released.items) ((one.no, heard one.adapter) ∷ []) (leaving_of heard k rest) ∙ ap (λ vs. views_of heard c.loop-left.released.items ++ vs) (sym more) ∙ c.loop-left.invariant.released;
     }
@@ -78,6 +80,7 @@ loop-left-init g c =
     record {
       many = omega (arith, count);
       room = omega (arith, c.requires.released_room, ap (λ vs. length vs) whole);
+      same_room = refl;
       stay = turn-all (has heard) xs c.len-left.result count ∙ ap (λ ys. filter (has heard) ys) all;
       released = ap (λ vs. views_of heard c.args.released.now.items ++ vs) whole;
     }

@@ -1,8 +1,8 @@
-use Rattle.std.proofs.Common.{◌≡◌, ◌∙◌, Some, None, position, sym, arith}
+use Rattle.std.proofs.Common.{◌≡◌, ◌∙◌, Some, position, sym, arith}
 use Rattle.std.proofs.lemmas.Grind.{common_steps}
 use Rattle.notice_chain.specs.Listed.{is_at}
 use Rattle.adapter_list.proofs.GoingLemmas.{gone-at, none-gone}
-use Rattle.adapter_list.proofs.list.release.drop_target.Goals as goal
+use Rattle.adapter_list.proofs.going.drop_target.Goals as goal
 
 pub returns-in-Some : goal.returns-in-Some
 returns-in-Some c =

@@ -1,0 +1,279 @@
+//! A list while targets go.
+ghost use Rattle.std.specs.Prelude.{◌≡◌, ◌≤◌, ◌<◌, ◌+◌, ◌++◌, ◌∷◌, [], None, Some, false, true, length, map, filter, not, position, vec_len, vec_capacity, IfSome, is_some};
+ghost use Rattle.std.specs.List.{IsDistinct};
+ghost use Rattle.indexmap.specs.IndexSet.{index_set_len};
+ghost use Rattle.mm_types.specs.Same.{same_node};
+ghost use Rattle.notice_chain.specs.Listed.{HaveTargets, has_no, is_at, is_target, same_no};
+ghost use Rattle.notice_chain.specs.Released.{has_targets, leaving, released as released_of, removing, staying, told_of_leaving, without};
+ghost use Rattle.adapter_list.specs.Attached.{IsRoomFor, listed, numbers_of, views_of};
+ghost use Rattle.adapter_list.specs.Detached.{last_told, told_in, view_of, views_in};
+
+use crate::attached::Attached;
+use crate::detached::Detached;
+use crate::list::AdapterList;
+use crate::marks::set_mark;
+use crate::target_lists::TargetLists;
+use adapters::Adapter;
+use indexmap::IndexSet;
+use mm_types::limits::TARGETS;
+use mm_types::{AdapterNo, Node, Value};
+use notice_chain::{Notice, NoticeKind, Target};
+use std::alloc::Global;
+use std::collections::VecDeque;
+use std::marker::Model;
+use std::mem;
+
+/// The parts of a list while targets go. Meanwhile an adapter may have no target left: such ones are handed out before the parts
+/// are a list again.
+#[derive(Drop)]
+pub(crate) struct Going<A: Adapter> {
+    alloc: Global,
+    attached: Vec<Attached<A>>,
+    numbers: IndexSet<AdapterNo>,
+    by_target: TargetLists,
+    marks: Vec<bool>,
+    targets_len: usize,
+}
+
+impl<A: Adapter> Model for Going<A> {
+    ghost use Rattle.std.specs.Prelude.{List, length};
+    ghost use Rattle.notice_chain.specs.Listed.{Listed};
+    ghost use Rattle.adapter_list.specs.Attached.{listed, IsSound};
+
+    ghost Value = { List Listed };
+
+    ghost view = { λ l. listed A.heard l.attached.items };
+
+    ghost invariant = { λ l. IsSound A.heard A.places l.attached.items l.numbers.keys l.by_target l.marks.items l.targets_len 0 (length l.attached.items) };
+}
+
+impl<A: Adapter> Going<A> {
+    /// The parts of a list, and its room for handing out all of its adapters.
+    pub(crate) fn of(list: AdapterList<A>) -> (Self, Vec<(AdapterNo, A)>)
+        ensures now { result.0 ≡ list.0 }
+        ensures some { HaveTargets list.0 }
+        ensures room { IsRoomFor (length list.0) (vec_len result.1) (vec_capacity result.1) }
+    {
+        let AdapterList {
+            alloc,
+            attached,
+            numbers,
+            by_target,
+            marks,
+            targets_len,
+            released,
+        } = list;
+        let going = Going {
+            alloc,
+            attached,
+            numbers,
+            by_target,
+            marks,
+            targets_len,
+        };
+        (going, released)
+    }
+
+    /// The list of the parts, once each adapter has a target again.
+    pub(crate) fn into_list(self, released: Vec<(AdapterNo, A)>) -> AdapterList<A>
+        requires some { HaveTargets self }
+        requires room { IsRoomFor (length self) (vec_len released) (vec_capacity released) }
+        ensures { result.0 ≡ self }
+    {
+        let Going {
+            alloc,
+            attached,
+            numbers,
+            by_target,
+            marks,
+            targets_len,
+        } = self;
+        AdapterList {
+            alloc,
+            attached,
+            numbers,
+            by_target,
+            marks,
+            targets_len,
+            released,
+        }
+    }
+
+    /// Lets one target go: its adapter is notified of that, and has it no more. Gives that notice, and whether it was the adapter's
+    /// last target; `None`, and nothing changes, where the node is no target of it.
+    fn let_go(&mut self, no: AdapterNo, node: Node) -> Option<(Notice, bool)>
+        ensures others { self.new ≡ without (no, node) self.old }
+        ensures told { last_told no result ≡ told_of_leaving (no, node) self.old }
+        ensures none { result ≡ None → self.new ≡ self.old }
+        ensures some { IfSome result (λ r. r.1 ≡ false → HaveTargets self.old → HaveTargets self.new) }
+    {
+        let place = self.place_of(no)?;
+        let index = self.by_target.index_of(node, no)?;
+        self.by_target.remove(node, index);
+        set_mark(&mut self.marks, node, self.by_target.has_any(node));
+        let one = &mut self.attached[place];
+        drop_target(&mut one.targets, node);
+        one.adapter.notify_changed(last_notice(no, node, index));
+        let is_bare = one.targets.is_empty();
+        self.targets_len -= 1;
+        Some((last_notice(no, node, index), is_bare))
+    }
+
+    /// The place of an adapter in attach order.
+    fn place_of(&self, no: AdapterNo) -> Option<usize>
+        ensures place { result ≡ position (has_no no) self.now }
+        ensures within { IfSome result (λ i. i < length self.now) }
+    {
+        self.numbers.get_index_of(&no)
+    }
+
+    /// Hands out the adapters that have no targets.
+    fn hand_out(&mut self, released: &mut Vec<(AdapterNo, A)>)
+        requires released_room { vec_len released.old + length (leaving self.old) ≤ vec_capacity released.old }
+        ensures others { self.new ≡ staying self.old }
+        ensures released { views_of A.heard released.new.items ≡ views_of A.heard released.old.items ++ leaving self.old }
+        ensures room { vec_capacity released.new ≡ vec_capacity released.old }
+    {
+        let attached = mem::replace(&mut self.attached, Vec::new(self.alloc));
+        self.attached = split(attached, released);
+        renumber(&mut self.numbers, &self.attached);
+    }
+
+    /// Hands out the adapter that has no target, if there is one, through an empty list. Takes no memory.
+    fn hand_out_one(&mut self, room: &mut Vec<(AdapterNo, A)>) -> Option<A>
+        requires one { length (leaving self.old) ≤ 1 }
+        requires room { IsRoomFor 1 (vec_len room.old) (vec_capacity room.old) }
+        ensures others { self.new ≡ staying self.old }
+        ensures released { view_of A.heard result ≡ map (λ v. v.1) (leaving self.old) }
+        ensures room { (vec_len room.new ≡ 0) × (vec_capacity room.new ≡ vec_capacity room.old) }
+    {
+        self.hand_out(room);
+        room.pop().map(|one| one.1)
+    }
+
+    /// Takes one target from an adapter, which is handed out with its last one. That takes no memory: it goes through an empty list
+    /// that has room for all adapters.
+    pub(crate) fn detach(
+        &mut self,
+        no: AdapterNo,
+        node: Node,
+        room: &mut Vec<(AdapterNo, A)>,
+    ) -> Option<Detached<A>>
+        requires some { HaveTargets self.old }
+        requires room { IsRoomFor (length self.old) (vec_len room.old) (vec_capacity room.old) }
+        ensures some { is_some result ≡ is_target no node self.old }
+        ensures others { self.new ≡ (released_of ((no, node) ∷ []) self.old).others }
+        ensures told { told_in no result ≡ (released_of ((no, node) ∷ []) self.old).told }
+        ensures released { views_in A.heard result ≡ map (λ v. v.1) (released_of ((no, node) ∷ []) self.old).views }
+        ensures left { HaveTargets self.new }
+        ensures room { IsRoomFor (length self.new) (vec_len room.new) (vec_capacity room.new) }
+    {
+        let (notice, is_bare) = self.let_go(no, node)?;
+        let adapter = if is_bare {
+            self.hand_out_one(room)
+        } else {
+            None
+        };
+        Some(Detached { notice, adapter })
+    }
+
+    /// Lets targets go, one after another, and then hands out the adapters that have none left.
+    pub(crate) fn release(
+        &mut self,
+        spots: &[(AdapterNo, Node)],
+        told: &mut Vec<(AdapterNo, Notice)>,
+        released: &mut Vec<(AdapterNo, A)>,
+    )
+        requires some { HaveTargets self.old }
+        requires told_room { vec_len told.old + length spots.now ≤ vec_capacity told.old }
+        requires released_room { vec_len released.old + length spots.now ≤ vec_capacity released.old }
+        ensures others { self.new ≡ (released_of spots.now self.old).others }
+        ensures told { told.new.items ≡ told.old.items ++ (released_of spots.now self.old).told }
+        ensures released { views_of A.heard released.new.items ≡ views_of A.heard released.old.items ++ (released_of spots.now self.old).views }
+        ensures left { HaveTargets self.new }
+        ensures fewer { length self.new ≤ length self.old }
+    {
+        let mut is_any_bare = false;
+        for spot in spots {
+            if let Some((notice, is_bare)) = self.let_go(spot.0, spot.1) {
+                told.push_reserved((spot.0, notice));
+                if is_bare {
+                    is_any_bare = true;
+                }
+            }
+        }
+        if is_any_bare {
+            self.hand_out(released);
+        }
+    }
+}
+
+/// Takes a node out of some targets, none of which stands twice.
+fn drop_target(targets: &mut VecDeque<Target>, node: Node)
+    requires { IsDistinct same_node (map (λ t. t.node) targets.old.items) }
+    ensures { targets.new.items ≡ filter (λ t. not (is_at node t)) targets.old.items }
+{
+    if let Some(index) = index_among(targets, node) {
+        let _ = targets.remove(index);
+    }
+}
+
+/// The index of a node among some targets, which is looked for from the first on.
+fn index_among(targets: &VecDeque<Target>, node: Node) -> Option<usize>
+    ensures { result ≡ position (is_at node) targets.now.items }
+{
+    targets.iter().position(|target| target.node == node)
+}
+
+/// Takes the adapters that have no targets out of a list, in their order, and gives the others. The list is turned once around in
+/// its own memory.
+fn split<A: Adapter>(
+    attached: Vec<Attached<A>>,
+    released: &mut Vec<(AdapterNo, A)>,
+) -> Vec<Attached<A>>
+    requires released_room { vec_len released.old + length (leaving (listed A.heard attached.items)) ≤ vec_capacity released.old }
+    ensures stay { result.items ≡ filter (λ a. has_targets (record { no = a.no; targets = a.targets.items; view = A.heard a.adapter })) attached.items }
+    ensures released { views_of A.heard released.new.items ≡ views_of A.heard released.old.items ++ leaving (listed A.heard attached.items) }
+    ensures room { vec_capacity released.new ≡ vec_capacity released.old }
+{
+    let mut waiting = VecDeque::from_vec(attached);
+    let mut left = waiting.len();
+    while left > 0 {
+        left -= 1;
+        let one = waiting.pop_front().unwrap();
+        if one.targets.is_empty() {
+            released.push_reserved((one.no, one.adapter));
+        } else {
+            waiting.push_back_reserved(one);
+        }
+    }
+    waiting.into_vec()
+}
+
+/// The last notice of an adapter from a target, with its index among the adapters that have that target.
+pub(crate) fn last_notice(no: AdapterNo, target: Node, index: usize) -> Notice
+    requires { index ≤ TARGETS }
+    ensures { result ≡ removing no target index }
+{
+    Notice {
+        notifier: target,
+        feature: None,
+        kind: NoticeKind::RemovingAdapter,
+        old_value: Value::Adapter(no),
+        new_value: Value::Null,
+        position: index as i64,
+        was_set: false,
+    }
+}
+
+/// Makes the numbers those of the adapters, in the same order. It takes no memory: there were no fewer numbers before.
+fn renumber<A>(numbers: &mut IndexSet<AdapterNo>, attached: &[Attached<A>])
+    requires room { length attached.now ≤ index_set_len numbers.old }
+    requires distinct { IsDistinct same_no (numbers_of attached.now) }
+    ensures keys { numbers.new.keys ≡ numbers_of attached.now }
+{
+    numbers.clear();
+    for one in attached {
+        let _ = numbers.insert(one.no);
+    }
+}

@@ -1,0 +1,71 @@
+//! Targets that are to go, with room for what that takes.
+ghost use Rattle.std.specs.Prelude.{◌≡◌, IfOk, length, vec_len, vec_capacity};
+ghost use Rattle.adapter_list.specs.Attached.{IsRoomFor};
+
+use mm_types::{AdapterNo, Node};
+use notice_chain::Notice;
+use std::alloc::{AllocError, Global};
+use std::marker::Model;
+
+/// Some targets, each by its adapter's number and its node, in the order in which they are to go. It is made before anything
+/// changes and has room for their last notices and for the adapters that are handed out. So to let them go takes no memory.
+#[derive(Drop)]
+pub struct Release<A> {
+    spots: Vec<(AdapterNo, Node)>,
+    told: Vec<(AdapterNo, Notice)>,
+    released: Vec<(AdapterNo, A)>,
+}
+
+impl<A> Model for Release<A> {
+    ghost use Rattle.std.specs.Prelude.{List, length, vec_len, vec_capacity};
+    ghost use Rattle.notice_chain.specs.Released.{Spot};
+    ghost use Rattle.adapter_list.specs.Attached.{IsRoomFor};
+
+    ghost Value = { List Spot };
+
+    ghost view = { λ r. r.spots.items };
+
+    ghost invariant = { λ r. IsRoomFor (length r.spots.items) (vec_len r.told) (vec_capacity r.told) × IsRoomFor (length r.spots.items) (vec_len r.released) (vec_capacity r.released) };
+}
+
+impl<A> Release<A> {
+    /// Makes room for letting some targets go. Errs only when out of memory.
+    pub fn new(alloc: Global, spots: Vec<(AdapterNo, Node)>) -> Result<Self, AllocError>
+        ensures { IfOk result (λ r. r ≡ spots.items) }
+    {
+        let told = Vec::with_capacity(alloc, spots.len())?;
+        let released = Vec::with_capacity(alloc, spots.len())?;
+        Ok(Release {
+            spots,
+            told,
+            released,
+        })
+    }
+
+    /// How many targets are to go. Takes no memory.
+    pub fn len(&self) -> usize
+        ensures { result ≡ length self.now }
+    {
+        self.spots.len()
+    }
+
+    /// The targets, and the room for the notices and for the adapters.
+    pub(crate) fn into_parts(
+        self,
+    ) -> (
+        Vec<(AdapterNo, Node)>,
+        Vec<(AdapterNo, Notice)>,
+        Vec<(AdapterNo, A)>,
+    )
+        ensures spots { result.0.items ≡ self }
+        ensures told { IsRoomFor (length self) (vec_len result.1) (vec_capacity result.1) }
+        ensures released { IsRoomFor (length self) (vec_len result.2) (vec_capacity result.2) }
+    {
+        let Release {
+            spots,
+            told,
+            released,
+        } = self;
+        (spots, told, released)
+    }
+}
