@@ -8,7 +8,7 @@ use crate::books::object;
 use crate::notices::added;
 use crate::poor::Poor;
 use adapter_list::laws::the_round_of_a_chain_tells_it;
-use adapter_list::{AdapterList, Hearers};
+use adapter_list::AdapterList;
 use adapters::{Adapter, Counter, Recorder, Window};
 use link_store::LinkStore;
 use mm_types::{AdapterNo, Refused};
@@ -98,7 +98,7 @@ pub(crate) fn tell<L: LinkStore, A: Adapter>(
     ensures refused { OnErr result (list.new.0 ≡ list.old.0) }
 {
     the_round_of_a_chain_tells_it();
-    match list.reserve_all(store, chain, &mut Hearers::new(alloc)) {
+    match list.reserve_all(store, chain) {
         Ok(round) => Ok(list.deliver(round)),
         Err(reason) => Err(reason),
     }

@@ -1,23 +1,22 @@
 -- Which targets go with what a change destroys.
-use Rattle.std.proofs.Common.{◌≡◌, ℕ, suc, ◌+◌, ◌≤◌, ◌<◌, ◌||◌, Bool, true, false, cond, List, [], ◌∷◌, ◌++◌, length, map, filter, drop, get_or, slice_get, Option, None, Some, option_map, append_assoc, refl, ap, sym, subst, ◌∙◌, arith}
+use Rattle.std.proofs.Common.{◌≡◌, ℕ, suc, ◌+◌, ◌≤◌, ◌<◌, ◌||◌, Bool, true, false, cond, List, [], ◌∷◌, ◌++◌, length, length-append, map, if◌then◌else◌, filter, drop, get_or, slice_get, Option, None, Some, option_map, append_assoc, refl, ap, sym, subst, ◌∙◌, arith}
 use Rattle.std.specs.Prelude.{IfSome, unwrap_or}
 use Rattle.std.specs.List.{flat_map, list_any}
 use Rattle.std.specs.Option.{option_map_or}
 use Rattle.std.proofs.lemmas.Bool.{or_parts}
 use Rattle.std.proofs.lemmas.List.{append-nil, drop_all, drop_more}
-use Rattle.std.proofs.lemmas.List.Elements.{All-cons, All-head, All-nil, All-tail}
 use Rattle.std.proofs.lemmas.Option.{none-some, same_Some}
 use Rattle.mm_types.specs.Same.{same_node}
 use Rattle.mm_types.specs.declared.numbers.AdapterNo.{AdapterNo}
 use Rattle.mm_types.specs.declared.numbers.Node.{Node}
 use Rattle.mm_types.specs.declared.numbers.Node.TheVariants as node
 use Rattle.mm_types.specs.declared.numbers.ObjectNo.{ObjectNo}
-use Rattle.notice_chain.specs.Listed.{HaveTargets, Listed, is_at, told_all}
-use Rattle.notice_chain.specs.Released.{Spot, is_gone_at, spots, spots_of}
+use Rattle.notice_chain.specs.Listed.{Listed, is_at, is_target}
+use Rattle.notice_chain.specs.Released.{Spot, is_gone_at, last_notice, released, spots, spots_of, told_of_all, told_of_leaving, without}
 use Rattle.notice_chain.specs.declared.notice.Notice.{Notice}
 use Rattle.notice_chain.specs.declared.target.Target.{Target}
 use Rattle.adapter_list.specs.Hearing.{is_touched, places_from, touched}
-use Rattle.adapter_list.specs.Rounds.{copies_for, delivered, delivered_from}
+use Rattle.adapter_list.specs.Rounds.{delivered_from}
 use Rattle.containment.specs.Forest.{is_node_among}
 use Rattle.models.specs.Reading.{Reading, at_end}
 use Rattle.removal.specs.Outer.{gone}
@@ -43,14 +42,17 @@ spots-from : (goes : AdapterNo → Node → Bool) (k : ℕ) (cs : List (ℕ × N
 spots-from goes k cs [] = refl
 spots-from goes k cs (r ∷ rs) = ap (λ (ss : List Spot). spots_of goes r ++ ss) (spots-from goes (suc k) cs rs)
 
-pub some-delivered : (cs : List (ℕ × Notice)) (rs : List Listed) → HaveTargets rs → HaveTargets (delivered cs rs)
-some-delivered cs rs = from 0 rs
-  where
-    from : (k : ℕ) (rs : List Listed) → HaveTargets rs → HaveTargets (delivered_from k cs rs)
-    from k [] some = All-nil (λ (r : Listed). 0 < length r.targets)
-    from k (r ∷ rs) some =
-        let P : Listed → Type 0 = λ q. 0 < length q.targets in
-        All-cons P (told_all r (copies_for k cs)) (delivered_from (suc k) cs rs) (All-head P r rs some) (from (suc k) rs (All-tail P r rs some))
+-- no more is told than targets go
+told_all-few : (ss : List Spot) (rs : List Listed) → length (told_of_all ss rs) ≤ length ss
+told_all-few [] rs = omega arith
+told_all-few (s ∷ ss) rs =
+    let last : AdapterNo × Notice = (s.0, last_notice s rs) in
+    let one : length (told_of_leaving s rs) ≤ 1 = elim (is_target s.0 s.1 rs) as (λ b. length (if b then last ∷ [] else []) ≤ 1) [ true ↦ omega arith | false ↦ omega arith ] in
+    omega (arith, one, told_all-few ss (without s rs), length-append (told_of_leaving s rs) (told_of_all ss (without s rs)))
+
+pub told-few : (ss : List Spot) (rs : List Listed) → length (released ss rs).told ≤ length ss
+told-few [] rs = omega arith
+told-few (s ∷ ss) rs = told_all-few (s ∷ ss) rs
 
 ---------------------------------------------------------------- the targets at what is destroyed
 

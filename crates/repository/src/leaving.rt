@@ -4,13 +4,12 @@ ghost use Rattle.std.specs.Option.{option_map_or};
 ghost use Rattle.models.specs.Reading.{Reading};
 ghost use Rattle.adapter_list.specs.Attached.{views_of};
 ghost use Rattle.adapter_list.specs.Rounds.{RoundFits};
-ghost use Rattle.notice_chain.specs.Listed.{HaveTargets};
 ghost use Rattle.notice_chain.specs.Released.{is_gone_at, released as released_of, spots as spots_where};
 ghost use Rattle.removal.specs.Ranks.{is_in};
 ghost use Rattle.removal.specs.Removals.{IsRemoval};
 ghost use Rattle.repository.specs.Leaving.{HasRoom, leavers, spots_in};
 
-use adapter_list::{AdapterList, Round};
+use adapter_list::{AdapterList, Release, Round};
 use adapters::Adapter;
 use mm_types::{AdapterNo, Node};
 use notice_chain::{Notice, Target};
@@ -98,13 +97,13 @@ fn add_gone(
     Ok(())
 }
 
-/// Which targets go, and room for all that is told and for the adapters that are handed out: made before anything changes.
+/// Which targets go, and room for all that is told: made before anything changes.
 #[derive(Drop)]
 pub(crate) struct Leaving<A> {
-    /// The adapters in attach order, the targets of each in the order in which it got them.
-    pub spots: Vec<(AdapterNo, Node)>,
+    /// The targets that go: the adapters in attach order, the targets of each in the order in which it got them.
+    pub release: Release<A>,
+    /// Room for the notices of a chain, and then for the last ones from those targets.
     pub told: Vec<(AdapterNo, Notice)>,
-    pub released: Vec<(AdapterNo, A)>,
 }
 
 impl<A: Adapter> Leaving<A> {
@@ -115,16 +114,12 @@ impl<A: Adapter> Leaving<A> {
         chain_told: usize,
     ) -> Result<Self, AllocError>
         requires { chain_told < 2 ^ 63 }
-        ensures spots { IfOk result (λ x. x.spots.items ≡ spots.items) }
+        ensures spots { IfOk result (λ x. x.release ≡ spots.items) }
         ensures room { IfOk result (HasRoom chain_told) }
     {
         let told = Vec::with_capacity(alloc, chain_told + spots.len())?;
-        let released = Vec::with_capacity(alloc, spots.len())?;
-        Ok(Leaving {
-            spots,
-            told,
-            released,
-        })
+        let release = Release::new(alloc, spots)?;
+        Ok(Leaving { release, told })
     }
 }
 
@@ -153,7 +148,6 @@ pub(crate) fn notify<A: Adapter>(
     leaving: Option<Leaving<A>>,
 ) -> (Vec<(AdapterNo, Notice)>, Vec<(AdapterNo, A)>)
     requires fits { RoundFits adapters.old.0 adapters.old.1 round }
-    requires some { HaveTargets adapters.old.0 }
     requires room { IfSome leaving (HasRoom (length round.told)) }
     ensures others { adapters.new.0 ≡ (leavers (spots_in leaving) round.copies adapters.old.0).others }
     ensures told { result.0.items ≡ round.told ++ (leavers (spots_in leaving) round.copies adapters.old.0).told }
@@ -167,24 +161,20 @@ pub(crate) fn notify<A: Adapter>(
 }
 
 /// Lets targets go: their last notices are told behind those of a chain.
-pub(crate) fn let_go<A: Adapter>(
+fn let_go<A: Adapter>(
     adapters: &mut AdapterList<A>,
     leaving: Leaving<A>,
     chain_told: Vec<(AdapterNo, Notice)>,
 ) -> (Vec<(AdapterNo, Notice)>, Vec<(AdapterNo, A)>)
-    requires some { HaveTargets adapters.old.0 }
     requires room { HasRoom (length chain_told.items) leaving }
-    ensures others { adapters.new.0 ≡ (released_of leaving.spots.items adapters.old.0).others }
-    ensures told { result.0.items ≡ chain_told.items ++ (released_of leaving.spots.items adapters.old.0).told }
-    ensures released { views_of A.heard result.1.items ≡ (released_of leaving.spots.items adapters.old.0).views }
+    ensures others { adapters.new.0 ≡ (released_of leaving.release adapters.old.0).others }
+    ensures told { result.0.items ≡ chain_told.items ++ (released_of leaving.release adapters.old.0).told }
+    ensures released { views_of A.heard result.1.items ≡ (released_of leaving.release adapters.old.0).views }
 {
-    let Leaving {
-        spots,
-        mut told,
-        mut released,
-    } = leaving;
+    let Leaving { release, mut told } = leaving;
     move_all(chain_told, &mut told);
-    adapters.release(&spots, &mut told, &mut released);
+    let (last, released) = adapters.release(release);
+    move_all(last, &mut told);
     (told, released)
 }
 

@@ -94,7 +94,7 @@ pub(crate) fn reserve<L: LinkStore, A: Adapter>(
 {
     store.reserve_for(&planned.edits)?;
     values.reserve_for(&planned.values)?;
-    let round = adapters.reserve_all(store, &planned.chain, hearers)?;
+    let round = adapters.reserve_known(store, &planned.chain, hearers)?;
     let leaving = room_for(alloc, spots, round.told_len())?;
     Ok((round, leaving))
 }

@@ -10,10 +10,10 @@ ghost use Rattle.repository.specs.Leaving.{LetsGo};
 ghost use Rattle.repository.specs.declared.reply.Answer.TheVariants as answer;
 
 use super::Repository;
-use crate::leaving::{Leaving, let_go, one_spot, own_spots};
+use crate::leaving::{one_spot, own_spots};
 use crate::reads::reply;
 use crate::reply::{Answer, Failure, Reply};
-use adapter_list::AttachRefused;
+use adapter_list::{AttachRefused, Release};
 use adapters::Adapter;
 use handshake::node_refusal;
 use links::LinkStore;
@@ -114,11 +114,11 @@ impl<L: LinkStore, A: Adapter> Repository<L, A> {
     ) -> Result<Reply<A>, Refused>
         ensures { LetsGo self.old spots.items answer (changed_view A.heard result) self.new }
     {
-        let Ok(leaving) = Leaving::reserve(self.alloc, spots, 0) else {
+        let Ok(release) = Release::new(self.alloc, spots) else {
             return Err(Refused::Memory);
         };
         self.hearers.forget();
-        let (told, released) = let_go(&mut self.adapters, leaving, Vec::new(self.alloc));
+        let (told, released) = self.adapters.release(release);
         Ok(Reply {
             answer,
             told: Seq::from_vec(told),

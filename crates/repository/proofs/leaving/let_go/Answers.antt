@@ -1,9 +1,11 @@
 use Rattle.std.proofs.Common.{List, ap, arith, length}
-use Rattle.notice_chain.specs.Released.{Spot}
-use Rattle.repository.proofs.SpotLemmas.{few-leave}
+use Rattle.mm_types.specs.declared.numbers.AdapterNo.{AdapterNo}
+use Rattle.notice_chain.specs.declared.notice.Notice.{Notice}
+use Rattle.repository.proofs.LeavingLemmas.{told-few}
 use Rattle.repository.proofs.leaving.let_go.Goals as goal
 
-pub release-requires-clause-released_room : goal.release-requires-clause-released_room
-release-requires-clause-released_room g c =
-    let few = few-leave c.deref.result.now c.args.adapters.now.0 c.requires.some in
-    omega (arith, few, ap (λ (ss : List Spot). length ss) c.deref.ensures.value, c.requires.room.nobody_released, c.requires.room.released)
+pub move_all-requires-2 : goal.move_all-requires-2
+move_all-requires-2 g c =
+    let few = told-few c.args.leaving.release c.args.adapters.now.0 in
+    let last = ap (λ (ns : List (AdapterNo × Notice)). length ns) c.release-last.ensures.told in
+    omega (arith, few, last, c.move_all.ensures.room.0, c.move_all.ensures.room.1, c.requires.room.nothing_told, c.requires.room.told)

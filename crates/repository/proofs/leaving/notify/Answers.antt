@@ -1,23 +1,18 @@
-use Rattle.std.proofs.Common.{◌≡◌, ◌++◌, ◌∙◌, List, [], Option, Some, None, sym, ap, subst}
+use Rattle.std.proofs.Common.{◌≡◌, ◌++◌, ◌∙◌, List, [], Option, Some, None, sym, ap}
 use Rattle.std.proofs.lemmas.List.{append-nil}
-use Rattle.notice_chain.specs.Listed.{HaveTargets}
 use Rattle.notice_chain.specs.Released.{Spot, released}
 use Rattle.adapter_list.specs.Attached.{views_of}
 use Rattle.adapter_list.specs.Rounds.{delivered}
 use Rattle.repository.specs.Leaving.{spots_in}
 use Rattle.repository.specs.declared.leaving.Leaving.{Leaving}
-use Rattle.repository.proofs.LeavingLemmas.{some-delivered}
 use Rattle.repository.proofs.leaving.notify.Goals as goal
 
 -- the targets that go, where there is room for them, and where there is none
-some : {A : Type 0} (q : Option (Leaving A)) (x : Leaving A) → q ≡ Some x → x.spots.items ≡ spots_in q
+some : {A : Type 0} (q : Option (Leaving A)) (x : Leaving A) → q ≡ Some x → x.release ≡ spots_in q
 some q x is = ap spots_in (sym is)
 
 none : {A : Type 0} (q : Option (Leaving A)) → q ≡ None → [] ≡ spots_in q
 none q is = ap spots_in (sym is)
-
-pub let_go-requires-clause-some : goal.let_go-requires-clause-some
-let_go-requires-clause-some g c = subst HaveTargets (sym c.deliver-told.ensures.heard) (some-delivered c.args.round.copies c.args.adapters.now.0 c.requires.some)
 
 pub returns-in-Some-clause-others : goal.returns-in-Some-clause-others
 returns-in-Some-clause-others g c = c.let_go.ensures.others ∙ (λ i. (released (some c.args.leaving c.in-Some.leaving c.in-Some.is i) (c.deliver-told.ensures.heard i)).others)

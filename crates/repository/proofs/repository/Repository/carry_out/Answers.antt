@@ -1,7 +1,7 @@
-use Rattle.std.proofs.Common.{◌≡◌, ◌∙◌, ◌++◌, ◌<◌, ℕ, true, false, List, [], Option, Some, None, is_some, nat_lt, length, refl, sym, ap, subst}
+use Rattle.std.proofs.Common.{◌≡◌, ◌∙◌, ◌++◌, ℕ, true, false, List, [], Option, Some, None, is_some, nat_lt, length, refl, sym, ap, subst}
 use Rattle.mm_values.specs.Values.{ValuesState, applied}
 use Rattle.mm_values.specs.Room.{values_of}
-use Rattle.notice_chain.specs.Listed.{HaveTargets, Listed, tell_chain, told_list}
+use Rattle.notice_chain.specs.Listed.{Listed, tell_chain, told_list}
 use Rattle.notice_chain.specs.Released.{Released, Spot, released}
 use Rattle.notice_chain.specs.declared.notice.Notice.{Notice}
 use Rattle.adapter_list.specs.Attached.{views_of}
@@ -30,8 +30,7 @@ use Rattle.repository.specs.Proper.{IsProper}
 use Rattle.repository.specs.Refusals.{IsPlanRefusal}
 use Rattle.repository.specs.Views.{command_of}
 use Rattle.repository.specs.Repository.{KeepsFragments, state}
-use Rattle.repository.specs.State.{IsLegal, IsLegalAdapter, State, reads}
-use Rattle.std.proofs.lemmas.List.Elements.{All-weaker}
+use Rattle.repository.specs.State.{IsLegal, State, reads}
 use Rattle.repository.proofs.AdapterLemmas.{Heard, heard_where_attached}
 use Rattle.repository.proofs.RememberedLemmas.{hearers-after, kept-after, known-delivered}
 use Rattle.repository.proofs.PlanLemmas.{chain_err, changed_to, planned_err, releases_of}
@@ -66,9 +65,6 @@ returns-in-Err-reserve g c =
     let heard : Heard (reads s).above c.in-Ok.prepared.planned.chain (chain (reads s) c.args.change) s.adapters = heard_where_attached (reads s).above _ _ s.adapters plan.tells in
     rw (← c.self.view_is, c.reserve.ensures.links, c.reserve.ensures.values, c.reserve.ensures.adapters)
     (chain_err s text c.args.change c.in-Ok.prepared.planned.chain c.in-Err-reserve.refused proper early plan.allowed heard c.in-Err-reserve.ensures.reason)
-
-pub notify-told-requires-clause-some : goal.notify-told-requires-clause-some
-notify-told-requires-clause-some g c = subst HaveTargets (sym c.reserve.ensures.adapters) (All-weaker (IsLegalAdapter _) (λ (a : Listed). 0 < length a.targets) (λ a h. h.some) c.self.inside.adapters.0 c.self.invariant.legal.adapters)
 
 pub returns : goal.returns
 returns g c =

@@ -9,7 +9,7 @@ pub invariant_of-self : goal.invariant_of-self
 invariant_of-self g c =
     let s : State = state g.L.LinkStore.links c.self.inside in
     record {
-      legal = subst (λ (rs : List Listed). IsLegal (record { model = s.model; adapters = rs })) (sym c.let_go-told.ensures.others) (let_go-legal s c.in-Ok.leaving.spots.items c.self.invariant.legal);
+      legal = subst (λ (rs : List Listed). IsLegal (record { model = s.model; adapters = rs })) (sym c.release-told.ensures.others) (let_go-legal s c.in-Ok.release c.self.invariant.legal);
       steady = c.self.invariant.steady;
       kinds_are = c.self.invariant.kinds_are;
       paths = c.self.invariant.paths;
