@@ -65,6 +65,8 @@ mod script_text;
 #[cfg(test)]
 mod seeds;
 #[cfg(test)]
+mod several_targets;
+#[cfg(test)]
 mod stored_values;
 #[cfg(test)]
 mod streams;
