@@ -22,7 +22,7 @@ pub struct Options<'a> {
     pub strict: bool,
     /// Whether each line is answered before the next is read, `--live`.
     pub live: bool,
-    /// Whether a refusal says which names and numbers it is about, `--explain`.
+    /// Whether it says on standard error what to mend, `--explain`.
     pub explain: bool,
 }
 

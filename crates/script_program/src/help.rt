@@ -25,7 +25,7 @@ pub(crate) const LIVE: &str =
     "Answers each line before it reads the next, with an empty line behind";
 
 /// What `--help` says of `--explain`.
-pub(crate) const EXPLAIN: &str = "Says behind a refusal what it is about";
+pub(crate) const EXPLAIN: &str = "Says on standard error what to mend";
 
 /// What `--help` says behind the options.
 pub(crate) const EXPLAINED: &str = "\

@@ -1,0 +1,153 @@
+//! A first program over `mmrepo_lib`: it makes a library with a book, counts what it is notified of, and prints the library as it is saved.
+//! docs/LIBRARY.md shows it.
+#![tactic(auto)]
+
+ghost use Rattle.mmrepo_lib.specs.Commands.{Set};
+ghost use Rattle.mmrepo_lib.specs.Steps.{Executed, change_outcome, changed_view};
+ghost use Rattle.mmrepo_lib.specs.Nodes as node;
+ghost use Rattle.mmrepo_lib.specs.Values as value;
+
+mod names;
+mod stop;
+mod tally;
+
+use mmrepo_lib::{
+    Adapter, AdapterNo, Answer, FeatureNo, LinkStore, Meta, Node, ObjectNo, Refused, Reply,
+    Repository, ResourceNo, SlotStore, Text, Value, check, load_meta,
+};
+use names::Names;
+use std::alloc::Global;
+use std::io;
+use std::io::Write;
+use std::process::ExitCode;
+use stop::Stop;
+use tally::Tally;
+
+/// A library has books, each of which knows its library.
+const LIBRARY: &str = r#"{"classes":[
+{"name":"Library","features":[
+  {"name":"books","kind":"reference","type":"Book","upper":-1,"containment":true,"opposite":"library"}]},
+{"name":"Book","features":[
+  {"name":"title","kind":"attribute","type":"EString"},
+  {"name":"library","kind":"reference","type":"Library","opposite":"books"}]}]}"#;
+
+const TALLY: AdapterNo = AdapterNo(1);
+
+/// The object that a call made.
+fn object_in(reply: Reply<Tally>) -> Result<ObjectNo, Stop> {
+    match reply.answer {
+        Answer::Object(object) => Ok(object),
+        _ => Err(Stop::Answer),
+    }
+}
+
+/// The resource that a call made.
+fn resource_in(reply: Reply<Tally>) -> Result<ResourceNo, Stop> {
+    match reply.answer {
+        Answer::Resource(resource) => Ok(resource),
+        _ => Err(Stop::Answer),
+    }
+}
+
+/// Prints what a change notified the adapter of. Here the program acts on it.
+fn print_told<W: Write>(writer: &mut W, reply: &Reply<Tally>) -> Result<(), io::Error> {
+    for (_no, notice) in reply.told.as_slice() {
+        writeln!(writer, "{} at {}", notice.kind.name(), notice.position)?;
+    }
+    Ok(())
+}
+
+/// Gives a book a title. The contract is that of the call: the step of the command `Set`, or a refusal that changes nothing.
+fn set_title<L: LinkStore>(
+    repository: &mut Repository<L, Tally>,
+    book: ObjectNo,
+    title: FeatureNo,
+    text: Text,
+) -> Result<Reply<Tally>, Refused>
+    ensures { Executed repository.old (Set (node.Object book) title (value.Text text)) (change_outcome (changed_view ⟦<Tally as Adapter>⟧.heard result)) repository.new }
+{
+    repository.e_set(Node::Object(book), title, Value::Text(text))
+}
+
+/// Makes a library with a book.
+fn make_books<L: LinkStore, W: Write>(
+    alloc: Global,
+    writer: &mut W,
+    repository: &mut Repository<L, Tally>,
+    names: Names,
+) -> Result<ObjectNo, Stop> {
+    let library = object_in(repository.create(names.library)?)?;
+    repository.attach(TALLY, Node::Object(library), true, Tally::new())?;
+    let book = object_in(repository.create(names.book)?)?;
+    let node = Node::Object(library);
+    let reply = repository.add(node, names.books, Value::Object(book), None)?;
+    print_told(writer, &reply)?;
+    let title = Text::from_str(alloc, "Emma")?;
+    let reply = set_title(repository, book, names.title, title)?;
+    print_told(writer, &reply)?;
+    Ok(library)
+}
+
+/// Puts a library into a resource, and prints its document.
+fn save<L: LinkStore, W: Write>(
+    writer: &mut W,
+    repository: &mut Repository<L, Tally>,
+    names: Names,
+    library: ObjectNo,
+) -> Result<(), Stop> {
+    let resource = resource_in(repository.create_resource("http://m.example/library")?)?;
+    let node = Node::Resource(resource);
+    repository.add(node, names.contents, Value::Object(library), None)?;
+    let document = repository.save(resource)?;
+    writeln!(writer, "{}", document.as_str())?;
+    Ok(())
+}
+
+/// Takes the adapter back, and prints what it counted.
+fn take_back<L: LinkStore, W: Write>(
+    writer: &mut W,
+    repository: &mut Repository<L, Tally>,
+) -> Result<(), Stop> {
+    let reply = repository.detach(TALLY)?;
+    print_told(writer, &reply)?;
+    for (_no, tally) in reply.released.as_slice() {
+        let (all, additions) = (tally.told(), tally.additions());
+        writeln!(writer, "{all} notices, of an addition: {additions}")?;
+    }
+    Ok(())
+}
+
+fn session<L: LinkStore, W: Write>(
+    alloc: Global,
+    writer: &mut W,
+    repository: &mut Repository<L, Tally>,
+) -> Result<(), Stop> {
+    let names = Names::of(repository.meta())?;
+    let library = make_books(alloc, writer, repository, names)?;
+    save(writer, repository, names, library)?;
+    take_back(writer, repository)
+}
+
+fn metamodel(alloc: Global) -> Result<Box<Meta>, Stop> {
+    let raw = load_meta(alloc, LIBRARY.as_bytes())?;
+    let meta = check(alloc, raw)?;
+    Ok(Box::new(alloc, meta)?)
+}
+
+fn start(rt: &HostRuntime) -> Result<(), Stop> {
+    let alloc = rt.alloc();
+    let meta = metamodel(alloc)?;
+    let repository = Repository::<SlotStore, Tally>::new(alloc, Box::into_inner(meta));
+    let mut repository = Box::new(alloc, repository)?;
+    session(alloc, &mut io::writer(rt), &mut repository)
+}
+
+fn main(rt: HostRuntime) -> ExitCode {
+    match start(&rt) {
+        Ok(()) => ExitCode::SUCCESS,
+        Err(stop) => {
+            let _ = eprintln!(&rt; "stopped: {stop}");
+            ExitCode::from(1)
+        }
+    }
+}

@@ -1,0 +1,4 @@
+pub mod Commands
+pub mod Nodes
+pub mod Steps
+pub mod Values

@@ -1,0 +1,19 @@
+//! All that a program needs to keep models, under one name.
+//!
+//! A crate of yours names `mmrepo_lib` alone in its line of `crates.txt`. `load_meta` reads a metamodel, `check` tests it, and a
+//! `Repository` of it makes objects, links them, notifies adapters, saves and loads. `specs/Steps.antt` has the definitions that the
+//! contracts of a repository cite, for proofs about your own code. docs/LIBRARY.md begins with a program.
+#![tactic(auto)]
+
+pub use adapters::{Adapter, Counter, NoRoom, Recorder, Window};
+pub use link_store::{LinkStore, RowStore, SlotStore};
+pub use mm_check::check;
+pub use mm_load::load_meta;
+pub use mm_meta::Meta;
+pub use mm_types::{
+    AdapterNo, Class, ClassNo, DataType, DocFault, Enumeration, Feature, FeatureNo, Kind,
+    MetaFault, Node, ObjectNo, RawMeta, Refused, ResourceNo, Seq, Text, Value, limits,
+};
+pub use notice_chain::{NO_INDEX, Notice, NoticeKind, Target};
+pub use repository::{Answer, Command, Failure, FeatureValue, Reply, Repository};
+pub use snapshots::{FeatureState, NodeState, Snapshot, replay};
