@@ -64,7 +64,8 @@ fn set_title<L: LinkStore>(
     title: FeatureNo,
     text: Text,
 ) -> Result<Reply<Tally>, Refused>
-    ensures { Executed repository.old (Set (node.Object book) title (value.Text text)) (change_outcome (changed_view ⟦<Tally as Adapter>⟧.heard result)) repository.new }
+    ensures { Executed repository.old (Set (node.Object book) title (value.Text text))
+        (change_outcome (changed_view ⟦<Tally as Adapter>⟧.heard result)) repository.new }
 {
     repository.e_set(Node::Object(book), title, Value::Text(text))
 }

@@ -14,6 +14,7 @@ pub use mm_types::{
     AdapterNo, Class, ClassNo, DataType, DocFault, Enumeration, Feature, FeatureNo, Kind,
     MetaFault, Node, ObjectNo, RawMeta, Refused, ResourceNo, Seq, Text, Value, limits,
 };
+pub use models::Found;
 pub use notice_chain::{NO_INDEX, Notice, NoticeKind, Target};
-pub use repository::{Answer, Command, Failure, FeatureValue, Reply, Repository};
+pub use repository::{Answer, Command, Failure, FeatureValue, Reply, Repository, laws};
 pub use snapshots::{FeatureState, NodeState, Snapshot, replay};
