@@ -1,0 +1,174 @@
+-- The commands of a reload, one after another.
+use Rattle.std.proofs.Common.{◌≡◌, ◌∙◌, ℕ, true, List, [], ◌∷◌, ◌++◌, Option, is_some, slice_get, unwrap_or, refl, sym, ap, subst}
+use Rattle.std.specs.Prelude.{Ok}
+use Rattle.std.proofs.lemmas.List.Elements.{All-contains}
+use Rattle.mm_types.specs.declared.numbers.FeatureNo.{FeatureNo}
+use Rattle.mm_types.specs.declared.numbers.Node.TheVariants as node
+use Rattle.mm_types.specs.declared.numbers.ObjectNo.{ObjectNo}
+use Rattle.mm_types.specs.declared.numbers.ResourceNo.{ResourceNo}
+use Rattle.mm_values.specs.Values.{ValuesState}
+use Rattle.web_uris.specs.Joined.{IsWebUri}
+use Rattle.links.specs.Links.{Links, no_links}
+use Rattle.models.specs.Legal.{IsLegal}
+use Rattle.models.specs.Model.{Model, empty_model, model_of, reading, values_at}
+use Rattle.models.specs.Reading.{Reading, at_end, has_resource}
+use Rattle.models.specs.Steady.{HasSteadyTexts}
+use Rattle.notice_chain.specs.View.{View}
+use Rattle.resource_docs.specs.Causes.{reads_bytes}
+use Rattle.resource_docs.specs.declared.doc.Doc.{Doc}
+use Rattle.loading.proofs.SoundLemmas.{at-map}
+use Rattle.round_trip.specs.Copied.{copied}
+use Rattle.round_trip.proofs.BackLemmas.{text-back}
+use Rattle.round_trip.proofs.ValuesListLemmas.{stands}
+use Rattle.handshake.specs.Effects.{after}
+use Rattle.handshake.specs.Loaded.{LoadsEnds}
+use Rattle.handshake.specs.Resolving.{proxy_at}
+use Rattle.handshake.specs.declared.change.Change.{Change}
+use Rattle.handshake.specs.declared.change.Change.TheVariants.{Load, NewResource, Resolve}
+use Rattle.reloading.specs.Alike.{Alike}
+use Rattle.reloading.specs.Between.{Between}
+use Rattle.reloading.specs.Laws.{IsResolvedBetween}
+use Rattle.reloading.specs.Orders.{Fill, IsFilling, IsMaking, IsOrder, IsSaved, Make, Task, after_all, changes, number_of, uri_of}
+use Rattle.reloading.specs.Proxies.{HasNoProxy}
+use Rattle.reloading.specs.Reload as models
+use Rattle.reloading.proofs.AfterLemmas.{now-legal}
+use Rattle.reloading.proofs.AlikeLemmas.{alike-of}
+use Rattle.reloading.proofs.FillLemmas.{fill-allowed, filled-so-far}
+use Rattle.reloading.proofs.LoadedLemmas.{readable, uri-at}
+use Rattle.reloading.proofs.MakeLemmas.{made-so-far, room, uri-new, uri-short}
+use Rattle.reloading.proofs.OrdersLemmas.{at-first, loads-give-between}
+use Rattle.reloading.proofs.AgainLemmas as reloads_of
+use Rattle.reloading.proofs.AgainLemmas.{same-metamodel}
+use Rattle.reloading.proofs.ResolveLemmas.{resolves-between, text-at}
+use Rattle.reloading.proofs.SoFarLemmas.{HasSoFar, numbered}
+use Rattle.repository.specs.Loads.{reads_into, uri_at}
+use Rattle.repository.specs.Run.{run}
+use Rattle.repository.specs.State.{State, reads}
+use Rattle.repository.specs.Step.{Stepped}
+use Rattle.repository.specs.declared.command.Command.{Command}
+use Rattle.repository.specs.declared.command.Command.TheVariants as command
+use Rattle.reload_laws.specs.Reload.{AllDone, AreResolves, AreTexts, ReloadsInAnyOrder, commands, reloaded}
+use Rattle.reload_laws.proofs.StepLemmas.{IsStep, bare, filled, made, resolved}
+
+---------------------------------------------------------------- runs
+
+-- commands are done, and leave a model
+record IsRunOf (t : Model) (cs : List (Command View)) (u : Model) : Type 0 where
+  done : AllDone (run (bare t) cs).outcomes
+  after_them : (run (bare t) cs).after ≡ bare u
+
+one-more : (t u v : Model) (c : Command View) (cs : List (Command View)) → IsStep t c u → IsRunOf u cs v → IsRunOf t (c ∷ cs) v
+one-more t u v c cs is rest = record {
+  done = subst (λ (y : Stepped). AllDone (y.outcome ∷ (run y.after cs).outcomes)) (sym is) (tt, rest.done);
+  after_them = ap (λ (y : Stepped). (run y.after cs).after) is ∙ rest.after_them;
+}
+
+---------------------------------------------------------------- loads
+
+module _ (s : Model) (legal : IsLegal s) (steady : HasSteadyTexts s) (saved : IsSaved (reading s)) (ends : (s : Model) (k : ResourceNo) (doc : Doc) → LoadsEnds s k doc) (texts : ResourceNo → List ℕ) (are : AreTexts (reading s) texts) where
+  abbrev r : Reading
+  r = reading s
+
+  module _ (w : ValuesState) (b : Links) (done filled_ones : List ResourceNo) (so_far : HasSoFar s w b done filled_ones) (k : ResourceNo) where
+    abbrev t : Model
+    t = model_of s.metamodel w b
+
+    makes : IsMaking r done k → IsStep t (command.CreateResource (uri_of r k)) (after t (NewResource (uri_of r k)))
+    makes making =
+        made t (uri_of r k) (All-contains IsWebUri s.values.uris (uri_of r k) steady.uris (stands s.values.uris k.0 (uri_of r k) (uri-at s legal steady saved k making.there)))
+        (uri-short s legal steady saved w b done filled_ones so_far k making) (room s legal steady saved w b done filled_ones so_far k making) (uri-new s legal steady saved w b done filled_ones so_far k making)
+
+    fills : IsFilling done filled_ones k → IsStep t (command.Load (number_of done k) (texts k)) (after t (Load (number_of done k) (copied r k)))
+    fills filling =
+        filled t (number_of done k) (texts k) (copied r k) read (fill-allowed s legal steady saved ends w b done filled_ones so_far k filling)
+      where
+        there : has_resource r k ≡ true
+        there = so_far.there k filling.there
+
+        same_uri : uri_at (reading t) (number_of done k) ≡ uri_of r k
+        same_uri =
+            ap (λ (us : List (List ℕ)). unwrap_or (slice_get us (number_of done k).0) []) so_far.uris
+            ∙ ap (λ (x : Option (List ℕ)). unwrap_or x []) (at-map (uri_of r) done (number_of done k).0 k (numbered done k filling.there).there)
+
+        read : reads_into (reading t) (number_of done k) (texts k) ≡ Ok (copied r k)
+        read = ap (λ (u : List ℕ). reads_bytes s.metamodel u (texts k)) same_uri ∙ text-back s legal steady k (uri_of r k) (readable s legal steady saved k there) (texts k) (are.reads k there) (are.utf8 k there)
+
+  all-made : (ts : List Task) (w : ValuesState) (b : Links) (done filled_ones : List ResourceNo) → HasSoFar s w b done filled_ones → IsOrder r done filled_ones ts
+      → IsRunOf (model_of s.metamodel w b) (commands r texts done ts) (after_all (model_of s.metamodel w b) (changes r done ts))
+  all-made [] w b done filled_ones so_far order = record { done = tt; after_them = refl }
+  all-made (Make k ∷ ts) w b done filled_ones so_far order =
+      let t = model_of s.metamodel w b in
+      let u = after t (NewResource (uri_of r k)) in
+      one-more t u (after_all u (changes r (done ++ k ∷ []) ts)) (command.CreateResource (uri_of r k)) (commands r texts (done ++ k ∷ []) ts) (makes w b done filled_ones so_far k order.0)
+      (all-made ts u.values u.links (done ++ k ∷ []) filled_ones (made-so-far s legal steady saved w b done filled_ones so_far k order.0) order.1)
+  all-made (Fill k ∷ ts) w b done filled_ones so_far order =
+      let t = model_of s.metamodel w b in
+      let u = after t (Load (number_of done k) (copied r k)) in
+      one-more t u (after_all u (changes r done ts)) (command.Load (number_of done k) (texts k)) (commands r texts done ts) (fills w b done filled_ones so_far k order.0)
+      (all-made ts u.values u.links done (filled_ones ++ k ∷ []) (filled-so-far s legal steady saved ends w b done filled_ones so_far k order.0) order.1)
+
+---------------------------------------------------------------- resolves
+
+module _ (s : Model) (legal : IsLegal s) (none : HasNoProxy (reading s)) where
+  record AreDone (t : State) (cs : List (Command View)) : Type 0 where
+    done : AllDone (run t cs).outcomes
+    alike : Alike (reading s) (reads (run t cs).after)
+
+  module _ (w : ValuesState) (b : Links) (other : IsLegal (model_of s.metamodel w b)) (between : Between (reading s) (reading (model_of s.metamodel w b))) (o : ObjectNo) (f : FeatureNo) (i : ℕ)
+      (there : is_some (proxy_at (reading (model_of s.metamodel w b)) (at_end (node.Object o) f) i) ≡ true) where
+    abbrev before : Model
+    before = model_of s.metamodel w b
+
+    one : IsResolvedBetween (reading s) before o f i
+    one = resolves-between s w b legal other none between o f i there
+
+    then-legal : IsLegal (after before (Resolve o f i))
+    then-legal = let p = text-at (slice_get (values_at before (at_end (node.Object o) f)) i) there in now-legal s w b legal other none between o f i p.0 p.1
+
+    stepped : IsStep before (command.Resolve o f i) (after before (Resolve o f i))
+    stepped = resolved before o f i (record { early = one.early; late = one.late })
+
+  all-resolved : (cs : List (Command View)) (w : ValuesState) (b : Links) → IsLegal (model_of s.metamodel w b) → Between (reading s) (reading (model_of s.metamodel w b)) → AreResolves (bare (model_of s.metamodel w b)) cs → AreDone (bare (model_of s.metamodel w b)) cs
+  all-resolved [] w b other between resolves = record { done = tt; alike = alike-of (reading s) (reading (model_of s.metamodel w b)) none resolves between }
+  all-resolved (command.Resolve o f i ∷ cs) w b other between resolves =
+      let u = after (model_of s.metamodel w b) (Resolve o f i) in
+      let is = stepped w b other between o f i resolves.0 in
+      let rest = all-resolved cs u.values u.links (then-legal w b other between o f i resolves.0) (one w b other between o f i resolves.0).between (subst (λ (y : Stepped). AreResolves y.after cs) is resolves.1) in
+      record {
+        done = subst (λ (y : Stepped). AllDone (y.outcome ∷ (run y.after cs).outcomes)) (sym is) (tt, rest.done);
+        alike = subst (λ (y : Stepped). Alike (reading s) (reads (run y.after cs).after)) (sym is) rest.alike;
+      }
+  all-resolved (_ ∷ cs) w b other between resolves = absurd resolves
+
+  -- resolves of a model are such commands
+  as-commands : (cs : List Change) (w : ValuesState) (b : Links) → IsLegal (model_of s.metamodel w b) → Between (reading s) (reading (model_of s.metamodel w b)) → models.AreResolves (model_of s.metamodel w b) cs
+      → (rs : List (Command View)) × AreResolves (bare (model_of s.metamodel w b)) rs
+  as-commands [] w b other between resolves = ([], resolves)
+  as-commands (Resolve o f i ∷ cs) w b other between resolves =
+      let u = after (model_of s.metamodel w b) (Resolve o f i) in
+      let is = stepped w b other between o f i resolves.0 in
+      let rest = as-commands cs u.values u.links (then-legal w b other between o f i resolves.0) (one w b other between o f i resolves.0).between resolves.1 in
+      (command.Resolve o f i ∷ rest.0, (resolves.0, subst (λ (y : Stepped). AreResolves y.after rest.0) (sym is) rest.1))
+  as-commands (_ ∷ cs) w b other between resolves = absurd resolves
+
+---------------------------------------------------------------- all of it
+
+pub reloads : ((s : Model) (k : ResourceNo) (doc : Doc) → LoadsEnds s k doc) → (s : State) → ReloadsInAnyOrder s
+reloads ends state legal steady saved texts are ts order =
+    let s = state.model in
+    let l = loads-give-between ends s legal.model steady saved ts order in
+    let t = models.reloaded s ts in
+    let u = model_of s.metamodel t.values t.links in
+    let same : t ≡ u = λ i. record { metamodel = same-metamodel (empty_model s.metamodel) (changes (reading s) [] ts) i; values = t.values; links = t.links } in
+    let other = subst IsLegal same l.legal in
+    let between = subst (λ (x : Model). Between (reading s) (reading x)) same l.between in
+    let ran = all-made s legal.model steady saved ends texts are ts (record { objects = []; uris = [] }) no_links [] [] (at-first s legal.model steady saved ends) order in
+    let now : reloaded state texts ts ≡ bare u = ran.after_them ∙ ap bare same in
+    let some = (reloads_of.reloads ends s legal.model steady saved ts order).some in
+    record {
+      loads = ran.done;
+      some = subst (λ (y : State). (rs : List (Command View)) × AreResolves y rs) (sym now) (as-commands s legal.model saved.resolved some.0 t.values t.links other between (subst (λ (x : Model). models.AreResolves x some.0) same some.1));
+      had = λ rs resolves.
+          (let x = subst (λ (y : State). AreDone s legal.model saved.resolved y rs) (sym now) (all-resolved s legal.model saved.resolved rs t.values t.links other between (subst (λ (y : State). AreResolves y rs) now resolves)) in
+          record { resolves = x.done; alike = x.alike });
+    }

@@ -1,0 +1,26 @@
+-- What was saved is a document that reading gives, so its load makes images of what was saved.
+use Rattle.std.proofs.Common.{ℕ, List}
+use Rattle.mm_types.specs.declared.numbers.ResourceNo.{ResourceNo}
+use Rattle.mm_values.specs.Values.{ValuesState}
+use Rattle.links.specs.Links.{Links}
+use Rattle.models.specs.Legal.{IsLegal}
+use Rattle.models.specs.Model.{Model, reading}
+use Rattle.models.specs.Steady.{HasSteadyTexts}
+use Rattle.saved_docs.specs.Document.{document}
+use Rattle.resource_docs.specs.declared.doc.Doc.{Doc}
+use Rattle.round_trip.specs.Copied.{copied}
+use Rattle.round_trip.specs.Readable.{IsReadable}
+use Rattle.round_trip.proofs.BackLemmas.{value-back}
+use Rattle.handshake.specs.Loaded.{LoadsEnds}
+use Rattle.handshake.specs.Plans.{IsDocument}
+use Rattle.reloading.specs.Laws.{LoadsSaved}
+use Rattle.reloading.proofs.ImageLemmas.{load-images}
+
+pub saved-document : (s : Model) → IsLegal s → HasSteadyTexts s → (k : ResourceNo) (uri : List ℕ) → IsReadable (reading s) k uri → IsDocument s.metamodel (copied (reading s) k)
+saved-document s legal steady k uri fine = record { uri = uri; read = record { source = document (reading s) k; gives = value-back s legal steady k uri fine } }
+
+-- what a load leaves of a document is what it leaves of this one
+pub loads-saved : ((s : Model) (k : ResourceNo) (doc : Doc) → LoadsEnds s k doc) → (s : Model) (w : ValuesState) (b : Links) → LoadsSaved s w b
+loads-saved ends s w b legal steady k j uri fine other early late =
+    let read = saved-document s legal steady k uri fine in
+    load-images s w b legal other k j early late read (ends _ j (copied (reading s) k) other early late read)

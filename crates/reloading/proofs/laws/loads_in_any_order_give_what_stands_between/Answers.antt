@@ -1,0 +1,5 @@
+use Rattle.reloading.proofs.OrdersLemmas.{loads-give-between}
+use Rattle.reloading.proofs.laws.loads_in_any_order_give_what_stands_between.Goals as goal
+
+pub returns : goal.returns
+returns c = loads-give-between c.a_load_reads_as_its_document.ensures

@@ -1,0 +1,5 @@
+use Rattle.reloading.proofs.SavedLemmas.{loads-saved}
+use Rattle.reloading.proofs.laws.what_was_saved_is_loaded_as_it_was.Goals as goal
+
+pub returns : goal.returns
+returns c = loads-saved c.a_load_reads_as_its_document.ensures

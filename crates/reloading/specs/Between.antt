@@ -1,0 +1,28 @@
+-- What a model is between a load of all that was saved and the model that it was saved from: some values are still proxies.
+use Rattle.std.specs.Prelude.{◌≡◌, ℕ, Bool, true, List, Contains, Some, is_some}
+use Rattle.mm_types.specs.Ends.{has_value}
+use Rattle.mm_types.specs.Shapes.{shape}
+use Rattle.mm_types.specs.declared.numbers.FeatureNo.{FeatureNo}
+use Rattle.mm_types.specs.declared.numbers.ObjectNo.{ObjectNo}
+use Rattle.mm_types.specs.declared.numbers.Node.TheVariants as node
+use Rattle.mm_types.specs.declared.value.Value.TheVariants as value
+use Rattle.models.specs.Reading.{Reading, at_end, is_live}
+use Rattle.fragment_paths.specs.Fragments.{address}
+use Rattle.reloading.specs.Addressed.{meant}
+use Rattle.reloading.specs.Alike.{HaveSame}
+
+-- a proxy of an address stands under a feature of an object
+abbrev pub has_proxy : Reading → ObjectNo → FeatureNo → List ℕ → Bool
+has_proxy r o f a = has_value (r.values (at_end (node.Object o) f)) (value.Proxy a)
+
+-- a link of s between two ends: in t, both ends have a proxy there, or neither has one. So no proxy is without its match
+abbrev pub AreBothOrNone : Reading → Reading → Type 0
+AreBothOrNone s t =
+    (f g : FeatureNo) (o b p q : ObjectNo) (x y : List ℕ) → (shape s.metamodel f).opposite ≡ Some g → Contains (s.values (at_end (node.Object o) f)) (value.Object b)
+    → address s o ≡ Some x → address s b ≡ Some y → address t p ≡ Some x → address t q ≡ Some y → has_proxy t p f y ≡ has_proxy t q g x
+
+-- t has what s has, where a proxy counts as the object at its address; and each object of t is in a resource
+pub record Between (s t : Reading) : Type 0 where
+  pub same : HaveSame meant s t
+  pub pairs : AreBothOrNone s t
+  pub inside : (p : ObjectNo) → is_live t p ≡ true → is_some (address t p) ≡ true

@@ -1,0 +1,79 @@
+-- The laws that reloading in any order is made of.
+use Rattle.std.specs.Prelude.{◌≡◌, ℕ, ◌+◌, true, List, Some, None, is_some, if◌then◌else◌}
+use Rattle.mm_types.specs.Shapes.{shape}
+use Rattle.mm_types.specs.declared.numbers.FeatureNo.{FeatureNo}
+use Rattle.mm_types.specs.declared.numbers.Node.TheVariants as node
+use Rattle.mm_types.specs.declared.numbers.ObjectNo.{ObjectNo}
+use Rattle.mm_types.specs.declared.numbers.ResourceNo.{ResourceNo}
+use Rattle.mm_values.specs.Values.{ValuesState}
+use Rattle.links.specs.Links.{Links}
+use Rattle.models.specs.Legal.{IsLegal}
+use Rattle.models.specs.Model.{Model, model_of, reading}
+use Rattle.models.specs.Reading.{Reading, at_end}
+use Rattle.models.specs.Steady.{HasSteadyTexts}
+use Rattle.fragment_paths.specs.Finding.{at}
+use Rattle.fragment_paths.specs.Fragments.{address}
+use Rattle.resource_docs.specs.declared.doc.Doc.{Doc}
+use Rattle.round_trip.specs.Copied.{copied}
+use Rattle.round_trip.specs.Readable.{IsReadable}
+use Rattle.handshake.specs.Effects.{after}
+use Rattle.handshake.specs.Laws.{OfAllowed}
+use Rattle.handshake.specs.Plans.{HasReadDocument}
+use Rattle.handshake.specs.Refusals.{early_refusal, late_refusal}
+use Rattle.handshake.specs.Resolving.{proxy_at}
+use Rattle.handshake.specs.declared.change.Change.TheVariants.{Load, Resolve}
+use Rattle.reloading.specs.Alike.{Alike}
+use Rattle.reloading.specs.Between.{Between}
+use Rattle.reloading.specs.Images.{HasImages}
+use Rattle.reloading.specs.Proxies.{HasNoProxy, left}
+use Rattle.reloading.specs.ResolveAll.{resolve_all}
+
+---------------------------------------------------------------- addresses
+
+-- an object is found by its address, and has it alone
+pub record HasOwnAddresses (r : Reading) : Type 0 where
+  pub finds : (o : ObjectNo) (a : List ℕ) → address r o ≡ Some a → at r a ≡ Some o
+  pub one : (o b : ObjectNo) (a : List ℕ) → address r o ≡ Some a → address r b ≡ Some a → o ≡ b
+
+-- resolving a proxy leaves each object its address
+abbrev pub ResolvesKeepAddresses : Model → ObjectNo → FeatureNo → ℕ → Type 0
+ResolvesKeepAddresses s o f i = OfAllowed (λ s c. (x : ObjectNo) → address (reading (after s c)) x ≡ address (reading s) x) s (Resolve o f i)
+
+-- a load leaves each object that has an address that address
+abbrev pub LoadsKeepAddresses : Model → ResourceNo → Doc → Type 0
+LoadsKeepAddresses s k doc =
+    OfAllowed (λ s c. HasReadDocument s.metamodel c → (o : ObjectNo) (a : List ℕ) → address (reading s) o ≡ Some a → address (reading (after s c)) o ≡ Some a) s (Load k doc)
+
+---------------------------------------------------------------- loads
+
+-- a resource of s that was saved has its images once its document is loaded into a resource of another model
+abbrev pub LoadsSaved : Model → ValuesState → Links → Type 0
+LoadsSaved s w b =
+    IsLegal s → HasSteadyTexts s → (k j : ResourceNo) (uri : List ℕ) → IsReadable (reading s) k uri
+    → OfAllowed (λ t c. HasImages (reading s) k (reading t).next j (reading (after t c))) (model_of s.metamodel w b) (Load j (copied (reading s) k))
+
+---------------------------------------------------------------- resolves
+
+-- nothing refuses to resolve a proxy; the model is between as before, and one proxy fewer is left, or two of a link with an opposite
+pub record IsResolvedBetween (r : Reading) (t : Model) (o : ObjectNo) (f : FeatureNo) (i : ℕ) : Type 0 where
+  pub early : early_refusal (reading t) (Resolve o f i) ≡ None
+  pub late : late_refusal (reading t) (Resolve o f i) ≡ None
+  pub between : Between r (reading (after t (Resolve o f i)))
+  pub fewer : left (reading t) ≡ (if is_some (shape t.metamodel f).opposite then 2 else 1) + left (reading (after t (Resolve o f i)))
+
+-- so it is of each proxy of a model that is between one without proxies and that
+abbrev pub ResolvesBetween : Model → ValuesState → Links → Type 0
+ResolvesBetween s w b =
+    let t = model_of s.metamodel w b in
+    IsLegal s → IsLegal t → HasNoProxy (reading s) → Between (reading s) (reading t) → (o : ObjectNo) (f : FeatureNo) (i : ℕ)
+    → is_some (proxy_at (reading t) (at_end (node.Object o) f) i) ≡ true → IsResolvedBetween (reading s) t o f i
+
+-- where all proxies of such a model are resolved in their order, none is left, and it is alike to the one that it is between with
+pub record IsAllResolved (r : Reading) (t : Model) : Type 0 where
+  pub none : HasNoProxy (reading (resolve_all t))
+  pub alike : Alike r (reading (resolve_all t))
+
+abbrev pub ResolvesAll : Model → ValuesState → Links → Type 0
+ResolvesAll s w b =
+    let t = model_of s.metamodel w b in
+    IsLegal s → IsLegal t → HasNoProxy (reading s) → Between (reading s) (reading t) → IsAllResolved (reading s) t

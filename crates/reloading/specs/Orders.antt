@@ -1,0 +1,89 @@
+-- The loads of all that was saved, in any order: each resource is made anew once, and its document loaded into it once.
+use Rattle.std.specs.Prelude.{◌≡◌, ◌≤◌, ℕ, Bool, true, false, List, [], ◌∷◌, ◌++◌, length, nat_eq, position, slice_get, unwrap_or, None}
+use Rattle.std.specs.List.{list_any}
+use Rattle.mm_types.specs.declared.limits.TheConstants.{TEXT_BYTES}
+use Rattle.mm_types.specs.declared.numbers.ObjectNo.{ObjectNo}
+use Rattle.mm_types.specs.declared.numbers.ResourceNo.{ResourceNo}
+use Rattle.models.specs.Legal.{IsLegal}
+use Rattle.models.specs.Model.{Model, empty_model, reading}
+use Rattle.models.specs.Reading.{Reading, has_resource}
+use Rattle.models.specs.Steady.{HasSteadyTexts}
+use Rattle.saved_docs.specs.Document.{reference_text}
+use Rattle.saved_docs.specs.Saved.{save_refusal}
+use Rattle.round_trip.specs.Copied.{copied}
+use Rattle.round_trip.specs.Readable.{Refers}
+use Rattle.handshake.specs.Effects.{after}
+use Rattle.handshake.specs.Refusals.{early_refusal, late_refusal}
+use Rattle.handshake.specs.declared.change.Change.{Change}
+use Rattle.handshake.specs.declared.change.Change.TheVariants.{Load, NewResource}
+use Rattle.reloading.specs.Between.{Between}
+use Rattle.reloading.specs.Proxies.{HasNoProxy}
+
+-- a resource is made anew, or its document is loaded into it
+pub data Task : Type 0 where
+  Make : ResourceNo → Task
+  Fill : ResourceNo → Task
+
+abbrev pub is_same : ResourceNo → ResourceNo → Bool
+is_same k j = nat_eq k.0 j.0
+
+abbrev pub has : List ResourceNo → ResourceNo → Bool
+has ks k = list_any (is_same k) ks
+
+-- a resource that is there and is not made yet; one that is made and not filled yet
+pub record IsMaking (r : Reading) (made : List ResourceNo) (k : ResourceNo) : Type 0 where
+  pub there : has_resource r k ≡ true
+  pub new : has made k ≡ false
+
+pub record IsFilling (made filled : List ResourceNo) (k : ResourceNo) : Type 0 where
+  pub there : has made k ≡ true
+  pub new : has filled k ≡ false
+
+-- tasks that make each resource once and fill each once, none before it is made; where these were made already, and these filled
+abbrev pub IsOrder : Reading → List ResourceNo → List ResourceNo → List Task → Type 0
+IsOrder r made filled [] = (k : ResourceNo) → has_resource r k ≡ true → has filled k ≡ true
+IsOrder r made filled (Make k ∷ ts) = IsMaking r made k × IsOrder r (made ++ k ∷ []) filled ts
+IsOrder r made filled (Fill k ∷ ts) = IsFilling made filled k × IsOrder r made (filled ++ k ∷ []) ts
+
+-- the number that a resource got, where these were made in this order
+abbrev pub number_of : List ResourceNo → ResourceNo → ResourceNo
+number_of made k = record { 0 = unwrap_or (position (is_same k) made) 0 }
+
+abbrev pub uri_of : Reading → ResourceNo → List ℕ
+uri_of r k = unwrap_or (slice_get r.uris k.0) []
+
+-- the changes of tasks: a resource of the same URI is made, and the document of a resource, read again, is loaded
+abbrev pub changes : Reading → List ResourceNo → List Task → List Change
+changes r made [] = []
+changes r made (Make k ∷ ts) = NewResource (uri_of r k) ∷ changes r (made ++ k ∷ []) ts
+changes r made (Fill k ∷ ts) = Load (number_of made k) (copied r k) ∷ changes r made ts
+
+-- the model after changes
+abbrev pub after_all : Model → List Change → Model
+after_all t [] = t
+after_all t (c ∷ cs) = after_all (after t c) cs
+
+-- nothing refuses a change, and each of a list in its turn
+pub record IsAllowed (t : Model) (c : Change) : Type 0 where
+  pub early : early_refusal (reading t) c ≡ None
+  pub late : late_refusal (reading t) c ≡ None
+
+abbrev pub AreAllowed : Model → List Change → Type 0
+AreAllowed t [] = Unit {0}
+AreAllowed t (c ∷ cs) = IsAllowed t c × AreAllowed (after t c) cs
+
+-- each resource can be saved, no text of a reference is too long, and no proxy is left
+pub record IsSaved (r : Reading) : Type 0 where
+  pub allowed : (k : ResourceNo) → has_resource r k ≡ true → save_refusal r k ≡ None
+  pub short : (k : ResourceNo) (o : ObjectNo) → has_resource r k ≡ true → Refers r k o → length (reference_text r k o) ≤ TEXT_BYTES
+  pub resolved : HasNoProxy r
+
+-- in an empty model of the metamodel nothing refuses the changes, and what they leave is legal, and between what was saved and itself
+pub record AreLoads (s : Model) (ts : List Task) : Type 0 where
+  pub allowed : AreAllowed (empty_model s.metamodel) (changes (reading s) [] ts)
+  pub legal : IsLegal (after_all (empty_model s.metamodel) (changes (reading s) [] ts))
+  pub between : Between (reading s) (reading (after_all (empty_model s.metamodel) (changes (reading s) [] ts)))
+
+-- whatever the order
+abbrev pub LoadsGiveBetween : Model → Type 0
+LoadsGiveBetween s = IsLegal s → HasSteadyTexts s → IsSaved (reading s) → (ts : List Task) → IsOrder (reading s) [] [] ts → AreLoads s ts

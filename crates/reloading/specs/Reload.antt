@@ -1,0 +1,40 @@
+-- What was saved is had again: the loads of all that was saved, in any order, and then resolves until no proxy is left.
+use Rattle.std.specs.Prelude.{◌≡◌, true, List, [], ◌∷◌, is_some}
+use Rattle.mm_types.specs.declared.numbers.Node.TheVariants as node
+use Rattle.models.specs.Legal.{IsLegal}
+use Rattle.models.specs.Model.{Model, empty_model, reading}
+use Rattle.models.specs.Reading.{at_end}
+use Rattle.models.specs.Steady.{HasSteadyTexts}
+use Rattle.handshake.specs.Effects.{after}
+use Rattle.handshake.specs.Resolving.{proxy_at}
+use Rattle.handshake.specs.declared.change.Change.{Change}
+use Rattle.handshake.specs.declared.change.Change.TheVariants.{Resolve}
+use Rattle.reloading.specs.Alike.{Alike}
+use Rattle.reloading.specs.Laws.{IsAllResolved}
+use Rattle.reloading.specs.Orders.{AreAllowed, IsOrder, IsSaved, Task, after_all, changes}
+use Rattle.reloading.specs.Proxies.{HasNoProxy}
+
+-- each change resolves a proxy that stands there in its turn, and none stands anywhere after the last
+abbrev pub AreResolves : Model → List Change → Type 0
+AreResolves t [] = HasNoProxy (reading t)
+AreResolves t (Resolve o f i ∷ cs) = (is_some (proxy_at (reading t) (at_end (node.Object o) f) i) ≡ true) × AreResolves (after t (Resolve o f i)) cs
+AreResolves t (c ∷ cs) = ⊥
+
+-- an empty model after the loads of what was saved
+abbrev pub reloaded : Model → List Task → Model
+reloaded s ts = after_all (empty_model s.metamodel) (changes (reading s) [] ts)
+
+-- nothing refuses the loads nor the resolves, and what comes to stand is alike to what was saved
+pub record IsHadAgain (s : Model) (ts : List Task) (cs : List Change) : Type 0 where
+  pub loads : AreAllowed (empty_model s.metamodel) (changes (reading s) [] ts)
+  pub resolves : AreAllowed (reloaded s ts) cs
+  pub alike : Alike (reading s) (reading (after_all (reloaded s ts) cs))
+
+-- whatever the order of the loads, and of the resolves; there are such resolves; and to resolve all proxies in their order is one way
+pub record IsReloaded (s : Model) (ts : List Task) : Type 0 where
+  pub some : (cs : List Change) × AreResolves (reloaded s ts) cs
+  pub had : (cs : List Change) → AreResolves (reloaded s ts) cs → IsHadAgain s ts cs
+  pub all : IsAllResolved (reading s) (reloaded s ts)
+
+abbrev pub ReloadsInAnyOrder : Model → Type 0
+ReloadsInAnyOrder s = IsLegal s → HasSteadyTexts s → IsSaved (reading s) → (ts : List Task) → IsOrder (reading s) [] [] ts → IsReloaded s ts

@@ -1,0 +1,79 @@
+//! Laws of the definitions, each the contract of a function that does nothing but call the laws that it rests on.
+ghost use Rattle.std.specs.Prelude.{◌≡◌, ℕ};
+ghost use Rattle.mm_types.specs.declared.numbers.FeatureNo.{FeatureNo};
+ghost use Rattle.mm_types.specs.declared.numbers.ObjectNo.{ObjectNo};
+ghost use Rattle.mm_types.specs.declared.numbers.ResourceNo.{ResourceNo};
+ghost use Rattle.mm_values.specs.Values.{ValuesState};
+ghost use Rattle.links.specs.Links.{Links};
+ghost use Rattle.models.specs.Legal.{IsLegal};
+ghost use Rattle.models.specs.Model.{Model, reading};
+ghost use Rattle.models.specs.Reading.{Reading};
+ghost use Rattle.resource_docs.specs.declared.doc.Doc.{Doc};
+ghost use Rattle.reloading.specs.Alike.{Alike};
+ghost use Rattle.reloading.specs.Between.{Between};
+ghost use Rattle.reloading.specs.Laws.{HasOwnAddresses, LoadsKeepAddresses, LoadsSaved, ResolvesAll, ResolvesBetween, ResolvesKeepAddresses};
+ghost use Rattle.reloading.specs.Orders.{LoadsGiveBetween};
+ghost use Rattle.reloading.specs.Proxies.{HasNoProxy, left};
+ghost use Rattle.reloading.specs.Reload.{ReloadsInAnyOrder};
+
+/// In a legal model an address finds the object that has it, and no two objects have one (EMF: EcoreUtil.getURI, ResourceSet.getEObject).
+pub fn an_address_is_of_one_object()
+    ensures { (s : Model) → IsLegal s → HasOwnAddresses (reading s) }
+{}
+
+/// Resolving a proxy leaves each object its address, and a load leaves it to each that has one.
+pub fn resolves_and_loads_keep_addresses()
+    ensures resolves { (s : Model) (o : ObjectNo) (f : FeatureNo) (i : ℕ) → ResolvesKeepAddresses s o f i }
+    ensures loads { (s : Model) (k : ResourceNo) (doc : Doc) → LoadsKeepAddresses s k doc }
+{
+    handshake::laws::a_load_reads_as_its_document();
+}
+
+/// A resource that was saved, loaded into another model: each object that was saved is had again, under the numbers that follow on, with
+/// its class, its flags, what holds it, and what stood at each of its ends, objects of other resources as proxies of their addresses. It is
+/// in the resource of the load, and has its address where that has the URI of its own (EMF: XMLResource.save, XMLResource.load).
+pub fn what_was_saved_is_loaded_as_it_was()
+    ensures { (s : Model) (w : ValuesState) (b : Links) → LoadsSaved s w b }
+{
+    handshake::laws::a_load_reads_as_its_document();
+}
+
+/// All that was saved, of a model without proxies, loaded into a new model: its resources are made, and their documents loaded, in any
+/// order in which none is loaded before it is made. Nothing but memory refuses any of these changes, and what they leave is between what
+/// was saved and itself.
+pub fn loads_in_any_order_give_what_stands_between()
+    ensures { (s : Model) → LoadsGiveBetween s }
+{
+    handshake::laws::a_load_reads_as_its_document();
+}
+
+/// Where a model is between a saved one without proxies and itself, nothing but memory refuses to resolve a proxy. Then it is between
+/// still, and one proxy fewer is left, or two where they were the ends of one link.
+pub fn resolving_stays_between()
+    ensures { (s : Model) (w : ValuesState) (b : Links) → ResolvesBetween s w b }
+{}
+
+/// Where all proxies of such a model are resolved, one after another in their order, none is left, and the model is alike to what was
+/// saved.
+pub fn resolving_all_leaves_no_proxy()
+    ensures { (s : Model) (w : ValuesState) (b : Links) → ResolvesAll s w b }
+{}
+
+/// Where no proxy is left in a legal model, none stands anywhere.
+pub fn with_no_proxy_left_none_stands()
+    ensures { (s : Model) → IsLegal s → left (reading s) ≡ 0 → HasNoProxy (reading s) }
+{}
+
+/// A model without proxies that is between another one without proxies and that is alike to it.
+pub fn without_proxies_models_between_are_alike()
+    ensures { (s t : Reading) → HasNoProxy s → HasNoProxy t → Between s t → Alike s t }
+{}
+
+/// All that was saved, of a model without proxies, loaded into a new model in any order, and then proxies resolved in any order until none
+/// is left: nothing but memory refuses any of these changes, and what comes to stand is alike to what was saved. There are such resolves,
+/// and to resolve all proxies in their order is one way.
+pub fn what_was_saved_is_had_again_in_any_order()
+    ensures { (s : Model) → ReloadsInAnyOrder s }
+{
+    handshake::laws::a_load_reads_as_its_document();
+}
