@@ -3,7 +3,7 @@ use script_lines::{Line, parse_line};
 use std::alloc::{AllocError, Global};
 
 /// The forms, as `docs/SCRIPT.md` has them.
-pub(crate) static FORMS: [&str; 27] = [
+pub(crate) static FORMS: [&str; 28] = [
     "new NAME",
     "set NODE NAME VALUE",
     "unset NODE NAME",
@@ -16,6 +16,7 @@ pub(crate) static FORMS: [&str; 27] = [
     "resource STR",
     "load RES REST",
     "resolve OBJ NAME N",
+    "resolveall",
     "isset NODE NAME",
     "delete OBJ",
     "validate OBJ",

@@ -42,8 +42,8 @@ use Rattle.removal.specs.TreeTies.{tie}
 use Rattle.handshake.specs.Laws.{AreApart, AreDifferent, takes_many}
 use Rattle.handshake.specs.Refusals.{early_refusal, late_refusal}
 use Rattle.handshake.specs.Telling.{changed, flagged, happened, happened_all, has_flag, notice_at, notice_of, telling, told}
-use Rattle.handshake.specs.Tellings.{all_lost, before_gain, chain, destroyed_by, far_gain, far_loss, far_losses, gain_at, is_replaced, loaded_by, loss, losses, other_losses, taken_out, tellings, tellings_with}
-use Rattle.handshake.specs.declared.change.Change.TheVariants.{Create, Set, Unset, Add, Remove, RemoveValue, Move, Delete, NewResource, Resolve, Load}
+use Rattle.handshake.specs.Tellings.{all_lost, before_gain, chain, destroyed_by, far_gain, far_loss, far_losses, gain_at, is_replaced, loaded_by, loss, losses, other_losses, resolves_all, taken_out, tellings, tellings_with}
+use Rattle.handshake.specs.declared.change.Change.TheVariants.{Create, Set, Unset, Add, Remove, RemoveValue, Move, Delete, NewResource, Resolve, ResolveAll, Load}
 use Rattle.resource_docs.specs.declared.doc.Doc.{Doc}
 use Rattle.handshake.specs.declared.change.Change.{Change}
 use Rattle.handshake.specs.declared.happening.Happening.TheVariants.{Gains, LosesAt, Moves, Resolves, Unsets}
@@ -405,6 +405,7 @@ tellings-apart s (RemoveValue n f v) legal early late few =
     ]
 tellings-apart s (Move n f to from) legal early late few = one-apart (telling (at_end n f) (Moves to from))
 tellings-apart s (Load k doc) legal early late few = absurd (true≢false few)
+tellings-apart s ResolveAll legal early late few = absurd (true≢false few)
 tellings-apart s (Resolve o f i) legal early late few =
     let e = at_end (node.Object o) f in
     resolved-as s legal e i late (λ ts xs us u. AreApart us) (λ x is alone. one-apart (telling e (Resolves i (value.Object x.object))))
@@ -525,10 +526,10 @@ nothing-loaded (Load k doc) none = absurd (none k doc refl)
 nothing-loaded _ none = refl
 
 -- the chain of a change that destroys and loads nothing is the notices that are read in the model as it is
-pub chain-read : (s : Model) (c : Change) → IsLegal s → destroyed_by c ≡ None → loaded_by c ≡ None → early_refusal (reading s) c ≡ None → late_refusal (reading s) c ≡ None → chain (reading s) c ≡ map (notice_at (reading s)) (tellings (reading s) c)
-chain-read s c legal none unloaded early late =
+pub chain-read : (s : Model) (c : Change) → resolves_all c ≡ false → IsLegal s → destroyed_by c ≡ None → loaded_by c ≡ None → early_refusal (reading s) c ≡ None → late_refusal (reading s) c ≡ None → chain (reading s) c ≡ map (notice_at (reading s)) (tellings (reading s) c)
+chain-read s c one legal none unloaded early late =
     elim (takes_many (reading s) c) as (λ b. takes_many (reading s) c ≡ b → chain (reading s) c ≡ map (notice_at (reading s)) (tellings (reading s) c)) [
-      | true ↦ λ many. by c none unloaded many
+      | true ↦ λ many. by c one none unloaded many
       | false ↦ λ few. told-apart s.metamodel (held_at (reading s)) (tellings (reading s) c) (tellings-apart s c legal early late few)
     ] refl
   where
@@ -536,16 +537,17 @@ chain-read s c legal none unloaded early late =
     not-true true h = absurd (false≢true h)
     not-true false h = refl
 
-    by : (c : Change) → destroyed_by c ≡ None → loaded_by c ≡ None → takes_many (reading s) c ≡ true → chain (reading s) c ≡ map (notice_at (reading s)) (tellings (reading s) c)
-    by (Load k doc) none unloaded many = absurd (none-some doc (sym unloaded))
-    by (Delete o) none unloaded many = absurd (none-some o (sym none))
-    by (Unset n f) none unloaded many = unset-read s n f legal (not-true (shape s.metamodel f).is_single many)
-    by _ none unloaded many = absurd (false≢true many)
+    by : (c : Change) → resolves_all c ≡ false → destroyed_by c ≡ None → loaded_by c ≡ None → takes_many (reading s) c ≡ true → chain (reading s) c ≡ map (notice_at (reading s)) (tellings (reading s) c)
+    by ResolveAll one none unloaded many = absurd (true≢false one)
+    by (Load k doc) one none unloaded many = absurd (none-some doc (sym unloaded))
+    by (Delete o) one none unloaded many = absurd (none-some o (sym none))
+    by (Unset n f) one none unloaded many = unset-read s n f legal (not-true (shape s.metamodel f).is_single many)
+    by _ one none unloaded many = absurd (false≢true many)
 
 ---------------------------------------------------------------- tellings that are made
 
 -- the notices of the tellings that are made are the chain
-pub made-chain : (s : Model) (c : Change) (cut : List Tie) (ts : List Telling) → IsLegal s → destroyed_by c ≡ None → loaded_by c ≡ None → early_refusal (reading s) c ≡ None → late_refusal (reading s) c ≡ None → cut ≡ cut_ties (reading s) c → ts ≡ tellings_with (reading s) c cut
+pub made-chain : (s : Model) (c : Change) (cut : List Tie) (ts : List Telling) → resolves_all c ≡ false → IsLegal s → destroyed_by c ≡ None → loaded_by c ≡ None → early_refusal (reading s) c ≡ None → late_refusal (reading s) c ≡ None → cut ≡ cut_ties (reading s) c → ts ≡ tellings_with (reading s) c cut
     → (heard : Bool) → heard ≡ true → map (notice_at (reading s)) ts ≡ (if heard then chain (reading s) c else [])
-made-chain s c cut ts legal none unloaded early late is_cut made heard is =
-    ap (map (notice_at (reading s))) (made ∙ ap (tellings_with (reading s) c) is_cut) ∙ sym (chain-read s c legal none unloaded early late) ∙ ap (λ (b : Bool). if b then chain (reading s) c else []) (sym is)
+made-chain s c cut ts one legal none unloaded early late is_cut made heard is =
+    ap (map (notice_at (reading s))) (made ∙ ap (tellings_with (reading s) c) is_cut) ∙ sym (chain-read s c one legal none unloaded early late) ∙ ap (λ (b : Bool). if b then chain (reading s) c else []) (sym is)

@@ -1,4 +1,4 @@
--- The chain of a change, replayed at each end, gives what the end holds after it.
+-- The chain of a change that doesn't resolve all proxies, replayed at each end, gives what the end holds after it.
 use Rattle.std.proofs.Common.{◌≡◌, ℕ, zero, suc, ◌≤◌, nat_le, nat_lt, pos, insert, remove, length, slice_get, slice_index_or, option_map, option_to_list, arith, Bool, true, false, ◌||◌, not, List, [], ◌∷◌, ◌++◌, map, Option, Some, None, if◌then◌else◌, refl, sym, ap, ◌∙◌, subst}
 use Rattle.std.specs.Prelude.{slice_set}
 use Rattle.std.specs.List.{AllByRecursion, list_any}
@@ -44,9 +44,9 @@ use Rattle.handshake.specs.Laws.{AreDifferent, ChainReplays, comes_with, goes_wi
 use Rattle.handshake.specs.Plans.{HasReadDocument}
 use Rattle.handshake.specs.Refusals.{early_refusal, late_refusal}
 use Rattle.handshake.specs.Telling.{telling}
-use Rattle.handshake.specs.Tellings.{all_lost, before_gain, far_losses, gain_at, taken_out, tellings}
+use Rattle.handshake.specs.Tellings.{all_lost, before_gain, far_losses, gain_at, resolves_all, taken_out, tellings}
 use Rattle.handshake.specs.declared.change.Change.{Change}
-use Rattle.handshake.specs.declared.change.Change.TheVariants.{Create, Set, Unset, Add, Remove, RemoveValue, Move, Delete, NewResource, Resolve, Load}
+use Rattle.handshake.specs.declared.change.Change.TheVariants.{Create, Set, Unset, Add, Remove, RemoveValue, Move, Delete, NewResource, Resolve, ResolveAll, Load}
 use Rattle.handshake.specs.declared.happening.Happening.{Happening}
 use Rattle.handshake.specs.declared.happening.Happening.TheVariants.{Gains, LosesAt, Moves, Resolves, Unsets}
 use Rattle.handshake.specs.declared.happening.Telling.{Telling}
@@ -292,7 +292,7 @@ joint-replays s legal e i x is g opposite j text stands d =
     ∙ same-held s s.links u d (sym (ends d ∙ ap (λ (b : Bool). if b then mine else swapped y theirs (end s.links) d) apart ∙ ap (λ (b : Bool). if b then theirs else end s.links d) third)))
     other)
 
-resolve-changes : (s : Model) (legal : IsLegal s) (o : ObjectNo) (f : FeatureNo) (i : ℕ) → late_refusal (reading s) (Resolve o f i) ≡ None → Replays s (tellings (reading s) (Resolve o f i)) (after s (Resolve o f i))
+pub resolve-changes : (s : Model) (legal : IsLegal s) (o : ObjectNo) (f : FeatureNo) (i : ℕ) → late_refusal (reading s) (Resolve o f i) ≡ None → Replays s (tellings (reading s) (Resolve o f i)) (after s (Resolve o f i))
 resolve-changes s legal o f i late =
     let e = at_end (node.Object o) f in
     relinked-by s (tellings (reading s) (Resolve o f i)) _ _ (ap (λ (t : Links). put_by t (reading s) (Resolve o f i)) (sym (without_ties-names_of s.links (cut_ties (reading s) (Resolve o f i)))))
@@ -503,28 +503,29 @@ move-changes s n f to from legal has many late =
 everywhere : (s : Model) (c : Change) → Replays s (tellings (reading s) c) (after s c) → (d : End) → goes_with (reading s) c d.node ≡ false → comes_with (reading s) c d.node ≡ false → happened_at s.metamodel (tellings (reading s) c) d (held_at (reading s) d) ≡ held_at (reading (after s c)) d
 everywhere s c replays d stays old = replays d
 
-changes-replay : (s : Model) (c : Change) → IsLegal s → early_refusal (reading s) c ≡ None → late_refusal (reading s) c ≡ None → HasReadDocument s.metamodel c
+changes-replay : (s : Model) (c : Change) → resolves_all c ≡ false → IsLegal s → early_refusal (reading s) c ≡ None → late_refusal (reading s) c ≡ None → HasReadDocument s.metamodel c
     → (d : End) → goes_with (reading s) c d.node ≡ false → comes_with (reading s) c d.node ≡ false → happened_at s.metamodel (tellings (reading s) c) d (held_at (reading s) d) ≡ held_at (reading (after s c)) d
-changes-replay s (Create k) legal early late read = everywhere s (Create k) (create-replays s k)
-changes-replay s (NewResource u) legal early late read = everywhere s (NewResource u) (λ d. refl)
-changes-replay s (Delete o) legal early late read = (λ d stays old. destroyed-replays s legal o (delete-named (reading s) o early) d stays)
-changes-replay s (Set n f v) legal early late read = everywhere s (Set n f v) (set-changes s n f v legal early late)
-changes-replay s (Unset n f) legal early late read = everywhere s (Unset n f) (unset-changes s n f legal (unset-there (reading s) n f early))
-changes-replay s (Add n f v i) legal early late read = everywhere s (Add n f v i) (add-changes s n f v i legal early late)
-changes-replay s (Remove n f i) legal early late read =
+changes-replay s (Create k) one legal early late read = everywhere s (Create k) (create-replays s k)
+changes-replay s (NewResource u) one legal early late read = everywhere s (NewResource u) (λ d. refl)
+changes-replay s (Delete o) one legal early late read = (λ d stays old. destroyed-replays s legal o (delete-named (reading s) o early) d stays)
+changes-replay s (Set n f v) one legal early late read = everywhere s (Set n f v) (set-changes s n f v legal early late)
+changes-replay s (Unset n f) one legal early late read = everywhere s (Unset n f) (unset-changes s n f legal (unset-there (reading s) n f early))
+changes-replay s (Add n f v i) one legal early late read = everywhere s (Add n f v i) (add-changes s n f v i legal early late)
+changes-replay s (Remove n f i) one legal early late read =
     let named = remove-named (reading s) n f i early in
     everywhere s (Remove n f i) (take-changes s n f i legal named.0 named.1 (remove-placed (reading s) n f i late))
-changes-replay s (RemoveValue n f v) legal early late read =
+changes-replay s (RemoveValue n f v) one legal early late read =
     let named = take-named (reading s) n f v early in
     everywhere s (RemoveValue n f v) (take-value_changes s n f v legal named.there named.single)
-changes-replay s (Move n f to from) legal early late read =
+changes-replay s (Move n f to from) one legal early late read =
     let named = move-named (reading s) n f to from early in
     everywhere s (Move n f to from) (move-changes s n f to from legal named.0 named.1 late)
-changes-replay s (Resolve o f i) legal early late read = everywhere s (Resolve o f i) (resolve-changes s legal o f i late)
-changes-replay s (Load k doc) legal early late read = λ d stays old. load-replays s k doc legal late read d old
+changes-replay s (Resolve o f i) one legal early late read = everywhere s (Resolve o f i) (resolve-changes s legal o f i late)
+changes-replay s ResolveAll one legal early late read = absurd (true≢false one)
+changes-replay s (Load k doc) one legal early late read = λ d stays old. load-replays s k doc legal late read d old
 
-pub chain-replays : (s : Model) (c : Change) → ChainReplays s c
-chain-replays s c legal early late read d stays old =
+pub one-replays : (s : Model) (c : Change) → resolves_all c ≡ false → ChainReplays s c
+one-replays s c one legal early late read d stays old =
     let m = s.metamodel in
     let r = reading s in
-    ap (λ (y : Ends). y d) (replayed_all-told m (held_at r) (tellings r c)) ∙ happened_all-at m (held_at r) (tellings r c) d ∙ changes-replay s c legal early late read d stays old
+    ap (λ (y : Ends). y d) (replayed_all-told m (held_at r) (tellings r c)) ∙ happened_all-at m (held_at r) (tellings r c) d ∙ changes-replay s c one legal early late read d stays old

@@ -32,7 +32,7 @@ use Rattle.models.specs.Model.{Model, reading}
 use Rattle.models.specs.Reading.{Reading, at_end, first_at, is_repeat}
 use Rattle.handshake.proofs.KnownLemmas.{delete-named, far-reference, kinds-are, set-named}
 use Rattle.handshake.specs.declared.change.Change.{Change}
-use Rattle.handshake.specs.declared.change.Change.TheVariants.{Create, Set, Unset, Add, Remove, RemoveValue, Move, Delete, NewResource, Resolve, Load}
+use Rattle.handshake.specs.declared.change.Change.TheVariants.{Create, Set, Unset, Add, Remove, RemoveValue, Move, Delete, NewResource, Resolve, ResolveAll, Load}
 use Rattle.removal.specs.declared.tie.Tie.{Tie}
 use Rattle.handshake.specs.Displaced.{cut_by_new, cut_by_set, cut_ties, is_plain_add, tie_in, ties_backwards, has_already, in_the_way, is_plain_set, once, holding_tie, other_side, same_link, same_tie, ties_at, ties_if_single, with_tie, yields, ties_resolved}
 use Rattle.handshake.specs.Resolving.{opposite_end}
@@ -328,6 +328,7 @@ left-cuts s (Remove n f i) legal early = without_ties-names_of s.links (cut_ties
 left-cuts s (RemoveValue n f v) legal early = without_ties-names_of s.links (cut_ties (reading s) (RemoveValue n f v))
 left-cuts s (Move n f to from) legal early = refl
 left-cuts s (Load k doc) legal early = refl
+left-cuts s ResolveAll legal early = refl
 left-cuts s (Resolve o f i) legal early = without_ties-names_of s.links (cut_ties (reading s) (Resolve o f i))
 left-cuts s (Delete o) legal early =
     let r = reading s in
@@ -346,6 +347,7 @@ cuts-stand s (Remove n f i) legal early = reference-cuts (AllByRecursion (Stands
 cuts-stand s (RemoveValue n f v) legal early = take-cuts (AllByRecursion (Stands s.links)) s n f tt v (λ reference i. tie_in-stand s (at_end n f) i reference)
 cuts-stand s (Move n f to from) legal early = tt
 cuts-stand s (Load k doc) legal early = tt
+cuts-stand s ResolveAll legal early = tt
 cuts-stand s (Resolve o f i) legal early =
     let r = reading s in
     let e = at_end (node.Object o) f in
@@ -464,6 +466,7 @@ cuts-different s (Remove n f i) legal early = reference-cuts (AreDifferent (read
 cuts-different s (RemoveValue n f v) legal early = take-cuts (AreDifferent (reading s)) s n f tt v (λ reference i. tie_in-different (reading s) (at_end n f) i)
 cuts-different s (Move n f to from) legal early = tt
 cuts-different s (Load k doc) legal early = tt
+cuts-different s ResolveAll legal early = tt
 cuts-different s (Resolve o f i) legal early =
     let r = reading s in
     let e = at_end (node.Object o) f in

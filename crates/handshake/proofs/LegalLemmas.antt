@@ -1,8 +1,8 @@
--- A change that nothing refuses keeps a legal model legal.
+-- A change that nothing refuses keeps a legal model legal, if it doesn't resolve all proxies.
 use Rattle.std.proofs.Common.{◌≡◌, ℕ, zero, suc, ◌≤◌, nat_le, nat_lt, insert, remove, nat_eq, Bool, true, false, ◌&&◌, ◌||◌, not, List, [], ◌∷◌, ◌++◌, filter, map, length, slice_index_or, slice_set, Option, Some, None, unwrap_or, option_map, if◌then◌else◌, refl, sym, ap, ◌∙◌, subst, arith, ◌<◌, IsTrue}
 use Rattle.std.specs.List.{All, AllByRecursion, list_any}
 use Rattle.std.specs.Option.{option_map_or}
-use Rattle.std.proofs.lemmas.Bool.{false≢true}
+use Rattle.std.proofs.lemmas.Bool.{false≢true, true≢false}
 use Rattle.std.proofs.lemmas.Bool.Decides.{nat_tests}
 use Rattle.std.proofs.lemmas.Option.{none-some}
 use Rattle.std.proofs.lemmas.List.{length-set, length-append}
@@ -45,13 +45,13 @@ use Rattle.resource_docs.specs.declared.doc.Doc.{Doc}
 use Rattle.loading.proofs.TypedLemmas.{read-typed}
 use Rattle.containment.proofs.PartLemmas.{object-reference}
 use Rattle.handshake.specs.declared.change.Change.{Change}
-use Rattle.handshake.specs.declared.change.Change.TheVariants.{Create, Set, Unset, Add, Remove, RemoveValue, Move, Delete, NewResource, Resolve, Load}
+use Rattle.handshake.specs.declared.change.Change.TheVariants.{Create, Set, Unset, Add, Remove, RemoveValue, Move, Delete, NewResource, Resolve, ResolveAll, Load}
 use Rattle.handshake.specs.Displaced.{cut_by_new, cut_by_set, cut_ties, is_plain_add, is_plain_set}
 use Rattle.handshake.specs.Edits.{link_edits}
 use Rattle.handshake.specs.Effects.{add_value, after, links_after, put_by, put_under, take_value, value_edits, with_value}
 use Rattle.handshake.specs.Laws.{KeepsLegal, IsBrought, goes_with}
 use Rattle.handshake.specs.Plans.{HasReadDocument, IsDocument}
-use Rattle.handshake.specs.Tellings.{loaded_by}
+use Rattle.handshake.specs.Tellings.{loaded_by, resolves_all}
 use Rattle.handshake.specs.Refusals.{early_refusal, gain_refusal, is_at_limit, is_full_at, late_refusal}
 use Rattle.handshake.proofs.CutTieLemmas.{left-cuts, values-linked}
 use Rattle.removal.specs.Laws.{names_of}
@@ -266,6 +266,7 @@ values-after s (NewResource u) legal early late read is =
     let us = with-new s.values.uris u legal.uris is uri.short uri.room uri.free in
     record { count = legal.count; objects = legal.objects; classes = λ o stays c h. h; uris = us.0; more = us.1 }
 values-after s (Resolve o f i) legal early late read brought = same-values s legal
+values-after s ResolveAll legal early late read brought = same-values s legal
 values-after s (Set (node.Object o) f v) legal early late read brought =
     let m = s.metamodel in
     let ask = set-taken (reading s) (node.Object o) f v late in
@@ -346,16 +347,16 @@ move-ends s n f to from legal late reference d =
     let linked = values-linked s e reference in
     shifted-end s e to from legal (below from _ (subst (λ (vs : List Value). nat_lt from (length vs) ≡ true) linked placed.1)) (below to _ (subst (λ (vs : List Value). nat_lt to (length vs) ≡ true) linked placed.0)) d
 
--- of a change that loads nothing
-ends-by-pairs : (s : Model) (c : Change) → loaded_by c ≡ None → IsLegal s → early_refusal (reading s) c ≡ None → late_refusal (reading s) c ≡ None → (d : End)
+-- of a change that loads nothing and doesn't resolve all proxies
+ends-by-pairs : (s : Model) (c : Change) → loaded_by c ≡ None → resolves_all c ≡ false → IsLegal s → early_refusal (reading s) c ≡ None → late_refusal (reading s) c ≡ None → (d : End)
     → is_legal_end (reading s) d (end (put_by (without_all s.links (names_of (cut_ties (reading s) c))) (reading s) c) d) ≡ true
-ends-by-pairs s (Create k) none legal early late d = legal.links.ends d
-ends-by-pairs s (NewResource u) none legal early late d = legal.links.ends d
-ends-by-pairs s (Delete o) none legal early late d = cut-end s (names_of (cut_ties (reading s) (Delete o))) legal d
-ends-by-pairs s (Unset n f) none legal early late d = cut-end s (names_of (cut_ties (reading s) (Unset n f))) legal d
-ends-by-pairs s (Remove n f i) none legal early late d = cut-end s (names_of (cut_ties (reading s) (Remove n f i))) legal d
-ends-by-pairs s (RemoveValue n f v) none legal early late d = cut-end s (names_of (cut_ties (reading s) (RemoveValue n f v))) legal d
-ends-by-pairs s (Set n f v) none legal early late d =
+ends-by-pairs s (Create k) none one legal early late d = legal.links.ends d
+ends-by-pairs s (NewResource u) none one legal early late d = legal.links.ends d
+ends-by-pairs s (Delete o) none one legal early late d = cut-end s (names_of (cut_ties (reading s) (Delete o))) legal d
+ends-by-pairs s (Unset n f) none one legal early late d = cut-end s (names_of (cut_ties (reading s) (Unset n f))) legal d
+ends-by-pairs s (Remove n f i) none one legal early late d = cut-end s (names_of (cut_ties (reading s) (Remove n f i))) legal d
+ends-by-pairs s (RemoveValue n f v) none one legal early late d = cut-end s (names_of (cut_ties (reading s) (RemoveValue n f v))) legal d
+ends-by-pairs s (Set n f v) none one legal early late d =
     let r = reading s in
     let e = at_end n f in
     let t : Bool → Links = λ b. without_all s.links (names_of (if b then [] else cut_by_set r e v)) in
@@ -363,7 +364,7 @@ ends-by-pairs s (Set n f v) none legal early late d =
       | true ↦ λ _. legal.links.ends d
       | false ↦ λ new. set-ends s n f v legal early late new d
     ] refl
-ends-by-pairs s (Add n f v i) none legal early late d =
+ends-by-pairs s (Add n f v i) none one legal early late d =
     let r = reading s in
     let e = at_end n f in
     let t : Bool → Links = λ b. without_all s.links (names_of (if b then [] else cut_by_new r e v)) in
@@ -371,21 +372,22 @@ ends-by-pairs s (Add n f v i) none legal early late d =
       | true ↦ λ _. legal.links.ends d
       | false ↦ λ new. add-ends s n f v i legal early late new d
     ] refl
-ends-by-pairs s (Move n f to from) none legal early late d =
+ends-by-pairs s (Move n f to from) none one legal early late d =
     elim (shape s.metamodel f).is_reference as (λ b. (shape s.metamodel f).is_reference ≡ b → is_legal_end (reading s) d (end (if b then shift s.links (at_end n f) to from else s.links) d) ≡ true) [
       | true ↦ λ reference. move-ends s n f to from legal late reference d
       | false ↦ λ _. legal.links.ends d
     ] refl
-ends-by-pairs s (Resolve o f i) none legal early late d =
+ends-by-pairs s (Resolve o f i) none one legal early late d =
     resolved-as s legal (at_end (node.Object o) f) i late (λ ts xs us u. is_legal_end (reading s) d (end u d) ≡ true)
     (λ x is alone. alone-legal s legal _ i x is alone d)
     (λ x is g opposite j text stands. joint-legal s legal _ i x is g opposite j text stands d)
-ends-by-pairs s (Load k doc) none legal early late d = absurd (none-some doc (sym none))
+ends-by-pairs s ResolveAll none one legal early late d = absurd (true≢false one)
+ends-by-pairs s (Load k doc) none one legal early late d = absurd (none-some doc (sym none))
 
-ends-after : (s : Model) (c : Change) → loaded_by c ≡ None → IsLegal s → early_refusal (reading s) c ≡ None → late_refusal (reading s) c ≡ None → (d : End)
+ends-after : (s : Model) (c : Change) → loaded_by c ≡ None → resolves_all c ≡ false → IsLegal s → early_refusal (reading s) c ≡ None → late_refusal (reading s) c ≡ None → (d : End)
     → is_legal_end (reading s) d (end (links_after s.links (reading s) c) d) ≡ true
-ends-after s c none legal early late d =
-    subst (λ (t : Links). is_legal_end (reading s) d (end (put_by t (reading s) c) d) ≡ true) (sym (left-cuts s c legal early)) (ends-by-pairs s c none legal early late d)
+ends-after s c none one legal early late d =
+    subst (λ (t : Links). is_legal_end (reading s) d (end (put_by t (reading s) c) d) ≡ true) (sym (left-cuts s c legal early)) (ends-by-pairs s c none one legal early late d)
 
 -- what is left of an end does not go
 left-stays : (g : Node → Bool) (vs : List Value) → AllByRecursion (λ (w : Value). goes g w ≡ false) (filter (λ w. not (goes g w)) vs)
@@ -420,6 +422,7 @@ untouched-after s (RemoveValue n f v) legal e = untouched-end e _
 untouched-after s (Move n f to from) legal e = untouched-end e _
 untouched-after s (Load k doc) legal e = untouched-end e _
 untouched-after s (Resolve o f i) legal e = untouched-end e _
+untouched-after s ResolveAll legal e = untouched-end e _
 
 -- a load leaves legal ends, and so does each other change
 load-ends : (s : Model) (c : Change) (doc : Doc) → loaded_by c ≡ Some doc → IsLegal s → early_refusal (reading s) c ≡ None → late_refusal (reading s) c ≡ None → HasReadDocument s.metamodel c → (d : End)
@@ -430,31 +433,31 @@ load-ends s (Load k doc) x is legal early late read d =
     linked-legal s k doc legal late read typed there (after s (Load k doc)).values (load-values s.metamodel s.values doc typed legal.objects) d
 load-ends s _ x is legal early late read d = absurd (none-some x is)
 
-ends-legal : (s : Model) (c : Change) → IsLegal s → early_refusal (reading s) c ≡ None → late_refusal (reading s) c ≡ None → HasReadDocument s.metamodel c → IsBrought c → (d : End) → is_legal_end (reading (after s c)) d (end (after s c).links d) ≡ true
-ends-legal s c legal early late read brought d =
+ends-legal : (s : Model) (c : Change) → resolves_all c ≡ false → IsLegal s → early_refusal (reading s) c ≡ None → late_refusal (reading s) c ≡ None → HasReadDocument s.metamodel c → IsBrought c → (d : End) → is_legal_end (reading (after s c)) d (end (after s c).links d) ≡ true
+ends-legal s c one legal early late read brought d =
     elim (loaded_by c) as (λ q. loaded_by c ≡ q → is_legal_end (reading (after s c)) d (end (after s c).links d) ≡ true) [
       | None ↦ λ none. (
           let v = values-after s c legal early late read brought in
-          legal-end-kept (goes_with (reading s) c) s (after s c).values (after s c).links v.classes v.more d _ (untouched-after s c legal d) (ends-after s c none legal early late d))
+          legal-end-kept (goes_with (reading s) c) s (after s c).values (after s c).links v.classes v.more d _ (untouched-after s c legal d) (ends-after s c none one legal early late d))
       | Some doc ↦ λ is. load-ends s c doc is legal early late read d
     ] refl
 
-links-after : (s : Model) (c : Change) → IsLegal s → early_refusal (reading s) c ≡ None → late_refusal (reading s) c ≡ None → HasReadDocument s.metamodel c → IsBrought c → AreLegalLinks (reading (after s c)) (links_after s.links (reading s) c)
-links-after s c legal early late read brought =
+links-after : (s : Model) (c : Change) → resolves_all c ≡ false → IsLegal s → early_refusal (reading s) c ≡ None → late_refusal (reading s) c ≡ None → HasReadDocument s.metamodel c → IsBrought c → AreLegalLinks (reading (after s c)) (links_after s.links (reading s) c)
+links-after s c one legal early late read brought =
     let m = kinds_of s.metamodel in
     let plan = link_edits (reading s) c in
-    let p = plan-for s c legal early late read in
+    let p = plan-for s c one legal early late read in
     record {
       set = subst IsLegalSet p.makes (plan_keeps_legal s.links plan legal.links.set p.fits);
       kinds = subst (AreOfKind m) p.makes (plan_keeps_kinds m (kinds-are s.metamodel legal.metamodel) s.links plan legal.links.kinds p.of_kind);
       forest = subst HasNoCycle p.makes (plan_makes_no_cycle s.links plan legal.links.set p.fits p.no_cycle legal.links.forest);
-      ends = ends-legal s c legal early late read brought;
+      ends = ends-legal s c one legal early late read brought;
       proxies = proxies-after IsProxyText s.links (reading s) c (read-brings s.metamodel c read) legal.links.proxies;
     }
 
 ---------------------------------------------------------------- both
 
-pub change-keeps-legal : (s : Model) (c : Change) → KeepsLegal s c
-change-keeps-legal s c legal early late read brought =
+pub one-keeps-legal : (s : Model) (c : Change) → resolves_all c ≡ false → KeepsLegal s c
+one-keeps-legal s c one legal early late read brought =
     let v = values-after s c legal early late read brought in
-    record { metamodel = legal.metamodel; count = v.count; objects = v.objects; links = links-after s c legal early late read brought; uris = v.uris }
+    record { metamodel = legal.metamodel; count = v.count; objects = v.objects; links = links-after s c one legal early late read brought; uris = v.uris }

@@ -1,3 +1,4 @@
+pub mod AllLemmas
 pub mod ApartLemmas
 pub mod AttributeLemmas
 pub mod ChainLemmas
@@ -30,8 +31,17 @@ mod PositionLemmas
 pub mod ProxyLemmas
 pub mod RelinkLemmas
 pub mod ReplayLemmas
+mod EachLemmas
+pub mod FollowLemmas
+mod JoinedLemmas
+mod LeadLemmas
+mod ProgressLemmas
+mod StepLemmas
+mod UnderwayLemmas
+pub mod ResolveAllLemmas
 mod ResolveLemmas
 mod ResolvedLemmas
-mod TargetLemmas
+pub mod ResolvedReadingLemmas
+pub mod TargetLemmas
 pub mod TellingLemmas
 pub mod TieNameLemmas

@@ -32,7 +32,7 @@ use Rattle.handshake.specs.Plans.{IsDocument}
 use Rattle.handshake.specs.Refusals.{early_refusal, late_refusal}
 use Rattle.handshake.specs.declared.change.Change.TheVariants.{Load}
 use Rattle.handshake.proofs.CutTieLemmas.{held_stands}
-use Rattle.handshake.proofs.LegalLemmas.{change-keeps-legal}
+use Rattle.handshake.proofs.LegalLemmas.{one-keeps-legal}
 use Rattle.handshake.proofs.LoadEndLemmas.{linked-before, linked-elsewhere, linked-near, linked-roots}
 use Rattle.handshake.proofs.LoadLemmas.{few, no-roots, room, sound}
 use Rattle.handshake.proofs.YieldLemmas.{holder-contains}
@@ -56,7 +56,7 @@ module _ (s : Model) (k : ResourceNo) (doc : Doc) (legal : IsLegal s) (early : e
   t = after s (Load k doc)
 
   pub loaded-legal : IsLegal (after s (Load k doc))
-  loaded-legal = change-keeps-legal s (Load k doc) legal early late read tt
+  loaded-legal = one-keeps-legal s (Load k doc) refl legal early late read tt
 
   made-old : (x : Node) → IsMade s x → comes_with (reading s) (Load k doc) x ≡ false
   made-old (node.Object o) there =

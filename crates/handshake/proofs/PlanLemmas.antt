@@ -1,5 +1,6 @@
--- The edits of links that make a change: they fit, are of the metamodel's names_of, make no cycle, and make what the change makes of links.
+-- The edits of links that make a change that doesn't resolve all proxies: they fit, are of the metamodel's names_of, make no cycle, and make what the change makes of links.
 use Rattle.std.proofs.Common.{◌≡◌, ℕ, ◌<◌, ◌≤◌, nat_lt, unwrap_or, option_to_list, Bool, true, false, List, [], ◌∷◌, ◌++◌, length, map, Option, Some, None, if◌then◌else◌, refl, sym, ap, ◌∙◌, subst, arith, slice_get, ◌-◌}
+use Rattle.std.proofs.lemmas.Bool.{true≢false}
 use Rattle.std.proofs.lemmas.Bool.Decides.{nat_tests}
 use Rattle.mm_types.specs.Shapes.{shape}
 use Rattle.mm_types.specs.declared.end.End.{End}
@@ -20,16 +21,16 @@ use Rattle.links.proofs.LegalLemmas.{IsPlanOfKind-append, PlanFits-append, PlanM
 use Rattle.mm_values.specs.Values as values
 use Rattle.models.specs.Legal.{IsLegal, kinds_of}
 use Rattle.models.specs.Model.{Model, reading}
-use Rattle.models.specs.Reading.{at_end, is_repeat, place_for, shape_at}
+use Rattle.models.specs.Reading.{Reading, at_end, is_repeat, place_for, shape_at}
 use Rattle.resource_docs.specs.declared.doc.Doc.{Doc}
 use Rattle.loading.specs.LoadEdits.{load_edits}
 use Rattle.loading.specs.Loading.{loaded_links, with_links}
 use Rattle.loading.proofs.KindLemmas.{read-kind}
 use Rattle.handshake.specs.declared.change.Change.{Change}
-use Rattle.handshake.specs.declared.change.Change.TheVariants.{Create, Set, Unset, Add, Remove, RemoveValue, Move, Delete, NewResource, Resolve, Load}
+use Rattle.handshake.specs.declared.change.Change.TheVariants.{Create, Set, Unset, Add, Remove, RemoveValue, Move, Delete, NewResource, Resolve, ResolveAll, Load}
 use Rattle.handshake.specs.declared.planned.Planned.{Planned}
 use Rattle.removal.specs.declared.tie.Tie.{Tie}
-use Rattle.handshake.specs.Tellings.{chain, target_of}
+use Rattle.handshake.specs.Tellings.{chain, resolved_by, resolves_all, target_of}
 use Rattle.handshake.specs.Displaced.{cut_by_new, cut_by_set, cut_ties, has_already, is_plain_add, is_plain_set}
 use Rattle.handshake.specs.Edits.{cut_of, link_edits, made_edits, new_put}
 use Rattle.handshake.specs.Effects.{links_after, put_by, value_edits, with_value}
@@ -164,15 +165,15 @@ load-puts s k doc legal late read =
     let made = load-makes s k doc legal late read in
     record { fits = made.fits; of_kind = read-kind s.metamodel read.uri doc (length s.values.objects) k read.read; no_cycle = made.no_cycle; makes = made.makes }
 
-are-puts : (s : Model) (c : Change) → IsLegal s → early_refusal (reading s) c ≡ None → late_refusal (reading s) c ≡ None → HasReadDocument s.metamodel c
+are-puts : (s : Model) (c : Change) → resolves_all c ≡ false → IsLegal s → early_refusal (reading s) c ≡ None → late_refusal (reading s) c ≡ None → HasReadDocument s.metamodel c
     → ArePuts s (without_all s.links (names_of (cut_ties (reading s) c))) (made_edits (reading s) c) (put_by (without_all s.links (names_of (cut_ties (reading s) c))) (reading s) c)
-are-puts s (Create k) legal early late read = no-puts s s.links
-are-puts s (NewResource u) legal early late read = no-puts s s.links
-are-puts s (Delete o) legal early late read = no-puts s _
-are-puts s (Unset n f) legal early late read = no-puts s _
-are-puts s (Remove n f i) legal early late read = no-puts s _
-are-puts s (RemoveValue n f v) legal early late read = no-puts s _
-are-puts s (Set n f v) legal early late read =
+are-puts s (Create k) one legal early late read = no-puts s s.links
+are-puts s (NewResource u) one legal early late read = no-puts s s.links
+are-puts s (Delete o) one legal early late read = no-puts s _
+are-puts s (Unset n f) one legal early late read = no-puts s _
+are-puts s (Remove n f i) one legal early late read = no-puts s _
+are-puts s (RemoveValue n f v) one legal early late read = no-puts s _
+are-puts s (Set n f v) one legal early late read =
     let r = reading s in
     let e = at_end n f in
     let t : Bool → Links = λ b. without_all s.links (names_of (if b then [] else cut_by_set r e v)) in
@@ -180,7 +181,7 @@ are-puts s (Set n f v) legal early late read =
       | true ↦ λ plain. no-puts s s.links
       | false ↦ λ new. set-puts s n f v legal early late new
     ] refl
-are-puts s (Add n f v i) legal early late read =
+are-puts s (Add n f v i) one legal early late read =
     let r = reading s in
     let e = at_end n f in
     let t : Bool → Links = λ b. without_all s.links (names_of (if b then [] else cut_by_new r e v)) in
@@ -188,17 +189,18 @@ are-puts s (Add n f v i) legal early late read =
       | true ↦ λ plain. no-puts s s.links
       | false ↦ λ new. add-puts s n f v i legal early late new
     ] refl
-are-puts s (Move n f to from) legal early late read =
+are-puts s (Move n f to from) one legal early late read =
     let e = at_end n f in
     elim (shape s.metamodel f).is_reference as (λ b. (shape s.metamodel f).is_reference ≡ b → ArePuts s s.links (option_to_list (if b then Some (edit.Shift e to from) else None)) (if b then shift s.links e to from else s.links)) [
       | true ↦ λ reference. move-puts s n f to from late reference
       | false ↦ λ _. no-puts s s.links
     ] refl
-are-puts s (Resolve o f i) legal early late read =
+are-puts s (Resolve o f i) one legal early late read =
     resolved-as s legal (at_end (node.Object o) f) i late (λ ts xs us u. ArePuts s (without_all s.links (names_of ts)) xs u)
     (λ x is alone. record { fits = (alone-fits s legal _ i x is alone, tt); of_kind = ((refl, refl), tt); no_cycle = (alone-outside s legal _ i x is alone, tt); makes = refl })
     (λ x is g opposite j text stands. joint-puts s legal _ i x is g opposite j text stands)
-are-puts s (Load k doc) legal early late read = load-puts s k doc legal late read
+are-puts s ResolveAll one legal early late read = absurd (true≢false one)
+are-puts s (Load k doc) one legal early late read = load-puts s k doc legal late read
 
 ---------------------------------------------------------------- the whole plan
 
@@ -213,7 +215,7 @@ pub record IsPlanFor (s : Model) (c : Change) (xs : List Edit) : Type 0 where
   pub no_cycle : PlanMakesNoCycle s.links xs
   pub makes : applied s.links xs ≡ links_after s.links (reading s) c
 
-module _ (s : Model) (c : Change) (legal : IsLegal s) (early : early_refusal (reading s) c ≡ None) (late : late_refusal (reading s) c ≡ None) (read : HasReadDocument s.metamodel c) where
+module _ (s : Model) (c : Change) (one : resolves_all c ≡ false) (legal : IsLegal s) (early : early_refusal (reading s) c ≡ None) (late : late_refusal (reading s) c ≡ None) (read : HasReadDocument s.metamodel c) where
   ts : List (End × Value)
   ts = names_of (cut_ties (reading s) c)
 
@@ -226,7 +228,7 @@ module _ (s : Model) (c : Change) (legal : IsLegal s) (early : early_refusal (re
       let once = cuts-once s c legal early late in
       let xs = made_edits (reading s) c in
       let cut : applied s.links (cut_edits ts) ≡ without_all s.links ts = applied-cut_edits m ok s.links ts legal.links.set legal.links.kinds there once in
-      let last = are-puts s c legal early late read in
+      let last = are-puts s c one legal early late read in
       let whole : IsPlanFor s c (cut_edits ts ++ xs) = record {
         fits = PlanFits-append s.links (cut_edits ts) xs (cuts_fit m ok s.links ts legal.links.set legal.links.kinds there once) (subst (λ (t : Links). PlanFits t xs) (sym cut) last.fits);
         of_kind = IsPlanOfKind-append m (cut_edits ts) xs (cuts_of_kind m ts) last.of_kind;
@@ -237,15 +239,21 @@ module _ (s : Model) (c : Change) (legal : IsLegal s) (early : early_refusal (re
       } in
       subst (λ (ys : List Edit). IsPlanFor s c (ys ++ xs)) (sym (cut_edits-pairs (cut_ties (reading s) c))) whole
 
+-- nothing is resolved by a change that doesn't resolve all proxies
+pub none-counted : (r : Reading) (c : Change) → resolves_all c ≡ false → None ≡ resolved_by r c
+none-counted r ResolveAll one = absurd (true≢false one)
+none-counted r _ one = refl
+
 -- what planning gives, by its parts
-pub planned : (is_heard : Bool) (s : Model) (c : Change) (p : Planned) → IsLegal s → early_refusal (reading s) c ≡ None → late_refusal (reading s) c ≡ None → HasReadDocument s.metamodel c → IsRemovalOf (reading s) c p.removal → p.target ≡ target_of (reading s) c
+pub planned : (is_heard : Bool) (s : Model) (c : Change) (p : Planned) → resolves_all c ≡ false → IsLegal s → early_refusal (reading s) c ≡ None → late_refusal (reading s) c ≡ None → HasReadDocument s.metamodel c → IsRemovalOf (reading s) c p.removal → p.target ≡ target_of (reading s) c → p.resolved ≡ resolved_by (reading s) c
     → p.edits ≡ link_edits (reading s) c → p.values ≡ value_edits (reading s) c → p.chain ≡ (if is_heard then chain (reading s) c else []) → IsPlanOf is_heard s c p
-planned is_heard s c p legal early late read removed found edits lists tells =
-    let plan = subst (IsPlanFor s c) (sym edits) (plan-for s c legal early late read) in
+planned is_heard s c p one legal early late read removed found resolved edits lists tells =
+    let plan = subst (IsPlanFor s c) (sym edits) (plan-for s c one legal early late read) in
     record {
       allowed = late;
       removed = removed;
       found = found;
+      resolved = resolved;
       fits = plan.fits;
       of_kind = plan.of_kind;
       links_made = plan.makes;

@@ -41,11 +41,13 @@ use Rattle.loading.proofs.PairLemmas.{all-append, all-every, all-flat_map_every,
 use Rattle.loading.proofs.ProxyLemmas.{OfLink, alone-no_proxy, at-no_proxy, far_of, joined-no_proxy, loaded-proxies, read-proxies}
 use Rattle.removal.specs.declared.tie.Tie.{Tie}
 use Rattle.handshake.specs.declared.change.Change.{Change}
-use Rattle.handshake.specs.declared.change.Change.TheVariants.{Create, Set, Unset, Add, Remove, RemoveValue, Move, Delete, NewResource, Resolve, Load}
-use Rattle.handshake.specs.Displaced.{cut_ties, is_plain_add, is_plain_set}
+use Rattle.handshake.specs.declared.change.Change.TheVariants.{Create, Set, Unset, Add, Remove, RemoveValue, Move, Delete, NewResource, Resolve, ResolveAll, Load}
+use Rattle.handshake.specs.Displaced.{cut_ties, is_plain_add, is_plain_set, ties_joined}
+use Rattle.handshake.specs.Proxies.{end_of, places}
+use Rattle.handshake.specs.ResolvingAll.{Resolution, resolutions}
 use Rattle.handshake.specs.Plans.{HasReadDocument}
 use Rattle.handshake.specs.Laws.{BringsSteadyTexts, KeepsSteady}
-use Rattle.handshake.specs.Effects.{add_value, if_attribute, links_after, links_left, of_object, put_by, put_under, take_value, value_edits, with_value, joined, put_back}
+use Rattle.handshake.specs.Effects.{add_value, if_attribute, links_after, links_left, of_object, put_by, put_under, take_value, value_edits, with_value, joined, put_back, with_resolution, without_ties}
 use Rattle.handshake.specs.Resolving.{target_at}
 use Rattle.handshake.specs.declared.target.Target.{Target}
 
@@ -125,6 +127,13 @@ module _ (Holds : List ℕ → Type 0) where
       let placed = value-of s r e (Some i) (value.Object x.object) of in
       elim x.counterpart as (λ q. OfProxies Holds (option_map_or (λ c. put_back t (length (end s c.end)) c) q t)) [ None ↦ placed | Some c ↦ shift-of t c.end c.index (length (end s c.end)) placed ]
 
+  resolutions-of : (ys : List Resolution) (s : Links) → OfProxies Holds s → OfProxies Holds (fold with_resolution s ys)
+  resolutions-of [] s of = of
+  resolutions-of (y ∷ ys) s of =
+      let e = end_of y.place in
+      let ts = ties_joined y.reads e y.place.index y.target in
+      resolutions-of ys (with_resolution s y) (joined-of (without_ties s ts) y.reads e y.place.index y.target (cuts-of (λ (t : Tie). t.end) (λ (t : Tie). t.value) ts s of))
+
   inserted-of : (ls : List Link) (s : Links) → AllByRecursion (OfLink Holds) ls → OfProxies Holds s → OfProxies Holds (with_links s ls)
   unfolding with_links
   inserted-of [] s all of = of
@@ -148,6 +157,7 @@ module _ (Holds : List ℕ → Type 0) where
   put_by-of s r (Resolve o f i) brings of =
       let e = at_end (node.Object o) f in
       elim (target_at r e i) as (λ q. OfProxies Holds (option_map_or (joined s r e i) q s)) [ None ↦ of | Some x ↦ joined-of s r e i x of ]
+  put_by-of s r ResolveAll brings of = resolutions-of (resolutions r (places r)) s of
   put_by-of s r (Load k doc) brings of = inserted-of (loaded_links r.metamodel r.next k doc) s (loaded-proxies Holds r.metamodel r.next doc k brings) of
   put_by-of s r _ brings of = of
 
@@ -231,6 +241,7 @@ module _ (Holds : List ℕ → Type 0) where
   edits-of r (Delete o) brings = all-map OfEdit DropObject (subtree r o) (all-every (λ p. OfEdit (DropObject p)) (subtree r o) (λ p. tt))
   edits-of r (NewResource u) brings = (brings, tt)
   edits-of r (Resolve o f i) brings = tt
+  edits-of r ResolveAll brings = tt
   edits-of r (Load k doc) brings = loaded-of r.metamodel r.next doc
 
   pub uris-after : (v : ValuesState) (r : Reading) (c : Change) → BringsUri c → All Holds v.uris → All Holds (applied v (value_edits r c)).uris

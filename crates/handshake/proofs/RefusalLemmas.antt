@@ -20,7 +20,8 @@ use Rattle.handshake.specs.Displaced.{has_already}
 use Rattle.handshake.specs.Plans.{is_memory_refusal}
 use Rattle.handshake.specs.Refusals.{count_at, gain_refusal, is_at_limit, is_full_at, is_mistyped, is_recursive, is_there_already, late_refusal, link_refusal, of_either, set_refusal, type_refusal, uri_refusal, target_refusal}
 use Rattle.handshake.specs.declared.change.Change.{Change}
-use Rattle.handshake.specs.declared.change.Change.TheVariants.{Create, Set, Unset, Add, Remove, RemoveValue, Move, Delete, NewResource, Resolve, Load}
+use Rattle.handshake.specs.Tellings.{resolves_all}
+use Rattle.handshake.specs.declared.change.Change.TheVariants.{Create, Set, Unset, Add, Remove, RemoveValue, Move, Delete, NewResource, Resolve, ResolveAll, Load}
 use Rattle.handshake.specs.Resolving.{is_unmatched, proxy_at, target_at}
 use Rattle.handshake.specs.declared.target.Target.{Target}
 
@@ -124,6 +125,7 @@ module _ (q : Refused → Bool) (never : IsNeverLate q) where
   late-not r (Delete o) = refl
   late-not r (NewResource u) = uri-not r u
   late-not r (Resolve o f i) = let e = at_end (node.Object o) f in resolve-not r e i (target_at r e i)
+  late-not r ResolveAll = refl
   late-not r (Load k doc) =
       later-not q _ _ (unless-not q Limit (nat_le (r.next + length doc.objects) OBJECTS) never.limit) (unless-not q NotEmpty (is_empty_resource r k) never.not_empty)
 
@@ -133,3 +135,8 @@ late-not-memory r c = late-not is_memory_refusal (record { wrong_type = refl; te
 -- what planning finds is what it answers
 pub late-refused : (r : Reading) (c : Change) (x : Refused) → late_refusal r c ≡ Some x → late_refusal r c ≡ (if is_memory_refusal x then None else Some x)
 late-refused r c x found = found ∙ ap (λ (b : Bool). if b then None else Some x) (sym (subst (IsNot is_memory_refusal) found (late-not-memory r c)))
+
+-- a change that is not the one that resolves all proxies
+pub not-all : (c : Change) → (c ≡ ResolveAll → ⊥) → resolves_all c ≡ false
+not-all ResolveAll none = absurd (none refl)
+not-all _ none = refl

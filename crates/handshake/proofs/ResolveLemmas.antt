@@ -142,6 +142,9 @@ module _ (s : Model) (legal : IsLegal s) (e : End) (i : ℕ) (x : Target) (is : 
   legal-there : (has_feature (reading s) e.node e.feature ≡ true) × (takes_proxies a ≡ true)
   legal-there = legal-at (reading s) e was i proxy (legal.links.ends e) there
 
+  pub feature-there : has_feature (reading s) e.node e.feature ≡ true
+  feature-there = legal-there.0
+
   contains-none : a.containing ≡ None
   contains-none = by a.containing (and_parts a.is_reference _ legal-there.1).1
     where

@@ -57,6 +57,7 @@ pub record IsMatch (r : Reading) (e : End) (o : ObjectNo) (c : Counterpart) : Ty
   pub stands : c.end ≡ far_end o feature
   pub text : List ℕ
   pub proxy : slice_get (r.values c.end) c.index ≡ Some (value.Proxy text)
+  pub leads : leads_to r e.node (value.Proxy text) ≡ true
 
 pub match-is : (r : Reading) (e : End) (o : ObjectNo) (c : Counterpart) → counterpart r e o ≡ Some c → IsMatch r e o c
 match-is r e o c h = by (shape r.metamodel e.feature).opposite refl h
@@ -68,7 +69,7 @@ match-is r e o c h = by (shape r.metamodel e.feature).opposite refl h
         let at_j = position-passes (leads_to r e.node) (r.values (far_end o g)) j there in
         let text = leads-proxy r e.node at_j.0 at_j.2 in
         let one : Counterpart = record { end = far_end o g; index = j } in
-        subst (IsMatch r e o) (same_Some one c found) (record { feature = g; opposite = is; stands = refl; text = text.0; proxy = at_j.1 ∙ ap (λ (v : Value). Some v) text.1 })
+        subst (IsMatch r e o) (same_Some one c found) (record { feature = g; opposite = is; stands = refl; text = text.0; proxy = at_j.1 ∙ ap (λ (v : Value). Some v) text.1; leads = ap (leads_to r e.node) (sym text.1) ∙ at_j.2 })
 
     by : (q : Option FeatureNo) → (shape r.metamodel e.feature).opposite ≡ q → option_and_then (first_to r e.node) (option_map (far_end o) q) ≡ Some c → IsMatch r e o c
     by None is found = absurd (none-some c found)
@@ -87,16 +88,17 @@ pub record IsFound (r : Reading) (e : End) (i : ℕ) (x : Target) : Type 0 where
   pub text : List ℕ
   pub proxy : slice_get (r.values e) i ≡ Some (value.Proxy text)
   pub matched : x.counterpart ≡ counterpart r e x.object
+  pub leads : at r text ≡ Some x.object
 
 pub found-is : (r : Reading) (e : End) (i : ℕ) (x : Target) → target_at r e i ≡ Some x → IsFound r e i x
 found-is r e i x h = by (slice_get (r.values e) i) refl h
   where
-    led : (t : List ℕ) → slice_get (r.values e) i ≡ Some (value.Proxy t) → (q : Option ObjectNo) → option_map (target r e) q ≡ Some x → IsFound r e i x
-    led t is None found = absurd (none-some x found)
-    led t is (Some o) found = subst (IsFound r e i) (same_Some (target r e o) x found) (record { text = t; proxy = is; matched = refl })
+    led : (t : List ℕ) → slice_get (r.values e) i ≡ Some (value.Proxy t) → (q : Option ObjectNo) → at r t ≡ q → option_map (target r e) q ≡ Some x → IsFound r e i x
+    led t is None none found = absurd (none-some x found)
+    led t is (Some o) leads found = subst (IsFound r e i) (same_Some (target r e o) x found) (record { text = t; proxy = is; matched = refl; leads = leads })
 
     of : (v : Value) → slice_get (r.values e) i ≡ Some v → option_map (target r e) (option_and_then (at r) (text_of v)) ≡ Some x → IsFound r e i x
-    of (value.Proxy t) is found = led t is (at r t) found
+    of (value.Proxy t) is found = led t is (at r t) refl found
     of _ is found = absurd (none-some x found)
 
     by : (q : Option Value) → slice_get (r.values e) i ≡ q → option_map (target r e) (option_and_then (at r) (option_and_then text_of q)) ≡ Some x → IsFound r e i x

@@ -19,7 +19,7 @@ use Rattle.removal.specs.TreeTies.{tie, tree_ties}
 use Rattle.handshake.specs.declared.change.Change.{Change}
 use Rattle.handshake.specs.declared.target.Target.{Target}
 use Rattle.handshake.specs.Resolving.{opposite_end, target_at}
-use Rattle.handshake.specs.declared.change.Change.TheVariants.{Create, Set, Unset, Add, Remove, RemoveValue, Move, Delete, NewResource, Resolve, Load}
+use Rattle.handshake.specs.declared.change.Change.TheVariants.{Create, Set, Unset, Add, Remove, RemoveValue, Move, Delete, NewResource, Resolve, ResolveAll, Load}
 
 -- the same link by its other end, if it has one
 abbrev pub other_side : Node → Value → Option FeatureNo → Option Tie
@@ -96,6 +96,10 @@ cut_by_new r e v = []
 abbrev pub counter_tie : Reading → Target → List Tie
 counter_tie r x = option_map_or (λ c. tie_in r c.end c.index) x.counterpart []
 
+-- of a proxy at an index, and of its counterpart
+abbrev pub ties_joined : Reading → End → ℕ → Target → List Tie
+ties_joined r e i x = tie_in r e i ++ counter_tie r x
+
 abbrev pub ties_resolved : Reading → End → ℕ → List Tie
 ties_resolved r e i = tie_in r e i ++ option_map_or (counter_tie r) (target_at r e i) []
 
@@ -115,4 +119,6 @@ cut_ties r (Move n f to from) = []
 cut_ties r (Delete o) = tree_ties r o
 cut_ties r (NewResource u) = []
 cut_ties r (Resolve o f i) = let e = at_end (node.Object o) f in if (shape_at r e).is_reference then ties_resolved r e i else []
+-- each proxy is cut where its object is put in its place
+cut_ties r ResolveAll = []
 cut_ties r (Load k doc) = []

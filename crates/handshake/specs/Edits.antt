@@ -1,5 +1,5 @@
 -- The edits of links that make a change.
-use Rattle.std.specs.Prelude.{ℕ, List, [], ◌++◌, ◌-◌, length, map, Option, Some, None, option_map, option_to_list, if◌then◌else◌}
+use Rattle.std.specs.Prelude.{ℕ, List, [], ◌++◌, ◌-◌, flat_map, length, map, Option, Some, None, option_map, option_to_list, if◌then◌else◌}
 use Rattle.std.specs.Option.{option_map_or}
 use Rattle.mm_types.specs.declared.end.End.{End}
 use Rattle.mm_types.specs.declared.numbers.Node.TheVariants as node
@@ -10,12 +10,14 @@ use Rattle.links.specs.declared.plan.Edit.TheVariants.{Put, Shift}
 use Rattle.links.specs.Laws.{cut_edit}
 use Rattle.models.specs.Reading.{Reading, at_end, place_for, shape_at}
 use Rattle.handshake.specs.declared.change.Change.{Change}
-use Rattle.handshake.specs.declared.change.Change.TheVariants.{Create, Set, Unset, Add, Remove, RemoveValue, Move, Delete, NewResource, Resolve, Load}
+use Rattle.handshake.specs.declared.change.Change.TheVariants.{Create, Set, Unset, Add, Remove, RemoveValue, Move, Delete, NewResource, Resolve, ResolveAll, Load}
 use Rattle.handshake.specs.declared.target.Counterpart.{Counterpart}
 use Rattle.handshake.specs.declared.target.Target.{Target}
 use Rattle.removal.specs.declared.tie.Tie.{Tie}
 use Rattle.loading.specs.LoadEdits.{load_edits}
-use Rattle.handshake.specs.Displaced.{cut_ties, is_plain_add, is_plain_set}
+use Rattle.handshake.specs.Displaced.{cut_ties, is_plain_add, is_plain_set, ties_joined}
+use Rattle.handshake.specs.Proxies.{end_of, places}
+use Rattle.handshake.specs.ResolvingAll.{Resolution, resolutions}
 use Rattle.handshake.specs.Resolving.{target_at}
 
 abbrev pub cut_of : Tie → Edit
@@ -38,6 +40,7 @@ made_edit r (Move n f to from) = let e = at_end n f in if (shape_at r e).is_refe
 made_edit r (Delete o) = None
 made_edit r (NewResource u) = None
 made_edit r (Resolve o f i) = None
+made_edit r ResolveAll = None
 made_edit r (Load k doc) = None
 
 -- the edit that moves a new link from the last index of the opposite end to that of its proxy
@@ -48,10 +51,17 @@ back_edit r c = Shift c.end c.index (length (r.values c.end) - 1)
 abbrev pub joining : Reading → End → ℕ → Target → List Edit
 joining r e i x = option_to_list (new_put r e i (value.Object x.object)) ++ option_to_list (option_map (back_edit r) x.counterpart)
 
--- a load makes all links of its document
+-- the edits that resolve a proxy, one of several: they cut its link and that of its counterpart, and put the new one there
+abbrev pub edits_of : Resolution → List Edit
+edits_of x =
+    let e = end_of x.place in
+    map cut_of (ties_joined x.reads e x.place.index x.target) ++ joining x.reads e x.place.index x.target
+
+-- a load makes all links of its document; all proxies are resolved one after another
 abbrev pub made_edits : Reading → Change → List Edit
 made_edits r (Load k doc) = load_edits r.metamodel r.next k doc
 made_edits r (Resolve o f i) = let e = at_end (node.Object o) f in option_map_or (joining r e i) (target_at r e i) []
+made_edits r ResolveAll = flat_map edits_of (resolutions r (places r))
 made_edits r c = option_to_list (made_edit r c)
 
 abbrev pub link_edits : Reading → Change → List Edit

@@ -17,12 +17,14 @@ use Rattle.models.specs.Model.{Model, reading}
 use Rattle.containment.specs.Forest.{subtree}
 use Rattle.removal.specs.Outer.{gone}
 use Rattle.handshake.specs.declared.change.Change.{Change}
-use Rattle.handshake.specs.declared.change.Change.TheVariants.{Create, Set, Unset, Add, Remove, RemoveValue, Move, Delete, NewResource, Resolve, Load}
+use Rattle.handshake.specs.declared.change.Change.TheVariants.{Create, Set, Unset, Add, Remove, RemoveValue, Move, Delete, NewResource, Resolve, ResolveAll, Load}
 use Rattle.handshake.specs.declared.target.Counterpart.{Counterpart}
 use Rattle.handshake.specs.declared.target.Target.{Target}
 use Rattle.removal.specs.declared.tie.Tie.{Tie}
 use Rattle.loading.specs.Loading.{loaded_links, loaded_values, with_links}
-use Rattle.handshake.specs.Displaced.{cut_ties, is_plain_add, is_plain_set}
+use Rattle.handshake.specs.Displaced.{cut_ties, is_plain_add, is_plain_set, ties_joined}
+use Rattle.handshake.specs.Proxies.{end_of, places}
+use Rattle.handshake.specs.ResolvingAll.{Resolution, resolutions}
 use Rattle.handshake.specs.Resolving.{target_at}
 
 ---------------------------------------------------------------- values
@@ -65,6 +67,7 @@ value_edits r (Move n f to from) = let e = at_end n f in if_attribute r e (of_ob
 value_edits r (Delete o) = map DropObject (subtree r o)
 value_edits r (NewResource u) = NewUri u ∷ []
 value_edits r (Resolve o f i) = []
+value_edits r ResolveAll = []
 value_edits r (Load k doc) = loaded_values r.metamodel r.next doc
 
 ---------------------------------------------------------------- links
@@ -87,6 +90,12 @@ joined s r e i x =
     let t = with_value s r e (Some i) (value.Object x.object) in
     option_map_or (λ c. put_back t (length (end s c.end)) c) x.counterpart t
 
+-- a proxy is resolved, one of several
+abbrev pub with_resolution : Links → Resolution → Links
+with_resolution s x =
+    let e = end_of x.place in
+    joined (without_ties s (ties_joined x.reads e x.place.index x.target)) x.reads e x.place.index x.target
+
 -- the link that a change makes, or what it moves
 abbrev pub put_by : Links → Reading → Change → Links
 put_by s r (Create c) = s
@@ -99,6 +108,7 @@ put_by s r (Move n f to from) = let e = at_end n f in if (shape_at r e).is_refer
 put_by s r (Delete o) = s
 put_by s r (NewResource u) = s
 put_by s r (Resolve o f i) = let e = at_end (node.Object o) f in option_map_or (joined s r e i) (target_at r e i) s
+put_by s r ResolveAll = fold with_resolution s (resolutions r (places r))
 put_by s r (Load k doc) = with_links s (loaded_links r.metamodel r.next k doc)
 
 -- the links that a change leaves: all but those that name an object that is destroyed, or but those that it cuts

@@ -14,7 +14,7 @@ use Rattle.models.specs.Steady.{HasSteadyTexts}
 use Rattle.removal.specs.Outer.{gone}
 use Rattle.notice_chain.specs.Replay.{replayed_all}
 use Rattle.handshake.specs.declared.change.Change.{Change}
-use Rattle.handshake.specs.declared.change.Change.TheVariants.{Delete, Load, NewResource, Unset}
+use Rattle.handshake.specs.declared.change.Change.TheVariants.{Delete, Load, NewResource, ResolveAll, Unset}
 use Rattle.handshake.specs.declared.happening.Happening.TheVariants.{Unsets}
 use Rattle.handshake.specs.declared.happening.Telling.{Telling}
 use Rattle.removal.specs.declared.tie.Tie.{Tie}
@@ -66,6 +66,7 @@ ChainReplays = OfAllowed (λ s c. HasReadDocument s.metamodel c → (d : End) �
 abbrev pub takes_many : Reading → Change → Bool
 takes_many r (Unset n f) = not (shape_at r (at_end n f)).is_single
 takes_many r (Delete o) = true
+takes_many r ResolveAll = true
 takes_many r (Load k doc) = true
 takes_many r _ = false
 

@@ -7,6 +7,12 @@ pub mod Tellings
 pub mod Effects
 pub mod Edits
 pub mod Refusals
+pub mod Proxies
+pub mod ResolvingAll
+pub mod Keys
+pub mod Leads
+pub mod Joining
 pub mod Plans
 pub mod Laws
+pub mod OneByOne
 pub mod Loaded

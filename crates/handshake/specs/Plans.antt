@@ -18,7 +18,7 @@ use Rattle.handshake.specs.declared.change.Change.TheVariants.{Load, Resolve}
 use Rattle.handshake.specs.declared.planned.Planned.{Planned}
 use Rattle.handshake.specs.Effects.{after}
 use Rattle.handshake.specs.Refusals.{late_refusal}
-use Rattle.handshake.specs.Tellings.{chain, destroyed_by, target_of}
+use Rattle.handshake.specs.Tellings.{chain, destroyed_by, resolved_by, target_of}
 
 -- a document as reading gives it, in a resource of some URI
 pub record IsDocument (m : Metamodel) (doc : Doc) : Type 0 where
@@ -44,11 +44,13 @@ pub record IsRemovalOf (r : Reading) (c : Change) (q : Option Removal) : Type 0 
   pub whose : option_map (λ (x : Removal). x.object) q ≡ destroyed_by c
   pub found : IfSome q (IsRemoval r)
 
--- what a change destroys or finds, which nothing refuses, the edits that make it, and its chain, where somebody may hear it
+-- what a change destroys or finds, which nothing refuses, what it resolves, the edits that make it, and its chain, where somebody may hear
+-- it
 pub record IsPlanOf (is_heard : Bool) (s : Model) (c : Change) (p : Planned) : Type 0 where
   pub allowed : late_refusal (reading s) c ≡ None
   pub removed : IsRemovalOf (reading s) c p.removal
   pub found : p.target ≡ target_of (reading s) c
+  pub resolved : p.resolved ≡ resolved_by (reading s) c
   pub fits : links.PlanFits s.links p.edits
   pub of_kind : links.IsPlanOfKind (kinds_of s.metamodel) p.edits
   pub links_made : links.applied s.links p.edits ≡ (after s c).links

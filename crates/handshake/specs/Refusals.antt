@@ -26,7 +26,7 @@ use Rattle.handshake.specs.Displaced.{has_already}
 use Rattle.handshake.specs.Resolving.{is_unmatched, opposite_end, proxy_at, target_at}
 use Rattle.handshake.specs.declared.change.Change.{Change}
 use Rattle.handshake.specs.declared.target.Target.{Target}
-use Rattle.handshake.specs.declared.change.Change.TheVariants.{Create, Set, Unset, Add, Remove, RemoveValue, Move, Delete, NewResource, Resolve, Load}
+use Rattle.handshake.specs.declared.change.Change.TheVariants.{Create, Set, Unset, Add, Remove, RemoveValue, Move, Delete, NewResource, Resolve, ResolveAll, Load}
 
 -- why a value is not one of a feature
 abbrev pub type_refusal : Reading → FeatureNo → Value → Option Refused
@@ -127,6 +127,7 @@ early_refusal r (Move n f to from) = feature_refusal r n f else_by many_refusal 
 early_refusal r (Delete o) = node_refusal r (node.Object o)
 early_refusal r (NewResource u) = None
 early_refusal r (Resolve o f i) = feature_refusal r (node.Object o) f
+early_refusal r ResolveAll = None
 early_refusal r (Load k doc) = node_refusal r (node.Resource k)
 
 -- why one that is not is refused when it is planned
@@ -146,4 +147,5 @@ late_refusal r (Move n f to from) = Index unless (nat_lt to (count_at r (at_end 
 late_refusal r (Delete o) = None
 late_refusal r (NewResource u) = uri_refusal r u
 late_refusal r (Resolve o f i) = resolve_refusal r (at_end (node.Object o) f) i
+late_refusal r ResolveAll = None
 late_refusal r (Load k doc) = load_refusal r k doc

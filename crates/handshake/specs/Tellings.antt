@@ -1,5 +1,5 @@
 -- What a change makes happen, end by end in the order of the rules, and its chain of notices.
-use Rattle.std.specs.Prelude.{ℕ, zero, suc, ◌&&◌, ◌||◌, Bool, false, not, List, [], ◌∷◌, ◌++◌, filter, flat_map, length, map, Option, Some, None, option_to_list, if◌then◌else◌}
+use Rattle.std.specs.Prelude.{ℕ, zero, suc, ◌&&◌, ◌||◌, Bool, true, false, not, List, [], ◌∷◌, ◌++◌, filter, flat_map, length, map, Option, Some, None, option_to_list, if◌then◌else◌}
 use Rattle.std.specs.Option.{option_map_or}
 use Rattle.mm_types.specs.Same.{node_value, same_end}
 use Rattle.mm_types.specs.Shapes.{is_containment}
@@ -16,13 +16,16 @@ use Rattle.loading.specs.Loading.{contents_end, roots_loaded}
 use Rattle.removal.specs.Losses.{is_lost}
 use Rattle.removal.specs.Outer.{touched_ends}
 use Rattle.handshake.specs.declared.change.Change.{Change}
-use Rattle.handshake.specs.declared.change.Change.TheVariants.{Create, Set, Unset, Add, Remove, RemoveValue, Move, Delete, NewResource, Resolve, Load}
+use Rattle.handshake.specs.declared.change.Change.TheVariants.{Create, Set, Unset, Add, Remove, RemoveValue, Move, Delete, NewResource, Resolve, ResolveAll, Load}
 use Rattle.handshake.specs.declared.happening.Happening.TheVariants.{Gains, GainsAt, Loses, LosesAt, Unsets, Moves, Resolves}
 use Rattle.handshake.specs.declared.happening.Happening.{Happening}
 use Rattle.handshake.specs.declared.happening.Telling.{Telling}
+use Rattle.handshake.specs.declared.planned.Resolved.{Resolved}
 use Rattle.handshake.specs.declared.target.Target.{Target}
 use Rattle.removal.specs.declared.tie.Tie.{Tie}
 use Rattle.handshake.specs.Displaced.{cut_ties, is_plain_set, turned}
+use Rattle.handshake.specs.Proxies.{end_of, places}
+use Rattle.handshake.specs.ResolvingAll.{Resolution, done, left, resolutions}
 use Rattle.handshake.specs.Resolving.{opposite_end, target_at}
 use Rattle.handshake.specs.Telling.{telling, told}
 
@@ -105,6 +108,16 @@ abbrev pub loaded_by : Change → Option Doc
 loaded_by (Load k doc) = Some doc
 loaded_by _ = None
 
+-- a change resolves all proxies
+abbrev pub resolves_all : Change → Bool
+resolves_all ResolveAll = true
+resolves_all _ = false
+
+-- how many proxies it resolves, and how many stand afterwards
+abbrev pub resolved_by : Reading → Change → Option Resolved
+resolved_by r ResolveAll = Some (record { done = done r; left = left r })
+resolved_by r _ = None
+
 -- what an end of another node loses with an object and all that is below it, in order
 abbrev pub lost_with : Reading → ObjectNo → End → List Telling
 lost_with r o d = map (λ v. telling d (Loses v)) (filter (is_lost r o d) (r.values d))
@@ -125,6 +138,10 @@ resolved e i x =
     option_map_or (λ c. telling c.end (Resolves c.index (node_value e.node)) ∷ []) x.counterpart []
     ++ telling e (Resolves i (value.Object x.object)) ∷ []
 
+-- what a proxy tells that is resolved, one of several
+abbrev pub resolution_told : Resolution → List Telling
+resolution_told x = resolved (end_of x.place) x.place.index x.target
+
 -- a change that cuts these links
 abbrev pub tellings_with : Reading → Change → List Tie → List Telling
 tellings_with r (Create c) ts = []
@@ -137,6 +154,7 @@ tellings_with r (Move n f to from) ts = telling (at_end n f) (Moves to from) ∷
 tellings_with r (Delete o) ts = destroyed r o
 tellings_with r (NewResource u) ts = []
 tellings_with r (Resolve o f i) ts = let e = at_end (node.Object o) f in option_map_or (resolved e i) (target_at r e i) []
+tellings_with r ResolveAll ts = flat_map resolution_told (resolutions r (places r))
 tellings_with r (Load k doc) ts = loaded r k doc
 
 abbrev pub tellings : Reading → Change → List Telling

@@ -56,6 +56,9 @@ pub enum Change {
         feature: FeatureNo,
         index: u32,
     },
+    /// Resolves all proxies one after another, by object number, by feature in the order of all features, and by index; a proxy that
+    /// can't be resolved then is passed over (EMF: EcoreUtil.resolveAll).
+    ResolveAll,
     /// Makes what a document holds in an empty resource (EMF: Resource.load).
     Load(ResourceNo, Doc),
 }

@@ -126,9 +126,11 @@ pub(crate) fn cut_ties<L: LinkStore>(
     ensures { IfOk result (λ ts. ts.items ≡ d.cut_ties (reading model.now) change.now) }
 {
     match change {
-        Change::Create(_) | Change::Move { .. } | Change::NewResource(_) | Change::Load(_, _) => Ok(
-            Vec::new(alloc),
-        ),
+        Change::Create(_)
+        | Change::Move { .. }
+        | Change::NewResource(_)
+        | Change::ResolveAll
+        | Change::Load(_, _) => Ok(Vec::new(alloc)),
         Change::Set {
             node,
             feature,
@@ -182,7 +184,7 @@ fn ties_resolved<L: LinkStore>(
 }
 
 /// Adds the link of the proxy at the opposite end.
-fn add_counterpart<L: LinkStore>(
+pub(crate) fn add_counterpart<L: LinkStore>(
     alloc: Global,
     model: &ModelRef<L>,
     target: Option<Target>,
@@ -309,7 +311,7 @@ fn tie_in<L: LinkStore>(
 }
 
 /// Adds the link of what was found at an end.
-fn push_tie(
+pub(crate) fn push_tie(
     alloc: Global,
     end: End,
     found: Option<Found>,

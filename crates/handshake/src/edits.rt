@@ -1,5 +1,5 @@
 //! The edits of a change.
-ghost use Rattle.std.specs.Prelude.{◌≡◌, ◌∷◌, ◌++◌, [], true, None, Some, map, IfOk, OnOk};
+ghost use Rattle.std.specs.Prelude.{◌≡◌, ◌∷◌, ◌++◌, [], true, false, None, Some, map, IfOk, OnOk};
 ghost use Rattle.std.specs.Option.{option_map_or};
 ghost use Rattle.mm_types.specs.Shapes.{shape};
 ghost use Rattle.mm_types.specs.declared.value.Value.TheVariants as value;
@@ -13,21 +13,22 @@ ghost use Rattle.handshake.specs.Plans.{HasFittingDocument, IsRemovalOf};
 ghost use Rattle.loading.specs.Fits.{IsFitting};
 ghost use Rattle.loading.specs.Loading.{loaded_values};
 ghost use Rattle.handshake.specs.Effects.{put_values, value_edits as value_edits_of};
-ghost use Rattle.handshake.specs.Tellings.{destroyed_by, loaded_by, target_of};
+ghost use Rattle.handshake.specs.Tellings.{destroyed_by, loaded_by, resolves_all, target_of};
 
 use crate::change::Change;
+use crate::cuts::push_cuts;
 use crate::displaced::{is_plain_add, is_plain_set};
 use crate::target::{Counterpart, Target};
 use crate::tie::far_end;
 use links::{Edit, LinkStore, Plan};
-use mm_types::{End, FeatureNo, Node, ObjectNo, Seq, Text, Value};
+use mm_types::{End, FeatureNo, Node, ObjectNo, Seq, Value};
 use mm_values::{ValueEdit, ValuePlan};
 use models::{ModelRef, at_end};
 use removal::{Removal, Tie};
 use resource_docs::Doc;
 use std::alloc::{AllocError, Global};
 
-/// The edits of links that make a change that cuts these.
+/// The edits of links that make a change that cuts these; `resolving_all` makes those that resolve all proxies.
 pub(crate) fn link_edits<L: LinkStore>(
     alloc: Global,
     model: &ModelRef<L>,
@@ -38,18 +39,20 @@ pub(crate) fn link_edits<L: LinkStore>(
     requires cut { ties.items ≡ d.cut_ties (reading model.now) change.now }
     requires found { target ≡ target_of (reading model.now) change.now }
     requires fits { HasFittingDocument (reading model.now).next change.now }
+    requires one { resolves_all change.now ≡ false }
     ensures { IfOk result (λ p. p ≡ e.link_edits (reading model.now) change.now) }
 {
     if let Change::Load(resource, doc) = change {
         let edits = loading::link_edits(alloc, model.meta(), model.next(), *resource, doc)?;
         return Ok(Seq::from_vec(edits));
     }
-    let mut edits = cuts(alloc, ties)?;
+    let mut edits = Vec::new(alloc);
+    push_cuts(alloc, ties, &mut edits)?;
     push_made(model, change, target, &mut edits)?;
     Ok(Seq::from_vec(edits))
 }
 
-/// Adds the edits behind the cuts, of a change that loads nothing.
+/// Adds the edits behind the cuts, of a change that loads nothing and doesn't resolve all proxies.
 fn push_made<L: LinkStore>(
     model: &ModelRef<L>,
     change: &Change,
@@ -58,6 +61,7 @@ fn push_made<L: LinkStore>(
 ) -> Result<(), AllocError>
     requires loads_nothing { loaded_by change.now ≡ None }
     requires found { target ≡ target_of (reading model.now) change.now }
+    requires one { resolves_all change.now ≡ false }
     ensures { OnOk result (edits.new.items ≡ edits.old.items ++ e.made_edits (reading model.now) change.now) }
 {
     if let Change::Resolve {
@@ -75,7 +79,7 @@ fn push_made<L: LinkStore>(
 }
 
 /// Adds the edits that put a link in the place of its proxies; none where nothing is at their address.
-fn push_joining<L: LinkStore>(
+pub(crate) fn push_joining<L: LinkStore>(
     model: &ModelRef<L>,
     end: End,
     index: u32,
@@ -102,31 +106,6 @@ fn back_edit<L: LinkStore>(model: &ModelRef<L>, other: Counterpart) -> Edit
         end: other.end,
         to: other.index,
         from: model.len(other.end).saturating_sub(1),
-    }
-}
-
-fn cuts(alloc: Global, ties: Vec<Tie>) -> Result<Vec<Edit>, AllocError>
-    ensures { IfOk result (λ p. p.items ≡ map e.cut_of ties.items) }
-{
-    let mut edits = Vec::new(alloc);
-    for tie in ties {
-        edits.push(cut(alloc, tie))?;
-    }
-    Ok(edits)
-}
-
-/// The edit that cuts a link.
-fn cut(alloc: Global, tie: Tie) -> Edit
-    ensures { result ≡ e.cut_of tie }
-{
-    let Tie { end, value } = tie;
-    match value {
-        Value::Object(object) => Edit::Cut { end, object },
-        Value::Proxy(text) => Edit::CutProxy { end, text },
-        _ => Edit::CutProxy {
-            end,
-            text: Text::from_string(String::new(alloc)),
-        },
     }
 }
 
@@ -227,6 +206,7 @@ fn other_edits<L: LinkStore>(
         Change::Delete(_) => Ok(ValuePlan::none(alloc)),
         Change::NewResource(uri) => Ok(ValuePlan::one(ValueEdit::NewUri(uri))),
         Change::Resolve { .. } => Ok(ValuePlan::none(alloc)),
+        Change::ResolveAll => Ok(ValuePlan::none(alloc)),
         Change::Load(_, doc) => load_edits(alloc, model, doc),
         Change::Set { feature, .. }
         | Change::Unset { feature, .. }

@@ -5,11 +5,13 @@ ghost use Rattle.mm_types.specs.Resolved.{Metamodel};
 ghost use Rattle.mm_types.specs.declared.numbers.FeatureNo.{FeatureNo};
 ghost use Rattle.mm_types.specs.declared.numbers.Node.{Node};
 ghost use Rattle.mm_types.specs.declared.numbers.ResourceNo.{ResourceNo};
+ghost use Rattle.models.specs.Legal.{IsLegal};
 ghost use Rattle.models.specs.Model.{Model};
 ghost use Rattle.resource_docs.specs.declared.doc.Doc.{Doc};
 ghost use Rattle.notice_chain.specs.Replay.{replayed_all};
 ghost use Rattle.handshake.specs.Laws.{ChainReplays, CutsNoLinkTwice, FarEndsAreApart, KeepsLegal, KeepsSteady, TellsNoEndTwice};
 ghost use Rattle.handshake.specs.Loaded.{LoadsEnds};
+ghost use Rattle.handshake.specs.OneByOne.{ResolvesEach};
 ghost use Rattle.handshake.specs.Telling.{happened_all, has_flag, told};
 ghost use Rattle.handshake.specs.declared.change.Change.{Change};
 ghost use Rattle.handshake.specs.declared.happening.Telling.{Telling};
@@ -38,8 +40,9 @@ pub fn the_chain_of_a_change_replays_it()
     ensures { (s : Model) (c : Change) → ChainReplays s c }
 {}
 
-/// A change of a legal model, where nothing refuses it, tells no end twice, unless it is an unset of a list, a deletion or a load. An
-/// unset of a list tells no far end twice, and the list is none of the far ends. Of a deletion and a load nothing is said.
+/// A change of a legal model, where nothing refuses it, tells no end twice, unless it is an unset of a list, a deletion, a load, or the
+/// one that resolves all proxies. An unset of a list tells no far end twice, and the list is none of the far ends. Of the others nothing is
+/// said.
 pub fn a_chain_tells_no_end_twice()
     ensures ends { (s : Model) (c : Change) → TellsNoEndTwice s c }
     ensures far_ends { (s : Model) (n : Node) (f : FeatureNo) → FarEndsAreApart s n f }
@@ -56,4 +59,12 @@ pub fn a_change_cuts_no_link_twice()
 /// the roots in their order. Nothing else has changed (EMF: XMLResource.load).
 pub fn a_load_reads_as_its_document()
     ensures { (s : Model) (k : ResourceNo) (doc : Doc) → LoadsEnds s k doc }
+{}
+
+/// To resolve all proxies of a legal model is to resolve one after another, by object number, by feature in the order of all features, and
+/// by index, where each is resolved in the model that the earlier ones left, and passed over if it is refused there. It leaves the same
+/// model, tells their notices in order, and counts those that were resolved, and the proxies that stand afterwards (EMF:
+/// EcoreUtil.resolveAll).
+pub fn all_proxies_are_resolved_one_after_another()
+    ensures { (s : Model) → IsLegal s → ResolvesEach s }
 {}

@@ -21,7 +21,7 @@ pub fn early_refusal<L: LinkStore>(model: &ModelRef<L>, change: &Change) -> Opti
     match change {
         Change::Create(class) => class_refusal(model.meta(), *class),
         Change::Delete(object) => node_refusal(model, Node::Object(*object)),
-        Change::NewResource(_) => None,
+        Change::NewResource(_) | Change::ResolveAll => None,
         Change::Load(resource, _) => node_refusal(model, Node::Resource(*resource)),
         Change::Resolve {
             object,

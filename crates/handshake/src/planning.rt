@@ -1,5 +1,5 @@
 //! The plan of a change: its edits, and the notices that it tells.
-ghost use Rattle.std.specs.Prelude.{◌≡◌, [], true, None, IfOk, if◌then◌else◌};
+ghost use Rattle.std.specs.Prelude.{◌≡◌, [], true, false, None, IfOk, if◌then◌else◌};
 ghost use Rattle.mm_types.specs.Conditions.{◌unless◌, ◌else_by◌};
 ghost use Rattle.mm_types.specs.declared.refused.Refused.TheVariants.{Index};
 ghost use Rattle.models.specs.Model.{reading};
@@ -21,6 +21,7 @@ use crate::loads::{load_refusal, root_notices};
 use crate::planned::Planned;
 use crate::recursion::is_recursive;
 use crate::resolving::{resolve_refusal, target_of};
+use crate::resolving_all::all_resolved;
 use crate::target::Target;
 use crate::telling::tellings;
 use crate::tie::{far_end, opposite_end};
@@ -76,6 +77,9 @@ fn made<L: LinkStore>(
     ensures { IfOk result (IsPlanOf is_heard model.now change) }
 {
     model.is_legal();
+    if let Change::ResolveAll = &change {
+        return all_resolved(alloc, model, is_heard);
+    }
     let removal = removal_of(alloc, model, &change)?;
     let (edits, values, chain) = edits_and_notices(
         alloc, model, change, &removal, target, is_heard,
@@ -83,13 +87,15 @@ fn made<L: LinkStore>(
     Ok(Planned {
         removal,
         target,
+        resolved: None,
         edits,
         values,
         chain,
     })
 }
 
-/// The edits of a change that nothing refuses, of links and of values, and its notices. Errs only when out of memory.
+/// The edits of a change that nothing refuses and that doesn't resolve all proxies, of links and of values, and its notices. Errs only
+/// when out of memory.
 fn edits_and_notices<L: LinkStore>(
     alloc: Global,
     model: &ModelRef<L>,
@@ -103,6 +109,7 @@ fn edits_and_notices<L: LinkStore>(
     requires removal { IsRemovalOf (reading model.now) change removal.now }
     requires found { target ≡ t.target_of (reading model.now) change }
     requires read { HasReadDocument model.now.metamodel change }
+    requires one { t.resolves_all change ≡ false }
     ensures edits { IfOk result (λ p. p.0 ≡ e.link_edits (reading model.now) change) }
     ensures values { IfOk result (λ p. p.1 ≡ value_edits_of (reading model.now) change) }
     ensures chain { IfOk result (λ p. p.2 ≡ (if is_heard then t.chain (reading model.now) change else [])) }
@@ -127,6 +134,7 @@ fn links_and_notices<L: LinkStore>(
     requires removal { IsRemovalOf (reading model.now) change.now removal.now }
     requires found { target ≡ t.target_of (reading model.now) change.now }
     requires fits { HasFittingDocument (reading model.now).next change.now }
+    requires one { t.resolves_all change.now ≡ false }
     ensures edits { IfOk result (λ p. p.0 ≡ e.link_edits (reading model.now) change.now) }
     ensures chain { IfOk result (λ p. p.1 ≡ (if is_heard then t.chain (reading model.now) change.now else [])) }
 {
@@ -147,7 +155,7 @@ fn late_refusal<L: LinkStore>(
 {
     match change {
         Change::Create(_) if model.next() >= limits::OBJECTS => Some(Refused::Limit),
-        Change::Create(_) | Change::Unset { .. } | Change::Delete(_) => None,
+        Change::Create(_) | Change::Unset { .. } | Change::Delete(_) | Change::ResolveAll => None,
         Change::NewResource(uri) => uri_refusal(model, uri),
         Change::Resolve {
             object,
@@ -352,6 +360,7 @@ fn heard_chain<L: LinkStore>(
     requires found { target ≡ t.target_of (reading model.now) change.now }
     requires cut { ties.now ≡ d.cut_ties (reading model.now) change.now }
     requires fits { HasFittingDocument (reading model.now).next change.now }
+    requires one { t.resolves_all change.now ≡ false }
     ensures { IfOk result (λ c. c ≡ (if is_heard then t.chain (reading model.now) change.now else [])) }
 {
     if !is_heard {

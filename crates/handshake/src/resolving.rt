@@ -142,7 +142,11 @@ pub(crate) fn resolve_refusal<L: LinkStore>(
 }
 
 /// Whether the object at a proxy's address is not one of the feature's type, or the feature is an attribute.
-fn is_mistyped<L: LinkStore>(model: &ModelRef<L>, end: End, target: Option<Target>) -> bool
+pub(crate) fn is_mistyped<L: LinkStore>(
+    model: &ModelRef<L>,
+    end: End,
+    target: Option<Target>,
+) -> bool
     ensures { result ≡ refusals.is_mistyped (reading model.now) end target }
 {
     if !model.meta().is_reference(end.feature) {
@@ -155,7 +159,11 @@ fn is_mistyped<L: LinkStore>(model: &ModelRef<L>, end: End, target: Option<Targe
 }
 
 /// Whether the object at a proxy's address stands in the list already.
-fn is_there_already<L: LinkStore>(model: &ModelRef<L>, end: End, target: Option<Target>) -> bool
+pub(crate) fn is_there_already<L: LinkStore>(
+    model: &ModelRef<L>,
+    end: End,
+    target: Option<Target>,
+) -> bool
     ensures { result ≡ refusals.is_there_already (reading model.now) end target }
 {
     match target {
@@ -165,7 +173,11 @@ fn is_there_already<L: LinkStore>(model: &ModelRef<L>, end: End, target: Option<
 }
 
 /// The text of the proxy at an index of an end, if one stands there. Takes no memory.
-fn proxy_at<'a, L: LinkStore>(model: &ModelRef<'a, L>, end: End, index: u32) -> Option<&'a str>
+pub(crate) fn proxy_at<'a, L: LinkStore>(
+    model: &ModelRef<'a, L>,
+    end: End,
+    index: u32,
+) -> Option<&'a str>
     ensures { option_copied result ≡ resolving.proxy_at (reading model.now) end index }
 {
     match model.value_in(end, index) {
@@ -204,7 +216,7 @@ fn lost_refusal<L: LinkStore>(
 }
 
 /// Whether a reference has an opposite, and no proxy there leads back.
-fn is_unmatched<L: LinkStore>(model: &ModelRef<L>, end: End, target: Target) -> bool
+pub(crate) fn is_unmatched<L: LinkStore>(model: &ModelRef<L>, end: End, target: Target) -> bool
     ensures { result ≡ resolving.is_unmatched (reading model.now) end target }
 {
     model.meta().opposite(end.feature).is_some() && target.counterpart.is_none()

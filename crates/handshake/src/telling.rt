@@ -1,12 +1,12 @@
 //! What a change makes happen, end by end.
-ghost use Rattle.std.specs.Prelude.{◌≡◌, ◌∷◌, ◌++◌, [], None, not, flat_map, filter, IfOk, OnOk};
+ghost use Rattle.std.specs.Prelude.{◌≡◌, ◌∷◌, ◌++◌, [], None, false, not, flat_map, filter, IfOk, OnOk};
 ghost use Rattle.std.specs.Option.{option_map_or};
 ghost use Rattle.mm_types.specs.Shapes.{is_containment};
 ghost use Rattle.mm_types.specs.declared.value.Value.TheVariants as value;
 ghost use Rattle.models.specs.Model.{reading};
 ghost use Rattle.models.specs.Reading.{at_end};
 ghost use Rattle.handshake.specs.Tellings as t;
-ghost use Rattle.handshake.specs.Tellings.{destroyed_by, loaded_by, target_of};
+ghost use Rattle.handshake.specs.Tellings.{destroyed_by, loaded_by, resolves_all, target_of};
 
 use crate::change::Change;
 use crate::displaced::is_plain_set;
@@ -19,7 +19,8 @@ use models::{ModelRef, at_end};
 use removal::Tie;
 use std::alloc::{AllocError, Global};
 
-/// What a change that cuts these links, and destroys and loads nothing, makes happen, in the order in which it is told.
+/// What a change that cuts these links, destroys and loads nothing, and doesn't resolve all proxies, makes happen, in the order in which
+/// it is told.
 pub(crate) fn tellings<L: LinkStore>(
     alloc: Global,
     model: &ModelRef<L>,
@@ -30,12 +31,17 @@ pub(crate) fn tellings<L: LinkStore>(
     requires destroys_nothing { destroyed_by change.now ≡ None }
     requires loads_nothing { loaded_by change.now ≡ None }
     requires found { target ≡ target_of (reading model.now) change.now }
+    requires one { resolves_all change.now ≡ false }
     ensures { IfOk result (λ ts. ts.items ≡ t.tellings_with (reading model.now) change.now ties.now) }
 {
     let mut out = Vec::new(alloc);
     match change {
-        // `chain` makes the notices of a delete, and `loads` those of a load
-        Change::Create(_) | Change::NewResource(_) | Change::Delete(_) | Change::Load(_, _) => {}
+        // `chain` makes the notices of a delete, `loads` those of a load, and `resolving_all` those that resolve all proxies
+        Change::Create(_)
+        | Change::NewResource(_)
+        | Change::Delete(_)
+        | Change::ResolveAll
+        | Change::Load(_, _) => {}
         Change::Set {
             node,
             feature,
@@ -81,7 +87,7 @@ pub(crate) fn tellings<L: LinkStore>(
 }
 
 /// Adds what happens where a proxy is resolved: to the opposite end first.
-fn push_resolved(
+pub(crate) fn push_resolved(
     end: End,
     index: u32,
     target: Option<Target>,

@@ -37,7 +37,7 @@ use Rattle.handshake.specs.Plans.{IsDocument}
 use Rattle.handshake.specs.Refusals.{early_refusal, late_refusal}
 use Rattle.handshake.specs.declared.change.Change.TheVariants.{Load}
 use Rattle.handshake.proofs.KnownLemmas.{none-else_by, none-unless}
-use Rattle.handshake.proofs.LegalLemmas.{change-keeps-legal}
+use Rattle.handshake.proofs.AllLemmas.{change-keeps-legal}
 use Rattle.reloading.specs.Laws.{HasOwnAddresses}
 
 pub own-addresses : (s : Model) → IsLegal s → HasOwnAddresses (reading s)

@@ -35,7 +35,7 @@ use Rattle.loading.proofs.SoundLemmas.{any-at, map-at}
 use Rattle.round_trip.proofs.ValuesListLemmas.{stands}
 use Rattle.handshake.specs.Effects.{after}
 use Rattle.handshake.specs.declared.change.Change.TheVariants.{NewResource}
-use Rattle.handshake.proofs.LegalLemmas.{change-keeps-legal}
+use Rattle.handshake.proofs.AllLemmas.{change-keeps-legal}
 use Rattle.reloading.specs.Orders.{IsAllowed, IsMaking, IsSaved, has, is_same, number_of, uri_of}
 use Rattle.reloading.proofs.AddressLemmas.{address-inside}
 use Rattle.reloading.proofs.LoadedLemmas.{has-address, uri-at}

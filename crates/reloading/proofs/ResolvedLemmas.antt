@@ -37,10 +37,10 @@ use Rattle.handshake.specs.declared.happening.Happening.TheVariants.{Resolves}
 use Rattle.handshake.specs.declared.happening.Telling.{Telling}
 use Rattle.handshake.specs.declared.target.Counterpart.{Counterpart}
 use Rattle.handshake.specs.declared.target.Target.{Target}
-use Rattle.handshake.proofs.ChainLemmas.{chain-replays}
+use Rattle.handshake.proofs.AllLemmas.{chain-replays}
 use Rattle.handshake.proofs.HappenedLemmas.{done, done_at, done-here, done-other, happened_all-at, happened_at}
 use Rattle.handshake.proofs.KnownLemmas.{resolvable}
-use Rattle.handshake.proofs.LegalLemmas.{change-keeps-legal}
+use Rattle.handshake.proofs.AllLemmas.{change-keeps-legal}
 use Rattle.handshake.proofs.ReplayLemmas.{replayed_all-told}
 use Rattle.reloading.proofs.PlainLemmas.{reference-of}
 

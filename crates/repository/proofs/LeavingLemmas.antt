@@ -25,9 +25,10 @@ use Rattle.removal.specs.Removals.{IsRemoval}
 use Rattle.removal.specs.declared.gone.Removal.{Removal}
 use Rattle.handshake.specs.Plans.{IsRemovalOf}
 use Rattle.handshake.specs.Refusals.{late_refusal}
-use Rattle.handshake.specs.Tellings.{destroyed_by, target_of}
+use Rattle.handshake.specs.Tellings.{destroyed_by, resolved_by, target_of}
 use Rattle.handshake.specs.declared.change.Change.{Change}
-use Rattle.handshake.specs.declared.change.Change.TheVariants.{Create, Set, Unset, Add, Remove, RemoveValue, Move, Delete, NewResource, Resolve, Load}
+use Rattle.handshake.specs.declared.change.Change.TheVariants.{Create, Set, Unset, Add, Remove, RemoveValue, Move, Delete, NewResource, Resolve, Load, ResolveAll}
+use Rattle.handshake.specs.declared.planned.Resolved.{Resolved}
 use Rattle.handshake.specs.declared.target.Target.{Target as Found}
 use Rattle.handshake.proofs.KnownLemmas.{resolvable}
 use Rattle.handshake.proofs.RemovalLemmas.{of-objects}
@@ -139,10 +140,11 @@ spots-found r c q rs of = by q (destroyed_by c) of.whose of.found
         let goes : is_in x.numbers ≡ gone r o = (λ i n. found.numbers n i) ∙ ap (gone r) (same_Some x.object o is) in
         ap (λ (g : Node → Bool). spots (is_gone_at g) rs) goes
 
--- the answer from before planning, or what the plan destroys or finds, is the whole answer
-pub whole-answer : (r : Reading) (rs : List Listed) (text : List ℕ) (c : Change) (early : Option Answer) (q : Option Removal) (x : Option Found) → IsEarlyAnswer (is_answered_late c) (answer_of r rs (command_of text c)) early
-    → late_refusal r c ≡ None → IsRemovalOf r c q → x ≡ target_of r c → unwrap_or early (planned_answer q x) ≡ answer_of r rs (command_of text c)
-whole-answer r rs text c early q x is allowed removed found = by c is allowed removed.whose removed.found found
+-- the answer from before planning, or what the plan destroys, finds or resolves, is the whole answer
+pub whole-answer : (r : Reading) (rs : List Listed) (text : List ℕ) (c : Change) (early : Option Answer) (q : Option Removal) (x : Option Found) (y : Option Resolved)
+    → IsEarlyAnswer (is_answered_late c) (answer_of r rs (command_of text c)) early → late_refusal r c ≡ None → IsRemovalOf r c q → x ≡ target_of r c → y ≡ resolved_by r c
+    → unwrap_or early (planned_answer q x y) ≡ answer_of r rs (command_of text c)
+whole-answer r rs text c early q x y is allowed removed found resolved = by c is allowed removed.whose removed.found found resolved
   where
     known : (a b : Answer) → early ≡ Some a → unwrap_or early b ≡ a
     known a b some = ap (λ (o : Option Answer). unwrap_or o b) some
@@ -150,18 +152,19 @@ whole-answer r rs text c early q x is allowed removed found = by c is allowed re
     later : (a b : Answer) → early ≡ None → b ≡ a → unwrap_or early b ≡ a
     later a b none same = ap (λ (o : Option Answer). unwrap_or o b) none ∙ same
 
-    by : (d : Change) → IsEarlyAnswer (is_answered_late d) (answer_of r rs (command_of text d)) early → late_refusal r d ≡ None → option_map (λ (y : Removal). y.object) q ≡ destroyed_by d → IfSome q (IsRemoval r) → x ≡ target_of r d
-        → unwrap_or early (planned_answer q x) ≡ answer_of r rs (command_of text d)
-    by (Delete o) none allowed whose found nothing = later _ _ none (ap (planned_answer q) nothing ∙ ap answer.Destroyed (of-objects length 0 r q o whose found))
-    by (Resolve o f i) none allowed whose found target =
+    by : (d : Change) → IsEarlyAnswer (is_answered_late d) (answer_of r rs (command_of text d)) early → late_refusal r d ≡ None → option_map (λ (z : Removal). z.object) q ≡ destroyed_by d → IfSome q (IsRemoval r) → x ≡ target_of r d → y ≡ resolved_by r d
+        → unwrap_or early (planned_answer q x y) ≡ answer_of r rs (command_of text d)
+    by (Delete o) none allowed whose found nothing nowhere = later _ _ none ((λ i. planned_answer q (nothing i) (nowhere i)) ∙ ap answer.Destroyed (of-objects length 0 r q o whose found))
+    by (Resolve o f i) none allowed whose found target nowhere =
         let known = resolvable r (at_end (node.Object o) f) i allowed in
-        later _ _ none (ap (planned_answer q) (target ∙ known.is) ∙ ap (λ (y : Option Found). answer.Object (option_map_or (λ (z : Found). z.object) y (record { 0 = 0 }))) (sym known.is))
-    by (Create k) some allowed whose found target = known _ _ some
-    by (Set n f v) some allowed whose found target = known _ _ some
-    by (Unset n f) some allowed whose found target = known _ _ some
-    by (Add n f v i) some allowed whose found target = known _ _ some
-    by (Remove n f i) some allowed whose found target = known _ _ some
-    by (RemoveValue n f v) some allowed whose found target = known _ _ some
-    by (Move n f to from) some allowed whose found target = known _ _ some
-    by (NewResource u) some allowed whose found target = known _ _ some
-    by (Load k doc) some allowed whose found target = known _ _ some
+        later _ _ none (ap (λ (z : Option Found). planned_answer q z y) (target ∙ known.is) ∙ ap (λ (z : Option Found). answer.Object (option_map_or (λ (w : Found). w.object) z (record { 0 = 0 }))) (sym known.is))
+    by ResolveAll none allowed whose found nothing counted = later _ _ none (λ i. planned_answer q (nothing i) (counted i))
+    by (Create k) some allowed whose found target counted = known _ _ some
+    by (Set n f v) some allowed whose found target counted = known _ _ some
+    by (Unset n f) some allowed whose found target counted = known _ _ some
+    by (Add n f v i) some allowed whose found target counted = known _ _ some
+    by (Remove n f i) some allowed whose found target counted = known _ _ some
+    by (RemoveValue n f v) some allowed whose found target counted = known _ _ some
+    by (Move n f to from) some allowed whose found target counted = known _ _ some
+    by (NewResource u) some allowed whose found target counted = known _ _ some
+    by (Load k doc) some allowed whose found target counted = known _ _ some

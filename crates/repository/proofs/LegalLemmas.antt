@@ -39,9 +39,10 @@ use Rattle.handshake.specs.Named.{node_refusal}
 use Rattle.handshake.specs.declared.change.Change.{Change}
 use Rattle.handshake.specs.declared.change.Change.TheVariants as change
 use Rattle.handshake.proofs.KnownLemmas.{none-else_by, none-unless}
-use Rattle.handshake.proofs.LegalLemmas.{change-keeps-legal, left-object, left-uris}
+use Rattle.handshake.proofs.AllLemmas.{change-keeps-legal}
+use Rattle.handshake.proofs.LegalLemmas.{left-object, left-uris}
 use Rattle.repository.specs.declared.command.Command.{Command}
-use Rattle.repository.specs.declared.command.Command.TheVariants.{Create, Set, Unset, Add, Remove, RemoveValue, Move, Delete, Attach, Watch, Unwatch, Detach, Get, IsSet, Container, Contents, Class, AdapterTold, AdapterKept, CreateResource, Resolve, Load, Resource, Validate, Fragment, ObjectAt, Save, Snapshot}
+use Rattle.repository.specs.declared.command.Command.TheVariants.{Create, Set, Unset, Add, Remove, RemoveValue, Move, Delete, Attach, Watch, Unwatch, Detach, Get, IsSet, Container, Contents, Class, AdapterTold, AdapterKept, CreateResource, Resolve, Load, ResolveAll, Resource, Validate, Fragment, ObjectAt, Save, Snapshot}
 use Rattle.repository.specs.State.{State, IsLegal, IsLegalAdapter, is_there, reads}
 use Rattle.repository.specs.Refusals.{chain, early_refusal, late_refusal, resource_refusal}
 use Rattle.repository.specs.Run.{Executed, IsWanting, is_memory}
@@ -152,6 +153,7 @@ change-keeps-node s (change.Move m f to from) n stays h = either-keeps s n (shap
 change-keeps-node s (change.NewResource u) (node.Object o) stays h = h
 change-keeps-node s (change.NewResource u) (node.Resource k) stays h = more-resources s.values.uris u k.0 h
 change-keeps-node s (change.Resolve o f i) n stays h = h
+change-keeps-node s change.ResolveAll n stays h = h
 change-keeps-node s (change.Load k doc) (node.Object o) stays h = ap (λ (b : Bool). b && true) (loaded-live s.metamodel s.values doc o.0 (first-true _ true h))
 change-keeps-node s (change.Load k doc) (node.Resource j) stays h = subst (λ (us : List (List ℕ)). IsTrue (nat_lt j.0 (length us))) (sym (loaded-uris s.metamodel (length s.values.objects) s.values doc)) h
 
@@ -182,6 +184,7 @@ keeps-node s (Delete o) n stays h = change-keeps-node s.model (change.Delete o) 
 keeps-node s (CreateResource t) n stays h = resource-keeps-node s.model (joined [] t) n h
 keeps-node s (Resolve o f i) n stays h = change-keeps-node s.model (change.Resolve o f i) n refl h
 keeps-node s (Load k text) n stays h = load-keeps-node s.model k (reads_into (reads s) k text) n h
+keeps-node s ResolveAll n stays h = change-keeps-node s.model change.ResolveAll n refl h
 keeps-node s _ n stays h = h
 
 ---------------------------------------------------------------- the model
@@ -209,6 +212,7 @@ model-legal s (Delete o) legal early late = change-keeps-legal s.model (change.D
 model-legal s (CreateResource t) legal early late = resource-legal s t (joined [] t) refl legal late
 model-legal s (Resolve o f i) legal early late = change-keeps-legal s.model (change.Resolve o f i) legal early late tt tt
 model-legal s (Load k text) legal early late = load-legal s k text (reads_into (reads s) k text) refl legal early late
+model-legal s ResolveAll legal early late = change-keeps-legal s.model change.ResolveAll legal early late tt tt
 model-legal s (Attach number target deep view) legal early late = legal
 model-legal s (Watch number target deep) legal early late = legal
 model-legal s (Unwatch number target) legal early late = legal

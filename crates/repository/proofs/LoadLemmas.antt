@@ -20,7 +20,7 @@ use Rattle.handshake.specs.Named.{node_refusal}
 use Rattle.handshake.specs.Laws.{BringsSteadyTexts}
 use Rattle.handshake.specs.Plans.{HasReadDocument, IsDocument, is_memory_refusal}
 use Rattle.handshake.specs.declared.change.Change.{Change}
-use Rattle.handshake.specs.declared.change.Change.TheVariants.{Create, Set, Unset, Add, Remove, RemoveValue, Move, Delete, NewResource, Resolve, Load}
+use Rattle.handshake.specs.declared.change.Change.TheVariants.{Create, Set, Unset, Add, Remove, RemoveValue, Move, Delete, NewResource, Resolve, Load, ResolveAll}
 use Rattle.repository.specs.Loads.{load_refusal, reads_into, uri_at}
 use Rattle.repository.specs.Proper.{IsProper}
 use Rattle.repository.specs.Run.{Executed, is_plain}
@@ -56,6 +56,7 @@ proper-read r text (Move n f to from) proper = tt
 proper-read r text (Delete o) proper = tt
 proper-read r text (NewResource u) proper = tt
 proper-read r text (Resolve o f i) proper = tt
+proper-read r text ResolveAll proper = tt
 
 -- joining leaves the texts that a proper change brings as they are
 pub proper-steady : (r : Reading) (text : List ℕ) (c : Change) → IsProper r text c → BringsSteadyTexts c

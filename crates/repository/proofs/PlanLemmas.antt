@@ -29,7 +29,7 @@ use Rattle.handshake.specs.Tellings.{chain}
 use Rattle.mm_types.specs.declared.document_fault.DocFault.{DocFault}
 use Rattle.resource_docs.specs.declared.doc.Doc.{Doc}
 use Rattle.handshake.specs.declared.change.Change.{Change}
-use Rattle.handshake.specs.declared.change.Change.TheVariants.{Create, Set, Unset, Add, Remove, RemoveValue, Move, Delete, NewResource, Resolve, Load}
+use Rattle.handshake.specs.declared.change.Change.TheVariants.{Create, Set, Unset, Add, Remove, RemoveValue, Move, Delete, NewResource, Resolve, Load, ResolveAll}
 use Rattle.repository.specs.Answers.{answer_of}
 use Rattle.repository.specs.declared.command.Command.TheVariants as command
 use Rattle.repository.specs.declared.reply.Answer.{Answer}
@@ -94,6 +94,7 @@ refusal-planned s text (NewResource u) web early =
     ap (asked_of s u) (joined-web [] u web) ∙ ap (λ (o : Option Refused). o else_by full s (NewResource u)) (uri-refused (reads s) u)
 refusal-planned s text (Resolve o f i) brought early = rw early refl
 refusal-planned s text (Load k doc) proper early = ap (loaded_as s k) proper.0 ∙ rw early refl
+refusal-planned s text ResolveAll brought early = refl
 
 -- a condition that is none of these is none of them behind another that is none
 ---------------------------------------------------------------- what is found first is not out of memory
@@ -125,6 +126,7 @@ early-not-memory r (Delete o) = node-not-memory r (node.Object o)
 early-not-memory r (NewResource u) = refl
 early-not-memory r (Resolve o f i) = feature-not-memory r (node.Object o) f
 early-not-memory r (Load k doc) = node-not-memory r (node.Resource k)
+early-not-memory r ResolveAll = refl
 
 ---------------------------------------------------------------- what is found later is not plain
 
@@ -152,6 +154,7 @@ may-want s text (Delete o) brought early = not-plain s text (Delete o) brought e
 may-want s text (NewResource u) brought early = not-plain s text (NewResource u) brought early
 may-want s text (Resolve o f i) brought early = not-plain s text (Resolve o f i) brought early
 may-want s text (Load k doc) brought early = not-plain s text (Load k doc) brought early
+may-want s text ResolveAll brought early = not-plain s text ResolveAll brought early
 
 ---------------------------------------------------------------- what is executed
 
@@ -167,6 +170,7 @@ refused_as s text (Delete o) r other found = rw other (ap (step_unless s (comman
 refused_as s text (NewResource u) r other found = rw other (ap (step_unless s (command_of text (NewResource u))) found)
 refused_as s text (Resolve o f i) r other found = rw other (ap (step_unless s (command_of text (Resolve o f i))) found)
 refused_as s text (Load k doc) r other found = rw other (ap (step_unless s (command_of text (Load k doc))) found)
+refused_as s text ResolveAll r other found = rw other (ap (step_unless s (command_of text ResolveAll)) found)
 
 -- what is found first
 found-first : (s : State) (text : List ℕ) (c : Change) (r : Refused) → early_refusal (reads s) c ≡ Some r → refusal_of s (command_of text c) ≡ Some r
@@ -181,6 +185,7 @@ found-first s text (Delete o) r e = rw e refl
 found-first s text (NewResource u) r e = absurd (none-some r e)
 found-first s text (Resolve o f i) r e = rw e refl
 found-first s text (Load k doc) r e = rw e refl
+found-first s text ResolveAll r e = absurd (none-some r e)
 
 pub early_err : (s : State) (text : List ℕ) (c : Change) (r : Refused) → early_refusal (reads s) c ≡ Some r → Executed s (command_of text c) (Err (record { refused = r; given_back = None })) s
 early_err s text c r e = refused_as s text c r (subst (IsNot no_memory) e (early-not-memory (reads s) c)) (found-first s text c r e)
@@ -197,6 +202,7 @@ out_of_memory s text (Delete o) brought early = record { may = may-want s text (
 out_of_memory s text (NewResource u) brought early = record { may = may-want s text (NewResource u) brought early; outcome = refl; state = refl }
 out_of_memory s text (Resolve o f i) brought early = record { may = may-want s text (Resolve o f i) brought early; outcome = refl; state = refl }
 out_of_memory s text (Load k doc) brought early = record { may = may-want s text (Load k doc) brought early; outcome = refl; state = refl }
+out_of_memory s text ResolveAll brought early = record { may = may-want s text ResolveAll brought early; outcome = refl; state = refl }
 
 -- what planning answers in place of a plan is such a refusal
 pub plan_refusal : (s : Model) (c : Change) (r : Refused) → (IsFalse (is_memory_refusal r && looks_first c) → late_refusal (reading s) c ≡ (if is_memory_refusal r then None else Some r)) → IsPlanRefusal s c r
@@ -265,6 +271,7 @@ done_change s text (Load k doc) proper =
     ap (done_loaded s k) proper.0
     ∙ ap (λ (a : Answer). replied s c (chain (reads s) c) (effects.after s.model c) a (releases_of s c (chain (reads s) c))) (sym (ap (λ (x : Result Doc DocFault). answer.Loaded (objects_of x)) proper.0))
 done_change s text (Resolve o f i) brought = refl
+done_change s text ResolveAll brought = refl
 
 -- a change that was made, with the notices that somebody may hear
 pub changed : (s : State) (text : List ℕ) (c : Change) (made : List Notice) → IsProper (reads s) text c → early_refusal (reads s) c ≡ None → late_refusal (reads s) c ≡ None → Heard (reads s).above made (chain (reads s) c) s.adapters → is_chain_full (reads s).above made s.adapters ≡ false

@@ -31,14 +31,14 @@ use Rattle.handshake.specs.Telling.{has_flag}
 use Rattle.handshake.specs.Tellings as planned_chain
 use Rattle.handshake.specs.declared.change.Change.{Change}
 use Rattle.handshake.specs.declared.change.Change.TheVariants as change
-use Rattle.handshake.proofs.ChainLemmas.{chain-replays}
+use Rattle.handshake.proofs.AllLemmas.{chain-replays}
 use Rattle.repository.specs.Loads.{load_of, load_refusal, reads_into}
 use Rattle.repository.specs.Refusals.{chain, change_of, early_refusal, late_refusal, resource_refusal}
 use Rattle.repository.specs.Enough.{is_deep_of}
 use Rattle.repository.specs.State.{State, is_there, reads}
 use Rattle.repository.specs.Step.{model_after}
 use Rattle.repository.specs.declared.command.Command.{Command}
-use Rattle.repository.specs.declared.command.Command.TheVariants.{Create, Set, Unset, Add, Remove, RemoveValue, Move, Delete, Attach, Watch, Unwatch, Detach, Get, IsSet, Container, Contents, Class, AdapterTold, AdapterKept, CreateResource, Resolve, Load, Resource, Validate, Fragment, ObjectAt, Save, Snapshot}
+use Rattle.repository.specs.declared.command.Command.TheVariants.{Create, Set, Unset, Add, Remove, RemoveValue, Move, Delete, Attach, Watch, Unwatch, Detach, Get, IsSet, Container, Contents, Class, AdapterTold, AdapterKept, CreateResource, Resolve, Load, ResolveAll, Resource, Validate, Fragment, ObjectAt, Save, Snapshot}
 use Rattle.repository.proofs.AttachedLemmas.{AreOfNoFeature}
 use Rattle.repository.proofs.LoadLemmas.{text-read}
 use Rattle.repository.proofs.PlanLemmas.{uri-allowed}
@@ -85,6 +85,7 @@ command-replays s (Delete o) legal early late d before later = chain-replays s.m
 command-replays s (CreateResource t) legal early late d before later = resource-replays s t (joined [] t) legal late d
 command-replays s (Resolve o f i) legal early late d before later = chain-replays s.model (change.Resolve o f i) legal early late tt d refl refl
 command-replays s (Load k text) legal early late d before later = load-replays s k text (reads_into (reads s) k text) refl legal early late d before
+command-replays s ResolveAll legal early late d before later = chain-replays s.model change.ResolveAll legal early late tt d refl refl
 command-replays s (Attach number target deep view) legal early late d before later = refl
 command-replays s (Watch number target deep) legal early late d before later = refl
 command-replays s (Unwatch number target) legal early late d before later = refl

@@ -2,7 +2,7 @@
 use Rattle.std.proofs.Common.{◌≡◌, Bool, true, false, List, [], ◌∷◌, ◌++◌, Option, Some, None, Ok, Err, refl, sym, ap, subst, ◌∙◌, if◌then◌else◌, ℕ, option_map}
 use Rattle.std.specs.Prelude.{MatchBool, Result}
 use Rattle.repository.specs.declared.command.Command.{Command}
-use Rattle.repository.specs.declared.command.Command.TheVariants.{Create, Set, Unset, Add, Remove, RemoveValue, Move, Delete, Attach, Watch, Unwatch, Detach, Get, IsSet, Container, Contents, Class, AdapterTold, AdapterKept, CreateResource, Resolve, Load, Resource, Validate, Fragment, ObjectAt, Save, Snapshot}
+use Rattle.repository.specs.declared.command.Command.TheVariants.{Create, Set, Unset, Add, Remove, RemoveValue, Move, Delete, Attach, Watch, Unwatch, Detach, Get, IsSet, Container, Contents, Class, AdapterTold, AdapterKept, CreateResource, Resolve, Load, ResolveAll, Resource, Validate, Fragment, ObjectAt, Save, Snapshot}
 use Rattle.repository.specs.State.{State, reads}
 use Rattle.repository.specs.Loads.{load_of, reads_into}
 use Rattle.mm_types.specs.declared.document_fault.DocFault.{DocFault}
@@ -72,6 +72,7 @@ done-metamodel s (Delete o) = refl
 done-metamodel s (CreateResource t) = resource-metamodel s (joined [] t)
 done-metamodel s (Resolve o f i) = refl
 done-metamodel s (Load k text) = load-metamodel s.model k (reads_into (reads s) k text)
+done-metamodel s ResolveAll = refl
 done-metamodel s (Attach number target deep view) = refl
 done-metamodel s (Watch number target deep) = refl
 done-metamodel s (Unwatch number target) = refl

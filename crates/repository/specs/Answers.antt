@@ -26,9 +26,11 @@ use Rattle.saved_docs.specs.Document.{saved}
 use Rattle.snapshots.specs.Snapshots.{snapshot_of}
 use Rattle.repository.specs.Loads.{objects_of, reads_into}
 use Rattle.handshake.specs.Resolving.{target_at}
+use Rattle.handshake.specs.ResolvingAll.{done, left}
 use Rattle.removal.specs.declared.gone.Removal.{Removal}
 use Rattle.handshake.specs.declared.change.Change.{Change}
 use Rattle.handshake.specs.declared.change.Change.TheVariants as change
+use Rattle.handshake.specs.declared.planned.Resolved.{Resolved}
 use Rattle.handshake.specs.declared.target.Target.{Target}
 
 -- what is counted of the adapter of a number
@@ -59,7 +61,8 @@ abbrev pub short_features : Reading → ObjectNo → List FeatureNo
 short_features r o = filter (λ f. is_too_few r (at_end (node.Object o) f)) (all_features_of r (node.Object o))
 
 -- an `add` answers whether the list changed, what takes a value out or moves it answers the value, `remove_value` whether it was there,
--- `delete` how many objects it destroyed, `resolve` the object that the proxy finds, and `load` how many objects it made
+-- `delete` how many objects it destroyed, `resolve` the object that the proxy finds, `load` how many objects it made, and `resolve_all` how
+-- many proxies it resolved and how many stand afterwards
 abbrev pub answer_of : Reading → List Listed → Command View → Answer
 answer_of r rs (command.Create c) = answer.Object (record { 0 = r.next })
 answer_of r rs (command.Set n f v) = answer.Done
@@ -72,6 +75,7 @@ answer_of r rs (command.Delete o) = answer.Destroyed (length (subtree r o))
 answer_of r rs (command.CreateResource t) = answer.Resource (record { 0 = length r.uris })
 answer_of r rs (command.Resolve o f i) = answer.Object (option_map_or (λ x. x.object) (target_at r (at_end (node.Object o) f) i) (record { 0 = 0 }))
 answer_of r rs (command.Load k text) = answer.Loaded (objects_of (reads_into r k text))
+answer_of r rs command.ResolveAll = answer.Resolved (done r) (left r)
 answer_of r rs (command.Attach number target deep view) = answer.Done
 answer_of r rs (command.Watch number target deep) = answer.Flag (not (is_target number target rs))
 answer_of r rs (command.Unwatch number target) = answer.Flag (is_target number target rs)
@@ -90,10 +94,11 @@ answer_of r rs (command.Snapshot n) = answer.Snapshot (snapshot_of r n)
 answer_of r rs (command.AdapterTold number) = answer.Count (count_of rs number (λ v. v.told))
 answer_of r rs (command.AdapterKept number) = answer.Count (count_of rs number (λ v. length v.kept))
 
--- what can be answered before a change is planned: all but how much a deletion destroys, and what a proxy finds
+-- what can be answered before a change is planned: all but how much a deletion destroys, what a proxy finds, and how many are resolved
 abbrev pub is_answered_late : Change → Bool
 is_answered_late (change.Delete o) = true
 is_answered_late (change.Resolve o f i) = true
+is_answered_late change.ResolveAll = true
 is_answered_late _ = false
 
 abbrev pub IsEarlyAnswer : Bool → Answer → Option Answer → Type 0
@@ -101,6 +106,7 @@ IsEarlyAnswer false a q = q ≡ Some a
 IsEarlyAnswer true a q = q ≡ None
 
 -- the answer of a change that is answered once it is planned
-abbrev pub planned_answer : Option Removal → Option Target → Answer
-planned_answer q (Some x) = answer.Object x.object
-planned_answer q None = answer.Destroyed (option_map_or (λ (x : Removal). length x.objects.items) q 0)
+abbrev pub planned_answer : Option Removal → Option Target → Option Resolved → Answer
+planned_answer q (Some x) y = answer.Object x.object
+planned_answer q None (Some y) = answer.Resolved y.done y.left
+planned_answer q None None = answer.Destroyed (option_map_or (λ (x : Removal). length x.objects.items) q 0)

@@ -44,6 +44,7 @@ takes_memory (command.Delete o) = true
 takes_memory (command.CreateResource t) = true
 takes_memory (command.Resolve o f i) = true
 takes_memory (command.Load k text) = true
+takes_memory command.ResolveAll = true
 takes_memory (command.Attach number target deep view) = true
 takes_memory (command.Watch number target deep) = true
 takes_memory (command.Unwatch number target) = true

@@ -26,6 +26,7 @@ command_of text (change.Delete o) = command.Delete o
 command_of text (change.NewResource u) = command.CreateResource u
 command_of text (change.Resolve o f i) = command.Resolve o f i
 command_of text (change.Load k doc) = command.Load k text
+command_of text change.ResolveAll = command.ResolveAll
 
 -- the adapter that a command brings
 abbrev pub brought : {A : Type 0} → Command A → Option A
@@ -40,6 +41,7 @@ brought (command.Delete o) = None
 brought (command.CreateResource t) = None
 brought (command.Resolve o f i) = None
 brought (command.Load k text) = None
+brought command.ResolveAll = None
 brought (command.Attach number target deep adapter) = Some adapter
 brought (command.Watch number target deep) = None
 brought (command.Unwatch number target) = None
@@ -71,6 +73,7 @@ module _ {A : Type 0} (heard : A → View) where
   command_view (command.CreateResource t) = command.CreateResource t
   command_view (command.Resolve o f i) = command.Resolve o f i
   command_view (command.Load k text) = command.Load k text
+  command_view command.ResolveAll = command.ResolveAll
   command_view (command.Attach number target deep adapter) = command.Attach number target deep (heard adapter)
   command_view (command.Watch number target deep) = command.Watch number target deep
   command_view (command.Unwatch number target) = command.Unwatch number target

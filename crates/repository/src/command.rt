@@ -60,6 +60,9 @@ pub enum Command<A = Box<dyn Adapter>> {
         resource: ResourceNo,
         text: Text,
     },
+    /// Resolves all proxies, one after another, by object number, feature and position; passes over those that `resolve` would refuse
+    /// (EMF: EcoreUtil.resolveAll).
+    ResolveAll,
     /// Attaches an adapter to a node, last in attach order (EMF: Notifier.eAdapters().add). A deep one is also notified of what
     /// happens below the node (EMF: EContentAdapter).
     Attach {

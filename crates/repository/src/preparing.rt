@@ -23,7 +23,7 @@ use crate::leaving::{Leaving, room_for, spots_gone};
 use crate::reply::Answer;
 use adapter_list::{AdapterList, Hearers, Round};
 use adapters::Adapter;
-use handshake::{Change, Planned, Target, plan};
+use handshake::{Change, Planned, Resolved, Target, plan};
 use links::LinkStore;
 use mm_types::{AdapterNo, End, FeatureNo, Node, ObjectNo, Refused, ResourceNo};
 use mm_values::Values;
@@ -58,7 +58,11 @@ pub(crate) fn prepare<L: LinkStore, A: Adapter>(
     let planned = plan(alloc, model, change, adapters.len() > 0)?;
     let spots = spots_gone(alloc, adapters, &planned.removal)?;
     Ok(Prepared {
-        answer: answer.unwrap_or(planned_answer(&planned.removal, planned.target)),
+        answer: answer.unwrap_or(planned_answer(
+            &planned.removal,
+            planned.target,
+            planned.resolved,
+        )),
         spots,
         planned,
     })
@@ -99,8 +103,8 @@ pub(crate) fn reserve<L: LinkStore, A: Adapter>(
     Ok((round, leaving))
 }
 
-/// What a change answers that is not refused; `None` for a deletion and for a proxy, whose answers are what the plan destroys and finds.
-/// Errs only when out of memory.
+/// What a change answers that is not refused; `None` for a deletion and for proxies, whose answers are what the plan destroys, finds and
+/// resolves. Errs only when out of memory.
 fn early_answer<L: LinkStore>(
     alloc: Global,
     model: &ModelRef<L>,
@@ -111,7 +115,7 @@ fn early_answer<L: LinkStore>(
 {
     model.is_legal();
     match change {
-        Change::Delete(_) | Change::Resolve { .. } => Ok(None),
+        Change::Delete(_) | Change::Resolve { .. } | Change::ResolveAll => Ok(None),
         Change::Create(_) => Ok(Some(Answer::Object(ObjectNo(model.next() as u32)))),
         Change::NewResource(_) => Ok(Some(Answer::Resource(ResourceNo(model.resources() as u32)))),
         Change::Load(_, doc) => Ok(Some(Answer::Loaded(doc.objects.len() as u64))),
@@ -141,14 +145,22 @@ fn early_answer<L: LinkStore>(
     }
 }
 
-// The object that a proxy finds, or how many objects go, as an answer.
-fn planned_answer(removal: &Option<Removal>, target: Option<Target>) -> Answer
-    ensures { result ≡ planned_answer_of removal.now target }
+// The object that a proxy finds, how many proxies are resolved, or how many objects go, as an answer.
+fn planned_answer(
+    removal: &Option<Removal>,
+    target: Option<Target>,
+    resolved: Option<Resolved>,
+) -> Answer
+    ensures { result ≡ planned_answer_of removal.now target resolved }
 {
-    match (target, removal) {
-        (Some(target), _) => Answer::Object(target.object),
-        (None, Some(removal)) => Answer::Destroyed(removal.objects.len() as u64),
-        (None, None) => Answer::Destroyed(0),
+    match (target, resolved, removal) {
+        (Some(target), _, _) => Answer::Object(target.object),
+        (None, Some(resolved), _) => Answer::Resolved {
+            done: resolved.done as u64,
+            left: resolved.left as u64,
+        },
+        (None, None, Some(removal)) => Answer::Destroyed(removal.objects.len() as u64),
+        (None, None, None) => Answer::Destroyed(0),
     }
 }
 

@@ -27,6 +27,8 @@ pub enum Answer {
     Destroyed(u64),
     /// How many objects a document made.
     Loaded(u64),
+    /// How many proxies were resolved, those at both ends of a link counted once, and how many are left.
+    Resolved { done: u64, left: u64 },
     /// The object that contains another, if one does.
     Container(Option<ObjectNo>),
     /// The resource that an object is in, if it is in one.

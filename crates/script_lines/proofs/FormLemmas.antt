@@ -1,5 +1,5 @@
 -- Forms of a line, by cases.
-use Rattle.std.proofs.Common.{◌≡◌, ◌<◌, ◌≤◌, ℕ, Bool, true, false, List, [], ◌∷◌, None, IsUtf8, arith, cond, length, refl, take}
+use Rattle.std.proofs.Common.{◌≡◌, ◌≤◌, ℕ, Bool, true, false, List, [], ◌∷◌, None, IsUtf8, arith, cond, length, refl, take}
 use Rattle.std.specs.Str.{is_utf8}
 use Rattle.std.proofs.lemmas.Str.{IsUtf8-from_is_utf8, is_utf8-from_IsUtf8}
 use Rattle.script_lines.specs.Words.{words}
@@ -7,11 +7,6 @@ use Rattle.script_lines.specs.Forms.{form, form_of, is_load, line_of, text_line}
 use Rattle.script_lines.specs.declared.line.Line.TheVariants.{Bad}
 
 -- ---- numbers of words
-
-pub few_words : (ws : List (List ℕ)) → length ws < 2 → None ≡ form_of ws
-few_words [] few = refl
-few_words (v ∷ []) few = refl
-few_words (v ∷ a ∷ ws) few = absurd (omega arith)
 
 pub many_words : (ws : List (List ℕ)) → 6 ≤ length ws → None ≡ form_of ws
 many_words [] many = absurd (omega arith)

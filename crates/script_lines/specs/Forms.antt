@@ -120,6 +120,10 @@ watch_form a n d = option_map (λ p. asks.Watch p.0.0 p.0.1 p.1) (option_zip (op
 abbrev pub unwatch_form : List ℕ → List ℕ → Option Form
 unwatch_form a n = option_map (λ p. asks.Unwatch p.0 p.1) (option_zip (adapter_in a) (node_in n))
 
+-- `resolveall`, the one form of a verb alone
+abbrev pub alone : List ℕ → Option Form
+alone verb = if bytes_eq verb (codes "resolveall") then Some asks.ResolveAll else None
+
 -- the forms of a verb and an object
 abbrev pub with_object : List ℕ → List ℕ → Option Form
 with_object verb o =
@@ -178,6 +182,7 @@ with_four verb a b c d =
 
 -- the form of a verb and its arguments
 abbrev pub form_of : List (List ℕ) → Option Form
+form_of (verb ∷ []) = alone verb
 form_of (verb ∷ a ∷ []) = with_one verb a
 form_of (verb ∷ a ∷ b ∷ []) = with_two verb a b
 form_of (verb ∷ a ∷ b ∷ c ∷ []) = with_three verb a b c

@@ -55,6 +55,8 @@ pub enum Form<'a> {
         feature: Name<'a>,
         index: u32,
     },
+    /// The same for every proxy, one after another: those that can't be resolved are left (EMF: EcoreUtil.resolveAll).
+    ResolveAll,
     /// An adapter attached to a node. A deep one is also notified of what happens below the node (EMF: Notifier.eAdapters().add).
     Attach {
         no: AdapterNo,

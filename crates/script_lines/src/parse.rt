@@ -1,6 +1,6 @@
 //! The form that the words of a line fit.
 ghost use Rattle.std.specs.Prelude.{◌≡◌, IfOk, map};
-ghost use Rattle.script_lines.specs.Forms.{add_at_form, add_form, at_form, class_form, container_form, contents_form, delete_form, form_of as the_form_of, fragment_form, get_form, isset_form, move_form, new_form, remove_form, removevalue_form, resolve_form, resource_form, save_form, set_form, unset_form, validate_form, with_four, with_object, with_one, with_three, with_two, with_word, within_form};
+ghost use Rattle.script_lines.specs.Forms.{add_at_form, add_form, alone, at_form, class_form, container_form, contents_form, delete_form, form_of as the_form_of, fragment_form, get_form, isset_form, move_form, new_form, remove_form, removevalue_form, resolve_form, resource_form, save_form, set_form, unset_form, validate_form, with_four, with_object, with_one, with_three, with_two, with_word, within_form};
 
 use crate::adapter_forms::{attach_of, detach_of, seen_of, unwatch_of, watch_of};
 use crate::form::Form;
@@ -230,6 +230,17 @@ fn move_of<'a>(node: &str, feature: &'a str, to: &str, from: &str) -> Option<For
     })
 }
 
+/// The form of a verb alone: `resolveall`.
+fn alone_of<'a>(verb: &str) -> Option<Form<'a>>
+    ensures { result ≡ alone verb.now }
+{
+    if verb == "resolveall" {
+        Some(Form::ResolveAll)
+    } else {
+        None
+    }
+}
+
 /// The form of a verb and an object.
 fn with_object_of<'a>(verb: &str, object: &str) -> Option<Form<'a>>
     ensures { result ≡ with_object verb.now object.now }
@@ -355,7 +366,7 @@ pub fn form_of<'a>(alloc: Global, words: &[&'a str]) -> Result<Option<Form<'a>>,
 {
     match words {
         [] => Ok(None),
-        [_] => Ok(None),
+        [verb] => Ok(alone_of(verb)),
         [verb, a] => with_one_of(alloc, verb, a),
         [verb, a, b] => Ok(with_two_of(verb, a, b)),
         [verb, a, b, c] => with_three_of(alloc, verb, a, b, c),

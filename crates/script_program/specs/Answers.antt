@@ -34,6 +34,7 @@ feature_of (command.Get n f) = f
 feature_of (command.IsSet n f) = f
 feature_of (command.Create c) = record { 0 = NOTHING }
 feature_of (command.CreateResource t) = record { 0 = NOTHING }
+feature_of command.ResolveAll = record { 0 = NOTHING }
 feature_of (command.Load k text) = record { 0 = NOTHING }
 feature_of (command.Attach number target deep view) = record { 0 = NOTHING }
 feature_of (command.Watch number target deep) = record { 0 = NOTHING }
@@ -52,6 +53,10 @@ feature_of (command.Snapshot n) = record { 0 = NOTHING }
 feature_of (command.AdapterTold number) = record { 0 = NOTHING }
 feature_of (command.AdapterKept number) = record { 0 = NOTHING }
 
+-- how many proxies were resolved, and how many are left
+abbrev pub resolved_text : ℕ → ℕ → List ℕ
+resolved_text done left = codes "resolved " ++ (decimal done ++ (codes " left " ++ decimal left))
+
 -- an answer to a command that names the feature f
 abbrev pub answer_text : Metamodel → FeatureNo → Answer → List ℕ
 answer_text m f answer.Done = codes "ok"
@@ -64,6 +69,7 @@ answer_text m f (answer.Class c) = class_text m c
 answer_text m f (answer.Count n) = decimal n
 answer_text m f (answer.Destroyed n) = codes "deleted " ++ decimal n
 answer_text m f (answer.Loaded n) = codes "loaded " ++ decimal n
+answer_text m f (answer.Resolved done left) = resolved_text done left
 answer_text m f (answer.Resource k) = node_text (node.Resource k)
 answer_text m f (answer.Container o) = holder_text (option_map node.Object o)
 answer_text m f (answer.Features fs) = features_text m fs

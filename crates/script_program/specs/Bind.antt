@@ -97,6 +97,7 @@ bind s (asks.Remove n feature i) = request.Execute (remove_command s.state n fea
 bind s (asks.RemoveValue n feature v) = request.Execute (removevalue_command s.state n feature v)
 bind s (asks.Move n feature to from) = request.Execute (move_command s.state n feature to from)
 bind s (asks.Resolve o feature i) = request.Execute (resolve_command s.state o feature i)
+bind s asks.ResolveAll = request.Execute command.ResolveAll
 bind s (asks.Load k text) = request.Execute (command.Load k text)
 bind s (asks.Resource t) = request.Execute (command.CreateResource t)
 bind s (asks.Attach number target deep) = attach_request (box_of s.pool number) number target deep

@@ -59,6 +59,7 @@ fn print_answer(
             output.text("loaded ")?;
             output.natural(*count)
         }
+        Answer::Resolved { done, left } => print_resolved(output, *done, *left),
         Answer::Resource(resource) => output.node(Node::Resource(*resource)),
         Answer::Container(object) => output.node_or_null(object.map(Node::Object)),
         Answer::Within(resource) => output.node_or_null(resource.map(Node::Resource)),
@@ -73,6 +74,16 @@ fn print_answer(
             output.natural(snapshot.nodes().len() as u64)
         }
     }
+}
+
+/// Adds how many proxies were resolved, and how many are left.
+fn print_resolved(output: &mut Output, done: u64, left: u64) -> Result<(), AllocError>
+    ensures ok { OnOk result (output.new ≡ output.old ++ a.resolved_text done left) }
+{
+    output.text("resolved ")?;
+    output.natural(done)?;
+    output.text(" left ")?;
+    output.natural(left)
 }
 
 /// Adds the line that a read of a feature prints; `None` stands for null.

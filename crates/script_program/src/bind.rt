@@ -65,6 +65,7 @@ pub(crate) fn bind<L: LinkStore, A: Adapter>(
             feature,
             index,
         } => Request::Execute(resolve_command(repository, object, feature, index)),
+        Form::ResolveAll => Request::Execute(Command::ResolveAll),
         Form::Attach { no, target, deep } => attach_request(pool, no, target, deep),
         Form::Watch { no, target, deep } => {
             Request::Execute(Command::Watch { no, target, deep })

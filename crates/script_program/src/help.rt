@@ -54,6 +54,7 @@ The metamodel is a JSON document. What each line of the script answers is printe
   save r0                  the document of a resource, in one line
   load r0 {\"format\":2,\"roots\":[]}  makes what a document says in an empty resource: loaded 0
   resolve #2 likes 0       puts the object that a proxy finds in its place: #1
+  resolveall               does so with every proxy that finds one: resolved 3 left 0
   attach A1 #0 flat        attaches an adapter, A1 to A8 (--live: A1000), to be told of changes: ok
   watch A1 r0 deep         gives it one target more, here with all that is below it: true
   unwatch A1 #0            takes a target from it; with its last one it is released: true
@@ -61,9 +62,9 @@ The metamodel is a JSON document. What each line of the script answers is printe
   seen A1                  how many notices an adapter was told and keeps: seen 3 kept 3
 
 In place of an object, contents, attach, watch, unwatch and the lines of a feature, but resolve,
-take a resource as well, as r0, whose one feature is contents.
-A value is null, true, false, a number, a JSON string, :LITERAL or #N. What a load leaves for an
-object of another resource is printed as `proxy \"http://m.example/b#/\"`, until it is resolved.
+take a resource too, as r0, whose one feature is contents. A value is null, true, false, a number,
+a JSON string, :LITERAL or #N; a proxy, which a load leaves for an object of another resource, is
+printed as `proxy \"http://m.example/b#/\"`.
 
 Behind an answer stands a line for each notice that an adapter was told, and then one for each
 adapter that was released. A line that can't be done prints why, as `refused 8 TYPE`, and changes

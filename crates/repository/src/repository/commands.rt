@@ -60,6 +60,7 @@ impl<L: LinkStore, A: Adapter> Repository<L, A> {
             Command::Load { resource, text } => {
                 outcome(self.load(resource, text.as_str().as_bytes()))
             }
+            Command::ResolveAll => outcome(self.resolve_all()),
             Command::Attach {
                 no,
                 target,

@@ -1,7 +1,7 @@
 //! Proxies, and the objects that they find.
 ghost use Rattle.repository.specs.Run.{Executed, change_outcome};
 ghost use Rattle.repository.specs.Views.{changed_view};
-ghost use Rattle.repository.specs.declared.command.Command.TheVariants.{Resolve};
+ghost use Rattle.repository.specs.declared.command.Command.TheVariants.{Resolve, ResolveAll};
 
 use super::Repository;
 use crate::reply::Reply;
@@ -32,5 +32,17 @@ impl<L: LinkStore, A: Adapter> Repository<L, A> {
             feature,
             index,
         })
+    }
+
+    /// Resolves all proxies, one after another, by object number, by feature in the order of all features, and by index (EMF:
+    /// EcoreUtil.resolveAll). Each is resolved as by `resolve`, in what the earlier ones left, and passed over where that would refuse it.
+    /// Answers how many were resolved, where two at the ends of one link are one, and how many proxies are left. Notifies the adapters with
+    /// RESOLVE of each that is resolved, at the opposite end first.
+    ///
+    /// Refused, the first that applies: `AdapterFull`, `Memory`.
+    pub fn resolve_all(&mut self) -> Result<Reply<A>, Refused>
+        ensures { Executed self.old ResolveAll (change_outcome (changed_view A.heard result)) self.new }
+    {
+        self.change(Change::ResolveAll)
     }
 }

@@ -1,4 +1,4 @@
-use Rattle.handshake.proofs.LegalLemmas.{change-keeps-legal}
+use Rattle.handshake.proofs.AllLemmas.{change-keeps-legal}
 use Rattle.handshake.proofs.laws.keeps_legal.Goals as goal
 
 pub returns : goal.returns

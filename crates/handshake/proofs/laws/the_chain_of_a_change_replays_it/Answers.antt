@@ -1,4 +1,4 @@
-use Rattle.handshake.proofs.ChainLemmas.{chain-replays}
+use Rattle.handshake.proofs.AllLemmas.{chain-replays}
 use Rattle.handshake.proofs.laws.the_chain_of_a_change_replays_it.Goals as goal
 
 pub returns : goal.returns

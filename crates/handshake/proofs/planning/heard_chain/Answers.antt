@@ -32,5 +32,5 @@ pub returns : goal.returns
 returns g c =
     let none = nothing-destroyed c.args.change.now c.args.removal.now c.requires.removal.whose c.in_default.not-Some in
     let unloaded = nothing-loaded c.args.change.now c.in_default-change.not-Load in
-    let is = made-chain c.args.model.now c.args.change.now c.args.ties.now c.in_ok-tellings.tellings.items c.is_legal.ensures none unloaded c.requires.asked c.requires.allowed c.requires.cut c.in_ok-tellings.ensures c.args.is_heard c.if-not-is_heard.false in
+    let is = made-chain c.args.model.now c.args.change.now c.args.ties.now c.in_ok-tellings.tellings.items c.requires.one c.is_legal.ensures none unloaded c.requires.asked c.requires.allowed c.requires.cut c.in_ok-tellings.ensures c.args.is_heard c.if-not-is_heard.false in
     subst (λ x. IfOk c.notices.result (λ y. y ≡ x)) is c.notices.ensures

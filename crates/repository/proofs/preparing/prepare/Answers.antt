@@ -18,7 +18,7 @@ returns-in_err-planned-clause-refused g c =
 pub returns-clause-answer : goal.returns-clause-answer
 returns-clause-answer g c = λ rs text proper.
     c.unwrap_or.ensures ∙ ap (unwrap_or c.in_ok-answer.answer) c.planned_answer.ensures
-    ∙ whole-answer (reading c.args.model.now) rs text c.args.change _ _ _ (c.in_ok-answer.ensures rs text proper) c.in_ok-planned.ensures.allowed c.in_ok-planned.ensures.removed c.in_ok-planned.ensures.found
+    ∙ whole-answer (reading c.args.model.now) rs text c.args.change _ _ _ _ (c.in_ok-answer.ensures rs text proper) c.in_ok-planned.ensures.allowed c.in_ok-planned.ensures.removed c.in_ok-planned.ensures.found c.in_ok-planned.ensures.resolved
 
 pub spots_gone-requires : goal.spots_gone-requires
 spots_gone-requires g c = (reading c.args.model.now, c.in_ok-planned.ensures.removed.found)

@@ -1,0 +1,155 @@
+//! The proxies of a model, and what stands at their addresses.
+ghost use Rattle.std.specs.Prelude.{◌≡◌, ◌∷◌, ◌++◌, [], map, IfOk, OnOk, if◌then◌else◌};
+ghost use Rattle.models.specs.Model.{reading};
+ghost use Rattle.handshake.specs.Leads as spec;
+ghost use Rattle.handshake.specs.Proxies as proxies;
+
+use crate::keys::Key;
+use crate::place::Place;
+use crate::resolving::proxy_at;
+use crate::tie::far_end;
+use fragment_paths::object_at;
+use indexmap::IndexMap;
+use links::LinkStore;
+use mm_types::{FeatureNo, Node, ObjectNo};
+use models::ModelRef;
+use std::alloc::{AllocError, Global};
+
+/// Where a proxy stands, and the object at its address, if there is one.
+#[derive(Clone, Copy)]
+pub(crate) struct Lead {
+    pub place: Place,
+    pub object: Option<ObjectNo>,
+}
+
+/// Those of all proxies, in the order in which they are resolved. Errs only when out of memory.
+pub(crate) fn leads<L: LinkStore>(
+    alloc: Global,
+    model: &ModelRef<L>,
+) -> Result<Vec<Lead>, AllocError>
+    ensures { IfOk result (λ ls. ls.items ≡ spec.leads (reading model.now)) }
+{
+    model.is_legal();
+    let mut leads = Vec::new(alloc);
+    'objects: for object in 0..model.next() {
+        push_of_object(alloc, model, ObjectNo(object as u32), &mut leads)?;
+    }
+    Ok(leads)
+}
+
+/// Adds those of an object.
+fn push_of_object<L: LinkStore>(
+    alloc: Global,
+    model: &ModelRef<L>,
+    object: ObjectNo,
+    leads: &mut Vec<Lead>,
+) -> Result<(), AllocError>
+    ensures { OnOk result (leads.new.items ≡ leads.old.items ++ map (spec.lead (reading model.now)) (proxies.places_of (reading model.now) object)) }
+{
+    let features = model.all_features(Node::Object(object));
+    'features: for feature in features {
+        push_under(alloc, model, object, *feature, leads)?;
+    }
+    Ok(())
+}
+
+/// Adds those under a feature of an object.
+fn push_under<L: LinkStore>(
+    alloc: Global,
+    model: &ModelRef<L>,
+    object: ObjectNo,
+    feature: FeatureNo,
+    leads: &mut Vec<Lead>,
+) -> Result<(), AllocError>
+    ensures { OnOk result (leads.new.items ≡ leads.old.items ++ map (spec.lead (reading model.now)) (proxies.places_under (reading model.now) object feature)) }
+{
+    'indices: for index in 0..model.len(far_end(object, feature)) {
+        let place = Place {
+            object,
+            feature,
+            index,
+        };
+        push_lead(alloc, model, place, leads)?;
+    }
+    Ok(())
+}
+
+/// Adds that of a place, if a proxy stands there.
+fn push_lead<L: LinkStore>(
+    alloc: Global,
+    model: &ModelRef<L>,
+    place: Place,
+    leads: &mut Vec<Lead>,
+) -> Result<(), AllocError>
+    ensures { OnOk result (leads.new.items ≡ leads.old.items ++ (if proxies.is_proxy_place (reading model.now) place then spec.lead (reading model.now) place ∷ [] else [])) }
+{
+    let end = far_end(place.object, place.feature);
+    let Some(address) = proxy_at(model, end, place.index) else {
+        return Ok(());
+    };
+    let object = object_at(alloc, model, address)?;
+    leads.push(Lead { place, object })?;
+    Ok(())
+}
+
+/// For a reference of an object and another object, the index of the first proxy there that leads to the other.
+#[derive(Drop)]
+pub(crate) struct FirstLeads {
+    indices: IndexMap<Key, u32>,
+}
+
+impl FirstLeads {
+    ghost use Rattle.std.specs.Prelude.{None, Some};
+    ghost use Rattle.std.specs.Option.{option_or};
+    ghost use Rattle.handshake.specs.declared.keys.Key.{Key};
+
+    fn new(alloc: Global) -> Self
+        ensures { (k : Key) → spec.index_at result k ≡ None }
+    {
+        FirstLeads {
+            indices: IndexMap::new(alloc),
+        }
+    }
+
+    /// Those of some proxies. Errs only when out of memory.
+    pub fn of(alloc: Global, leads: &[Lead]) -> Result<Self, AllocError>
+        ensures { IfOk result (λ t. (k : Key) → spec.index_at t k ≡ spec.first_index leads.now k) }
+    {
+        let mut first = FirstLeads::new(alloc);
+        'leads: for lead in leads {
+            first.add(*lead)?;
+        }
+        Ok(first)
+    }
+
+    /// Adds one, behind the others.
+    fn add(&mut self, lead: Lead) -> Result<(), AllocError>
+        ensures { OnOk result ((k : Key) → spec.index_at self.new k ≡ option_or (spec.index_at self.old k) (spec.first_index (lead ∷ []) k)) }
+    {
+        match lead.object {
+            Some(object) => {
+                let key = Key::of(lead.place.object, lead.place.feature, object.0);
+                self.add_first(key, lead.place.index)
+            }
+            None => Ok(()),
+        }
+    }
+
+    /// Adds an index, unless the key has one.
+    fn add_first(&mut self, key: Key, index: u32) -> Result<(), AllocError>
+        ensures { OnOk result ((k : Key) → spec.index_at self.new k ≡ option_or (spec.index_at self.old k) (if spec.same_key key k then Some index else None)) }
+    {
+        if self.index(key).is_some() {
+            return Ok(());
+        }
+        self.indices.insert(key, index)?;
+        Ok(())
+    }
+
+    /// Takes no memory.
+    pub fn index(&self, key: Key) -> Option<u32>
+        ensures { result ≡ spec.index_at self.now key }
+    {
+        self.indices.get(&key).copied()
+    }
+}

@@ -1,0 +1,10 @@
+//! Where proxies stand.
+use mm_types::{FeatureNo, ObjectNo};
+
+/// The place of a proxy: the object that refers, its reference, and the index.
+#[derive(Clone, Copy)]
+pub struct Place {
+    pub object: ObjectNo,
+    pub feature: FeatureNo,
+    pub index: u32,
+}
