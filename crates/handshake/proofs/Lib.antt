@@ -23,7 +23,7 @@ mod LoadEndLemmas
 mod LoadHolderLemmas
 mod LoadStoredLemmas
 mod LoadValueLemmas
-mod LoadedLemmas
+pub mod LoadedLemmas
 pub mod LossLemmas
 mod ObjectLegalLemmas
 pub mod PlanLemmas

@@ -1,4 +1,4 @@
-//! Laws of the definitions, each the contract of a function that does nothing but call the laws that it rests on.
+//! Laws of the definitions, each the contract of a function that does nothing.
 ghost use Rattle.repository.specs.State.{State};
 ghost use Rattle.reload_laws.specs.Reload.{ReloadsInAnyOrder};
 
@@ -7,6 +7,4 @@ ghost use Rattle.reload_laws.specs.Reload.{ReloadsInAnyOrder};
 /// Nothing but memory refuses any of these commands, there are such resolves, and the two states are alike.
 pub fn what_was_saved_is_had_again_in_any_order()
     ensures { (s : State) → ReloadsInAnyOrder s }
-{
-    handshake::laws::a_load_reads_as_its_document();
-}
+{}

@@ -1,4 +1,4 @@
-//! Laws of the definitions, each the contract of a function that does nothing but call the laws that it rests on.
+//! Laws of the definitions, each the contract of a function that does nothing.
 ghost use Rattle.std.specs.Prelude.{◌≡◌, ℕ};
 ghost use Rattle.mm_types.specs.declared.numbers.FeatureNo.{FeatureNo};
 ghost use Rattle.mm_types.specs.declared.numbers.ObjectNo.{ObjectNo};
@@ -25,27 +25,21 @@ pub fn an_address_is_of_one_object()
 pub fn resolves_and_loads_keep_addresses()
     ensures resolves { (s : Model) (o : ObjectNo) (f : FeatureNo) (i : ℕ) → ResolvesKeepAddresses s o f i }
     ensures loads { (s : Model) (k : ResourceNo) (doc : Doc) → LoadsKeepAddresses s k doc }
-{
-    handshake::laws::a_load_reads_as_its_document();
-}
+{}
 
 /// A resource that was saved, loaded into another model: each object that was saved is had again, under the numbers that follow on, with
 /// its class, its flags, what holds it, and what stood at each of its ends, objects of other resources as proxies of their addresses. It is
 /// in the resource of the load, and has its address where that has the URI of its own (EMF: XMLResource.save, XMLResource.load).
 pub fn what_was_saved_is_loaded_as_it_was()
     ensures { (s : Model) (w : ValuesState) (b : Links) → LoadsSaved s w b }
-{
-    handshake::laws::a_load_reads_as_its_document();
-}
+{}
 
 /// All that was saved, of a model without proxies, loaded into a new model: its resources are made, and their documents loaded, in any
 /// order in which none is loaded before it is made. Nothing but memory refuses any of these changes, and what they leave is between what
 /// was saved and itself.
 pub fn loads_in_any_order_give_what_stands_between()
     ensures { (s : Model) → LoadsGiveBetween s }
-{
-    handshake::laws::a_load_reads_as_its_document();
-}
+{}
 
 /// Where a model is between a saved one without proxies and itself, nothing but memory refuses to resolve a proxy. Then it is between
 /// still, and one proxy fewer is left, or two where they were the ends of one link.
@@ -74,6 +68,4 @@ pub fn without_proxies_models_between_are_alike()
 /// and to resolve all proxies in their order is one way.
 pub fn what_was_saved_is_had_again_in_any_order()
     ensures { (s : Model) → ReloadsInAnyOrder s }
-{
-    handshake::laws::a_load_reads_as_its_document();
-}
+{}

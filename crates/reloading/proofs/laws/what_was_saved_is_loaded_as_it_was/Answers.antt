@@ -1,5 +1,6 @@
+use Rattle.handshake.proofs.LoadedLemmas.{loads-ends}
 use Rattle.reloading.proofs.SavedLemmas.{loads-saved}
 use Rattle.reloading.proofs.laws.what_was_saved_is_loaded_as_it_was.Goals as goal
 
 pub returns : goal.returns
-returns c = loads-saved c.a_load_reads_as_its_document.ensures
+returns c = loads-saved loads-ends
