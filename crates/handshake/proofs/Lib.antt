@@ -31,13 +31,13 @@ mod PositionLemmas
 pub mod ProxyLemmas
 pub mod RelinkLemmas
 pub mod ReplayLemmas
-mod EachLemmas
+pub mod EachLemmas
 pub mod FollowLemmas
 mod JoinedLemmas
 mod LeadLemmas
 mod ProgressLemmas
 mod StepLemmas
-mod UnderwayLemmas
+pub mod UnderwayLemmas
 pub mod ResolveAllLemmas
 mod ResolveLemmas
 mod ResolvedLemmas
