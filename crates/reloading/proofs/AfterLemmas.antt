@@ -36,7 +36,7 @@ use Rattle.handshake.specs.declared.target.Counterpart.{Counterpart}
 use Rattle.reloading.specs.Addressed.{By, meant}
 use Rattle.reloading.specs.Alike.{HasSame, HaveSame, IsThere}
 use Rattle.reloading.specs.Between.{AreBothOrNone, Between, has_proxy}
-use Rattle.reloading.specs.Proxies.{HasNoProxy, left}
+use Rattle.reloading.specs.Proxies.{HasNoProxy, proxies_len}
 use Rattle.reloading.proofs.LeftLemmas.{of-features, one-fewer, with_values}
 use Rattle.reloading.proofs.MatchLemmas.{IsMatched, early-none, from, goal, goal-at, goal-target, late-none, matched, reference}
 use Rattle.reloading.proofs.PlainLemmas.{reference-of}
@@ -314,12 +314,12 @@ module _ (s : Model) (w : ValuesState) (c : Links) (legal : IsLegal s) (other : 
   abbrev near_values : End → List Value
   near_values d = if same_end (at_end (node.Object p) f) d then slice_set (values_at (model_of s.metamodel w c) (at_end (node.Object p) f)) i (value.Object aim) else values_at (model_of s.metamodel w c) d
 
-  near-fewer : left (reading t) ≡ suc (left (with_values (reading t) near_values))
+  near-fewer : proxies_len (reading t) ≡ suc (proxies_len (with_values (reading t) near_values))
   near-fewer =
       let at = of-features t other p f i (value.Proxy text) refers here in
       one-fewer (reading t) p f i text (value.Object aim) near_values here refl (λ d. refl) at.low at.place at.own (features-distinct t other (node.Object p))
 
-  alone-fewer : (shape s.metamodel f).opposite ≡ None → left (reading t) ≡ suc (left (reading u))
+  alone-fewer : (shape s.metamodel f).opposite ≡ None → proxies_len (reading t) ≡ suc (proxies_len (reading u))
   alone-fewer alone =
       let at = of-features t other p f i (value.Proxy text) refers here in
       one-fewer (reading t) p f i text (value.Object aim) (values_at u) here refl now at.low at.place at.own (features-distinct t other (node.Object p))
@@ -350,15 +350,15 @@ module _ (s : Model) (w : ValuesState) (c : Links) (legal : IsLegal s) (other : 
           ] refl
     ] refl
 
-    far-fewer : left (with_values (reading t) near_values) ≡ suc (left (reading u))
+    far-fewer : proxies_len (with_values (reading t) near_values) ≡ suc (proxies_len (reading u))
     far-fewer =
         let there = (mate g pair).proxy in
         let at = of-features t other aim g index (value.Proxy own_text) (reference-of t other d index (value.Proxy own_text) there refl) there in
         one-fewer (with_values (reading t) near_values) aim g index own_text (value.Object p) (values_at u) (ap (λ (vs : List Value). slice_get vs index) d-near ∙ there) refl far-now at.low at.place at.own (features-distinct t other (node.Object aim))
 
-  pub fewer-left : left (reading t) ≡ (if is_some (shape s.metamodel f).opposite then 2 else 1) + left (reading u)
+  pub fewer-left : proxies_len (reading t) ≡ (if is_some (shape s.metamodel f).opposite then 2 else 1) + proxies_len (reading u)
   fewer-left = by (shape s.metamodel f).opposite refl
     where
-      by : (x : Option FeatureNo) → (shape s.metamodel f).opposite ≡ x → left (reading t) ≡ (if is_some x then 2 else 1) + left (reading u)
+      by : (x : Option FeatureNo) → (shape s.metamodel f).opposite ≡ x → proxies_len (reading t) ≡ (if is_some x then 2 else 1) + proxies_len (reading u)
       by None alone = let one = alone-fewer alone in omega (arith, one)
       by (Some g) pair = let one = near-fewer in let two = far-fewer g pair in omega (arith, one, two)

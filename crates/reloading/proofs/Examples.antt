@@ -18,11 +18,12 @@ use Rattle.mm_types.specs.declared.value.Value.{Value}
 use Rattle.mm_types.specs.declared.value.Value.TheVariants as value
 use Rattle.models.specs.Reading.{Reading}
 use Rattle.round_trip.specs.Copied.{copied}
+use Rattle.handshake.specs.Proxies.{places}
 use Rattle.handshake.specs.declared.change.Change.TheVariants.{Load, NewResource}
 use Rattle.reloading.specs.Addressed.{By, Plain, meant, named}
 use Rattle.reloading.specs.Images.{image, value_image}
 use Rattle.reloading.specs.Orders.{Fill, Make, changes}
-use Rattle.reloading.specs.Proxies.{left, places}
+use Rattle.reloading.specs.Proxies.{proxies_len}
 
 abbrev fid : ℕ → FeatureNo
 fid f = record { 0 = f }
@@ -103,10 +104,10 @@ other-name = refl
 
 ---------------------------------------------------------------- proxies
 
-one-place : places halfway ≡ record { end = end_of (o 2) 2; index = 1 } ∷ []
+one-place : places halfway ≡ record { object = record { 0 = 2 }; feature = fid 2; index = 1 } ∷ []
 one-place = refl
 
-none-left : left whole ≡ 0
+none-left : proxies_len whole ≡ 0
 none-left = refl
 
 ---------------------------------------------------------------- images

@@ -29,9 +29,10 @@ use Rattle.resource_docs.specs.declared.doc.Doc.{Doc}
 use Rattle.round_trip.specs.Copied.{copied, object_copied}
 use Rattle.round_trip.proofs.ShapeLemmas.{live-inside}
 use Rattle.handshake.specs.Effects.{after}
-use Rattle.handshake.specs.Loaded.{IsLoaded, LoadsEnds}
+use Rattle.handshake.specs.Loaded.{IsLoaded}
 use Rattle.handshake.specs.Plans.{IsDocument}
 use Rattle.handshake.specs.declared.change.Change.TheVariants.{Load}
+use Rattle.handshake.proofs.LoadedLemmas.{loads-ends}
 use Rattle.reloading.specs.Images.{HasImages, image}
 use Rattle.reloading.specs.Orders.{IsAllowed, IsFilling, IsSaved, has, is_same, number_of, uri_of}
 use Rattle.reloading.proofs.AddressLemmas.{address-kept, loaded-legal, old-object}
@@ -41,7 +42,7 @@ use Rattle.reloading.proofs.OrderLemmas.{Before, IsOneOf, Last, distinct-last, f
 use Rattle.reloading.proofs.SavedLemmas.{saved-document}
 use Rattle.reloading.proofs.SoFarLemmas.{HasSoFar, IsCopied, IsImageOf, numbered}
 
-module _ (s : Model) (legal : IsLegal s) (steady : HasSteadyTexts s) (saved : IsSaved (reading s)) (ends : (s : Model) (k : ResourceNo) (doc : Doc) → LoadsEnds s k doc)
+module _ (s : Model) (legal : IsLegal s) (steady : HasSteadyTexts s) (saved : IsSaved (reading s))
     (w : ValuesState) (b : Links) (made filled : List ResourceNo) (so_far : HasSoFar s w b made filled) (k : ResourceNo) (filling : IsFilling made filled k) where
   abbrev r : Reading
   r = reading s
@@ -109,7 +110,7 @@ module _ (s : Model) (legal : IsLegal s) (steady : HasSteadyTexts s) (saved : Is
   read = saved-document s legal steady k (uri_of r k) (readable s legal steady saved k there)
 
   now : IsLoaded (reading t) j doc (reading u)
-  now = ends t j doc so_far.legal fill-allowed.early fill-allowed.late read
+  now = loads-ends t j doc so_far.legal fill-allowed.early fill-allowed.late read
 
   u-legal : IsLegal u
   u-legal = loaded-legal t j doc so_far.legal fill-allowed.early fill-allowed.late read now

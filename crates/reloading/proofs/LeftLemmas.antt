@@ -1,8 +1,10 @@
 -- How many proxies are left: where a plain value takes the place of one, one fewer; and where none are, no proxy stands anywhere.
-use Rattle.std.proofs.Common.{◌≡◌, ◌∙◌, ℕ, zero, suc, ◌+◌, ◌<◌, Bool, true, false, ◌&&◌, List, [], ◌∷◌, Option, Some, None, flat_map, length, length-append, nat_eq, option_map, slice_get, slice_set, if◌then◌else◌, arith, refl, sym, ap, subst}
-use Rattle.std.specs.List.{IsDistinct, cons_option, enumerate_from, filter_map, range_with_len}
+use Rattle.std.proofs.Common.{◌≡◌, ◌∙◌, ℕ, zero, suc, ◌+◌, ◌<◌, Bool, true, false, ◌&&◌, List, [], ◌∷◌, Option, Some, None, filter, flat_map, inl, inr, is_some, length, length-append, map, nat_eq, slice_get, slice_set, if◌then◌else◌, arith, refl, sym, ap, subst}
+use Rattle.std.specs.Prelude.{option_and_then}
+use Rattle.std.specs.List.{IsDistinct, range_with_len}
 use Rattle.std.proofs.lemmas.Bool.{and_parts, eqb-true, false≢true}
 use Rattle.std.proofs.lemmas.Bool.Decides.{nat_tests}
+use Rattle.std.proofs.lemmas.List.{length-set}
 use Rattle.std.proofs.lemmas.List.FromFn.{get_or-range_with_len, length-range_with_len}
 use Rattle.std.proofs.lemmas.Option.{get_or_from_slice_get, none-some, same_Some, slice_get-get_or, slice_get_within}
 use Rattle.mm_types.specs.Lookups as lookups
@@ -24,32 +26,46 @@ use Rattle.containment.proofs.DistinctLemmas.{features-distinct}
 use Rattle.containment.proofs.PartLemmas.{end-made, legal-at, values-linked}
 use Rattle.fragment_paths.proofs.InsideLemmas.{contents-contains}
 use Rattle.fragment_paths.proofs.ObjectLemmas.{all-objects}
+use Rattle.loading.proofs.SoundLemmas.{at-map, map-at}
 use Rattle.round_trip.proofs.ListLemmas.{of-each}
 use Rattle.round_trip.proofs.PartsListLemmas.{all-passing}
 use Rattle.round_trip.proofs.ValuesListLemmas.{place-of, stands}
-use Rattle.reloading.specs.Proxies.{HasNoProxy, Place, left, places_at, places_of, proxy_place}
+use Rattle.handshake.specs.Proxies.{is_proxy_place, place, places_of, places_under}
+use Rattle.handshake.specs.declared.place.Place.{Place}
+use Rattle.handshake.proofs.FollowLemmas.{get-set}
+use Rattle.reloading.specs.Proxies.{HasNoProxy, proxies_len}
 use Rattle.reloading.proofs.DocumentLemmas.{among-class}
 use Rattle.reloading.proofs.PlainLemmas.{reference-of}
 
----------------------------------------------------------------- one end
+---------------------------------------------------------------- what passes a test
 
--- the place, where there is a text
-abbrev place_if : End → ℕ → Option (List ℕ) → Option Place
-place_if e n y = option_map (λ u. record { end = e; index = n }) y
+module _ {X : Type 0} (p q : X → Bool) where
+  count : (b : Bool) (x : X) (xs : List X) → length (if b then x ∷ xs else xs) ≡ (if b then 1 else 0) + length xs
+  count true x xs = refl
+  count false x xs = refl
 
-one-place : (e : End) (n : ℕ) (vs : List Value) (i : ℕ) (t : List ℕ) (v : Value) → slice_get vs i ≡ Some (value.Proxy t) → text_of v ≡ None
-    → length (filter_map (proxy_place e) (enumerate_from n vs)) ≡ suc (length (filter_map (proxy_place e) (enumerate_from n (slice_set vs i v))))
-one-place e n [] i t v here plain = absurd (none-some (value.Proxy t) here)
-one-place e n (x ∷ xs) zero t v here plain =
-    let rest = filter_map (proxy_place e) (enumerate_from (n + 1) xs) in
-    ap (λ (y : Value). length (cons_option (place_if e n (text_of y)) rest)) (same_Some x (value.Proxy t) here)
-    ∙ sym (ap (λ (y : Option (List ℕ)). suc (length (cons_option (place_if e n y) rest))) plain)
-one-place e n (x ∷ xs) (suc i) t v here plain = by (text_of x) (one-place e (n + 1) xs i t v here plain)
-  where
-    by : (y : Option (List ℕ)) → length (filter_map (proxy_place e) (enumerate_from (n + 1) xs)) ≡ suc (length (filter_map (proxy_place e) (enumerate_from (n + 1) (slice_set xs i v))))
-        → length (cons_option (place_if e n y) (filter_map (proxy_place e) (enumerate_from (n + 1) xs))) ≡ suc (length (cons_option (place_if e n y) (filter_map (proxy_place e) (enumerate_from (n + 1) (slice_set xs i v)))))
-    by None h = h
-    by (Some u) h = ap suc h
+  pass-alike : (xs : List X) → ((j : ℕ) (x : X) → slice_get xs j ≡ Some x → p x ≡ q x) → length (filter p xs) ≡ length (filter q xs)
+  pass-alike [] same = refl
+  pass-alike (x ∷ xs) same =
+      let rest = pass-alike xs (λ j y at. same (suc j) y at) in
+      count (p x) x (filter p xs) ∙ (λ i. (if same 0 x refl i then 1 else 0) + rest i) ∙ sym (count (q x) x (filter q xs))
+
+  -- where one element passes no more, and each other as before
+  one-passes-less : (xs : List X) (i : ℕ) (a : X) → slice_get xs i ≡ Some a → p a ≡ true → q a ≡ false → ((j : ℕ) (x : X) → slice_get xs j ≡ Some x → (j ≡ i → ⊥) → p x ≡ q x)
+      → length (filter p xs) ≡ suc (length (filter q xs))
+  one-passes-less [] i a at before now same = absurd (none-some a at)
+  one-passes-less (x ∷ xs) zero a at before now same =
+      let is = same_Some x a at in
+      let rest = pass-alike xs (λ j y there. same (suc j) y there (λ e. omega (arith, e))) in
+      let one = count (p x) x (filter p xs) ∙ ap (λ (b : Bool). (if b then 1 else 0) + length (filter p xs)) (ap p is ∙ before) in
+      let two = count (q x) x (filter q xs) ∙ ap (λ (b : Bool). (if b then 1 else 0) + length (filter q xs)) (ap q is ∙ now) in
+      omega (arith, rest, one, two)
+  one-passes-less (x ∷ xs) (suc i) a at before now same =
+      let rest = one-passes-less xs i a at before now (λ j y there other. same (suc j) y there (λ e. other (let f : j ≡ i = omega (arith, e) in f))) in
+      let here = ap (λ (b : Bool). if b then 1 else 0) (same 0 x refl (λ e. omega (arith, e))) in
+      let one = count (p x) x (filter p xs) in
+      let two = count (q x) x (filter q xs) in
+      omega (arith, rest, here, one, two)
 
 ---------------------------------------------------------------- lists of lists
 
@@ -106,15 +122,67 @@ at-range n i low =
     let own : 0 + i ≡ i = omega arith in
     slice_get-get_or (range_with_len 0 n) i 0 (omega (arith, low, long)) ∙ ap (λ (x : ℕ). Some x) (is ∙ own)
 
+set-own : (vs : List Value) (i : ℕ) (w v : Value) → slice_get vs i ≡ Some v → slice_get (slice_set vs i w) i ≡ Some w
+set-own [] i w v at = absurd (none-some v at)
+set-own (x ∷ xs) zero w v at = refl
+set-own (x ∷ xs) (suc i) w v at = set-own xs i w v at
+
+set-other : (vs : List Value) (i : ℕ) (w v : Value) → slice_get vs i ≡ Some v → (j : ℕ) → (j ≡ i → ⊥) → slice_get (slice_set vs i w) j ≡ slice_get vs j
+set-other vs i w v at j other = elim (get-set vs i w v at j) [ inl h ↦ absurd (other h.0) | inr h ↦ h ]
+
 and-false : (b : Bool) → (b && false) ≡ false
 and-false true = refl
 and-false false = refl
 
----------------------------------------------------------------- all ends
+---------------------------------------------------------------- one end
 
 -- the reading, where other values stand at the ends
 abbrev pub with_values : Reading → (End → List Value) → Reading
 with_values r values = record r { values = values }
+
+-- a value is a proxy, if there is one
+abbrev is_proxy : Option Value → Bool
+is_proxy x = is_some (option_and_then text_of x)
+
+-- the places of an end
+abbrev slots : ObjectNo → FeatureNo → ℕ → List Place
+slots o f n = map (place o f) (range_with_len 0 n)
+
+at-slot : (o : ObjectNo) (f : FeatureNo) (n j : ℕ) (p : Place) → slice_get (slots o f n) j ≡ Some p → place o f j ≡ p
+at-slot o f n j p at =
+    let x = map-at (place o f) (range_with_len 0 n) j p at in
+    ap (place o f) (sym (range-at n j x.0 x.1)) ∙ x.2
+
+module _ (r : Reading) (values : End → List Value) (o : ObjectNo) (f : FeatureNo) where
+  abbrev d : End
+  d = at_end (node.Object o) f
+
+  alike-at : (j : ℕ) (p : Place) → slice_get (slots o f (length (r.values d))) j ≡ Some p → is_proxy (slice_get (r.values d) j) ≡ is_proxy (slice_get (values d) j)
+      → is_proxy_place r p ≡ is_proxy_place (with_values r values) p
+  alike-at j p at same = subst (λ (x : Place). is_proxy_place r x ≡ is_proxy_place (with_values r values) x) (at-slot o f (length (r.values d)) j p at) same
+
+  -- of as many values
+  of-length : length (values d) ≡ length (r.values d) → length (places_under (with_values r values) o f) ≡ length (filter (is_proxy_place (with_values r values)) (slots o f (length (r.values d))))
+  of-length long = ap (λ (n : ℕ). length (filter (is_proxy_place (with_values r values)) (slots o f n))) long
+
+  as-before : values d ≡ r.values d → length (places_under r o f) ≡ length (places_under (with_values r values) o f)
+  as-before same =
+      pass-alike (is_proxy_place r) (is_proxy_place (with_values r values)) (slots o f (length (r.values d)))
+      (λ j p at. alike-at j p at (ap (λ (vs : List Value). is_proxy (slice_get vs j)) (sym same)))
+      ∙ sym (of-length (ap (λ (vs : List Value). length vs) same))
+
+  -- a plain value takes the place of a proxy
+  one-at : (i : ℕ) (t : List ℕ) (v : Value) → slice_get (r.values d) i ≡ Some (value.Proxy t) → text_of v ≡ None → values d ≡ slice_set (r.values d) i v
+      → length (places_under r o f) ≡ suc (length (places_under (with_values r values) o f))
+  one-at i t v here plain now =
+      let vs = r.values d in
+      let own : slice_get (slots o f (length vs)) i ≡ Some (place o f i) = at-map (place o f) (range_with_len 0 (length vs)) i i (at-range (length vs) i (slice_get_within vs i (value.Proxy t) here)) in
+      let gone = ap (λ (ws : List Value). is_proxy (slice_get ws i)) now ∙ ap is_proxy (set-own vs i v (value.Proxy t) here) ∙ ap (λ (y : Option (List ℕ)). is_some y) plain in
+      one-passes-less (is_proxy_place r) (is_proxy_place (with_values r values)) (slots o f (length vs)) i (place o f i) own (ap is_proxy here) gone
+      (λ j p at other. alike-at j p at (sym (ap (λ (ws : List Value). is_proxy (slice_get ws j)) now ∙ ap is_proxy (set-other vs i v (value.Proxy t) here j other))))
+      ∙ ap suc (sym (of-length (ap (λ (ws : List Value). length ws) now ∙ length-set vs i v)))
+
+---------------------------------------------------------------- all ends
 
 module _ (r : Reading) (o : ObjectNo) (f : FeatureNo) (i : ℕ) (t : List ℕ) (v : Value) (values : End → List Value) (here : slice_get (r.values (at_end (node.Object o) f)) i ≡ Some (value.Proxy t)) (plain : text_of v ≡ None)
     (now : (d : End) → values d ≡ (if same_end (at_end (node.Object o) f) d then slice_set (r.values (at_end (node.Object o) f)) i v else r.values d))
@@ -125,34 +193,32 @@ module _ (r : Reading) (o : ObjectNo) (f : FeatureNo) (i : ℕ) (t : List ℕ) (
   abbrev q : Reading
   q = with_values r values
 
-  other-end : (d : End) → same_end e d ≡ false → length (places_at r d) ≡ length (places_at q d)
-  other-end d other = sym (ap (λ (vs : List Value). length (filter_map (proxy_place d) (enumerate_from 0 vs))) (now d ∙ ap (λ (b : Bool). if b then slice_set (r.values e) i v else r.values d) other))
+  other-end : (b : ObjectNo) (g : FeatureNo) → same_end e (at_end (node.Object b) g) ≡ false → length (places_under r b g) ≡ length (places_under q b g)
+  other-end b g other = let d = at_end (node.Object b) g in as-before r values b g (now d ∙ ap (λ (c : Bool). if c then slice_set (r.values e) i v else r.values d) other)
 
-  own-end : same_end e e ≡ true → length (places_at r e) ≡ suc (length (places_at q e))
-  own-end self =
-      one-place e 0 (r.values e) i t v here plain
-      ∙ sym (ap (λ (vs : List Value). suc (length (filter_map (proxy_place e) (enumerate_from 0 vs)))) (now e ∙ ap (λ (b : Bool). if b then slice_set (r.values e) i v else r.values e) self))
+  own-end : same_end e e ≡ true → length (places_under r o f) ≡ suc (length (places_under q o f))
+  own-end self = one-at r values o f i t v here plain (now e ∙ ap (λ (c : Bool). if c then slice_set (r.values e) i v else r.values e) self)
 
   self-end : same_end e e ≡ true
   self-end = grind (arith, nat_tests)
 
-  own-object : length (places_of r (node.Object o)) ≡ suc (length (places_of q (node.Object o)))
+  own-object : length (places_of r o) ≡ suc (length (places_of q o))
   own-object =
-      one-fewer-in (λ g. places_at r (at_end (node.Object o) g)) (λ g. places_at q (at_end (node.Object o) g)) (all_features_of r (node.Object o)) k f own
-      (λ j g at other. other-end (at_end (node.Object o) g) (ap (λ (b : Bool). same_node (node.Object o) (node.Object o) && b) (distinct-at (all_features_of r (node.Object o)) j k f g distinct at own other) ∙ and-false (same_node (node.Object o) (node.Object o))))
+      one-fewer-in (places_under r o) (places_under q o) (all_features_of r (node.Object o)) k f own
+      (λ j g at other. other-end o g (ap (λ (b : Bool). same_node (node.Object o) (node.Object o) && b) (distinct-at (all_features_of r (node.Object o)) j k f g distinct at own other) ∙ and-false (same_node (node.Object o) (node.Object o))))
       (own-end self-end)
 
-  other-object : (j : ℕ) → (j ≡ o.0 → ⊥) → length (places_of r (node.Object (record { 0 = j }))) ≡ length (places_of q (node.Object (record { 0 = j })))
+  other-object : (j : ℕ) → (j ≡ o.0 → ⊥) → length (places_of r (record { 0 = j })) ≡ length (places_of q (record { 0 = j }))
   other-object j other =
       let apart : nat_eq o.0 j ≡ false =
       elim (nat_eq o.0 j) as (λ b. nat_eq o.0 j ≡ b → b ≡ false) [ true ↦ λ h. absurd (other (sym (eqb-true o.0 j h))) | false ↦ λ _. refl ] refl in
-      as-many (λ g. places_at r (at_end (node.Object (record { 0 = j })) g)) (λ g. places_at q (at_end (node.Object (record { 0 = j })) g)) (all_features_of r (node.Object (record { 0 = j })))
-      (λ l g at. other-end (at_end (node.Object (record { 0 = j })) g) (ap (λ (b : Bool). b && same_feature f g) apart))
+      as-many (places_under r (record { 0 = j })) (places_under q (record { 0 = j })) (all_features_of r (node.Object (record { 0 = j })))
+      (λ l g at. other-end (record { 0 = j }) g (ap (λ (b : Bool). b && same_feature f g) apart))
 
   -- one proxy fewer is left
-  pub one-fewer : left r ≡ suc (left (with_values r values))
+  pub one-fewer : proxies_len r ≡ suc (proxies_len (with_values r values))
   one-fewer =
-      one-fewer-in (λ j. places_of r (node.Object (record { 0 = j }))) (λ j. places_of q (node.Object (record { 0 = j }))) (range_with_len 0 r.next) o.0 o.0 (at-range r.next o.0 low)
+      one-fewer-in (λ j. places_of r (record { 0 = j })) (λ j. places_of q (record { 0 = j })) (range_with_len 0 r.next) o.0 o.0 (at-range r.next o.0 low)
       (λ j x at other. other-object x (λ same. other (sym (range-at r.next j x at) ∙ same))) own-object
 
 ---------------------------------------------------------------- none left
@@ -175,12 +241,12 @@ module _ (s : Model) (legal : IsLegal s) where
   no-zero : (n : ℕ) → 0 ≡ suc n → ⊥
   no-zero n h = omega (arith, h)
 
-  at-object : (o : ObjectNo) (f : FeatureNo) (i : ℕ) (t : List ℕ) → left (reading s) ≡ 0 → slice_get (values_at s (at_end (node.Object o) f)) i ≡ Some (value.Proxy t) → ⊥
+  at-object : (o : ObjectNo) (f : FeatureNo) (i : ℕ) (t : List ℕ) → proxies_len (reading s) ≡ 0 → slice_get (values_at s (at_end (node.Object o) f)) i ≡ Some (value.Proxy t) → ⊥
   at-object o f i t zero_left here =
       let e = at_end (node.Object o) f in
       let of = of-features o f i (value.Proxy t) (reference-of s legal e i (value.Proxy t) here refl) here in
       let values = λ (d : End). if same_end e d then slice_set (values_at s e) i value.Null else values_at s d in
-      no-zero (left (with_values (reading s) values))
+      no-zero (proxies_len (with_values (reading s) values))
       (sym zero_left ∙ one-fewer (reading s) o f i t value.Null values here refl (λ d. refl) of.low of.place of.own (features-distinct s legal (node.Object o)))
 
   at-resource : (k : ResourceNo) (f : FeatureNo) (i : ℕ) (t : List ℕ) → slice_get (values_at s (at_end (node.Resource k) f)) i ≡ Some (value.Proxy t) → ⊥
@@ -193,7 +259,7 @@ module _ (s : Model) (legal : IsLegal s) where
       false≢true (all-passing lookups.is_object (values_at s e) i (value.Proxy t) (all-objects s e legal contains) here)
 
   -- where no proxy is left, none stands anywhere
-  pub none-left : left (reading s) ≡ 0 → HasNoProxy (reading s)
+  pub none-left : proxies_len (reading s) ≡ 0 → HasNoProxy (reading s)
   none-left zero_left e t there = let at = place-of (values_at s e) (value.Proxy t) there in by e.node refl at.0 at.1
     where
       by : (n : Node) → e.node ≡ n → (i : ℕ) → slice_get (values_at s e) i ≡ Some (value.Proxy t) → ⊥

@@ -9,10 +9,8 @@ use Rattle.models.specs.Legal.{IsLegal}
 use Rattle.models.specs.Model.{Model, empty_model, model_of, reading}
 use Rattle.models.specs.Steady.{HasSteadyTexts}
 use Rattle.models.proofs.EmptyLemmas.{empty-legal}
-use Rattle.resource_docs.specs.declared.doc.Doc.{Doc}
 use Rattle.round_trip.specs.Copied.{copied}
 use Rattle.handshake.specs.Effects.{after}
-use Rattle.handshake.specs.Loaded.{LoadsEnds}
 use Rattle.handshake.specs.declared.change.Change.TheVariants.{Load, NewResource}
 use Rattle.reloading.specs.Between.{Between}
 use Rattle.reloading.specs.Orders.{AreAllowed, Fill, IsOrder, IsSaved, LoadsGiveBetween, Make, Task, after_all, changes, is_same, number_of, uri_of}
@@ -21,7 +19,7 @@ use Rattle.reloading.proofs.LoadedLemmas.{loaded-between}
 use Rattle.reloading.proofs.MakeLemmas.{made-so-far, make-allowed}
 use Rattle.reloading.proofs.SoFarLemmas.{HasSoFar}
 
-module _ (s : Model) (legal : IsLegal s) (steady : HasSteadyTexts s) (saved : IsSaved (reading s)) (ends : (s : Model) (k : ResourceNo) (doc : Doc) → LoadsEnds s k doc) where
+module _ (s : Model) (legal : IsLegal s) (steady : HasSteadyTexts s) (saved : IsSaved (reading s)) where
   -- the rest of the tasks from a model
   pub record AreDone (t : Model) (made : List ResourceNo) (ts : List Task) : Type 0 where
     pub allowed : AreAllowed t (changes (reading s) made ts)
@@ -38,8 +36,8 @@ module _ (s : Model) (legal : IsLegal s) (steady : HasSteadyTexts s) (saved : Is
   done (Fill k ∷ ts) w b made filled so_far order =
       let t = model_of s.metamodel w b in
       let u = after t (Load (number_of made k) (copied (reading s) k)) in
-      let rest = done ts u.values u.links made (filled ++ k ∷ []) (filled-so-far s legal steady saved ends w b made filled so_far k order.0) order.1 in
-      record { allowed = (fill-allowed s legal steady saved ends w b made filled so_far k order.0, rest.allowed); legal_then = rest.legal_then; between = rest.between }
+      let rest = done ts u.values u.links made (filled ++ k ∷ []) (filled-so-far s legal steady saved w b made filled so_far k order.0) order.1 in
+      record { allowed = (fill-allowed s legal steady saved w b made filled so_far k order.0, rest.allowed); legal_then = rest.legal_then; between = rest.between }
 
   nothing-once : IsDistinct is_same []
   unfolding IsDistinct
@@ -63,7 +61,7 @@ module _ (s : Model) (legal : IsLegal s) (steady : HasSteadyTexts s) (saved : Is
   pub all-loaded : (ts : List Task) → IsOrder (reading s) [] [] ts → AreDone (empty_model s.metamodel) [] ts
   all-loaded ts order = done ts (record { objects = []; uris = [] }) no_links [] [] at-first order
 
-pub loads-give-between : ((s : Model) (k : ResourceNo) (doc : Doc) → LoadsEnds s k doc) → (s : Model) → LoadsGiveBetween s
-loads-give-between ends s legal steady saved ts order =
-    let all = all-loaded s legal steady saved ends ts order in
+pub loads-give-between : (s : Model) → LoadsGiveBetween s
+loads-give-between s legal steady saved ts order =
+    let all = all-loaded s legal steady saved ts order in
     record { allowed = all.allowed; legal = all.legal_then; between = all.between }

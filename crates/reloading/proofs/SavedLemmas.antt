@@ -11,8 +11,8 @@ use Rattle.resource_docs.specs.declared.doc.Doc.{Doc}
 use Rattle.round_trip.specs.Copied.{copied}
 use Rattle.round_trip.specs.Readable.{IsReadable}
 use Rattle.round_trip.proofs.BackLemmas.{value-back}
-use Rattle.handshake.specs.Loaded.{LoadsEnds}
 use Rattle.handshake.specs.Plans.{IsDocument}
+use Rattle.handshake.proofs.LoadedLemmas.{loads-ends}
 use Rattle.reloading.specs.Laws.{LoadsSaved}
 use Rattle.reloading.proofs.ImageLemmas.{load-images}
 
@@ -20,7 +20,7 @@ pub saved-document : (s : Model) → IsLegal s → HasSteadyTexts s → (k : Res
 saved-document s legal steady k uri fine = record { uri = uri; read = record { source = document (reading s) k; gives = value-back s legal steady k uri fine } }
 
 -- what a load leaves of a document is what it leaves of this one
-pub loads-saved : ((s : Model) (k : ResourceNo) (doc : Doc) → LoadsEnds s k doc) → (s : Model) (w : ValuesState) (b : Links) → LoadsSaved s w b
-loads-saved ends s w b legal steady k j uri fine other early late =
+pub loads-saved : (s : Model) (w : ValuesState) (b : Links) → LoadsSaved s w b
+loads-saved s w b legal steady k j uri fine other early late =
     let read = saved-document s legal steady k uri fine in
-    load-images s w b legal other k j early late read (ends _ j (copied (reading s) k) other early late read)
+    load-images s w b legal other k j early late read (loads-ends _ j (copied (reading s) k) other early late read)

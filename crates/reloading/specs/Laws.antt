@@ -21,12 +21,12 @@ use Rattle.handshake.specs.Laws.{OfAllowed}
 use Rattle.handshake.specs.Plans.{HasReadDocument}
 use Rattle.handshake.specs.Refusals.{early_refusal, late_refusal}
 use Rattle.handshake.specs.Resolving.{proxy_at}
-use Rattle.handshake.specs.declared.change.Change.TheVariants.{Load, Resolve}
+use Rattle.handshake.specs.ResolvingAll as all
+use Rattle.handshake.specs.declared.change.Change.TheVariants.{Load, Resolve, ResolveAll}
 use Rattle.reloading.specs.Alike.{Alike}
 use Rattle.reloading.specs.Between.{Between}
 use Rattle.reloading.specs.Images.{HasImages}
-use Rattle.reloading.specs.Proxies.{HasNoProxy, left}
-use Rattle.reloading.specs.ResolveAll.{resolve_all}
+use Rattle.reloading.specs.Proxies.{HasNoProxy, proxies_len}
 
 ---------------------------------------------------------------- addresses
 
@@ -59,7 +59,7 @@ pub record IsResolvedBetween (r : Reading) (t : Model) (o : ObjectNo) (f : Featu
   pub early : early_refusal (reading t) (Resolve o f i) ≡ None
   pub late : late_refusal (reading t) (Resolve o f i) ≡ None
   pub between : Between r (reading (after t (Resolve o f i)))
-  pub fewer : left (reading t) ≡ (if is_some (shape t.metamodel f).opposite then 2 else 1) + left (reading (after t (Resolve o f i)))
+  pub fewer : proxies_len (reading t) ≡ (if is_some (shape t.metamodel f).opposite then 2 else 1) + proxies_len (reading (after t (Resolve o f i)))
 
 -- so it is of each proxy of a model that is between one without proxies and that
 abbrev pub ResolvesBetween : Model → ValuesState → Links → Type 0
@@ -68,10 +68,11 @@ ResolvesBetween s w b =
     IsLegal s → IsLegal t → HasNoProxy (reading s) → Between (reading s) (reading t) → (o : ObjectNo) (f : FeatureNo) (i : ℕ)
     → is_some (proxy_at (reading t) (at_end (node.Object o) f) i) ≡ true → IsResolvedBetween (reading s) t o f i
 
--- where all proxies of such a model are resolved in their order, none is left, and it is alike to the one that it is between with
+-- once all proxies of such a model are resolved, none is left, and it is alike to the one that it is between with
 pub record IsAllResolved (r : Reading) (t : Model) : Type 0 where
-  pub none : HasNoProxy (reading (resolve_all t))
-  pub alike : Alike r (reading (resolve_all t))
+  pub none : HasNoProxy (reading (after t ResolveAll))
+  pub left : all.left (reading t) ≡ 0
+  pub alike : Alike r (reading (after t ResolveAll))
 
 abbrev pub ResolvesAll : Model → ValuesState → Links → Type 0
 ResolvesAll s w b =

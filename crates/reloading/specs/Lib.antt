@@ -3,7 +3,6 @@ pub mod Alike
 pub mod Between
 pub mod Proxies
 pub mod Images
-pub mod ResolveAll
 pub mod Laws
 pub mod Orders
 pub mod Reload

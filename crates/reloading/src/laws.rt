@@ -13,7 +13,7 @@ ghost use Rattle.reloading.specs.Alike.{Alike};
 ghost use Rattle.reloading.specs.Between.{Between};
 ghost use Rattle.reloading.specs.Laws.{HasOwnAddresses, LoadsKeepAddresses, LoadsSaved, ResolvesAll, ResolvesBetween, ResolvesKeepAddresses};
 ghost use Rattle.reloading.specs.Orders.{LoadsGiveBetween};
-ghost use Rattle.reloading.specs.Proxies.{HasNoProxy, left};
+ghost use Rattle.reloading.specs.Proxies.{HasNoProxy, proxies_len};
 ghost use Rattle.reloading.specs.Reload.{ReloadsInAnyOrder};
 
 /// In a legal model an address finds the object that has it, and no two objects have one (EMF: EcoreUtil.getURI, ResourceSet.getEObject).
@@ -55,7 +55,7 @@ pub fn resolving_all_leaves_no_proxy()
 
 /// Where no proxy is left in a legal model, none stands anywhere.
 pub fn with_no_proxy_left_none_stands()
-    ensures { (s : Model) → IsLegal s → left (reading s) ≡ 0 → HasNoProxy (reading s) }
+    ensures { (s : Model) → IsLegal s → proxies_len (reading s) ≡ 0 → HasNoProxy (reading s) }
 {}
 
 /// A model without proxies that is between another one without proxies and that is alike to it.

@@ -18,3 +18,5 @@ mod AttachedLemmas
 mod ReplayLemmas
 mod ThereLemmas
 mod EnoughLemmas
+mod BareStepLemmas
+mod ReloadLemmas

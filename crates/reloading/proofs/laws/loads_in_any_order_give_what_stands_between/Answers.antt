@@ -1,6 +1,5 @@
-use Rattle.handshake.proofs.LoadedLemmas.{loads-ends}
 use Rattle.reloading.proofs.OrdersLemmas.{loads-give-between}
 use Rattle.reloading.proofs.laws.loads_in_any_order_give_what_stands_between.Goals as goal
 
 pub returns : goal.returns
-returns c = loads-give-between loads-ends
+returns c = loads-give-between

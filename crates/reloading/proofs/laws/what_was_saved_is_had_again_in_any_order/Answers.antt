@@ -1,6 +1,5 @@
-use Rattle.handshake.proofs.LoadedLemmas.{loads-ends}
 use Rattle.reloading.proofs.AgainLemmas.{reloads}
 use Rattle.reloading.proofs.laws.what_was_saved_is_had_again_in_any_order.Goals as goal
 
 pub returns : goal.returns
-returns c = reloads loads-ends
+returns c = reloads

@@ -1,6 +1,5 @@
-use Rattle.handshake.proofs.LoadedLemmas.{loads-ends}
 use Rattle.reloading.proofs.SavedLemmas.{loads-saved}
 use Rattle.reloading.proofs.laws.what_was_saved_is_loaded_as_it_was.Goals as goal
 
 pub returns : goal.returns
-returns c = loads-saved loads-ends
+returns c = loads-saved

@@ -1,7 +1,8 @@
 -- The commands of a reload, one after another.
-use Rattle.std.proofs.Common.{◌≡◌, ◌∙◌, ℕ, true, List, [], ◌∷◌, ◌++◌, Option, is_some, slice_get, unwrap_or, refl, sym, ap, subst}
+use Rattle.std.proofs.Common.{◌≡◌, ◌∙◌, ℕ, true, List, [], ◌∷◌, ◌++◌, Option, is_some, slice_get, unwrap_or, if◌then◌else◌, arith, refl, sym, ap, subst, ◌+◌}
 use Rattle.std.specs.Prelude.{Ok}
 use Rattle.std.proofs.lemmas.List.Elements.{All-contains}
+use Rattle.mm_types.specs.Shapes.{shape}
 use Rattle.mm_types.specs.declared.numbers.FeatureNo.{FeatureNo}
 use Rattle.mm_types.specs.declared.numbers.Node.TheVariants as node
 use Rattle.mm_types.specs.declared.numbers.ObjectNo.{ObjectNo}
@@ -15,21 +16,20 @@ use Rattle.models.specs.Reading.{Reading, at_end, has_resource}
 use Rattle.models.specs.Steady.{HasSteadyTexts}
 use Rattle.notice_chain.specs.View.{View}
 use Rattle.resource_docs.specs.Causes.{reads_bytes}
-use Rattle.resource_docs.specs.declared.doc.Doc.{Doc}
 use Rattle.loading.proofs.SoundLemmas.{at-map}
 use Rattle.round_trip.specs.Copied.{copied}
 use Rattle.round_trip.proofs.BackLemmas.{text-back}
 use Rattle.round_trip.proofs.ValuesListLemmas.{stands}
 use Rattle.handshake.specs.Effects.{after}
-use Rattle.handshake.specs.Loaded.{LoadsEnds}
 use Rattle.handshake.specs.Resolving.{proxy_at}
 use Rattle.handshake.specs.declared.change.Change.{Change}
 use Rattle.handshake.specs.declared.change.Change.TheVariants.{Load, NewResource, Resolve}
 use Rattle.reloading.specs.Alike.{Alike}
 use Rattle.reloading.specs.Between.{Between}
 use Rattle.reloading.specs.Laws.{IsResolvedBetween}
+use Rattle.reloading.specs.Orders as orders
 use Rattle.reloading.specs.Orders.{Fill, IsFilling, IsMaking, IsOrder, IsSaved, Make, Task, after_all, changes, number_of, uri_of}
-use Rattle.reloading.specs.Proxies.{HasNoProxy}
+use Rattle.reloading.specs.Proxies.{HasNoProxy, proxies_len}
 use Rattle.reloading.specs.Reload as models
 use Rattle.reloading.proofs.AfterLemmas.{now-legal}
 use Rattle.reloading.proofs.AlikeLemmas.{alike-of}
@@ -40,15 +40,17 @@ use Rattle.reloading.proofs.OrdersLemmas.{at-first, loads-give-between}
 use Rattle.reloading.proofs.AgainLemmas as reloads_of
 use Rattle.reloading.proofs.AgainLemmas.{same-metamodel}
 use Rattle.reloading.proofs.ResolveLemmas.{resolves-between, text-at}
+use Rattle.reloading.proofs.ResolveAllLemmas.{resolves-all}
 use Rattle.reloading.proofs.SoFarLemmas.{HasSoFar, numbered}
 use Rattle.repository.specs.Loads.{reads_into, uri_at}
 use Rattle.repository.specs.Run.{run}
+use Rattle.repository.specs.State as legal_state
 use Rattle.repository.specs.State.{State, reads}
 use Rattle.repository.specs.Step.{Stepped}
 use Rattle.repository.specs.declared.command.Command.{Command}
 use Rattle.repository.specs.declared.command.Command.TheVariants as command
-use Rattle.reload_laws.specs.Reload.{AllDone, AreResolves, AreTexts, ReloadsInAnyOrder, commands, reloaded}
-use Rattle.reload_laws.proofs.StepLemmas.{IsStep, bare, filled, made, resolved}
+use Rattle.repository.specs.Reload.{AllDone, AreLoads, AreResolves, AreTexts, IsAllResolved, IsDone, IsReloaded, LoadsGiveBetween, ReloadsInAnyOrder, ResolvesAll, ResolvesBetween, bare, commands, reloaded}
+use Rattle.repository.proofs.BareStepLemmas.{IsStep, filled, made, resolved}
 
 ---------------------------------------------------------------- runs
 
@@ -65,7 +67,7 @@ one-more t u v c cs is rest = record {
 
 ---------------------------------------------------------------- loads
 
-module _ (s : Model) (legal : IsLegal s) (steady : HasSteadyTexts s) (saved : IsSaved (reading s)) (ends : (s : Model) (k : ResourceNo) (doc : Doc) → LoadsEnds s k doc) (texts : ResourceNo → List ℕ) (are : AreTexts (reading s) texts) where
+module _ (s : Model) (legal : IsLegal s) (steady : HasSteadyTexts s) (saved : IsSaved (reading s)) (texts : ResourceNo → List ℕ) (are : AreTexts (reading s) texts) where
   abbrev r : Reading
   r = reading s
 
@@ -80,7 +82,7 @@ module _ (s : Model) (legal : IsLegal s) (steady : HasSteadyTexts s) (saved : Is
 
     fills : IsFilling done filled_ones k → IsStep t (command.Load (number_of done k) (texts k)) (after t (Load (number_of done k) (copied r k)))
     fills filling =
-        filled t (number_of done k) (texts k) (copied r k) read (fill-allowed s legal steady saved ends w b done filled_ones so_far k filling)
+        filled t (number_of done k) (texts k) (copied r k) read (fill-allowed s legal steady saved w b done filled_ones so_far k filling)
       where
         there : has_resource r k ≡ true
         there = so_far.there k filling.there
@@ -105,7 +107,7 @@ module _ (s : Model) (legal : IsLegal s) (steady : HasSteadyTexts s) (saved : Is
       let t = model_of s.metamodel w b in
       let u = after t (Load (number_of done k) (copied r k)) in
       one-more t u (after_all u (changes r done ts)) (command.Load (number_of done k) (texts k)) (commands r texts done ts) (fills w b done filled_ones so_far k order.0)
-      (all-made ts u.values u.links done (filled_ones ++ k ∷ []) (filled-so-far s legal steady saved ends w b done filled_ones so_far k order.0) order.1)
+      (all-made ts u.values u.links done (filled_ones ++ k ∷ []) (filled-so-far s legal steady saved w b done filled_ones so_far k order.0) order.1)
 
 ---------------------------------------------------------------- resolves
 
@@ -151,24 +153,78 @@ module _ (s : Model) (legal : IsLegal s) (none : HasNoProxy (reading s)) where
       (command.Resolve o f i ∷ rest.0, (resolves.0, subst (λ (y : Stepped). AreResolves y.after rest.0) (sym is) rest.1))
   as-commands (_ ∷ cs) w b other between resolves = absurd resolves
 
+pub resolves-stay-between : (s : State) (w : ValuesState) (b : Links) → ResolvesBetween s w b
+resolves-stay-between state w b legal other none between o f i there =
+    let s = state.model in
+    let is = stepped s legal.model none w b other.model between o f i there in
+    let x = one s legal.model none w b other.model between o f i there in
+    record {
+      done = subst (λ (y : Stepped). IsDone y.outcome) (sym is) tt;
+      between = subst (λ (y : Stepped). Between (reading s) (reads y.after)) (sym is) x.between;
+      fewer = x.fewer ∙ sym (ap (λ (y : Stepped). (if is_some (shape s.metamodel f).opposite then 2 else 1) + proxies_len (reads y.after)) is);
+    }
+
+pub all-at-once : (s : State) (w : ValuesState) (b : Links) → ResolvesAll s w b
+all-at-once s w b legal other none between =
+    let x = resolves-all s.model w b legal.model other.model none between in
+    record { done = x.left; none = x.none; alike = x.alike }
+
 ---------------------------------------------------------------- all of it
 
-pub reloads : ((s : Model) (k : ResourceNo) (doc : Doc) → LoadsEnds s k doc) → (s : State) → ReloadsInAnyOrder s
-reloads ends state legal steady saved texts are ts order =
-    let s = state.model in
-    let l = loads-give-between ends s legal.model steady saved ts order in
-    let t = models.reloaded s ts in
-    let u = model_of s.metamodel t.values t.links in
-    let same : t ≡ u = λ i. record { metamodel = same-metamodel (empty_model s.metamodel) (changes (reading s) [] ts) i; values = t.values; links = t.links } in
-    let other = subst IsLegal same l.legal in
-    let between = subst (λ (x : Model). Between (reading s) (reading x)) same l.between in
-    let ran = all-made s legal.model steady saved ends texts are ts (record { objects = []; uris = [] }) no_links [] [] (at-first s legal.model steady saved ends) order in
-    let now : reloaded state texts ts ≡ bare u = ran.after_them ∙ ap bare same in
-    let some = (reloads_of.reloads ends s legal.model steady saved ts order).some in
-    record {
-      loads = ran.done;
-      some = subst (λ (y : State). (rs : List (Command View)) × AreResolves y rs) (sym now) (as-commands s legal.model saved.resolved some.0 t.values t.links other between (subst (λ (x : Model). models.AreResolves x some.0) same some.1));
-      had = λ rs resolves.
-          (let x = subst (λ (y : State). AreDone s legal.model saved.resolved y rs) (sym now) (all-resolved s legal.model saved.resolved rs t.values t.links other between (subst (λ (y : State). AreResolves y rs) now resolves)) in
-          record { resolves = x.done; alike = x.alike });
-    }
+-- a state without adapters is as legal as its model
+bare-legal : (t : Model) → IsLegal t → legal_state.IsLegal (bare t)
+bare-legal t legal = record { model = legal; few = omega arith; distinct = no-numbers; adapters = none-listed }
+
+module _ (state : State) (legal : legal_state.IsLegal state) (steady : HasSteadyTexts state.model) (saved : IsSaved (reads state)) (texts : ResourceNo → List ℕ) (are : AreTexts (reads state) texts)
+    (ts : List Task) (order : IsOrder (reads state) [] [] ts) where
+  abbrev s : Model
+  s = state.model
+
+  abbrev t : Model
+  t = models.reloaded s ts
+
+  abbrev u : Model
+  u = model_of s.metamodel t.values t.links
+
+  same : t ≡ u
+  same = λ i. record { metamodel = same-metamodel (empty_model s.metamodel) (changes (reading s) [] ts) i; values = t.values; links = t.links }
+
+  l : orders.AreLoads s ts
+  l = loads-give-between s legal.model steady saved ts order
+
+  other : IsLegal u
+  other = subst IsLegal same l.legal
+
+  between : Between (reading s) (reading u)
+  between = subst (λ (x : Model). Between (reading s) (reading x)) same l.between
+
+  ran : IsRunOf (empty_model s.metamodel) (commands (reading s) texts [] ts) t
+  ran = all-made s legal.model steady saved texts are ts (record { objects = []; uris = [] }) no_links [] [] (at-first s legal.model steady saved) order
+
+  now : reloaded state texts ts ≡ bare u
+  now = ran.after_them ∙ ap bare same
+
+  loads : AreLoads state texts ts
+  loads = record {
+    done = ran.done;
+    legal = subst legal_state.IsLegal (sym now) (bare-legal u other);
+    between = subst (λ (y : State). Between (reading s) (reads y)) (sym now) between;
+  }
+
+  reloaded-so : IsReloaded state texts ts
+  reloaded-so =
+      let some = (reloads_of.reloads s legal.model steady saved ts order).some in
+      record {
+        loads = ran.done;
+        all = subst (λ (y : State). IsAllResolved (reading s) y) (sym now) (all-at-once state t.values t.links legal (bare-legal u other) saved.resolved between);
+        some = subst (λ (y : State). (rs : List (Command View)) × AreResolves y rs) (sym now) (as-commands s legal.model saved.resolved some.0 t.values t.links other between (subst (λ (x : Model). models.AreResolves x some.0) same some.1));
+        had = λ rs resolves.
+            (let x = subst (λ (y : State). AreDone s legal.model saved.resolved y rs) (sym now) (all-resolved s legal.model saved.resolved rs t.values t.links other between (subst (λ (y : State). AreResolves y rs) now resolves)) in
+            record { resolves = x.done; alike = x.alike });
+      }
+
+pub loads-between : (s : State) → LoadsGiveBetween s
+loads-between s legal steady saved texts are ts order = loads s legal steady saved texts are ts order
+
+pub reloads : (s : State) → ReloadsInAnyOrder s
+reloads s legal steady saved texts are ts order = reloaded-so s legal steady saved texts are ts order

@@ -1,5 +1,5 @@
 -- Commands of a repository without adapters that nothing refuses: each makes its change.
-use Rattle.std.proofs.Common.{◌≡◌, ◌∙◌, ℕ, true, false, ◌&&◌, List, [], Option, None, is_some, length, nat_lt, option_map, ap}
+use Rattle.std.proofs.Common.{◌≡◌, ◌∙◌, ℕ, true, false, ◌&&◌, List, [], Option, None, is_some, length, nat_lt, option_map, refl, ap}
 use Rattle.std.specs.Prelude.{Ok, Result}
 use Rattle.std.specs.Option.{option_map_or}
 use Rattle.mm_types.specs.Conditions.{◌unless◌, ◌where_so◌, ◌else_by◌}
@@ -19,17 +19,14 @@ use Rattle.notice_chain.specs.View.{View}
 use Rattle.resource_docs.specs.declared.doc.Doc.{Doc}
 use Rattle.handshake.specs.Effects.{after}
 use Rattle.handshake.specs.Named.{node_refusal}
-use Rattle.handshake.specs.declared.change.Change.TheVariants.{Load, NewResource, Resolve}
+use Rattle.handshake.specs.declared.change.Change.TheVariants.{Load, NewResource, Resolve, ResolveAll}
 use Rattle.reloading.specs.Orders.{IsAllowed}
 use Rattle.repository.specs.Loads.{load_of, load_refusal, reads_into}
-use Rattle.repository.specs.State.{State, reads}
+use Rattle.repository.specs.Reload.{bare}
+use Rattle.repository.specs.State.{reads}
 use Rattle.repository.specs.Step.{refusal_of, reply, step, step_unless}
 use Rattle.repository.specs.declared.command.Command.{Command}
 use Rattle.repository.specs.declared.command.Command.TheVariants as command
-
--- a state of a model without adapters
-abbrev pub bare : Model → State
-bare t = record { model = t; adapters = [] }
 
 -- the command is done, and leaves a model
 abbrev pub IsStep : Model → Command View → Model → Type 0
@@ -37,6 +34,9 @@ IsStep t c u = step (bare t) c ≡ record { outcome = Ok (reply (reads (bare t))
 
 pub resolved : (t : Model) (o : ObjectNo) (f : FeatureNo) (i : ℕ) → IsAllowed t (Resolve o f i) → IsStep t (command.Resolve o f i) (after t (Resolve o f i))
 resolved t o f i ok = ap (step_unless (bare t) (command.Resolve o f i)) (λ j. ok.early j else_by ok.late j else_by (AdapterFull where_so false))
+
+pub all-resolved : (t : Model) → IsStep t command.ResolveAll (after t ResolveAll)
+all-resolved t = refl
 
 -- a text that is read as a document makes its load
 pub filled : (t : Model) (j : ResourceNo) (text : List ℕ) (doc : Doc) → reads_into (reading t) j text ≡ Ok doc → IsAllowed t (Load j doc) → IsStep t (command.Load j text) (after t (Load j doc))

@@ -1,6 +1,0 @@
-use Rattle.handshake.proofs.LoadedLemmas.{loads-ends}
-use Rattle.reload_laws.proofs.ReloadLemmas.{reloads}
-use Rattle.reload_laws.proofs.laws.what_was_saved_is_had_again_in_any_order.Goals as goal
-
-pub returns : goal.returns
-returns c = reloads loads-ends

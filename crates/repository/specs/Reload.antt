@@ -1,0 +1,134 @@
+-- Reloading in any order: the resources of a state are made in a new repository and their texts loaded, and then proxies are resolved, one
+-- after another or all at once.
+use Rattle.std.specs.Prelude.{◌≡◌, ℕ, ◌+◌, true, List, [], ◌∷◌, ◌++◌, is_some, Ok, Err, if◌then◌else◌}
+use Rattle.std.specs.List.{AllByRecursion}
+use Rattle.std.specs.Str.{is_utf8}
+use Rattle.mm_types.specs.Shapes.{shape}
+use Rattle.mm_types.specs.declared.numbers.FeatureNo.{FeatureNo}
+use Rattle.mm_types.specs.declared.numbers.Node.TheVariants as node
+use Rattle.mm_types.specs.declared.numbers.ObjectNo.{ObjectNo}
+use Rattle.mm_types.specs.declared.numbers.ResourceNo.{ResourceNo}
+use Rattle.mm_values.specs.Values.{ValuesState}
+use Rattle.links.specs.Links.{Links}
+use Rattle.models.specs.Model.{Model, model_of}
+use Rattle.models.specs.Reading.{Reading, at_end, has_resource}
+use Rattle.models.specs.Steady.{HasSteadyTexts}
+use Rattle.notice_chain.specs.View.{View}
+use Rattle.saved_docs.specs.Saved.{IsReadAs}
+use Rattle.handshake.specs.Resolving.{proxy_at}
+use Rattle.reloading.specs.Alike.{Alike}
+use Rattle.reloading.specs.Between.{Between}
+use Rattle.reloading.specs.Orders.{Fill, IsOrder, IsSaved, Make, Task, number_of, uri_of}
+use Rattle.reloading.specs.Proxies.{HasNoProxy, proxies_len}
+use Rattle.repository.specs.Run.{run}
+use Rattle.repository.specs.State.{State, IsLegal, empty_state, reads}
+use Rattle.repository.specs.Step.{step}
+use Rattle.repository.specs.Views.{Outcome}
+use Rattle.repository.specs.declared.command.Command.{Command}
+use Rattle.repository.specs.declared.command.Command.TheVariants as command
+use Rattle.repository.specs.declared.reply.Answer.{Answer}
+use Rattle.repository.specs.declared.reply.Answer.TheVariants as answer
+
+-- the commands of tasks, where each resource of a reading has a text
+abbrev pub commands : Reading → (ResourceNo → List ℕ) → List ResourceNo → List Task → List (Command View)
+commands r texts made [] = []
+commands r texts made (Make k ∷ ts) = command.CreateResource (uri_of r k) ∷ commands r texts (made ++ k ∷ []) ts
+commands r texts made (Fill k ∷ ts) = command.Load (number_of made k) (texts k) ∷ commands r texts made ts
+
+-- each resource was saved as its text
+pub record AreTexts (r : Reading) (texts : ResourceNo → List ℕ) : Type 0 where
+  pub reads : (k : ResourceNo) → has_resource r k ≡ true → IsReadAs r k (texts k)
+  pub utf8 : (k : ResourceNo) → has_resource r k ≡ true → is_utf8 (texts k) ≡ true
+
+-- each command resolves a proxy that stands there in its turn, and none stands anywhere after the last
+abbrev pub AreResolves : State → List (Command View) → Type 0
+AreResolves t [] = HasNoProxy (reads t)
+AreResolves t (command.Resolve o f i ∷ cs) = (is_some (proxy_at (reads t) (at_end (node.Object o) f) i) ≡ true) × AreResolves (step t (command.Resolve o f i)).after cs
+AreResolves t (c ∷ cs) = ⊥
+
+-- an outcome is no refusal
+abbrev pub IsDone : Outcome → Type 0
+IsDone (Ok r) = Unit {0}
+IsDone (Err f) = ⊥
+
+abbrev pub AllDone : List Outcome → Type 0
+AllDone os = AllByRecursion IsDone os
+
+---------------------------------------------------------------- loads
+
+-- a new repository over the metamodel of s after the tasks of an order
+abbrev pub reloaded : State → (ResourceNo → List ℕ) → List Task → State
+reloaded s texts ts = (run (empty_state s.model.metamodel) (commands (reads s) texts [] ts)).after
+
+-- nothing refuses the loads, and what they leave is legal, and between what was saved and itself
+pub record AreLoads (s : State) (texts : ResourceNo → List ℕ) (ts : List Task) : Type 0 where
+  pub done : AllDone (run (empty_state s.model.metamodel) (commands (reads s) texts [] ts)).outcomes
+  pub legal : IsLegal (reloaded s texts ts)
+  pub between : Between (reads s) (reads (reloaded s texts ts))
+
+-- of a legal state whose texts joining leaves as they are, each resource of which was saved, and in which no proxy is left
+abbrev pub OfSaved : ((s : State) → (ResourceNo → List ℕ) → List Task → Type 0) → State → Type 0
+OfSaved P s =
+    IsLegal s → HasSteadyTexts s.model → IsSaved (reads s) → (texts : ResourceNo → List ℕ) → AreTexts (reads s) texts → (ts : List Task) → IsOrder (reads s) [] [] ts → P s texts ts
+
+-- whatever the order
+abbrev pub LoadsGiveBetween : State → Type 0
+LoadsGiveBetween = OfSaved AreLoads
+
+---------------------------------------------------------------- resolves
+
+-- a state of a model without adapters
+abbrev pub bare : Model → State
+bare t = record { model = t; adapters = [] }
+
+-- nothing refuses to resolve a proxy; the state is between as before, and one proxy fewer is left, or two of a link with an opposite
+pub record IsResolvedBetween (r : Reading) (t : State) (o : ObjectNo) (f : FeatureNo) (i : ℕ) : Type 0 where
+  pub done : IsDone (step t (command.Resolve o f i)).outcome
+  pub between : Between r (reads (step t (command.Resolve o f i)).after)
+  pub fewer : proxies_len (reads t) ≡ (if is_some (shape t.model.metamodel f).opposite then 2 else 1) + proxies_len (reads (step t (command.Resolve o f i)).after)
+
+-- an answer counts the proxies that are left
+abbrev pub CountsLeft : Answer → ℕ → Type 0
+CountsLeft (answer.Resolved done left) n = left ≡ n
+CountsLeft _ n = ⊥
+
+abbrev pub LeavesProxies : Outcome → ℕ → Type 0
+LeavesProxies (Ok r) n = CountsLeft r.answer n
+LeavesProxies (Err f) n = ⊥
+
+-- nothing refuses to resolve all; it answers that none is left, and so it is; and the state is alike
+pub record IsAllResolved (r : Reading) (t : State) : Type 0 where
+  pub done : LeavesProxies (step t command.ResolveAll).outcome 0
+  pub none : HasNoProxy (reads (step t command.ResolveAll).after)
+  pub alike : Alike r (reads (step t command.ResolveAll).after)
+
+-- of a state without adapters that is between one without proxies and that
+abbrev pub OfBetween : (Reading → State → Type 0) → State → ValuesState → Links → Type 0
+OfBetween P s w b =
+    let t = bare (model_of s.model.metamodel w b) in
+    IsLegal s → IsLegal t → HasNoProxy (reads s) → Between (reads s) (reads t) → P (reads s) t
+
+abbrev pub ResolvesBetween : State → ValuesState → Links → Type 0
+ResolvesBetween s w b =
+    OfBetween (λ r t. (o : ObjectNo) (f : FeatureNo) (i : ℕ) → is_some (proxy_at (reads t) (at_end (node.Object o) f) i) ≡ true → IsResolvedBetween r t o f i) s w b
+
+abbrev pub ResolvesAll : State → ValuesState → Links → Type 0
+ResolvesAll s w b = OfBetween IsAllResolved s w b
+
+---------------------------------------------------------------- all of it
+
+-- the resolves are done, and what comes to stand is alike
+pub record IsHadAgain (s : State) (texts : ResourceNo → List ℕ) (ts : List Task) (rs : List (Command View)) : Type 0 where
+  pub resolves : AllDone (run (reloaded s texts ts) rs).outcomes
+  pub alike : Alike (reads s) (reads (run (reloaded s texts ts) rs).after)
+
+-- whatever the order of the loads, they are done; to resolve all at once leaves no proxy; there are resolves, one after another, that leave
+-- none; and whatever their order, all is had again
+pub record IsReloaded (s : State) (texts : ResourceNo → List ℕ) (ts : List Task) : Type 0 where
+  pub loads : AllDone (run (empty_state s.model.metamodel) (commands (reads s) texts [] ts)).outcomes
+  pub all : IsAllResolved (reads s) (reloaded s texts ts)
+  pub some : (rs : List (Command View)) × AreResolves (reloaded s texts ts) rs
+  pub had : (rs : List (Command View)) → AreResolves (reloaded s texts ts) rs → IsHadAgain s texts ts rs
+
+abbrev pub ReloadsInAnyOrder : State → Type 0
+ReloadsInAnyOrder = OfSaved IsReloaded
