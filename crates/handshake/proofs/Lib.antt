@@ -45,3 +45,4 @@ pub mod ResolvedReadingLemmas
 pub mod TargetLemmas
 pub mod TellingLemmas
 pub mod TieNameLemmas
+pub mod ValueLemmas

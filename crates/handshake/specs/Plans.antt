@@ -1,9 +1,11 @@
 -- What planning a change gives.
-use Rattle.std.specs.Prelude.{◌≡◌, ℕ, ◌&&◌, Bool, true, false, IsFalse, List, [], Option, Some, None, IfSome, Result, Ok, Err, option_map, if◌then◌else◌}
+use Rattle.std.specs.Prelude.{◌≡◌, ℕ, ◌&&◌, Bool, true, false, IsFalse, List, [], Option, Some, None, IfSome, Result, Ok, Err, not, option_map, if◌then◌else◌}
 use Rattle.mm_types.specs.Resolved.{Metamodel}
+use Rattle.mm_types.specs.Shapes.{shape}
 use Rattle.mm_types.specs.declared.refused.Refused.{Refused}
 use Rattle.mm_types.specs.declared.refused.Refused.TheVariants.{Memory}
 use Rattle.mm_values.specs.Values as values
+use Rattle.mm_values.specs.declared.edit.ValueEdit.{ValueEdit}
 use Rattle.links.specs.Plans as links
 use Rattle.models.specs.Legal.{kinds_of}
 use Rattle.models.specs.Model.{Model, reading}
@@ -14,7 +16,7 @@ use Rattle.loading.specs.Fits.{IsFitting}
 use Rattle.resource_docs.specs.Causes.{IsRead}
 use Rattle.resource_docs.specs.declared.doc.Doc.{Doc}
 use Rattle.handshake.specs.declared.change.Change.{Change}
-use Rattle.handshake.specs.declared.change.Change.TheVariants.{Load, Resolve}
+use Rattle.handshake.specs.declared.change.Change.TheVariants.{Create, Set, Unset, Add, Remove, RemoveValue, Move, Load, Resolve}
 use Rattle.handshake.specs.declared.planned.Planned.{Planned}
 use Rattle.handshake.specs.Effects.{after}
 use Rattle.handshake.specs.Refusals.{late_refusal}
@@ -56,6 +58,21 @@ pub record IsPlanOf (is_heard : Bool) (s : Model) (c : Change) (p : Planned) : T
   pub links_made : links.applied s.links p.edits ≡ (after s c).links
   pub values_made : values.applied s.values p.values ≡ (after s c).values
   pub tells : p.chain ≡ (if is_heard then chain (reading s) c else [])
+
+-- a change that edits no link: it makes an object, or changes an attribute
+abbrev pub edits_values_alone : Metamodel → Change → Bool
+edits_values_alone m (Create c) = true
+edits_values_alone m (Set n f v) = not (shape m f).is_reference
+edits_values_alone m (Unset n f) = not (shape m f).is_reference
+edits_values_alone m (Add n f v i) = not (shape m f).is_reference
+edits_values_alone m (Remove n f i) = not (shape m f).is_reference
+edits_values_alone m (RemoveValue n f v) = not (shape m f).is_reference
+edits_values_alone m (Move n f to from) = not (shape m f).is_reference
+edits_values_alone m _ = false
+
+-- the plan that edits values alone, of which nobody hears
+abbrev pub of_values : List ValueEdit → Planned
+of_values vs = record { removal = None; target = None; resolved = None; edits = []; values = vs; chain = [] }
 
 -- what a proxy finds is looked for with memory, and before all that refuses it
 abbrev pub looks_first : Change → Bool

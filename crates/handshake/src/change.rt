@@ -1,4 +1,7 @@
 //! Changes.
+ghost use Rattle.std.specs.Prelude.{◌≡◌};
+
+use mm_meta::Meta;
 use mm_types::{ClassNo, FeatureNo, Node, ObjectNo, ResourceNo, Text, Value};
 use resource_docs::Doc;
 
@@ -61,4 +64,28 @@ pub enum Change {
     ResolveAll,
     /// Makes what a document holds in an empty resource (EMF: Resource.load).
     Load(ResourceNo, Doc),
+}
+
+impl Change {
+    ghost use Rattle.handshake.specs.Plans.{edits_values_alone};
+
+    /// Whether it edits values alone, and no link: it makes an object, or changes an attribute. Takes no memory.
+    pub fn edits_values_alone(&self, meta: &Meta) -> bool
+        ensures { result ≡ edits_values_alone meta.now self.now }
+    {
+        match self {
+            Change::Create(_) => true,
+            Change::Set { feature, .. }
+            | Change::Unset { feature, .. }
+            | Change::Add { feature, .. }
+            | Change::Remove { feature, .. }
+            | Change::RemoveValue { feature, .. }
+            | Change::Move { feature, .. } => !meta.is_reference(*feature),
+            Change::Delete(_)
+            | Change::NewResource(_)
+            | Change::Resolve { .. }
+            | Change::ResolveAll
+            | Change::Load(..) => false,
+        }
+    }
 }

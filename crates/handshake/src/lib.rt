@@ -26,6 +26,7 @@ mod resolving_all;
 mod target;
 mod telling;
 mod tie;
+mod value_planning;
 
 pub use change::Change;
 pub use happening::{Happening, Telling};
@@ -34,3 +35,4 @@ pub use place::Place;
 pub use planned::{Planned, Resolved};
 pub use planning::plan;
 pub use target::{Counterpart, Target};
+pub use value_planning::plan_values;

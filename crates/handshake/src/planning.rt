@@ -145,7 +145,7 @@ fn links_and_notices<L: LinkStore>(
 }
 
 /// The first refusal that planning finds. Takes no memory.
-fn late_refusal<L: LinkStore>(
+pub(crate) fn late_refusal<L: LinkStore>(
     model: &ModelRef<L>,
     change: &Change,
     target: Option<Target>,

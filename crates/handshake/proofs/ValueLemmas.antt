@@ -1,0 +1,65 @@
+-- A change that edits values alone has a plan without edits of links.
+use Rattle.std.proofs.Common.{◌≡◌, ◌++◌, Bool, true, false, not, ◌||◌, List, [], map, option_to_list, Option, Some, None, if◌then◌else◌, refl, sym, ap}
+use Rattle.std.specs.Option.{option_map_or}
+use Rattle.std.proofs.lemmas.Bool.{false≢true, true≢false}
+use Rattle.mm_types.specs.Shapes.{shape}
+use Rattle.mm_values.specs.declared.edit.ValueEdit.{ValueEdit}
+use Rattle.links.specs.declared.plan.Edit.{Edit}
+use Rattle.links.specs.declared.plan.Edit.TheVariants as edit
+use Rattle.models.specs.Legal.{IsLegal}
+use Rattle.models.specs.Model.{Model, reading}
+use Rattle.models.specs.Reading.{Reading, at_end, first_at, is_repeat, place_for}
+use Rattle.handshake.specs.declared.change.Change.{Change}
+use Rattle.handshake.specs.declared.change.Change.TheVariants.{Create, Set, Unset, Add, Remove, RemoveValue, Move}
+use Rattle.handshake.specs.Displaced.{cut_by_new, cut_by_set, has_already, tie_in, ties_backwards}
+use Rattle.handshake.specs.Edits.{cut_of, link_edits, new_put}
+use Rattle.handshake.specs.Effects.{value_edits}
+use Rattle.handshake.specs.Plans.{HasReadDocument, IsPlanOf, edits_values_alone, of_values}
+use Rattle.handshake.specs.Refusals.{early_refusal, late_refusal}
+use Rattle.handshake.specs.Tellings.{destroyed_by, resolved_by, resolves_all, target_of}
+use Rattle.handshake.proofs.PlanLemmas.{planned}
+
+turned : (b : Bool) → not b ≡ true → b ≡ false
+turned true h = absurd (false≢true h)
+turned false h = refl
+
+-- it loads nothing, destroys nothing, and resolves nothing
+record IsPlain (r : Reading) (c : Change) : Type 0 where
+  one : resolves_all c ≡ false
+  read : HasReadDocument r.metamodel c
+  whose : None ≡ destroyed_by c
+  found : None ≡ target_of r c
+  resolved : None ≡ resolved_by r c
+
+is-plain : (r : Reading) (c : Change) → edits_values_alone r.metamodel c ≡ true → IsPlain r c
+is-plain r (Create k) h = record { one = refl; read = tt; whose = refl; found = refl; resolved = refl }
+is-plain r (Set n f v) h = record { one = refl; read = tt; whose = refl; found = refl; resolved = refl }
+is-plain r (Unset n f) h = record { one = refl; read = tt; whose = refl; found = refl; resolved = refl }
+is-plain r (Add n f v i) h = record { one = refl; read = tt; whose = refl; found = refl; resolved = refl }
+is-plain r (Remove n f i) h = record { one = refl; read = tt; whose = refl; found = refl; resolved = refl }
+is-plain r (RemoveValue n f v) h = record { one = refl; read = tt; whose = refl; found = refl; resolved = refl }
+is-plain r (Move n f to from) h = record { one = refl; read = tt; whose = refl; found = refl; resolved = refl }
+is-plain r _ h = absurd (false≢true h)
+
+no-links : (r : Reading) (c : Change) → edits_values_alone r.metamodel c ≡ true → [] ≡ link_edits r c
+no-links r (Create k) h = refl
+no-links r (Set n f v) h =
+    let e = at_end n f in
+    sym (ap (λ (b : Bool). let c = b || has_already r e v in map cut_of (if c then [] else cut_by_set r e v) ++ option_to_list (if c then None else new_put r e 0 v)) h)
+no-links r (Unset n f) h = let e = at_end n f in sym (ap (λ (b : Bool). map cut_of (if b then ties_backwards e (r.values e) else []) ++ []) (turned (shape r.metamodel f).is_reference h))
+no-links r (Add n f v i) h =
+    let e = at_end n f in
+    sym (ap (λ (b : Bool). let c = b || is_repeat r e v in map cut_of (if c then [] else cut_by_new r e v) ++ option_to_list (if c then None else new_put r e (place_for r e i) v)) h)
+no-links r (Remove n f i) h = let e = at_end n f in sym (ap (λ (b : Bool). map cut_of (if b then tie_in r e i else []) ++ []) (turned (shape r.metamodel f).is_reference h))
+no-links r (RemoveValue n f v) h =
+    let e = at_end n f in
+    sym (ap (λ (b : Bool). map cut_of (if b then option_map_or (tie_in r e) (first_at r e v) [] else []) ++ []) (turned (shape r.metamodel f).is_reference h))
+no-links r (Move n f to from) h = sym (ap (λ (b : Bool). option_to_list (if b then Some (edit.Shift (at_end n f) to from) else None)) (turned (shape r.metamodel f).is_reference h))
+no-links r _ h = absurd (false≢true h)
+
+pub values-planned : (s : Model) (c : Change) (vs : List ValueEdit) → edits_values_alone s.metamodel c ≡ true → IsLegal s → early_refusal (reading s) c ≡ None → late_refusal (reading s) c ≡ None
+    → vs ≡ value_edits (reading s) c → IsPlanOf false s c (of_values vs)
+values-planned s c vs h legal early late lists =
+    let r = reading s in
+    let plain = is-plain r c h in
+    planned false s c (of_values vs) plain.one legal early late plain.read (record { whose = plain.whose; found = tt }) plain.found plain.resolved (no-links r c h) lists refl
