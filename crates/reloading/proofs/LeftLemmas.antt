@@ -42,7 +42,7 @@ use Rattle.reloading.proofs.PlainLemmas.{reference-of}
 module _ {X : Type 0} (p q : X → Bool) where
   count : (b : Bool) (x : X) (xs : List X) → length (if b then x ∷ xs else xs) ≡ (if b then 1 else 0) + length xs
   count true x xs = refl
-  count false x xs = refl
+  count false x xs = omega arith
 
   pass-alike : (xs : List X) → ((j : ℕ) (x : X) → slice_get xs j ≡ Some x → p x ≡ q x) → length (filter p xs) ≡ length (filter q xs)
   pass-alike [] same = refl

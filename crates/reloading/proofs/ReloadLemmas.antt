@@ -1,19 +1,22 @@
 -- Resolves, one after another, until no proxy is left: none is refused, there are such ones, and what comes to stand is alike.
-use Rattle.std.proofs.Common.{◌≡◌, ◌∙◌, ℕ, zero, suc, ◌+◌, ◌<◌, Bool, true, false, List, [], ◌∷◌, is_some, length, slice_get, if◌then◌else◌, arith, refl}
-use Rattle.std.specs.List.{AllByRecursion}
+use Rattle.std.proofs.Common.{◌≡◌, ◌∙◌, ℕ, zero, suc, ◌+◌, ◌<◌, Bool, true, false, List, [], ◌∷◌, Option, Some, None, is_some, length, map, slice_get, if◌then◌else◌, arith, refl, sym}
+use Rattle.std.specs.List.{range_with_len}
+use Rattle.std.proofs.lemmas.Option.{none-some}
 use Rattle.mm_types.specs.Shapes.{shape}
 use Rattle.mm_types.specs.declared.numbers.Node.TheVariants as node
+use Rattle.mm_types.specs.declared.numbers.ObjectNo.{ObjectNo}
 use Rattle.mm_values.specs.Values.{ValuesState}
 use Rattle.links.specs.Links.{Links}
 use Rattle.models.specs.Legal.{IsLegal}
 use Rattle.models.specs.Model.{Model, model_of, reading, values_at}
-use Rattle.models.specs.Reading.{Reading, at_end}
+use Rattle.models.specs.Reading.{Reading, all_features_of, at_end}
+use Rattle.loading.proofs.SoundLemmas.{flat_map-at}
+use Rattle.round_trip.proofs.ValuesListLemmas.{passes-kept, stands}
 use Rattle.handshake.specs.Effects.{after}
-use Rattle.handshake.specs.Proxies.{is_proxy_place, places}
+use Rattle.handshake.specs.Proxies.{is_proxy_place, place, places, places_of, places_under}
 use Rattle.handshake.specs.declared.change.Change.{Change}
 use Rattle.handshake.specs.declared.change.Change.TheVariants.{Resolve}
 use Rattle.handshake.specs.declared.place.Place.{Place}
-use Rattle.handshake.proofs.UnderwayLemmas.{all-proxies}
 use Rattle.reloading.specs.Alike.{Alike}
 use Rattle.reloading.specs.Between.{Between}
 use Rattle.reloading.specs.Orders.{AreAllowed, after_all}
@@ -27,11 +30,20 @@ use Rattle.reloading.proofs.ResolveLemmas.{resolves-between, text-at}
 ---------------------------------------------------------------- a proxy that is left
 
 pub some-proxy : (r : Reading) → 0 < proxies_len r → (p : Place) × (is_proxy_place r p ≡ true)
-some-proxy r more = by (places r) (all-proxies r) more
+some-proxy r more = by (slice_get (places r) 0) refl
   where
-    by : (ps : List Place) → AllByRecursion (λ (p : Place). is_proxy_place r p ≡ true) ps → 0 < length ps → (p : Place) × (is_proxy_place r p ≡ true)
-    by [] all none = absurd (omega (arith, none))
-    by (p ∷ ps) all some = (p, all.0)
+    first : (ps : List Place) → 0 < length ps → slice_get ps 0 ≡ None → ⊥
+    first [] low none = omega (arith, low)
+    first (p ∷ ps) low none = none-some p (sym none)
+
+    by : (q : Option Place) → slice_get (places r) 0 ≡ q → (p : Place) × (is_proxy_place r p ≡ true)
+    by None none = absurd (first (places r) more none)
+    by (Some p) at =
+        let a = flat_map-at (λ n. places_of r (record { 0 = n })) (range_with_len 0 r.next) 0 p at in
+        let o : ObjectNo = record { 0 = a.1 } in
+        let b = flat_map-at (places_under r o) (all_features_of r (node.Object o)) a.2 p a.4 in
+        let slots = map (place o b.1) (range_with_len 0 (length (r.values (at_end (node.Object o) b.1)))) in
+        (p, passes-kept (is_proxy_place r) slots p (stands (places_under r o b.1) b.2 p b.4))
 
 ---------------------------------------------------------------- resolves
 
@@ -76,5 +88,5 @@ module _ (s : Model) (legal : IsLegal s) (none : HasNoProxy (reading s)) where
 
       by-count : (k : ℕ) (w : ValuesState) (b : Links) → IsLegal (model_of s.metamodel w b) → proxies_len (reading (model_of s.metamodel w b)) ≡ k → (0 < proxies_len (reading (model_of s.metamodel w b)) → (cs : List Change) × AreResolves (model_of s.metamodel w b) cs)
           → (cs : List Change) × AreResolves (model_of s.metamodel w b) cs
-      by-count zero w b other is more = ([], none-proxies_len (model_of s.metamodel w b) other is)
+      by-count zero w b other is more = ([], none-left (model_of s.metamodel w b) other is)
       by-count (suc k) w b other is more = more (omega (arith, is))
