@@ -39,16 +39,19 @@ use Rattle.reloading.proofs.PlainLemmas.{reference-of}
 
 ---------------------------------------------------------------- what passes a test
 
+abbrev as_one : Bool → ℕ
+as_one b = if b then 1 else 0
+
 module _ {X : Type 0} (p q : X → Bool) where
-  count : (b : Bool) (x : X) (xs : List X) → length (if b then x ∷ xs else xs) ≡ (if b then 1 else 0) + length xs
-  count true x xs = refl
+  count : (b : Bool) (x : X) (xs : List X) → length (if b then x ∷ xs else xs) ≡ as_one b + length xs
+  count true x xs = omega arith
   count false x xs = omega arith
 
   pass-alike : (xs : List X) → ((j : ℕ) (x : X) → slice_get xs j ≡ Some x → p x ≡ q x) → length (filter p xs) ≡ length (filter q xs)
   pass-alike [] same = refl
   pass-alike (x ∷ xs) same =
       let rest = pass-alike xs (λ j y at. same (suc j) y at) in
-      count (p x) x (filter p xs) ∙ (λ i. (if same 0 x refl i then 1 else 0) + rest i) ∙ sym (count (q x) x (filter q xs))
+      count (p x) x (filter p xs) ∙ (λ i. as_one (same 0 x refl i) + rest i) ∙ sym (count (q x) x (filter q xs))
 
   -- where one element passes no more, and each other as before
   one-passes-less : (xs : List X) (i : ℕ) (a : X) → slice_get xs i ≡ Some a → p a ≡ true → q a ≡ false → ((j : ℕ) (x : X) → slice_get xs j ≡ Some x → (j ≡ i → ⊥) → p x ≡ q x)
@@ -57,12 +60,12 @@ module _ {X : Type 0} (p q : X → Bool) where
   one-passes-less (x ∷ xs) zero a at before now same =
       let is = same_Some x a at in
       let rest = pass-alike xs (λ j y there. same (suc j) y there (λ e. omega (arith, e))) in
-      let one = count (p x) x (filter p xs) ∙ ap (λ (b : Bool). (if b then 1 else 0) + length (filter p xs)) (ap p is ∙ before) in
-      let two = count (q x) x (filter q xs) ∙ ap (λ (b : Bool). (if b then 1 else 0) + length (filter q xs)) (ap q is ∙ now) in
+      let one = count (p x) x (filter p xs) ∙ ap (λ (b : Bool). as_one b + length (filter p xs)) (ap p is ∙ before) in
+      let two = count (q x) x (filter q xs) ∙ ap (λ (b : Bool). as_one b + length (filter q xs)) (ap q is ∙ now) in
       omega (arith, rest, one, two)
   one-passes-less (x ∷ xs) (suc i) a at before now same =
       let rest = one-passes-less xs i a at before now (λ j y there other. same (suc j) y there (λ e. other (let f : j ≡ i = omega (arith, e) in f))) in
-      let here = ap (λ (b : Bool). if b then 1 else 0) (same 0 x refl (λ e. omega (arith, e))) in
+      let here = ap as_one (same 0 x refl (λ e. omega (arith, e))) in
       let one = count (p x) x (filter p xs) in
       let two = count (q x) x (filter q xs) in
       omega (arith, rest, here, one, two)
