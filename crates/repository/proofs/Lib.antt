@@ -7,6 +7,7 @@ pub mod LeavingLemmas
 pub mod LiveLemmas
 pub mod LoadLemmas
 pub mod PlanLemmas
+pub mod ValueLemmas
 pub mod LegalLemmas
 pub mod ResourceLemmas
 pub mod DocumentLemmas

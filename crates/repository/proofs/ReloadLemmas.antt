@@ -1,6 +1,7 @@
 -- The commands of a reload, one after another.
-use Rattle.std.proofs.Common.{◌≡◌, ◌∙◌, ℕ, true, List, [], ◌∷◌, ◌++◌, Option, is_some, slice_get, unwrap_or, if◌then◌else◌, arith, refl, sym, ap, subst, ◌+◌}
+use Rattle.std.proofs.Common.{◌≡◌, ◌∙◌, ℕ, true, List, [], ◌∷◌, ◌++◌, Option, is_some, slice_get, unwrap_or, if◌then◌else◌, arith, rules, refl, sym, ap, subst, ◌+◌}
 use Rattle.std.specs.Prelude.{Ok}
+use Rattle.std.specs.List.{IsDistinct}
 use Rattle.std.proofs.lemmas.List.Elements.{All-contains}
 use Rattle.mm_types.specs.Shapes.{shape}
 use Rattle.mm_types.specs.declared.numbers.FeatureNo.{FeatureNo}
@@ -173,41 +174,42 @@ all-at-once s w b legal other none between =
 
 -- a state without adapters is as legal as its model
 bare-legal : (t : Model) → IsLegal t → legal_state.IsLegal (bare t)
-bare-legal t legal = record { model = legal; few = omega arith; distinct = no-numbers; adapters = none-listed }
+unfolding IsDistinct
+bare-legal t legal = record { model = legal; few = omega arith; distinct = tt; adapters = search rules }
 
 module _ (state : State) (legal : legal_state.IsLegal state) (steady : HasSteadyTexts state.model) (saved : IsSaved (reads state)) (texts : ResourceNo → List ℕ) (are : AreTexts (reads state) texts)
     (ts : List Task) (order : IsOrder (reads state) [] [] ts) where
   abbrev s : Model
   s = state.model
 
-  abbrev t : Model
-  t = models.reloaded s ts
+  abbrev loaded : Model
+  loaded = models.reloaded s ts
 
-  abbrev u : Model
-  u = model_of s.metamodel t.values t.links
+  abbrev over : Model
+  over = model_of s.metamodel loaded.values loaded.links
 
-  same : t ≡ u
-  same = λ i. record { metamodel = same-metamodel (empty_model s.metamodel) (changes (reading s) [] ts) i; values = t.values; links = t.links }
+  same : loaded ≡ over
+  same = λ i. record { metamodel = same-metamodel (empty_model s.metamodel) (changes (reading s) [] ts) i; values = loaded.values; links = loaded.links }
 
   l : orders.AreLoads s ts
   l = loads-give-between s legal.model steady saved ts order
 
-  other : IsLegal u
+  other : IsLegal over
   other = subst IsLegal same l.legal
 
-  between : Between (reading s) (reading u)
+  between : Between (reading s) (reading over)
   between = subst (λ (x : Model). Between (reading s) (reading x)) same l.between
 
-  ran : IsRunOf (empty_model s.metamodel) (commands (reading s) texts [] ts) t
+  ran : IsRunOf (empty_model s.metamodel) (commands (reading s) texts [] ts) loaded
   ran = all-made s legal.model steady saved texts are ts (record { objects = []; uris = [] }) no_links [] [] (at-first s legal.model steady saved) order
 
-  now : reloaded state texts ts ≡ bare u
+  now : reloaded state texts ts ≡ bare over
   now = ran.after_them ∙ ap bare same
 
   loads : AreLoads state texts ts
   loads = record {
     done = ran.done;
-    legal = subst legal_state.IsLegal (sym now) (bare-legal u other);
+    legal = subst legal_state.IsLegal (sym now) (bare-legal over other);
     between = subst (λ (y : State). Between (reading s) (reads y)) (sym now) between;
   }
 
@@ -216,10 +218,10 @@ module _ (state : State) (legal : legal_state.IsLegal state) (steady : HasSteady
       let some = (reloads_of.reloads s legal.model steady saved ts order).some in
       record {
         loads = ran.done;
-        all = subst (λ (y : State). IsAllResolved (reading s) y) (sym now) (all-at-once state t.values t.links legal (bare-legal u other) saved.resolved between);
-        some = subst (λ (y : State). (rs : List (Command View)) × AreResolves y rs) (sym now) (as-commands s legal.model saved.resolved some.0 t.values t.links other between (subst (λ (x : Model). models.AreResolves x some.0) same some.1));
+        all = subst (λ (y : State). IsAllResolved (reading s) y) (sym now) (all-at-once state loaded.values loaded.links legal (bare-legal over other) saved.resolved between);
+        some = subst (λ (y : State). (rs : List (Command View)) × AreResolves y rs) (sym now) (as-commands s legal.model saved.resolved some.0 loaded.values loaded.links other between (subst (λ (x : Model). models.AreResolves x some.0) same some.1));
         had = λ rs resolves.
-            (let x = subst (λ (y : State). AreDone s legal.model saved.resolved y rs) (sym now) (all-resolved s legal.model saved.resolved rs t.values t.links other between (subst (λ (y : State). AreResolves y rs) now resolves)) in
+            (let x = subst (λ (y : State). AreDone s legal.model saved.resolved y rs) (sym now) (all-resolved s legal.model saved.resolved rs loaded.values loaded.links other between (subst (λ (y : State). AreResolves y rs) now resolves)) in
             record { resolves = x.done; alike = x.alike });
       }
 

@@ -1,12 +1,12 @@
 //! What is made ready for a change before anything changes.
-ghost use Rattle.std.specs.Prelude.{◌≡◌, ℕ, List, false, None, length, nat_lt, IfOk, IfErr, IfSome, OnOk};
+ghost use Rattle.std.specs.Prelude.{◌≡◌, ℕ, List, false, None, length, nat_lt, true, IfOk, IfErr, IfSome, OnOk};
 ghost use Rattle.mm_types.specs.Ends.{value_in};
 ghost use Rattle.mm_values.specs.Room as values_room;
 ghost use Rattle.notice_chain.specs.Listed.{Listed};
 ghost use Rattle.links.specs.Holders.{HasNoCycle, above};
 ghost use Rattle.links.specs.LegalSets.{IsLegalSet, Kinds};
 ghost use Rattle.models.specs.Model.{reading};
-ghost use Rattle.handshake.specs.Plans.{IsPlanOf};
+ghost use Rattle.handshake.specs.Plans.{IsPlanOf, edits_values_alone, of_values};
 ghost use Rattle.handshake.specs.Refusals.{early_refusal as early_refusal_of};
 ghost use Rattle.adapter_list.specs.Hearing.{AreKnown};
 ghost use Rattle.adapter_list.specs.Refusals.{IsChainRefusal};
@@ -23,10 +23,10 @@ use crate::leaving::{Leaving, room_for, spots_gone};
 use crate::reply::Answer;
 use adapter_list::{AdapterList, Hearers, Round};
 use adapters::Adapter;
-use handshake::{Change, Planned, Resolved, Target, plan};
+use handshake::{Change, Planned, Resolved, Target, plan, plan_values};
 use links::LinkStore;
 use mm_types::{AdapterNo, End, FeatureNo, Node, ObjectNo, Refused, ResourceNo};
-use mm_values::Values;
+use mm_values::{ValuePlan, Values};
 use models::{ModelRef, at_end, copied};
 use removal::Removal;
 use std::alloc::{AllocError, Global};
@@ -66,6 +66,25 @@ pub(crate) fn prepare<L: LinkStore, A: Adapter>(
         spots,
         planned,
     })
+}
+
+/// Prepares a change that edits values alone, of which nobody hears: what it answers, and its edits; or gives the refusal that planning finds.
+pub(crate) fn prepare_values<L: LinkStore>(
+    alloc: Global,
+    model: &ModelRef<L>,
+    change: Change,
+) -> Result<(Answer, ValuePlan), Refused>
+    requires asked { early_refusal_of (reading model.now) change ≡ None }
+    requires proper { (text : List ℕ) × IsProper (reading model.now) text change }
+    requires values { edits_values_alone model.now.metamodel change ≡ true }
+    ensures answer { IfOk result (λ p. (rs : List Listed) (text : List ℕ) → IsProper (reading model.now) text change → p.0 ≡ answer_of (reading model.now) rs (command_of text change)) }
+    ensures planned { IfOk result (λ p. IsPlanOf false model.now change (of_values p.1)) }
+    ensures refused { IfErr result (λ r. IsPlanRefusal model.now change r) }
+{
+    model.is_legal();
+    let answer = early_answer(alloc, model, &change)?;
+    let values = plan_values(alloc, model, change)?;
+    Ok((answer.unwrap_or(Answer::Done), values))
 }
 
 /// Takes all memory that a plan needs, all places that the adapters need, and room for what is told of the targets that go. Nothing

@@ -1,5 +1,6 @@
 //! Changes of objects, their values and their links.
-ghost use Rattle.std.specs.Prelude.{◌≡◌, ℕ, List, [], None};
+ghost use Rattle.std.specs.Prelude.{◌≡◌, ℕ, List, [], None, true};
+ghost use Rattle.handshake.specs.Plans.{edits_values_alone};
 ghost use Rattle.handshake.specs.Refusals.{early_refusal as early_refusal_of};
 ghost use Rattle.repository.specs.Run.{Executed, change_outcome};
 ghost use Rattle.repository.specs.State.{reads};
@@ -9,7 +10,7 @@ ghost use Rattle.repository.specs.Proper.{IsProper};
 
 use super::Repository;
 use crate::leaving::notify;
-use crate::preparing::{Prepared, prepare, reserve};
+use crate::preparing::{Prepared, prepare, prepare_values, reserve};
 use crate::remembered::forget_touched;
 use crate::reply::Reply;
 use adapters::Adapter;
@@ -83,7 +84,35 @@ impl<L: LinkStore, A: Adapter> Repository<L, A> {
         if let Some(refused) = early_refusal(&self.model(), &change) {
             return Err(refused);
         }
+        if self.adapters.len() == 0 && change.edits_values_alone(&self.meta) {
+            return self.change_values(change);
+        }
         self.carry_out(change)
+    }
+
+    // A change that edits values alone, where no adapter is attached. The steps of `carry_out` that are left: no link is edited, nothing is
+    // reserved for adapters, and nobody is notified. Attributes are what most commands change, and this takes half the time.
+    fn change_values(&mut self, change: Change) -> Result<Reply<A>, Refused>
+        requires proper { IsProper (reads self.old) [] change }
+        requires asked { early_refusal_of (reads self.old) change ≡ None }
+        requires values { edits_values_alone self.old.model.metamodel change ≡ true }
+        requires unheard { self.old.adapters ≡ [] }
+        ensures { Executed self.old (command_of [] change) (change_outcome (changed_view A.heard result)) self.new }
+    {
+        let model = self.model();
+        let (answer, values) = match prepare_values(self.alloc, &model, change) {
+            Ok(prepared) => prepared,
+            Err(refused) => return Err(refused),
+        };
+        if self.values.reserve_for(&values).is_err() {
+            return Err(Refused::Memory);
+        }
+        self.values.apply(values);
+        Ok(Reply {
+            answer,
+            told: Seq::new(self.alloc),
+            released: Seq::new(self.alloc),
+        })
     }
 
     // Every change goes these steps; after the second nothing can fail. A change that loads a document is done as `load` of each text that

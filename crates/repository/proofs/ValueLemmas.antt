@@ -1,0 +1,53 @@
+-- A change that edits values alone, where no adapter is attached: nothing is told, and nothing goes.
+use Rattle.std.proofs.Common.{◌≡◌, ◌∙◌, true, ℕ, nat_lt, List, [], length, Option, None, if◌then◌else◌, refl, sym, ap, subst}
+use Rattle.std.specs.Prelude.{Ok, unwrap_or}
+use Rattle.std.proofs.lemmas.Bool.{false≢true}
+use Rattle.mm_types.specs.declared.numbers.AdapterNo.{AdapterNo}
+use Rattle.models.specs.Reading.{Reading}
+use Rattle.notice_chain.specs.Listed.{Listed, tell_chain}
+use Rattle.notice_chain.specs.Released.{Released, Spot, released}
+use Rattle.notice_chain.specs.View.{View}
+use Rattle.notice_chain.specs.declared.notice.Notice.{Notice}
+use Rattle.handshake.specs.Effects.{after}
+use Rattle.handshake.specs.Plans.{edits_values_alone}
+use Rattle.handshake.specs.Refusals.{early_refusal, late_refusal}
+use Rattle.handshake.specs.Tellings.{chain}
+use Rattle.handshake.specs.declared.change.Change.{Change}
+use Rattle.handshake.specs.declared.change.Change.TheVariants.{Create, Set, Unset, Add, Remove, RemoveValue, Move, Delete}
+use Rattle.repository.specs.Answers.{IsEarlyAnswer, answer_of, is_answered_late}
+use Rattle.repository.specs.Leaving.{going_with}
+use Rattle.repository.specs.Proper.{IsProper}
+use Rattle.repository.specs.State.{State, reads}
+use Rattle.repository.specs.Step.{step}
+use Rattle.repository.specs.Views.{command_of}
+use Rattle.repository.specs.declared.reply.Answer.{Answer}
+use Rattle.repository.proofs.AdapterLemmas.{heard_where_attached, is_chain_full-nil, tell_chain-nil}
+use Rattle.repository.proofs.PlanLemmas.{changed_to}
+
+-- it is answered before it is planned
+pub early-whole : (r : Reading) (rs : List Listed) (text : List ℕ) (c : Change) (q : Option Answer) (d : Answer) → edits_values_alone r.metamodel c ≡ true
+    → IsEarlyAnswer (is_answered_late c) (answer_of r rs (command_of text c)) q → unwrap_or q d ≡ answer_of r rs (command_of text c)
+early-whole r rs text (Create k) q d h is = ap (λ (x : Option Answer). unwrap_or x d) is
+early-whole r rs text (Set n f v) q d h is = ap (λ (x : Option Answer). unwrap_or x d) is
+early-whole r rs text (Unset n f) q d h is = ap (λ (x : Option Answer). unwrap_or x d) is
+early-whole r rs text (Add n f v i) q d h is = ap (λ (x : Option Answer). unwrap_or x d) is
+early-whole r rs text (Remove n f i) q d h is = ap (λ (x : Option Answer). unwrap_or x d) is
+early-whole r rs text (RemoveValue n f v) q d h is = ap (λ (x : Option Answer). unwrap_or x d) is
+early-whole r rs text (Move n f to from) q d h is = ap (λ (x : Option Answer). unwrap_or x d) is
+early-whole r rs text _ q d h is = absurd (false≢true h)
+
+-- no adapter, no target that goes
+none-goes : (r : Reading) (c : Change) → going_with r [] c ≡ []
+none-goes r (Delete o) = refl
+none-goes r _ = refl
+
+-- what it gives, for a reply and a state that are known by their parts
+pub changed-unheard : (s t : State) (text : List ℕ) (c : Change) (a : Answer) (told : List (AdapterNo × Notice)) (views : List (AdapterNo × View)) → s.adapters ≡ [] → told ≡ [] → views ≡ [] → IsProper (reads s) text c → early_refusal (reads s) c ≡ None → late_refusal (reads s) c ≡ None
+    → a ≡ answer_of (reads s) s.adapters (command_of text c) → t.model ≡ after s.model c → t.adapters ≡ s.adapters → step s (command_of text c) ≡ record { outcome = Ok (record { answer = a; told = told; released = views }); after = t }
+changed-unheard s t text c a told views none told_is views_are proper early late answered model adapters =
+    let up = (reads s).above in
+    let heard = heard_where_attached up [] (chain (reads s) c) s.adapters (sym (ap (λ (rs : List Listed). if nat_lt 0 (length rs) then chain (reads s) c else []) none)) in
+    let goes : going_with (reads s) s.adapters c ≡ [] = subst (λ (rs : List Listed). going_with (reads s) rs c ≡ []) (sym none) (none-goes (reads s) c) in
+    let gives : List Spot → Released = λ ss. released ss (tell_chain up [] s.adapters) in
+    changed_to s t text c [] a told views proper early late heard (is_chain_full-nil up s.adapters) answered (told_is ∙ sym (ap (λ (ss : List Spot). (gives ss).told) goes)) (views_are ∙ sym (ap (λ (ss : List Spot). (gives ss).views) goes)) model
+    (adapters ∙ sym (tell_chain-nil up s.adapters) ∙ sym (ap (λ (ss : List Spot). (gives ss).others) goes))
