@@ -1,5 +1,6 @@
 //! What is wrong with the bounds and the default of a feature.
 use crate::named::{Named, enum_named, name_at};
+use crate::shown::{SHOWN_BYTES, front_of};
 use mm_types::{Place, RawFeature, RawKind, RawMeta};
 use std::alloc::AllocError;
 
@@ -70,7 +71,7 @@ pub(crate) fn explain_default(
             "{at}: it is many-valued, and begins empty; leave its default out"
         );
     }
-    let literal = literal.as_str();
+    let literal = front_of(literal.as_str(), SHOWN_BYTES);
     let type_name = feature.type_name.as_str();
     let wanted = literals_of(at.raw, type_name);
     writeln!(

@@ -54,22 +54,36 @@ fn clash_in(
     Ok(None)
 }
 
+/// Two features that have one name; those that one class declares are told by their positions.
+fn explain_pair(
+    out: &mut String,
+    at: Named<'_>,
+    first: Place,
+    second: Place,
+) -> Result<(), AllocError> {
+    let raw = at.raw;
+    let one = Named { raw, place: first };
+    let other = Named { raw, place: second };
+    match (first, second) {
+        (Place::Feature(c, i), Place::Feature(d, j)) if c == d => writeln!(
+            out,
+            "{at}: it has two features of one name: {one}, at features[{i}] and features[{j}]"
+        ),
+        _ => writeln!(
+            out,
+            "{at}: it has two features of one name: {one}, and {other}"
+        ),
+    }
+}
+
 fn explain_places(
     alloc: Global,
     out: &mut String,
     at: Named<'_>,
     places: &[Place],
 ) -> Result<(), AllocError> {
-    let raw = at.raw;
-    match clash_in(alloc, raw, places)? {
-        Some((first, second)) => {
-            let first = Named { raw, place: first };
-            let second = Named { raw, place: second };
-            writeln!(
-                out,
-                "{at}: it has two features of one name: {first}, and {second}"
-            )
-        }
+    match clash_in(alloc, at.raw, places)? {
+        Some((first, second)) => explain_pair(out, at, first, second),
         None => Ok(()),
     }
 }

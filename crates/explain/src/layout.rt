@@ -2,7 +2,7 @@
 //! written in another way.
 use crate::near::{is_among, nearest};
 use crate::rows::{
-    ATTRIBUTE, CLASS, DOCUMENT, ENUMERATION, FEATURE, MISPLACED, REFERENCE, Row, advice_in,
+    ATTRIBUTE, CLASS, DOCUMENT, ENUMERATION, FEATURE, Hint, MISPLACED, REFERENCE, Row, advice_in,
 };
 use crate::shown::Shown;
 use crate::values::explain_value;
@@ -26,9 +26,10 @@ fn explain_unknown(
     out: &mut String,
     place: &str,
     keys: &[&str],
+    hints: &[Hint],
     key: &str,
 ) -> Result<(), AllocError> {
-    if let Some(advice) = advice_in(&MISPLACED, key) {
+    if let Some(advice) = advice_in(hints, key) {
         return writeln!(out, "{place}: unknown key {key:?}; {advice}");
     }
     match nearest(alloc, key, keys)? {
@@ -43,11 +44,12 @@ fn explain_keys(
     out: &mut String,
     place: &str,
     keys: &[&str],
+    hints: &[Hint],
     members: &Map<String, Value>,
 ) -> Result<(), AllocError> {
     'keys: for key in members.keys() {
         if !is_among(keys, key.as_str()) {
-            explain_unknown(alloc, out, place, keys, key.as_str())?;
+            explain_unknown(alloc, out, place, keys, hints, key.as_str())?;
         }
     }
     Ok(())
@@ -78,13 +80,13 @@ fn explain_rows(
     Ok(())
 }
 
-/// Adds a line for each key of an object that is unknown or absent, and for each value that is written in another way than
-/// its row says. Where the text has more than 4,096 bytes already nothing is added. Errs only where memory is refused.
-pub fn explain_object(
+/// Adds a line for each fault of an object, with what is said of keys that are not listed.
+fn explain_listed(
     alloc: Global,
     out: &mut String,
     place: &str,
     rows: &[Row],
+    hints: &[Hint],
     json: &Value,
 ) -> Result<(), AllocError> {
     if out.len() > ENOUGH {
@@ -94,7 +96,7 @@ pub fn explain_object(
         Some(members) => {
             explain_rows(out, place, rows, members)?;
             let keys = listed(alloc, rows)?;
-            explain_keys(alloc, out, place, keys.as_slice(), members)
+            explain_keys(alloc, out, place, keys.as_slice(), hints, members)
         }
         None => writeln!(
             out,
@@ -102,6 +104,30 @@ pub fn explain_object(
             Shown(json)
         ),
     }
+}
+
+/// Adds a line for each key of an object that is unknown or absent, and for each value that is written in another way than
+/// its row says. The text is of one document: where it has more than 4,096 bytes already nothing is added. Errs only where
+/// memory is refused.
+pub fn explain_object(
+    alloc: Global,
+    out: &mut String,
+    place: &str,
+    rows: &[Row],
+    json: &Value,
+) -> Result<(), AllocError> {
+    explain_listed(alloc, out, place, rows, &[], json)
+}
+
+/// The same of an object of a metamodel, for which there are hints on keys that are not listed.
+fn explain_hinted(
+    alloc: Global,
+    out: &mut String,
+    place: &str,
+    rows: &[Row],
+    json: &Value,
+) -> Result<(), AllocError> {
+    explain_listed(alloc, out, place, rows, &MISPLACED, json)
 }
 
 /// The items of an array that stands under a key; none where there is no such array.
@@ -130,7 +156,10 @@ fn explain_attribute(
     place: &str,
     json: &Value,
 ) -> Result<(), AllocError> {
-    explain_object(alloc, out, place, &ATTRIBUTE, json)?;
+    if out.len() > ENOUGH {
+        return Ok(());
+    }
+    explain_hinted(alloc, out, place, &ATTRIBUTE, json)?;
     if unsets_many(json) {
         return writeln!(
             out,
@@ -151,9 +180,9 @@ fn explain_feature(
             explain_attribute(alloc, out, place, json)
         }
         Some(Value::String(kind)) if kind.as_str() == "reference" => {
-            explain_object(alloc, out, place, &REFERENCE, json)
+            explain_hinted(alloc, out, place, &REFERENCE, json)
         }
-        _ => explain_object(alloc, out, place, &FEATURE, json),
+        _ => explain_hinted(alloc, out, place, &FEATURE, json),
     }
 }
 
@@ -173,7 +202,7 @@ fn explain_features(
 fn explain_classes(alloc: Global, out: &mut String, classes: &[Value]) -> Result<(), AllocError> {
     'classes: for (c, json) in classes.iter().enumerate() {
         let place = format!(in alloc; "classes[{c}]")?;
-        explain_object(alloc, out, place.as_str(), &CLASS, json)?;
+        explain_hinted(alloc, out, place.as_str(), &CLASS, json)?;
         explain_features(alloc, out, c, items_at(json, "features"))?;
     }
     Ok(())
@@ -182,7 +211,7 @@ fn explain_classes(alloc: Global, out: &mut String, classes: &[Value]) -> Result
 fn explain_enums(alloc: Global, out: &mut String, enums: &[Value]) -> Result<(), AllocError> {
     'enums: for (i, json) in enums.iter().enumerate() {
         let place = format!(in alloc; "enums[{i}]")?;
-        explain_object(alloc, out, place.as_str(), &ENUMERATION, json)?;
+        explain_hinted(alloc, out, place.as_str(), &ENUMERATION, json)?;
     }
     Ok(())
 }
@@ -193,7 +222,7 @@ pub(crate) fn explain_layout(
     out: &mut String,
     json: &Value,
 ) -> Result<(), AllocError> {
-    explain_object(alloc, out, "document", &DOCUMENT, json)?;
+    explain_hinted(alloc, out, "document", &DOCUMENT, json)?;
     explain_enums(alloc, out, items_at(json, "enums"))?;
     explain_classes(alloc, out, items_at(json, "classes"))
 }

@@ -22,4 +22,4 @@ pub use layout::explain_object;
 pub use metamodel::explain_meta;
 pub use near::nearest;
 pub use rows::{Row, Sort};
-pub use shown::Shown;
+pub use shown::{Shown, front_of};

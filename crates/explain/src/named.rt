@@ -9,14 +9,31 @@ pub(crate) struct Named<'m> {
     pub(crate) place: Place,
 }
 
+/// A name as it is written in a text, without the quotation marks.
+#[derive(Drop)]
+struct Bare<'m>(&'m str);
+
+impl fmt::Display for Bare<'_> {
+    fn fmt<W: fmt::Write>(&self, f: &mut fmt::Formatter<W>) -> fmt::Result {
+        'characters: for character in self.0.chars() {
+            if character == '\'' {
+                write!(f, "{character}")?;
+            } else {
+                write!(f, "{}", character.escape_debug())?;
+            }
+        }
+        Ok(())
+    }
+}
+
 impl fmt::Display for Named<'_> {
     fn fmt<W: fmt::Write>(&self, f: &mut fmt::Formatter<W>) -> fmt::Result {
-        let name = name_at(self.raw, self.place);
+        let name = Bare(name_at(self.raw, self.place));
         match self.place {
             Place::Enum(_) => write!(f, "enumeration {name}"),
             Place::Class(_) => write!(f, "class {name}"),
             Place::Feature(c, _) => {
-                let class = name_at(self.raw, Place::Class(c));
+                let class = Bare(name_at(self.raw, Place::Class(c)));
                 write!(f, "class {class}, feature {name}")
             }
         }

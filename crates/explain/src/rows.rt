@@ -156,8 +156,11 @@ const OPPOSITE: Row = Row {
     is_required: false,
 };
 
+/// A word, and what is said of it.
+pub(crate) type Hint = (&'static str, &'static str);
+
 /// What is said of a key that stands where it is not listed: those of Ecore and of similar formats, and those of another object.
-pub(crate) const MISPLACED: [(&str, &str); 30] = [
+pub(crate) const MISPLACED: [Hint; 30] = [
     ("upperBound", "a feature has \"upper\""),
     ("lowerBound", "a feature has \"lower\""),
     (
@@ -203,7 +206,7 @@ pub(crate) const MISPLACED: [(&str, &str); 30] = [
 ];
 
 /// What is said beside of the value of a key that is written in another way.
-pub(crate) const ADVICE: [(&str, &str); 3] = [
+pub(crate) const ADVICE: [Hint; 3] = [
     ("upper", "; -1 stands for any number"),
     (
         "default",
@@ -216,10 +219,7 @@ pub(crate) const ADVICE: [(&str, &str); 3] = [
 ];
 
 /// What a table says of a word.
-pub(crate) fn advice_in(
-    table: &[(&'static str, &'static str)],
-    word: &str,
-) -> Option<&'static str> {
+pub(crate) fn advice_in(table: &[Hint], word: &str) -> Option<&'static str> {
     'rows: for row in table {
         if row.0 == word {
             return Some(row.1);

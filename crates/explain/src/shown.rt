@@ -2,17 +2,28 @@
 use serde_json::Value;
 use std::fmt;
 
-/// How many bytes of a text are shown.
-const SHOWN_BYTES: usize = 60;
+/// How many bytes of a text are shown at most.
+pub(crate) const SHOWN_BYTES: usize = 60;
+
+/// How many bytes a character has at most.
+const CHARACTER_BYTES: usize = 4;
 
 /// A JSON value as a reader is told of it: a text, a number, `true`, `false` and `null` as they are written, but only the
 /// beginning of a long text.
 #[derive(Drop)]
 pub struct Shown<'v>(pub &'v Value);
 
-/// The beginning of a text.
-fn front_of(text: &str) -> &str {
-    text.get(..SHOWN_BYTES).unwrap_or(text)
+/// The beginning of a text: at most so many bytes, and whole characters.
+pub fn front_of(text: &str, most: usize) -> &str {
+    if text.len() <= most {
+        return text;
+    }
+    'ends: for over in 0..CHARACTER_BYTES {
+        if let Some(front) = text.get(..most.saturating_sub(over)) {
+            return front;
+        }
+    }
+    ""
 }
 
 impl fmt::Display for Shown<'_> {
@@ -20,7 +31,7 @@ impl fmt::Display for Shown<'_> {
         match self.0 {
             Value::Array(_) => write!(f, "an array"),
             Value::Object(_) => write!(f, "an object"),
-            Value::String(text) => write!(f, "{:?}", front_of(text.as_str())),
+            Value::String(text) => write!(f, "{:?}", front_of(text.as_str(), SHOWN_BYTES)),
             other => write!(f, "{other}"),
         }
     }

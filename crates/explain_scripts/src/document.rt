@@ -6,7 +6,7 @@ use crate::repeats::explain_repeats;
 use crate::shape::{
     explain_classes, explain_depth, explain_features, explain_objects, explain_top,
 };
-use explain::Shown;
+use explain::{Shown, front_of};
 use mm_check::check;
 use mm_load::load_meta;
 use mm_meta::Meta;
@@ -14,7 +14,7 @@ use mm_types::DocFault;
 use serde_json::{Error, Value};
 use std::alloc::{AllocError, Global};
 
-/// How many bytes of a document are shown.
+/// How many bytes of a document are shown at most.
 const SHOWN_BYTES: usize = 20;
 
 /// A document that is refused.
@@ -31,8 +31,7 @@ pub(crate) struct Refused<'d> {
 
 /// The beginning of what stands behind some bytes of a text.
 fn shown_at(text: &str, start: usize) -> &str {
-    let rest = text.get(start..).unwrap_or("");
-    rest.get(..SHOWN_BYTES).unwrap_or(rest)
+    front_of(text.get(start..).unwrap_or(""), SHOWN_BYTES)
 }
 
 /// Text that is no JSON.

@@ -2,7 +2,7 @@
 use script_lines::{Line, parse_line};
 use std::alloc::{AllocError, Global};
 
-/// The forms, as `docs/SCRIPT.md` has them.
+/// The forms, as `docs/SCRIPT.md` has them and in its order.
 pub(crate) static FORMS: [&str; 28] = [
     "new NAME",
     "set NODE NAME VALUE",
@@ -28,9 +28,9 @@ pub(crate) static FORMS: [&str; 28] = [
     "at STR",
     "save RES",
     "attach AD NODE flat|deep",
-    "detach AD",
     "watch AD NODE flat|deep",
     "unwatch AD NODE",
+    "detach AD",
     "seen AD",
 ];
 

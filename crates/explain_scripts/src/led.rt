@@ -2,10 +2,10 @@
 use crate::parts::Part;
 use std::alloc::{AllocError, Global};
 use std::collections::BTreeMap;
-use web_uris::{UriFault, joined, parse, split_address};
+use web_uris::{UriFault, address_of, joined, parse, split_address};
 
 /// What the text of a reference leads to.
-#[derive(Clone, Copy)]
+#[derive(Drop)]
 pub(crate) enum Led {
     /// It is no fragment, and no URI with a fragment.
     Bad,
@@ -13,8 +13,8 @@ pub(crate) enum Led {
     Nowhere,
     /// The part of a number.
     Here(usize),
-    /// Another resource.
-    Elsewhere,
+    /// Another resource: the address there, with the whole URI.
+    Elsewhere(String),
 }
 
 /// The numbers of parts by their fragments.
@@ -32,14 +32,20 @@ pub(crate) fn fragments_of<'p>(
     Ok(fragments)
 }
 
-/// What the text before the `#` of an address leads to, where that is no object of the document itself.
-fn led_elsewhere(alloc: Global, uri: &str, part: &str) -> Result<Option<Led>, AllocError> {
+/// What the text before the `#` of an address and the fragment behind it lead to, where that is no object of the document
+/// itself.
+fn led_elsewhere(
+    alloc: Global,
+    uri: &str,
+    part: &str,
+    fragment: &str,
+) -> Result<Option<Led>, AllocError> {
     if part.is_empty() {
         return Ok(None);
     }
     match joined(alloc, uri, part) {
         Ok(meant) if meant.as_str() == uri => Ok(None),
-        Ok(_) => Ok(Some(Led::Elsewhere)),
+        Ok(meant) => Ok(Some(Led::Elsewhere(address_of(alloc, meant.as_str(), fragment)?))),
         Err(UriFault::Bad) => Ok(Some(Led::Bad)),
         Err(UriFault::Memory) => Err(AllocError),
     }
@@ -56,7 +62,7 @@ pub(crate) fn led_by(
     let Some(path) = parse(alloc, fragment)? else {
         return Ok(Led::Bad);
     };
-    if let Some(led) = led_elsewhere(alloc, uri, part)? {
+    if let Some(led) = led_elsewhere(alloc, uri, part, fragment)? {
         return Ok(led);
     }
     let fragment = path.text(alloc, false)?;

@@ -18,6 +18,16 @@ pub(crate) struct Link<'e> {
     pub(crate) led: Led,
 }
 
+impl Link<'_> {
+    /// The number of the part that it leads to, where that is one of the document.
+    fn named(&self) -> Option<usize> {
+        match &self.led {
+            Led::Here(number) => Some(*number),
+            _ => None,
+        }
+    }
+}
+
 /// What the links of a document are found by.
 #[derive(Drop)]
 struct Source<'d, 'p> {
@@ -101,14 +111,14 @@ fn explain_lost(
 ) -> Result<(), AllocError> {
     let at = link.at;
     let text = link.text;
-    let number = match link.led {
-        Led::Elsewhere => return Ok(()),
+    let number = match &link.led {
+        Led::Elsewhere(_) => return Ok(()),
         Led::Bad => return writeln!(
             out,
             "{at}: {text:?} is no fragment and no URI with a fragment"
         ),
         Led::Nowhere => return writeln!(out, "{at}: {text:?} leads to no object of the document"),
-        Led::Here(number) => number,
+        Led::Here(number) => *number,
     };
     match (parts.get(number), target_of(meta, link.feature)) {
         (Some(part), Some(target)) if !conforms_to(meta, target, part.json) => {
@@ -157,7 +167,7 @@ pub(crate) fn explain_crosses(
     links: &[Link<'_>],
 ) -> Result<(), AllocError> {
     'links: for link in links {
-        if matches!(link.led, Led::Elsewhere) && meta.opposite(link.feature).is_some() {
+        if matches!(&link.led, Led::Elsewhere(_)) && meta.opposite(link.feature).is_some() {
             let at = link.at;
             let text = link.text;
             writeln!(
@@ -175,7 +185,7 @@ type Naming = (usize, u32, usize);
 fn namings_of(alloc: Global, links: &[Link<'_>]) -> Result<BTreeSet<Naming>, AllocError> {
     let mut namings = BTreeSet::new(alloc);
     'links: for link in links {
-        if let Led::Here(named) = link.led {
+        if let Some(named) = link.named() {
             namings.insert((link.part, link.feature.0, named))?;
         }
     }
@@ -189,7 +199,7 @@ fn explain_one_sided(
     namings: &BTreeSet<Naming>,
     link: &Link<'_>,
 ) -> Result<(), AllocError> {
-    let (Led::Here(named), Some(opposite)) = (link.led, meta.opposite(link.feature)) else {
+    let (Some(named), Some(opposite)) = (link.named(), meta.opposite(link.feature)) else {
         return Ok(());
     };
     if namings.contains(&(named, opposite.0, link.part)) {

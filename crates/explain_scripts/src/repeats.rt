@@ -48,13 +48,13 @@ fn explain_entry(
 }
 
 /// What a link leads to: the part and the feature that have it, and the number behind that of the part it leads to, or 0 and
-/// its text.
-type Target<'e> = (usize, u32, usize, &'e str);
+/// the address.
+type Target<'l> = (usize, u32, usize, &'l str);
 
-fn target_of<'e>(link: &Link<'e>) -> Option<Target<'e>> {
-    match link.led {
+fn target_of<'l>(link: &'l Link<'_>) -> Option<Target<'l>> {
+    match &link.led {
         Led::Here(named) => Some((link.part, link.feature.0, named.saturating_add(1), "")),
-        Led::Elsewhere => Some((link.part, link.feature.0, 0, link.text)),
+        Led::Elsewhere(address) => Some((link.part, link.feature.0, 0, address.as_str())),
         Led::Bad | Led::Nowhere => None,
     }
 }

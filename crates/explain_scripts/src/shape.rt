@@ -43,14 +43,16 @@ pub(crate) fn explain_top(
     explain_object(alloc, out, place, &DOCUMENT, json)
 }
 
-/// The keys of each object.
+/// The keys of each object. What is no object at all is wrong only as a root; elsewhere it is a wrong value.
 pub(crate) fn explain_objects(
     alloc: Global,
     out: &mut String,
     parts: &[Part<'_>],
 ) -> Result<(), AllocError> {
     'parts: for part in parts {
-        explain_object(alloc, out, part.path.as_str(), &OBJECT, part.json)?;
+        if part.level == 1 || part.json.is_object() {
+            explain_object(alloc, out, part.path.as_str(), &OBJECT, part.json)?;
+        }
     }
     Ok(())
 }

@@ -200,7 +200,8 @@ fn uri_of<'u>(uris: &'u [String], word: &str) -> &'u str {
     }
 }
 
-/// Explains why the document of a line is refused.
+/// Explains why the document of a line is refused. Its lines are made apart, since how much is said of one document does not
+/// depend on what is said of others.
 fn explain_load(
     alloc: Global,
     out: &mut String,
@@ -219,5 +220,7 @@ fn explain_load(
         text,
         cause,
     };
-    explain_document(alloc, out, meta, &refused)
+    let mut lines = String::new(alloc);
+    explain_document(alloc, &mut lines, meta, &refused)?;
+    out.push_str(lines.as_str())
 }
