@@ -14,7 +14,7 @@ LIBRARY = TOP / 'examples/library.json'
 
 sys.path.insert(0, str(CLIENT))
 
-from mmrepo import BadLine, Refused, Repository  # noqa: E402
+from mmrepo import Refused, Repository  # noqa: E402
 
 # A class with a feature of each type, one that is named as a method, and one that is named as a part of a line.
 KINDS = """
@@ -88,14 +88,6 @@ class ClientTest(unittest.TestCase):
         with self.assertRaises(Refused) as found:
             yield
         self.assertEqual((found.exception.number, found.exception.name, found.exception.cause), (number, name, cause))
-
-    @contextmanager
-    def newer(self):
-        """Skips a test if the program has no such command."""
-        try:
-            yield
-        except BadLine as older:
-            self.skipTest(str(older))
 
 
 class LibraryTest(ClientTest):

@@ -233,8 +233,7 @@ class Targets(LibraryTest):
         self.view = self.repo.attach(self.heard.append, self.first)
 
     def test_watch(self):
-        with self.newer():
-            self.assertIs(self.view.watch(self.second), True)
+        self.assertIs(self.view.watch(self.second), True)
         self.assertIs(self.view.watch(self.second), False)
         self.assertIs(self.view.watch(self.first, deep=False), False)
         self.second.pages = 1
@@ -242,8 +241,7 @@ class Targets(LibraryTest):
         self.assertEqual([(notice.notifier, notice.new) for notice in self.heard], [(self.second, 1), (self.first, 2)])
 
     def test_unwatch(self):
-        with self.newer():
-            self.view.watch(self.second)
+        self.view.watch(self.second)
         self.assertIs(self.view.unwatch(self.first), True)
         self.assertIs(self.view.unwatch(self.first), False)
         self.first.pages = 1
