@@ -7,6 +7,7 @@ mod bind;
 mod dress;
 mod dressing;
 mod help;
+mod interpreter;
 pub mod laws;
 mod line;
 mod live;
@@ -18,8 +19,10 @@ mod turn;
 
 pub use arguments::{Options, meta_file, options_of};
 pub use dress::Dress;
+pub use interpreter::Interpreter;
 pub use live::run_live;
 pub use script::{run, run_dressed};
 pub use script_lines::parse_line;
 pub use script_streams::RunFault;
 pub use summary::Summary;
+pub use turn::Turn;

@@ -1,0 +1,93 @@
+/* mmrepo from C. A session keeps a model, and answers the lines of a script, each in a call. docs/C.md has an example and says how to
+   build; docs/SCRIPT.md has the lines.
+
+   What a caller owes, since nothing checks C:
+   - A session begins as MMREPO_CLOSED_SESSION, and its two fields are mmrepo's own. It may be moved while no call runs, but there is one
+     of it: a copy is not used beside it.
+   - All calls of a session come from one thread, and none from a signal handler.
+   - No pointer is NULL, also where a size is 0. What a call is passed does not overlap, and nothing else reads or writes it while the
+     call runs.
+   - malloc, realloc and free are of one allocator, and malloc aligns a block to 16 bytes, as it does on Linux. */
+#ifndef MMREPO_H
+#define MMREPO_H
+
+#include <stdbool.h>
+#include <stddef.h>
+#include <stdint.h>
+
+#ifdef __cplusplus
+extern "C" {
+#endif
+
+/* A session, open or closed. */
+typedef struct mmrepo_session {
+    void *at;
+    bool is_open;
+} mmrepo_session;
+
+/* What a session begins as: closed. */
+#define MMREPO_CLOSED_SESSION {NULL, false}
+
+/* The most bytes of a metamodel, and of a line. */
+#define MMREPO_INPUT_BYTES 16777216
+
+/* What a call answers. */
+enum {
+    /* The session is open, or the command was done. */
+    MMREPO_OK = 0,
+
+    /* The metamodel is refused: its first fault (docs/METAMODEL.md). */
+    MMREPO_FAULT_SYNTAX = 1,
+    MMREPO_FAULT_LAYOUT = 2,
+    MMREPO_FAULT_LIMIT = 3,
+    MMREPO_FAULT_NAME = 4,
+    MMREPO_FAULT_DUPLICATE_NAME = 5,
+    MMREPO_FAULT_NO_TYPE = 6,
+    MMREPO_FAULT_CYCLE = 7,
+    MMREPO_FAULT_BOUNDS = 8,
+    MMREPO_FAULT_OPPOSITE = 9,
+    MMREPO_FAULT_BOTH_CONTAIN = 10,
+    MMREPO_FAULT_CONTAINER_BOUND = 11,
+    MMREPO_FAULT_DEFAULT = 12,
+
+    /* The line is empty or has only spaces: its text is empty. */
+    MMREPO_BLANK = 20,
+    /* The line is no command: its text is "bad line". */
+    MMREPO_BAD = 21,
+    /* The command was refused: its text says why, and nothing has changed. */
+    MMREPO_REFUSED = 22,
+    /* The command was refused memory: its text is "refused 28 MEMORY", and nothing has changed. */
+    MMREPO_LOST = 23,
+
+    /* The session is closed. */
+    MMREPO_CLOSED = 30,
+    /* The metamodel, or the line, has more than MMREPO_INPUT_BYTES bytes. */
+    MMREPO_TOO_LONG = 31,
+    /* Memory was refused to the call itself: the session is closed now. */
+    MMREPO_MEMORY = 32
+};
+
+/* Opens a session: an empty repository over the metamodel of a document. If it was open, it is closed first. Its adapters are A1 to
+   A1000: they tell what they hear in the texts of lines, and keep none of it.
+   Answers MMREPO_OK, the first fault of the metamodel, MMREPO_TOO_LONG or MMREPO_MEMORY. The session is open just where MMREPO_OK is
+   answered; then its text is empty. */
+uint32_t mmrepo_open(mmrepo_session *session, const char *document, size_t size);
+
+/* Runs a line of a script, which is given without a newline. What it prints, the notices that adapters were told among it, is the text of
+   the session from then on.
+   Answers MMREPO_OK, MMREPO_BLANK, MMREPO_BAD, MMREPO_REFUSED or MMREPO_LOST. MMREPO_CLOSED, where the session is closed, and
+   MMREPO_TOO_LONG leave the session and its text as they are. After MMREPO_MEMORY the session is closed. */
+uint32_t mmrepo_line(mmrepo_session *session, const char *line, size_t size);
+
+/* Copies the text of the session to `text`, or as much of it as the size of that has room for. A text of some lines has a newline
+   behind each; it ends with no zero byte. Answers how many bytes the text has: 0 if no line was run, or if the session is closed. */
+size_t mmrepo_text(mmrepo_session *session, char *text, size_t size);
+
+/* Closes a session and frees what it has. One that is closed stays closed. */
+void mmrepo_close(mmrepo_session *session);
+
+#ifdef __cplusplus
+}
+#endif
+
+#endif

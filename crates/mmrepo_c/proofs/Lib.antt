@@ -1,0 +1,3 @@
+mod CallLemmas
+mod LooseValues
+mod SlotValues

@@ -1,0 +1,94 @@
+//! mmrepo for C: a static library, whose functions `include/mmrepo.h` declares. A session over a metamodel answers the lines of a
+//! script, each in a call. docs/C.md begins with a program.
+//!
+//! A call takes a session out of its handle and puts it back. So all of them but `Slot` and `Loose` is safe code, which is proved from
+//! the contracts of those two.
+#![tactic(auto)]
+
+ghost use Rattle.std.specs.Prelude.{◌≡◌, None};
+ghost use Rattle.mmrepo_c.specs.Calls as c;
+
+mod fill;
+mod handle;
+mod loose;
+mod opening;
+mod session;
+mod slot;
+mod status;
+
+use crate::fill::fill;
+use crate::opening::begun;
+use crate::status::{CLOSED, MEMORY, OK, TOO_LONG, fault_status, line_status};
+pub use handle::Handle;
+use mm_types::limits::INPUT_BYTES;
+pub use session::Session;
+pub use slot::Slot;
+use std::alloc::Global;
+
+/// Opens a session: an empty repository over the metamodel of a document. What the handle had before is closed. Its adapters, A1 to
+/// A1000, count what they hear and keep nothing of it.
+///
+/// Answers `OK`; from 1 to 12 the first fault of the document; `TOO_LONG` where it has more than `INPUT_BYTES` bytes; `MEMORY` where
+/// memory is refused. The handle is closed where another status than `OK` is answered.
+#[unsafe(no_mangle)]
+pub extern "C" fn mmrepo_open(alloc: Global, handle: &mut Handle, document: &[u8]) -> u32
+    ensures { c.Opens document.now result handle.new.slot.held }
+{
+    drop(handle.take(alloc));
+    if document.len() > INPUT_BYTES {
+        return TOO_LONG;
+    }
+    match begun(alloc, document) {
+        Ok(session) => {
+            *handle = Handle::of(session);
+            OK
+        }
+        Err(fault) => fault_status(fault),
+    }
+}
+
+/// Runs a line of a script, which has no newline at its end. What it prints is the text of the session from then on.
+///
+/// Answers how the line is counted: `OK` for a command that was done, `BLANK`, `BAD`, `REFUSED`, or `LOST` where the repository was
+/// refused memory, and nothing has changed. `CLOSED` where the handle is closed. `TOO_LONG` where the line has more than
+/// `INPUT_BYTES` bytes: the session is as it was. `MEMORY` where memory is refused to the run itself: the session is closed.
+#[unsafe(no_mangle)]
+pub extern "C" fn mmrepo_line(alloc: Global, handle: &mut Handle, line: &[u8]) -> u32
+    ensures { c.Answers handle.old.slot.held line.now result handle.new.slot.held }
+{
+    if handle.is_open() && line.len() > INPUT_BYTES {
+        return TOO_LONG;
+    }
+    let Some(mut session) = handle.take(alloc) else {
+        return CLOSED;
+    };
+    match session.answer(line) {
+        Ok(turn) => {
+            *handle = Handle::of(session);
+            line_status(turn)
+        }
+        Err(_) => MEMORY,
+    }
+}
+
+/// Copies the text of the last answer, or as much of it as there is room for. Answers how many bytes the text has: none where no line
+/// was run, and where the handle is closed.
+#[unsafe(no_mangle)]
+pub extern "C" fn mmrepo_text(alloc: Global, handle: &mut Handle, out: &mut [u8]) -> usize
+    ensures { c.Copies handle.old.slot.held out.old result out.new handle.new.slot.held }
+{
+    let Some(session) = handle.take(alloc) else {
+        return 0;
+    };
+    let count = fill(out, session.text());
+    *handle = Handle::of(session);
+    count
+}
+
+/// Closes a session, and frees all that it has. A handle that is closed stays closed.
+#[unsafe(no_mangle)]
+pub extern "C" fn mmrepo_close(alloc: Global, handle: &mut Handle)
+    ensures { handle.new.slot.held ≡ None }
+{
+    drop(handle.take(alloc));
+}

@@ -1,0 +1,67 @@
+//! Lines that come one at a time.
+ghost use Rattle.std.specs.Prelude.{◌≡◌, [], IfOk};
+ghost use Rattle.script_lines.specs.Forms as forms;
+ghost use Rattle.script_program.specs.Script.{RunsLine};
+ghost use Rattle.script_program.specs.Session.{first_session, session};
+ghost use Rattle.script_program.specs.Turns.{printed};
+
+use crate::line::run_line;
+use crate::pool::Pool;
+use crate::turn::Turn;
+use adapters::Adapter;
+use links::LinkStore;
+use mm_meta::Meta;
+use repository::Repository;
+use script_output::Output;
+use std::alloc::{AllocError, Global};
+
+/// A repository and the boxes that its lines can attach, and what the last line printed.
+#[derive(Drop)]
+pub struct Interpreter<L: LinkStore, A: Adapter> {
+    alloc: Global,
+    repository: Repository<L, A>,
+    pool: Pool<A>,
+    output: Output,
+}
+
+impl<L: LinkStore, A: Adapter> Interpreter<L, A> {
+    /// An interpreter over an empty repository of a metamodel, which has printed nothing. The n-th of the boxes, from 1 on, is An.
+    /// Errs where memory is refused.
+    pub fn new(alloc: Global, meta: Meta, boxes: Vec<A>) -> Result<Self, AllocError>
+        ensures begin { IfOk result (λ i. session i.repository i.pool ≡ first_session A.heard meta boxes.items) }
+        ensures text { IfOk result (λ i. i.output ≡ []) }
+    {
+        let pool = Pool::new(alloc, boxes)?;
+        Ok(Interpreter {
+            alloc,
+            repository: Repository::new(alloc, meta),
+            pool,
+            output: Output::new(alloc),
+        })
+    }
+
+    /// Runs a line, and says how it is counted. What it prints is the text from then on.
+    ///
+    /// Errs where memory is refused to the run itself; nothing is said of the interpreter then. Where memory is refused to the
+    /// repository, the line prints `refused 28 MEMORY`, and nothing has changed.
+    pub fn answer(&mut self, line: &[u8]) -> Result<Turn, AllocError>
+        ensures { IfOk result (λ t. RunsLine (session self.old.repository self.old.pool) (forms.form line.now) (printed self.new.output t)
+            (session self.new.repository self.new.pool)) }
+    {
+        self.output.clear();
+        run_line(
+            self.alloc,
+            &mut self.repository,
+            &mut self.pool,
+            &mut self.output,
+            line,
+        )
+    }
+
+    /// What the last line printed.
+    pub fn text(&self) -> &[u8]
+        ensures { result.now ≡ self.now.output }
+    {
+        self.output.as_bytes()
+    }
+}
