@@ -1,7 +1,7 @@
 //! A metamodel of books, and repositories of them.
 use crate::replies::{made, made_attached};
 use adapters::Adapter;
-use link_store::RowStore;
+use link_store::{LinkStore, RowStore};
 use mm_check::check;
 use mm_load::load_meta;
 use mm_meta::Meta;
@@ -47,10 +47,10 @@ pub(crate) fn books(alloc: Global) -> Result<Box<Meta>, Fail> {
 }
 
 /// An empty repository of a metamodel.
-pub(crate) fn empty<A: Adapter>(
+pub(crate) fn empty<L: LinkStore, A: Adapter>(
     alloc: Global,
     meta: Box<Meta>,
-) -> Result<Box<RowRepository<A>>, Fail> {
+) -> Result<Box<Repository<L, A>>, Fail> {
     let repository = Repository::new(alloc, Box::into_inner(meta));
     Ok(Box::new(alloc, repository)?)
 }

@@ -33,11 +33,15 @@ mod following;
 #[cfg(test)]
 mod latest;
 #[cfg(test)]
+mod left_proxies;
+#[cfg(test)]
 mod library;
 #[cfg(test)]
 mod list_calls;
 #[cfg(test)]
 mod live_runs;
+#[cfg(test)]
+mod network;
 #[cfg(test)]
 mod no_links;
 #[cfg(test)]
@@ -57,11 +61,17 @@ mod replies;
 #[cfg(test)]
 mod repositories;
 #[cfg(test)]
+mod resolve_notices;
+#[cfg(test)]
 mod run_ends;
 #[cfg(test)]
 mod runs;
 #[cfg(test)]
 mod script_text;
+#[cfg(test)]
+mod seeded_network;
+#[cfg(test)]
+mod seeded_reloads;
 #[cfg(test)]
 mod seeds;
 #[cfg(test)]
@@ -72,5 +82,7 @@ mod stored_values;
 mod streams;
 #[cfg(test)]
 mod telling;
+#[cfg(test)]
+mod three_resources;
 #[cfg(test)]
 mod unique_lists;

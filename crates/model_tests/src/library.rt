@@ -88,6 +88,7 @@ pub(crate) enum Step<'a> {
     AddRoot(u32, u32),
     Load(u32, &'a str),
     Resolve(u32, u32, u32),
+    ResolveAll,
 }
 
 fn set<A>(number: u32, feature: u32, value: Value) -> Command<A> {
@@ -155,5 +156,6 @@ pub(crate) fn command<A>(alloc: Global, step: Step<'_>) -> Result<Command<A>, Al
             feature: FeatureNo(feature),
             index,
         },
+        Step::ResolveAll => Command::ResolveAll,
     })
 }

@@ -7,9 +7,9 @@ use crate::library::{
 use crate::replies::made_attached;
 use crate::seeds::seeded_steps;
 use adapters::Recorder;
-use mm_types::{AdapterNo, Node, ObjectNo};
+use mm_types::{AdapterNo, Node, ObjectNo, Value};
 use notice_chain::Notice;
-use repository::Answer;
+use repository::{Answer, Reply};
 use snapshots::{Snapshot, replay};
 use std::alloc::{AllocError, Global};
 use std::test::Fail;
@@ -63,16 +63,32 @@ fn begin(
     Ok(())
 }
 
+/// Attaches one to each root that a load made.
+fn watch_roots(
+    alloc: Global,
+    repository: &mut Store,
+    watches: &mut Vec<Watch>,
+    told: &[(AdapterNo, Notice)],
+) -> Result<(), Fail> {
+    for (_, notice) in told {
+        if let Value::Object(root) = &notice.new_value {
+            begin(alloc, repository, watches, Node::Object(*root))?;
+        }
+    }
+    Ok(())
+}
+
 /// Attaches one to what a command made.
 fn watch_new(
     alloc: Global,
     repository: &mut Store,
     watches: &mut Vec<Watch>,
-    answer: &Answer,
+    reply: &Reply<Recorder>,
 ) -> Result<(), Fail> {
-    match answer {
+    match &reply.answer {
         Answer::Object(object) => begin(alloc, repository, watches, Node::Object(*object)),
         Answer::Resource(resource) => begin(alloc, repository, watches, Node::Resource(*resource)),
+        Answer::Loaded(_) => watch_roots(alloc, repository, watches, reply.told.as_slice()),
         _ => Ok(()),
     }
 }
@@ -177,7 +193,7 @@ fn take_step(
         return follow_all(alloc, repository, watches, &[]);
     };
     let compared = follow_all(alloc, repository, watches, reply.told.as_slice())?;
-    watch_new(alloc, repository, watches, &reply.answer)?;
+    watch_new(alloc, repository, watches, &reply)?;
     Ok(compared)
 }
 
@@ -298,7 +314,30 @@ fn a_load_and_resolved_proxies_are_followed(rt: HostRuntime) -> Result<(), Fail>
         Step::Resolve(0, LIKES, 0),
         Step::Resolve(0, LIKES, 3),
     ];
-    assert!(rt; is_followed(rt.alloc(), &steps, 20)?);
+    assert!(rt; is_followed(rt.alloc(), &steps, 31)?);
+    Ok(())
+}
+
+#[test]
+fn proxies_that_are_resolved_together_are_followed(rt: HostRuntime) -> Result<(), Fail> {
+    let steps = [
+        Step::Resource("http://m.example/a"),
+        Step::Resource("http://m.example/b"),
+        Step::Load(
+            0,
+            r#"{"format":2,"roots":[{"class":"Library","features":{"staff":["b#/0","b#/1"]}}]}"#,
+        ),
+        Step::Load(
+            1,
+            r#"{"format":2,"roots":[{"class":"Person","features":{"job":"a#/"}},{"class":"Person","features":{"likes":["c#/","c#/1"]}}]}"#,
+        ),
+        Step::ResolveAll,
+        Step::Resource("http://m.example/c"),
+        Step::New(A_BOOK),
+        Step::AddRoot(2, 3),
+        Step::ResolveAll,
+    ];
+    assert!(rt; is_followed(rt.alloc(), &steps, 36)?);
     Ok(())
 }
 

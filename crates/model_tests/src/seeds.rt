@@ -1,4 +1,4 @@
-//! Steps that numbers give, which look random.
+//! Orders and steps that numbers give, which look random.
 use crate::library::{
     A_BOOK, A_FOLDER, A_LIBRARY, A_PERSON, BOOKS, FAVOURITE, JOB, LIKES, MEMBERS, NEXT, NOTE,
     OWNER, PARENT, PREV, SCORES, STAFF, SUBS, Step,
@@ -21,16 +21,28 @@ const REFERENCES: [(u32, u32, u32, u32, u32); 11] = [
 ];
 
 /// The next of a row of numbers that look random (the constants are those of Numerical Recipes).
-fn next(seed: u32) -> u32 {
+pub(crate) fn next(seed: u32) -> u32 {
     seed.wrapping_mul(1664525).wrapping_add(1013904223)
 }
 
 /// A number below a bound, by the upper bits of a seed.
-fn below(seed: u32, bound: u32) -> u32 {
+pub(crate) fn below(seed: u32, bound: u32) -> u32 {
     match (seed >> 8).checked_rem(bound) {
         Some(number) => number,
         None => 0,
     }
+}
+
+/// The numbers below a bound, in an order that a seed gives.
+pub(crate) fn shuffled(alloc: Global, bound: u32, first: u32) -> Result<Vec<u32>, AllocError> {
+    let mut keyed = Vec::new(alloc);
+    let mut seed = first;
+    for number in 0..bound {
+        seed = next(seed);
+        keyed.push((seed, number))?;
+    }
+    keyed.sort()?;
+    keyed.iter().map(|pair| pair.1).collect(alloc)
 }
 
 /// A reference, and objects at its two ends: the near one and the far one.
