@@ -23,8 +23,8 @@ use std::collections::VecDeque;
 use std::marker::Model;
 use std::mem;
 
-/// The parts of a list while targets go. Meanwhile an adapter may have no target left: such ones are handed out before the parts
-/// are a list again.
+/// The parts of a list while targets go. Meanwhile an adapter may have no target left: an adapter without targets is handed out
+/// before the parts are a list again.
 #[derive(Drop)]
 pub(crate) struct Going<A: Adapter> {
     alloc: Global,
@@ -99,8 +99,8 @@ impl<A: Adapter> Going<A> {
         }
     }
 
-    /// Lets one target go: its adapter is notified of that, and has it no more. Gives that notice, and whether it was the adapter's
-    /// last target; `None`, and nothing changes, where the node is no target of it.
+    /// Releases one target: its adapter is notified of that, and no longer has it. Gives that notice, and whether it was the
+    /// adapter's last target; `None`, and nothing changes, if the node is no target of it.
     fn let_go(&mut self, no: AdapterNo, node: Node) -> Option<(Notice, bool)>
         ensures others { self.new ≡ without (no, node) self.old }
         ensures told { last_told no result ≡ told_of_leaving (no, node) self.old }
@@ -177,7 +177,7 @@ impl<A: Adapter> Going<A> {
         Some(Detached { notice, adapter })
     }
 
-    /// Lets targets go, one after another, and then hands out the adapters that have none left.
+    /// Releases targets, one after another, and then hands out the adapters that have none left.
     pub(crate) fn release(
         &mut self,
         spots: &[(AdapterNo, Node)],
@@ -208,7 +208,7 @@ impl<A: Adapter> Going<A> {
     }
 }
 
-/// Takes a node out of some targets, none of which stands twice.
+/// Takes a node out of some targets, none of which is there twice.
 fn drop_target(targets: &mut VecDeque<Target>, node: Node)
     requires { IsDistinct same_node (map (λ t. t.node) targets.old.items) }
     ensures { targets.new.items ≡ filter (λ t. not (is_at node t)) targets.old.items }

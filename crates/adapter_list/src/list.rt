@@ -90,7 +90,7 @@ impl<A: Adapter> AdapterList<A> {
         }
     }
 
-    /// The targets of the adapter of a number, in the order in which it got them; None where it is not attached. Takes no memory.
+    /// The targets of the adapter of a number, in the order in which it got them; None if it is not attached. Takes no memory.
     pub fn targets(&self, no: AdapterNo) -> Option<&VecDeque<Target>>
         ensures { option_map (λ ts. ts.now.items) result ≡ option_map (λ r. r.targets) (adapter no self.now.0) }
     {
@@ -100,7 +100,7 @@ impl<A: Adapter> AdapterList<A> {
         }
     }
 
-    /// How many notices the adapter was told; None where it is not attached. Takes no memory.
+    /// How many notices the adapter was told; None if it is not attached. Takes no memory.
     pub fn told(&self, no: AdapterNo) -> Option<u64>
         ensures { result ≡ option_map (λ r. r.view.told) (adapter no self.now.0) }
     {
@@ -110,7 +110,7 @@ impl<A: Adapter> AdapterList<A> {
         }
     }
 
-    /// How many notices the adapter keeps; None where it is not attached. Takes no memory.
+    /// How many notices the adapter keeps; None if it is not attached. Takes no memory.
     pub fn kept_len(&self, no: AdapterNo) -> Option<u64>
         ensures { result ≡ option_map (λ r. length r.view.kept) (adapter no self.now.0) }
     {

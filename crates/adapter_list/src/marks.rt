@@ -26,7 +26,7 @@ fn is_marked_at(marks: &[bool], number: usize) -> bool
     false
 }
 
-/// Makes room for the mark of a node. Errs only when out of memory; no mark changes.
+/// Makes room for the mark of a node. Errs only if memory is refused; no mark changes.
 pub(crate) fn reserve_mark(marks: &mut Vec<bool>, node: Node) -> Result<(), AllocError>
     ensures same { AreSameMarks marks.old.items marks.new.items }
     ensures room { OnOk result (HasMarkRoom marks.new.items node) }
@@ -37,7 +37,7 @@ pub(crate) fn reserve_mark(marks: &mut Vec<bool>, node: Node) -> Result<(), Allo
     }
 }
 
-/// Makes so many marks, where there are fewer.
+/// Makes so many marks, if there are fewer.
 fn lengthen(marks: &mut Vec<bool>, len: usize) -> Result<(), AllocError>
     ensures same { AreSameMarks marks.old.items marks.new.items }
     ensures room { OnOk result (len ≤ length marks.new.items) }

@@ -8,7 +8,7 @@ use std::alloc::{AllocError, Global};
 use std::marker::Model;
 
 /// Some targets, each by its adapter's number and its node, in the order in which they are to go. It is made before anything
-/// changes and has room for their last notices and for the adapters that are handed out. So to let them go takes no memory.
+/// changes and has room for their last notices and for the adapters that are handed out. So releasing them takes no memory.
 #[derive(Drop)]
 pub struct Release<A> {
     spots: Vec<(AdapterNo, Node)>,
@@ -29,7 +29,7 @@ impl<A> Model for Release<A> {
 }
 
 impl<A> Release<A> {
-    /// Makes room for letting some targets go. Errs only when out of memory.
+    /// Makes room for releasing some targets. Errs only if memory is refused.
     pub fn new(alloc: Global, spots: Vec<(AdapterNo, Node)>) -> Result<Self, AllocError>
         ensures { IfOk result (λ r. r ≡ spots.items) }
     {

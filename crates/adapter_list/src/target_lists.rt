@@ -25,7 +25,7 @@ pub(crate) struct Entry {
 }
 
 /// The adapters of each node to which some are attached. The list that owns the adapters keeps those of one node in attach
-/// order. An entry has the number of its adapter and not its place, so that none changes where another adapter goes.
+/// order. An entry has the number of its adapter and not its place, so that none changes if another adapter leaves.
 #[derive(Drop)]
 pub(crate) struct TargetLists {
     alloc: Global,
@@ -84,7 +84,7 @@ impl TargetLists {
         self.at(node).iter().position(|entry| no == entry.no)
     }
 
-    /// Adds an adapter at an index among those of a node. When out of memory, nothing has changed.
+    /// Adds an adapter at an index among those of a node. If memory is refused, nothing has changed.
     pub fn insert(&mut self, node: Node, index: usize, entry: Entry) -> Result<(), AllocError>
         requires { index ≤ length (entries_in self.old node) }
         ensures ok { OnOk result ((x : Node) → entries_in self.new x ≡ (if same_node node x then insert (entries_in self.old x) index entry else entries_in self.old x)) }
@@ -101,7 +101,7 @@ impl TargetLists {
         Ok(())
     }
 
-    /// Takes the adapter at an index out of those of a node, and drops the list where it was the only one. Takes no memory.
+    /// Takes the adapter at an index out of those of a node, and drops the list if it was the only one. Takes no memory.
     pub fn remove(&mut self, node: Node, index: usize)
         requires { index < length (entries_in self.old node) }
         ensures removed { (x : Node) → entries_in self.new x ≡ (if same_node node x then remove (entries_in self.old x) index else entries_in self.old x) }

@@ -3,14 +3,14 @@ ghost use Rattle.std.specs.Prelude.{◌≡◌, ◌+◌, ◌^◌, ◌≤◌, ◌<
 
 use crate::adapter::NoRoom;
 
-/// The number of notices that an adapter has heard, where it takes no memory to hear one.
+/// The number of notices that an adapter has heard, if it takes no memory to hear one.
 #[derive(Drop)]
 pub(crate) struct Count {
     told: u64,
 }
 
 impl Count {
-    /// A count that stands at `told`.
+    /// A count that is at `told`.
     pub(crate) fn starting_at(told: u64) -> Count
         ensures { result.told ≡ told }
     {
@@ -24,7 +24,7 @@ impl Count {
         self.told
     }
 
-    /// Full exactly where it can't count `n` more; never Memory.
+    /// Full exactly if it can't count `n` more; never Memory.
     pub(crate) fn reserve(&self, n: u64) -> Result<(), NoRoom>
         ensures ok { OnOk result (self.now.told + n < 2 ^ 64) }
         ensures full { IsErrOf result NoRoom.Full ↔ (2 ^ 64 ≤ self.now.told + n) }

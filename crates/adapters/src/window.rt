@@ -18,7 +18,8 @@ pub struct Window {
 }
 
 impl Window {
-    /// A window that keeps the last `n` notices, from 1 to `limits::WINDOW_NOTICES` of them, and has heard nothing yet. Errs only when out of memory.
+    /// A window that keeps the last `n` notices, from 1 to `limits::WINDOW_NOTICES` of them, and has heard nothing yet. Errs only if memory
+    /// is refused.
     pub fn new(alloc: Global, n: u64) -> Result<Window, AllocError>
         requires some { 1 ≤ n }
         requires within { n ≤ WINDOW_NOTICES }

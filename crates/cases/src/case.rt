@@ -8,9 +8,9 @@ use std::alloc::Global;
 pub struct Case<'a> {
     /// What it shows.
     pub name: &'a str,
-    /// The name of its metamodel's file, without `.json`; where there is none, the document is the metamodel.
+    /// The name of its metamodel's file, without `.json`; if there is none, the document is the metamodel.
     pub metamodel: Option<&'a str>,
-    /// The metamodel's text, where it stands in the case.
+    /// The metamodel's text, if it is in the case.
     pub document: Vec<u8>,
     /// The script, each line with its newline.
     script: Vec<u8>,
@@ -38,7 +38,7 @@ impl<'a> Case<'a> {
         Ok(case)
     }
 
-    /// The script; empty where the case has none.
+    /// The script; empty if the case has none.
     pub(crate) fn script(&self) -> &[u8] {
         self.script.as_slice()
     }

@@ -35,7 +35,7 @@ impl Tally {
     }
 }
 
-/// The bytes of a file in the folder where the program runs.
+/// The bytes of a file in the folder in which the program runs.
 fn read_file(rt: &HostRuntime, path: &str) -> Result<Vec<u8>, CaseFault> {
     let Ok(mut file) = fs::open(rt, path) else {
         return Err(CaseFault::Unreadable);
@@ -76,7 +76,7 @@ fn metamodel_of(rt: &HostRuntime, case: &Case<'_>) -> Result<Vec<u8>, CaseFault>
     }
 }
 
-/// Runs the script of a case over a store of links, with its last newline and without it; answers whether it gives what it
+/// Runs the script of a case over a store of links, with its last newline and without it; returns whether it gives what it
 /// expects.
 fn passes_over<L: LinkStore, W: Write>(
     alloc: Global,
@@ -95,7 +95,7 @@ fn passes_over<L: LinkStore, W: Write>(
     Ok(true)
 }
 
-/// Runs a case, over each store where it has a script; answers whether it gives what it expects, and so the same over both.
+/// Runs a case, over each store if it has a script; returns whether it gives what it expects, and so the same over both.
 fn passes<W: Write>(rt: &HostRuntime, writer: &mut W, case: &Case<'_>) -> Result<bool, CaseFault> {
     let metamodel = metamodel_of(rt, case)?;
     let metamodel = metamodel.as_slice();
@@ -160,7 +160,7 @@ fn run_file<W: Write>(
     }
 }
 
-/// Runs the files that the arguments name; answers whether each case passes.
+/// Runs the files that the arguments name; returns whether each case passes.
 fn run_files<W: Write>(rt: &HostRuntime, writer: &mut W) -> Result<bool, io::Error> {
     let mut tally = Tally {
         passed: 0,

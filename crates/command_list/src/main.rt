@@ -1,10 +1,10 @@
-//! Does a list of commands by one call of a repository, and prints what each of them gives; or, where there is no memory for what they give, the
-//! commands that come back. Then it prints what the repository has.
+//! Does a list of commands by one call of a repository, and prints what each of them gives; or, if there is no memory for what they give,
+//! the commands that come back. Then it prints what the repository has.
 //!
 //! `command_list N` follows N books instead: it takes a snapshot, names each book, and replays the notices. `bench/measure` runs it.
 //!
-//! `tests/run_refused_memory` runs it once for each of its allocations, which is refused. No script makes this call, and no test function can refuse
-//! memory.
+//! `tests/run_refused_memory` runs it once for each of its allocations, which is refused. No script makes this call, and no test function
+//! can refuse memory.
 #![tactic(auto)]
 
 mod commands;
@@ -58,8 +58,8 @@ fn empty<L: LinkStore, A: Adapter>(
     Ok(Box::new(alloc, repository)?)
 }
 
-/// Makes a book at which an adapter is, does the list of commands, which attaches another, and prints what that gives. At last it prints what a
-/// notice made of the book's snapshot from before the list.
+/// Makes a book at which an adapter is, does the list of commands, which attaches another, and prints what that gives. At last it prints
+/// what a notice made of the book's snapshot from before the list.
 fn session<L: LinkStore, A: Adapter, W: Write>(
     alloc: Global,
     writer: &mut W,
@@ -117,7 +117,7 @@ fn start(rt: &HostRuntime) -> Result<(), Stop> {
 fn list(rt: &HostRuntime) -> Result<(), Stop> {
     let alloc = rt.alloc();
     let meta = books(alloc)?;
-    // A recorder takes memory where it is attached.
+    // A recorder takes memory when it is attached.
     let first: Box<dyn Adapter> = Box::new(alloc, Recorder::new(alloc))?;
     let second: Box<dyn Adapter> = Box::new(alloc, Recorder::new(alloc))?;
     run::<SlotStore, _, _>(alloc, &mut io::writer(rt), meta, first, second)

@@ -10,7 +10,8 @@ pub enum Stop {
     Memory,
     /// Nothing could be written, or the arguments could not be read.
     Writing,
-    /// The metamodel, or what is done before the list, is refused for another reason: the program is wrong.
+    /// The metamodel, or what is done before the list, is refused for a different reason: the program is
+    /// wrong.
     Refused,
 }
 

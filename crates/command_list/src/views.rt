@@ -42,7 +42,7 @@ fn keep<A: Adapter>(reply: Reply<A>, notices: &mut Vec<Notice>) -> Result<(), Al
     Ok(())
 }
 
-/// Names all books, and answers the notices of it.
+/// Names all books, and returns the notices of that.
 fn name_all<L: LinkStore, A: Adapter>(
     alloc: Global,
     repository: &mut Repository<L, A>,
@@ -65,7 +65,8 @@ fn taken<L: LinkStore, A: Adapter>(
     Ok(Box::new(alloc, snapshot)?)
 }
 
-/// Follows so many books, each of which is named, by their notices. Answers how many nodes the view has, where it is what a new snapshot is.
+/// Follows so many books, each of which is named, by their notices. Returns how many nodes the view has, if it is the same as a new
+/// snapshot.
 pub(crate) fn followed<L: LinkStore, A: Adapter>(
     alloc: Global,
     repository: &mut Repository<L, A>,

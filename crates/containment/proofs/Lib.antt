@@ -5,5 +5,6 @@ pub mod PartLemmas
 pub mod ChainLemmas
 pub mod TreeLemmas
 pub mod MemberLemmas
+mod LeafLemmas
 pub mod DistinctLemmas
 mod Examples

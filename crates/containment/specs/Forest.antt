@@ -1,6 +1,6 @@
 -- The containment forest, read off a model: what contains an object, and what a node contains (EMF: EObject.eContainer, eContents,
 -- eAllContents).
-use Rattle.std.specs.Prelude.{ℕ, zero, suc, Bool, false, List, [], ◌∷◌, filter, flat_map, Option, Some, None, option_and_then}
+use Rattle.std.specs.Prelude.{ℕ, zero, suc, Bool, false, ◌&&◌, nat_lt, length, List, [], ◌∷◌, filter, flat_map, Option, Some, None, option_and_then}
 use Rattle.std.specs.List.{list_any}
 use Rattle.mm_types.specs.Same.{same_object}
 use Rattle.mm_types.specs.Shapes.{is_containment}
@@ -18,6 +18,13 @@ parts r n fs = flat_map (λ f. objects_of (r.values (at_end n f))) (filter (is_c
 -- the objects that a node directly contains, by feature in the order of all features, then by position
 abbrev pub contents : Reading → Node → List ObjectNo
 contents r n = parts r n (all_features_of r n)
+
+-- values stand at an end that contains
+abbrev pub has_parts_at : Reading → Node → FeatureNo → Bool
+has_parts_at r n f = is_containment r.metamodel f && nat_lt 0 (length (r.values (at_end n f)))
+
+abbrev pub has_parts : Reading → Node → Bool
+has_parts r n = list_any (has_parts_at r n) (all_features_of r n)
 
 abbrev pub object_node : Node → Option ObjectNo
 object_node (node.Object o) = Some o

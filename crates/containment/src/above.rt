@@ -1,5 +1,5 @@
 //! The nodes above a node: whether one is among them, the topmost, and the resource that it is.
-ghost use Rattle.std.specs.Prelude.{◌≡◌};
+ghost use Rattle.std.specs.Prelude.{◌≡◌, IfSome};
 ghost use Rattle.std.specs.List.{list_any};
 ghost use Rattle.std.specs.Option.{option_map};
 ghost use Rattle.mm_types.specs.Same.{same_node};
@@ -11,7 +11,7 @@ ghost use Rattle.containment.specs.Above.{resource_of, root_of as root};
 use links::LinkStore;
 use mm_types::{Node, ObjectNo, ResourceNo};
 
-/// Whether `above` is among the nodes above `node` (EMF: EcoreUtil.isAncestor, where the two differ). No node is above itself.
+/// Whether `above` is among the nodes above `node` (EMF: EcoreUtil.isAncestor, if the two differ). No node is above itself.
 /// Takes no memory.
 pub fn is_under<L: LinkStore>(store: &L, node: Node, above: Node) -> bool
     requires legal { IsLegalSet (L.links store.now) }
@@ -28,8 +28,27 @@ pub fn is_under<L: LinkStore>(store: &L, node: Node, above: Node) -> bool
     false
 }
 
-/// The topmost of a node and the nodes above it: the node itself where nothing contains it (EMF: EcoreUtil.getRootContainer,
-/// but here a resource is a root). Takes no memory.
+/// Whether `above` is among the nodes above `node`, if so many levels tell it: `above` is met, or the top is reached. Takes no memory.
+pub(crate) fn is_near<L: LinkStore>(store: &L, node: Node, above: Node, levels: u32) -> Option<bool>
+    requires legal { IsLegalSet (L.links store.now) }
+    requires no_cycle { HasNoCycle (L.links store.now) }
+    ensures { IfSome result (λ b. b ≡ list_any (same_node above) (above_of (L.links store.now) node)) }
+{
+    let mut at = node;
+    'levels: for _level in 0..levels {
+        let Some(next) = parent_of(store, at) else {
+            return Some(false);
+        };
+        if above == next {
+            return Some(true);
+        }
+        at = next;
+    }
+    None
+}
+
+/// The topmost of a node and the nodes above it: the node itself if nothing contains it (EMF: EcoreUtil.getRootContainer, but
+/// here a resource is a root). Takes no memory.
 pub fn root_of<L: LinkStore>(store: &L, node: Node) -> Node
     requires legal { IsLegalSet (L.links store.now) }
     requires no_cycle { HasNoCycle (L.links store.now) }
@@ -42,8 +61,8 @@ pub fn root_of<L: LinkStore>(store: &L, node: Node) -> Node
     top
 }
 
-/// The resource that an object is in, through however many objects; `None` where it is in none (EMF: EObject.eResource). Takes
-/// no memory.
+/// The resource that an object is in, through however many objects; `None` if it is in none (EMF: EObject.eResource). Takes no
+/// memory.
 pub fn holder_resource<L: LinkStore>(store: &L, object: ObjectNo) -> Option<ResourceNo>
     requires legal { IsLegalSet (L.links store.now) }
     requires no_cycle { HasNoCycle (L.links store.now) }

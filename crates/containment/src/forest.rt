@@ -10,7 +10,7 @@ use mm_types::{End, FeatureNo, Node, ObjectNo};
 use models::ModelRef;
 use std::alloc::{AllocError, Global};
 
-/// The object that contains an object (EMF: EObject.eContainer); `None` where none does. Takes no memory.
+/// The object that contains an object (EMF: EObject.eContainer); `None` if none does. Takes no memory.
 pub fn container<L: LinkStore>(model: &ModelRef<L>, object: ObjectNo) -> Option<ObjectNo>
     ensures { result ≡ forest.container (reading model.now) object }
 {
@@ -21,7 +21,7 @@ pub fn container<L: LinkStore>(model: &ModelRef<L>, object: ObjectNo) -> Option<
 }
 
 /// The objects that a node directly contains, by feature in the order of all features, and then by position (EMF:
-/// EObject.eContents). Errs only when out of memory.
+/// EObject.eContents). Errs only if memory is refused.
 pub fn contents<L: LinkStore>(
     alloc: Global,
     model: &ModelRef<L>,
@@ -52,7 +52,7 @@ fn push_parts<L: LinkStore>(
     push_objects(model, End { node, feature }, out)
 }
 
-/// Adds the objects that stand at the end of a reference.
+/// Adds the objects that are at the end of a reference.
 fn push_objects<L: LinkStore>(
     model: &ModelRef<L>,
     end: End,

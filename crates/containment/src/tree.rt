@@ -1,18 +1,20 @@
 //! All that is below a node, and whether a node is below another.
-ghost use Rattle.std.specs.Prelude.{◌≡◌, flat_map, reverse, IfOk};
+ghost use Rattle.std.specs.Prelude.{◌≡◌, false, flat_map, reverse, IfOk};
+ghost use Rattle.std.specs.List.{list_any};
+ghost use Rattle.mm_types.specs.Same.{same_node};
 ghost use Rattle.models.specs.Model.{reading};
 ghost use Rattle.models.specs.Reading as r;
 ghost use Rattle.containment.specs.Forest as forest;
 
-use crate::above::is_under;
+use crate::above::{is_near, is_under};
 use crate::forest::contents;
 use links::LinkStore;
-use mm_types::{Node, ObjectNo};
-use models::ModelRef;
+use mm_types::{FeatureNo, Node, ObjectNo};
+use models::{ModelRef, at_end};
 use std::alloc::{AllocError, Global};
 
 /// An object and all that is below it, each before what it contains (EMF: the object, then EObject.eAllContents). Of a number that no
-/// object has, it alone. Errs only when out of memory.
+/// object has, it alone. Errs only if memory is refused.
 pub fn subtree<L: LinkStore>(
     alloc: Global,
     model: &ModelRef<L>,
@@ -25,7 +27,7 @@ pub fn subtree<L: LinkStore>(
 }
 
 /// All objects of a node: an object and all that is below it, or all objects in a resource, each before what it contains. Errs only
-/// when out of memory.
+/// if memory is refused.
 pub fn node_subtree<L: LinkStore>(
     alloc: Global,
     model: &ModelRef<L>,
@@ -43,7 +45,7 @@ pub fn node_subtree<L: LinkStore>(
     }
 }
 
-/// Objects and all that is below them, the last one's first. Errs only when out of memory.
+/// Objects and all that is below them, the last one's first. Errs only if memory is refused.
 fn all_below<L: LinkStore>(
     alloc: Global,
     model: &ModelRef<L>,
@@ -62,9 +64,42 @@ fn all_below<L: LinkStore>(
     Ok(found)
 }
 
-/// Whether a node is another, or is below it. Takes no memory.
+/// So many levels are climbed before it is asked whether an object contains anything.
+const NEAR: u32 = 8;
+
+/// Whether a node is a given one, or is below it. Takes no memory, and few steps if the given one contains nothing.
 pub fn is_within<L: LinkStore>(model: &ModelRef<L>, above: Node, node: Node) -> bool
     ensures { result ≡ r.is_within (reading model.now) above node }
 {
-    above == node || is_under(model.store(), node, above)
+    above == node || is_below(model, above, node)
+}
+
+/// Whether a node is below another one. An object that contains nothing is above none: so a chain that grows at its lower end is not
+/// climbed to its top for each new object.
+fn is_below<L: LinkStore>(model: &ModelRef<L>, above: Node, node: Node) -> bool
+    requires apart { same_node above node ≡ false }
+    ensures { result ≡ list_any (same_node above) ((reading model.now).above node) }
+{
+    model.is_legal();
+    if let Some(is_below) = is_near(model.store(), node, above, NEAR) {
+        return is_below;
+    }
+    match above {
+        Node::Object(_) if !has_parts(model, above) => false,
+        _ => is_under(model.store(), node, above),
+    }
+}
+
+/// Whether an end of a node that contains has a value.
+fn has_parts<L: LinkStore>(model: &ModelRef<L>, node: Node) -> bool
+    ensures { result ≡ forest.has_parts (reading model.now) node }
+{
+    let features = model.all_features(node);
+    features.iter().any(|f| has_parts_at(model, node, *f))
+}
+
+fn has_parts_at<L: LinkStore>(model: &ModelRef<L>, node: Node, feature: FeatureNo) -> bool
+    ensures { result ≡ forest.has_parts_at (reading model.now) node feature }
+{
+    model.meta().is_containment(feature) && model.len(at_end(&node, &feature)) > 0
 }

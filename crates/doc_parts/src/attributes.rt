@@ -33,8 +33,8 @@ fn int_value(json: &JsonValue) -> Option<Value>
     }
 }
 
-/// The value of a data type, under a single attribute or not, or none where JSON writes none of that type. Errs only
-/// where memory is refused.
+/// The value of a data type, under a single attribute or not, or none if JSON writes none of that type. Errs only if
+/// memory is refused.
 pub fn attribute_value(
     alloc: Global,
     meta: &Meta,

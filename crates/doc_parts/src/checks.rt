@@ -57,7 +57,7 @@ fn is_any_deep(rows: &[Row]) -> bool
     rows.iter().any(|row| row.level > LEVELS)
 }
 
-/// Whether a part is no object where it should be one. Takes no memory.
+/// Whether a part is no object although it should be one. Takes no memory.
 pub fn has_misshapen(found: &Found) -> bool
     ensures { (ps : List Part) → Knows found.now ps → result ≡ list_any is_misshapen ps }
 {
@@ -92,7 +92,7 @@ pub fn has_long_list(meta: &Meta, found: &Found) -> bool
     is_any_long(meta, found.rows.as_slice())
 }
 
-/// Whether a part stands below the last level. Takes no memory.
+/// Whether a part is below the last level. Takes no memory.
 pub fn has_deep(found: &Found) -> bool
     ensures { (ps : List Part) → Knows found.now ps → result ≡ list_any is_deep ps }
 {

@@ -23,8 +23,8 @@ pub fn conforms_to(meta: &Meta, target: ClassNo, json: &JsonValue) -> bool
     }
 }
 
-/// Whether a value may stand under a containment reference to a class: an object whose class conforms, where its class
-/// is there at all.
+/// Whether a value may be under a containment reference to a class: an object whose class conforms, if its class is
+/// there at all.
 fn may_stand(meta: &Meta, target: ClassNo, json: &JsonValue) -> bool
     ensures { result ≡ may_be meta.now target (view json.now) }
 {
@@ -73,8 +73,8 @@ fn is_shaped(is_single: bool, content: &JsonValue) -> bool
     is_single || content.is_array()
 }
 
-/// Whether what is written under a feature is an array where the feature is many-valued, and each of its values is one
-/// of the feature. Takes no memory.
+/// Whether what is written under a feature is an array if the feature is many-valued, and each of its values is one of
+/// the feature. Takes no memory.
 pub(crate) fn is_content(meta: &Meta, feature: FeatureNo, content: &JsonValue) -> bool
     ensures { result ≡ is_meant meta.now (new_entry feature (view content.now)) }
 {

@@ -42,7 +42,7 @@ pub fn content_at<'v>(
     find(members, meta.feature_name(feature))
 }
 
-/// The values of what is written under a feature: the items of an array where the feature is many-valued. Takes no
+/// The values of what is written under a feature: the items of an array if the feature is many-valued. Takes no
 /// memory.
 pub fn values_of<'v>(meta: &Meta, feature: FeatureNo, content: &'v JsonValue) -> &'v [JsonValue]
     ensures { map view result.now ≡ values_meant meta.now (new_entry feature (view content.now)) }

@@ -7,7 +7,7 @@ use serde_json::Value as JsonValue;
 use std::alloc::{AllocError, Global};
 use web_uris::{Path, Step};
 
-/// Where a part stands: at the position of a root, or under the first part of a path by a step.
+/// The place of a part: at the position of a root, or under the first part of a path by a step.
 #[derive(Clone, Copy, PartialEq, Eq, Hash)]
 pub enum Place<'m> {
     Root(u32),
@@ -24,7 +24,7 @@ pub struct Numbers<'m> {
     numbers: IndexMap<Place<'m>, u32>,
 }
 
-/// A part: its level, what stands there, and the number of the first part of its path.
+/// A part: its level, what is there, and the number of the first part of its path.
 #[derive(Clone, Copy)]
 pub struct Row<'v> {
     pub level: usize,
@@ -98,7 +98,7 @@ impl<'m> Numbers<'m> {
         Ok(())
     }
 
-    /// The number of the part at a place: `next`, where the place has no number yet.
+    /// The number of the part at a place: `next`, if the place has no number yet.
     pub fn number(&mut self, place: Place<'m>, next: u32) -> Result<u32, AllocError>
         ensures { IfOk result (λ n. (ps : List Part) (p : Part) → next ≡ length ps → Finds self.old ps → IsPlaced ps (key_of place.entry) p.path
             → Finds self.new (ps ++ p ∷ []) × (number_of (ps ++ p ∷ []) p.path ≡ Some n)) }
@@ -129,8 +129,8 @@ impl<'v, 'm> Found<'v, 'm> {
         }
     }
 
-    /// Adds a part, and answers the number of the first part of its path. Where memory is refused, or where there are
-    /// 2^32 parts already, what was found may not be used.
+    /// Adds a part, and returns the number of the first part of its path. If memory is refused, or if there are 2^32
+    /// parts already, what was found may not be used.
     pub fn add(
         &mut self,
         place: Place<'m>,

@@ -20,7 +20,7 @@ pub(crate) struct ObjectMembers<'v> {
     pub features: &'v Map<String, Value>,
 }
 
-/// The top of a document, or nothing where the value is no such object. Takes no memory.
+/// The top of a document, or nothing if the value is no such object. Takes no memory.
 #[tactic(auto, unfolding(crate::specs::Layout::top))]
 pub fn top(json: &Value) -> Option<TopMembers<'_>>
     ensures { option_map (λ t. new_top t.format (items_view t.roots.now.items)) result ≡ top_meant (view json.now) }
@@ -34,7 +34,7 @@ pub fn top(json: &Value) -> Option<TopMembers<'_>>
     Some(TopMembers { format, roots })
 }
 
-/// What an object says, or nothing where the value is none. Takes no memory.
+/// What an object says, or nothing if the value is none. Takes no memory.
 #[tactic(auto, unfolding(crate::specs::Layout::written))]
 pub(crate) fn written(json: &Value) -> Option<ObjectMembers<'_>>
     ensures { option_map (λ w. new_written w.class.now (members_view w.features.now.entries)) result ≡ written_meant (view json.now) }

@@ -1,5 +1,4 @@
-//! What of a document of a resource is looked at: what stands where an object should, with its path, and under each object
-//! what its features hold.
+//! The parts of a resource document: what is in the place of each object, with its path, and what its features hold.
 //!
 //! `specs/Layout.antt` is the layout of a document, row by row, `specs/Parts.antt` says what of it is looked at,
 //! `specs/Contents.antt` whether what is written under a feature is of its type, and `specs/Faults.antt` what may be wrong

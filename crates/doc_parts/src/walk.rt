@@ -12,14 +12,14 @@ use mm_types::FeatureNo;
 use serde_json::{Map, Value as JsonValue};
 use std::alloc::{AllocError, Global};
 
-/// Where what is below a part stands: the number of that part, and the level below it.
+/// The place of what is below a part: the number of that part, and the level below it.
 #[derive(Clone, Copy)]
 struct Below {
     part: u32,
     level: usize,
 }
 
-/// Finds a part that stands at a place, and what is below it, for so many levels.
+/// Finds a part that is at a place, and what is below it, for so many levels.
 #[cycle(walk)]
 pub(crate) fn walk<'v, 'm>(
     found: &mut Found<'v, 'm>,

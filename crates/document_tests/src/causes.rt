@@ -25,7 +25,7 @@ const WHOLE: [(&str, &str); 20] = [
     ("{\"format\":\"2\",\"roots\":[]}", "18 DOCUMENT 2 LAYOUT"),
     ("{\"format\":1,\"roots\":{}}", "18 DOCUMENT 2 LAYOUT"),
     ("{\"format\":1,\"roots\":[7]}", "18 DOCUMENT 2 LAYOUT"),
-    // A fault of layout anywhere wins over another format.
+    // A fault of layout anywhere wins over an unknown format.
     ("{\"format\":3,\"roots\":[null]}", "18 DOCUMENT 2 LAYOUT"),
     ("{\"format\":0,\"roots\":[]}", "18 DOCUMENT 3 FORMAT"),
     ("{\"format\":3,\"roots\":[]}", "18 DOCUMENT 3 FORMAT"),
@@ -59,7 +59,7 @@ const ROOTS: [(&str, &str); 44] = [
         r#"{"class":"Resource","features":{}}"#,
         "18 DOCUMENT 4 CLASS",
     ),
-    // What stands inside the features of an unknown class is not looked at.
+    // What is inside the features of an unknown class is not looked at.
     (
         r#"{"class":"Nope","features":{"subs":[{"class":7}]}}"#,
         "18 DOCUMENT 4 CLASS",
@@ -124,7 +124,7 @@ const ROOTS: [(&str, &str); 44] = [
         r#"{"class":"Book","features":{"genre":"PLAY"}}"#,
         "18 DOCUMENT 6 VALUE",
     ),
-    // A value of a containment that is no object, or of another class.
+    // A value of a containment that is no object, or of a class that does not conform.
     (
         r#"{"class":"Folder","features":{"subs":[7]}}"#,
         "18 DOCUMENT 6 VALUE",
@@ -137,7 +137,7 @@ const ROOTS: [(&str, &str); 44] = [
         r#"{"class":"Person","features":{"likes":[7]}}"#,
         "18 DOCUMENT 6 VALUE",
     ),
-    // A contained object of another class is looked into all the same.
+    // A contained object of a class that does not conform is looked into all the same.
     (
         r#"{"class":"Folder","features":{"subs":[{"class":"Book","features":{"x":1}}]}}"#,
         "18 DOCUMENT 5 FEATURE",

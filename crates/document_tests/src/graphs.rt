@@ -43,7 +43,8 @@ fn diamond(alloc: Global) -> Result<Vec<Seq<usize>>, AllocError> {
     rows_of(alloc, &[&[2, 1], &[3], &[3], &[]])
 }
 
-/// A ladder of diamonds: each class 3i is the supertype of 3i+1 and 3i+2, and these of 3i+3.
+/// A ladder of diamonds: each class 3i is the supertype of 3i+1 and 3i+2, and these two are supertypes of
+/// 3i+3.
 fn ladder(alloc: Global, count: usize) -> Result<Vec<Seq<usize>>, AllocError> {
     let mut graph = Vec::new(alloc);
     for c in 0..count {
@@ -73,7 +74,7 @@ fn shown<T: Debug>(alloc: Global, rows: &[Seq<T>]) -> Result<String, AllocError>
     Ok(shown)
 }
 
-/// An order, and all features of each class, where `own` has the features that each declares.
+/// An order, and all features of each class; `own` has the features that each declares.
 fn inherited_by(
     alloc: Global,
     graph: &[Seq<usize>],
@@ -91,7 +92,7 @@ fn inherited_by(
     format!(in alloc; "{order:?} {rows}")
 }
 
-/// An order of the classes in which each comes behind its supertypes, and all features of each class.
+/// An order of the classes in which each comes after its supertypes, and all features of each class.
 fn inherited(alloc: Global, graph: &[Seq<usize>], own: &[Seq<u32>]) -> Result<String, Fail> {
     if !is_in_range(graph) || own.len() != graph.len() {
         return Err(Fail::new("these are no classes"));
@@ -151,7 +152,7 @@ fn cycle_of(alloc: Global, graph: &[Seq<usize>]) -> Result<String, Fail> {
 
 #[test]
 fn a_cycle_is_found_at_its_first_class(rt: HostRuntime) -> Result<(), Fail> {
-    // Class 0 reaches the cycle of 1, 2 and 3, and does not stand on it.
+    // Class 0 reaches the cycle of 1, 2 and 3, and is not on it.
     let graph = rows_of(rt.alloc(), &[&[2], &[2], &[3], &[1]])?;
     let found = cycle_of(rt.alloc(), &graph)?;
     assert_eq!(rt; found.as_str(), "Some(1) false [false, true, true, true]");

@@ -1,8 +1,8 @@
-//! A metamodel and two documents of it that are cut after each of their bytes, or have another byte in the place of one: each is read or refused, and the
-//! answers are counted.
+//! A metamodel and two documents of it that are cut after each of their bytes, or have a different byte in the place of one: each is read
+//! or refused, and the answers are counted.
 //!
-//! What is expected follows from JSON alone. None of the texts has a backslash. What is cut before its last brace is none; neither is what has a byte 0,
-//! which stands nowhere in JSON, or a byte 255, which is not UTF-8, or an odd number of quotes.
+//! What is expected follows from JSON alone. None of the texts has a backslash. What is cut before its last brace is none; neither is what
+//! has a byte 0, which is nowhere in JSON, or a byte 255, which is not UTF-8, or an odd number of quotes.
 use crate::library::{LIBRARY, library};
 use crate::resource::refusal;
 use mm_check::check;
@@ -25,7 +25,7 @@ struct Input {
     text: &'static str,
     bytes: u32,
     quotes: u32,
-    /// How many bytes stand behind its last brace.
+    /// How many bytes come after its last brace.
     behind: u32,
 }
 
@@ -74,7 +74,7 @@ fn fault_of(alloc: Global, bytes: &[u8]) -> Option<MetaFault> {
     }
 }
 
-/// The number of a metamodel's fault, 0 where it is accepted; none where memory was refused.
+/// The number of a metamodel's fault, 0 if it is accepted; none if memory was refused.
 fn metamodel_answer(alloc: Global, bytes: &[u8]) -> Option<u32> {
     match fault_of(alloc, bytes) {
         Some(fault) => fault.number(),
@@ -82,7 +82,7 @@ fn metamodel_answer(alloc: Global, bytes: &[u8]) -> Option<u32> {
     }
 }
 
-/// The number of a document's cause, 0 where it is read; none where it is refused for anything else.
+/// The number of a document's cause, 0 if it is read; none if it is refused for anything else.
 fn document_answer(alloc: Global, meta: &Meta, bytes: &[u8]) -> Option<u32> {
     match refusal(alloc, meta, bytes) {
         Some(Refused::Document(cause)) => Some(cause.number()),
@@ -122,7 +122,7 @@ fn cut(alloc: Global, meta: &Meta, input: &Input) -> Result<Counts, Fail> {
     Ok(counts)
 }
 
-/// A text with another byte in the place of the one at a position.
+/// A text with a different byte in the place of the one at a position.
 fn with_byte(alloc: Global, text: &str, at: usize, byte: u8) -> Result<Vec<u8>, AllocError> {
     let mut bytes = text.as_bytes().to_vec(alloc)?;
     if at < bytes.len() {
@@ -131,7 +131,7 @@ fn with_byte(alloc: Global, text: &str, at: usize, byte: u8) -> Result<Vec<u8>, 
     Ok(bytes)
 }
 
-/// Counts the answers to a text with another byte in the place of each of its bytes in turn.
+/// Counts the answers to a text with a different byte in the place of each of its bytes in turn.
 fn replaced(alloc: Global, meta: &Meta, input: &Input, byte: u8) -> Result<Counts, Fail> {
     let mut counts = [0; 13];
     for at in 0..input.text.len() {

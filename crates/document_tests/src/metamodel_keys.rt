@@ -62,7 +62,7 @@ fn lines_of(alloc: Global, raw: &RawMeta) -> Result<String, AllocError> {
     Ok(lines)
 }
 
-/// What stands in the document of the library.
+/// What is in the document of the library.
 const READ: &str = r#"Genre ["NOVEL", "POEM", "PLAY"]
 Named true []
   name EString 0..1 true false none
@@ -88,13 +88,13 @@ Folder false []
   parent Folder 0..1 false subs
 "#;
 
-/// A document whose keys stand in another order, one of them twice, and most of them not at all.
+/// A document whose keys are in a different order, one of them twice, and most of them not at all.
 const BOOK_AND_SHELF: &str = r#"{"classes":[{"features":[
         {"default":"-1","type":"EInt","kind":"attribute","name":"pages"},
         {"name":"t\u00e9","kind":"attribute","type":"EString"}
     ],"name":"None","name":"Book"},{"name":"Shelf"}]}"#;
 
-/// What stands in it.
+/// What is in it.
 const BOOK_AND_SHELF_READ: &str = "Book false []
   pages EInt 0..1 true false -1
   té EString 0..1 true false none

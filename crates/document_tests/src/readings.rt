@@ -16,7 +16,7 @@ const READINGS: [(&str, &str); 16] = [
             "name":"L"}}"#,
         r#"1[ 0: "L"; 1: #1 #2; 2: #3 #4; 3: #4; ] 2[ 0: "Emma"; 12: #2; ] 2[ 13: #1; ] 3[ 0: "Ann"; 15: #2 #1; ] 3[ 14: #0; ] roots #0"#,
     ),
-    // Roots in order, and what a root contains stands before the next one.
+    // Roots in order, and what a root contains comes before the next one.
     (
         r#"{"class":"Folder","features":{"subs":[{"class":"Folder","features":{}}]}},{"class":"Book","features":{}}"#,
         "4[ 17: #1; ] 4[ ] 2[ ] roots #0 #2",
@@ -64,7 +64,7 @@ const READINGS: [(&str, &str); 16] = [
         r#"{"class":"Book","features":{"next":"/1"}},{"class":"Book","features":{"prev":"/0"}}"#,
         "2[ 12: #1; ] 2[ 13: #0; ] roots #0 #1",
     ),
-    // A book is its own neighbour where both ends say so.
+    // A book is its own neighbour if both ends say so.
     (
         r#"{"class":"Book","features":{"next":"/","prev":"/"}}"#,
         "2[ 12: #0; 13: #0; ] roots #0",

@@ -94,7 +94,7 @@ pub(crate) fn told(alloc: Global, meta: &Meta, bytes: &[u8]) -> Result<String, A
     }
 }
 
-/// The refusal of a document, where it is refused.
+/// The refusal of a document, if it is refused.
 pub(crate) fn refusal(alloc: Global, meta: &Meta, bytes: &[u8]) -> Option<Refused> {
     match read_doc(alloc, meta, URI, bytes) {
         Ok(_) => None,

@@ -1,4 +1,4 @@
-//! Names that stand twice where they may stand once.
+//! Names that occur twice, although they may occur only once.
 use crate::inherited::Ancestry;
 use crate::named::{Named, class_at, class_named, enum_at, enum_named, name_at};
 use crate::near::is_among;
@@ -39,7 +39,7 @@ fn features_of(alloc: Global, raw: &RawMeta, class: usize) -> Result<Vec<Place>,
     ancestry.features(alloc, raw)
 }
 
-/// The first two places at which one name stands.
+/// The first two places at which one name occurs.
 fn clash_in(
     alloc: Global,
     raw: &RawMeta,
@@ -99,7 +99,7 @@ fn explain_clash(
     explain_places(alloc, out, at, places.as_slice())
 }
 
-/// What stands twice in an enumeration or a class.
+/// What occurs twice in an enumeration or a class.
 fn explain_inner(alloc: Global, out: &mut String, at: Named<'_>) -> Result<(), AllocError> {
     match at.place {
         Place::Enum(i) => match enum_at(at.raw, i) {
@@ -116,7 +116,7 @@ fn explain_inner(alloc: Global, out: &mut String, at: Named<'_>) -> Result<(), A
     }
 }
 
-/// Where an enumeration or a class has the name of a later one.
+/// The place of an enumeration or a class that has the name of a later one.
 fn earlier(raw: &RawMeta, name: &str, place: Place) -> Option<Place> {
     match (place, enum_named(raw, name), class_named(raw, name)) {
         (Place::Enum(i), Some(e), _) if e < i => Some(Place::Enum(e)),
@@ -126,7 +126,7 @@ fn earlier(raw: &RawMeta, name: &str, place: Place) -> Option<Place> {
     }
 }
 
-/// A name that stands twice where it may stand once.
+/// A name that occurs twice, although it may occur only once.
 pub(crate) fn explain_duplicate(
     alloc: Global,
     out: &mut String,

@@ -1,5 +1,5 @@
 //! What is wrong with the layout of a document, or with how much there is of it: unknown and absent keys, and values that are
-//! written in another way.
+//! not written as their rows say.
 use crate::near::{is_among, nearest};
 use crate::rows::{
     ATTRIBUTE, CLASS, DOCUMENT, ENUMERATION, FEATURE, Hint, MISPLACED, REFERENCE, Row, advice_in,
@@ -9,7 +9,7 @@ use crate::values::explain_value;
 use serde_json::{Map, Value};
 use std::alloc::{AllocError, Global};
 
-/// How many bytes of an explanation are enough: where there are as many, no further object is looked at.
+/// How many bytes of an explanation are enough: if there are as many, no further object is looked at.
 const ENOUGH: usize = 4096;
 
 /// The names of the keys that are listed.
@@ -106,9 +106,8 @@ fn explain_listed(
     }
 }
 
-/// Adds a line for each key of an object that is unknown or absent, and for each value that is written in another way than
-/// its row says. The text is of one document: where it has more than 4,096 bytes already nothing is added. Errs only where
-/// memory is refused.
+/// Adds a line for each key of an object that is unknown or absent, and for each value that is not written as its row says.
+/// The text is of one document: if it has more than 4,096 bytes already, nothing is added. Errs only if memory is refused.
 pub fn explain_object(
     alloc: Global,
     out: &mut String,
@@ -130,7 +129,7 @@ fn explain_hinted(
     explain_listed(alloc, out, place, rows, &MISPLACED, json)
 }
 
-/// The items of an array that stands under a key; none where there is no such array.
+/// The items of an array that is under a key; none if there is no such array.
 fn items_at<'v>(json: &'v Value, key: &str) -> &'v [Value] {
     match json.get(key) {
         Some(Value::Array(items)) => items.as_slice(),

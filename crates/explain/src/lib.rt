@@ -1,5 +1,5 @@
-//! What to mend in a metamodel that is refused, in words: lines for a reader, behind the fault that `mm_load` or `mm_check`
-//! answers.
+//! What to mend in a metamodel that is refused, in words: lines for a reader, after the fault that `mm_load` or `mm_check`
+//! returns.
 //!
 //! No contract says what a text is. The functions are proved safe and ending; cases of the program show their texts.
 #![tactic(auto)]

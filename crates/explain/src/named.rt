@@ -2,7 +2,7 @@
 use mm_types::{Enumeration, Place, RawClass, RawFeature, RawKind, RawMeta};
 use std::fmt;
 
-/// A place of a document as a reader is told of it: by the names that stand there.
+/// A place of a document as a reader is told of it: by the names that are there.
 #[derive(Clone, Copy)]
 pub(crate) struct Named<'m> {
     pub(crate) raw: &'m RawMeta,
@@ -66,7 +66,7 @@ fn found_name(raw: &RawMeta, place: Place) -> Option<&str> {
     }
 }
 
-/// The name at a place; empty where there is no such place.
+/// The name at a place; empty if there is no such place.
 pub(crate) fn name_at(raw: &RawMeta, place: Place) -> &str {
     found_name(raw, place).unwrap_or("")
 }

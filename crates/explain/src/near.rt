@@ -9,7 +9,7 @@ const LONGEST: usize = 64;
 const MOST_EDITS: usize = 2;
 
 /// Of some words the one that the fewest edits lead to from a word: at most two, and fewer than it has letters. Errs only
-/// where memory is refused.
+/// if memory is refused.
 pub fn nearest<'a>(
     alloc: Global,
     word: &str,

@@ -9,7 +9,7 @@ fn declared_of<'m>(raw: &'m RawMeta, feature: &RawFeature, name: &str) -> Option
     feature_named(class_at(raw, class)?, name)
 }
 
-/// The name of the class that declares what stands at a place.
+/// The name of the class that declares what is at a place.
 fn owner_of(at: Named<'_>) -> &str {
     match at.place {
         Place::Feature(c, _) => name_at(at.raw, Place::Class(c)),

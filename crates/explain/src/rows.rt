@@ -1,4 +1,4 @@
-//! The keys of the objects of a metamodel document, as `docs/METAMODEL.md` has them, and keys that stand there by mistake.
+//! The keys of the objects of a metamodel document, as `docs/METAMODEL.md` has them, and keys that are there by mistake.
 use mm_types::limits;
 
 /// How the value of a key is written.
@@ -159,7 +159,8 @@ const OPPOSITE: Row = Row {
 /// A word, and what is said of it.
 pub(crate) type Hint = (&'static str, &'static str);
 
-/// What is said of a key that stands where it is not listed: those of Ecore and of similar formats, and those of another object.
+/// What is said of a key that is in an object for which it is not listed: those of Ecore and of similar formats, and those of
+/// a different object.
 pub(crate) const MISPLACED: [Hint; 30] = [
     ("upperBound", "a feature has \"upper\""),
     ("lowerBound", "a feature has \"lower\""),
@@ -205,7 +206,7 @@ pub(crate) const MISPLACED: [Hint; 30] = [
     ("enums", "only the document has it"),
 ];
 
-/// What is said beside of the value of a key that is written in another way.
+/// What is said besides of the value of a key that is not written as its row says.
 pub(crate) const ADVICE: [Hint; 3] = [
     ("upper", "; -1 stands for any number"),
     (

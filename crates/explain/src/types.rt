@@ -25,7 +25,7 @@ fn enum_names<'m>(alloc: Global, raw: &'m RawMeta) -> Result<Vec<&'m str>, Alloc
     Ok(names)
 }
 
-/// A name that is none of those that may stand there.
+/// A name that is none of those that may be there.
 fn explain_name(
     alloc: Global,
     out: &mut String,

@@ -1,4 +1,4 @@
-//! What a printed line is: the answer of a line of the script, or another one.
+//! What a printed line is: the answer of a line of the script, or something else.
 use memchr::memchr;
 use mm_types::DocFault;
 use script_lines::grammar::SPACE;
@@ -42,7 +42,7 @@ fn is_resource(line: &[u8]) -> bool {
     }
 }
 
-/// The cause with which a document is refused, where a line says that.
+/// The cause with which a document is refused, if a line says that.
 fn cause_in(line: &[u8]) -> Option<DocFault> {
     if !line.starts_with(b"refused 18 ") {
         return None;

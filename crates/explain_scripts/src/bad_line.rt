@@ -22,7 +22,7 @@ fn explain_word(
     writeln!(out, "line {number}: {word:?} is not {}", sort.wanted)
 }
 
-/// Says of each word behind the verb whether it is none of its sort.
+/// Says of each word after the verb whether it is none of its sort.
 fn explain_words(
     alloc: Global,
     out: &mut String,

@@ -1,4 +1,4 @@
-//! What is wrong with what is written under features: values of another type, lists that are too long, and values that stand
+//! What is wrong with what is written under features: values of a wrong type, lists that are too long, and values that occur
 //! twice.
 use crate::parts::{At, Entry};
 use doc_parts::{attribute_value, class_of, values_of};

@@ -29,7 +29,7 @@ pub(crate) struct Refused<'d> {
     pub(crate) cause: DocFault,
 }
 
-/// The beginning of what stands behind some bytes of a text.
+/// The beginning of what comes after some bytes of a text.
 fn shown_at(text: &str, start: usize) -> &str {
     front_of(text.get(start..).unwrap_or(""), SHOWN_BYTES)
 }
@@ -136,7 +136,7 @@ fn explain_text(
     }
 }
 
-/// The metamodel of a document, where it is accepted and there is memory for it.
+/// The metamodel of a document, if it is accepted and there is memory for it.
 fn meta_of(alloc: Global, bytes: &[u8]) -> Option<Box<Meta>> {
     let raw = load_meta(alloc, bytes).ok()?;
     let meta = check(alloc, raw).ok()?;

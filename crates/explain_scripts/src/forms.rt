@@ -1,4 +1,4 @@
-//! The forms of the lines of a script, and what stands in them.
+//! The forms of the lines of a script, and what is in them.
 use script_lines::{Line, parse_line};
 use std::alloc::{AllocError, Global};
 
@@ -101,7 +101,7 @@ pub(crate) fn sort_of(word: &str) -> Option<&'static Sort> {
     None
 }
 
-/// Whether a word of a line is one of a sort. Errs only where memory is refused.
+/// Whether a word of a line is one of a sort. Errs only if memory is refused.
 pub(crate) fn is_of(alloc: Global, sort: &Sort, word: &str) -> Result<bool, AllocError> {
     let before = sort.before;
     let line = format!(in alloc; "{before} {word}")?;

@@ -32,7 +32,7 @@ pub(crate) fn fragments_of<'p>(
     Ok(fragments)
 }
 
-/// What the text before the `#` of an address and the fragment behind it lead to, where that is no object of the document
+/// What the text before the `#` of an address and the fragment after it lead to, if that is no object of the document
 /// itself.
 fn led_elsewhere(
     alloc: Global,
@@ -51,7 +51,7 @@ fn led_elsewhere(
     }
 }
 
-/// What the text of a reference leads to, in the resource of a URI. Errs only where memory is refused.
+/// What the text of a reference leads to, in the resource of a URI. Errs only if memory is refused.
 pub(crate) fn led_by(
     alloc: Global,
     uri: &str,

@@ -1,4 +1,4 @@
-//! What to mend in a script: of each line that is bad which word is wrong, and of each document that is refused where.
+//! What to mend in a script: which word of each bad line is wrong, and which place of each refused document.
 //!
 //! `Watch` goes over the lines of a script and what they print side by side. No contract says what a text is. The functions
 //! are proved safe and ending; cases of the program show their texts.

@@ -19,7 +19,7 @@ pub(crate) struct Link<'e> {
 }
 
 impl Link<'_> {
-    /// The number of the part that it leads to, where that is one of the document.
+    /// The number of the part that it leads to, if that is one of the document.
     fn named(&self) -> Option<usize> {
         match &self.led {
             Led::Here(number) => Some(*number),
@@ -84,7 +84,7 @@ fn links_in<'e>(
     Ok(links)
 }
 
-/// The references that are written in a document, in the resource of a URI. Errs only where memory is refused.
+/// The references that are written in a document, in the resource of a URI. Errs only if memory is refused.
 pub(crate) fn links_of<'e>(
     alloc: Global,
     meta: &Meta,
@@ -102,7 +102,7 @@ pub(crate) fn links_of<'e>(
     links_in(&source, entries)
 }
 
-/// A reference that leads nowhere, or to an object of another class.
+/// A reference that leads nowhere, or to an object of a wrong class.
 fn explain_lost(
     out: &mut String,
     meta: &Meta,
@@ -160,7 +160,7 @@ pub(crate) fn explain_references(
     Ok(())
 }
 
-/// References with an opposite that lead to another resource.
+/// References with an opposite that lead to a different resource.
 pub(crate) fn explain_crosses(
     out: &mut String,
     meta: &Meta,

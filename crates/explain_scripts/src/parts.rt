@@ -1,4 +1,4 @@
-//! The objects of a document and what stands under their features, each with its place.
+//! The objects of a document and what is under their features, each with its place.
 use doc_parts::{content_at, known, values_of};
 use mm_meta::Meta;
 use mm_types::{ClassNo, FeatureNo};
@@ -7,10 +7,10 @@ use std::alloc::{AllocError, Global};
 use std::collections::VecDeque;
 use std::fmt;
 
-/// What stands where an object should.
+/// What is in the place of an object.
 #[derive(Drop)]
 pub(crate) struct Part<'v> {
-    /// Where it stands in the JSON, as `line 7: roots[0].features.books[1]`.
+    /// Its place in the JSON, as `line 7: roots[0].features.books[1]`.
     pub(crate) path: String,
     /// Its fragment with the position of its root, as `/0/@books.1`.
     pub(crate) fragment: String,
@@ -21,7 +21,7 @@ pub(crate) struct Part<'v> {
 /// What is written under a feature of a part.
 #[derive(Drop)]
 pub(crate) struct Entry<'v> {
-    /// Where it stands in the JSON, as `line 7: roots[0].features.books`.
+    /// Its place in the JSON, as `line 7: roots[0].features.books`.
     pub(crate) path: String,
     /// The number of the part.
     pub(crate) part: usize,
@@ -123,7 +123,7 @@ pub(crate) fn entries_of<'v>(
     Ok(entries)
 }
 
-/// Adds the parts that stand under a containment of a part.
+/// Adds the parts that are under a containment of a part.
 fn add_below<'v>(
     alloc: Global,
     queue: &mut VecDeque<Part<'v>>,
@@ -196,7 +196,7 @@ fn roots_of<'v>(
     Ok(queue)
 }
 
-/// What stands where an object should, level by level.
+/// What is in the place of each object, level by level.
 pub(crate) fn parts_of<'v>(
     alloc: Global,
     meta: &Meta,

@@ -1,4 +1,4 @@
-//! Values that stand twice in a list that has each value once.
+//! Values that a unique list repeats.
 use crate::led::Led;
 use crate::links::Link;
 use crate::parts::Entry;
@@ -9,7 +9,7 @@ use serde_json::Value;
 use std::alloc::{AllocError, Global};
 use std::collections::BTreeMap;
 
-/// Values of an attribute that stand twice.
+/// Values of an attribute that occur twice.
 fn explain_equal(
     alloc: Global,
     out: &mut String,
@@ -47,7 +47,7 @@ fn explain_entry(
     )
 }
 
-/// What a link leads to: the part and the feature that have it, and the number behind that of the part it leads to, or 0 and
+/// What a link leads to: the part and the feature that have it, and the number after that of the part it leads to, or 0 and
 /// the address.
 type Target<'l> = (usize, u32, usize, &'l str);
 
@@ -77,7 +77,7 @@ fn explain_links(alloc: Global, out: &mut String, links: &[Link<'_>]) -> Result<
     Ok(())
 }
 
-/// Values that stand twice.
+/// Values that occur twice.
 pub(crate) fn explain_repeats(
     alloc: Global,
     out: &mut String,

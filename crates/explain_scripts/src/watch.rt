@@ -10,7 +10,7 @@ use std::alloc::{AllocError, Global};
 use std::{mem, str};
 use web_uris::joined;
 
-/// How many bytes of a printed line are kept: more than an answer has that is explained, behind its number.
+/// How many bytes of a printed line are kept: more than an answer has that is explained, after its number.
 const FRONT: usize = 80;
 
 /// What is known of a script while it runs.
@@ -148,7 +148,7 @@ fn is_blank(alloc: Global, line: &[u8]) -> Result<bool, AllocError> {
     Ok(matches!(parsed, Line::Blank))
 }
 
-/// The first line that is not passed over, behind the line of a number.
+/// The first line that is not passed over, after the line of a number.
 fn next_turn(alloc: Global, script: &[u8], number: u64) -> Result<Option<Turn<'_>>, AllocError> {
     let mut number = number;
     let mut rest = script;
@@ -177,7 +177,7 @@ fn note_uri(alloc: Global, uris: &mut Vec<String>, line: &[u8]) -> Result<(), Al
     }
 }
 
-/// The first word of a text, and what follows the space behind it.
+/// The first word of a text, and what follows the space after it.
 fn behind_word(text: &str) -> Option<(&str, &str)> {
     text.trim_start_matches(' ').split_once(' ')
 }

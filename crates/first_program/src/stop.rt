@@ -12,7 +12,7 @@ pub enum Stop {
     Name(&'static str),
     /// A call is refused.
     Refused(Refused),
-    /// A call answers something else than the object or the resource that it makes.
+    /// A call returns something other than the object or the resource that it makes.
     Answer,
     /// Nothing can be written.
     Writing,

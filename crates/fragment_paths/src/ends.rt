@@ -27,7 +27,7 @@ pub fn roots_end<L: LinkStore>(model: &ModelRef<L>, resource: ResourceNo) -> End
     contents_end(model.meta(), resource)
 }
 
-/// The object at a position of a containment reference, where no proxy stands; `None` past the last.
+/// The object at a position of a containment reference, if no proxy is there; `None` past the last.
 pub(crate) fn object_in<L: LinkStore>(model: &ModelRef<L>, end: End, index: u32) -> Option<ObjectNo>
     requires contains { is_containment model.now.metamodel end.feature ≡ true }
     ensures { result ≡ slice_get (objects_of ((reading model.now).values end)) index }

@@ -11,7 +11,7 @@ use models::ModelRef;
 use std::alloc::{AllocError, Global};
 use web_uris::{Path, Step, parse, split_address};
 
-/// Whether a step goes by a feature: a containment reference, with an index where it is many-valued and without one where it is
+/// Whether a step goes by a feature: a containment reference, with an index if it is many-valued and without one if it is
 /// single.
 fn goes_by<L: LinkStore>(model: &ModelRef<L>, step: &Step, feature: FeatureNo) -> bool
     ensures { result ≡ finding.goes_by (reading model.now) step.now feature }
@@ -53,8 +53,8 @@ fn walked<L: LinkStore>(model: &ModelRef<L>, steps: &[Step], object: ObjectNo) -
     Some(at)
 }
 
-/// The object that a path leads to in a resource (EMF: Resource.getEObject, of a parsed fragment); `None` where there is no such
-/// resource, or nothing stands there. Takes no memory.
+/// The object that a path leads to in a resource (EMF: Resource.getEObject, of a parsed fragment); `None` if there is no such
+/// resource, or nothing is there. Takes no memory.
 pub fn find<L: LinkStore>(
     model: &ModelRef<L>,
     resource: ResourceNo,
@@ -81,9 +81,9 @@ fn found_by<L: LinkStore>(
     }
 }
 
-/// The object at an address (EMF: ResourceSet.getEObject, without loading): what the fragment behind the first `#` finds in the
-/// resource whose URI stands before it. `None` where there is no `#`, no resource of that very URI, no fragment behind it, or
-/// nothing at that place. Errs only where memory is refused.
+/// The object at an address (EMF: ResourceSet.getEObject, without loading): what the fragment after the first `#` finds in the
+/// resource whose URI comes before it. `None` if there is no `#`, no resource of that very URI, no fragment after it, or nothing
+/// at that place. Errs only if memory is refused.
 pub fn object_at<L: LinkStore>(
     alloc: Global,
     model: &ModelRef<L>,

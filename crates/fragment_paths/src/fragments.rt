@@ -43,9 +43,8 @@ fn fragment_by<L: LinkStore>(
     Ok(Some(Text::from_string(text)))
 }
 
-/// The fragment of an object in its resource (EMF: Resource.getURIFragment): the position of its root, left out where the
-/// resource has one root, and then a step for each object on the way. `None` where the object is in no resource. Errs only where
-/// memory is refused.
+/// The fragment of an object in its resource (EMF: Resource.getURIFragment): the position of its root, left out if the resource has
+/// one root, and then a step for each object on the way. `None` if the object is in no resource. Errs only if memory is refused.
 pub fn write<L: LinkStore>(
     alloc: Global,
     model: &ModelRef<L>,
@@ -77,8 +76,8 @@ fn address_by<L: LinkStore>(
     }
 }
 
-/// The address of an object (EMF: EcoreUtil.getURI): the URI of its resource, `#`, and its fragment. `None` where the object is in
-/// no resource. Errs only where memory is refused.
+/// The address of an object (EMF: EcoreUtil.getURI): the URI of its resource, `#`, and its fragment. `None` if the object is in no
+/// resource. Errs only if memory is refused.
 pub fn address<L: LinkStore>(
     alloc: Global,
     model: &ModelRef<L>,
@@ -92,8 +91,8 @@ pub fn address<L: LinkStore>(
     }
 }
 
-/// How a resource refers to an object (EMF: XMLHelper.getHREF): by the object's fragment where it is in that resource too, and else
-/// by its address. `None` where the object is in no resource. Errs only where memory is refused.
+/// How a resource refers to an object (EMF: XMLHelper.getHREF): by the object's fragment if it is in that resource too, and else by
+/// its address. `None` if the object is in no resource. Errs only if memory is refused.
 pub fn reference<L: LinkStore>(
     alloc: Global,
     places: &Places<L>,

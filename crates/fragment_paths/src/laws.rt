@@ -17,13 +17,13 @@ pub fn an_object_is_found_where_it_stands()
     ensures { (s : Model) → IsLegal s → FindsEach (reading s) }
 {}
 
-/// Where the ends that contain hold the same in two models of one metamodel, the nodes above each node are the same, and so is the
-/// fragment of each object; where the resources have the same URIs too, so is its address.
+/// If the ends that contain hold the same in two models of one metamodel, the nodes above each node are the same, and so is the
+/// fragment of each object; if the resources have the same URIs too, so is its address.
 pub fn addresses_follow_from_what_contains_what()
     ensures { (m : Metamodel) (v w : ValuesState) (a b : Links) → IsLegal (model_of m v a) → IsLegal (model_of m w b) → HaveSameParts m v w a b → LeavesAddresses m v w a b }
 {}
 
-/// Where the parts of a resource's objects stand at the same places in another resource, under other numbers, those objects have the
+/// If the parts of a resource's objects are at the same places in a different resource, under other numbers, those objects have the
 /// same paths there.
 pub fn parts_at_the_same_places_have_the_same_paths()
     ensures { (m : Metamodel) (v w : ValuesState) (a b : Links) (k j : ResourceNo) (image : ObjectNo → ObjectNo) → IsLegal (model_of m v a) → IsLegal (model_of m w b) → HasImagesOfRoots m v w a b k j image → HasImagesOfParts m v w a b k image → (o : ObjectNo) → resource_of (above a) o ≡ Some k → IsImageAt m v w a b j image o }

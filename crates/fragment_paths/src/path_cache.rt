@@ -52,8 +52,8 @@ impl PathCache {
         Some(text.as_str())
     }
 
-    /// Keeps the text of an object, in the place of the one that was kept of it. Where 1,024 texts are kept, and none of the object,
-    /// they all go first. Where memory is refused the text is not kept.
+    /// Keeps the text of an object, in the place of the one that was kept of it. If 1,024 texts are kept, and none of the object,
+    /// all of them are dropped first. If memory is refused, the text is not kept.
     pub fn keep(&mut self, object: ObjectNo, text: &str)
         ensures { kept.MayKeep self.old object text.now self.new }
     {
@@ -65,21 +65,21 @@ impl PathCache {
         }
     }
 
-    /// Lets all texts go. Takes no memory.
+    /// Drops all texts. Takes no memory.
     pub fn clear(&mut self)
         ensures { self.new ≡ map.empty }
     {
         self.texts.clear();
     }
 
-    // Whether there is no room for the text of an object.
+    /// Whether there is no room for the text of an object.
     fn is_full_for(&self, object: ObjectNo) -> bool
         ensures { result ≡ kept.is_full_for self.now object }
     {
         self.texts.len() >= MOST && !self.texts.contains_key(&object.0)
     }
 
-    // Makes room for the text of an object.
+    /// Makes room for the text of an object.
     fn make_room(&mut self, object: ObjectNo)
         ensures { self.new ≡ kept.with_room self.old object }
     {
@@ -88,7 +88,7 @@ impl PathCache {
         }
     }
 
-    // Keeps a text, for which there is room.
+    /// Keeps a text, for which there is room.
     fn put(&mut self, object: ObjectNo, text: Text)
         requires { kept.is_full_for self.old object ≡ false }
         ensures { (self.new ≡ map.insert self.old object.0 text) ⊎ (self.new ≡ self.old) }

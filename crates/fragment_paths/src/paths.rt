@@ -58,7 +58,7 @@ fn path_by<L: LinkStore>(places: &Places<L>, end: End, root: ObjectNo, mut steps
     }
 }
 
-/// The resource and the path of an object; `None` where it is in no resource. Errs only where memory is refused.
+/// The resource and the path of an object; `None` if it is in no resource. Errs only if memory is refused.
 pub(crate) fn locate<L: LinkStore>(
     alloc: Global,
     places: &Places<L>,

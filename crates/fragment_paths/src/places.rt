@@ -1,4 +1,4 @@
-//! Where objects stand in the ends that hold them, looked up once for all of an end.
+//! The places of objects in the ends that hold them, looked up once for all of an end.
 ghost use Rattle.std.specs.Prelude.{◌≡◌, Some, slice_get, true};
 ghost use Rattle.mm_types.specs.Same.{same_end};
 ghost use Rattle.mm_types.specs.Shapes.{shape};
@@ -23,7 +23,7 @@ pub(crate) struct Place {
 }
 
 impl Place {
-    // Whether it is one of an end.
+    /// Whether it is one of an end.
     fn is_at(&self, end: End) -> bool
         ensures { result ≡ same_end self.now.end end }
     {
@@ -31,7 +31,7 @@ impl Place {
     }
 }
 
-/// A model, and where some of its objects stand in the ends that hold them. It is seen as the model.
+/// A model, and the places of some of its objects in the ends that hold them. It is seen as the model.
 ///
 /// The place of an object that is not among them is searched for, one value after another. So a caller that writes many
 /// fragments first notes the ways to their objects: each end on them is gone through once, however many fragments lead through it.
@@ -74,21 +74,21 @@ impl<'m, 'a, L: LinkStore> Places<'m, 'a, L> {
         self.model
     }
 
-    // What holds of every model, for proofs that know it by its view: it is legal.
+    /// What holds of every model, for proofs that know it by its view: it is legal.
     pub(crate) fn is_legal(&self)
         ensures { IsLegal self.now }
     {
         self.model.is_legal();
     }
 
-    // The end that holds an object.
+    /// The end that holds an object.
     pub(crate) fn holder(&self, object: ObjectNo) -> Option<End>
         ensures { result ≡ (reading self.now).holder (node.Object object) }
     {
         self.model.holder(Node::Object(object))
     }
 
-    // Where an object stands in the end that holds it.
+    /// The place of an object in the end that holds it.
     pub(crate) fn place_in(&self, end: End, object: ObjectNo) -> u32
         ensures { result ≡ fragments.place_in (reading self.now) end object }
     {
@@ -101,12 +101,12 @@ impl<'m, 'a, L: LinkStore> Places<'m, 'a, L> {
         }
     }
 
-    // Whether a place of an object is known. What is known is no part of the model, so no contract speaks of it.
+    /// Whether a place of an object is known. What is known is no part of the model, so no contract speaks of it.
     fn is_known(&self, object: ObjectNo) -> bool {
         self.known.contains_key(&object.0)
     }
 
-    // Notes that an object stands at a position of a reference.
+    /// Notes that an object is at a position of a reference.
     fn note(&mut self, end: End, index: u32, object: ObjectNo) -> Result<(), AllocError>
         requires reference { (shape self.old.metamodel end.feature).is_reference ≡ true }
         requires there { slice_get ((reading self.old).values end) index ≡ Some (value.Object object) }
@@ -117,7 +117,7 @@ impl<'m, 'a, L: LinkStore> Places<'m, 'a, L> {
         Ok(())
     }
 
-    // Notes what stands at a position of a reference.
+    /// Notes what is at a position of a reference.
     fn note_at(&mut self, end: End, index: u32) -> Result<(), AllocError>
         requires reference { (shape self.old.metamodel end.feature).is_reference ≡ true }
         ensures { self.new ≡ self.old }
@@ -128,7 +128,7 @@ impl<'m, 'a, L: LinkStore> Places<'m, 'a, L> {
         }
     }
 
-    // Notes all that stand at a reference.
+    /// Notes all that is at a reference.
     fn note_end(&mut self, end: End) -> Result<(), AllocError>
         requires reference { (shape self.old.metamodel end.feature).is_reference ≡ true }
         ensures { self.new ≡ self.old }
@@ -139,8 +139,8 @@ impl<'m, 'a, L: LinkStore> Places<'m, 'a, L> {
         Ok(())
     }
 
-    /// Notes the places of an object, of what is above it, and of all beside them. Where the object is known, so are those: then
-    /// this takes no time. Errs only where memory is refused; the model is the same in any case.
+    /// Notes the places of an object, of what is above it, and of all beside them. If the object is known, so are the others: then
+    /// this takes no time. Errs only if memory is refused; the model is the same in any case.
     pub fn note_way(&mut self, object: ObjectNo) -> Result<(), AllocError>
         ensures { self.new ≡ self.old }
     {

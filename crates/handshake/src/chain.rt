@@ -163,7 +163,7 @@ fn report_of<L: LinkStore>(
     }
 }
 
-/// RESOLVE, from the proxy that stands at an index.
+/// RESOLVE, from the proxy that is at an index.
 fn resolved<L: LinkStore>(
     alloc: Global,
     model: &ModelRef<L>,
@@ -186,7 +186,7 @@ fn resolved<L: LinkStore>(
     })
 }
 
-/// A gain: SET at a single end, from what it has, and else ADD behind the last value.
+/// A gain: SET at a single end, from what it has, and else ADD after the last value.
 fn gain<L: LinkStore>(
     alloc: Global,
     model: &ModelRef<L>,
@@ -211,7 +211,7 @@ fn gain<L: LinkStore>(
     })
 }
 
-/// A loss: SET to null at a single end, and else REMOVE where the value stands.
+/// A loss: SET to null at a single end, and else REMOVE at the place of the value.
 fn loss<L: LinkStore>(model: &ModelRef<L>, at: End, value: Value) -> Report
     ensures { reported (reading model.now) at result ≡ notice_at (reading model.now) (telling at (Loses value)) }
 {
@@ -232,7 +232,7 @@ fn loss<L: LinkStore>(model: &ModelRef<L>, at: End, value: Value) -> Report
     }
 }
 
-/// Where a value stands in a list; past its end, where it does not.
+/// The place of a value in a list; past its end, if it is not there.
 fn place_of<L: LinkStore>(model: &ModelRef<L>, at: End, value: &Value) -> u32
     ensures { result ≡ index_in ((reading model.now).values at) value.now }
 {

@@ -34,13 +34,13 @@ pub enum Change {
         feature: FeatureNo,
         index: u32,
     },
-    /// Takes a value out of a list where it first stands, if it does (EMF: EList.remove).
+    /// Takes the first occurrence of a value out of a list, if there is one (EMF: EList.remove).
     RemoveValue {
         node: Node,
         feature: FeatureNo,
         value: Value,
     },
-    /// Takes the value at `from` out of a list and puts it in so that it then stands at `to` (EMF: EList.move).
+    /// Takes the value at `from` out of a list and puts it in so that it is then at `to` (EMF: EList.move).
     Move {
         node: Node,
         feature: FeatureNo,

@@ -10,7 +10,8 @@ use models::ModelRef;
 use removal::Removal;
 use std::alloc::{AllocError, Global};
 
-/// What goes with the object that a change destroys, if it destroys one. Errs only when out of memory.
+/// What goes with the object that a change destroys, if it destroys one. Errs only if memory is
+/// refused.
 pub(crate) fn removal_of<L: LinkStore>(
     alloc: Global,
     model: &ModelRef<L>,

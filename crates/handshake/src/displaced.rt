@@ -208,7 +208,7 @@ pub(crate) fn add_counterpart<L: LinkStore>(
     }
 }
 
-/// The links that go; none where nothing goes.
+/// The links that go; none if nothing goes.
 fn gone_ties<L: LinkStore>(
     alloc: Global,
     model: &ModelRef<L>,
@@ -291,7 +291,7 @@ fn ties_backwards<L: LinkStore>(
     Ok(ties)
 }
 
-/// The link that stands at a place of an end, if one is named; none of an attribute.
+/// The link that is at a place of an end, if one is named; none of an attribute.
 fn tie_in<L: LinkStore>(
     alloc: Global,
     model: &ModelRef<L>,

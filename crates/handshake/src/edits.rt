@@ -28,7 +28,8 @@ use removal::{Removal, Tie};
 use resource_docs::Doc;
 use std::alloc::{AllocError, Global};
 
-/// The edits of links that make a change that cuts these; `resolving_all` makes those that resolve all proxies.
+/// The edits of links that make a change, given the links that it cuts; `resolving_all` makes those of
+/// resolving all proxies.
 pub(crate) fn link_edits<L: LinkStore>(
     alloc: Global,
     model: &ModelRef<L>,
@@ -52,7 +53,7 @@ pub(crate) fn link_edits<L: LinkStore>(
     Ok(Seq::from_vec(edits))
 }
 
-/// Adds the edits behind the cuts, of a change that loads nothing and doesn't resolve all proxies.
+/// Adds the edits after the cuts, of a change that loads nothing and doesn't resolve all proxies.
 fn push_made<L: LinkStore>(
     model: &ModelRef<L>,
     change: &Change,
@@ -78,7 +79,7 @@ fn push_made<L: LinkStore>(
     Ok(())
 }
 
-/// Adds the edits that put a link in the place of its proxies; none where nothing is at their address.
+/// Adds the edits that put a link in the place of its proxies; none if nothing is at their address.
 pub(crate) fn push_joining<L: LinkStore>(
     model: &ModelRef<L>,
     end: End,
@@ -109,7 +110,7 @@ fn back_edit<L: LinkStore>(model: &ModelRef<L>, other: Counterpart) -> Edit
     }
 }
 
-/// The edit behind the cuts, if there is one.
+/// The edit after the cuts, if there is one.
 fn made_edit<L: LinkStore>(model: &ModelRef<L>, change: &Change) -> Option<Edit>
     ensures { result ≡ e.made_edit (reading model.now) change.now }
 {
@@ -304,7 +305,7 @@ fn add_value<L: LinkStore>(
     }
 }
 
-// Takes out the first value that is the same; no edit where there is none.
+/// Takes out the first value that is the same; no edit if there is none.
 fn take_first<L: LinkStore>(
     alloc: Global,
     model: &ModelRef<L>,

@@ -10,13 +10,13 @@ pub enum Happening {
     GainsAt(u32, Value),
     /// A list loses the value; a single end is null then.
     Loses(Value),
-    /// A list loses what stands at an index.
+    /// A list loses what is at an index.
     LosesAt(u32),
     /// A single end goes back to its default.
     Unsets,
-    /// In a list, what stands at the second index then stands at the first.
+    /// In a list, what is at the second index is then at the first.
     Moves(u32, u32),
-    /// The value takes the place of what stands at an index, a proxy; at a single end the index is 0.
+    /// The value takes the place of what is at an index, a proxy; at a single end the index is 0.
     Resolves(u32, Value),
 }
 

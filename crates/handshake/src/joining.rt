@@ -15,14 +15,14 @@ use mm_types::ObjectNo;
 use models::ModelRef;
 use std::alloc::{AllocError, Global};
 
-/// A proxy that is resolved: where it stands, and what it finds.
+/// A proxy that is resolved: its place, and what it finds.
 #[derive(Clone, Copy)]
 pub(crate) struct Joint {
     pub place: Place,
     pub target: Target,
 }
 
-/// What was resolved so far: the proxies in order, all places whose proxies are gone, and the objects that came to stand at ends.
+/// What was resolved so far: the proxies in order, all places whose proxies are gone, and the objects that came to be at ends.
 #[derive(Drop)]
 pub(crate) struct Progress {
     pub joints: Vec<Joint>,
@@ -30,7 +30,7 @@ pub(crate) struct Progress {
     linked: Keys,
 }
 
-/// What is resolved of all proxies of a model. Errs only when out of memory.
+/// What is resolved of all proxies of a model. Errs only if memory is refused.
 pub(crate) fn resolve_all<L: LinkStore>(
     alloc: Global,
     model: &ModelRef<L>,

@@ -7,7 +7,7 @@ use indexmap::IndexSet;
 use mm_types::{FeatureNo, ObjectNo};
 use std::alloc::{AllocError, Global};
 
-/// A reference of an object, and a number: of an index, or of an object that stands there.
+/// A reference of an object, and a number: of an index, or of an object that is there.
 #[derive(Clone, Copy, PartialEq, Eq, Hash)]
 pub(crate) struct Key {
     pub object: u32,

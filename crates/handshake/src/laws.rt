@@ -16,13 +16,13 @@ ghost use Rattle.handshake.specs.Telling.{happened_all, has_flag, told};
 ghost use Rattle.handshake.specs.declared.change.Change.{Change};
 ghost use Rattle.handshake.specs.declared.happening.Telling.{Telling};
 
-/// A change of a legal model, where nothing refuses it, leaves a legal model, if what it brings is as it has to be: the URI of a new
-/// resource as joining gives it, and a document that is loaded one that reading gives.
+/// A change of a legal model, if nothing refuses it, leaves a legal model, if what it brings is as it has to be: the URI of a new resource
+/// as joining gives it, and a document that is loaded one that reading gives.
 pub fn keeps_legal()
     ensures { (s : Model) (c : Change) → KeepsLegal s c }
 {}
 
-/// Where joining leaves the URIs of a model as they are, and those that a change brings, it leaves those after the change as they are.
+/// If joining leaves the URIs of a model as they are, and those that a change brings, it leaves those after the change as they are.
 pub fn keeps_steady_texts()
     ensures { (s : Model) (c : Change) → KeepsSteady s c }
 {}
@@ -33,38 +33,37 @@ pub fn the_notices_of_tellings_replay_them()
     ensures { (m : Metamodel) (e : Ends) (ts : List Telling) → replayed_all (has_flag m) e (told m e ts) ≡ happened_all m e ts }
 {}
 
-/// The chain of a change of a legal model, where nothing refuses it, replays it, if a document that it loads is one that reading gives:
-/// from what the ends hold it makes what they hold after the change, at every node but those that the change destroys and, for a load,
-/// the objects from the number on that its first object gets.
+/// The chain of a change of a legal model, if nothing refuses it, replays it, if a document that it loads is one that reading gives: from
+/// what the ends hold it makes what they hold after the change, at every node but those that the change destroys and, for a load, the
+/// objects from the number on that its first object gets.
 pub fn the_chain_of_a_change_replays_it()
     ensures { (s : Model) (c : Change) → ChainReplays s c }
 {}
 
-/// A change of a legal model, where nothing refuses it, tells no end twice, unless it is an unset of a list, a deletion, a load, or the
-/// one that resolves all proxies. An unset of a list tells no far end twice, and the list is none of the far ends. Of the others nothing is
+/// A change of a legal model, if nothing refuses it, tells no end twice, unless it is an unset of a list, a deletion, a load, or the one
+/// that resolves all proxies. An unset of a list tells no far end twice, and the list is none of the far ends. Of the others nothing is
 /// said.
 pub fn a_chain_tells_no_end_twice()
     ensures ends { (s : Model) (c : Change) → TellsNoEndTwice s c }
     ensures far_ends { (s : Model) (n : Node) (f : FeatureNo) → FarEndsAreApart s n f }
 {}
 
-/// A change of a legal model, where nothing refuses it, cuts no link twice, by whichever of its ends the link is named.
+/// A change of a legal model, if nothing refuses it, cuts no link twice, by whichever of its ends the link is named.
 pub fn a_change_cuts_no_link_twice()
     ensures { (s : Model) (c : Change) → CutsNoLinkTwice s c }
 {}
 
-/// A load into a resource of a legal model, where nothing refuses it, leaves what the document says, if the document is one that reading
+/// A load into a resource of a legal model, if nothing refuses it, leaves what the document says, if the document is one that reading
 /// gives. The objects of the document get the numbers that follow on. Each can be read as the document has it: its class, its attributes
-/// and their flags, its references with both ends of each pair, its container reference, and the end that holds it. The resource holds
-/// the roots in their order. Nothing else has changed (EMF: XMLResource.load).
+/// and their flags, its references with both ends of each pair, its container reference, and the end that holds it. The resource holds the
+/// roots in their order. Nothing else has changed (EMF: XMLResource.load).
 pub fn a_load_reads_as_its_document()
     ensures { (s : Model) (k : ResourceNo) (doc : Doc) → LoadsEnds s k doc }
 {}
 
 /// To resolve all proxies of a legal model is to resolve one after another, by object number, by feature in the order of all features, and
-/// by index, where each is resolved in the model that the earlier ones left, and passed over if it is refused there. It leaves the same
-/// model, tells their notices in order, and counts those that were resolved, and the proxies that stand afterwards (EMF:
-/// EcoreUtil.resolveAll).
+/// by index; each is resolved in the model that the earlier ones left, and passed over if it is refused there. It leaves the same model,
+/// tells their notices in order, and counts those that were resolved, and the proxies that are left (EMF: EcoreUtil.resolveAll).
 pub fn all_proxies_are_resolved_one_after_another()
     ensures { (s : Model) → IsLegal s → ResolvesEach s }
 {}

@@ -1,4 +1,4 @@
-//! The proxies of a model, and what stands at their addresses.
+//! The proxies of a model, and what is at their addresses.
 ghost use Rattle.std.specs.Prelude.{◌≡◌, ◌∷◌, ◌++◌, [], map, IfOk, OnOk, if◌then◌else◌};
 ghost use Rattle.models.specs.Model.{reading};
 ghost use Rattle.handshake.specs.Leads as spec;
@@ -15,14 +15,14 @@ use mm_types::{FeatureNo, Node, ObjectNo};
 use models::ModelRef;
 use std::alloc::{AllocError, Global};
 
-/// Where a proxy stands, and the object at its address, if there is one.
+/// The place of a proxy, and the object at its address, if there is one.
 #[derive(Clone, Copy)]
 pub(crate) struct Lead {
     pub place: Place,
     pub object: Option<ObjectNo>,
 }
 
-/// Those of all proxies, in the order in which they are resolved. Errs only when out of memory.
+/// The leads of all proxies, in the order in which they are resolved. Errs only if memory is refused.
 pub(crate) fn leads<L: LinkStore>(
     alloc: Global,
     model: &ModelRef<L>,
@@ -37,7 +37,7 @@ pub(crate) fn leads<L: LinkStore>(
     Ok(leads)
 }
 
-/// Adds those of an object.
+/// Adds the leads of an object.
 fn push_of_object<L: LinkStore>(
     alloc: Global,
     model: &ModelRef<L>,
@@ -53,7 +53,7 @@ fn push_of_object<L: LinkStore>(
     Ok(())
 }
 
-/// Adds those under a feature of an object.
+/// Adds the leads under a feature of an object.
 fn push_under<L: LinkStore>(
     alloc: Global,
     model: &ModelRef<L>,
@@ -74,7 +74,7 @@ fn push_under<L: LinkStore>(
     Ok(())
 }
 
-/// Adds that of a place, if a proxy stands there.
+/// Adds the lead of a place, if a proxy is there.
 fn push_lead<L: LinkStore>(
     alloc: Global,
     model: &ModelRef<L>,
@@ -111,7 +111,7 @@ impl FirstLeads {
         }
     }
 
-    /// Those of some proxies. Errs only when out of memory.
+    /// The first leads of some proxies. Errs only if memory is refused.
     pub fn of(alloc: Global, leads: &[Lead]) -> Result<Self, AllocError>
         ensures { IfOk result (λ t. (k : Key) → spec.index_at t k ≡ spec.first_index leads.now k) }
     {
@@ -122,7 +122,7 @@ impl FirstLeads {
         Ok(first)
     }
 
-    /// Adds one, behind the others.
+    /// Adds a lead after the others.
     fn add(&mut self, lead: Lead) -> Result<(), AllocError>
         ensures { OnOk result ((k : Key) → spec.index_at self.new k ≡ option_or (spec.index_at self.old k) (spec.first_index (lead ∷ []) k)) }
     {

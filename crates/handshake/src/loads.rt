@@ -33,7 +33,7 @@ pub(crate) fn load_refusal<L: LinkStore>(
     None
 }
 
-/// The notices that an end gains the roots of a document, in their order, where it has none and the first object gets the number
+/// The notices that an end gains the roots of a document, in their order, if it has none and the first object gets the number
 /// `next`.
 pub(crate) fn root_notices(
     alloc: Global,
@@ -52,7 +52,7 @@ pub(crate) fn root_notices(
     Ok(chain)
 }
 
-/// The notice that an end gains a root of a document behind so many others.
+/// The notice that an end gains a root of a document after so many others.
 fn root_notice(next: usize, end: End, position: u32, root: ObjectNo) -> Notice
     requires fits { IsNumbered next root }
     ensures { result ≡ root_notice_of next end (position, root) }

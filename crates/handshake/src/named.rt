@@ -13,8 +13,8 @@ use models::ModelRef;
 
 /// The first refusal of a change that needs no memory to be found: what it names is not there.
 ///
-/// `NoObject` where the node, or the value, is an object that does not live; `NoResource`, `NoClass`, `Abstract`, `NoFeature`;
-/// `NotSingle` where one value is set under a list's feature, `NotMany` where a list is edited under the feature of one value.
+/// `NoObject` if the node, or the value, is an object that does not live; `NoResource`, `NoClass`, `Abstract`, `NoFeature`;
+/// `NotSingle` if one value is set under a list's feature, `NotMany` if a list is edited under the feature of one value.
 pub fn early_refusal<L: LinkStore>(model: &ModelRef<L>, change: &Change) -> Option<Refused>
     ensures { result ≡ refusals.early_refusal (reading model.now) change.now }
 {

@@ -1,4 +1,4 @@
-//! Where proxies stand.
+//! The places of proxies.
 use mm_types::{FeatureNo, ObjectNo};
 
 /// The place of a proxy: the object that refers, its reference, and the index.

@@ -35,16 +35,16 @@ use removal::{Removal, Tie};
 use std::alloc::{AllocError, Global};
 
 /// The plan of a change whose class, nodes and features are there, or the first refusal that planning finds. The notices are made only
-/// where somebody may hear them.
+/// if somebody may hear them.
 ///
-/// `WrongType` where the value is not one of the feature's type, `TextLength` above 65,535 bytes, `Index` where nothing stands at an
-/// index or a value would not stand behind the last, `Duplicate` where a unique list has the value that is added at an index, `Bound`
-/// where an end that has to gain is full, `Recursive` where an object would become a part of itself, `Limit` where 1,000,000 objects
-/// or 100,000 resources were made, or 1,000,000 values stand at an end, `ResourceExists` where a resource has the URI; and of a
-/// proxy to be resolved `NotProxy` where something else stands there, `Unloaded` where no resource has its URI, `Unresolved` where
-/// nothing is at its address, `Unmatched` where the reference has an opposite and no proxy there has the address of the object that
-/// refers; and of a document `Limit` where its objects would be more than 1,000,000 with those that were made, `NotEmpty` where the
-/// resource has roots. `Memory` where none of these applies; of a proxy, whose target is looked for first, `Memory` may come before.
+/// `WrongType` if the value is not one of the feature's type, `TextLength` above 65,535 bytes, `Index` if nothing is at an index, or
+/// if there would be a gap before a value that is put in, `Duplicate` if a unique list has the value that is added at an index,
+/// `Bound` if an end that has to gain is full, `Recursive` if an object would become a part of itself, `Limit` if 1,000,000 objects or
+/// 100,000 resources were made, or 1,000,000 values are at an end, `ResourceExists` if a resource has the URI; and of a proxy to be
+/// resolved `NotProxy` if something else is there, `Unloaded` if no resource has its URI, `Unresolved` if nothing is at its address,
+/// `Unmatched` if the reference has an opposite and no proxy there has the address of the object that refers; and of a document
+/// `Limit` if its objects would be more than 1,000,000 with those that were made, `NotEmpty` if the resource has roots. `Memory` if
+/// none of these applies; of a proxy, whose target is looked for first, `Memory` may come before.
 pub fn plan<L: LinkStore>(
     alloc: Global,
     model: &ModelRef<L>,
@@ -62,7 +62,7 @@ pub fn plan<L: LinkStore>(
     Ok(made(alloc, model, change, target, is_heard)?)
 }
 
-/// What a change destroys that nothing refuses, its edits, and its notices. Errs only when out of memory.
+/// What a change destroys that nothing refuses, its edits, and its notices. Errs only if memory is refused.
 fn made<L: LinkStore>(
     alloc: Global,
     model: &ModelRef<L>,
@@ -95,7 +95,7 @@ fn made<L: LinkStore>(
 }
 
 /// The edits of a change that nothing refuses and that doesn't resolve all proxies, of links and of values, and its notices. Errs only
-/// when out of memory.
+/// if memory is refused.
 fn edits_and_notices<L: LinkStore>(
     alloc: Global,
     model: &ModelRef<L>,
@@ -120,7 +120,7 @@ fn edits_and_notices<L: LinkStore>(
     Ok((edits, values, chain))
 }
 
-/// The edits of links that make a change, and the notices that it tells; none where nobody may hear them.
+/// The edits of links that make a change, and the notices that it tells; none if nobody may hear them.
 fn links_and_notices<L: LinkStore>(
     alloc: Global,
     model: &ModelRef<L>,
@@ -344,7 +344,7 @@ fn is_at_limit<L: LinkStore>(model: &ModelRef<L>, end: End) -> bool
     model.len(end) as usize >= limits::LIST_VALUES
 }
 
-/// The notices that a change tells that cuts these links; none where nobody may hear them.
+/// The notices of a change that cuts these links; none if nobody may hear them.
 fn heard_chain<L: LinkStore>(
     alloc: Global,
     model: &ModelRef<L>,

@@ -24,7 +24,7 @@ use models::ModelRef;
 use std::alloc::{AllocError, Global};
 use web_uris::split_address;
 
-/// What the proxy finds that a change resolves, if it resolves one. Errs only when out of memory, and for no other change.
+/// What the proxy finds that a change resolves, if it resolves one. Errs only if memory is refused, and for no other change.
 pub(crate) fn target_of<L: LinkStore>(
     alloc: Global,
     model: &ModelRef<L>,
@@ -43,7 +43,7 @@ pub(crate) fn target_of<L: LinkStore>(
     }
 }
 
-/// The object at the address of the proxy at an index, if there are both. Errs only when out of memory.
+/// The object at the address of the proxy at an index, if there are both. Errs only if memory is refused.
 fn target_at<L: LinkStore>(
     alloc: Global,
     model: &ModelRef<L>,
@@ -65,7 +65,8 @@ fn target_at<L: LinkStore>(
     }))
 }
 
-/// The proxy that a link between an end and an object has at the opposite end, if there is one. Errs only when out of memory.
+/// The proxy that a link between an end and an object has at the opposite end, if there is one. Errs only if memory is
+/// refused.
 fn counterpart<L: LinkStore>(
     alloc: Global,
     model: &ModelRef<L>,
@@ -80,7 +81,7 @@ fn counterpart<L: LinkStore>(
     }
 }
 
-/// The first proxy at an end that has the address of a node. Errs only when out of memory.
+/// The first proxy at an end that has the address of a node. Errs only if memory is refused.
 fn first_to<L: LinkStore>(
     alloc: Global,
     model: &ModelRef<L>,
@@ -97,7 +98,7 @@ fn first_to<L: LinkStore>(
     Ok(None)
 }
 
-/// Whether a proxy stands at an index and has the address of a node. Errs only when out of memory.
+/// Whether a proxy is at an index and has the address of a node. Errs only if memory is refused.
 fn leads_to<L: LinkStore>(
     alloc: Global,
     model: &ModelRef<L>,
@@ -116,7 +117,7 @@ fn leads_to<L: LinkStore>(
     }
 }
 
-/// Why what stands at an index can't be resolved to what it finds: `WrongType`, `Index`, `Duplicate`, `NotProxy`, `Unloaded`,
+/// Why what is at an index can't be resolved to what it finds: `WrongType`, `Index`, `Duplicate`, `NotProxy`, `Unloaded`,
 /// `Unresolved` or `Unmatched`. Takes no memory.
 pub(crate) fn resolve_refusal<L: LinkStore>(
     model: &ModelRef<L>,
@@ -158,7 +159,7 @@ pub(crate) fn is_mistyped<L: LinkStore>(
     }
 }
 
-/// Whether the object at a proxy's address stands in the list already.
+/// Whether the object at a proxy's address is in the list already.
 pub(crate) fn is_there_already<L: LinkStore>(
     model: &ModelRef<L>,
     end: End,
@@ -172,7 +173,7 @@ pub(crate) fn is_there_already<L: LinkStore>(
     }
 }
 
-/// The text of the proxy at an index of an end, if one stands there. Takes no memory.
+/// The text of the proxy at an index of an end, if one is there. Takes no memory.
 pub(crate) fn proxy_at<'a, L: LinkStore>(
     model: &ModelRef<'a, L>,
     end: End,
@@ -186,7 +187,7 @@ pub(crate) fn proxy_at<'a, L: LinkStore>(
     }
 }
 
-/// The URI in a proxy's text: what stands before the first `#`.
+/// The URI in a proxy's text: what comes before the first `#`.
 fn uri_of(text: &str) -> &str
     ensures { result.now ≡ uri_part text.now }
 {

@@ -26,7 +26,7 @@ use models::ModelRef;
 use notice_chain::Chain;
 use std::alloc::{AllocError, Global};
 
-/// The plan that resolves all proxies; the notices are made only where somebody may hear them. Errs only when out of memory.
+/// The plan that resolves all proxies; the notices are made only if somebody may hear them. Errs only if memory is refused.
 pub(crate) fn all_resolved<L: LinkStore>(
     alloc: Global,
     model: &ModelRef<L>,
@@ -117,7 +117,7 @@ fn joint_notices<L: LinkStore>(
     notices(alloc, model, tellings)
 }
 
-/// What happens where proxies are resolved.
+/// What happens when proxies are resolved.
 fn tellings(alloc: Global, joints: &[Joint]) -> Result<Vec<Telling>, AllocError>
     ensures { IfOk result (λ ts. ts.items ≡ flat_map spec.told_by joints.now) }
 {
@@ -128,7 +128,7 @@ fn tellings(alloc: Global, joints: &[Joint]) -> Result<Vec<Telling>, AllocError>
     Ok(out)
 }
 
-/// Adds what happens where a proxy is resolved.
+/// Adds what happens when a proxy is resolved.
 fn push_told(joint: Joint, out: &mut Vec<Telling>) -> Result<(), AllocError>
     ensures { OnOk result (out.new.items ≡ out.old.items ++ spec.told_by joint) }
 {

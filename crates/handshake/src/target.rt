@@ -8,7 +8,7 @@ pub struct Target {
     pub counterpart: Option<Counterpart>,
 }
 
-/// A proxy at the opposite end of a link: the end, and the index at which the proxy stands.
+/// A proxy at the opposite end of a link: the end, and the index at which the proxy is.
 #[derive(Clone, Copy)]
 pub struct Counterpart {
     pub end: End,

@@ -19,8 +19,8 @@ use models::{ModelRef, at_end};
 use removal::Tie;
 use std::alloc::{AllocError, Global};
 
-/// What a change that cuts these links, destroys and loads nothing, and doesn't resolve all proxies, makes happen, in the order in which
-/// it is told.
+/// What a change makes happen at each end, in the order in which it is told, given the links that it cuts. For changes that destroy and
+/// load nothing and don't resolve all proxies.
 pub(crate) fn tellings<L: LinkStore>(
     alloc: Global,
     model: &ModelRef<L>,
@@ -86,7 +86,7 @@ pub(crate) fn tellings<L: LinkStore>(
     Ok(out)
 }
 
-/// Adds what happens where a proxy is resolved: to the opposite end first.
+/// Adds what happens when a proxy is resolved: to the opposite end first.
 pub(crate) fn push_resolved(
     end: End,
     index: u32,
@@ -109,7 +109,7 @@ pub(crate) fn push_resolved(
     )
 }
 
-/// Adds what happens where a single feature is set.
+/// Adds what happens when a single feature is set.
 fn push_set<L: LinkStore>(
     model: &ModelRef<L>,
     end: End,
@@ -125,7 +125,7 @@ fn push_set<L: LinkStore>(
     push(out, end, Happening::Gains(value.clone()?))
 }
 
-/// Adds what happens where a value is added to a list: nothing where the list repeats nothing and has it.
+/// Adds what happens when a value is added to a list: nothing if the list repeats nothing and has it.
 fn push_added<L: LinkStore>(
     model: &ModelRef<L>,
     end: End,
@@ -153,7 +153,7 @@ fn gain_at(index: Option<u32>, value: Value) -> Happening
     }
 }
 
-/// Adds what happens where a value is taken out of a list, and its link is cut.
+/// Adds what happens when a value is taken out of a list, and its link is cut.
 fn push_taken_out<L: LinkStore>(
     model: &ModelRef<L>,
     end: End,
@@ -167,7 +167,7 @@ fn push_taken_out<L: LinkStore>(
     push(out, end, Happening::LosesAt(index))
 }
 
-/// Adds what happens where the first value that is the same is taken out of a list: nothing where there is none.
+/// Adds what happens when the first value that is the same is taken out of a list: nothing if there is none.
 fn push_value_taken_out<L: LinkStore>(
     model: &ModelRef<L>,
     end: End,

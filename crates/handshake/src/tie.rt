@@ -46,7 +46,7 @@ pub(crate) fn opposite_end<L: LinkStore>(
     }
 }
 
-/// The same link by its other end, where it has one.
+/// The same link by its other end, if it has one.
 pub(crate) fn turned<L: LinkStore>(model: &ModelRef<L>, tie: &Tie) -> Option<Tie>
     ensures { result ≡ d.turned (reading model.now) tie.now }
 {

@@ -16,8 +16,8 @@ use mm_values::ValuePlan;
 use models::ModelRef;
 use std::alloc::Global;
 
-/// The edits of values that a change makes, or the first refusal that planning finds: the part of `plan` that is left of a change that edits
-/// no link, if nobody hears of it.
+/// The edits of values that a change makes, or the first refusal that planning finds: the part of `plan` that is left of a change that
+/// edits no link, if nobody hears of it.
 pub fn plan_values<L: LinkStore>(
     alloc: Global,
     model: &ModelRef<L>,

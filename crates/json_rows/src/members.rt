@@ -22,7 +22,7 @@ fn all_keys_among(members: &Map<String, Value>, names: &[&str]) -> bool
     members.keys().all(|key| is_one_of(key.as_str(), names))
 }
 
-/// Whether the keys of an object are all among these. Takes no memory.
+/// Whether the keys of an object are all among some names. Takes no memory.
 pub fn has_only_keys(members: &Map<String, Value>, names: &[&str]) -> bool
     ensures { result ≡ only_keys (map (λ n. n.now) names.now) (members_view members.now.entries) }
 {
@@ -39,7 +39,7 @@ pub fn members_of(value: Value) -> Option<Map<String, Value>>
     }
 }
 
-/// The members of an object whose keys are all among these. Takes no memory.
+/// The members of an object whose keys are all among some names. Takes no memory.
 pub fn only_members_of(value: Value, names: &[&str]) -> Option<Map<String, Value>>
     ensures { option_map (λ m. object (members_view m.entries)) result
         ≡ (if has_only (map (λ n. n.now) names.now) (view value) then Some (view value) else None) }
@@ -51,7 +51,7 @@ pub fn only_members_of(value: Value, names: &[&str]) -> Option<Map<String, Value
     Some(members)
 }
 
-/// The value of a key, which is taken out; nothing where the key is absent. Takes no memory.
+/// The value of a key, which is taken out; nothing if the key is absent. Takes no memory.
 pub fn take(members: &mut Map<String, Value>, key: &str) -> Option<Value>
     ensures value { option_map view result ≡ get_member key.now (members_view members.old.entries) }
     ensures others { KeepsOthers (key.now ∷ []) (members_view members.old.entries) (members_view members.new.entries) }
@@ -59,7 +59,7 @@ pub fn take(members: &mut Map<String, Value>, key: &str) -> Option<Value>
     members.remove(key)
 }
 
-/// The value of a key, or nothing where the key is absent. Takes no memory.
+/// The value of a key, or nothing if the key is absent. Takes no memory.
 pub fn find<'v>(members: &'v Map<String, Value>, key: &str) -> Option<&'v Value>
     ensures { option_map (λ v. view v.now) result ≡ get_member key.now (members_view members.now.entries) }
 {

@@ -7,7 +7,7 @@ use std::alloc::{AllocError, AllocFailed};
 /// Why a JSON value is not read.
 #[derive(Debug, Drop)]
 pub enum ReadFault {
-    /// The value has another shape.
+    /// The value does not have the shape that is asked for.
     Layout,
     /// Memory was refused.
     Memory,

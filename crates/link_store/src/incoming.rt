@@ -1,4 +1,4 @@
-//! Where an object stands.
+//! The places of an object.
 ghost use Rattle.std.specs.Prelude.{◌≡◌, ◌++◌, IfOk, OnOk};
 ghost use Rattle.link_store.specs.Rows.{places_in};
 ghost use Rattle.links.specs.Found.{place_if};
@@ -21,7 +21,7 @@ fn push_place(position: Option<u32>, end: End, out: &mut Vec<Incoming>) -> Resul
     Ok(())
 }
 
-// The first position of a value in each of some ends that has it.
+/// The first position of a value in each of some ends that has it.
 pub(crate) fn places_of(
     alloc: Global,
     rows: &[Link],

@@ -9,7 +9,7 @@ pub(crate) enum Renumbering {
     Raise(u32),
     /// The value at a position goes.
     Lower(u32),
-    /// What stands at the second position moves, so that it then stands at the first.
+    /// What is at the second position moves, so that it is then at the first.
     Shift(u32, u32),
 }
 

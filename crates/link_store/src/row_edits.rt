@@ -13,7 +13,7 @@ use crate::rows::{has, len_of, spot_of};
 use links::{Edit, Far, Link};
 use mm_types::{End, FeatureNo, Node, ObjectNo, Text, Value};
 
-// Changes the row's position in an end.
+/// Changes the row's position in an end.
 fn move_row(row: &mut Link, end: End, by: Renumbering)
     requires { CanMove by end row.old }
     ensures { row.new ≡ moved row.old end (changed_index by) }
@@ -27,7 +27,7 @@ fn move_row(row: &mut Link, end: End, by: Renumbering)
     }
 }
 
-// Changes the positions of one end.
+/// Changes the positions of one end.
 fn renumber(rows: &mut Vec<Link>, end: End, by: Renumbering)
     requires { All (CanMove by end) rows.old.items }
     ensures rows { rows.new.items ≡ map (λ l. moved l end (changed_index by)) rows.old.items }
@@ -39,7 +39,7 @@ fn renumber(rows: &mut Vec<Link>, end: End, by: Renumbering)
     }
 }
 
-// Takes out the rows that have a value in an end.
+/// Takes out the rows that have a value in an end.
 fn take_out(rows: &mut Vec<Link>, end: End, value: &Value)
     ensures rows { rows.new.items ≡ filter (λ l. not (has_value end value.now l)) rows.old.items }
     ensures len { vec_len rows.new ≤ vec_len rows.old }
@@ -55,7 +55,7 @@ fn take_out(rows: &mut Vec<Link>, end: End, value: &Value)
     }
 }
 
-// Cuts the link that has a value in an end.
+/// Cuts the link that has a value in an end.
 fn cut_row(rows: &mut Vec<Link>, end: End, value: &Value)
     requires placed { IsPlaced (set.from_list rows.old.items) }
     ensures cut { set.from_list rows.new.items ≡ cut_value (set.from_list rows.old.items) end value.now }
@@ -71,7 +71,7 @@ fn cut_row(rows: &mut Vec<Link>, end: End, value: &Value)
     }
 }
 
-// A link between places of two ends, written from the lower feature.
+/// A link between places of two ends, written from the lower feature.
 fn join(x: End, i: u32, y: End, j: u32, container: Option<FeatureNo>) -> Link
     ensures { result ≡ joined x i y j container }
 {
@@ -92,7 +92,7 @@ fn join(x: End, i: u32, y: End, j: u32, container: Option<FeatureNo>) -> Link
     }
 }
 
-// The link that puts an object at a position of an end.
+/// The link that puts an object at a position of an end.
 fn new_row(
     rows: &[Link],
     end: End,
@@ -121,7 +121,7 @@ fn new_row(
     }
 }
 
-// Puts an object at a position of an end.
+/// Puts an object at a position of an end.
 fn put_row(
     rows: &mut Vec<Link>,
     end: End,
@@ -141,7 +141,7 @@ fn put_row(
     rows.push_reserved(row);
 }
 
-// Puts a proxy at a position of an end.
+/// Puts a proxy at a position of an end.
 fn put_proxy_row(rows: &mut Vec<Link>, end: End, index: u32, text: Text)
     requires placed { IsPlaced (set.from_list rows.old.items) }
     requires room { vec_len rows.old < vec_capacity rows.old }
@@ -159,7 +159,7 @@ fn put_proxy_row(rows: &mut Vec<Link>, end: End, index: u32, text: Text)
     rows.push_reserved(row);
 }
 
-// Moves what stands at a position of an end.
+/// Moves what is at a position of an end.
 fn shift_rows(rows: &mut Vec<Link>, end: End, to: u32, from: u32)
     requires placed { IsPlaced (set.from_list rows.old.items) }
     ensures shifted { set.from_list rows.new.items ≡ shift (set.from_list rows.old.items) end to from }
@@ -169,7 +169,7 @@ fn shift_rows(rows: &mut Vec<Link>, end: End, to: u32, from: u32)
     renumber(rows, end, Renumbering::Shift(to, from));
 }
 
-// Makes one edit.
+/// Makes one edit.
 pub(crate) fn edit_rows(rows: &mut Vec<Link>, edit: Edit)
     requires placed { IsPlaced (set.from_list rows.old.items) }
     requires room { vec_len rows.old < vec_capacity rows.old }

@@ -41,7 +41,7 @@ pub fn a_plan_makes_no_cycle()
     ensures { (s : Links) (plan : List Edit) → IsLegalSet s → PlanFits s plan → PlanMakesNoCycle s plan → HasNoCycle s → HasNoCycle (applied s plan) }
 {}
 
-/// Where no node is under itself, no chain of holders is longer than there are links.
+/// If no node is under itself, no chain of holders is longer than there are links.
 pub fn chains_of_holders_end()
     ensures { (s : Links) → IsLegalSet s → HasNoCycle s → IsForest s }
 {}
@@ -77,7 +77,7 @@ pub fn a_put_gives_each_end_and_holder()
     ensures { (s : Links) (e : End) (i : ℕ) (o : ObjectNo) (g c : Option FeatureNo) → IsLegalSet s → EditFits s (edit.Put e i o g c) → PutGives s e i o g c }
 {}
 
-/// A put that fits keeps a legal set legal, of its kinds, and, where the node that contains is neither the other nor below it, without cycles.
+/// A put that fits keeps a legal set legal, of its kinds, and, if the node that contains is neither the other nor below it, without cycles.
 pub fn a_put_keeps_a_set_legal()
     ensures legal { (s : Links) (e : End) (i : ℕ) (o : ObjectNo) (g c : Option FeatureNo) → IsLegalSet s → EditFits s (edit.Put e i o g c) → IsLegalSet (put s e i o g c) }
     ensures kinds { (m : Kinds) → AreKinds m → (s : Links) (e : End) (i : ℕ) (o : ObjectNo) → AreOfKind m s → AreOfKind m (put s e i o (m.opposite e.feature) (m.container e.feature)) }
@@ -126,7 +126,7 @@ pub fn a_plan_of_cuts_fits()
     ensures no_cycle { (s : Links) (ts : List (End × Value)) → PlanMakesNoCycle s (cut_edits ts) }
 {}
 
-/// Plans one behind the other: what they make, and that they fit.
+/// Plans one after the other: what they make, and that they fit.
 pub fn plans_follow_one_another()
     ensures makes { (s : Links) (xs ys : List Edit) → applied s (xs ++ ys) ≡ applied (applied s xs) ys }
     ensures fits { (s : Links) (xs ys : List Edit) → PlanFits s xs → PlanFits (applied s xs) ys → PlanFits s (xs ++ ys) }

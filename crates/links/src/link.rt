@@ -6,13 +6,13 @@ use mm_types::{End, FeatureNo, ObjectNo, Text};
 pub enum Far {
     /// A position in the end of an opposite.
     At(End, u32),
-    /// An object, where the feature has no opposite.
+    /// An object, if the feature has no opposite.
     Alone(ObjectNo),
     /// The text of a proxy.
     Proxy(Text),
 }
 
-/// A link or a proxy: where it stands in one end, and its other side (MOF 2.5.1: Link).
+/// A link or a proxy: its place in one end, and its other side (MOF 2.5.1: Link).
 #[derive(Debug, Drop)]
 pub struct Link {
     pub end: End,

@@ -7,12 +7,13 @@ use mm_types::{End, FeatureNo, ObjectNo, Seq, Text};
 /// One edit. A cut names its link by an end and the value there, which no other edit renumbers.
 #[derive(Debug, Drop)]
 pub enum Edit {
-    /// Takes the link of an object out of an end, and lowers the later positions where it stood.
+    /// Takes the link of an object out of an end, and lowers the later positions in each end that
+    /// had it.
     Cut {
         end: End,
         object: ObjectNo,
     },
-    /// Puts an object at a position of an end. The opposite end, where there is one, gains last.
+    /// Puts an object at a position of an end. The opposite end, if there is one, gains last.
     Put {
         end: End,
         index: u32,
@@ -20,7 +21,7 @@ pub enum Edit {
         opposite: Option<FeatureNo>,
         container: Option<FeatureNo>,
     },
-    /// Moves what stands at `from`, so that it then stands at `to`.
+    /// Moves what is at `from`, so that it is then at `to`.
     Shift {
         end: End,
         to: u32,

@@ -38,39 +38,39 @@ pub trait LinkStore: Drop {
         requires legal { IsLegalSet (links self.now) }
         ensures { result ≡ length (end_of (links self.now) end) };
 
-    /// The object at a position of an end; `None` past the last, and where a proxy stands.
+    /// The object at a position of an end; `None` past the last, and if a proxy is there.
     fn at(&self, end: End, index: u32) -> Option<ObjectNo>
         requires legal { IsLegalSet (links self.now) }
         ensures { result ≡ object_at (links self.now) end index };
 
-    /// The text of the proxy at a position of an end; `None` past the last, and where an object stands.
+    /// The text of the proxy at a position of an end; `None` past the last, and if an object is there.
     fn proxy_at(&self, end: End, index: u32) -> Option<&str>
         requires legal { IsLegalSet (links self.now) }
         ensures { option_copied result ≡ proxy_of (links self.now) end index };
 
-    /// Where an object stands in an end; `None` where it stands nowhere in it.
+    /// The place of an object in an end; `None` if it has none there.
     fn position(&self, end: End, object: ObjectNo) -> Option<u32>
         requires legal { IsLegalSet (links self.now) }
         ensures { MatchOption result (Lacks (links self.now) end (value.Object object)) (λ k. slice_get (end_of (links self.now) end) k ≡ Some (value.Object object)) };
 
-    /// The end that contains an object (EMF: eContainer, eContainmentFeature); `None` where none does.
+    /// The end that contains an object (EMF: eContainer, eContainmentFeature); `None` if none does.
     fn holder(&self, object: ObjectNo) -> Option<End>
         requires legal { IsLegalSet (links self.now) }
         ensures { result ≡ holder_of (links self.now) (node.Object object) };
 
-    /// Where an object stands: each position of each end that has it, by the numbers of the features, then the nodes, objects
-    /// before resources, each by number. An end has an object once. Errs only where memory is refused.
+    /// The places of an object: each position of each end that has it, by the numbers of the features, then the nodes,
+    /// objects before resources, each by number. An end has an object once. Errs only if memory is refused.
     fn incoming(&self, alloc: Global, object: ObjectNo) -> Result<Vec<Incoming>, AllocError>
         requires legal { IsLegalSet (links self.now) }
         ensures places { IfOk result (λ r. ArePlacesOf (links self.now) object r.items) }
         ensures order { IfOk result (λ r. AreInOrder (map incoming_end r.items)) };
 
-    /// The ends that an object stands in, in no order; one end may come twice. Errs only where memory is refused.
+    /// The ends that an object is in, in no order; one end may come twice. Errs only if memory is refused.
     fn ends_holding(&self, alloc: Global, object: ObjectNo) -> Result<Vec<End>, AllocError>
         requires legal { IsLegalSet (links self.now) }
         ensures { IfOk result (λ r. AreIncoming (links self.now) object r.items) };
 
-    /// Takes all the memory that a plan needs. Errs where memory is refused; no link changes.
+    /// Takes all the memory that a plan needs. Errs only if memory is refused; no link changes.
     fn reserve_for(&mut self, plan: &Plan) -> Result<(), AllocError>
         ensures links { links self.new ≡ links self.old }
         ensures kinds { (m : Kinds) → kinds self.old m → kinds self.new m }

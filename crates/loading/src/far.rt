@@ -17,7 +17,8 @@ use mm_types::{FeatureNo, ObjectNo, Value};
 use resource_docs::{Content, Doc, DocObject};
 use std::alloc::{AllocError, Global};
 
-/// What the edits are made from: the metamodel, the number that the document's first object gets, and where its lists have each object.
+/// What the edits are made from: the metamodel, the number that the document's first object gets, and the places at which its lists
+/// have each object.
 #[derive(Clone, Copy)]
 struct Source<'r> {
     meta: &'r Meta,
@@ -41,7 +42,7 @@ fn is_ascending(values: &[Value]) -> bool
     true
 }
 
-/// Whether the values under the higher feature of a pair are in another order than that of their numbers.
+/// Whether the values under the higher feature of a pair are not in the order of their numbers.
 fn is_unordered(meta: &Meta, content: &Content) -> bool
     ensures { result ≡ e.is_unordered meta.now content.now }
 {
@@ -62,7 +63,7 @@ fn has_any_unordered(meta: &Meta, objects: &[DocObject]) -> bool
         .any(|object| has_unordered(meta, object.contents.as_slice()))
 }
 
-/// Adds the edits that put the ends of a document's objects in order. Where all are, it takes no memory.
+/// Adds the edits that put the ends of a document's objects in order. If all are, it takes no memory.
 pub(crate) fn push_in_order(
     alloc: Global,
     meta: &Meta,
@@ -120,8 +121,7 @@ fn push_object(
     Ok(())
 }
 
-/// Adds the edits that put an object's end of a feature in order, where that is the higher of a pair, and where the end has another
-/// order.
+/// Adds the edits that put an object's end of a feature in order, if that is the higher of a pair, and the end is not in that order.
 fn push_content(
     source: &Source,
     object: ObjectNo,

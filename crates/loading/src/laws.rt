@@ -16,7 +16,7 @@ ghost use Rattle.loading.specs.Laws.{IsRoomFor, MakesLinks};
 ghost use Rattle.loading.specs.LoadEdits.{load_edits};
 ghost use Rattle.loading.specs.Typed.{IsTyped};
 
-/// A document that is read can be loaded where its objects get numbers within the limit.
+/// A document that is read can be loaded if its objects get numbers within the limit.
 pub fn a_document_that_is_read_fits()
     ensures { (m : Metamodel) (uri : List ℕ) (doc : Doc) (n : ℕ) → IsRead m uri doc → n + length doc.objects ≤ OBJECTS → IsFitting n doc }
 {}
@@ -32,8 +32,8 @@ pub fn the_edits_of_a_document_are_of_kind()
     ensures { (m : Metamodel) (uri : List ℕ) (doc : Doc) (n : ℕ) (k : ResourceNo) → IsRead m uri doc → IsPlanOfKind (kinds_of m) (load_edits m n k doc) }
 {}
 
-/// The edits of a document that is read fit, put nothing below itself, and make the links that the document says and no others, where
-/// the numbers of its objects and the resource are still free.
+/// The edits of a document that is read fit, put nothing below itself, and make the links that the document says and no others, if the
+/// numbers of its objects and the resource are still free.
 pub fn the_edits_of_a_document_make_its_links()
     ensures { (m : Metamodel) (uri : List ℕ) (doc : Doc) (n : ℕ) (k : ResourceNo) (s : Links) → IsOfDocument m → IsRead m uri doc → n + length doc.objects ≤ OBJECTS → IsLegalSet s → AreOfKind (kinds_of m) s → HasNoCycle s → IsRoomFor m n k s → MakesLinks m n k doc s }
 {}

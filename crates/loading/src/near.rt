@@ -43,7 +43,7 @@ pub(crate) fn push_values(
     Ok(())
 }
 
-/// Adds the edit that puts a value at a place, where it is an object or a proxy.
+/// Adds the edit that puts a value at a place, if it is an object or a proxy.
 fn push_value(
     meta: &Meta,
     next: usize,

@@ -5,7 +5,7 @@ ghost use Rattle.loading.specs.Loading as l;
 
 use mm_types::{End, FeatureNo, Node, ObjectNo};
 
-/// The number that an object of a document gets, where the first one gets `next`. Takes no memory.
+/// The number that an object of a document gets, if the first one gets `next`. Takes no memory.
 pub fn loaded(next: usize, object: ObjectNo) -> ObjectNo
     requires fits { IsNumbered next object }
     ensures { result ≡ l.loaded next object }

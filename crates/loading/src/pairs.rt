@@ -6,7 +6,7 @@ ghost use Rattle.loading.specs.Pairs as p;
 use mm_meta::Meta;
 use mm_types::FeatureNo;
 
-/// The opposite of a feature, where that is the lower of the two and neither contains. Takes no memory.
+/// The opposite of a feature, if that is the lower of the two and neither contains. Takes no memory.
 pub(crate) fn lower_of(meta: &Meta, feature: FeatureNo) -> Option<FeatureNo>
     ensures { result ≡ p.lower_of (shape meta.now feature) feature }
 {

@@ -1,4 +1,4 @@
-//! Where each object stands in the lists of a document.
+//! The places of each object in the lists of a document.
 ghost use Rattle.std.specs.Prelude.{◌≡◌};
 
 use crate::pairs::is_lower;
@@ -30,7 +30,7 @@ impl Naming {
     }
 }
 
-/// Where each object stands in the lists of a document.
+/// The places of each object in the lists of a document.
 #[derive(Drop)]
 pub(crate) struct Places {
     places: IndexMap<Naming, u32>,
@@ -45,7 +45,7 @@ impl Places {
     ghost use Rattle.loading.specs.Places as p;
     ghost use Rattle.loading.specs.declared.places.Naming.{Naming};
 
-    /// No object stands anywhere. Takes no memory.
+    /// No object is anywhere. Takes no memory.
     fn new(alloc: Global) -> Self
         ensures { (k : Naming) → p.place_at result k ≡ None }
     {
@@ -54,7 +54,7 @@ impl Places {
         }
     }
 
-    /// Where the lists of a document have each object. Errs only when out of memory.
+    /// The places at which the lists of a document have each object. Errs only if memory is refused.
     pub fn of(alloc: Global, meta: &Meta, objects: &[DocObject]) -> Result<Self, AllocError>
         requires room { length objects.now ≤ OBJECTS }
         requires short { All IsShortObject objects.now }
@@ -67,7 +67,7 @@ impl Places {
         Ok(places)
     }
 
-    /// Adds where an object of the document has others.
+    /// Adds the places at which an object of the document has others.
     fn add_object(
         &mut self,
         meta: &Meta,
@@ -83,7 +83,8 @@ impl Places {
         Ok(())
     }
 
-    /// Adds where an object of the document has others under a feature, if that is the lower of a pair.
+    /// Adds the places at which an object of the document has others under a feature, if that is the
+    /// lower of a pair.
     fn add_content(
         &mut self,
         meta: &Meta,
@@ -99,7 +100,7 @@ impl Places {
         self.add_values(object, content.feature, content.values.as_slice())
     }
 
-    /// Adds where values under a feature of an object stand.
+    /// Adds the places of the values under a feature of an object.
     fn add_values(
         &mut self,
         object: ObjectNo,
@@ -115,7 +116,7 @@ impl Places {
         Ok(())
     }
 
-    /// Adds where one value stands, if it is an object.
+    /// Adds the place of one value, if it is an object.
     fn add_value(
         &mut self,
         object: ObjectNo,
@@ -138,7 +139,7 @@ impl Places {
         Ok(())
     }
 
-    /// Where an object stands; 0 where it does not. Takes no memory.
+    /// The place of an object; 0 if it has none. Takes no memory.
     pub fn place(&self, naming: Naming) -> u32
         ensures { result ≡ unwrap_or (p.place_at self.now naming) 0 }
     {

@@ -23,7 +23,7 @@ pub(crate) fn push_values(
     Ok(())
 }
 
-/// Adds the edit that puts a value at a place, where it is a proxy.
+/// Adds the edit that puts a value at a place, if it is a proxy.
 fn push_value(end: End, index: u32, value: &Value, edits: &mut Vec<Edit>) -> Result<(), AllocError>
     ensures { OnOk result (edits.new.items ≡ edits.old.items ++ e.proxy_puts end (index, value.now)) }
 {

@@ -14,7 +14,7 @@ use resource_docs::{Content, Doc, DocObject};
 use std::alloc::{AllocError, Global};
 
 /// The edits that make the objects of a document, the first of which gets the number `next`, and give them the values of their
-/// attributes, which are moved. Errs only when out of memory.
+/// attributes, which are moved. Errs only if memory is refused.
 pub fn value_edits(
     alloc: Global,
     meta: &Meta,
@@ -77,7 +77,7 @@ fn push_object(
     Ok(())
 }
 
-/// Adds the edit that gives an object of a document its values under a feature, where that is an attribute.
+/// Adds the edit that gives an object of a document its values under a feature, if that is an attribute.
 fn push_list(
     meta: &Meta,
     next: usize,

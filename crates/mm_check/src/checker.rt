@@ -53,7 +53,7 @@ fn own_names(alloc: Global, classes: &[RawClass]) -> Result<Vec<Seq<Text>>, Allo
 }
 
 impl<'a> Checker<'a> {
-    /// A checker of a metamodel document. Errs only where memory is refused.
+    /// A checker of a metamodel document. Errs only if memory is refused.
     pub fn new(alloc: Global, raw: &'a RawMeta) -> Result<Self, AllocError>
         ensures { IfOk result (λ c. c ≡ raw.now) }
     {
@@ -67,7 +67,7 @@ impl<'a> Checker<'a> {
         })
     }
 
-    /// What the document resolves to, where it is well-formed. Errs only where memory is refused.
+    /// What the document resolves to, if it is well-formed. Errs only if memory is refused.
     pub fn resolution(&self, alloc: Global) -> Result<Resolution, AllocError>
         requires { WellFormed self.now }
         ensures { IfOk result (IsResolutionOf self.now) }
@@ -89,7 +89,7 @@ impl<'a> Checker<'a> {
         self.resolver.classes().len()
     }
 
-    /// How many features a class declares; none where there is no such class.
+    /// How many features a class declares; none if there is no such class.
     pub fn feature_count(&self, c: usize) -> usize
         ensures { result ≡ feature_count self.now c }
     {

@@ -47,7 +47,7 @@ fn first_fault(
     Ok(None)
 }
 
-/// What a checker finds. Errs only where memory is refused.
+/// What a checker finds. Errs only if memory is refused.
 fn found_by(alloc: Global, checker: &Checker<'_>) -> Result<Found, AllocError>
     ensures { IfOk result (Finds checker.now) }
 {
@@ -57,7 +57,7 @@ fn found_by(alloc: Global, checker: &Checker<'_>) -> Result<Found, AllocError>
     }
 }
 
-/// What the check of a document finds. Errs only where memory is refused.
+/// What the check of a document finds. Errs only if memory is refused.
 fn found_in(alloc: Global, raw: &RawMeta) -> Result<Found, AllocError>
     ensures { IfOk result (Finds raw.now) }
 {
@@ -65,8 +65,8 @@ fn found_in(alloc: Global, raw: &RawMeta) -> Result<Found, AllocError>
     found_by(alloc, &checker)
 }
 
-/// The metamodel that a document gives, where it is well-formed; else its first fault. Errs besides
-/// only where memory is refused.
+/// The metamodel that a document gives, if it is well-formed; else its first fault. Errs besides only if memory is
+/// refused.
 pub fn check(alloc: Global, raw: RawMeta) -> Result<Meta, MetaFault>
     ensures { Checks raw result }
 {

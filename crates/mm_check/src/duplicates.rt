@@ -1,4 +1,4 @@
-//! Names that stand twice.
+//! Names that occur twice.
 ghost use Rattle.std.specs.Prelude.{◌≡◌, ◌↔◌, ◌||◌, ◌++◌, [], IfOk, IsTrue, codes, map, take, length, ◌<◌};
 ghost use Rattle.mm_types.specs.Names.{is_among, repeats};
 ghost use Rattle.mm_types.specs.Resolved.{graph_of};
@@ -18,7 +18,7 @@ fn is_reserved(name: &str) -> bool
         || (name == "EInt" || (name == "ELong" || (name == "EBoolean" || name == "Resource")))
 }
 
-/// Whether a text stands twice.
+/// Whether a text occurs twice.
 fn has_repeated_text(alloc: Global, texts: &[Text]) -> Result<bool, AllocError>
     ensures { IfOk result (λ b. b ≡ repeats [] texts.now) }
 {
@@ -84,7 +84,8 @@ impl<'a> Checker<'a> {
         clashes(alloc, self.graph.as_slice(), self.names.as_slice(), c)
     }
 
-    /// Whether a name at a place stands twice where it may stand once. Errs only where memory is refused.
+    /// Whether a name at a place occurs twice, although it may occur only once. Errs only if memory is
+    /// refused.
     pub fn has_duplicate(&self, alloc: Global, place: Place) -> Result<bool, AllocError>
         ensures { IfOk result (λ b. IsTrue b ↔ HasDuplicate self.now place) }
     {

@@ -139,7 +139,7 @@ impl<'a> Checker<'a> {
     }
 
     /// Whether there is an attribute at a place whose default literal is none of its type, or that is
-    /// many-valued and has one. Errs only where memory is refused.
+    /// many-valued and has one. Errs only if memory is refused.
     pub fn has_bad_default(&self, alloc: Global, place: Place) -> Result<bool, AllocError>
         ensures { IfOk result (λ b. b ≡ has_bad_default_at self.now place) }
     {

@@ -95,8 +95,8 @@ impl<'a> Checker<'a> {
         }
     }
 
-    /// The first place at which a condition applies, where the conditions before it apply nowhere. Errs
-    /// only where memory is refused.
+    /// The first place at which a condition applies, if the conditions before it apply nowhere. Errs
+    /// only if memory is refused.
     pub fn first_place(
         &self,
         alloc: Global,

@@ -10,7 +10,7 @@ use indexmap::IndexSet;
 use mm_types::{Seq, Text};
 use std::alloc::{AllocError, Global};
 
-/// Whether a name stands twice. Errs only where memory is refused.
+/// Whether a name occurs twice. Errs only if memory is refused.
 pub fn has_repeats(alloc: Global, names: &[&str]) -> Result<bool, AllocError>
     ensures { IfOk result (λ b. b ≡ repeats [] (map (λ n. n.now) names.now)) }
 {
@@ -45,9 +45,9 @@ fn gather<'a>(
 }
 
 /// Whether two different features of a class, own or inherited, share a name. `names` has the names
-/// of the features that each class declares. Errs only where memory is refused.
+/// of the features that each class declares. Errs only if memory is refused.
 ///
-/// It answers on cycles of supertypes too, and takes one look-up for each feature.
+/// There may be cycles of supertypes too. It takes one look-up for each feature.
 pub fn clashes(
     alloc: Global,
     graph: &[Seq<usize>],

@@ -10,7 +10,7 @@ use indexmap::IndexSet;
 use mm_types::Seq;
 use std::alloc::{AllocError, AllocFailed, Global};
 
-/// Puts behind the features found those of a row that are new.
+/// Adds those features of a row that are new, after the features found.
 fn add_new(found: &mut IndexSet<u32>, features: &[u32]) -> Result<(), AllocFailed<u32>>
     ensures { OnOk result (found.new.keys ≡ with_new found.old.keys features.now) }
 {
@@ -40,7 +40,7 @@ fn merged(
 }
 
 /// All features of every class, own and inherited, at the class's number. `own` has the features
-/// that each class declares, and `order` is one that `order_of` answers. Errs only where memory is
+/// that each class declares, and `order` is one that `order_of` returns. Errs only if memory is
 /// refused.
 ///
 /// Each class's row is made once, from the rows of its supertypes, so many paths to one supertype
@@ -62,7 +62,7 @@ pub fn features_table(
     'empty: for _class in 0..graph.len() {
         rows.push(Seq::new(alloc))?;
     }
-    // The rows of a class's supertypes are made by now: they stand before it in the order.
+    // The rows of a class's supertypes are made by now: they come before it in the order.
     'classes: for c in order {
         let made = merged(
             alloc,

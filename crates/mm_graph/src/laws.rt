@@ -7,14 +7,14 @@ ghost use Rattle.mm_graph.specs.Rows.{from_supers};
 
 use mm_types::Seq;
 
-/// Where there is an order, all features of a class are those of its direct supertypes, in declared
+/// If there is an order, all features of a class are those of its direct supertypes, in declared
 /// order, and then its own; the first occurrence of each.
 pub fn all_features_from_supers(_graph: &[Seq<usize>], _own: &[Seq<u32>], _order: &[usize])
     requires { IsOrder _graph.now _order.now }
     ensures { (c : ℕ) → c < length _graph.now → all_features _graph.now _own.now c ≡ from_supers _graph.now _own.now c }
 {}
 
-/// Where there is an order, no class is reached from itself.
+/// If there is an order, no class is reached from itself.
 pub fn order_rules_out_cycles(_graph: &[Seq<usize>], _order: &[usize])
     requires { IsOrder _graph.now _order.now }
     ensures { (c : ℕ) → Reaches _graph.now c c → ⊥ }

@@ -12,11 +12,11 @@ enum Mark {
     Unseen,
     /// Its supertypes are being visited.
     Open,
-    /// It stands in the order, and so does all that it reaches.
+    /// It is in the order, and so is all that it reaches.
     Done,
 }
 
-/// Visits a class, and its supertypes before it. False where a cycle was met.
+/// Visits a class, and its supertypes before it. False if a cycle was met.
 fn visit(
     graph: &[Seq<usize>],
     c: usize,
@@ -46,8 +46,8 @@ fn visit(
     Ok(true)
 }
 
-/// The classes in an order in which each stands behind its supertypes, or `None` where some class
-/// is reached from itself. Errs only where memory is refused.
+/// The classes in an order in which each comes after its supertypes, or `None` if some class is
+/// reached from itself. Errs only if memory is refused.
 ///
 /// Takes time in the number of classes and of supertypes that they name.
 pub fn order_of(alloc: Global, graph: &[Seq<usize>]) -> Result<Option<Vec<usize>>, AllocError>

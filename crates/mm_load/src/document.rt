@@ -37,7 +37,7 @@ impl Document {
         Document { enums, classes }
     }
 
-    /// The metamodel itself, or `Limit` where a count or a length passes its limit. Takes no memory.
+    /// The metamodel itself, or `Limit` if a count or a length passes its limit. Takes no memory.
     pub fn into_meta(self) -> Result<RawMeta, MetaFault>
         ensures { result ≡ limited self }
     {

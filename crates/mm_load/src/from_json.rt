@@ -13,8 +13,8 @@ use std::alloc::Global;
 pub trait FromJson: Sized {
     ghost reads: { Data → Option Self };
 
-    /// What a value says, or `Layout` where it has another layout. Its texts are moved, and what is left of it is
-    /// freed, so that reading a document takes little memory beside the parsed one.
+    /// What a value says, or `Layout` if it has a different layout. Its texts are moved, and what is left of it
+    /// is freed, so that reading a document takes little memory beside the parsed one.
     fn from_json(alloc: Global, value: Value) -> Result<Self, ReadFault>
         ensures { Gives result (reads (view value)) };
 }

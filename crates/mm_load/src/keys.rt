@@ -9,7 +9,7 @@ use json_rows::{ReadFault, take};
 use serde_json::{Map, Value};
 use std::alloc::Global;
 
-/// What a key says, which is taken out. `Layout` where the key is absent or its value has another layout.
+/// What a key says, which is taken out. `Layout` if the key is absent or its value has a different layout.
 pub fn required<T: FromJson>(
     alloc: Global,
     members: &mut Map<String, Value>,
@@ -24,8 +24,8 @@ pub fn required<T: FromJson>(
     }
 }
 
-/// What a key says, which is taken out, or another value where the key is absent. `Layout` where its value has
-/// another layout.
+/// What a key says, which is taken out, or the given value if the key is absent. `Layout` if its value has a
+/// different layout.
 pub fn optional<T: FromJson + Drop>(
     alloc: Global,
     members: &mut Map<String, Value>,

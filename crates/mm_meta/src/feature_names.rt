@@ -9,7 +9,7 @@ use crate::name_table::NameTable;
 use mm_types::Feature;
 use std::alloc::{AllocError, Global};
 
-/// One table of the names of all features, whatever class declares them: the first feature of each name, and behind each feature the
+/// One table of the names of all features, whatever class declares them: the first feature of each name, and after each feature the
 /// next one of its name. It grows with the features that are declared, and not with those that are inherited.
 #[derive(Drop)]
 pub struct FeatureNames {
@@ -19,7 +19,7 @@ pub struct FeatureNames {
 }
 
 impl FeatureNames {
-    /// The names of some features. Errs only where memory is refused.
+    /// The names of some features. Errs only if memory is refused.
     pub fn of(alloc: Global, features: &[Feature]) -> Result<Self, AllocError>
         ensures { IfOk result (λ n. AreFeatureNames n (map (λ f. f.name) features.now)) }
     {
@@ -43,7 +43,7 @@ impl FeatureNames {
     }
 }
 
-/// For each feature the next one of its name. They are gone through from behind.
+/// For each feature the next one of its name. They are gone through from the last to the first.
 fn next_of_name(
     alloc: Global,
     features: &[Feature],
@@ -55,7 +55,7 @@ fn next_of_name(
 {
     let none = features.len();
     let mut next = vec![in alloc; none; none]?;
-    // At the first feature of each name stands the last one that was met.
+    // At the first feature of each name is the last one that was met.
     let mut met = vec![in alloc; none; none]?;
     let mut f = none;
     'back: while f > 0 {

@@ -7,8 +7,8 @@ ghost use Rattle.mm_types.specs.Shapes.{shape};
 ghost use Rattle.mm_types.specs.declared.numbers.FeatureNo.{FeatureNo};
 ghost use Rattle.mm_meta.specs.Laws.{ConformanceIsComputed, ContainingIsKnown, FarTypesFit, OppositesArePairs, TakesWhatHasTheOpposite};
 
-/// A class conforms to another exactly where a search up its supertypes, of no more steps than there are classes,
-/// finds the other: no class inherits from itself.
+/// A class conforms to another exactly if a search up its supertypes, of no more steps than there are classes, finds the
+/// other: no class inherits from itself.
 pub fn conformance()
     ensures { (m : Metamodel) → IsOfDocument m → ConformanceIsComputed m }
 {}
@@ -27,7 +27,7 @@ pub fn containers()
 {}
 
 /// The type of a reference is the class that declares its opposite. So a reference takes exactly the objects whose
-/// classes have its opposite, and an object may stand at one end of a link where the other may stand at the opposite end.
+/// classes have its opposite, and an object may be at one end of a link if the other may be at the opposite end.
 pub fn far_types()
     ensures takes { (m : Metamodel) → IsOfDocument m → TakesWhatHasTheOpposite m }
     ensures fit { (m : Metamodel) → IsOfDocument m → FarTypesFit m }

@@ -21,7 +21,7 @@ const FEW: usize = 8;
 /// A metamodel with its names resolved into numbers: always well-formed and within the limits. Classes
 /// are numbered in document order, features in class order.
 ///
-/// No look-up takes memory. One by a number that names nothing answers `None`.
+/// No look-up takes memory. One by a number that names nothing returns `None`.
 #[derive(Drop)]
 pub struct Meta {
     enums: Seq<Enumeration>,
@@ -56,7 +56,7 @@ impl Meta {
     ghost use Rattle.mm_types.specs.OfDocument.{IsOfDocument};
     ghost use Rattle.mm_meta.specs.Resolution.{IsResolutionOf};
 
-    /// The metamodel that a well-formed document gives, and what it resolves to. Errs only where memory is refused.
+    /// The metamodel that a well-formed document gives, and what it resolves to. Errs only if memory is refused.
     pub fn new(alloc: Global, raw: RawMeta, resolution: Resolution) -> Result<Self, AllocError>
         requires well_formed { WellFormed raw }
         requires resolution { IsResolutionOf raw resolution }
@@ -172,7 +172,7 @@ impl Meta {
         at < next.len()
     }
 
-    /// What each class has under the name of a feature, where it is the first of many that have the name. Else nothing.
+    /// What each class has under the name of a feature, if it is the first of many that have the name. Else nothing.
     fn row(&self, alloc: Global, feature: usize) -> Result<Seq<Option<FeatureNo>>, AllocError>
         requires { feature < length self.now.features }
         ensures { IfOk result (IsRow self.now (m.feature_name self.now (feature_no feature))) }
@@ -222,7 +222,7 @@ impl Meta {
         Some(class.all.as_slice())
     }
 
-    /// Whether a class is another or inherits from it (EClass.isSuperTypeOf, turned round).
+    /// Whether a class is a given one or inherits from it (EClass.isSuperTypeOf, turned round).
     pub fn conforms(&self, sub: ClassNo, sup: ClassNo) -> bool
         ensures { result ≡ m.conforms self.now sub sup }
     {
@@ -278,9 +278,9 @@ impl Meta {
         }
     }
 
-    /// The feature that contains what a feature links: the feature itself, where it is a containment reference;
-    /// its opposite, where it is a container reference (EReference.isContainment, isContainer). `contents()`
-    /// contains too, and stands here for each number that no feature has. Takes no memory.
+    /// The feature that contains what a feature links: the feature itself, if it is a containment reference; its opposite, if it is
+    /// a container reference (EReference.isContainment, isContainer). `contents()` contains too, and is returned for each number
+    /// that no feature has. Takes no memory.
     pub fn containing(&self, feature: FeatureNo) -> Option<FeatureNo>
         ensures { result ≡ (shapes.shape self.now feature).containing }
     {

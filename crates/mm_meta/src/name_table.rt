@@ -64,7 +64,7 @@ impl Named for Text {
     }
 }
 
-/// The position at which each name stands first in a list of names.
+/// The first position of each name in a list of names.
 #[derive(Drop)]
 pub struct NameTable {
     positions: IndexMap<String, usize>,
@@ -79,7 +79,7 @@ impl NameTable {
         }
     }
 
-    /// Adds the name that stands at a position, behind those that stand before it.
+    /// Adds the name that is at a position, after those that come before it.
     fn insert(&mut self, alloc: Global, name: &str, at: usize) -> Result<(), AllocError>
         ensures { OnOk result ((names : List (List ℕ)) → length names ≡ at → IsTableOf self.old names → IsTableOf self.new (names ++ name.now ∷ [])) }
     {
@@ -101,7 +101,7 @@ impl NameTable {
         Ok(table)
     }
 
-    /// The position at which a name stands first.
+    /// The first position of a name.
     pub fn position(&self, name: &str) -> Option<usize>
         ensures { (names : List (List ℕ)) → IsTableOf self.now names → result ≡ position (λ n. bytes_eq n name.now) names }
     {
@@ -109,7 +109,7 @@ impl NameTable {
     }
 }
 
-/// The position at which a name stands first in the list of the table at an index.
+/// The first position of a name in the list of the table at an index.
 pub fn position_at(tables: &[NameTable], index: usize, name: &str) -> Option<usize>
     ensures { (lists : List (List (List ℕ))) → AreTablesOf tables.now lists → result ≡ position_in lists index name.now }
 {

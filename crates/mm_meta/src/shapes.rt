@@ -40,7 +40,7 @@ impl Meta {
         }
     }
 
-    /// Whether a list of so many values is full: its feature has an upper bound above 1, and no more values may stand in it. Takes no
+    /// Whether a list of so many values is full: its feature has an upper bound above 1, and no more values may be in it. Takes no
     /// memory.
     pub fn is_full(&self, feature: FeatureNo, len: u32) -> bool
         ensures { result ≡ is_full_list (shape self.now feature) len }

@@ -10,8 +10,8 @@ use std::alloc::{AllocError, Global};
 use std::marker::Model;
 use value_lists::ValueList;
 
-/// What is stored under one attribute. Where the list is empty and the flag off it is only a place,
-/// made ahead for a list to come.
+/// What is stored under one attribute. If the list is empty and the flag off, it is only a place, made ahead for a list to
+/// come.
 #[derive(Drop)]
 pub(crate) struct Entry {
     feature: FeatureNo,
@@ -48,7 +48,7 @@ impl AttributeLists {
         }
     }
 
-    /// The list under an attribute; `None` where it has no place, and so no values.
+    /// The list under an attribute; `None` if it has no place, and so no values.
     pub fn list(&self, feature: FeatureNo) -> Option<&ValueList>
         ensures { items_of (option_copied result) ≡ (stored_under self.now feature).list }
     {
@@ -58,7 +58,7 @@ impl AttributeLists {
         }
     }
 
-    /// Whether an attribute is set, where that is a state of its own.
+    /// Whether an attribute is set, if that is a state of its own.
     pub fn flag(&self, feature: FeatureNo) -> bool
         ensures { result ≡ (stored_under self.now feature).flag }
     {
@@ -68,8 +68,8 @@ impl AttributeLists {
         }
     }
 
-    /// Makes a place for what an attribute will hold, and places for more values of a list that will be asked for its values or
-    /// will not. Errs where memory is refused.
+    /// Makes a place for what an attribute will hold, and places for more values of a list. The list may be one that is looked
+    /// up by value, or not. Errs only if memory is refused.
     pub fn make_place(
         &mut self,
         feature: FeatureNo,
@@ -87,7 +87,7 @@ impl AttributeLists {
         self.reserve(feature, at, additional, is_asked)
     }
 
-    /// Puts a long list into pieces, so that it is fast to edit. Errs where memory is refused.
+    /// Puts a long list into pieces, so that it is fast to edit. Errs only if memory is refused.
     pub fn make_pieces(&mut self, feature: FeatureNo) -> Result<(), AllocError>
         ensures stored { stored_in self.new ≡ stored_in self.old }
         ensures kept { (f n : ℕ) → HasPlace self.old f n → HasPlace self.new f n }
@@ -98,7 +98,7 @@ impl AttributeLists {
         }
     }
 
-    // Makes an entry for an attribute, where it has none, and answers where it is.
+    /// Makes an entry for an attribute, if it has none, and returns its place.
     fn make_entry(&mut self, feature: FeatureNo) -> Result<usize, AllocError>
         ensures stored { stored_in self.new ≡ stored_in self.old }
         ensures kept { (f n : ℕ) → HasPlace self.old f n → HasPlace self.new f n }
@@ -120,7 +120,7 @@ impl AttributeLists {
         }
     }
 
-    // Makes places for more values in the entry of an attribute.
+    /// Makes places for more values in the entry of an attribute.
     fn reserve(
         &mut self,
         feature: FeatureNo,
@@ -137,7 +137,7 @@ impl AttributeLists {
         self.entries[at].list.reserve(alloc, additional, is_asked)
     }
 
-    // Makes room for an entry where there is none, by a quarter at a time: most objects hold little.
+    /// Makes room for an entry if there is none, by a quarter at a time: most objects hold little.
     fn grow(&mut self) -> Result<(), AllocError>
         ensures { self.new ≡ self.old }
     {
@@ -175,7 +175,7 @@ impl AttributeLists {
         }
     }
 
-    // Where the attribute's entry is, or where it would go.
+    /// The place of the attribute's entry, or the one at which it would go.
     fn find(&self, feature: FeatureNo) -> Result<usize, usize>
         ensures found { IfOk result (IsAt self.now feature.0) }
         ensures absent { IfErr result (IsGapFor self.now feature.0) }

@@ -18,7 +18,7 @@ pub enum ValueEdit {
         flag: bool,
     },
     /// Puts one value into an attribute's list, at an index; past the end it is put last. `is_unique` says that the list is one
-    /// that is asked for its values again and again: where it is long, `Values::has` then finds a missing value at once.
+    /// that is looked up by value again and again: if it is long, `Values::has` then finds a missing value at once.
     InsertValue {
         object: ObjectNo,
         feature: FeatureNo,
@@ -32,7 +32,7 @@ pub enum ValueEdit {
         feature: FeatureNo,
         index: u32,
     },
-    /// Takes the value at `from` out and puts it in so that it then stands at `to`.
+    /// Takes the value at `from` out and puts it in so that it is then at `to`.
     MoveValue {
         object: ObjectNo,
         feature: FeatureNo,
@@ -59,7 +59,7 @@ impl ValueEdit {
         matches!(self, ValueEdit::NewUri(_))
     }
 
-    // The list that a value is put into.
+    /// The list that a value is put into.
     pub(crate) fn inserted_in(&self) -> Option<(ObjectNo, FeatureNo)>
         ensures { result ≡ inserted_in self.now }
     {
@@ -73,14 +73,14 @@ impl ValueEdit {
         }
     }
 
-    // Whether a value is put into a list.
+    /// Whether a value is put into a list.
     pub(crate) fn is_insert(&self) -> bool
         ensures { result ≡ is_insert self.now }
     {
         self.inserted_in().is_some()
     }
 
-    // Whether a value is put into this list.
+    /// Whether a value is put into this list.
     pub(crate) fn is_insert_in(&self, list: Option<(ObjectNo, FeatureNo)>) -> bool
         ensures { result ≡ is_insert_in list self.now }
     {
@@ -90,7 +90,7 @@ impl ValueEdit {
         }
     }
 
-    // Whether a value is put into the list that an object has under an attribute.
+    /// Whether a value is put into the list that an object has under an attribute.
     pub(crate) fn is_insert_at(&self, at: ObjectNo, under: FeatureNo) -> bool
         ensures { result ≡ is_insert_at at.0 under.0 self.now }
     {
@@ -104,7 +104,7 @@ impl ValueEdit {
         }
     }
 
-    // How many places of the list that an object has under an attribute are taken.
+    /// How many places of the list that an object has under an attribute are taken.
     pub(crate) fn places_taken(&self, at: ObjectNo, under: FeatureNo) -> usize
         ensures { result ≡ places_taken self.now at.0 under.0 }
     {

@@ -13,7 +13,7 @@ pub(crate) enum ListEdit {
     Insert { index: u32, value: Value },
     /// Takes a value out; past the end nothing changes.
     Remove { index: u32 },
-    /// Takes the value at `from` out and puts it in so that it then stands at `to`.
+    /// Takes the value at `from` out and puts it in so that it is then at `to`.
     Move { to: u32, from: u32 },
 }
 

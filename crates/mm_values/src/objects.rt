@@ -14,7 +14,7 @@ use std::alloc::{AllocError, Global};
 use std::marker::Model;
 use value_lists::ValueList;
 
-/// The objects by number: `next` of them were made. The slots behind them are ready for objects to come. A slot is a class, where an
+/// The objects by number: `next` of them were made. The slots after them are ready for objects to come. A slot is a class, if an
 /// object is live, and a row of attribute lists, in two columns, so that a look at the class reads no lists.
 #[derive(Drop)]
 pub(crate) struct Objects {
@@ -54,7 +54,7 @@ impl Objects {
         self.next
     }
 
-    // The class and the attribute lists of a live object.
+    /// The class and the attribute lists of a live object.
     fn live(&self, object: ObjectNo) -> Option<(ClassNo, &AttributeLists)>
         ensures { object_at (objects_of self.now) object ≡ option_map (λ p. record { class = p.0; stored = stored_in p.1.now }) result }
     {
@@ -74,7 +74,7 @@ impl Objects {
         Some(class)
     }
 
-    /// The list that a live object has under an attribute, where that has a place.
+    /// The list that a live object has under an attribute, if that has a place.
     pub fn list(&self, object: ObjectNo, feature: FeatureNo) -> Option<Option<&ValueList>>
         ensures { option_map (λ l. items_of (option_copied l)) result ≡ option_map (λ s. (stored_under s feature).list) (object_at (objects_of self.now) object) }
     {
@@ -90,7 +90,7 @@ impl Objects {
         Some(lists.flag(feature))
     }
 
-    // Makes one more slot ready. Where memory is refused nothing has changed.
+    /// Makes one more slot ready. If memory is refused, nothing has changed.
     fn add_slot(&mut self) -> Result<(), AllocError>
         ensures objects { objects_of self.new ≡ objects_of self.old }
         ensures next { self.new.next ≡ self.old.next }
@@ -111,7 +111,7 @@ impl Objects {
         self.lists.len() - self.next
     }
 
-    /// Makes slots ready for more objects. Errs where memory is refused.
+    /// Makes slots ready for more objects. Errs only if memory is refused.
     pub fn reserve(&mut self, additional: usize) -> Result<(), AllocError>
         ensures objects { objects_of self.new ≡ objects_of self.old }
         ensures ok { OnOk result (self.new.next + additional ≤ length self.new.lists) }
@@ -122,8 +122,8 @@ impl Objects {
         Ok(())
     }
 
-    /// Makes a place for what an attribute of an object will hold, also of one that is still to be
-    /// made, and places for more values of a list that will be asked for its values or will not. Errs where memory is refused.
+    /// Makes a place for what an attribute of an object will hold, even of one that is still to be made, and places for more values
+    /// of a list. The list may be one that is looked up by value, or not. Errs only if memory is refused.
     pub fn make_place(
         &mut self,
         object: ObjectNo,
@@ -146,7 +146,7 @@ impl Objects {
         self.lists[index].make_place(feature, additional, is_asked)
     }
 
-    /// Puts a long list of an object into pieces, so that it is fast to edit. Errs where memory is refused.
+    /// Puts a long list of an object into pieces, so that it is fast to edit. Errs only if memory is refused.
     pub fn make_pieces(&mut self, object: ObjectNo, feature: FeatureNo) -> Result<(), AllocError>
         ensures objects { objects_of self.new ≡ objects_of self.old }
         ensures next { self.new.next ≡ self.old.next }

@@ -49,15 +49,14 @@ impl Values {
         self.uris.len()
     }
 
-    /// The class of an object (EMF: EObject.eClass); `None` where no live object has the number.
+    /// The class of an object (EMF: EObject.eClass); `None` if no live object has the number.
     pub fn class(&self, object: ObjectNo) -> Option<ClassNo>
         ensures { result ≡ class_of (values_of self.now) object }
     {
         self.objects.class(object)
     }
 
-    /// How many values an object has under an attribute (EMF: eGet), none where it holds none;
-    /// `None` where no live object has the number.
+    /// How many values an object has under an attribute (EMF: eGet), none if it holds none; `None` if no live object has the number.
     pub fn len(&self, object: ObjectNo, feature: FeatureNo) -> Option<usize>
         ensures { result ≡ option_map length (list_of (values_of self.now) object feature) }
     {
@@ -67,8 +66,7 @@ impl Values {
         }
     }
 
-    /// The value that an object has under an attribute at an index; `None` past the end, and where no live object has the
-    /// number.
+    /// The value that an object has under an attribute at an index; `None` past the end, and if no live object has the number.
     pub fn at(&self, object: ObjectNo, feature: FeatureNo, index: usize) -> Option<&Value>
         ensures { option_copied result ≡ option_and_then (λ vs. slice_get vs index) (list_of (values_of self.now) object feature) }
     {
@@ -78,8 +76,7 @@ impl Values {
         }
     }
 
-    /// The index at which an object has a value under an attribute first; `None` where it has not, and where no live object
-    /// has the number.
+    /// The index at which an object has a value under an attribute first; `None` if it has not, and if no live object has the number.
     pub fn position(&self, object: ObjectNo, feature: FeatureNo, value: &Value) -> Option<usize>
         ensures { result ≡ option_and_then (position (same_value value.now)) (list_of (values_of self.now) object feature) }
     {
@@ -89,8 +86,8 @@ impl Values {
         }
     }
 
-    /// Whether an object has a value under an attribute; `None` where no live object has the number. Where more than 64 values were
-    /// put in with `is_unique`, a value that is not there is found missing in constant time, whatever the list's length.
+    /// Whether an object has a value under an attribute; `None` if no live object has the number. If more than 64 values were put in
+    /// with `is_unique`, a value that is not there is found missing in constant time, whatever the list's length.
     pub fn has(&self, object: ObjectNo, feature: FeatureNo, value: &Value) -> Option<bool>
         ensures { result ≡ option_map (list_any (same_value value.now)) (list_of (values_of self.now) object feature) }
     {
@@ -100,29 +97,28 @@ impl Values {
         }
     }
 
-    /// The flag that was put with the values of an attribute (EMF: eIsSet); `None` where no live object
-    /// has the number.
+    /// The flag that was put with the values of an attribute (EMF: eIsSet); `None` if no live object has the number.
     pub fn flag(&self, object: ObjectNo, feature: FeatureNo) -> Option<bool>
         ensures { result ≡ flag_of (values_of self.now) object feature }
     {
         self.objects.flag(object, feature)
     }
 
-    /// The URI of a resource (EMF: Resource.getURI); `None` where no resource has the number.
+    /// The URI of a resource (EMF: Resource.getURI); `None` if no resource has the number.
     pub fn uri(&self, resource: ResourceNo) -> Option<&str>
         ensures { option_copied result ≡ uri_of (values_of self.now) resource }
     {
         self.uris.get(resource)
     }
 
-    /// The resource of a URI (EMF: ResourceSet.getResource); `None` where no resource has it.
+    /// The resource of a URI (EMF: ResourceSet.getResource); `None` if no resource has it.
     pub fn resource_of(&self, uri: &str) -> Option<ResourceNo>
         ensures { result ≡ resource_of (values_of self.now) uri.now }
     {
         self.uris.find(uri)
     }
 
-    /// Takes all the memory that a plan needs. Errs where memory is refused, or where there would be more than 2^32 resources; `apply`
+    /// Takes all the memory that a plan needs. Errs only if memory is refused, or if there would be more than 2^32 resources; `apply`
     /// may be called only after `Ok`. Nothing that is seen changes.
     pub fn reserve_for(&mut self, plan: &ValuePlan) -> Result<(), AllocError>
         ensures unchanged { values_of self.new ≡ values_of self.old }
@@ -150,7 +146,7 @@ impl Values {
         }
     }
 
-    // Makes edits, in their order.
+    /// Makes edits, in their order.
     fn apply_all(&mut self, edits: Seq<ValueEdit>)
         requires { HasRoom self.old edits }
         ensures { values_of self.new ≡ applied (values_of self.old) edits }
@@ -160,7 +156,7 @@ impl Values {
         }
     }
 
-    // Makes one edit, and keeps the room for those that follow.
+    /// Makes one edit, and keeps the room for those that follow.
     fn apply_edit(&mut self, edit: ValueEdit)
         requires { HasRoom self.old (edit ∷ []) }
         ensures edited { values_of self.new ≡ edited (values_of self.old) edit }
@@ -203,7 +199,7 @@ impl Values {
         }
     }
 
-    // Makes a place for each list that is put or changed.
+    /// Makes a place for each list that is put or changed.
     fn make_places(&mut self, edits: &[ValueEdit]) -> Result<(), AllocError>
         ensures unchanged { values_of self.new ≡ values_of self.old }
         ensures next { self.new.objects.next ≡ self.old.objects.next }
@@ -223,7 +219,7 @@ impl Values {
         Ok(())
     }
 
-    // Makes a place for a list that an edit of a plan puts or changes.
+    /// Makes a place for a list that an edit of a plan puts or changes.
     fn make_place_for(&mut self, edit: &ValueEdit, plan: &[ValueEdit]) -> Result<(), AllocError>
         ensures unchanged { values_of self.new ≡ values_of self.old }
         ensures next { self.new.objects.next ≡ self.old.objects.next }
@@ -256,7 +252,7 @@ impl Values {
         }
     }
 
-    // Makes a place for a list, and the places for values that a plan needs in it.
+    /// Makes a place for a list, and the places for values that a plan needs in it.
     fn make_list(
         &mut self,
         object: ObjectNo,
@@ -274,42 +270,42 @@ impl Values {
     }
 }
 
-// How many objects a plan makes.
+/// How many objects a plan makes.
 fn objects_made(plan: &[ValueEdit]) -> usize
     ensures { result ≡ count_by is_new_object plan.now }
 {
     plan.iter().filter(|e| e.is_new_object()).count()
 }
 
-// How many URIs a plan adds, those that are there already among them.
+/// How many URIs a plan adds, those that are there already among them.
 fn uris_added(plan: &[ValueEdit]) -> usize
     ensures { result ≡ count_by is_new_uri plan.now }
 {
     plan.iter().filter(|e| e.is_new_uri()).count()
 }
 
-// Whether a plan puts a value into any list.
+/// Whether a plan puts a value into any list.
 fn has_insert(plan: &[ValueEdit]) -> bool
     ensures { result ≡ list_any is_insert plan.now }
 {
     plan.iter().any(|e| e.is_insert())
 }
 
-// The edits of which the needed places are counted: none, and so no time, where no value is put into a list.
+/// The edits of which the needed places are counted: none, and so no time, if no value is put into a list.
 fn counted(plan: &[ValueEdit]) -> &[ValueEdit]
     ensures { (o f : ℕ) → needed result.now o f ≡ needed plan.now o f }
 {
     if has_insert(plan) { plan } else { &[] }
 }
 
-// Whether a plan puts a value into the list that an object has under an attribute.
+/// Whether a plan puts a value into the list that an object has under an attribute.
 fn is_inserted_at(plan: &[ValueEdit], object: ObjectNo, feature: FeatureNo) -> bool
     ensures { result ≡ list_any (is_insert_at object.0 feature.0) plan.now }
 {
     plan.iter().any(|e| e.is_insert_at(object, feature))
 }
 
-// How many places a plan needs in the list that an object has under an attribute. Errs where no memory has so many.
+/// How many places a plan needs in the list that an object has under an attribute. Errs if no memory has so many.
 fn places_needed(
     plan: &[ValueEdit],
     object: ObjectNo,

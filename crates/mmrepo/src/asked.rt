@@ -17,7 +17,7 @@ pub(crate) struct Asked {
     pub(crate) strict: bool,
     /// Whether each line is answered before the next is read.
     pub(crate) live: bool,
-    /// Whether it says what to mend, behind what it reports.
+    /// Whether it says what to mend, after what it reports.
     pub(crate) explain: bool,
 }
 

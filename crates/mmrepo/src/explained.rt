@@ -1,4 +1,4 @@
-//! What the program says beside of why it stops, where that is asked for.
+//! What the program says beside of why it stops, if that is asked for.
 use crate::stop::Stop;
 use explain::explain_meta;
 use mm_types::MetaFault;

@@ -15,7 +15,7 @@ use crate::running::{run_asked, status_of};
 use crate::stop::{Stop, report};
 use std::process::ExitCode;
 
-/// Reads the words, the metamodel and the script, and answers the status.
+/// Reads the words, the metamodel and the script, and returns the status.
 fn start(rt: &HostRuntime) -> Result<u8, Stop> {
     let words = words_of(rt)?;
     let asked = arguments_of(rt, words.as_slice())?;

@@ -1,8 +1,8 @@
-//! Standard input, which asks for a line where a person types.
+//! Standard input, which asks for a line if a person types.
 use std::io;
 use std::io::{IsTerminal, Read, StdinLock};
 
-/// What stands on standard error while a line is waited for.
+/// What is on standard error while a line is waited for.
 const PROMPT: &str = "> ";
 
 /// Standard input. On a terminal each read asks for a line on standard error.
@@ -33,7 +33,7 @@ impl Read for Prompted<'_> {
         let _ = eprint!(self.rt; "{PROMPT}");
         let read = self.stdin.read(buf);
         if matches!(read, Ok(0)) {
-            // A prompt that nothing was typed behind is left as a line.
+            // A prompt after which nothing was typed is left as a line.
             let _ = eprintln!(self.rt);
         }
         read

@@ -23,10 +23,10 @@ const LIVE_BOXES: u32 = 1000;
 /// How many notices A8 can still count, its last one included.
 const LEFT: u64 = 2;
 
-/// The status behind a script of which a line was refused or bad, where that gives a status of its own.
+/// The status after a script of which a line was refused or bad, if that gives a status of its own.
 const FAULTY: u8 = 4;
 
-/// Standard output behind a buffer.
+/// Standard output through a buffer.
 fn writer_of(rt: &HostRuntime) -> Result<BufWriter<Printer<'_, HostRuntime>>, Stop> {
     match BufWriter::new(rt.alloc(), io::writer(rt)) {
         Ok(writer) => Ok(writer),
@@ -144,7 +144,7 @@ fn run_explained(
     run_with_boxes(rt, asked, meta, Some(&watch))
 }
 
-/// Runs the script as it is asked for. The document of the metamodel is let go where nothing is explained.
+/// Runs the script as it is asked for. The metamodel's document is dropped if nothing is explained.
 pub(crate) fn run_asked(
     rt: &HostRuntime,
     asked: &Asked,

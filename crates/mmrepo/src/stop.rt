@@ -79,13 +79,13 @@ fn report_run(rt: &HostRuntime, fault: RunFault) -> u8 {
     3
 }
 
-/// Says on standard error what a status is explained by, and answers it.
+/// Says on standard error what a status is explained by, and returns it.
 fn explain(rt: &HostRuntime, status: u8, text: &str) -> u8 {
     let _ = eprint!(rt; "{text}");
     status
 }
 
-/// Says on standard error why the program stops, and answers its status.
+/// Says on standard error why the program stops, and returns its status.
 pub(crate) fn report(rt: &HostRuntime, stop: Stop) -> u8 {
     match stop {
         Stop::Arguments(error) => report_arguments(rt, error),

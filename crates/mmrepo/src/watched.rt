@@ -1,4 +1,4 @@
-//! The streams of the program, watched where a run is explained.
+//! The streams of the program, watched if a run is explained.
 use explain_scripts::Watch;
 use std::cell::RefCell;
 use std::io;
@@ -9,7 +9,7 @@ use std::io::{Read, Write};
 pub(crate) struct Watched<'w, 'm, S> {
     rt: &'w HostRuntime,
     stream: S,
-    /// Nothing where the run is not explained.
+    /// Nothing if the run is not explained.
     watch: Option<&'w RefCell<Watch<'m>>>,
 }
 

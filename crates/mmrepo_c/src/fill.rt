@@ -2,7 +2,8 @@
 ghost use Rattle.std.specs.Prelude.{◌≡◌, length};
 ghost use Rattle.mmrepo_c.specs.Filled.{filled};
 
-/// Copies the begin of a text as far as there is room, and leaves the rest of the room as it was. Answers how long the text is.
+/// Copies the beginning of a text as far as there is room, and leaves the rest of the room as it was. Returns how long the text
+/// is.
 pub(crate) fn fill(room: &mut [u8], text: &[u8]) -> usize
     ensures count { result ≡ length text.now }
     ensures copied { room.new ≡ filled text.now room.old }

@@ -6,7 +6,7 @@ use crate::slot::Slot;
 use std::alloc::Global;
 use std::mem;
 
-/// A session, or none where it is closed. C declares it as `mmrepo_session`, whose bytes are zero at first.
+/// A session, or none if it is closed. C declares it as `mmrepo_session`, whose bytes are zero at first.
 #[repr(C)]
 #[derive(Drop)]
 pub struct Handle {
@@ -43,7 +43,7 @@ impl Handle {
         self.is_open
     }
 
-    /// Takes the session, and closes the handle; None where it is closed.
+    /// Takes the session, and closes the handle; None if it is closed.
     pub(crate) fn take(&mut self, alloc: Global) -> Option<Box<Session>>
         ensures taken { option_map (λ b. b.value) result ≡ self.old.slot.held }
         ensures closed { self.new.slot.held ≡ None }

@@ -28,8 +28,8 @@ use std::alloc::Global;
 /// Opens a session: an empty repository over the metamodel of a document. What the handle had before is closed. Its adapters, A1 to
 /// A1000, count what they hear and keep nothing of it.
 ///
-/// Answers `OK`; from 1 to 12 the first fault of the document; `TOO_LONG` where it has more than `INPUT_BYTES` bytes; `MEMORY` where
-/// memory is refused. The handle is closed where another status than `OK` is answered.
+/// Returns `OK`; from 1 to 12 the first fault of the document; `TOO_LONG` if it has more than `INPUT_BYTES` bytes; `MEMORY` if memory
+/// is refused. The handle is closed if the status is not `OK`.
 #[unsafe(no_mangle)]
 pub extern "C" fn mmrepo_open(alloc: Global, handle: &mut Handle, document: &[u8]) -> u32
     ensures { c.Opens document.now result handle.new.slot.held }
@@ -49,9 +49,9 @@ pub extern "C" fn mmrepo_open(alloc: Global, handle: &mut Handle, document: &[u8
 
 /// Runs a line of a script, which has no newline at its end. What it prints is the text of the session from then on.
 ///
-/// Answers how the line is counted: `OK` for a command that was done, `BLANK`, `BAD`, `REFUSED`, or `LOST` where the repository was
-/// refused memory, and nothing has changed. `CLOSED` where the handle is closed. `TOO_LONG` where the line has more than
-/// `INPUT_BYTES` bytes: the session is as it was. `MEMORY` where memory is refused to the run itself: the session is closed.
+/// Returns how the line is counted: `OK` for a command that was done, `BLANK`, `BAD`, `REFUSED`, or `LOST` if the repository was
+/// refused memory, and nothing has changed. `CLOSED` if the handle is closed. `TOO_LONG` if the line has more than `INPUT_BYTES`
+/// bytes: the session is as it was. `MEMORY` if memory is refused to the run itself: the session is closed.
 #[unsafe(no_mangle)]
 pub extern "C" fn mmrepo_line(alloc: Global, handle: &mut Handle, line: &[u8]) -> u32
     ensures { c.Answers handle.old.slot.held line.now result handle.new.slot.held }
@@ -71,8 +71,8 @@ pub extern "C" fn mmrepo_line(alloc: Global, handle: &mut Handle, line: &[u8]) -
     }
 }
 
-/// Copies the text of the last answer, or as much of it as there is room for. Answers how many bytes the text has: none where no line
-/// was run, and where the handle is closed.
+/// Copies the text of the last answer, or as much of it as there is room for. Returns how many bytes the text has: none if no line was
+/// run, and if the handle is closed.
 #[unsafe(no_mangle)]
 pub extern "C" fn mmrepo_text(alloc: Global, handle: &mut Handle, out: &mut [u8]) -> usize
     ensures { c.Copies handle.old.slot.held out.old result out.new handle.new.slot.held }

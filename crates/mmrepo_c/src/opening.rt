@@ -17,7 +17,7 @@ fn meta_of(alloc: Global, document: &[u8]) -> Result<Meta, MetaFault>
     check(alloc, load_meta(alloc, document)?)
 }
 
-/// A session over the metamodel of a document. Errs with the first fault of the document, and with `Memory` where memory is refused.
+/// A session over the metamodel of a document. Errs with the first fault of the document, and with `Memory` if memory is refused.
 pub(crate) fn begun(alloc: Global, document: &[u8]) -> Result<Box<Session>, MetaFault>
     ensures ok { IfOk result (λ b. Accepts document.now b.value) }
     ensures err { IfErr result (λ f. Gives document.now (Err f)) }

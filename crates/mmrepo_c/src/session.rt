@@ -20,7 +20,7 @@ pub struct Session {
     interpreter: Interpreter<SlotStore, Counter>,
 }
 
-/// The adapters of a session, none of which has heard anything. Errs where memory is refused.
+/// The adapters of a session, none of which has heard anything. Errs only if memory is refused.
 pub(crate) fn counters(alloc: Global) -> Result<Vec<Counter>, AllocError>
     ensures { IfOk result (λ v. AreUnheard (⟦<Counter as Adapter>⟧.heard) v.items) }
 {
@@ -32,7 +32,8 @@ pub(crate) fn counters(alloc: Global) -> Result<Vec<Counter>, AllocError>
 }
 
 impl Session {
-    /// A session over an empty repository, which has answered nothing. Errs where memory is refused.
+    /// A session over an empty repository, which has answered nothing. Errs only if memory is
+    /// refused.
     pub(crate) fn new(alloc: Global, meta: Meta, boxes: Vec<Counter>) -> Result<Session, AllocError>
         requires { AreUnheard (⟦<Counter as Adapter>⟧.heard) boxes.items }
         ensures { IfOk result (Begins meta) }
@@ -42,7 +43,7 @@ impl Session {
         })
     }
 
-    /// Runs a line, and says how it is counted. Errs where memory is refused to the run itself.
+    /// Runs a line, and says how it is counted. Errs only if memory is refused to the run itself.
     pub(crate) fn answer(&mut self, line: &[u8]) -> Result<Turn, AllocError>
         ensures { IfOk result (λ t. RunsLine (running self.old) (forms.form line.now) (printed (answer self.new) t) (running self.new)) }
     {

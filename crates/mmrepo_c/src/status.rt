@@ -1,4 +1,4 @@
-//! What a call answers, as a number. `include/mmrepo.h` has the same numbers.
+//! What a call returns, as a number. `include/mmrepo.h` has the same numbers.
 ghost use Rattle.std.specs.Prelude.{◌≡◌};
 ghost use Rattle.mmrepo_c.specs.Statuses as s;
 

@@ -5,7 +5,7 @@ use adapters::{Adapter, Counter, NoRoom, Recorder, Window};
 use std::process::Abort;
 use std::test::Fail;
 
-/// Notifies an adapter three times, at the positions 0 to 2, where it has room for the notices.
+/// Notifies an adapter three times, at the positions 0 to 2, if it has room for the notices.
 fn notify_three<A: Adapter>(adapter: &mut A) -> Result<(), NoRoom> {
     match adapter.reserve(3) {
         Err(reason) => Err(reason),

@@ -1,4 +1,4 @@
-//! An adapter that is refused where it is attached once more: its box comes back, with what it had heard.
+//! An adapter that is refused when it is attached once more: its box comes back, with what it had heard.
 use crate::books::{NAME, RowRepository, attach, object, one_book, text};
 use crate::counted::{Drops, NO_DROPS, counted_box};
 use crate::replies::{failure_text, made};
@@ -10,7 +10,7 @@ use std::cell::Cell;
 use std::rc::Rc;
 use std::test::Fail;
 
-/// Where an adapter can't be attached that was at a book, of which it heard a change and its own leaving. The number 6 is taken.
+/// A case in which an adapter can't be attached that was at a book, of which it heard a change and its own leaving. The number 6 is taken.
 struct Again {
     kind: Kind,
     no: u32,
@@ -45,7 +45,7 @@ const AGAIN: [Again; 5] = [
         target: Node::Object(ObjectNo(0)),
         wanted: "refused 27, back, 18446744073709551615 told",
     },
-    // It found memory where it was attached first, and for the change.
+    // It found memory when it was attached first, and for the change.
     Again {
         kind: Kind::PoorRecorder,
         no: 5,
@@ -75,7 +75,8 @@ fn heard<A: Adapter>(
     released(repository)
 }
 
-/// Attaches an adapter where that is refused. Shows the refusal, what the adapter has heard that comes back, and how many were dropped by then.
+/// Attaches an adapter, which has to be refused. Shows the refusal, what the adapter has heard that comes back, and how many were dropped
+/// by then.
 fn refused<A: Adapter>(
     alloc: Global,
     repository: &mut RowRepository<A>,

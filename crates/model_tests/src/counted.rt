@@ -85,7 +85,7 @@ impl<A: Adapter> Adapter for Counted<A> {
     }
 }
 
-/// A box of an adapter with a part. The parts stand inside the boxes, since the borrow checker takes no box of a box.
+/// A box of an adapter with a part. The parts are inside the boxes, since the borrow checker takes no box of a box.
 pub(crate) fn counted_box(
     alloc: Global,
     drops: &Rc<Cell<Drops>>,

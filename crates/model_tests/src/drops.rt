@@ -1,5 +1,5 @@
-//! Each adapter is dropped once: after it was detached, after its target was destroyed, after its owner was closed, and with its owner, which is a
-//! list or a repository.
+//! Each adapter is dropped once: after it was detached, after its target was destroyed, after its owner was closed, and with its owner,
+//! which is a list or a repository.
 use crate::books::watched;
 use crate::counted::{Counted, Drops, NO_DROPS, counted_box};
 use crate::telling::{Kind, three};

@@ -15,22 +15,22 @@ const LEFT: [(&str, u64); 8] = [
     (r#""sees":["1#/7"]"#, 2),
     // No resource has the URI.
     (r#""top":"9#/""#, 2),
-    // An object of another class is there.
+    // An object of a wrong class is there.
     (r#""top":"1#/1""#, 2),
     (r#""next":"1#/1""#, 2),
     // The list has the object already.
     (r#""sees":["1#/0"]"#, 2),
-    // No proxy is at the opposite end, or one that leads to another object.
+    // No proxy is at the opposite end, or one that leads to a different object.
     (r#""likes":["1#/0"]"#, 2),
     (r#""likes":["1#/2"]"#, 2),
-    // All of these together.
+    // All of these cases together.
     (
         r#""likes":["1#/0","1#/2"],"next":"1#/1","sees":["1#/7","1#/0","9#/","1#/1"],"top":"1#/1""#,
         9,
     ),
 ];
 
-/// Two items and an object of another class. The second item has a proxy for the second root of the first resource.
+/// Two items and an object of a different class. The second item has a proxy for the second root of the first resource.
 const SECOND: &str =
     r#"{"format":2,"roots":[{"class":"Item","features":{}},{"class":"Mark","features":{}},{"class":"Item","features":{"fans":["0#/1"]}}]}"#;
 
@@ -77,7 +77,7 @@ fn fill<L: LinkStore>(
     Ok(())
 }
 
-/// What it gives to resolve all proxies: the answer, and who was told what. Fails unless all stands as it did.
+/// What it gives to resolve all proxies: the answer, and who was told what. Fails unless all is as it was.
 fn resolved<L: LinkStore>(alloc: Global, repository: &mut Network<L>) -> Result<String, Fail> {
     let before = snapshots(alloc, repository, 2)?;
     let found = given(alloc, repository.resolve_all())?;

@@ -1,7 +1,7 @@
 //! Tests of the crates of models and scripts, by calls that a script can't make: values that no script names, adapters of
 //! other kinds, what is dropped, streams that fail, and what a command line gives.
 //!
-//! What a script prints stands among the cases.
+//! What a script prints is among the cases.
 #![tactic(auto)]
 
 #[cfg(test)]

@@ -94,7 +94,7 @@ pub(crate) fn make<L: LinkStore>(
     Ok(())
 }
 
-/// The text of a resource. The texts stand by the numbers in the URIs.
+/// The text of a resource. The texts are in the order of the numbers in the URIs.
 fn text_of<'a>(texts: &'a [Text], making: &[u32], number: u32) -> Result<&'a str, Fail> {
     let uri = making.get(number as usize).ok_or("no such resource")?;
     let text = texts.get(*uri as usize).ok_or("no such text")?;

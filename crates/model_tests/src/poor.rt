@@ -2,8 +2,8 @@
 use adapters::{Adapter, NoRoom};
 use notice_chain::Notice;
 
-/// An adapter of any kind that is refused memory at one of its reserves alone, which is given by its number, from 1. Refused at its second, it is
-/// attached, and the next chain is refused.
+/// An adapter of any kind that is refused memory at one of its reserves alone, which is given by its number, from 1. Refused at its second,
+/// it is attached, and the next chain is refused.
 #[derive(Drop)]
 pub(crate) struct Poor<A> {
     adapter: A,

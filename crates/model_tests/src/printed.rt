@@ -5,7 +5,7 @@ use script_streams::RunFault;
 use std::alloc::{AllocError, Global};
 use std::test::Fail;
 
-/// Whether a value is printed as a text, behind a text that stands there already.
+/// Whether a value is printed as a text, after a text that is there already.
 fn is_value(alloc: Global, value: &Value, text: &str) -> Result<bool, AllocError> {
     let mut output = Output::new(alloc);
     output.text("= ")?;

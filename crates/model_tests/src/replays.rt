@@ -117,7 +117,7 @@ fn replayed(
     Ok(Box::new(alloc, snapshot)?)
 }
 
-/// Those of some nodes that a snapshot has.
+/// Of some nodes, those that a snapshot has.
 fn still_there(alloc: Global, nodes: &[Node], now: &Snapshot) -> Result<Vec<Node>, AllocError> {
     let mut there = Vec::new(alloc);
     for node in nodes {
@@ -144,7 +144,7 @@ fn are_alike(view: &Snapshot, now: &Snapshot, nodes: &[Node]) -> bool {
     true
 }
 
-/// Replays what a view was told, and compares it with the snapshot now: answers how many nodes were compared.
+/// Replays what a view was told, and compares it with the snapshot now: returns how many nodes were compared.
 fn follow(
     alloc: Global,
     repository: &Store,
@@ -197,7 +197,7 @@ fn take_step(
     Ok(compared)
 }
 
-/// Does steps in an empty repository of libraries: answers how many nodes were compared.
+/// Does steps in an empty repository of libraries: returns how many nodes were compared.
 fn compared(alloc: Global, steps: &[Step<'_>]) -> Result<usize, Fail> {
     let mut repository = empty(alloc, metamodel(alloc, LIBRARY)?)?;
     let mut watches = Vec::new(alloc);
@@ -209,7 +209,7 @@ fn compared(alloc: Global, steps: &[Step<'_>]) -> Result<usize, Fail> {
     Ok(compared)
 }
 
-/// Each of these counts the nodes that its views had all along, after every step.
+/// Each of these tests counts the nodes that its views had all along, after every step.
 fn is_followed(alloc: Global, steps: &[Step<'_>], least: usize) -> Result<bool, Fail> {
     Ok(compared(alloc, steps)? >= least)
 }

@@ -25,8 +25,8 @@ fn attach<L: LinkStore>(
     made_attached(repository.attach(AdapterNo(no), target, deep, counter))
 }
 
-/// Each node that is loaded, with how many notices an adapter there is told, and how many one that is deep there: a proxy gives one notice at
-/// its own end, and that of a link with an opposite another one at the other end.
+/// Each node that is loaded, with how many notices an adapter there is told, and how many one that is deep there: a proxy gives one notice
+/// at its own end, and that of a link with an opposite another one at the other end.
 const HEARD: [(Node, u64, u64); 11] = [
     (Node::Object(ObjectNo(0)), 5, 6),
     (Node::Object(ObjectNo(1)), 1, 1),

@@ -45,7 +45,7 @@ fn put_in<L: LinkStore>(repository: &mut Network<L>, item: u32, seed: u32) -> Re
     })
 }
 
-/// Makes some items, every fifth one in the same resource; answers the last number of the row that gave them.
+/// Makes some items, every fifth one in the same resource; returns the last number of the row that gave them.
 fn add_items<L: LinkStore>(
     alloc: Global,
     repository: &mut Network<L>,
@@ -63,7 +63,8 @@ fn add_items<L: LinkStore>(
     Ok(seed)
 }
 
-/// Links two items that a seed gives by one of the references; a link that an end has already, or for which an end has no room, is not made.
+/// Links two items that a seed gives by one of the references; a link that an end has already, or for which an end has no room, is not
+/// made.
 fn link<L: LinkStore>(repository: &mut Network<L>, items: u32, seed: u32) -> Result<(), Refused> {
     let (a, b) = (next(seed), next(next(seed)));
     let (node, value) = (

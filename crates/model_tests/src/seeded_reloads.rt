@@ -12,7 +12,7 @@ use snapshots::{FeatureState, NodeState};
 use std::alloc::{AllocError, Global};
 use std::test::Fail;
 
-/// Where a proxy stands.
+/// The place of a proxy.
 #[derive(Clone, Copy)]
 struct Place {
     resource: u32,
@@ -43,7 +43,7 @@ fn push_places(
     Ok(())
 }
 
-/// Adds those of an object.
+/// Adds the places of an object's proxies.
 fn push_places_of(
     places: &mut Vec<Place>,
     resource: u32,
@@ -58,7 +58,7 @@ fn push_places_of(
     Ok(())
 }
 
-/// Adds those of a resource.
+/// Adds the places of a resource's proxies.
 fn push_places_in<L: LinkStore>(
     alloc: Global,
     places: &mut Vec<Place>,
@@ -140,7 +140,7 @@ fn is_resolved<L: LinkStore>(repository: &mut Network<L>, place: Place) -> Resul
     }
 }
 
-/// Resolves proxies one by one, in an order of their places; answers how many were resolved.
+/// Resolves proxies one by one, in an order of their places; returns how many were resolved.
 fn resolve_each<L: LinkStore>(
     repository: &mut Network<L>,
     places: &[Place],

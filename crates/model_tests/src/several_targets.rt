@@ -78,8 +78,8 @@ fn calls_by<A: Adapter>(
     Ok((found, back(alloc, closed.as_slice())?))
 }
 
-/// What the calls give, wherever the adapter stands that is refused memory. Once the first book is taken from adapter 6, the second one
-/// is its last target.
+/// What the calls give, wherever the adapter is that is refused memory. Once the first book is taken from adapter 6, the second one is its
+/// last target.
 const CALLS: &str = "Some(Memory) [Ok(0), Ok(0), Ok(0)] Ok(One(Null))
 Done; A5 SET Null Text(\"Emma\") -1 false; A6 SET Null Text(\"Emma\") -1 false; A7 SET Null Text(\"Emma\") -1 false
 Flag(true); A6 REMOVING_ADAPTER Adapter(AdapterNo(6)) Null 1 false

@@ -8,7 +8,7 @@ use std::test::Fail;
 const SCRIPT: &str = "new Book\nget #0 name";
 
 /// Gives one byte of a text a read, and fails at a read that is given by its number, from 0. The last read of a text,
-/// which answers 0, has the number of the text's bytes.
+/// which returns 0, has the number of the text's bytes.
 #[derive(Drop)]
 pub(crate) struct OneByte<'a> {
     rest: &'a [u8],

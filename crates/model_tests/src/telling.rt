@@ -84,7 +84,8 @@ pub(crate) fn three_notices(alloc: Global) -> Result<Chain, AllocError> {
     Ok(Chain::from_vec(vec![in alloc; added(1, 0), added(2, 0), added(1, 1)]?))
 }
 
-/// Delivers a chain by the containers of a store; gives who was told what, in order. Its contract is what a caller can say of the two calls together.
+/// Delivers a chain by the containers of a store; gives who was told what, in order. Its contract is what a caller can say of the two calls
+/// together.
 pub(crate) fn tell<L: LinkStore, A: Adapter>(
     alloc: Global,
     store: &L,

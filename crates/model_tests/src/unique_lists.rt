@@ -1,4 +1,4 @@
-//! Whether a list has a value, where it is short, at the length from which its values are counted, and long.
+//! Whether a list has a value: a short list, one of the length from which its values are counted, and a long one.
 use crate::stored_values::{empty, put_many, remove, shift};
 use mm_types::{AdapterNo, ClassNo, FeatureNo, ObjectNo, Text, Value};
 use mm_values::{ValueEdit, ValuePlan, Values};
@@ -27,7 +27,7 @@ pub(crate) fn number(number: u32) -> Value {
     Value::Int(i64::from(number))
 }
 
-/// Makes an edit; where memory is refused, it is asked for once more.
+/// Makes an edit; if memory is refused, it is asked for once more.
 pub(crate) fn run(values: &mut Values, edit: ValueEdit) -> Result<(), AllocError> {
     let plan = ValuePlan::one(edit);
     if values.reserve_for(&plan).is_err() {
@@ -45,7 +45,7 @@ fn fill(values: &mut Values, count: u32) -> Result<(), AllocError> {
     Ok(())
 }
 
-/// No object; where memory is refused, it is asked for once more.
+/// No object; if memory is refused, it is asked for once more.
 fn no_values(alloc: Global) -> Result<Box<Values>, Fail> {
     match Box::new(alloc, Values::new(alloc)) {
         Ok(values) => Ok(values),
@@ -53,7 +53,7 @@ fn no_values(alloc: Global) -> Result<Box<Values>, Fail> {
     }
 }
 
-/// An object whose list has the numbers from 0 on. Where memory is refused, it is asked for once more.
+/// An object whose list has the numbers from 0 on. If memory is refused, it is asked for once more.
 pub(crate) fn filled(alloc: Global, count: u32) -> Result<Box<Values>, Fail> {
     let mut values = no_values(alloc)?;
     run(&mut values, ValueEdit::NewObject(ClassNo(1)))?;
@@ -61,7 +61,7 @@ pub(crate) fn filled(alloc: Global, count: u32) -> Result<Box<Values>, Fail> {
     Ok(values)
 }
 
-/// Fails unless the list has a number where, and only where, it is one from the first to before the second.
+/// Fails unless the list has a number exactly if it is one from the first to before the second.
 fn check_number(values: &Values, at: u32, first: u32, before: u32) -> Result<(), Fail> {
     let has = values.has(OBJECT, FEATURE, &number(at));
     if has == Some(first <= at && at < before) {

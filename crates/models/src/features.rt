@@ -46,7 +46,7 @@ pub fn is_short_text(text: &str) -> bool
     text.len() <= limits::TEXT_BYTES
 }
 
-/// Whether a text value is as short as texts must be; another value is. Takes no memory.
+/// Whether a text value is as short as texts must be; any other value is. Takes no memory.
 pub fn is_short(value: &Value) -> bool
     ensures { result ≡ l.is_short value.now }
 {

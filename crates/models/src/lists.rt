@@ -1,4 +1,4 @@
-//! What stands at the places of ends.
+//! What is at the places of ends.
 ghost use Rattle.std.specs.Prelude.{◌≡◌, ◌&&◌, false, true, Some, length, option_and_then, option_map, option_copied, slice_get, unwrap_or, IfOk};
 ghost use Rattle.mm_types.specs.Ends.{first_in, has_value};
 ghost use Rattle.std.specs.Option.{option_map_or};
@@ -20,7 +20,7 @@ use mm_values::Values;
 use std::alloc::{AllocError, Global};
 
 impl<'a, L: LinkStore> ModelRef<'a, L> {
-    /// How many values stand at an end.
+    /// How many values are at an end.
     pub fn len(&self, end: End) -> u32
         ensures { result ≡ length ((reading self.now).values end) }
     {
@@ -31,7 +31,7 @@ impl<'a, L: LinkStore> ModelRef<'a, L> {
         attribute_len(self.meta(), self.values(), end) as u32
     }
 
-    /// What stands at a place of an end; `None` past the last.
+    /// What is at a place of an end; `None` past the last.
     pub fn value_in(&self, end: End, index: u32) -> Option<Found<'a>>
         ensures { option_map found_value result ≡ slice_get ((reading self.now).values end) index }
     {
@@ -42,7 +42,7 @@ impl<'a, L: LinkStore> ModelRef<'a, L> {
         found_kept(attribute_value_in(meta, values, end, index as usize))
     }
 
-    // What stands at a place of a reference: an object, or a proxy by its text.
+    /// What is at a place of a reference: an object, or a proxy by its text.
     pub(crate) fn target_in(&self, end: End, index: u32) -> Option<Found<'a>>
         requires reference { (shape self.now.metamodel end.feature).is_reference ≡ true }
         ensures { option_map found_value result ≡ slice_get ((reading self.now).values end) index }
@@ -54,7 +54,7 @@ impl<'a, L: LinkStore> ModelRef<'a, L> {
         }
     }
 
-    /// The object at a place of a reference; `None` past the last, and where a proxy stands.
+    /// The object at a place of a reference; `None` past the last, and if a proxy is there.
     pub fn object_in(&self, end: End, index: u32) -> Option<ObjectNo>
         requires reference { (shape self.now.metamodel end.feature).is_reference ≡ true }
         ensures object { result ≡ option_and_then r.object_of (slice_get ((reading self.now).values end) index) }
@@ -64,7 +64,7 @@ impl<'a, L: LinkStore> ModelRef<'a, L> {
         self.store().at(end, index)
     }
 
-    // Whether a value stands at a place of a reference.
+    /// Whether a value is at a place of a reference.
     fn has_target(&self, end: End, index: u32, value: &Value) -> bool
         requires reference { (shape self.now.metamodel end.feature).is_reference ≡ true }
         ensures { result ≡ option_map_or (same_value value.now) (slice_get ((reading self.now).values end) index) false }
@@ -75,7 +75,8 @@ impl<'a, L: LinkStore> ModelRef<'a, L> {
         }
     }
 
-    // Where a value stands in a reference, looked for at one place after another; `None` where it does not.
+    /// The place of a value in a reference, looked for at one place after another; `None` if it is not
+    /// there.
     fn target_position(&self, end: End, value: &Value) -> Option<u32>
         requires reference { (shape self.now.metamodel end.feature).is_reference ≡ true }
         ensures { result ≡ first_in ((reading self.now).values end) value.now }
@@ -89,7 +90,7 @@ impl<'a, L: LinkStore> ModelRef<'a, L> {
         None
     }
 
-    /// Where a value first stands at an end; `None` where it does not.
+    /// The first place of a value at an end; `None` if it is not there.
     pub fn position(&self, end: End, value: &Value) -> Option<u32>
         ensures { result ≡ first_in ((reading self.now).values end) value.now }
     {
@@ -105,7 +106,7 @@ impl<'a, L: LinkStore> ModelRef<'a, L> {
         Some(index as u32)
     }
 
-    /// Whether a value stands at an end.
+    /// Whether a value is at an end.
     pub fn has(&self, end: End, value: &Value) -> bool
         ensures { result ≡ has_value ((reading self.now).values end) value.now }
     {
@@ -122,7 +123,7 @@ impl<'a, L: LinkStore> ModelRef<'a, L> {
         self.meta().is_unique(end.feature) && self.has(end, value)
     }
 
-    /// The place that is named at an end, and else the one behind the last value.
+    /// The place that is named at an end, and else the one after the last value.
     pub fn place_for(&self, end: End, index: Option<u32>) -> u32
         ensures { result ≡ r.place_for (reading self.now) end index }
     {
@@ -133,7 +134,7 @@ impl<'a, L: LinkStore> ModelRef<'a, L> {
     }
 }
 
-/// A copy of the values that stand at an end. Errs only when out of memory.
+/// A copy of the values that are at an end. Errs only if memory is refused.
 pub fn copied_list<L: LinkStore>(
     alloc: Global,
     model: &ModelRef<L>,
@@ -149,14 +150,14 @@ pub fn copied_list<L: LinkStore>(
     Ok(Seq::from_vec(values))
 }
 
-// Whether an attribute has its default: a single one that keeps nothing.
+/// Whether an attribute has its default: a single one that keeps nothing.
 fn has_default(meta: &Meta, values: &Values, end: End) -> bool
     ensures { result ≡ (is_nil (kept_values (values_of values.now) end.node end.feature) && (shape meta.now end.feature).is_single) }
 {
     kept_len(values, end) == 0 && meta.is_single(end.feature)
 }
 
-// The default of an attribute.
+/// The default of an attribute.
 fn default_of(meta: &Meta, feature: FeatureNo) -> Option<&Value>
     requires attribute { (shape meta.now feature).is_reference ≡ false }
     ensures { option_copied result ≡ Some (shape meta.now feature).default }
@@ -164,7 +165,7 @@ fn default_of(meta: &Meta, feature: FeatureNo) -> Option<&Value>
     meta.default(feature)
 }
 
-// How many values an attribute has.
+/// How many values an attribute has.
 #[tactic(auto, using(crate::proofs::ReadLemmas::attribute_values_by))]
 fn attribute_len(meta: &Meta, values: &Values, end: End) -> usize
     ensures { result ≡ length (attribute_values (shape meta.now end.feature) (kept_values (values_of values.now) end.node end.feature)) }
@@ -175,7 +176,7 @@ fn attribute_len(meta: &Meta, values: &Values, end: End) -> usize
     kept_len(values, end)
 }
 
-// What an attribute has at a place.
+/// What an attribute has at a place.
 #[tactic(auto, using(crate::proofs::ReadLemmas::attribute_values_by))]
 fn attribute_value_in<'a>(
     meta: &'a Meta,
@@ -195,7 +196,7 @@ fn attribute_value_in<'a>(
     kept_at(values, end, index)
 }
 
-// Where an attribute has a value first.
+/// The first place at which an attribute has a value.
 #[tactic(auto, using(crate::proofs::ReadLemmas::attribute_values_by))]
 fn attribute_position(meta: &Meta, values: &Values, end: End, value: &Value) -> Option<usize>
     requires attribute { (shape meta.now end.feature).is_reference ≡ false }
@@ -210,7 +211,7 @@ fn attribute_position(meta: &Meta, values: &Values, end: End, value: &Value) -> 
     kept_position(values, end, value)
 }
 
-// Whether an attribute has a value.
+/// Whether an attribute has a value.
 #[tactic(auto, using(crate::proofs::ReadLemmas::attribute_values_by))]
 fn attribute_has(meta: &Meta, values: &Values, end: End, value: &Value) -> bool
     requires attribute { (shape meta.now end.feature).is_reference ≡ false }
@@ -225,7 +226,7 @@ fn attribute_has(meta: &Meta, values: &Values, end: End, value: &Value) -> bool
     kept_has(values, end, value)
 }
 
-// Where a node keeps a value first under an attribute.
+/// The first place at which a node keeps a value under an attribute.
 #[tactic(auto, using(crate::proofs::PlaceLemmas::first_in_position))]
 fn kept_position(values: &Values, end: End, value: &Value) -> Option<usize>
     ensures { result ≡ first_in (kept_values (values_of values.now) end.node end.feature) value.now }
@@ -236,7 +237,7 @@ fn kept_position(values: &Values, end: End, value: &Value) -> Option<usize>
     }
 }
 
-// Whether a node keeps a value under an attribute.
+/// Whether a node keeps a value under an attribute.
 fn kept_has(values: &Values, end: End, value: &Value) -> bool
     ensures { result ≡ has_value (kept_values (values_of values.now) end.node end.feature) value.now }
 {

@@ -89,14 +89,14 @@ impl<'a, L: LinkStore> ModelRef<'a, L> {
         self.values.resources()
     }
 
-    /// The class of an object (EMF: EObject.eClass); `None` where none lives.
+    /// The class of an object (EMF: EObject.eClass); `None` if none lives.
     pub fn class(&self, object: ObjectNo) -> Option<ClassNo>
         ensures { result ≡ (reading self.now).class object }
     {
         self.values.class(object)
     }
 
-    /// Whether a node has a feature, own or inherited; false where it does not live.
+    /// Whether a node has a feature, own or inherited; false if it does not live.
     pub fn has_feature(&self, node: Node, feature: FeatureNo) -> bool
         ensures { result ≡ r.has_feature (reading self.now) node feature }
     {
@@ -111,14 +111,14 @@ impl<'a, L: LinkStore> ModelRef<'a, L> {
         }
     }
 
-    /// The URI of a resource (EMF: Resource.getURI); `None` where there is no such resource.
+    /// The URI of a resource (EMF: Resource.getURI); `None` if there is no such resource.
     pub fn uri(&self, resource: ResourceNo) -> Option<&'a str>
         ensures { option_copied result ≡ slice_get (reading self.now).uris resource.0 }
     {
         self.values.uri(resource)
     }
 
-    /// The resource of a URI (EMF: ResourceSet.getResource); `None` where there is none.
+    /// The resource of a URI (EMF: ResourceSet.getResource); `None` if there is none.
     pub fn resource_named(&self, uri: &str) -> Option<ResourceNo>
         ensures { result ≡ r.resource_named (reading self.now) uri.now }
     {
@@ -139,7 +139,7 @@ impl<'a, L: LinkStore> ModelRef<'a, L> {
         (resource.0 as usize) < self.resources()
     }
 
-    /// All features of a node, own and inherited (EMF: EClass.getEAllStructuralFeatures); none where it does not live.
+    /// All features of a node, own and inherited (EMF: EClass.getEAllStructuralFeatures); none if it does not live.
     pub fn all_features(&self, node: Node) -> &'a [FeatureNo]
         ensures { result.now ≡ r.all_features_of (reading self.now) node }
     {
@@ -155,7 +155,7 @@ impl<'a, L: LinkStore> ModelRef<'a, L> {
         }
     }
 
-    /// The end that contains a node (EMF: EObject.eContainer, eContainmentFeature); `None` where none does, as of a resource.
+    /// The end that contains a node (EMF: EObject.eContainer, eContainmentFeature); `None` if none does, as of a resource.
     pub fn holder(&self, node: Node) -> Option<End>
         ensures { result ≡ (reading self.now).holder node }
     {

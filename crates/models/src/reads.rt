@@ -21,7 +21,7 @@ use mm_types::{ClassNo, End, FeatureNo, Kind, Node, ObjectNo, Text, Value};
 use mm_values::Values;
 use std::alloc::{AllocError, Global};
 
-/// What stands at a single end, where it is kept.
+/// What is at a single end, borrowed from its place.
 #[derive(Clone, Copy, Debug)]
 pub enum Found<'a> {
     /// The value of an attribute.
@@ -33,7 +33,7 @@ pub enum Found<'a> {
 }
 
 impl Found<'_> {
-    /// A copy, as a value of its own. Errs only when out of memory.
+    /// A copy, as a value of its own. Errs only if memory is refused.
     pub fn to_value(&self, alloc: Global) -> Result<Value, AllocError>
         ensures { IfOk result (λ v. v ≡ found_value self.now) }
     {
@@ -44,7 +44,7 @@ impl Found<'_> {
         }
     }
 
-    /// The object that it is; `None` where it is another value.
+    /// The object that it is; `None` if it is any other value.
     pub fn object(&self) -> Option<ObjectNo>
         ensures { result ≡ r.object_of (found_value self.now) }
     {
@@ -68,7 +68,7 @@ impl Found<'_> {
 }
 
 impl<'a> Found<'a> {
-    /// The text of the proxy that it is; `None` where it is another value.
+    /// The text of the proxy that it is; `None` if it is any other value.
     pub fn proxy(self) -> Option<&'a str>
         ensures { option_copied result ≡ text_of (found_value self.entry) }
     {
@@ -80,7 +80,7 @@ impl<'a> Found<'a> {
     }
 }
 
-// The proxy of a text.
+/// The proxy of a text.
 fn proxy_of(alloc: Global, text: &str) -> Result<Value, AllocError>
     ensures { IfOk result (λ v. v ≡ value.Proxy text.now) }
 {
@@ -89,8 +89,8 @@ fn proxy_of(alloc: Global, text: &str) -> Result<Value, AllocError>
 }
 
 impl<'a, L: LinkStore> ModelRef<'a, L> {
-    /// What a single end has: the value that was set, else its default, or what a reference has (EMF: EObject.eGet). `None` stands
-    /// for null; a proxy is answered as it is.
+    /// What a single end has: the value that was set, else its default, or what a reference has (EMF: EObject.eGet). `None` is
+    /// null; a proxy is returned as it is.
     pub fn value_at(&self, end: End) -> Option<Found<'a>>
         ensures { unwrap_or (option_map found_value result) Null ≡ r.value_at (reading self.now) end }
     {
@@ -130,7 +130,7 @@ impl<'a, L: LinkStore> ModelRef<'a, L> {
         }
     }
 
-    // Whether a value is one of a reference, single or not, to a class.
+    /// Whether a value is one of a reference, single or not, to a class.
     fn is_reference_value(&self, single: bool, target: ClassNo, value: &Value) -> bool
         ensures { result ≡ m.is_reference_value self.now.metamodel (reading self.now).class single target value.now }
     {
@@ -163,7 +163,7 @@ pub(crate) fn found_kept(value: Option<&Value>) -> Option<Found<'_>>
     }
 }
 
-// How many values a node keeps under an attribute.
+/// How many values a node keeps under an attribute.
 pub(crate) fn kept_len(values: &Values, end: End) -> usize
     ensures { result ≡ length (kept_values (values_of values.now) end.node end.feature) }
 {
@@ -173,7 +173,7 @@ pub(crate) fn kept_len(values: &Values, end: End) -> usize
     }
 }
 
-// The value that a node keeps under an attribute at an index; `None` past the end.
+/// The value that a node keeps under an attribute at an index; `None` past the end.
 pub(crate) fn kept_at(values: &Values, end: End, index: usize) -> Option<&Value>
     ensures { option_copied result ≡ slice_get (kept_values (values_of values.now) end.node end.feature) index }
 {
@@ -192,7 +192,7 @@ fn flag_at(values: &Values, end: End) -> bool
     }
 }
 
-// What an attribute has: what was set, else its default where it is single.
+/// What an attribute has: what was set, else its default if it is single.
 #[tactic(auto, using(crate::proofs::ReadLemmas::value_in_shown))]
 fn attribute_at<'a>(meta: &'a Meta, values: &'a Values, end: End) -> Option<&'a Value>
     ensures { unwrap_or (option_copied result) Null ≡ value_in (attribute_held meta.now (values_of values.now) end).values 0 }
@@ -204,7 +204,7 @@ fn attribute_at<'a>(meta: &'a Meta, values: &'a Values, end: End) -> Option<&'a 
     }
 }
 
-// Whether an attribute is set.
+/// Whether an attribute is set.
 #[tactic(auto, using(crate::proofs::ReadLemmas::is_nil_shown))]
 fn is_attribute_set(meta: &Meta, values: &Values, end: End) -> bool
     requires attribute { (shape meta.now end.feature).is_reference ≡ false }
@@ -238,7 +238,7 @@ pub fn is_same(a: &Value, b: &Value) -> bool
     a == b
 }
 
-/// A copy of what was found; `None` stands for null. Errs only when out of memory.
+/// A copy of what was found; `None` stands for null. Errs only if memory is refused.
 pub fn copied(alloc: Global, found: Option<Found>) -> Result<Value, AllocError>
     ensures { IfOk result (λ w. w ≡ unwrap_or (option_map found_value found.entry) Null) }
 {

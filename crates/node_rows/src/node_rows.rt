@@ -34,7 +34,7 @@ impl NodeRows {
         }
     }
 
-    // The row of a node; `None` where it has none, and so no values.
+    /// The row of a node; `None` if it has none, and so no values.
     fn row(&self, node: Node) -> Option<&Row>
         ensures { option_copied result ≡ row_at self.now node }
     {
@@ -54,7 +54,7 @@ impl NodeRows {
         }
     }
 
-    // The slot of an end; `None` where it has none, and so no values.
+    /// The slot of an end; `None` if it has none, and so no values.
     fn slot(&self, end: End) -> Option<&Slot>
         ensures { option_copied result ≡ row_slot (row_at self.now end.node) end.feature }
     {
@@ -80,7 +80,7 @@ impl NodeRows {
         self.slot(end)?.values.get(index)
     }
 
-    /// The index of a value in an end; `None` where it is not there.
+    /// The index of a value in an end; `None` if it is not there.
     #[tactic(auto, unfolding(crate::specs::Cells::cells))]
     pub fn position(&self, end: End, value: &Value) -> Option<usize>
         ensures { result ≡ position (same_value value.now) ((cells self.now).vals end) }
@@ -102,7 +102,7 @@ impl NodeRows {
         }
     }
 
-    /// The end that contains a node; `None` where none does.
+    /// The end that contains a node; `None` if none does.
     #[tactic(auto, unfolding(crate::specs::Cells::cells))]
     pub fn holder(&self, node: Node) -> Option<End>
         ensures { result ≡ (cells self.now).hold node }
@@ -129,7 +129,7 @@ impl NodeRows {
         self.row(node)?.entered.get(index)
     }
 
-    /// The index of an end among those with no opposite that hold a node; `None` where it is not there.
+    /// The index of an end among those with no opposite that hold a node; `None` if it is not there.
     #[tactic(auto, unfolding(crate::specs::Cells::cells))]
     pub fn entered_position(&self, node: Node, end: End) -> Option<usize>
         ensures { result ≡ position (same_end end) ((cells self.now).entered node) }
@@ -160,7 +160,7 @@ impl NodeRows {
         }
     }
 
-    // How many values more of an end come with no memory taken.
+    /// How many values more of an end come with no memory taken.
     #[tactic(auto, unfolding(crate::specs::Cells::room))]
     fn places(&self, end: End) -> usize
         ensures { result ≡ (room self.now).places end }
@@ -171,7 +171,7 @@ impl NodeRows {
         }
     }
 
-    // How many ends more that hold a node come with no memory taken.
+    /// How many ends more that hold a node come with no memory taken.
     #[tactic(auto, unfolding(crate::specs::Cells::room))]
     fn entries(&self, node: Node) -> usize
         ensures { result ≡ (room self.now).entries node }
@@ -182,7 +182,7 @@ impl NodeRows {
         }
     }
 
-    // Takes back what an end was promised.
+    /// Takes back what an end was promised.
     fn forget(&mut self, end: End)
         ensures { cells self.new ≡ cells self.old }
     {
@@ -193,7 +193,7 @@ impl NodeRows {
         );
     }
 
-    // Takes back what the far side of a put was promised.
+    /// Takes back what the far side of a put was promised.
     fn forget_far(&mut self, object: ObjectNo, opposite: Option<FeatureNo>)
         ensures { cells self.new ≡ cells self.old }
     {
@@ -207,7 +207,7 @@ impl NodeRows {
         }
     }
 
-    // Takes back what was promised wherever an edit adds something.
+    /// Takes back what was promised wherever an edit adds something.
     fn forget_edit(&mut self, edit: &Edit)
         ensures { cells self.new ≡ cells self.old }
     {
@@ -226,7 +226,7 @@ impl NodeRows {
         }
     }
 
-    // Takes back what was promised wherever a plan adds something.
+    /// Takes back what was promised wherever a plan adds something.
     fn forget_plan(&mut self, plan: &[Edit])
         ensures { cells self.new ≡ cells self.old }
     {
@@ -235,7 +235,7 @@ impl NodeRows {
         }
     }
 
-    // Promises one more value of an end a place.
+    /// Promises one more value of an end a place.
     fn promise(&mut self, end: End) -> Result<(), AllocError>
         ensures cells { cells self.new ≡ cells self.old }
         ensures ok { OnOk result (HasGained (λ e. one_if (same_end end e)) no_ends (room self.old) (room self.new)) }
@@ -246,7 +246,7 @@ impl NodeRows {
         }
     }
 
-    // Promises one more end that holds an object a place.
+    /// Promises one more end that holds an object a place.
     fn promise_entry(&mut self, object: ObjectNo) -> Result<(), AllocError>
         ensures cells { cells self.new ≡ cells self.old }
         ensures ok { OnOk result (HasGained no_values (λ n. one_if (same_node (node.Object object) n)) (room self.old) (room self.new)) }
@@ -254,7 +254,7 @@ impl NodeRows {
         self.objects.promise_entry(object.0 as usize)
     }
 
-    // Promises the far side of a put its place.
+    /// Promises the far side of a put its place.
     fn promise_far(
         &mut self,
         object: ObjectNo,
@@ -272,7 +272,7 @@ impl NodeRows {
         }
     }
 
-    // Promises an edit a place wherever it adds something.
+    /// Promises an edit a place wherever it adds something.
     fn promise_edit(&mut self, edit: &Edit) -> Result<(), AllocError>
         ensures cells { cells self.new ≡ cells self.old }
         ensures ok { OnOk result (HasGained (λ e. gain e edit.now) (λ n. entry n edit.now) (room self.old) (room self.new)) }
@@ -292,8 +292,8 @@ impl NodeRows {
         }
     }
 
-    /// Makes room for a plan, in place of what was made for an earlier one wherever this one adds something. Errs where
-    /// memory is refused; no value changes.
+    /// Makes room for a plan, in place of what was made for an earlier one wherever this one adds something. Errs only
+    /// if memory is refused; no value changes.
     pub fn reserve_for(&mut self, plan: &Plan) -> Result<(), AllocError>
         ensures cells { cells self.new ≡ cells self.old }
         ensures ok { OnOk result (HasRoom (room self.new) plan.now) }

@@ -19,13 +19,13 @@ pub enum RowEdit {
     Hold(Option<End>),
     /// Adds an end with no opposite that holds the node.
     Enter(End),
-    /// Takes such an end away, at its index; past the last nothing changes.
+    /// Takes an end with no opposite that holds the node away, at its index; past the last nothing changes.
     Leave(usize),
-    /// Takes places back that were promised to such ends. No end changes.
+    /// Takes places back that were promised to ends with no opposite that hold the node. No end changes.
     ForgetEntries(usize),
 }
 
-/// The values of one node, and where it stands.
+/// The values of one node, and the ends that hold it.
 #[derive(Drop)]
 pub struct Row {
     /// In the order of first use; the first of a feature counts.
@@ -39,7 +39,7 @@ pub struct Row {
 }
 
 impl Row {
-    /// A node with no values, which stands nowhere. Takes no memory.
+    /// A node with no values, which no end holds. Takes no memory.
     pub fn new(alloc: Global) -> Self
         ensures slots { result.slots.items ≡ [] }
         ensures holder { result.holder ≡ None }
@@ -53,7 +53,7 @@ impl Row {
         }
     }
 
-    /// The slot of a feature; `None` where it has none, and so no values.
+    /// The slot of a feature; `None` if it has none, and so no values.
     pub fn slot(&self, feature: FeatureNo) -> Option<&Slot>
         ensures { option_copied result ≡ slot_in self.now.slots.items feature }
     {
@@ -87,7 +87,7 @@ impl Row {
         put_in_order(&mut self.entered);
     }
 
-    /// Promises one more value of a feature a place. Errs where memory is refused; no value changes.
+    /// Promises one more value of a feature a place. Errs only if memory is refused; no value changes.
     pub fn promise(&mut self, feature: FeatureNo) -> Result<(), AllocError>
         ensures grown { IsRowGrown (Some self.old) (Some self.new) }
         ensures ok { OnOk result (places_of (slot_in self.old.slots.items feature) + 1 ≤ places_of (slot_in self.new.slots.items feature)) }
@@ -103,7 +103,7 @@ impl Row {
         self.promised.min(self.entered.spare())
     }
 
-    /// Promises one more end that holds the node a place. Errs where memory is refused; no end changes.
+    /// Promises one more end that holds the node a place. Errs only if memory is refused; no end changes.
     pub fn promise_entry(&mut self) -> Result<(), AllocError>
         ensures grown { IsRowGrown (Some self.old) (Some self.new) }
         ensures ok { OnOk result (row_entries (Some self.old) + 1 ≤ row_entries (Some self.new)) }
@@ -118,14 +118,14 @@ impl Row {
     }
 }
 
-// Where the first slot of a feature is.
+/// The place of the first slot of a feature.
 fn slot_index(slots: &[Slot], feature: FeatureNo) -> Option<usize>
     ensures { result ≡ position (λ s. same_feature s.feature feature) slots.now }
 {
     slots.iter().position(|slot| slot.feature == feature)
 }
 
-// Changes the values of a feature.
+/// Changes the values of a feature.
 fn edit_slot(slots: &mut Vec<Slot>, feature: FeatureNo, edit: SlotEdit)
     requires { taken edit ≤ places_of (slot_in slots.old.items feature) }
     ensures { AreSlotsEdited feature edit slots.old.items slots.new.items }
@@ -136,7 +136,7 @@ fn edit_slot(slots: &mut Vec<Slot>, feature: FeatureNo, edit: SlotEdit)
     }
 }
 
-// Adds a slot, and room for half as many more. Errs where memory is refused, and then nothing has changed.
+/// Adds a slot, and room for half as many more. Errs only if memory is refused, and then nothing has changed.
 fn push_slot(slots: &mut Vec<Slot>, slot: Slot) -> Result<(), AllocError>
     ensures { slots.new.items ≡ (if is_ok result then slots.old.items ++ slot ∷ [] else slots.old.items) }
 {
@@ -145,7 +145,7 @@ fn push_slot(slots: &mut Vec<Slot>, slot: Slot) -> Result<(), AllocError>
     Ok(())
 }
 
-// Makes a slot for a feature, where it has none.
+/// Makes a slot for a feature, if it has none.
 fn add_slot(slots: &mut Vec<Slot>, feature: FeatureNo) -> Result<(), AllocError>
     ensures grown { AreSlotsGrown slots.old.items slots.new.items }
     ensures ok { OnOk result ((slot_in slots.new.items feature ≡ None) → ⊥) }
@@ -158,7 +158,7 @@ fn add_slot(slots: &mut Vec<Slot>, feature: FeatureNo) -> Result<(), AllocError>
     Ok(())
 }
 
-// Promises one more value a place in the slot of a feature.
+/// Promises one more value a place in the slot of a feature.
 fn promise_in(slots: &mut Vec<Slot>, feature: FeatureNo) -> Result<(), AllocError>
     requires { (slot_in slots.old.items feature ≡ None) → ⊥ }
     ensures grown { AreSlotsGrown slots.old.items slots.new.items }

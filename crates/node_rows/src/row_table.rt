@@ -8,13 +8,13 @@ use mm_types::FeatureNo;
 use std::alloc::{AllocError, Global};
 use std::marker::Model;
 
-/// Rows by number. A number with no row takes four bytes where a higher one has a row, and else none: most objects of a model
-/// may have no links. Contracts see both lists, and read them by `row_in`.
+/// Rows by number. A number with no row takes four bytes if a higher one has a row, and else none: most objects of a model may
+/// have no links. Contracts see both lists, and read them by `row_in`.
 #[derive(Drop)]
 pub(crate) struct RowTable {
-    // By number: zero where it has no row, and else one more than the place of the row.
+    /// By number: zero if it has no row, and else one more than the place of the row.
     places: Vec<u32>,
-    // In the order in which they were made.
+    /// In the order in which they were made.
     rows: Vec<Row>,
 }
 
@@ -40,7 +40,7 @@ impl RowTable {
         }
     }
 
-    /// The row of a number; `None` where it has none.
+    /// The row of a number; `None` if it has none.
     pub fn get(&self, number: usize) -> Option<&Row>
         ensures { option_copied result ≡ row_in self.now number }
     {
@@ -67,7 +67,7 @@ impl RowTable {
         }
     }
 
-    /// Promises one more value at a feature of the row of a number a place. Errs where memory is refused; no value changes.
+    /// Promises one more value at a feature of the row of a number a place. Errs only if memory is refused; no value changes.
     pub fn promise(&mut self, number: usize, feature: FeatureNo) -> Result<(), AllocError>
         ensures grown { AreRowsGrown (row_in self.old) (row_in self.new) }
         ensures ok { OnOk result (row_places (row_in self.old number) feature + 1 ≤ row_places (row_in self.new number) feature) }
@@ -76,7 +76,7 @@ impl RowTable {
         self.rows[place].promise(feature)
     }
 
-    /// Promises one more end that holds the node of a row a place. Errs where memory is refused; no end changes.
+    /// Promises one more end that holds the node of a row a place. Errs only if memory is refused; no end changes.
     pub fn promise_entry(&mut self, number: usize) -> Result<(), AllocError>
         ensures grown { AreRowsGrown (row_in self.old) (row_in self.new) }
         ensures ok { OnOk result (row_entries (row_in self.old number) + 1 ≤ row_entries (row_in self.new number)) }
@@ -85,7 +85,7 @@ impl RowTable {
         self.rows[place].promise_entry()
     }
 
-    // The place of the row of a number, which is made where there is none.
+    /// The place of the row of a number, which is made if there is none.
     fn make_row(&mut self, number: usize) -> Result<usize, AllocError>
         ensures grown { AreRowsGrown (row_in self.old) (row_in self.new) }
         ensures ok { IfOk result (λ k. place_in self.new.places number ≡ Some k) }
@@ -97,8 +97,8 @@ impl RowTable {
         }
     }
 
-    // Makes a row for a number that has none, and answers its place. The row comes first, so that no place is without its row
-    // where memory is refused.
+    /// Makes a row for a number that has none, and returns its place. The row comes first, so that no place is without its row
+    /// if memory is refused.
     fn push_row(&mut self, number: usize) -> Result<usize, AllocError>
         requires in_range { number < length self.old.places }
         requires none { place_in self.old.places number ≡ None }
@@ -116,7 +116,7 @@ impl RowTable {
     }
 }
 
-// The place of the row of a number; `None` where it has none.
+/// The place of the row of a number; `None` if it has none.
 fn place_of(places: &[u32], number: usize) -> Option<usize>
     ensures { result ≡ place_in places.now number }
 {
@@ -126,7 +126,7 @@ fn place_of(places: &[u32], number: usize) -> Option<usize>
     }
 }
 
-// Makes an entry for each number up to one. No number has a row more.
+/// Makes an entry for each number up to one. No number has a row more.
 fn extend(places: &mut Vec<u32>, number: usize) -> Result<(), AllocError>
     ensures same { (n : ℕ) → place_in places.new.items n ≡ place_in places.old.items n }
     ensures ok { OnOk result (number < vec_len places.new) }

@@ -35,7 +35,7 @@ pub enum SlotEdit {
     Remove {
         index: usize,
     },
-    /// Takes the value at `from` out and puts it in so that it then stands at `to`.
+    /// Takes the value at `from` out and puts it in so that it is then at `to`.
     Move {
         to: usize,
         from: usize,
@@ -50,7 +50,7 @@ pub enum SlotEdit {
 #[derive(Drop)]
 pub struct Slot {
     pub feature: FeatureNo,
-    /// As the last put of an object told; neither opposite nor container where none was put.
+    /// As the last put of an object told; neither opposite nor container if none was put.
     pub pairing: Pairing,
     pub values: SlotList<Value>,
     /// How many values more are promised a place.
@@ -82,7 +82,7 @@ impl Slot {
         self.promised.min(self.values.spare())
     }
 
-    /// Promises one more value a place. Errs where memory is refused; no value changes.
+    /// Promises one more value a place. Errs only if memory is refused; no value changes.
     pub fn promise(&mut self) -> Result<(), AllocError>
         ensures feature { self.new.feature ≡ self.old.feature }
         ensures values { self.new.values.items ≡ self.old.values.items }
@@ -126,7 +126,7 @@ impl Slot {
     }
 }
 
-// Puts a value in, in a place that there is.
+/// Puts a value in, in a place that there is.
 fn insert_in<T: Drop>(values: &mut SlotList<T>, index: usize, value: T)
     requires { 1 ≤ values.old.spare }
     ensures items { values.new.items ≡ insert values.old.items index value }
@@ -138,7 +138,7 @@ fn insert_in<T: Drop>(values: &mut SlotList<T>, index: usize, value: T)
     }
 }
 
-// Puts a value in last, in a place that there is.
+/// Puts a value in last, in a place that there is.
 pub(crate) fn push_on<T: Drop>(values: &mut SlotList<T>, value: T)
     requires { 1 ≤ values.old.spare }
     ensures items { values.new.items ≡ values.old.items ++ value ∷ [] }
@@ -147,7 +147,7 @@ pub(crate) fn push_on<T: Drop>(values: &mut SlotList<T>, value: T)
     insert_in(values, values.len(), value);
 }
 
-// Takes a value out; past the end nothing changes.
+/// Takes a value out; past the end nothing changes.
 pub(crate) fn remove_from<T: Drop>(values: &mut SlotList<T>, index: usize)
     ensures items { values.new.items ≡ remove values.old.items index }
     ensures places { values.old.spare ≤ values.new.spare }

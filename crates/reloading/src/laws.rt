@@ -27,9 +27,9 @@ pub fn resolves_and_loads_keep_addresses()
     ensures loads { (s : Model) (k : ResourceNo) (doc : Doc) → LoadsKeepAddresses s k doc }
 {}
 
-/// A resource that was saved, loaded into another model: each object that was saved is had again, under the numbers that follow on, with
-/// its class, its flags, what holds it, and what stood at each of its ends, objects of other resources as proxies of their addresses. It is
-/// in the resource of the load, and has its address where that has the URI of its own (EMF: XMLResource.save, XMLResource.load).
+/// A resource that was saved, loaded into another model: each saved object comes back, under the next numbers, with its class, its flags,
+/// its container and what each of its ends had, objects of other resources as proxies of their addresses. It is in the resource of the
+/// load. If that resource has the same URI, it has the same address (EMF: XMLResource.save, XMLResource.load).
 pub fn what_was_saved_is_loaded_as_it_was()
     ensures { (s : Model) (w : ValuesState) (b : Links) → LoadsSaved s w b }
 {}
@@ -41,19 +41,18 @@ pub fn loads_in_any_order_give_what_stands_between()
     ensures { (s : Model) → LoadsGiveBetween s }
 {}
 
-/// Where a model is between a saved one without proxies and itself, nothing but memory refuses to resolve a proxy. Then it is between
-/// still, and one proxy fewer is left, or two where they were the ends of one link.
+/// If a model is between a saved one without proxies and itself, nothing but memory refuses to resolve a proxy. Then it is between still,
+/// and one proxy fewer is left, or two if they were the ends of one link.
 pub fn resolving_stays_between()
     ensures { (s : Model) (w : ValuesState) (b : Links) → ResolvesBetween s w b }
 {}
 
-/// Where all proxies of such a model are resolved, one after another in their order, none is left, and the model is alike to what was
-/// saved.
+/// If all proxies of such a model are resolved, one after another in their order, none is left, and the model is alike to what was saved.
 pub fn resolving_all_leaves_no_proxy()
     ensures { (s : Model) (w : ValuesState) (b : Links) → ResolvesAll s w b }
 {}
 
-/// Where no proxy is left in a legal model, none stands anywhere.
+/// If no proxy is left in a legal model, none is anywhere.
 pub fn with_no_proxy_left_none_stands()
     ensures { (s : Model) → IsLegal s → proxies_len (reading s) ≡ 0 → HasNoProxy (reading s) }
 {}
@@ -64,8 +63,8 @@ pub fn without_proxies_models_between_are_alike()
 {}
 
 /// All that was saved, of a model without proxies, loaded into a new model in any order, and then proxies resolved in any order until none
-/// is left: nothing but memory refuses any of these changes, and what comes to stand is alike to what was saved. There are such resolves,
-/// and to resolve all proxies in their order is one way.
+/// is left: nothing but memory refuses any of these changes, and what comes out is alike to what was saved. There are such resolves, and to
+/// resolve all proxies in their order is one way.
 pub fn what_was_saved_is_had_again_in_any_order()
     ensures { (s : Model) → ReloadsInAnyOrder s }
 {}

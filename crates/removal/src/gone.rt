@@ -26,7 +26,7 @@ pub struct Removal {
 }
 
 impl Removal {
-    /// What goes with a live object. Errs only when out of memory.
+    /// What goes with a live object. Errs only if memory is refused.
     pub fn of<L: LinkStore>(
         alloc: Global,
         model: &ModelRef<L>,

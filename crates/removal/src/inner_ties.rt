@@ -16,7 +16,7 @@ use mm_types::{End, FeatureNo, Node, ObjectNo};
 use models::{Found, ModelRef};
 use std::alloc::AllocError;
 
-/// Adds the links of objects, where those whose numbers are in a set go.
+/// Adds the links of objects, when those go whose numbers are in a set.
 pub(crate) fn push_inner<L: LinkStore>(
     model: &ModelRef<L>,
     objects: &[ObjectNo],
@@ -47,7 +47,7 @@ fn push_node<L: LinkStore>(
     Ok(())
 }
 
-/// Adds the links of one end of an object, where it is of a reference.
+/// Adds the links of one end of an object, if it is of a reference.
 fn push_reference<L: LinkStore>(
     model: &ModelRef<L>,
     object: ObjectNo,
@@ -79,7 +79,7 @@ fn push_end<L: LinkStore>(
     Ok(())
 }
 
-/// Adds the link of one value, or the proxy, where its end names it.
+/// Adds the link of one value, or the proxy, if its end names it.
 fn push_named<L: LinkStore>(
     model: &ModelRef<L>,
     end: End,

@@ -27,7 +27,7 @@ pub struct Loss {
 }
 
 /// What ends of other nodes lose when an object and all that is below it are destroyed, by feature number, then by node, then by
-/// position; the loss of the object itself, at the end that contains it, comes last. Errs only when out of memory.
+/// position; the loss of the object itself, at the end that contains it, comes last. Errs only if memory is refused.
 pub fn losses<L: LinkStore>(
     alloc: Global,
     model: &ModelRef<L>,
@@ -124,8 +124,8 @@ fn last_position<L: LinkStore>(model: &ModelRef<L>, removal: &Removal, end: End)
     kept
 }
 
-/// Whether an object that stands in an end goes before the object itself is taken out of the end that contains it; a proxy, for which
-/// no object is found, stays.
+/// Whether an object in an end is lost before the deleted object leaves the end that contains it. A proxy, for which no object is
+/// found, stays.
 fn is_lost(removal: &Removal, is_holder: bool, found: Option<ObjectNo>) -> bool
     ensures { result ≡ option_map_or (λ x. ranks.is_in removal.now.numbers (node.Object x) && not (is_holder && same_value (value.Object x) (value.Object removal.now.object))) found false }
 {

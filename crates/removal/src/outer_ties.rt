@@ -1,4 +1,4 @@
-//! The links of nodes that stay, to nodes that go, that no end of these can name.
+//! The links of nodes that stay, to nodes that go, that no end of the latter can name.
 ghost use Rattle.std.specs.Prelude.{◌≡◌, ◌++◌, true, All, filter, flat_map, map, OnOk, option_map, option_to_list};
 ghost use Rattle.mm_types.specs.Shapes.{shape};
 ghost use Rattle.mm_types.specs.declared.value.Value.TheVariants as value;
@@ -30,7 +30,7 @@ pub(crate) fn push_outer<L: LinkStore>(
     Ok(())
 }
 
-/// Adds the links of an end to objects that go, where its feature has no opposite.
+/// Adds the links of an end to objects that go, if its feature has no opposite.
 fn push_alone<L: LinkStore>(
     model: &ModelRef<L>,
     end: End,
@@ -49,7 +49,7 @@ fn push_alone<L: LinkStore>(
     Ok(())
 }
 
-/// Adds the link of one value, where that goes.
+/// Adds the link of one value, if that goes.
 fn push_if_gone(
     end: End,
     other: Option<ObjectNo>,

@@ -1,7 +1,8 @@
 //! Names of links.
 use mm_types::{End, Value};
 
-/// A link or a proxy, named by an end in which it stands and its value there: no edit of another link changes that name.
+/// A link or a proxy, named by an end in which it is and its value there: no edit of any other link changes that
+/// name.
 #[derive(Debug, Drop)]
 pub struct Tie {
     pub end: End,

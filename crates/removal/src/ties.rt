@@ -12,7 +12,8 @@ use links::LinkStore;
 use models::ModelRef;
 use std::alloc::{AllocError, Global};
 
-/// The links that name an object or something below it, each named once. Errs only when out of memory.
+/// The links that name an object or something below it, each named once. Errs only if memory is
+/// refused.
 pub fn tree_ties<L: LinkStore>(
     alloc: Global,
     model: &ModelRef<L>,

@@ -31,13 +31,13 @@ pub enum Command<A = Box<dyn Adapter>> {
         feature: FeatureNo,
         index: u32,
     },
-    /// Takes a value out of a list where it first stands (EMF: EList.remove; MOF 2.5.1: Reflection, ReflectiveCollection.remove).
+    /// Takes the first occurrence of a value out of a list (EMF: EList.remove; MOF 2.5.1: Reflection, ReflectiveCollection.remove).
     RemoveValue {
         node: Node,
         feature: FeatureNo,
         value: Value,
     },
-    /// Moves the value at `from` of a list, so that it then stands at `to` (EMF: EList.move).
+    /// Moves the value at `from` of a list, so that it is then at `to` (EMF: EList.move).
     Move {
         node: Node,
         feature: FeatureNo,

@@ -73,10 +73,10 @@ pub fn without_proxies_what_stands_between_is_alike()
     ensures { (s t : Reading) → HasNoProxy s → HasNoProxy t → Between s t → Alike s t }
 {}
 
-/// What was saved is had again. All resources of a state without proxies were saved. In a new repository over the same metamodel they are
+/// What was saved comes back. All resources of a state without proxies were saved. In a new repository over the same metamodel they are
 /// created and loaded, both in any order, and then proxies are resolved, all at once or one after another in any order until none is left.
 /// Nothing but memory refuses any of these commands, and the two states are alike: they have the same addresses, and at each address the
-/// same class, values, flags and ends, where objects are compared by their addresses.
+/// same class, values, flags and ends, with objects compared by their addresses.
 pub fn what_was_saved_is_had_again_in_any_order()
     ensures { (s : State) → ReloadsInAnyOrder s }
 {}

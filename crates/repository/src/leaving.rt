@@ -139,8 +139,8 @@ pub(crate) fn room_for<A: Adapter>(
     Ok(Some(Leaving::reserve(alloc, spots, chain_told)?))
 }
 
-/// Delivers the notices of a round, and then lets the targets go that there is room for. Gives who was told of what, and the adapters
-/// that are handed out.
+/// Delivers the notices of a round, and then releases the targets for which there is room. Gives who was told of what, and the
+/// adapters that are handed out.
 pub(crate) fn notify<A: Adapter>(
     alloc: Global,
     adapters: &mut AdapterList<A>,
@@ -160,7 +160,7 @@ pub(crate) fn notify<A: Adapter>(
     }
 }
 
-/// Lets targets go: their last notices are told behind those of a chain.
+/// Releases targets: their last notices are told after those of a chain.
 fn let_go<A: Adapter>(
     adapters: &mut AdapterList<A>,
     leaving: Leaving<A>,

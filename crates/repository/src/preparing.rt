@@ -31,7 +31,7 @@ use models::{ModelRef, at_end, copied};
 use removal::Removal;
 use std::alloc::{AllocError, Global};
 
-/// What a change answers, which targets go with what it destroys, and its plan.
+/// The answer of a change, which targets go with what it destroys, and its plan.
 #[derive(Drop)]
 pub(crate) struct Prepared {
     pub answer: Answer,
@@ -40,7 +40,7 @@ pub(crate) struct Prepared {
     pub planned: Planned,
 }
 
-/// Prepares a change, or gives the refusal that planning finds. Where no adapter is attached no notice is made.
+/// Prepares a change, or gives the refusal that planning finds. If no adapter is attached, no notice is made.
 pub(crate) fn prepare<L: LinkStore, A: Adapter>(
     alloc: Global,
     model: &ModelRef<L>,
@@ -68,7 +68,7 @@ pub(crate) fn prepare<L: LinkStore, A: Adapter>(
     })
 }
 
-/// Prepares a change that edits values alone, of which nobody hears: what it answers, and its edits; or gives the refusal that planning finds.
+/// Prepares a change that edits values alone, of which nobody hears: its answer, and its edits; or gives the refusal that planning finds.
 pub(crate) fn prepare_values<L: LinkStore>(
     alloc: Global,
     model: &ModelRef<L>,
@@ -122,8 +122,8 @@ pub(crate) fn reserve<L: LinkStore, A: Adapter>(
     Ok((round, leaving))
 }
 
-/// What a change answers that is not refused; `None` for a deletion and for proxies, whose answers are what the plan destroys, finds and
-/// resolves. Errs only when out of memory.
+/// The answer of a change that is not refused; `None` for a deletion and for proxies, whose answers are what the plan destroys, finds and
+/// resolves. Errs only if memory is refused.
 fn early_answer<L: LinkStore>(
     alloc: Global,
     model: &ModelRef<L>,
@@ -164,7 +164,7 @@ fn early_answer<L: LinkStore>(
     }
 }
 
-// The object that a proxy finds, how many proxies are resolved, or how many objects go, as an answer.
+/// The object that a proxy finds, how many proxies are resolved, or how many objects go, as an answer.
 fn planned_answer(
     removal: &Option<Removal>,
     target: Option<Target>,
@@ -183,7 +183,7 @@ fn planned_answer(
     }
 }
 
-// The value at a place of a list, as an answer. Errs only when out of memory.
+/// The value at a place of a list, as an answer. Errs only if memory is refused.
 fn value_answer<L: LinkStore>(
     alloc: Global,
     model: &ModelRef<L>,

@@ -35,7 +35,7 @@ pub(crate) fn replied<A>(
     }
 }
 
-/// Whether a feature was answered to be set, as a reply.
+/// Whether a feature was found to be set, as a reply.
 pub(crate) fn replied_flag<A>(
     alloc: Global,
     read: Result<bool, Refused>,

@@ -1,4 +1,4 @@
-//! When what is remembered of fragments, and of who hears a node, is let go.
+//! When the remembered fragments, and who hears a node, are forgotten.
 ghost use Rattle.std.specs.FinMap as map;
 ghost use Rattle.std.specs.Prelude.{◌≡◌, false, if◌then◌else◌, is_some, List};
 ghost use Rattle.links.specs.Laws.{contains_by, edit_end, touches_containment as touches};
@@ -25,8 +25,8 @@ fn touches_containment(meta: &Meta, edits: &Plan) -> bool
     edits.as_slice().iter().any(|e| is_of_containment(meta, e))
 }
 
-/// Lets go what is remembered and may be wrong after a change: the fragments where a plan edits a link that contains, and who hears a
-/// node there too, or where targets go. Takes no memory.
+/// Forgets what is remembered and may be wrong after a change: the fragments if a plan edits a link that contains, and who hears a
+/// node if it does, or if targets go. Takes no memory.
 pub(crate) fn forget_touched(
     paths: &mut PathCache,
     hearers: &mut Hearers,

@@ -4,7 +4,7 @@ use mm_types::{AdapterNo, ClassNo, FeatureNo, ObjectNo, Refused, ResourceNo, Seq
 use notice_chain::Notice;
 use snapshots::Snapshot;
 
-/// What a command that is done answers.
+/// The answer of a command that is done.
 #[derive(Debug, Drop)]
 pub enum Answer {
     /// Of a command that only changes something.
@@ -50,7 +50,7 @@ pub enum Answer {
 /// What a feature has.
 #[derive(Debug, Drop)]
 pub enum FeatureValue {
-    /// The value of a feature of one; null where it is empty.
+    /// The value of a feature of one; null if it is empty.
     One(Value),
     /// The values of a feature of many, in order.
     Many(Seq<Value>),
@@ -62,7 +62,7 @@ pub struct Reply<A = Box<dyn Adapter>> {
     pub answer: Answer,
     /// Which adapter was notified of what, in order.
     pub told: Seq<(AdapterNo, Notice)>,
-    /// The adapters that are attached no more, each with its number.
+    /// The adapters that are no longer attached, each with its number.
     pub released: Seq<(AdapterNo, A)>,
 }
 

@@ -24,8 +24,8 @@ use models::ModelRef;
 use std::alloc::Global;
 use std::marker::Model;
 
-/// Objects of a metamodel's classes with what they hold, their links in a store, and the adapters that are notified of their changes (EMF: Resource
-/// with EObjects; MOF 2.5.1: Extent).
+/// Objects of a metamodel's classes with what they hold, their links in a store, and the adapters that are notified of their changes (EMF:
+/// Resource with EObjects; MOF 2.5.1: Extent).
 ///
 /// A command that is refused changes nothing and notifies nobody. Contracts see a repository as its `State`, which is always
 /// legal. Code that holds a repository is generic over its store and the kind of its adapters; only the outermost caller picks

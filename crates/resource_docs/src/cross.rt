@@ -1,4 +1,4 @@
-//! Whether a reference with an opposite leads to another resource.
+//! Whether a reference with an opposite leads to a different resource.
 ghost use Rattle.std.specs.Prelude.{◌≡◌};
 ghost use Rattle.std.specs.List.{list_any};
 ghost use Rattle.resource_docs.specs.Causes.{has_cross as cross_meant, is_proxy as proxy_meant, of_content};
@@ -45,7 +45,7 @@ fn is_any_crossed(meta: &Meta, objects: &[DocObject]) -> bool
         .any(|object| has_any_cross(meta, object.contents.as_slice()))
 }
 
-/// Whether a reference with an opposite leads to another resource. Takes no memory.
+/// Whether a reference with an opposite leads to a different resource. Takes no memory.
 pub(crate) fn has_crosses(meta: &Meta, doc: &Doc) -> bool
     ensures { result ≡ of_content (λ o c. cross_meant meta.now c) doc.now }
 {

@@ -94,7 +94,7 @@ impl Ends {
         Ok(())
     }
 
-    /// Which objects of a document name which. Errs only where memory is refused.
+    /// Which objects of a document name which. Errs only if memory is refused.
     pub fn of(alloc: Global, objects: &[DocObject]) -> Result<Self, AllocError>
         ensures { IfOk result (λ e. IsEndsOf e objects.now) }
     {
@@ -165,7 +165,7 @@ impl Ends {
     }
 }
 
-/// Whether an object of a document names one, under a feature with opposite, that does not name back. Errs only where
+/// Whether an object of a document names one, under a feature with opposite, that does not name back. Errs only if
 /// memory is refused.
 pub(crate) fn has_one_sided(alloc: Global, meta: &Meta, doc: &Doc) -> Result<bool, AllocError>
     ensures { IfOk result (λ b. b ≡ of_content (is_one_sided meta.now doc.now) doc.now) }

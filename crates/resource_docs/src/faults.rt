@@ -62,7 +62,7 @@ fn has_many_roots(meta: &Meta, count: usize) -> bool
 }
 
 /// What is wrong with what a document leads to, with how much there is of it, or with how deep it lies; whether it has
-/// the first format, its number of roots, and whether a reference is lost, are known. Errs only where memory is refused.
+/// the first format, its number of roots, and whether a reference is lost, are known. Errs only if memory is refused.
 pub(crate) fn sense_cause(
     source: &Source,
     has_first_format: bool,

@@ -123,8 +123,8 @@ fn add_object(read: &mut ReadObjects, source: &Source, row: &Row) -> Result<(), 
     Ok(())
 }
 
-/// Reads the objects of the parts that were found, in loading order. Errs only where memory is refused, or where a list
-/// has more than 2^32 values.
+/// Reads the objects of the parts that were found, in loading order. Errs only if memory is refused, or if a list has
+/// more than 2^32 values.
 pub(crate) fn read_objects(source: &Source) -> Result<ReadObjects, AllocError>
     ensures value { IfOk result (λ r. (ps : List Part) → Knows source.now.found.now ps → r ≡ objects_so_far source.now.meta.now (base_of source.now.uri.now) ps ps) }
     ensures proxy { IfOk result (λ r. All IsProxyObject r.objects) }

@@ -95,23 +95,23 @@ fn read_value(alloc: Global, meta: &Meta, uri: &str, json: &JsonValue) -> Result
 /// What the bytes of a document are read as, in the resource of a URI: its objects and roots; else `Document` with the
 /// lowest cause that applies:
 ///
-/// - `Syntax` where the bytes are no JSON, of at most 127 levels, in UTF-8;
-/// - `Layout` where the value has another shape than a document, or a key that is not listed;
-/// - `Format` where its format is neither 1 nor 2;
-/// - `Class` where an object names no class, or an abstract one;
-/// - `Feature` where a key is no feature of the object's class, or a container reference;
-/// - `Value` where what is written under a feature is none of its type, or a text has more than 65,535 bytes;
-/// - `Reference` where a text is no fragment and no URI with a fragment, or leads to no object of the document that
+/// - `Syntax` if the bytes are no JSON, of at most 127 levels, in UTF-8;
+/// - `Layout` if the value does not have the shape of a document, or has a key that is not listed;
+/// - `Format` if its format is neither 1 nor 2;
+/// - `Class` if an object names no class, or an abstract one;
+/// - `Feature` if a key is no feature of the object's class, or a container reference;
+/// - `Value` if what is written under a feature is none of its type, or a text has more than 65,535 bytes;
+/// - `Reference` if a text is no fragment and no URI with a fragment, or leads to no object of the document that
 ///   conforms;
-/// - `Duplicate` where a list that has each value once has one twice;
-/// - `Bound` where a list has more values than its upper bound, or than 1,000,000;
-/// - `OneSided` where an object names another under a feature with opposite, and that one does not name it;
-/// - `Cross` where its format is 1, and a reference with an opposite leads to another resource;
-/// - `Depth` where an object stands below level 40.
+/// - `Duplicate` if a unique list repeats a value;
+/// - `Bound` if a list has more values than its upper bound, or than 1,000,000;
+/// - `OneSided` if an object names another under a feature with opposite, and that one does not name it;
+/// - `Cross` if its format is 1, and a reference with an opposite leads to a different resource;
+/// - `Depth` if an object is below level 40.
 ///
-/// `Memory` where memory was refused, or where there are more than 2^32 objects or values, whatever else applies; no
-/// other refusal. References into other resources become proxies, by their joined URIs. The time is linear in the
-/// document, but for the logarithm that the keys of a large object cost.
+/// `Memory` if memory was refused, or if there are more than 2^32 objects or values, whatever else applies; no other
+/// refusal. References into other resources become proxies, by their joined URIs. The time is linear in the document,
+/// but for the logarithm that the keys of a large object cost.
 pub fn read_doc(alloc: Global, meta: &Meta, uri: &str, bytes: &[u8]) -> Result<Doc, Refused>
     ensures { Reads result meta.now uri.now bytes.now }
 {

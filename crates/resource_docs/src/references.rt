@@ -18,7 +18,7 @@ use serde_json::Value as JsonValue;
 use std::alloc::AllocError;
 use web_uris::Path;
 
-/// The object of a number, where it conforms to a class.
+/// The object of a number, if it conforms to a class.
 fn object_of_number(meta: &Meta, found: &Found, class: ClassNo, number: u32) -> Option<Value>
     ensures value { (r : Row) → slice_get found.now.rows.items number ≡ Some r → result ≡ (if conforms_meant meta.now class (view r.json.now) then Some (object_of number) else None) }
     ensures proxy { IfSome result IsProxyValue }
@@ -29,7 +29,7 @@ fn object_of_number(meta: &Meta, found: &Found, class: ClassNo, number: u32) -> 
     }
 }
 
-/// The object that a path leads to, where it conforms to a class.
+/// The object that a path leads to, if it conforms to a class.
 fn object_at(meta: &Meta, found: &Found, class: ClassNo, path: &Path) -> Option<Value>
     ensures value { (ps : List Part) → Knows found.now ps → result ≡ led_meant meta.now ps class (Here path.now) }
     ensures proxy { IfSome result IsProxyValue }
@@ -50,8 +50,8 @@ fn led_to(meta: &Meta, found: &Found, class: ClassNo, target: Target) -> Option<
     }
 }
 
-/// What a reference to a class is read as: an object of the document that conforms, or a proxy; nothing where the text
-/// leads nowhere, or to an object of another class. Errs only where memory is refused.
+/// What a reference to a class is read as: an object of the document that conforms, or a proxy; nothing if the text
+/// leads nowhere, or to an object of a wrong class. Errs only if memory is refused.
 pub(crate) fn reference_value(
     source: &Source,
     class: ClassNo,

@@ -39,7 +39,7 @@ fn key_of(value: &Value) -> Key<'_>
     }
 }
 
-/// Whether a list has a value twice. Errs only where memory is refused.
+/// Whether a list has a value twice. Errs only if memory is refused.
 fn repeats_value(alloc: Global, values: &[Value]) -> Result<bool, AllocError>
     ensures { IfOk result (λ b. b ≡ repeats_meant values.now) }
 {
@@ -55,7 +55,7 @@ fn repeats_value(alloc: Global, values: &[Value]) -> Result<bool, AllocError>
     Ok(false)
 }
 
-/// Whether a list that has each value once has one twice. Errs only where memory is refused.
+/// Whether a unique list repeats a value. Errs only if memory is refused.
 fn has_repeat(alloc: Global, meta: &Meta, content: &Content) -> Result<bool, AllocError>
     ensures { IfOk result (λ b. b ≡ repeat_meant meta.now content.now) }
 {
@@ -87,7 +87,7 @@ fn is_any_repeated(alloc: Global, meta: &Meta, objects: &[DocObject]) -> Result<
     Ok(false)
 }
 
-/// Whether a list of a document that has each value once has one twice. Errs only where memory is refused.
+/// Whether a unique list of a document repeats a value. Errs only if memory is refused.
 pub(crate) fn has_repeats(alloc: Global, meta: &Meta, doc: &Doc) -> Result<bool, AllocError>
     ensures { IfOk result (λ b. b ≡ of_content (λ o c. repeat_meant meta.now c) doc.now) }
 {

@@ -25,7 +25,7 @@ fn add_root(roots: &mut Seq<ObjectNo>, found: &Found, position: usize) -> Result
     Ok(())
 }
 
-/// The numbers of the roots. Errs only where memory is refused, or where there are more than 2^32 of them.
+/// The numbers of the roots. Errs only if memory is refused, or if there are more than 2^32 of them.
 pub(crate) fn read_roots(
     alloc: Global,
     found: &Found,

@@ -12,11 +12,11 @@ use web_uris::{Path, UriFault, address_of, joined, parse, split_address};
 pub enum Target {
     /// An object of the document itself, by its path.
     Here(Path),
-    /// An object of another resource, by its address.
+    /// An object of a different resource, by its address.
     Elsewhere(Text),
 }
 
-/// The URI that a part before `#` means: the resource's own where it is empty, else what joining gives.
+/// The URI that a part before `#` means: the resource's own if it is empty, else what joining gives.
 fn uri_meant(alloc: Global, uri: &str, part: &str) -> Result<Option<String>, AllocError>
     ensures value { IfOk result (λ u. option_map string_bytes u ≡ uri_of (base_of uri.now) part.now) }
     ensures web { IfOk result (λ u. IfSome u (λ t. IsWebElsewhere uri.now (string_bytes t))) }
@@ -31,7 +31,7 @@ fn uri_meant(alloc: Global, uri: &str, part: &str) -> Result<Option<String>, All
     }
 }
 
-/// What a path leads to behind a URI: an object of the document itself where the URI is its own, as a text.
+/// What a path leads to after a URI: an object of the document itself if the URI is its own, as a text.
 fn target_in(
     alloc: Global,
     uri: &str,
@@ -49,7 +49,7 @@ fn target_in(
     Ok(Target::Elsewhere(Text::from_string(address)))
 }
 
-/// What a part before `#` and a fragment behind it lead to.
+/// What a part before `#` and a fragment after it lead to.
 fn address_target(
     alloc: Global,
     uri: &str,
@@ -68,8 +68,8 @@ fn address_target(
     }
 }
 
-/// What the text of a reference in the document of a URI leads to, or nothing where it is no fragment and no URI with a
-/// fragment. Errs only where memory is refused.
+/// What the text of a reference in the document of a URI leads to, or nothing if it is no fragment and no URI with a
+/// fragment. Errs only if memory is refused.
 pub(crate) fn target_of(alloc: Global, uri: &str, text: &str) -> Result<Option<Target>, AllocError>
     ensures value { IfOk result (λ t. t ≡ target_meant (base_of uri.now) text.now) }
     ensures proxy { IfOk result (λ t. IfSome t IsProxyTarget) }

@@ -23,7 +23,7 @@ pub(crate) struct ReadValues {
     pub is_lost: bool,
 }
 
-/// The object that stands by a step under the part of a number.
+/// The object that a step leads to under a part. The part is given by its number.
 fn part_at(source: &Source, number: u32, name: &str, index: Option<u32>) -> Option<Value>
     ensures value { Numbered source.now.found.now number (λ ps path. result ≡ option_map object_of (number_of ps (with_step path (new_step name.now index)))) }
     ensures proxy { IfSome result IsProxyValue }
@@ -38,7 +38,7 @@ fn part_at(source: &Source, number: u32, name: &str, index: Option<u32>) -> Opti
     }
 }
 
-/// The object that stands at a position under a feature of the part of a number.
+/// The object at a position under a feature of a part. The part is given by its number.
 fn part_of(source: &Source, number: u32, feature: FeatureNo, position: u32) -> Option<Value>
     ensures value { Numbered source.now.found.now number (λ ps path. result ≡ option_map object_of (number_of ps (with_step path (step_to source.now.meta.now feature position)))) }
     ensures proxy { IfSome result IsProxyValue }
@@ -54,7 +54,8 @@ fn part_of(source: &Source, number: u32, feature: FeatureNo, position: u32) -> O
     )
 }
 
-/// What stands at a position under a feature of the part of a number is read as. Errs only where memory is refused.
+/// The value that is read at a position under a feature of a part. The part is given by its number. Errs only if memory
+/// is refused.
 fn value_of(
     source: &Source,
     number: u32,
@@ -126,7 +127,7 @@ fn add_value(
     Ok(())
 }
 
-/// Reads values under a feature. Errs only where memory is refused, or where there are more than 2^32 of them.
+/// Reads values under a feature. Errs only if memory is refused, or if there are more than 2^32 of them.
 fn read_values(
     source: &Source,
     number: u32,
@@ -147,8 +148,8 @@ fn read_values(
     Ok(read)
 }
 
-/// Reads what is written under a feature of the part of a number. Errs only where memory is refused, or where there are
-/// more than 2^32 values.
+/// Reads what is written under a feature of a part. The part is given by its number. Errs only if memory is refused, or
+/// if there are more than 2^32 values.
 pub(crate) fn read_content(
     source: &Source,
     number: u32,

@@ -17,20 +17,20 @@ pub fn the_parts_of_a_saved_document_are_its_objects()
 {}
 
 /// The text by which a resource refers to an object leads, read in that resource, to that object's path, or to a proxy of its
-/// address where it is in another resource; the text of a proxy leads to that proxy.
+/// address if it is in a different resource; the text of a proxy leads to that proxy.
 pub fn a_reference_leads_to_its_object()
     ensures { (s : Model) → IsLegal s → HasSteadyTexts s → (k : ResourceNo) (uri : List ℕ) → slice_get (reading s).uris k.0 ≡ Some uri → LeadsBack (reading s) k uri }
 {}
 
 /// Each object that is written is read at its place, and each value as it was: an object of the resource by its number in loading
-/// order, one of another resource as a proxy of its address.
+/// order, one of a different resource as a proxy of its address.
 pub fn each_value_is_read_as_it_was()
     ensures { (s : Model) → IsLegal s → HasSteadyTexts s → (k : ResourceNo) (uri : List ℕ) → AreParts (reading s) k → LeadsBack (reading s) k uri → IsReadable (reading s) k uri → AreReadAs (reading s) k uri }
 {}
 
 /// The document of a resource is read as that resource: its objects in loading order, each with its class and with the values of
 /// the features that are set, objects of other resources as proxies of their addresses. So is the text that
-/// `saved_docs::write_doc` answers.
+/// `saved_docs::write_doc` returns.
 pub fn what_is_saved_is_read_back()
     ensures value { (s : Model) → ReadsBack s }
     ensures text { (s : Model) → ReadsTextBack s }

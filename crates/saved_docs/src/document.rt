@@ -44,7 +44,7 @@ fn document<L: LinkStore>(source: &Source<L>, roots: &[ObjectNo]) -> Result<Json
     )
 }
 
-/// The text of the document of a resource that has these roots. Errs only where memory is refused.
+/// The text of the document of a resource that has these roots. Errs only if memory is refused.
 pub(crate) fn document_text<L: LinkStore>(
     alloc: Global,
     places: &Places<L>,

@@ -13,7 +13,7 @@ use mm_types::{ObjectNo, ResourceNo};
 use models::ModelRef;
 use std::alloc::{AllocError, Global};
 
-/// The roots of a resource (EMF: Resource.getContents). Errs only where memory is refused.
+/// The roots of a resource (EMF: Resource.getContents). Errs only if memory is refused.
 pub(crate) fn roots<L: LinkStore>(
     alloc: Global,
     model: &ModelRef<L>,
@@ -32,7 +32,7 @@ pub(crate) fn roots<L: LinkStore>(
 }
 
 /// Roots and all that is below them, root by root, each object before what it contains (EMF: Resource.getAllContents). Errs only
-/// where memory is refused.
+/// if memory is refused.
 pub(crate) fn objects_below<L: LinkStore>(
     alloc: Global,
     model: &ModelRef<L>,

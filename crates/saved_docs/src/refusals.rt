@@ -11,8 +11,8 @@ use links::LinkStore;
 use mm_types::{ObjectNo, Refused};
 use models::ModelRef;
 
-/// The first reason for which a resource can't be saved, of which these are the objects: one that is referred to stands in no
-/// resource, or an object stands too deep. Takes no memory.
+/// The first reason for which a resource can't be saved, of which these are the objects: one that is referred to is in no
+/// resource, or an object is too deep. Takes no memory.
 pub(crate) fn refusal<L: LinkStore>(model: &ModelRef<L>, objects: &[ObjectNo]) -> Option<Refused>
     ensures { (k : ResourceNo) → objects.now ≡ objects_in (reading model.now) k → result ≡ saved.save_refusal (reading model.now) k }
 {

@@ -1,4 +1,4 @@
-//! Objects that a resource refers to and that stand in no resource.
+//! Objects that a resource refers to and that are in no resource.
 ghost use Rattle.std.specs.Prelude.{◌≡◌, false, slice_get};
 ghost use Rattle.std.specs.List.{list_any};
 ghost use Rattle.std.specs.Option.{option_and_then, option_map_or};
@@ -12,14 +12,14 @@ use links::LinkStore;
 use mm_types::{End, FeatureNo, Node, ObjectNo};
 use models::ModelRef;
 
-/// Whether an object stands in no resource.
+/// Whether an object is in no resource.
 fn is_dangling<L: LinkStore>(model: &ModelRef<L>, object: ObjectNo) -> bool
     ensures { result ≡ saved.is_dangling (reading model.now) object }
 {
     holder_resource(model.store(), object).is_none()
 }
 
-/// Whether an object stands at a place of an end, and in no resource.
+/// Whether an object is at a place of an end, and in no resource.
 fn dangles_at<L: LinkStore>(model: &ModelRef<L>, end: End, index: u32) -> bool
     ensures { result ≡ option_map_or (saved.is_dangling (reading model.now)) (option_and_then r.object_of (slice_get ((reading model.now).values end) index)) false }
 {
@@ -32,7 +32,7 @@ fn dangles_at<L: LinkStore>(model: &ModelRef<L>, end: End, index: u32) -> bool
     }
 }
 
-/// Whether any object at an end stands in no resource.
+/// Whether any object at an end is in no resource.
 fn dangles_under<L: LinkStore>(model: &ModelRef<L>, end: End) -> bool
     ensures { result ≡ list_any (saved.is_dangling (reading model.now)) (r.objects_of ((reading model.now).values end)) }
 {
@@ -44,7 +44,7 @@ fn dangles_under<L: LinkStore>(model: &ModelRef<L>, end: End) -> bool
     false
 }
 
-/// Whether an object refers by a feature to one that stands in no resource.
+/// Whether an object refers by a feature to one that is in no resource.
 fn dangles_by<L: LinkStore>(model: &ModelRef<L>, object: ObjectNo, feature: FeatureNo) -> bool
     ensures { result ≡ saved.dangles_by (reading model.now) object feature }
 {
@@ -54,7 +54,7 @@ fn dangles_by<L: LinkStore>(model: &ModelRef<L>, object: ObjectNo, feature: Feat
         && dangles_under(model, End { node, feature })
 }
 
-/// Whether an object refers by any of some features to one that stands in no resource.
+/// Whether an object refers by any of some features to one that is in no resource.
 fn dangles_by_any<L: LinkStore>(
     model: &ModelRef<L>,
     object: ObjectNo,
@@ -67,7 +67,7 @@ fn dangles_by_any<L: LinkStore>(
         .any(|feature| dangles_by(model, object, *feature))
 }
 
-/// Whether an object refers to one that stands in no resource.
+/// Whether an object refers to one that is in no resource.
 fn has_dangling<L: LinkStore>(model: &ModelRef<L>, object: ObjectNo) -> bool
     ensures { result ≡ saved.has_dangling (reading model.now) object }
 {
@@ -75,7 +75,7 @@ fn has_dangling<L: LinkStore>(model: &ModelRef<L>, object: ObjectNo) -> bool
     dangles_by_any(model, object, features)
 }
 
-/// Whether any of some objects refers to one that stands in no resource. Takes no memory.
+/// Whether any of some objects refers to one that is in no resource. Takes no memory.
 pub(crate) fn any_dangling<L: LinkStore>(model: &ModelRef<L>, objects: &[ObjectNo]) -> bool
     ensures { result ≡ list_any (saved.has_dangling (reading model.now)) objects.now }
 {

@@ -74,7 +74,7 @@ fn plain_value(
     }
 }
 
-/// An object under a feature: what it is where the feature contains it, and else a reference to it.
+/// An object under a feature: what it is if the feature contains it, and else a reference to it.
 #[cycle(object)]
 fn object_under<L: LinkStore>(
     source: &Source<L>,
@@ -91,7 +91,7 @@ fn object_under<L: LinkStore>(
     }
 }
 
-/// What stands at an end.
+/// What is at an end.
 #[cycle(object)]
 fn found_json<L: LinkStore>(
     source: &Source<L>,
@@ -114,7 +114,7 @@ fn found_json<L: LinkStore>(
     }
 }
 
-/// What stands at a place of an end, or null past the last.
+/// What is at a place of an end, or null past the last.
 #[cycle(object)]
 fn item_value<L: LinkStore>(
     source: &Source<L>,
@@ -130,7 +130,7 @@ fn item_value<L: LinkStore>(
     }
 }
 
-/// All that stands at an end.
+/// All that is at an end.
 #[cycle(object)]
 fn items_value<L: LinkStore>(
     source: &Source<L>,
@@ -165,7 +165,7 @@ fn content_value<L: LinkStore>(
     }
 }
 
-/// Puts what an object holds under a feature among its members, where the feature is written.
+/// Puts what an object holds under a feature among its members, if the feature is written.
 #[cycle(object)]
 fn put_feature<L: LinkStore>(
     source: &Source<L>,
@@ -205,7 +205,7 @@ fn features_value<L: LinkStore>(
     Ok(JsonValue::Object(members))
 }
 
-/// An object and what it contains, for so many levels. Errs only where memory is refused.
+/// An object and what it contains, for so many levels. Errs only if memory is refused.
 #[cycle(object)]
 pub(crate) fn object_value<L: LinkStore>(
     source: &Source<L>,

@@ -30,7 +30,7 @@ fn note_end<L: LinkStore>(places: &mut Places<L>, end: End) -> Result<(), AllocE
     Ok(())
 }
 
-/// Notes the ways to the objects that an object refers to by a feature, where the feature is written as references.
+/// Notes the ways to the objects that an object refers to by a feature, if the feature is written as references.
 fn note_feature<L: LinkStore>(
     places: &mut Places<L>,
     object: ObjectNo,
@@ -57,7 +57,7 @@ fn note_object<L: LinkStore>(places: &mut Places<L>, object: ObjectNo) -> Result
     Ok(())
 }
 
-/// Notes the ways to the objects that any of some objects refers to. Errs only where memory is refused.
+/// Notes the ways to the objects that any of some objects refers to. Errs only if memory is refused.
 pub(crate) fn note_ways<L: LinkStore>(
     places: &mut Places<L>,
     objects: &[ObjectNo],

@@ -76,8 +76,8 @@ fn written_below<L: LinkStore>(
 /// fragment. The other end of a reference with an opposite is written in its own resource. A resource that is not there has no
 /// roots.
 ///
-/// Before anything is written the whole resource is looked over: `Dangling` where an object that it refers to stands in no
-/// resource; else `TooDeep` where an object stands below level 40. Otherwise errs only with `Memory`.
+/// Before anything is written the whole resource is looked over: `Dangling` if an object that it refers to is in no resource;
+/// else `TooDeep` if an object is below level 40. Otherwise errs only with `Memory`.
 pub fn write_doc<L: LinkStore>(
     alloc: Global,
     model: &ModelRef<L>,

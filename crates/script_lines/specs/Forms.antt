@@ -1,6 +1,6 @@
 -- What a line asks for: its first word says what is done, the others to what. A `load` line ends with the text of a
 -- document, which is not cut into words.
-use Rattle.std.specs.Prelude.{ℕ, Bool, true, false, List, [], ◌∷◌, Option, Some, None, option_map, option_and_then, codes, if◌then◌else◌}
+use Rattle.std.specs.Prelude.{ℕ, nat_eq, ◌||◌, Bool, true, false, List, [], ◌∷◌, Option, Some, None, option_map, option_and_then, codes, if◌then◌else◌}
 use Rattle.std.specs.Option.{option_zip}
 use Rattle.std.specs.List.{after_first, before_first, list_any}
 use Rattle.std.specs.Str.{bytes_eq, is_utf8}
@@ -215,6 +215,11 @@ load_form bytes =
 -- the line begins with the word `load`
 abbrev pub is_load : List ℕ → Bool
 is_load bytes = bytes_eq (verb_in bytes) (codes "load")
+
+-- a line whose first byte is none of these gives no text
+abbrev pub may_load : List ℕ → Bool
+may_load [] = false
+may_load (c ∷ cs) = is_space c || nat_eq c 108
 
 -- what the text of a line asks for
 abbrev pub text_line : List ℕ → Line

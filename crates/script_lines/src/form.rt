@@ -3,7 +3,7 @@ use crate::name::Name;
 use crate::written_value::WrittenValue;
 use mm_types::{AdapterNo, Node, ObjectNo, ResourceNo, Text};
 
-/// What a line asks for. Classes and features are given by the names that stand in the line.
+/// What a line asks for. Classes and features are given by the names that are in the line.
 #[derive(Drop)]
 pub enum Form<'a> {
     /// A new object of a class (EMF: EFactory.create).

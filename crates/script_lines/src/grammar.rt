@@ -1,21 +1,21 @@
 //! The bytes that the language of scripts gives a meaning.
 
-/// Stands before the number of an object: `#3`.
+/// Comes before the number of an object: `#3`.
 pub const OBJECT_MARK: u8 = b'#';
 
-/// Stands before the number of a resource: `r0`.
+/// Comes before the number of a resource: `r0`.
 pub const RESOURCE_MARK: u8 = b'r';
 
-/// Stands before the number of an adapter: `A7`.
+/// Comes before the number of an adapter: `A7`.
 pub const ADAPTER_MARK: u8 = b'A';
 
-/// Stands before the name of a literal: `:NOVEL`.
+/// Comes before the name of a literal: `:NOVEL`.
 pub const LITERAL_MARK: u8 = b':';
 
 /// Begins and ends a text: `"Emma"`.
 pub const QUOTE: u8 = b'"';
 
-/// Escapes the byte behind it in a text.
+/// Escapes the byte after it in a text.
 pub const BACKSLASH: u8 = b'\\';
 
 /// Separates words.

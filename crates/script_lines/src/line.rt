@@ -3,7 +3,7 @@ ghost use Rattle.std.specs.Prelude.{◌≡◌, IfOk, map};
 ghost use Rattle.script_lines.specs.Forms.{form, line_of as the_line_of, line_with as the_line_with, text_line};
 
 use crate::form::Form;
-use crate::load::{load_of, verb_of};
+use crate::load::{load_of, loaded_of};
 use crate::parse::form_of;
 use crate::words::words_of;
 use std::alloc::{AllocError, Global};
@@ -44,19 +44,18 @@ fn line_of<'a>(alloc: Global, words: &[&'a str]) -> Result<Line<'a>, AllocError>
 fn text_line_of(alloc: Global, text: &str) -> Result<Line<'_>, AllocError>
     ensures { IfOk result (λ l. l ≡ text_line text.now) }
 {
-    let (verb, rest) = verb_of(text);
-    if verb == "load" {
-        return Ok(line_with(load_of(alloc, rest)?));
+    match loaded_of(text) {
+        Some(rest) => Ok(line_with(load_of(alloc, rest)?)),
+        None => line_of(alloc, words_of(text).as_slice()),
     }
-    line_of(alloc, words_of(text).as_slice())
 }
 
-/// What a line asks for. Errs only where memory is refused for the text that the line writes as a value.
+/// What a line asks for. Errs only if memory is refused for the text that the line writes as a value.
 ///
-/// A line is the bytes between two newlines, without them. It is blank where it is empty or has only
-/// spaces, and bad where it is not UTF-8 or fits no form of the language. The text that a `load` line
-/// gives is not cut into words: it is what follows the one space behind the resource, to the end of the
-/// line. The time is linear in the line's length.
+/// A line is the bytes between two newlines, without them. It is blank if it is empty or has only
+/// spaces, and bad if it is not UTF-8 or fits no form of the language. The text that a `load` line gives
+/// is not cut into words: it is what follows the one space after the resource, to the end of the line.
+/// The time is linear in the line's length.
 pub fn parse_line(alloc: Global, line: &[u8]) -> Result<Line<'_>, AllocError>
     ensures { IfOk result (λ l. l ≡ form line.now) }
 {

@@ -6,7 +6,7 @@ ghost use Rattle.script_lines.specs.Lines.{CutsLine, is_newline};
 use crate::grammar::NEWLINE;
 use memchr::memchr;
 
-/// How many bytes stand before the first newline.
+/// How many bytes come before the first newline.
 fn line_len_of(bytes: &[u8]) -> usize
     ensures value { result ≡ position_or_len is_newline bytes.now }
     ensures within { result ≤ length bytes.now }
@@ -29,7 +29,7 @@ fn after_line(bytes: &[u8], n: usize) -> &[u8]
     }
 }
 
-/// The first line of a script, without its newline, and what follows that newline; `None` where the script is empty.
+/// The first line of a script, without its newline, and what follows that newline; `None` if the script is empty.
 ///
 /// The last line of a script need not end with a newline: then nothing follows it.
 pub fn next_line(bytes: &[u8]) -> Option<(&[u8], &[u8])>

@@ -1,17 +1,18 @@
-//! `load` lines. The text of a document stands in such a line as it is, to the end of the line, and is
-//! not cut into words.
-ghost use Rattle.std.specs.Prelude.{◌≡◌, IfOk, option_map};
+//! `load` lines. The text of a document is written in the line as it is, up to the end of the line,
+//! and is not cut into words.
+ghost use Rattle.std.specs.Prelude.{◌≡◌, true, false, IfOk, MatchOption, option_map};
 ghost use Rattle.std.specs.List.{after_first, before_first};
 ghost use Rattle.script_lines.specs.Words.{after_spaces, is_space};
-ghost use Rattle.script_lines.specs.Forms.{behind_verb, load_form, verb_in};
+ghost use Rattle.script_lines.specs.Forms.{behind_verb, is_load, load_form, may_load as the_may_load, verb_in};
 ghost use Rattle.script_lines.specs.declared.form.Form.TheVariants as asks;
 
 use crate::form::Form;
+use crate::grammar::SPACE;
 use crate::values::resource_no_of;
 use mm_types::{ResourceNo, Text};
 use std::alloc::{AllocError, Global};
 
-/// What stands before the first space, and what follows it; nothing follows where there is no space.
+/// What comes before the first space, and what follows it; nothing follows if there is no space.
 fn cut_at_space(text: &str) -> (&str, &str)
     ensures before { result.0.now ≡ before_first is_space text.now }
     ensures after { result.1.now ≡ after_first is_space text.now }
@@ -29,12 +30,33 @@ fn after_spaces_of(text: &str) -> &str
     text.trim_start_matches(' ')
 }
 
-/// The verb of a line, and what follows the space behind it.
-pub fn verb_of(line: &str) -> (&str, &str)
+/// Whether a line may be a `load` line, by its first byte alone.
+fn may_load(line: &str) -> bool
+    ensures { result ≡ the_may_load line.now }
+{
+    match line.as_bytes().first() {
+        Some(byte) => *byte == SPACE || *byte == b'l',
+        None => false,
+    }
+}
+
+/// The verb of a line, and what follows the space after it.
+fn verb_of(line: &str) -> (&str, &str)
     ensures verb { result.0.now ≡ verb_in line.now }
     ensures rest { result.1.now ≡ behind_verb line.now }
 {
     cut_at_space(after_spaces_of(line))
+}
+
+/// What follows the verb of a `load` line; `None` for a line with a different verb. Most lines are told by their first byte.
+pub fn loaded_of(line: &str) -> Option<&str>
+    ensures { MatchOption result (is_load line.now ≡ false) (λ rest. (is_load line.now ≡ true) × (rest.now ≡ behind_verb line.now)) }
+{
+    if !may_load(line) {
+        return None;
+    }
+    let (verb, rest) = verb_of(line);
+    if verb == "load" { Some(rest) } else { None }
 }
 
 /// The resource and the text of `load RES REST`, by what follows the verb.
@@ -46,7 +68,7 @@ fn parts_of(rest: &str) -> Option<(ResourceNo, &str)>
     Some((resource, text))
 }
 
-/// `load RES REST`, by what follows the verb. Errs where memory is refused for the text.
+/// `load RES REST`, by what follows the verb. Errs only if memory is refused for the text.
 pub fn load_of<'a>(alloc: Global, rest: &str) -> Result<Option<Form<'a>>, AllocError>
     ensures { IfOk result (λ o. o ≡ load_form (after_spaces rest.now)) }
 {

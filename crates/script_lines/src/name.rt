@@ -5,7 +5,7 @@ ghost use Rattle.script_lines.specs.Values.{name_in};
 use mm_types::names::is_name;
 use std::marker::Model;
 
-/// A name, borrowed from the line that it stands in. Contracts see it as the list of its bytes.
+/// A name, borrowed from the line that it is in. Contracts see it as the list of its bytes.
 #[derive(Drop)]
 pub struct Name<'a> {
     text: &'a str,

@@ -61,7 +61,7 @@ fn escaped_text(alloc: Global, word: &str) -> Result<Option<Text>, AllocError>
 
 /// The text that a word writes as a JSON string.
 ///
-/// A text without escapes is copied as it stands: reading it as JSON would take many times as long.
+/// A text without escapes is copied as it is: reading it as JSON would take many times as long.
 pub fn text_of(alloc: Global, word: &str) -> Result<Option<Text>, AllocError>
     ensures { IfOk result (λ o. o ≡ text_in word.now) }
 {

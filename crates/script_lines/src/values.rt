@@ -12,7 +12,7 @@ use mm_types::integers::{integer_of, natural_of};
 use mm_types::{AdapterNo, Node, ObjectNo, ResourceNo, Text};
 use std::alloc::{AllocError, Global};
 
-/// The number that a word has behind a mark.
+/// The number that a word has after a mark.
 fn number_of(mark: u8, word: &str) -> Option<u32>
     requires { mark < 128 }
     ensures { result ≡ number_in mark word.now }
@@ -63,7 +63,7 @@ pub fn feature_of<'a>(node: &str, name: &'a str) -> Option<(Node, Name<'a>)>
     node_of(node).zip(Name::from_word(name))
 }
 
-/// The text that a word writes as a JSON string; another word writes none.
+/// The text that a word writes as a JSON string; any other word writes none.
 pub fn string_of(alloc: Global, word: &str) -> Result<Option<Text>, AllocError>
     ensures { IfOk result (λ o. o ≡ string_in word.now) }
 {

@@ -12,7 +12,7 @@ fn first_space(bytes: &[u8]) -> Option<usize>
     bytes.iter().position(|b| *b == SPACE)
 }
 
-/// How many bytes stand before the first space.
+/// How many bytes come before the first space.
 fn plain_len_of(bytes: &[u8]) -> usize
     ensures value { result ≡ plain_len bytes.now }
     ensures within { result ≤ length bytes.now }

@@ -15,7 +15,7 @@ pub fn feature_name(meta: &Meta, feature: FeatureNo) -> &str
     }
 }
 
-/// The enumeration that is a feature's type; None where the feature has another type, or there is none of the number.
+/// The enumeration that is a feature's type; None if the feature has a different type, or if there is none of the number.
 pub fn enum_of(meta: &Meta, feature: FeatureNo) -> Option<u32>
     ensures { result ≡ n.enum_of meta.now feature }
 {
@@ -40,7 +40,7 @@ fn enum_of_type(value_type: DataType) -> Option<u32>
     }
 }
 
-/// The name of a literal that is a feature's value; no name where the value is no literal, or no literal of the feature's
+/// The name of a literal that is a feature's value; no name if the value is no literal, or no literal of the feature's
 /// type.
 pub fn literal_name<'a>(meta: &'a Meta, feature: FeatureNo, value: &Value) -> &'a str
     ensures { result.now ≡ n.literal_name meta.now feature value.now }

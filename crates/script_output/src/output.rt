@@ -57,7 +57,7 @@ impl Output {
         self.bytes.clear();
     }
 
-    /// Adds a text as it stands.
+    /// Adds a text as it is.
     pub fn text(&mut self, text: &str) -> Result<(), AllocError>
         ensures ok { OnOk result (self.new ≡ self.old ++ text.now) }
     {
@@ -128,8 +128,8 @@ impl Output {
         self.json(text)
     }
 
-    /// Adds a value: `null`, `true`, `-12`, `"Emma"`, `:NOVEL`, `#3`, `proxy "http://m.example/b#/0"`
-    /// or `A7`. Where it is a literal, `literal` is its name; else `literal` is not looked at.
+    /// Adds a value: `null`, `true`, `-12`, `"Emma"`, `:NOVEL`, `#3`, `proxy "http://m.example/b#/0"` or `A7`. If it
+    /// is a literal, `literal` is its name; else `literal` is not looked at.
     pub fn value(&mut self, value: &Value, literal: &str) -> Result<(), AllocError>
         ensures ok { OnOk result (self.new ≡ self.old ++ value_text literal.now value.now) }
     {

@@ -16,7 +16,7 @@ use repository::{Answer, Command, Failure, Reply};
 use script_output::{Output, literal_name};
 use std::alloc::AllocError;
 
-/// The feature that a command names; one of no metamodel where it names none.
+/// The feature that a command names; one of no metamodel if it names none.
 pub(crate) fn feature_of<A>(command: &Command<A>) -> FeatureNo
     ensures { (heard : A → View) → result ≡ a.feature_of (command_view heard command.now) }
 {

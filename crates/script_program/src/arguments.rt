@@ -62,7 +62,7 @@ fn flag<'a>(alloc: Global, name: &'a str, help: &'a str) -> Arg<'a>
         .action(ArgAction::SetTrue)
 }
 
-/// The command line of the program. Errs where memory is refused.
+/// The command line of the program. Errs only if memory is refused.
 fn command<'a>(alloc: Global) -> Result<Command<'a>, AllocError>
     ensures { IfOk result (λ c. app_of c ≡ program) }
 {
@@ -92,11 +92,11 @@ fn is_set(matches: &ArgMatches<'_>, name: &str) -> bool
 
 /// What the words of the command line ask for; the first word is the program's name.
 ///
-/// Errs as `clap` does: with the text of `--help` or `--version`, with what is wrong in the words, or where memory is refused.
+/// Errs as `clap` does: with the text of `--help` or `--version`, with what is wrong in the words, or if memory is refused.
 pub fn options_of<'a>(alloc: Global, words: &'a [&'a str]) -> Result<Options<'a>, Error>
     // Each option is what the words give it first.
     ensures value { IfOk result (λ o. AreGiven o (matches_of program (texts words.entry.now))) }
-    // Words that fit the command line are refused only where memory is.
+    // Words that fit the command line are refused only if memory is.
     ensures passes { IfErr result (λ e. takes program (texts words.entry.now) ≡ true → kind_of e ≡ ErrorKind.OutOfMemory) }
 {
     let matches = command(alloc)?.try_get_matches_from(words)?;
@@ -116,11 +116,11 @@ pub fn options_of<'a>(alloc: Global, words: &'a [&'a str]) -> Result<Options<'a>
 
 /// The value of `--meta` among the words of the command line, the first of which is the program's name.
 ///
-/// Errs as `clap` does: with the text of `--help`, with what is wrong in the words, or where memory is refused.
+/// Errs as `clap` does: with the text of `--help`, with what is wrong in the words, or if memory is refused.
 pub fn meta_file<'a>(alloc: Global, words: &'a [&'a str]) -> Result<&'a str, Error>
     // It is the first value that the words give `--meta`.
     ensures value { IfOk result (λ file. first_of (codes "meta") (matches_of program (texts words.entry.now)) ≡ Some file.now) }
-    // Words that fit the command line are refused only where memory is.
+    // Words that fit the command line are refused only if memory is.
     ensures passes { IfErr result (λ e. takes program (texts words.entry.now) ≡ true → kind_of e ≡ ErrorKind.OutOfMemory) }
 {
     Ok(options_of(alloc, words)?.meta)

@@ -12,7 +12,7 @@ pub struct Dress {
     /// Each line of an answer begins with the number of its line in the script, as `7: ok`. Lines are counted from 1, the
     /// ones that are passed over included.
     pub number: bool,
-    /// The run ends behind the first line that is refused or bad.
+    /// The run ends after the first line that is refused or bad.
     pub stop: bool,
 }
 
@@ -28,7 +28,7 @@ impl Dress {
         }
     }
 
-    /// Whether the run ends behind a line that is counted so.
+    /// Whether the run ends after a line that is counted so.
     pub(crate) fn ends_at(self, turn: Turn) -> bool
         ensures { result ≡ (self.stop && is_fault turn) }
     {

@@ -11,16 +11,16 @@ use script_lines::next_line;
 use script_streams::{RunFault, write_all, write_parts};
 use std::io::Write;
 
-/// What stands before a line that is echoed.
+/// What comes before a line that is echoed.
 const ECHO: &[u8] = b"> ";
 
-/// What stands behind the number of a line.
+/// What comes after the number of a line.
 const NUMBERED: &[u8] = b": ";
 
 /// Ends a line.
 const LINE_END: &[u8] = b"\n";
 
-/// Writes a line of the script, where it is echoed.
+/// Writes a line of the script, if it is echoed.
 fn write_echo<W: Write>(
     writer: &mut W,
     dress: Dress,
@@ -37,7 +37,7 @@ fn write_echo<W: Write>(
     write_parts(writer, &[ECHO, line, LINE_END])
 }
 
-/// Writes each line of an answer behind the number of its line in the script.
+/// Writes each line of an answer after the number of its line in the script.
 fn write_numbered<W: Write>(writer: &mut W, number: u64, answer: &[u8]) -> Result<(), RunFault>
     ensures ok { OnOk result (Appends (W.contents writer.old) (W.contents writer.new) (numbered number answer.now)) }
     ensures err { OnErr result (AppendsFront (W.contents writer.old) (W.contents writer.new) (numbered number answer.now)) }
@@ -53,7 +53,7 @@ fn write_numbered<W: Write>(writer: &mut W, number: u64, answer: &[u8]) -> Resul
     Ok(())
 }
 
-/// Writes the answer of a line of the script, with the number of the line where answers are numbered.
+/// Writes the answer of a line of the script, with the number of the line if answers are numbered.
 fn write_answer<W: Write>(
     writer: &mut W,
     dress: Dress,

@@ -1,6 +1,6 @@
 //! The texts of `--help` and `--version`.
 
-/// What `--version` says behind the program's name.
+/// What `--version` says after the program's name.
 pub(crate) const VERSION: &str = "1.0";
 
 /// What `--help` says before the options.
@@ -27,7 +27,7 @@ pub(crate) const LIVE: &str =
 /// What `--help` says of `--explain`.
 pub(crate) const EXPLAIN: &str = "Says on standard error what to mend";
 
-/// What `--help` says behind the options.
+/// What `--help` says after the options.
 pub(crate) const EXPLAINED: &str = "\
 The metamodel is a JSON document. What each line of the script answers is printed:
 
@@ -71,6 +71,5 @@ adapter that was released. A line that can't be done prints why, as `refused 8 T
 nothing; a line that does not parse prints `bad line`; an empty line prints nothing.
 
 Example: printf 'new Book\\nset #0 name \"Emma\"\\nget #0 name\\n' | mmrepo --meta library.json
-
 Exit status: 0 the script was run, 1 the metamodel is refused, 2 wrong arguments, 3 the run stopped
 because a stream failed, the input is too long or memory was refused, 4 as --strict says.";

@@ -26,7 +26,7 @@ pub struct Interpreter<L: LinkStore, A: Adapter> {
 
 impl<L: LinkStore, A: Adapter> Interpreter<L, A> {
     /// An interpreter over an empty repository of a metamodel, which has printed nothing. The n-th of the boxes, from 1 on, is An.
-    /// Errs where memory is refused.
+    /// Errs only if memory is refused.
     pub fn new(alloc: Global, meta: Meta, boxes: Vec<A>) -> Result<Self, AllocError>
         ensures begin { IfOk result (λ i. session i.repository i.pool ≡ first_session A.heard meta boxes.items) }
         ensures text { IfOk result (λ i. i.output ≡ []) }
@@ -42,7 +42,7 @@ impl<L: LinkStore, A: Adapter> Interpreter<L, A> {
 
     /// Runs a line, and says how it is counted. What it prints is the text from then on.
     ///
-    /// Errs where memory is refused to the run itself; nothing is said of the interpreter then. Where memory is refused to the
+    /// Errs only if memory is refused to the run itself; nothing is said of the interpreter then. If memory is refused to the
     /// repository, the line prints `refused 28 MEMORY`, and nothing has changed.
     pub fn answer(&mut self, line: &[u8]) -> Result<Turn, AllocError>
         ensures { IfOk result (λ t. RunsLine (session self.old.repository self.old.pool) (forms.form line.now) (printed self.new.output t)

@@ -10,9 +10,9 @@ ghost use Rattle.script_program.specs.Script.{RunsLines};
 ghost use Rattle.script_program.specs.Turns.{Printed, summary_of, texts};
 ghost use Rattle.script_program.specs.declared.dress.Dress.{Dress};
 
-/// What the lines of a script print is the text that is defined for the numbers of its lost lines. Each of these numbers
-/// stands once and is that of a line that asks for a command, and there are as many as `no_memory` counts. What the first
-/// lines print is a front of such a text.
+/// What the lines of a script print is the text that is defined for the numbers of its lost lines. Each of these numbers is
+/// there once and is that of a line that asks for a command, and there are as many as `no_memory` counts. What the first lines
+/// print is a front of such a text.
 pub fn what_lines_print_is_the_script()
     ensures whole { (s t : Session) (bytes : List ℕ) (printed : List Printed) → RunsLines s (lines bytes) printed t
         → script s bytes (lost_lines printed) ≡ printed }
@@ -24,7 +24,7 @@ pub fn what_lines_print_is_the_script()
     ensures as_many { (printed : List Printed) → length (lost_lines printed) ≡ (summary_of printed).no_memory }
 {}
 
-/// Where no line is lost, what a script prints is one function of its bytes.
+/// If no line is lost, what a script prints depends on its bytes alone.
 pub fn with_no_line_lost_the_script_is_a_function()
     ensures { (s t : Session) (bytes : List ℕ) (printed : List Printed) → RunsLines s (lines bytes) printed t
         → (summary_of printed).no_memory ≡ 0 → printed ≡ script s bytes [] }
@@ -36,15 +36,15 @@ pub fn a_run_writes_the_dressed_script()
         → dressed d (lines bytes) (script s bytes (lost_lines printed)) ≡ dressed d first printed }
 {}
 
-/// Without options a dressed script is its text. Where only the end of the run is asked for, it is the text of the lines up to
-/// and including the first that is refused or bad.
+/// Without options a dressed script is its text. If only the end of the run is asked for, it is the text of the lines up to and
+/// including the first that is refused or bad.
 pub fn a_plain_script_is_its_text()
     ensures whole { (ls : List (List ℕ)) (printed : List Printed) → length ls ≡ length printed → dressed plain ls printed ≡ texts printed }
     ensures stop { (ls : List (List ℕ)) (printed : List Printed) → length ls ≡ length printed
         → dressed (record plain { stop = true }) ls printed ≡ texts (until_fault printed) }
 {}
 
-/// What is written for a live run is made of the same answers as the text of the script: each has an empty line behind.
+/// What is written for a live run is made of the same answers as the text of the script: each has an empty line after it.
 pub fn a_live_run_writes_the_script_with_empty_lines()
     ensures texts { (printed : List Printed) → live_text printed ≡ texts (map with_empty_line printed) }
     ensures script { (s t : Session) (bytes : List ℕ) (printed : List Printed) → RunsLines s (lines bytes) printed t

@@ -50,7 +50,7 @@ fn number_of<A>(command: &Command<A>) -> Option<AdapterNo>
     }
 }
 
-/// Reads a feature of one value and prints it from where it is kept. Errs where memory is refused for what is printed.
+/// Reads a feature of one value and prints it from where it is kept. Errs only if memory is refused for what is printed.
 fn run_get<L: LinkStore, A: Adapter>(
     repository: &Repository<L, A>,
     output: &mut Output,
@@ -74,7 +74,7 @@ fn run_get<L: LinkStore, A: Adapter>(
     }
 }
 
-/// Prints what an adapter has heard. Errs where memory is refused for what is printed.
+/// Prints what an adapter has heard. Errs only if memory is refused for what is printed.
 fn run_seen<L: LinkStore, A: Adapter>(
     repository: &Repository<L, A>,
     output: &mut Output,
@@ -96,8 +96,8 @@ fn run_seen<L: LinkStore, A: Adapter>(
     }
 }
 
-/// Executes a command, whose adapter is out of the pool, and prints what it answers. What is released, or not attached, goes back
-/// to the pool. Errs where memory is refused for what is printed.
+/// Executes a command, whose adapter is out of the pool, and prints its answer. What is released, or not attached, goes back to
+/// the pool. Errs only if memory is refused for what is printed.
 fn run_command<L: LinkStore, A: Adapter>(
     repository: &mut Repository<L, A>,
     pool: &mut Pool<A>,
@@ -118,7 +118,7 @@ fn run_command<L: LinkStore, A: Adapter>(
     Ok(turn)
 }
 
-/// Does what a form asks for, and prints what it answers. Errs where memory is refused for what is printed.
+/// Does what a form asks for, and prints the answer. Errs only if memory is refused for what is printed.
 fn run_request<L: LinkStore, A: Adapter>(
     repository: &mut Repository<L, A>,
     pool: &mut Pool<A>,
@@ -142,10 +142,9 @@ fn run_request<L: LinkStore, A: Adapter>(
     }
 }
 
-/// Runs a line: parses it, does what it asks for and prints what that answers.
+/// Runs a line: parses it, does what it asks for and prints the answer.
 ///
-/// Errs where memory is refused to the program itself. A command that the repository answers out of memory prints that
-/// refusal.
+/// Errs if memory is refused to the program itself. A command that the repository refuses for memory prints that refusal.
 pub(crate) fn run_line<L: LinkStore, A: Adapter>(
     alloc: Global,
     repository: &mut Repository<L, A>,

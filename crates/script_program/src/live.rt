@@ -20,12 +20,12 @@ use script_streams::{LineEnd, RunFault, read_line, write_all};
 use std::alloc::Global;
 use std::io::{BufReader, Read, Write};
 
-/// What stands behind an answer.
+/// What comes after an answer.
 const BEHIND: &[u8] = b"\n";
 
-/// Runs a line, and writes what it prints with an empty line behind; the output is room for that.
+/// Runs a line, and writes what it prints with an empty line after it; the output is room for that.
 ///
-/// Errs with `Memory` where memory is refused to the run itself, and with `Write` where a write errs or takes no byte.
+/// Errs with `Memory` if memory is refused to the run itself, and with `Write` if a write errs or takes no byte.
 fn answer_live<W: Write, L: LinkStore, A: Adapter>(
     alloc: Global,
     writer: &mut W,
@@ -94,12 +94,12 @@ fn answer_lines<R: Read, W: Write, L: LinkStore, A: Adapter>(
 }
 
 /// Runs a script as `run` does, but answers each line before it reads the next: what a line prints is written with an empty
-/// line behind, and a line that is passed over has an empty line alone. Where the next line may have to be waited for, the
+/// line after it, and a line that is passed over has an empty line alone. If the next line may have to be waited for, the
 /// writer is flushed before.
 ///
-/// Errs with `Read` where a read errs, with `TooLong` where a line has more than `INPUT_BYTES` bytes or the script more than
-/// `u64::MAX - 1` lines, with `Write` where a write or a flush errs or a write takes no byte, and with `Memory` where memory is
-/// refused to the run itself: then what was written is a front of what the first lines print. Where memory is refused to the
+/// Errs with `Read` if a read errs, with `TooLong` if a line has more than `INPUT_BYTES` bytes or the script more than
+/// `u64::MAX - 1` lines, with `Write` if a write or a flush errs or a write takes no byte, and with `Memory` if memory is
+/// refused to the run itself: then what was written is a front of what the first lines print. If memory is refused to the
 /// repository, the line prints `refused 28 MEMORY`, and the run goes on.
 pub fn run_live<R: Read, W: Write, L: LinkStore, A: Adapter>(
     alloc: Global,
@@ -108,12 +108,12 @@ pub fn run_live<R: Read, W: Write, L: LinkStore, A: Adapter>(
     meta: Meta,
     boxes: Vec<A>,
 ) -> Result<Summary, RunFault>
-    // All the input was read, and what was written is what its lines print, with an empty line behind each.
+    // All the input was read, and what was written is what its lines print, with an empty line after each.
     ensures ok { IfOk result (λ s. PrintsInputLive (reader_remaining R.remaining reader.old) (first_session A.heard meta boxes.items) (W.contents writer.old) (W.contents writer.new) s) }
     ensures end { OnOk result (OnSome (reader_remaining R.remaining reader.old) (IsAtEnd (reader_remaining R.remaining reader.new))) }
     // Whatever stops the run, what was written is a front of what the first lines print.
     ensures stopped { OnErr result (PrintsInputLiveFront (reader_remaining R.remaining reader.old) (first_session A.heard meta boxes.items) (W.contents writer.old) (W.contents writer.new)) }
-    // `TooLong` is answered only where a line is too long, or there are too many.
+    // `TooLong` is returned only if a line is too long, or there are too many.
     ensures long { IsErrOf result RunFault.TooLong → IfSome (reader_remaining R.remaining reader.old) IsTooLong }
 {
     let Ok(mut pool) = Pool::new(alloc, boxes) else {

@@ -38,7 +38,7 @@ fn place(no: AdapterNo) -> Option<usize>
 }
 
 impl<A: Adapter> Pool<A> {
-    /// A pool that has all boxes. Errs where memory is refused.
+    /// A pool that has all boxes. Errs only if memory is refused.
     pub(crate) fn new(alloc: Global, boxes: Vec<A>) -> Result<Self, AllocError>
         ensures { IfOk result (λ p. p ≡ map (λ a. Some (A.heard a)) boxes.items) }
     {
@@ -49,7 +49,7 @@ impl<A: Adapter> Pool<A> {
         Ok(Pool { boxes: slots })
     }
 
-    /// Puts a box, or none, in the place of a number, and gives what stood there; None where there is no such place.
+    /// Puts a box, or none, in the place of a number, and gives what was there; None if there is no such place.
     fn replaced(&mut self, no: AdapterNo, slot: Option<A>) -> Option<Option<A>>
         ensures before { option_map (λ o. option_map A.heard o) result ≡ option_and_then (slice_get self.old) (p.place no) }
         ensures after { self.new ≡ p.with_slot (option_map A.heard slot) self.old no }
@@ -61,7 +61,7 @@ impl<A: Adapter> Pool<A> {
         Some(mem::replace(&mut self.boxes[place], slot))
     }
 
-    /// Takes the box of a number out. Refused with `NoAdapter` where there is none, and with `AdapterTaken` where it is out.
+    /// Takes the box of a number out. Refused with `NoAdapter` if there is none, and with `AdapterTaken` if it is out.
     pub(crate) fn take(&mut self, no: AdapterNo) -> Result<A, Refused>
         ensures ok { IfOk result (λ a. p.box_of self.old no ≡ Ok (A.heard a)) }
         ensures err { IfErr result (λ r. p.box_of self.old no ≡ Err r) }

@@ -25,7 +25,7 @@ use std::io::{Read, Write};
 
 /// Runs a line of a script, and writes what it prints as it is dressed; the output is room for that.
 ///
-/// Errs with `Memory` where memory is refused to the run itself, and with `Write` where a write errs or takes no byte.
+/// Errs with `Memory` if memory is refused to the run itself, and with `Write` if a write errs or takes no byte.
 pub(crate) fn answer_line<W: Write, L: LinkStore, A: Adapter>(
     alloc: Global,
     writer: &mut W,
@@ -112,10 +112,10 @@ fn run_input<W: Write, L: LinkStore, A: Adapter>(
     outcome
 }
 
-/// Runs a script as `run` does, and writes what its lines print as it is dressed; where the dress says so, the run ends behind
-/// the first line that is refused or bad.
+/// Runs a script as `run` does, and writes what its lines print as it is dressed; if the dress says so, the run ends after the first line
+/// that is refused or bad.
 ///
-/// Errs as `run` does. The script is read to its end before its first line is run, also where the run ends earlier.
+/// Errs as `run` does. The script is read to its end before its first line is run, even if the run ends earlier.
 pub fn run_dressed<R: Read, W: Write, L: LinkStore, A: Adapter>(
     alloc: Global,
     reader: &mut R,
@@ -127,12 +127,12 @@ pub fn run_dressed<R: Read, W: Write, L: LinkStore, A: Adapter>(
     // All the input was read, and what was written is what its lines print, as it is dressed.
     ensures ok { IfOk result (PrintsInputDressed dress (R.remaining reader.old) (first_session A.heard meta boxes.items) (W.contents writer.old) (W.contents writer.new)) }
     ensures end { OnOk result (IsAtEnd (R.remaining reader.new)) }
-    // Where a write fails or the run is out of memory, what was written is a front of what the first lines print.
+    // If a write fails or the run is out of memory, what was written is a front of what the first lines print.
     ensures stopped { IfErr result (λ e. IsWriteOrMemory e
         → PrintsInputDressedFront dress (R.remaining reader.old) (first_session A.heard meta boxes.items) (W.contents writer.old) (W.contents writer.new)) }
     // After a fault in reading nothing was written.
     ensures unread { IfErr result (λ e. IsReadOrTooLong e → Keeps (W.contents writer.old) (W.contents writer.new)) }
-    // `TooLong` is answered only where the input is too long.
+    // `TooLong` is returned only if the input is too long.
     ensures long { IsErrOf result RunFault.TooLong → IfSome (R.remaining reader.old) (λ input. INPUT_BYTES < length input) }
 {
     match read_all(alloc, reader) {
@@ -141,13 +141,13 @@ pub fn run_dressed<R: Read, W: Write, L: LinkStore, A: Adapter>(
     }
 }
 
-/// Reads a whole script, runs it over an empty repository of a metamodel, and writes what its lines print. The n-th of the
-/// boxes, from 1 on, is An. The repository keeps its links in a store of the kind `L`. At the end the repository is closed, and nothing is printed for that.
+/// Reads a whole script, runs it over an empty repository of a metamodel, and writes what its lines print. The n-th of the boxes, from 1
+/// on, is An. The repository keeps its links in a store of the kind `L`. At the end the repository is closed, and nothing is printed for
+/// that.
 ///
-/// Errs with `Read` where a read errs and with `TooLong` where the script has more than `INPUT_BYTES` bytes: then no line
-/// was run. Errs with `Write` where a write errs or takes no byte, and with `Memory` where memory is refused to the run
-/// itself: then what was written is a front of what the first lines print. Where memory is refused to the repository, the
-/// line prints `refused 28 MEMORY`, and the run goes on.
+/// Errs with `Read` if a read errs and with `TooLong` if the script has more than `INPUT_BYTES` bytes: then no line was run. Errs with
+/// `Write` if a write errs or takes no byte, and with `Memory` if memory is refused to the run itself: then what was written is a front of
+/// what the first lines print. If memory is refused to the repository, the line prints `refused 28 MEMORY`, and the run goes on.
 pub fn run<R: Read, W: Write, L: LinkStore, A: Adapter>(
     alloc: Global,
     reader: &mut R,
@@ -158,12 +158,12 @@ pub fn run<R: Read, W: Write, L: LinkStore, A: Adapter>(
     // All the input was read, and what was written is what its lines print.
     ensures ok { IfOk result (PrintsInput (R.remaining reader.old) (first_session A.heard meta boxes.items) (W.contents writer.old) (W.contents writer.new)) }
     ensures end { OnOk result (IsAtEnd (R.remaining reader.new)) }
-    // Where a write fails or the run is out of memory, what was written is a front of what the first lines print.
+    // If a write fails or the run is out of memory, what was written is a front of what the first lines print.
     ensures stopped { IfErr result (λ e. IsWriteOrMemory e
         → PrintsInputFront (R.remaining reader.old) (first_session A.heard meta boxes.items) (W.contents writer.old) (W.contents writer.new)) }
     // After a fault in reading nothing was written.
     ensures unread { IfErr result (λ e. IsReadOrTooLong e → Keeps (W.contents writer.old) (W.contents writer.new)) }
-    // `TooLong` is answered only where the input is too long.
+    // `TooLong` is returned only if the input is too long.
     ensures long { IsErrOf result RunFault.TooLong → IfSome (R.remaining reader.old) (λ input. INPUT_BYTES < length input) }
 {
     run_dressed::<R, W, L, A>(alloc, reader, writer, meta, boxes, Dress::plain())

@@ -13,7 +13,7 @@ pub enum Turn {
     Done,
     /// Its command was refused.
     Refused,
-    /// Its command was answered out of memory.
+    /// Its command was refused for memory.
     Lost,
 }
 

@@ -21,8 +21,8 @@ pub enum LineEnd {
     Input,
 }
 
-/// Appends to a line what a reader has read ahead, up to the first newline, which it takes from the reader too; where nothing is
-/// read ahead, it reads once. Answers what ends the line, or `None` where it goes on.
+/// Appends to a line what a reader has read ahead, up to the first newline, which it takes from the reader too; if nothing is
+/// read ahead, it reads once. Returns what ends the line, or `None` if it goes on.
 fn read_piece<R: Read>(
     reader: &mut BufReader<R>,
     line: &mut Vec<u8>,
@@ -48,7 +48,7 @@ fn read_piece<R: Read>(
     Ok(None)
 }
 
-/// Flushes a writer where a reader has nothing read ahead, so that its next read may wait.
+/// Flushes a writer if a reader has nothing read ahead, so that its next read may wait.
 fn flush_before_read<R: Read, W: Write>(
     reader: &BufReader<R>,
     writer: &mut W,
@@ -62,11 +62,11 @@ fn flush_before_read<R: Read, W: Write>(
     Ok(())
 }
 
-/// Reads a line, without its newline, in place of what the vector held, and answers what ends it. A line that is empty and that
+/// Reads a line, without its newline, in place of what the vector held, and returns what ends it. A line that is empty and that
 /// the end of the input ends is none. Before each read that may wait, the writer is flushed.
 ///
-/// Errs with `Read` where a read errs, with `Write` where a flush errs, with `TooLong` where the line has more than
-/// `INPUT_BYTES` bytes, and with `Memory` where memory is refused.
+/// Errs with `Read` if a read errs, with `Write` if a flush errs, with `TooLong` if the line has more than `INPUT_BYTES` bytes,
+/// and with `Memory` if memory is refused.
 pub fn read_line<R: Read, W: Write>(
     reader: &mut BufReader<R>,
     writer: &mut W,
@@ -77,7 +77,7 @@ pub fn read_line<R: Read, W: Write>(
     ensures bound { OnOk result (length line.new.items ≤ INPUT_BYTES) }
     // A flush writes nothing new.
     ensures keeps { Keeps (W.contents writer.old) (W.contents writer.new) }
-    // `TooLong` is answered only where the line is too long.
+    // `TooLong` is returned only if the line is too long.
     ensures long { IsErrOf result RunFault.TooLong → IfSome (reader_remaining R.remaining reader.old) (λ input. BeginsTooLong input) }
 {
     line.clear();

@@ -27,7 +27,7 @@ impl<T> Model for Piece<T> {
 }
 
 impl<T: Drop> Piece<T> {
-    /// No values, and a place for each. Errs where memory is refused.
+    /// No values, and a place for each. Errs only if memory is refused.
     pub fn new(alloc: Global) -> Result<Self, AllocError>
         ensures { IfOk result (λ c. c ≡ []) }
     {
@@ -59,7 +59,7 @@ impl<T: Drop> Piece<T> {
         self.ring.push_front_reserved(value);
     }
 
-    /// Puts a value behind the others.
+    /// Puts a value after the others.
     pub fn push_last(&mut self, value: T)
         requires { length self.old < 1024 }
         ensures { self.new ≡ self.old ++ value ∷ [] }

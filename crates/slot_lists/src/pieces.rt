@@ -11,7 +11,7 @@ use std::marker::Model;
 /// No list has more pieces than this.
 const MOST_PIECES: usize = 1 << 32;
 
-/// The values in order, a piece after the other. The pieces behind the last that holds any are spare.
+/// The values in order, a piece after the other. The pieces after the last that holds any are spare.
 #[derive(Drop)]
 pub(crate) struct Pieces<T> {
     pieces: Vec<Piece<T>>,
@@ -57,7 +57,7 @@ impl<T: Drop> Pieces<T> {
         PLACES * self.pieces.len() - self.len
     }
 
-    // Adds a spare piece. Errs where memory is refused.
+    /// Adds a spare piece. Errs only if memory is refused.
     fn add_piece(&mut self) -> Result<(), AllocError>
         ensures items { self.new.items ≡ self.old.items }
         ensures ok { OnOk result (self.new.spare ≡ self.old.spare + 1024) }
@@ -71,7 +71,7 @@ impl<T: Drop> Pieces<T> {
         Ok(())
     }
 
-    /// Makes places for more values. Errs where memory is refused.
+    /// Makes places for more values. Errs only if memory is refused.
     pub fn reserve(&mut self, additional: usize) -> Result<(), AllocError>
         ensures items { self.new.items ≡ self.old.items }
         ensures spare { self.old.spare ≤ self.new.spare }
@@ -84,7 +84,7 @@ impl<T: Drop> Pieces<T> {
         Ok(())
     }
 
-    /// Puts values behind the others, in their places. Takes no memory.
+    /// Puts values after the others, in their places. Takes no memory.
     pub fn append(&mut self, values: Vec<T>)
         requires { vec_len values ≤ self.old.spare }
         ensures items { self.new.items ≡ self.old.items ++ values.items }
@@ -122,7 +122,7 @@ impl<T: Drop> Pieces<T> {
         value
     }
 
-    /// Moves the value at `from`, so that it then stands at `to`. Takes no memory.
+    /// Moves the value at `from`, so that it is then at `to`. Takes no memory.
     pub fn move_to(&mut self, to: usize, from: usize)
         requires to { to < length self.old.items }
         requires from { from < length self.old.items }

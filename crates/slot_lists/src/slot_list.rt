@@ -104,7 +104,7 @@ impl<T: Drop> SlotList<T> {
         }
     }
 
-    /// Makes places for more values, and puts a list into pieces that is longer than a piece. Errs where memory is
+    /// Makes places for more values, and puts a list into pieces that is longer than a piece. Errs only if memory is
     /// refused, and then the values stay and no place is lost.
     pub fn reserve(&mut self, additional: usize) -> Result<(), AllocError>
         ensures items { self.new.items ≡ self.old.items }
@@ -125,8 +125,8 @@ impl<T: Drop> SlotList<T> {
         }
     }
 
-    /// Inserts a value before the one at an index, or at the end. Where memory is refused the value
-    /// comes back and nothing has changed.
+    /// Inserts a value before the one at an index, or at the end. If memory is refused, the value comes back and
+    /// nothing has changed.
     pub fn insert(&mut self, index: usize, value: T) -> Result<(), AllocFailed<T>>
         requires { index ≤ length self.old.items }
         ensures items { self.new.items ≡ (if is_ok result then insert self.old.items index value else self.old.items) }
@@ -159,7 +159,7 @@ impl<T: Drop> SlotList<T> {
         }
     }
 
-    /// Moves the value at `from`, so that it then stands at `to` (EMF: EList.move). Takes no memory.
+    /// Moves the value at `from`, so that it is then at `to` (EMF: EList.move). Takes no memory.
     pub fn move_to(&mut self, to: usize, from: usize)
         requires to { to < length self.old.items }
         requires from { from < length self.old.items }
@@ -172,7 +172,7 @@ impl<T: Drop> SlotList<T> {
         }
     }
 
-    /// Replaces the values by those of a `Vec`, of any length. The places stay where they are more than the new values.
+    /// Replaces the values by those of a `Vec`, of any length. The places stay if they are more than the new values.
     /// Takes no memory.
     pub fn replace(&mut self, values: Vec<T>)
         ensures items { self.new.items ≡ values.items }
@@ -186,7 +186,7 @@ impl<T: Drop> SlotList<T> {
         self.append(values);
     }
 
-    // Takes out all values. Takes no memory.
+    /// Takes out all values. Takes no memory.
     fn clear(&mut self)
         ensures items { self.new.items ≡ [] }
         ensures spare { self.old.spare ≤ self.new.spare }
@@ -196,7 +196,7 @@ impl<T: Drop> SlotList<T> {
         }
     }
 
-    // Puts values behind the others, in their places. Takes no memory.
+    /// Puts values after the others, in their places. Takes no memory.
     fn append(&mut self, values: Vec<T>)
         requires { vec_len values ≤ self.old.spare }
         ensures items { self.new.items ≡ self.old.items ++ values.items }
@@ -211,7 +211,7 @@ impl<T: Drop> SlotList<T> {
     }
 }
 
-// Makes places in the block of a short list, by a half more at least.
+/// Makes places in the block of a short list, by a half more at least.
 fn reserve_in_block<T: Drop>(values: &mut Vec<T>, additional: usize) -> Result<(), AllocError>
     requires { vec_len values.old + additional ≤ 1024 }
     ensures items { values.new.items ≡ values.old.items }
@@ -226,7 +226,7 @@ fn reserve_in_block<T: Drop>(values: &mut Vec<T>, additional: usize) -> Result<(
     values.reserve_exact(additional.max(values.len() / 2 + 1).min(free))
 }
 
-// Moves the values of a block into pieces, with places for more. Where memory is refused they stay.
+/// Moves the values of a block into pieces, with places for more. If memory is refused, they stay.
 fn in_pieces<T: Drop>(values: &mut Vec<T>, additional: usize) -> Result<Box<Pieces<T>>, AllocError>
     ensures items { IfOk result (λ p. p.value.items ≡ values.old.items) }
     ensures spare { IfOk result (λ p. additional ≤ p.value.spare) }
@@ -240,7 +240,7 @@ fn in_pieces<T: Drop>(values: &mut Vec<T>, additional: usize) -> Result<Box<Piec
     Ok(pieces)
 }
 
-// Moves a value of a block.
+/// Moves a value of a block.
 fn move_in_block<T: Drop>(values: &mut Vec<T>, to: usize, from: usize)
     requires to { to < vec_len values.old }
     requires from { from < vec_len values.old }

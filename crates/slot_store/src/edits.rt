@@ -14,7 +14,7 @@ use links::Edit;
 use mm_types::{End, FeatureNo, Node, ObjectNo, Value};
 use node_rows::{NodeRows, Pairing, RowEdit, SlotEdit};
 
-// A node as a value: no end has a resource.
+/// A node as a value: no end has a resource.
 pub(crate) fn value_of(node: Node) -> Value
     ensures { result ≡ node_value node }
 {
@@ -24,7 +24,7 @@ pub(crate) fn value_of(node: Node) -> Value
     }
 }
 
-// Where the far feature of a link is the containing one: the near node, and the end that contains it.
+/// The near node, and the end that contains it, if the far feature of a link is the containing one.
 fn held_by_far(
     end: End,
     object: ObjectNo,
@@ -44,7 +44,7 @@ fn held_by_far(
     Some((end.node, far))
 }
 
-// What a link from an end to an object contains, and by which end.
+/// What a link from an end to an object contains, and by which end.
 fn held_by(end: End, object: ObjectNo, pairing: Pairing) -> Option<(Node, End)>
     ensures { result ≡ held end object pairing.opposite pairing.container }
 {
@@ -55,7 +55,7 @@ fn held_by(end: End, object: ObjectNo, pairing: Pairing) -> Option<(Node, End)>
     held_by_far(end, object, pairing.opposite, container)
 }
 
-// Takes a value out of an end, where it is there.
+/// Takes a value out of an end, if it is there.
 fn take_out(rows: &mut NodeRows, end: End, value: &Value)
     requires { IsDistinct ((cells rows.old).vals end) }
     ensures cells { cells rows.new ≡ without_value end value.now (cells rows.old) }
@@ -69,7 +69,7 @@ fn take_out(rows: &mut NodeRows, end: End, value: &Value)
     }
 }
 
-// Takes an end out of those with no opposite that hold an object, where it is there.
+/// Takes an end out of those with no opposite that hold an object, if it is there.
 fn take_out_entry(rows: &mut NodeRows, end: End, object: ObjectNo, guess: usize)
     requires { IsOnce ((cells rows.old).entered (node.Object object)) }
     ensures cells { cells rows.new ≡ without_entry end object (cells rows.old) }
@@ -80,7 +80,7 @@ fn take_out_entry(rows: &mut NodeRows, end: End, object: ObjectNo, guess: usize)
     }
 }
 
-// Takes a link out of its far side.
+/// Takes a link out of its far side.
 fn take_out_far(
     rows: &mut NodeRows,
     end: End,
@@ -99,7 +99,7 @@ fn take_out_far(
     }
 }
 
-// Tells a node that nothing contains it.
+/// Tells a node that nothing contains it.
 fn release(rows: &mut NodeRows, pair: Option<(Node, End)>)
     ensures cells { cells rows.new ≡ released pair (cells rows.old) }
     ensures room { TakesAtMost no_values no_ends (room rows.old) (room rows.new) }
@@ -109,7 +109,7 @@ fn release(rows: &mut NodeRows, pair: Option<(Node, End)>)
     }
 }
 
-// Cuts the link of an object in an end: what stands at the far side goes first, since it is found by the end.
+/// Cuts the link of an object in an end: what is at the far side goes first, since it is found by the end.
 fn cut(rows: &mut NodeRows, end: End, object: ObjectNo, guess: usize)
     requires { RepeatNothing (cells rows.old) }
     ensures cells { cells rows.new ≡ cells_after (edit.Cut end object) (cells rows.old) }
@@ -121,7 +121,7 @@ fn cut(rows: &mut NodeRows, end: End, object: ObjectNo, guess: usize)
     release(rows, held_by(end, object, pairing));
 }
 
-// Tells a node the end that contains it.
+/// Tells a node the end that contains it.
 fn hold(rows: &mut NodeRows, pair: Option<(Node, End)>)
     requires { HasHeldRow pair (room rows.old) }
     ensures cells { cells rows.new ≡ holds pair (cells rows.old) }
@@ -132,7 +132,7 @@ fn hold(rows: &mut NodeRows, pair: Option<(Node, End)>)
     }
 }
 
-// Puts a link in at its far side.
+/// Puts a link in at its far side.
 fn put_in_far(
     rows: &mut NodeRows,
     end: End,
@@ -161,7 +161,7 @@ fn put_in_far(
     }
 }
 
-// Puts a value in at an index of an end; a put of an object tells of the feature.
+/// Puts a value in at an index of an end; a put of an object tells of the feature.
 fn put_in(rows: &mut NodeRows, end: End, index: u32, value: Value, pairing: Option<Pairing>)
     requires { 1 ≤ (room rows.old).places end }
     ensures cells { cells rows.new ≡ put_near end index value pairing (cells rows.old) }
@@ -175,7 +175,7 @@ fn put_in(rows: &mut NodeRows, end: End, index: u32, value: Value, pairing: Opti
     rows.edit(end.node, RowEdit::Change(end.feature, edit));
 }
 
-// Puts the link of an object in.
+/// Puts the link of an object in.
 fn put(
     rows: &mut NodeRows,
     end: End,
@@ -198,7 +198,7 @@ fn put(
     hold(rows, held_by(end, object, pairing));
 }
 
-// Moves what stands at an index of an end.
+/// Moves what is at an index of an end.
 fn shift(rows: &mut NodeRows, end: End, to: u32, from: u32)
     ensures cells { cells rows.new ≡ cells_after (edit.Shift end to from) (cells rows.old) }
     ensures room { TakesAtMost no_values no_ends (room rows.old) (room rows.new) }

@@ -1,4 +1,4 @@
-//! Where an object stands, read off its own lists and the ends that are kept of it.
+//! The places of an object, read off its own lists and the ends that are kept of it.
 ghost use Rattle.std.specs.Prelude.{◌≡◌, ◌++◌, IfOk, OnOk};
 ghost use Rattle.std.specs.Option.{option_copied, option_to_list};
 ghost use Rattle.mm_types.specs.declared.numbers.Node.TheVariants as node;
@@ -15,7 +15,7 @@ use mm_types::{End, FeatureNo, Node, ObjectNo, Value};
 use node_rows::{NodeRows, Slot};
 use std::alloc::{AllocError, Global};
 
-// Adds the end of a feature at an object's node; of no other value.
+/// Adds the end of a feature at an object's node; of no other value.
 fn push_far(value: Option<&Value>, feature: FeatureNo, out: &mut Vec<End>) -> Result<(), AllocError>
     ensures { OnOk result (out.new.items ≡ out.old.items ++ far_of feature (option_copied value.entry)) }
 {
@@ -28,7 +28,7 @@ fn push_far(value: Option<&Value>, feature: FeatureNo, out: &mut Vec<End>) -> Re
     Ok(())
 }
 
-// Adds the ends of a feature at the objects of an end.
+/// Adds the ends of a feature at the objects of an end.
 fn push_far_ends(
     rows: &NodeRows,
     end: End,
@@ -43,7 +43,7 @@ fn push_far_ends(
     Ok(())
 }
 
-// Adds the far ends of the links of an end, where its feature has an opposite.
+/// Adds the far ends of the links of an end, if its feature has an opposite.
 fn push_ends(rows: &NodeRows, end: End, out: &mut Vec<End>) -> Result<(), AllocError>
     ensures { OnOk result (out.new.items ≡ out.old.items ++ ends_at (cells rows.now) end) }
 {
@@ -53,7 +53,7 @@ fn push_ends(rows: &NodeRows, end: End, out: &mut Vec<End>) -> Result<(), AllocE
     }
 }
 
-// Adds the far ends of the links of an object's features.
+/// Adds the far ends of the links of an object's features.
 fn push_paired(
     rows: &NodeRows,
     object: ObjectNo,
@@ -72,7 +72,7 @@ fn push_paired(
     Ok(())
 }
 
-// Adds an end, where there is one.
+/// Adds an end, if there is one.
 fn push_end(end: Option<&End>, out: &mut Vec<End>) -> Result<(), AllocError>
     ensures { OnOk result (out.new.items ≡ out.old.items ++ option_to_list (option_copied end.entry)) }
 {
@@ -82,7 +82,7 @@ fn push_end(end: Option<&End>, out: &mut Vec<End>) -> Result<(), AllocError>
     Ok(())
 }
 
-// Adds the ends with no opposite that hold a node.
+/// Adds the ends with no opposite that hold a node.
 fn push_entered(rows: &NodeRows, node: Node, out: &mut Vec<End>) -> Result<(), AllocError>
     ensures { OnOk result (out.new.items ≡ out.old.items ++ (cells rows.now).entered node) }
 {
@@ -107,7 +107,7 @@ pub(crate) fn entering(
     Ok(out)
 }
 
-// Adds the position of a value in an end, where it has it.
+/// Adds the position of a value in an end, if it has it.
 fn push_place(
     rows: &NodeRows,
     end: End,

@@ -1,8 +1,8 @@
-//! Where a value stands in an end, and an end among those that hold an object.
+//! The place of a value in an end, and of an end among those that hold an object.
 //!
 //! Most lists are made in the order of the numbers of their objects. So a place is guessed as if the list were, the two ends
-//! before the middle, and only where it stands elsewhere is the list gone through. The ends that hold an object may stand in any
-//! order, so they are put in that of their ranks where an end that is cut is not at its guess: the next ones then are.
+//! before the middle, and only if it is elsewhere is the list gone through. The ends that hold an object may be in any order, so
+//! they are put in that of their ranks if an end that is cut is not at its guess: the next ones then are.
 ghost use Rattle.std.specs.Prelude.{◌≡◌, position};
 ghost use Rattle.mm_types.specs.Same.{same_end};
 ghost use Rattle.mm_types.specs.declared.numbers.Node.TheVariants as node;
@@ -14,7 +14,7 @@ ghost use Rattle.slot_store.specs.Entering.{found_in};
 use mm_types::{End, Node, ObjectNo, Value};
 use node_rows::{NodeRows, entry_rank};
 
-// Where a rank stands among so many, if it is the first or the last, or they rise or fall. Among others it is any place.
+/// The place of a rank among so many, if it is the first or the last, or they rise or fall. Among others it is any place.
 fn guess<F: Fn(usize) -> Option<u64>>(len: usize, rank: u64, rank_at: F) -> usize
     requires { F.IsAlwaysCallable rank_at }
 {
@@ -54,7 +54,7 @@ pub(crate) fn is_same(a: End, b: End) -> bool
     a == b
 }
 
-// The index of the first text of an end, if its objects come before its texts. Else it is any index.
+/// The index of the first text of an end, if its objects come before its texts. Else it is any index.
 fn first_text(rows: &NodeRows, end: End) -> usize {
     let mut low = 0;
     let mut high = rows.len(end);
@@ -68,7 +68,8 @@ fn first_text(rows: &NodeRows, end: End) -> usize {
     low
 }
 
-// Where a value may stand in an end. Proxies that are resolved in the order of their list leave a text behind the objects.
+/// The place that a value may have in an end. Proxies that are resolved in the order of their list leave a text after the
+/// objects.
 fn value_guess(rows: &NodeRows, end: End, value: &Value) -> usize {
     match object_rank(Some(value)) {
         Some(rank) => guess(
@@ -80,7 +81,7 @@ fn value_guess(rows: &NodeRows, end: End, value: &Value) -> usize {
     }
 }
 
-/// The index of a value in an end that repeats nothing; `None` where it is not there. It is looked for at a guess first.
+/// The index of a value in an end that repeats nothing; `None` if it is not there. It is looked for at a guess first.
 pub(crate) fn found(rows: &NodeRows, end: End, value: &Value) -> Option<usize>
     requires { IsDistinct ((cells rows.now).vals end) }
     ensures { result ≡ found_in (cells rows.now) value.now end }
@@ -92,7 +93,7 @@ pub(crate) fn found(rows: &NodeRows, end: End, value: &Value) -> Option<usize>
     }
 }
 
-// Where an end is among those with no opposite that hold an object, if they are in order.
+/// The place of an end among those with no opposite that hold an object, if they are in order.
 fn entry_guess(rows: &NodeRows, object: ObjectNo, end: End) -> usize {
     let node = Node::Object(object);
     guess(rows.entered_len(node), entry_rank(end), |index| {
@@ -100,7 +101,7 @@ fn entry_guess(rows: &NodeRows, object: ObjectNo, end: End) -> usize {
     })
 }
 
-/// The index of an end among those with no opposite that hold an object, each of them once; `None` where it is not there. It is
+/// The index of an end among those with no opposite that hold an object, each of them once; `None` if it is not there. It is
 /// looked for at a guess first.
 pub(crate) fn entry_from(rows: &NodeRows, object: ObjectNo, end: End, guess: usize) -> Option<usize>
     requires { IsOnce ((cells rows.now).entered (node.Object object)) }
@@ -121,8 +122,8 @@ pub(crate) fn entry_found(rows: &NodeRows, object: ObjectNo, end: End) -> Option
     entry_from(rows, object, end, entry_guess(rows, object, end))
 }
 
-/// A guess where an end is among those with no opposite that hold an object. Where it is not there they are put in order, and
-/// it is guessed again: each end is moved once, and so many cuts take no longer than sorting. Takes no memory.
+/// A guess at the place of an end among those with no opposite that hold an object. If it is not there, they are put in order,
+/// and it is guessed again: each end is moved once, and so many cuts take no longer than sorting. Takes no memory.
 pub(crate) fn ordered_guess(rows: &mut NodeRows, object: ObjectNo, end: End) -> usize
     ensures cells { AreReordered (cells rows.old) (cells rows.new) }
     ensures room { room rows.new ≡ room rows.old }

@@ -16,8 +16,8 @@ use mm_types::{End, Node, ObjectNo, Value};
 use node_rows::NodeRows;
 use std::alloc::{AllocError, Global};
 
-/// Links as lists at both their ends, with the end that contains each node. What an end has, and what contains a node, is
-/// read where it stands, however many links there are.
+/// Links as lists at both their ends, with the end that contains each node. What an end has, and what contains a node, is read
+/// in its place, however many links there are.
 #[derive(Drop)]
 pub struct SlotStore {
     rows: NodeRows,
@@ -100,7 +100,7 @@ fn text_of(value: Option<&Value>) -> Option<&str>
     }
 }
 
-// Whether the far side, where it is the shorter list, tells that an object is not in an end.
+/// Whether the far side, if it is the shorter list, tells that an object is not in an end.
 fn far_lacks(rows: &NodeRows, end: End, object: ObjectNo) -> bool
     requires { ∥ IsStore rows.now ∥₁ }
     ensures { result ≡ true → Stands ((cells rows.now).vals end) (value.Object object) → ⊥ }
@@ -120,7 +120,8 @@ fn far_lacks(rows: &NodeRows, end: End, object: ObjectNo) -> bool
     }
 }
 
-// A guess where an end is among those that hold an object, where an edit takes it out of them. They may be put in order for it.
+/// A guess at the place of an end among those that hold an object, if an edit takes it out of them. They may be put in order for
+/// it.
 fn make_guess(rows: &mut NodeRows, edit: &Edit) -> usize
     requires kept { ∥ IsStore rows.old ∥₁ }
     ensures kept { ∥ IsStore rows.new ∥₁ }
@@ -135,7 +136,7 @@ fn make_guess(rows: &mut NodeRows, edit: &Edit) -> usize
     0
 }
 
-// Makes the edits of a plan, in their order.
+/// Makes the edits of a plan, in their order.
 fn apply_rows(rows: &mut NodeRows, plan: Plan)
     requires kept { ∥ IsStore rows.old ∥₁ }
     requires fits { PlanFits (store_links rows.old) plan }

@@ -9,8 +9,8 @@ use crate::replaying::place_of;
 use mm_types::{ClassNo, FeatureNo, Node, Seq, Value};
 use std::marker::Model;
 
-/// What a node has under a feature: its values (one null, where a single reference is empty), and the set flag, where the feature is
-/// unsettable; another feature has none.
+/// What a node has under a feature: its values (one null, if a single reference is empty), and the set flag, if the feature is
+/// unsettable; any other feature has none.
 #[derive(Debug, PartialEq, Drop)]
 pub struct FeatureState {
     pub feature: FeatureNo,
@@ -18,7 +18,7 @@ pub struct FeatureState {
     pub flag: Option<bool>,
 }
 
-/// What a node has: its class, which a resource has not, and what stands under each of its features.
+/// What a node has: its class, which a resource has not, and what is under each of its features.
 #[derive(Debug, PartialEq, Drop)]
 pub struct NodeState {
     pub node: Node,
@@ -45,7 +45,7 @@ impl Model for Snapshot {
 }
 
 impl Snapshot {
-    /// The snapshot of some nodes, which stand in order. Takes no memory.
+    /// The snapshot of some nodes, which are in order. Takes no memory.
     pub(crate) fn from_vec(nodes: Vec<NodeState>) -> Self
         requires in_order { AreInOrder nodes.items }
         ensures { result ≡ nodes.items }
@@ -69,7 +69,7 @@ impl Snapshot {
         self.nodes.as_slice()
     }
 
-    /// What a node had; `None` where the snapshot has not the node. Takes no memory.
+    /// What a node had; `None` if the snapshot has not the node. Takes no memory.
     pub fn state(&self, node: Node) -> Option<&NodeState>
         ensures { option_copied result ≡ state_at node self.now }
     {
@@ -95,7 +95,7 @@ impl PartialEq for Snapshot {
 }
 
 impl NodeState {
-    /// What the node had under a feature; `None` where it is none of its features. Takes no memory.
+    /// What the node had under a feature; `None` if it is none of its features. Takes no memory.
     pub fn under(&self, feature: FeatureNo) -> Option<&FeatureState>
         ensures { option_copied result ≡ find (λ x. same_feature x.feature feature) self.now.features }
     {

@@ -15,7 +15,7 @@ use std::alloc::{AllocError, Global};
 
 impl Snapshot {
     /// The snapshot of a node: what it has, and what each node below it has. Of a node that is not there it is empty. Takes time in
-    /// proportion to what it holds, and sorts the objects. Errs only when out of memory.
+    /// proportion to what it holds, and sorts the objects. Errs only if memory is refused.
     pub fn of<L: LinkStore>(
         alloc: Global,
         model: &ModelRef<L>,
@@ -61,7 +61,7 @@ fn states_of<L: LinkStore>(
     Ok(out)
 }
 
-/// Adds the state of a node, where it is a resource that is there.
+/// Adds the state of a node, if it is a resource that is there.
 fn push_resource<L: LinkStore>(
     alloc: Global,
     model: &ModelRef<L>,
@@ -79,7 +79,7 @@ fn push_resource<L: LinkStore>(
     push_state(alloc, model, target, out)
 }
 
-/// Adds the state of an object, where it lives.
+/// Adds the state of an object, if it lives.
 fn push_object<L: LinkStore>(
     alloc: Global,
     model: &ModelRef<L>,
@@ -155,7 +155,7 @@ fn feature_state<L: LinkStore>(
     })
 }
 
-/// A copy of the values that stand at an end: one null, where a single end is empty.
+/// A copy of the values that are at an end: one null, if a single end is empty.
 fn shown_values<L: LinkStore>(
     alloc: Global,
     model: &ModelRef<L>,

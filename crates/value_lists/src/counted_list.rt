@@ -37,7 +37,7 @@ impl Model for CountedList {
 }
 
 impl CountedList {
-    // No values, and no place. Takes no memory.
+    /// No values, and no place. Takes no memory.
     fn new(alloc: Global) -> Self
         ensures { result.items ≡ [] }
     {
@@ -47,8 +47,8 @@ impl CountedList {
         }
     }
 
-    /// Moves a list into a box, with its hashes counted. Errs where memory is refused, and then the list stays where it is: the box and the table
-    /// are there before it is moved.
+    /// Moves a list into a box, with its hashes counted. Errs only if memory is refused, and then the list stays where it is: the box and
+    /// the table are there before it is moved.
     pub fn of(alloc: Global, list: &mut SlotList<Value>) -> Result<Box<CountedList>, AllocError>
         ensures items { IfOk result (λ c. c.value.items ≡ list.old.items) }
         ensures spare { IfOk result (λ c. list.old.spare ≤ c.value.spare) }
@@ -84,8 +84,8 @@ impl CountedList {
         self.list.position(value)
     }
 
-    /// Whether a value is there. Nothing is looked through for a value whose hash no other has, and for one that stands where it was put in, counted
-    /// from the front or from the end.
+    /// Whether a value is there. Nothing is looked through for a value whose hash no other has, and for one that is still where it was put
+    /// in, counted from the front or from the end.
     pub fn has(&self, value: &Value) -> bool
         ensures { result ≡ list_any (same_value value.now) self.now.items }
     {
@@ -98,7 +98,7 @@ impl CountedList {
         self.list.position(value).is_some()
     }
 
-    // Whether a value stands where one of its hash was put in, counted from the front or from the end. Where it does not, it may be elsewhere.
+    /// Whether a value is where one of its hash was put in, counted from the front or from the end. If it is not, it may be elsewhere.
     fn has_near(&self, counted: &Counted, value: &Value) -> bool
         ensures { result ≡ true → list_any (same_value value.now) self.now.items ≡ true }
     {
@@ -111,7 +111,7 @@ impl CountedList {
         }
     }
 
-    // Whether a value stands at an index.
+    /// Whether a value is at an index.
     fn has_at(&self, index: usize, value: &Value) -> bool
         ensures { result ≡ true → list_any (same_value value.now) self.now.items ≡ true }
     {
@@ -121,7 +121,8 @@ impl CountedList {
         }
     }
 
-    /// Makes places for more values, in the list and in the table. Errs where memory is refused, and then the values stay and no place is lost.
+    /// Makes places for more values, in the list and in the table. Errs only if memory is refused, and then the values stay and no place is
+    /// lost.
     pub fn reserve(&mut self, additional: usize) -> Result<(), AllocError>
         ensures items { self.new.items ≡ self.old.items }
         ensures ok { OnOk result (additional ≤ self.new.spare) }
@@ -158,7 +159,7 @@ impl CountedList {
         self.hashes.take(hash_of(&value));
     }
 
-    /// Moves the value at `from`, so that it then stands at `to`. Takes no memory.
+    /// Moves the value at `from`, so that it is then at `to`. Takes no memory.
     pub fn move_to(&mut self, to: usize, from: usize)
         requires to { to < length self.old.items }
         requires from { from < length self.old.items }
@@ -178,7 +179,7 @@ impl CountedList {
     }
 }
 
-// Counts the hashes of a list, with room for as many more as the list has places. Errs where memory is refused.
+/// Counts the hashes of a list, with room for as many more as the list has places. Errs only if memory is refused.
 fn counted(alloc: Global, list: &SlotList<Value>) -> Result<HashCounts, AllocError>
     ensures counts { IfOk result (λ t. Counts t list.now.items) }
     ensures room { IfOk result (λ t. list.now.spare ≤ room_of t.counts) }
@@ -192,7 +193,7 @@ fn counted(alloc: Global, list: &SlotList<Value>) -> Result<HashCounts, AllocErr
     Ok(hashes)
 }
 
-// The hash of the value at an index.
+/// The hash of the value at an index.
 fn hash_at(list: &SlotList<Value>, index: usize) -> u64
     requires { index < length list.now.items }
     ensures { IfSome (slice_get list.now.items index) (λ v. result ≡ hash_of v) }

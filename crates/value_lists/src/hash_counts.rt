@@ -9,13 +9,13 @@ use mm_types::Value;
 use std::alloc::{AllocError, Global};
 use std::hash::{DefaultHasher, Hash, Hasher};
 
-/// How many values have a hash, and where the one of them stood that was put in last.
+/// How many values have a hash, and the place of the one that was put in last, as it was then.
 #[derive(Clone, Copy)]
 pub(crate) struct Counted {
     pub count: usize,
     /// Its index when it was put in.
     pub from_front: usize,
-    /// How far it was from the end then; 1 where it was the last.
+    /// How far it was from the end then; 1 if it was the last.
     pub from_end: usize,
 }
 
@@ -35,7 +35,7 @@ impl HashCounts {
         }
     }
 
-    /// No values, with room for some. Errs where memory is refused.
+    /// No values, with room for some. Errs only if memory is refused.
     pub fn with_capacity(alloc: Global, capacity: usize) -> Result<Self, AllocError>
         ensures none { IfOk result (λ t. (h : ℕ) → count_in t h ≡ 0) }
         ensures spare { IfOk result (λ t. capacity ≤ spare t.counts) }
@@ -45,14 +45,14 @@ impl HashCounts {
         })
     }
 
-    /// How many values have a hash; nothing where none has.
+    /// How many values have a hash; nothing if none has.
     pub fn get(&self, hash: u64) -> Option<Counted>
         ensures { count_of result ≡ count_in self.now hash }
     {
         self.counts.get(&hash).copied()
     }
 
-    // How many values have a hash.
+    /// How many values have a hash.
     fn count(&self, hash: u64) -> usize
         ensures { result ≡ count_in self.now hash }
     {
@@ -62,7 +62,7 @@ impl HashCounts {
         }
     }
 
-    /// Makes room for more values. Errs where memory is refused.
+    /// Makes room for more values. Errs only if memory is refused.
     pub fn reserve(&mut self, additional: usize) -> Result<(), AllocError>
         ensures counts { (h : ℕ) → count_in self.new h ≡ count_in self.old h }
         ensures spare { spare self.old.counts ≤ spare self.new.counts }
@@ -71,7 +71,7 @@ impl HashCounts {
         self.counts.reserve(additional)
     }
 
-    /// Counts one value more, which stands there from the front and from the end. Takes no memory.
+    /// Counts one value more, which is there from the front and from the end. Takes no memory.
     pub fn add(&mut self, hash: u64, from_front: usize, from_end: usize)
         requires room { 0 < spare self.old.counts }
         requires fits { count_in self.old hash + 1 < 2 ^ 64 }
@@ -115,7 +115,7 @@ pub(crate) fn hash_of(value: &Value) -> u64
     hasher.finish()
 }
 
-// Feeds a hasher the kind of a value and what it holds.
+/// Feeds a hasher the kind of a value and what it holds.
 fn feed(value: &Value, hasher: &mut DefaultHasher)
     ensures { hasher.new ≡ fold sip.write hasher.old (fed_by value.now) }
 {

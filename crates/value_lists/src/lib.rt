@@ -1,6 +1,7 @@
-//! Lists of values that answer fast whether they have a value, where they are long and will be asked.
+//! Lists of values. A long list that is looked up by value finds fast whether it has a value.
 //!
-//! A list counts how many of its values have each hash, so that a new value is looked up and not looked for. The table takes no copy of a value.
+//! A list counts how many of its values have each hash, so that a new value is looked up and not looked for. The table takes no copy of a
+//! value.
 #![tactic(auto)]
 
 mod counted_list;

@@ -1,4 +1,4 @@
-//! A list of values that may be asked for its values.
+//! A list of values that may be looked up by value.
 ghost use Rattle.std.specs.Prelude.{◌≡◌, ◌+◌, ◌<◌, ◌≤◌, [], length, slice_get, position, option_copied, vec_len, OnOk};
 ghost use Rattle.std.specs.List.{insert, list_any, remove};
 ghost use Rattle.mm_types.specs.Same.{same_value};
@@ -10,19 +10,19 @@ use slot_lists::SlotList;
 use std::alloc::{AllocError, Global};
 use std::marker::Model;
 
-/// A list of more values than this has its hashes counted, where it will be asked for its values.
+/// A list of more values than this has its hashes counted, if it is looked up by value.
 const SHORT: usize = 64;
 
-/// A list has a table of its hashes where it is long and will be asked for its values. It then lies in a box with its table, so that
-/// a list without one keeps no place for it.
+/// A list has a table of its hashes if it is long and is looked up by value. It then lies in a box with its table, so that a list without
+/// one keeps no place for it.
 #[derive(Drop)]
 enum Layout {
     Plain(SlotList<Value>),
     Counted(Box<CountedList>),
 }
 
-/// A list, and where it is long and will be asked for its values, how many of them have each hash. Contracts see it as the
-/// list, and how many places it has for values more.
+/// A list, and if it is long and is looked up by value, how many of its values have each hash. Contracts see it as the list, and how many
+/// places it has for values more.
 #[derive(Drop)]
 pub struct ValueList {
     layout: Layout,
@@ -82,8 +82,8 @@ impl ValueList {
         }
     }
 
-    /// Whether a value is there. Where the hashes are counted, nothing is looked through for a value whose hash no other has, and for one that stands
-    /// where it was put in, counted from the front or from the end.
+    /// Whether a value is there. If the hashes are counted, nothing is looked through for a value whose hash no other has, and for one that
+    /// is still where it was put in, counted from the front or from the end.
     pub fn has(&self, value: &Value) -> bool
         ensures { result ≡ list_any (same_value value.now) self.now.items }
     {
@@ -93,7 +93,7 @@ impl ValueList {
         }
     }
 
-    /// Makes places for more values of a list that will be asked for its values or will not. Errs where memory is refused, and
+    /// Makes places for more values of a list. The list may be one that is looked up by value, or not. Errs only if memory is refused, and
     /// then the values stay and no place is lost.
     pub fn reserve(
         &mut self,
@@ -114,7 +114,7 @@ impl ValueList {
         }
     }
 
-    // Counts the hashes of a list that is long, or will be. Errs where memory is refused, and then nothing has changed.
+    /// Counts the hashes of a list that is long, or will be. Errs only if memory is refused, and then nothing has changed.
     fn count_hashes(&mut self, alloc: Global, additional: usize) -> Result<(), AllocError>
         ensures items { self.new.items ≡ self.old.items }
         ensures spare { self.old.spare ≤ self.new.spare }
@@ -158,7 +158,7 @@ impl ValueList {
         }
     }
 
-    /// Moves the value at `from`, so that it then stands at `to`. Takes no memory.
+    /// Moves the value at `from`, so that it is then at `to`. Takes no memory.
     pub fn move_to(&mut self, to: usize, from: usize)
         requires to { to < length self.old.items }
         requires from { from < length self.old.items }
@@ -171,7 +171,7 @@ impl ValueList {
         }
     }
 
-    /// Replaces the values by those of a `Vec`. Their hashes are not counted before the list is asked again. Takes no memory.
+    /// Replaces the values by those of a `Vec`. Their hashes are not counted before the list is looked up by value again. Takes no memory.
     pub fn replace(&mut self, values: Vec<Value>)
         ensures items { self.new.items ≡ values.items }
         ensures spare { self.old.spare ≤ self.new.spare + vec_len values }

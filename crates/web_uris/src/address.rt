@@ -11,7 +11,7 @@ pub(crate) fn has_mark(text: &str) -> bool
     text.as_bytes().iter().any(|byte| *byte == b'#')
 }
 
-/// What stands before the first `#` of a text and what stands behind it, or nothing where there is none. Takes no memory.
+/// What comes before the first `#` of a text and what comes after it, or nothing if there is none. Takes no memory.
 pub fn split_address(text: &str) -> Option<(&str, &str)>
     ensures { MatchOption result (has_a_mark text.now ≡ false)
         (λ parts. (has_a_mark text.now ≡ true) × (parts.0.now ≡ uri_part text.now) × (parts.1.now ≡ fragment_part text.now)) }
@@ -19,7 +19,7 @@ pub fn split_address(text: &str) -> Option<(&str, &str)>
     text.split_once('#')
 }
 
-/// A URI, `#`, and a fragment. Errs only where memory is refused.
+/// A URI, `#`, and a fragment. Errs only if memory is refused.
 pub fn address_of(alloc: Global, uri: &str, fragment: &str) -> Result<String, AllocError>
     ensures { IfOk result (λ t. string_bytes t ≡ address_text uri.now fragment.now) }
 {

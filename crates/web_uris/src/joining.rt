@@ -28,7 +28,7 @@ fn own_url(alloc: Global, text: &str) -> Result<Option<Url>, UriFault>
     }
 }
 
-/// The URL that a reference is where a URL stands, if there is one.
+/// The URL that a reference gives with a base URL, if there is one.
 fn based_url(base: &Url, reference: &str) -> Result<Option<Url>, UriFault>
     ensures { MatchResult result (λ u. u ≡ if_parsed (parse_url (Some base.now) reference.now)) (λ e. e ≡ Memory) }
 {
@@ -63,7 +63,7 @@ fn is_web(url: &Url) -> bool
     url.scheme() == "http" || url.scheme() == "https"
 }
 
-/// A copy of a URL's text, where it is one of the web without a fragment.
+/// A copy of a URL's text, if it is one of the web without a fragment.
 fn text_of(alloc: Global, url: &Url) -> Result<String, UriFault>
     ensures text { GivesText result (web_text url.now) }
     ensures web { IfOk result (λ t. IsWebUri (string_bytes t)) }
@@ -76,8 +76,8 @@ fn text_of(alloc: Global, url: &Url) -> Result<String, UriFault>
 
 /// The URI that a reference is by itself, as `url` writes it, or else joined with a base.
 ///
-/// `Bad` where it is no URI either way, where the URI's scheme is neither http nor https, or where it has a `#`.
-/// `Memory` where memory was refused, or the URI would be longer than URIs can be.
+/// `Bad` if it is no URI either way, if the URI's scheme is neither http nor https, or if it has a `#`. `Memory`
+/// if memory was refused, or the URI would be longer than URIs can be.
 pub fn joined(alloc: Global, base: &str, reference: &str) -> Result<String, UriFault>
     ensures joins { Joins result base.now reference.now }
     ensures web { IfOk result (λ t. IsWebUri (string_bytes t)) }

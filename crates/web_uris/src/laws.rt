@@ -23,7 +23,7 @@ pub fn fragments_are_read_as_written()
     ensures only { (text : List ℕ) (path : Path) → parse text ≡ Some path → Writes text path }
 {}
 
-/// The URI and the fragment of an address are found in it again, where the URI has no `#`.
+/// The URI and the fragment of an address are found in it again, if the URI has no `#`.
 pub fn addresses_are_their_parts()
     ensures uri { (uri fragment : List ℕ) → has_mark uri ≡ false → uri_part (address_text uri fragment) ≡ uri }
     ensures fragment { (uri fragment : List ℕ) → has_mark uri ≡ false → fragment_part (address_text uri fragment) ≡ fragment }

@@ -11,7 +11,7 @@ use std::alloc::{AllocError, Global};
 pub struct Step {
     /// The name of the feature that holds the part.
     pub name: Text,
-    /// The part's position, where the feature is many-valued.
+    /// The part's position, if the feature is many-valued.
     pub index: Option<u32>,
 }
 
@@ -56,7 +56,7 @@ fn push_steps(text: &mut String, steps: &[Step]) -> Result<(), AllocError>
 }
 
 impl Path {
-    /// The text of the path, with an empty root segment or the root's position. Errs only where memory is refused.
+    /// The text of the path, with an empty root segment or the root's position. Errs only if memory is refused.
     pub fn text(&self, alloc: Global, is_root_left_out: bool) -> Result<String, AllocError>
         ensures { IfOk result (λ t. string_bytes t ≡ path_text is_root_left_out self.now) }
     {

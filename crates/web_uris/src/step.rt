@@ -23,7 +23,7 @@ fn index_of(digits: &str) -> Option<u32>
     natural_of(digits)
 }
 
-/// The root that the first segment names, 0 where it is empty. Takes no memory.
+/// The root that the first segment names, 0 if it is empty. Takes no memory.
 pub(crate) fn root_of(segment: &str) -> Option<u32>
     ensures { result ≡ root_meant segment.now }
 {
@@ -33,7 +33,7 @@ pub(crate) fn root_of(segment: &str) -> Option<u32>
     index_of(segment)
 }
 
-/// A name and an index, where the name is one.
+/// A name and an index, if the name is one.
 fn named(name: &str, index: Option<u32>) -> Option<(&str, Option<u32>)>
     ensures { option_map (λ s. new_step s.0.now s.1) result ≡ (if is_a_name name.now then Some (new_step name.now index) else None) }
 {
@@ -52,7 +52,7 @@ fn numbered<'a>(name: &'a str, digits: &str) -> Option<(&'a str, Option<u32>)>
     }
 }
 
-/// The step behind its `@`.
+/// The step after its `@`.
 fn parts_of(text: &str) -> Option<(&str, Option<u32>)>
     ensures { option_map (λ s. new_step s.0.now s.1) result ≡ step_of_parts (slice_split is_dot text.now) }
 {
@@ -71,7 +71,7 @@ fn borrowed_step(segment: &str) -> Option<(&str, Option<u32>)>
     }
 }
 
-/// The step that a segment writes, if it writes one. Errs only where memory is refused.
+/// The step that a segment writes, if it writes one. Errs only if memory is refused.
 pub(crate) fn step_of(alloc: Global, segment: &str) -> Result<Option<Step>, AllocError>
     ensures { IfOk result (λ s. s ≡ step_meant segment.now) }
 {

@@ -16,8 +16,8 @@ use std::collections::VecDeque;
 impl<A: Adapter> AdapterList<A> {
     /// Attaches an adapter last in attach order, and reserves a place for its last notice (EMF: `eAdapters().add`).
     ///
-    /// Refused, in this order, with Limit where there are 100,000 targets, AdapterTaken where the number is attached and
-    /// AdapterFull where the adapter can't count its last notice; or with Memory when out of memory. The adapter comes back
+    /// Refused, in this order, with Limit if there are 100,000 targets, AdapterTaken if the number is attached and
+    /// AdapterFull if the adapter can't count its last notice; or with Memory if memory is refused. The adapter comes back
     /// with what it has heard, and the list is unchanged.
     pub fn attach(
         &mut self,
@@ -70,7 +70,7 @@ impl<A: Adapter> AdapterList<A> {
         Ok(())
     }
 
-    /// Why the list takes no adapter of this number; None where it takes one.
+    /// Why the list takes no adapter of this number; None if it takes one.
     fn list_refusal(&self, no: AdapterNo) -> Option<Refused>
         ensures { result ≡ list_refusal self.now.0 no }
     {

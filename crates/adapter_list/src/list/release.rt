@@ -1,4 +1,4 @@
-//! Letting targets go, and closing.
+//! Releasing targets, and closing.
 ghost use Rattle.std.specs.Prelude.{◌≡◌, ◌≤◌, ◌∷◌, [], is_some, length, map, vec_len, vec_capacity};
 ghost use Rattle.notice_chain.specs.Listed.{HaveTargets, is_target};
 ghost use Rattle.notice_chain.specs.View.{hear_all};
@@ -18,9 +18,9 @@ use std::collections::VecDeque;
 use std::mem;
 
 impl<A: Adapter> AdapterList<A> {
-    /// Takes one target from an adapter: it is notified of that, its last notice from there, and has it no more. Gives that notice,
-    /// and the adapter if that was its last target; `None`, and nothing changes, where the node is no target of it. Takes no memory
-    /// (EMF: `eAdapters().remove`).
+    /// Takes one target from an adapter: it is notified of that, its last notice from there, and no longer has it. Gives that
+    /// notice, and the adapter if that was its last target; `None`, and nothing changes, if the node is no target of it. Takes no
+    /// memory (EMF: `eAdapters().remove`).
     pub fn detach(&mut self, no: AdapterNo, target: Node) -> Option<Detached<A>>
         ensures some { is_some result ≡ is_target no target self.old.0 }
         ensures others { self.new.0 ≡ (released_of ((no, target) ∷ []) self.old.0).others }
@@ -33,9 +33,9 @@ impl<A: Adapter> AdapterList<A> {
         detached
     }
 
-    /// Lets targets go, one after another: the adapter of each is notified of that, its last notice from that target, and has it
-    /// no more before the next one goes. What is no target is passed over. The adapters whose last target has gone are then
-    /// handed out, in attach order. Gives who was notified of what, and the adapters that are handed out. Takes no memory.
+    /// Releases targets, one after another: the adapter of each is notified of that, its last notice from that target, and no
+    /// longer has it when the next one is released. What is no target is passed over. The adapters whose last target has gone are
+    /// then handed out, in attach order. Gives who was notified of what, and the adapters that are handed out. Takes no memory.
     pub fn release(
         &mut self,
         release: Release<A>,

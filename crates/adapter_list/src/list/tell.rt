@@ -20,8 +20,8 @@ use notice_chain::{Chain, Notice};
 use std::alloc::AllocError;
 
 impl<A: Adapter> AdapterList<A> {
-    /// The numbers of the adapters that hear a notice, in attach order, by the containers that `store` has now. Errs only when
-    /// out of memory.
+    /// The numbers of the adapters that hear a notice, in attach order, by the containers that `store` has now. Errs only if memory
+    /// is refused.
     pub fn audience<L: LinkStore>(
         &self,
         store: &L,
@@ -39,13 +39,13 @@ impl<A: Adapter> AdapterList<A> {
         Ok(numbers)
     }
 
-    /// Reserves all that a chain needs: for each adapter a place for each notice of it that it hears, and one more for each of
-    /// its targets; and the copies of the notices. Who hears them goes by the containers that `store` has now, so it is called before
-    /// the change. Whatever the answer, the adapters have heard and keep what they did, and none has fewer places: a round that
-    /// fitted them still does.
+    /// Reserves all that a chain needs: for each adapter a place for each notice of it that it hears, and one more for each of its
+    /// targets; and the copies of the notices. Who hears them goes by the containers that `store` has now, so it is called before the
+    /// change. Whatever it returns, the adapters have heard and keep what they did, and none has fewer places: a round that fitted
+    /// them still does.
     ///
-    /// Refused with AdapterFull where an adapter can't count the notices that it hears, or with Memory when out of memory. The
-    /// first that refuses decides, in attach order: with AdapterFull each one before it has the places that it needs.
+    /// Refused with AdapterFull if an adapter can't count the notices that it hears, or with Memory if memory is refused. The first
+    /// that refuses decides, in attach order: with AdapterFull each one before it has the places that it needs.
     pub fn reserve_all<L: LinkStore>(&mut self, store: &L, chain: &Chain) -> Result<Round, Refused>
         requires legal { IsLegalSet (L.links store.now) }
         requires no_cycle { HasNoCycle (L.links store.now) }
@@ -62,7 +62,7 @@ impl<A: Adapter> AdapterList<A> {
         self.reserve_known(store, chain, &mut hearers)
     }
 
-    /// The same, where it is known who hears some node: its hearers aren't looked for again. In `hearers` is remembered who hears the
+    /// The same, if it is known who hears some node: its hearers aren't looked for again. In `hearers` is remembered who hears the
     /// node of the last notice.
     pub fn reserve_known<L: LinkStore>(
         &mut self,

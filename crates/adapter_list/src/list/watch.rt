@@ -17,11 +17,11 @@ use std::alloc::AllocError;
 
 impl<A: Adapter> AdapterList<A> {
     /// Gives an adapter a target, the last of its targets, and reserves a place for its last notice from it. False, and nothing
-    /// changes, where the node is a target of it; whether that one is deep stays as it is.
+    /// changes, if the node is a target of it; whether that one is deep stays as it is.
     ///
-    /// Refused, in this order, with Limit where there are 100,000 targets, NoAdapter where the number is not attached and
-    /// AdapterFull where the adapter can't count a last notice from each target; or with Memory when out of memory. The adapters
-    /// have heard and keep what they did.
+    /// Refused, in this order, with Limit if there are 100,000 targets, NoAdapter if the number is not attached and AdapterFull
+    /// if the adapter can't count a last notice from each target; or with Memory if memory is refused. The adapters have heard
+    /// and keep what they did.
     pub fn watch(&mut self, no: AdapterNo, node: Node, deep: bool) -> Result<bool, Refused>
         ensures added { IfOk result (λ added. added ≡ not (is_target no node self.old.0)) }
         ensures ok { OnOk result (self.new.0 ≡ (if is_target no node self.old.0 then self.old.0 else watched no (record { node = node; deep = deep }) self.old.0)) }
@@ -117,7 +117,7 @@ impl<A: Adapter> AdapterList<A> {
         index
     }
 
-    /// Whether the adapter of a number stands before `place`.
+    /// Whether the adapter of a number comes before `place`.
     fn is_before(&self, no: AdapterNo, place: usize) -> bool
         ensures { result ≡ option_map_or (λ k. nat_lt k place) (position (has_no no) self.now.0) false }
     {

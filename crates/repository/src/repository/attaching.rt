@@ -23,9 +23,8 @@ impl<L: LinkStore, A: Adapter> Repository<L, A> {
     /// Attaches an adapter to a node, its first target, last in attach order (EMF: Notifier.eAdapters().add). A deep one is also
     /// notified of what happens below the node.
     ///
-    /// Refused, the first that applies: `NoObject`, `NoResource`, `Limit` where there are 100,000 targets, `AdapterTaken` where the
-    /// number is attached, `AdapterFull` where it can't count its last notice, `Memory`. A refused adapter comes back with what
-    /// it has heard.
+    /// Refused, the first that applies: `NoObject`, `NoResource`, `Limit` if there are 100,000 targets, `AdapterTaken` if the number
+    /// is attached, `AdapterFull` if it can't count its last notice, `Memory`. A refused adapter comes back with what it has heard.
     pub fn attach(
         &mut self,
         no: AdapterNo,
@@ -49,12 +48,12 @@ impl<L: LinkStore, A: Adapter> Repository<L, A> {
     }
 
     /// Gives an adapter one target more, flat or deep (EMF: Notifier.eAdapters().add of an adapter that is attached elsewhere).
-    /// Whatever brings a notice to it, it hears each once. Answers false, and nothing changes, where the node is a target of it
-    /// already; whether that one is deep stays as it is.
+    /// Whatever brings a notice to it, it hears each once. Returns false, and nothing changes, if the node is a target of it already;
+    /// whether that one is deep stays as it is.
     ///
-    /// Refused, the first that applies: `NoObject`, `NoResource`, `Limit` where there are 100,000 targets, `NoAdapter` where the
-    /// number is not attached, `AdapterFull` where it can't count a last notice from each target, `Memory`. At a node that is a
-    /// target of it only the first two apply.
+    /// Refused, the first that applies: `NoObject`, `NoResource`, `Limit` if there are 100,000 targets, `NoAdapter` if the number is
+    /// not attached, `AdapterFull` if it can't count a last notice from each target, `Memory`. At a node that is a target of it only
+    /// the first two apply.
     pub fn watch(&mut self, no: AdapterNo, target: Node, deep: bool) -> Result<Reply<A>, Refused>
         ensures { Executed self.old (Watch no target deep) (change_outcome (changed_view A.heard result)) self.new }
     {
@@ -69,11 +68,10 @@ impl<L: LinkStore, A: Adapter> Repository<L, A> {
         Ok(reply(self.alloc, Answer::Flag(added)))
     }
 
-    /// Takes one target from an adapter: it is notified of REMOVING_ADAPTER, its last notice from there, and comes back if that
-    /// was its last target (EMF: Notifier.eAdapters().remove). Answers false, and nobody is notified, where the node is no target
-    /// of it.
+    /// Takes one target from an adapter: it is notified of REMOVING_ADAPTER, its last notice from there, and comes back if that was
+    /// its last target (EMF: Notifier.eAdapters().remove). Returns false, and nobody is notified, if the node is no target of it.
     ///
-    /// Refused, the first that applies: `NoObject`, `NoResource`, `NoAdapter` where the number is not attached, `Memory`.
+    /// Refused, the first that applies: `NoObject`, `NoResource`, `NoAdapter` if the number is not attached, `Memory`.
     pub fn unwatch(&mut self, no: AdapterNo, target: Node) -> Result<Reply<A>, Refused>
         ensures { Executed self.old (Unwatch no target) (change_outcome (changed_view A.heard result)) self.new }
     {
@@ -93,7 +91,7 @@ impl<L: LinkStore, A: Adapter> Repository<L, A> {
     /// Detaches an adapter from all its targets, in the order in which it got them: it is notified of REMOVING_ADAPTER from each, and
     /// comes back (EMF: Notifier.eAdapters().remove).
     ///
-    /// Refused with `NoAdapter` where the number is not attached, or `Memory`.
+    /// Refused with `NoAdapter` if the number is not attached, or `Memory`.
     pub fn detach(&mut self, no: AdapterNo) -> Result<Reply<A>, Refused>
         ensures { Executed self.old (Detach no) (change_outcome (changed_view A.heard result)) self.new }
     {
@@ -106,7 +104,7 @@ impl<L: LinkStore, A: Adapter> Repository<L, A> {
         self.release(spots, Answer::Done)
     }
 
-    /// Lets targets go, and answers this. Refused with `Memory` alone.
+    /// Releases targets, and gives this answer. Refused with `Memory` alone.
     fn release(
         &mut self,
         spots: Vec<(AdapterNo, Node)>,
@@ -126,7 +124,7 @@ impl<L: LinkStore, A: Adapter> Repository<L, A> {
         })
     }
 
-    /// How many notices an adapter was told. Takes no memory. Refused with `NoAdapter` where the number is not attached.
+    /// How many notices an adapter was told. Takes no memory. Refused with `NoAdapter` if the number is not attached.
     #[tactic(auto, using(crate::proofs::QuietLemmas::told_done))]
     pub fn adapter_told(&self, no: AdapterNo) -> Result<u64, Refused>
         ensures read { Executed self.now (AdapterTold no) (read_outcome answer.Count result) self.now }
@@ -138,7 +136,7 @@ impl<L: LinkStore, A: Adapter> Repository<L, A> {
         }
     }
 
-    /// How many notices an adapter keeps. Takes no memory. Refused with `NoAdapter` where the number is not attached.
+    /// How many notices an adapter keeps. Takes no memory. Refused with `NoAdapter` if the number is not attached.
     #[tactic(auto, using(crate::proofs::QuietLemmas::kept_done))]
     pub fn adapter_kept(&self, no: AdapterNo) -> Result<u64, Refused>
         ensures read { Executed self.now (AdapterKept no) (read_outcome answer.Count result) self.now }

@@ -21,23 +21,22 @@ use mm_types::{ClassNo, FeatureNo, Node, ObjectNo, Refused, Seq, Value};
 impl<L: LinkStore, A: Adapter> Repository<L, A> {
     /// Makes an object of a class, each of whose attributes has its default (EMF: EFactory.create). Notifies nobody.
     ///
-    /// Refused, the first that applies: `NoClass`, `Abstract`, `Limit` where 1,000,000 objects were made, `Memory`.
+    /// Refused, the first that applies: `NoClass`, `Abstract`, `Limit` if 1,000,000 objects were made, `Memory`.
     pub fn create(&mut self, class: ClassNo) -> Result<Reply<A>, Refused>
         ensures { Executed self.old (Create class) (change_outcome (changed_view A.heard result)) self.new }
     {
         self.change(Change::Create(class))
     }
 
-    /// Sets a single feature of an object (EMF: EObject.eSet). A reference's opposite follows, what the new link displaces is cut at
-    /// both ends, and an object that is put into a container leaves the one that it was in. Notifies the adapters at each end that
-    /// changes, and the deep ones above it: of the displaced links' losses, of the opposite's gain, and of the feature itself with
-    /// SET, also where the value is the one that it had.
+    /// Sets a single feature of an object (EMF: EObject.eSet). A reference's opposite follows, what the new link displaces is cut at both
+    /// ends, and an object that is put into a container leaves the one that it was in. Notifies the adapters at each end that changes, and
+    /// the deep ones above it: of the displaced links' losses, of the opposite's gain, and of the feature itself with SET, even if the
+    /// value is the one that it had.
     ///
-    /// Refused, the first that applies: `NoObject` where the node or the value is an object that does not live,
-    /// `NoResource`, `NoFeature`, `NotSingle` where the feature has a list, `WrongType`, `TextLength` above 65,535 bytes, `Bound` where the
-    /// opposite list has as many values as its upper bound, `Recursive` where an object would contain itself, through
-    /// however many others, `Limit` where the opposite list has 1,000,000 values, `AdapterFull` where an adapter can't count the notices
-    /// and its last one, `Memory`.
+    /// Refused, the first that applies: `NoObject` if the node or the value is an object that does not live, `NoResource`, `NoFeature`,
+    /// `NotSingle` if the feature has a list, `WrongType`, `TextLength` above 65,535 bytes, `Bound` if the opposite list has as many values
+    /// as its upper bound, `Recursive` if an object would contain itself, through however many others, `Limit` if the opposite list has
+    /// 1,000,000 values, `AdapterFull` if an adapter can't count the notices and its last one, `Memory`.
     pub fn e_set(
         &mut self,
         node: Node,
@@ -64,10 +63,10 @@ impl<L: LinkStore, A: Adapter> Repository<L, A> {
         self.change(Change::Unset { node, feature })
     }
 
-    /// Destroys an object and all that is below it, and takes them out of every end that holds them (EMF: EcoreUtil.delete,
-    /// recursively). Their numbers are given to no other object. Notifies the adapters at each end of another node that loses something, by
-    /// feature number, then by node, then by position, and last at the end that contained the object. Then the targets that are
-    /// destroyed go: each adapter is notified of that, and handed out if it has no other target. Answers how many objects were destroyed.
+    /// Destroys an object and all that is below it, and takes them out of every end that holds them (EMF: EcoreUtil.delete, recursively).
+    /// Their numbers are given to no other object. Notifies the adapters at each end of another node that loses something, by feature
+    /// number, then by node, then by position, and last at the end that contained the object. Then the targets that are destroyed go: each
+    /// adapter is notified of that, and handed out if it has no other target. Returns how many objects were destroyed.
     ///
     /// Refused, the first that applies: `NoObject`, `AdapterFull`, `Memory`.
     pub fn delete(&mut self, object: ObjectNo) -> Result<Reply<A>, Refused>
@@ -76,7 +75,7 @@ impl<L: LinkStore, A: Adapter> Repository<L, A> {
         self.change(Change::Delete(object))
     }
 
-    // A change of no document, which no condition refuses that needs no memory, is carried out.
+    /// Carries out a change without a document, unless a condition refuses it that needs no memory.
     pub(super) fn change(&mut self, change: Change) -> Result<Reply<A>, Refused>
         requires proper { IsProper (reads self.old) [] change }
         ensures { Executed self.old (command_of [] change) (change_outcome (changed_view A.heard result)) self.new }
@@ -90,8 +89,8 @@ impl<L: LinkStore, A: Adapter> Repository<L, A> {
         self.carry_out(change)
     }
 
-    // A change that edits values alone, where no adapter is attached. The steps of `carry_out` that are left: no link is edited, nothing is
-    // reserved for adapters, and nobody is notified. Attributes are what most commands change, and this takes half the time.
+    /// A change that edits values alone, if no adapter is attached. The steps of `carry_out` that are left: no link is edited, nothing is
+    /// reserved for adapters, and nobody is notified. Attributes are what most commands change, and this takes half the time.
     fn change_values(&mut self, change: Change) -> Result<Reply<A>, Refused>
         requires proper { IsProper (reads self.old) [] change }
         requires asked { early_refusal_of (reads self.old) change ≡ None }
@@ -115,8 +114,9 @@ impl<L: LinkStore, A: Adapter> Repository<L, A> {
         })
     }
 
-    // Every change goes these steps; after the second nothing can fail. A change that loads a document is done as `load` of each text that
-    // is read as this document.
+    /// Every change goes these steps; after the second nothing can fail. A change that loads a document is done as `load` of each text that
+    /// is read as this document. It stays apart from `change`, which would else clear its stack frame for each change of attributes.
+    #[inline(never)]
     pub(super) fn carry_out(&mut self, change: Change) -> Result<Reply<A>, Refused>
         requires proper { (text : List ℕ) × IsProper (reads self.old) text change }
         requires asked { early_refusal_of (reads self.old) change ≡ None }

@@ -94,7 +94,7 @@ impl<L: LinkStore, A: Adapter> Repository<L, A> {
         }
     }
 
-    /// Does commands one after another, refused ones among them. Where there is no memory for their outcomes the
+    /// Does commands one after another, refused ones among them. If there is no memory for their outcomes, the
     /// commands come back, and none was done.
     pub fn run_all(
         &mut self,

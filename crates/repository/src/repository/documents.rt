@@ -18,17 +18,17 @@ use std::alloc::AllocError;
 use web_uris::split_address;
 
 impl<L: LinkStore, A: Adapter> Repository<L, A> {
-    /// The fragment of an object in its resource (EMF: Resource.getURIFragment), as `//@books.0`: the way to it from a root, whose position is
-    /// left out where the resource has one root.
+    /// The fragment of an object in its resource (EMF: Resource.getURIFragment), as `//@books.0`: the way to it from a root, whose position
+    /// is left out if the resource has one root.
     ///
-    /// Refused, the first that applies: `NoObject` where none lives, `Dangling` where the object is in no resource, `Memory`.
+    /// Refused, the first that applies: `NoObject` if none lives, `Dangling` if the object is in no resource, `Memory`.
     pub fn fragment(&self, object: ObjectNo) -> Result<Text, Refused>
         ensures { Executed self.now (Fragment object) (read_outcome answer.Fragment result) self.now }
     {
         self.fragment_now(object)
     }
 
-    // The same, and that what is answered is the fragment.
+    /// The same, and that what is returned is the fragment.
     #[tactic(auto, using(crate::proofs::DocumentLemmas::fragment_read))]
     fn fragment_now(&self, object: ObjectNo) -> Result<Text, Refused>
         ensures executed { Executed self.now (Fragment object) (read_outcome answer.Fragment result) self.now }
@@ -44,7 +44,7 @@ impl<L: LinkStore, A: Adapter> Repository<L, A> {
         }
     }
 
-    // The fragment of an object, as it is remembered or computed; `None` where the object is in no resource.
+    /// The fragment of an object, as it is remembered or computed; `None` if the object is in no resource.
     fn fragment_of(&self, object: ObjectNo) -> Result<Option<Text>, AllocError>
         ensures { IfOk result (λ t. t ≡ fragment_in (reads self.now) object) }
     {
@@ -57,8 +57,8 @@ impl<L: LinkStore, A: Adapter> Repository<L, A> {
         }
     }
 
-    /// The same as `fragment`. Besides, the answer is remembered while no containing link changes, for up to 1,024 objects, so that it need not
-    /// be computed again.
+    /// The same as `fragment`. Besides, the answer is remembered while no containing link changes, for up to 1,024 objects, so that it need
+    /// not be computed again.
     pub(super) fn remembered_fragment(&mut self, object: ObjectNo) -> Result<Text, Refused>
         ensures { Executed self.old (Fragment object) (read_outcome answer.Fragment result) self.new }
     {
@@ -69,10 +69,10 @@ impl<L: LinkStore, A: Adapter> Repository<L, A> {
         Ok(fragment)
     }
 
-    /// The object at an address, the URI of a resource, `#` and a fragment (EMF: ResourceSet.getEObject, without loading); `None` where no resource
-    /// has the URI, or nothing stands there.
+    /// The object at an address, the URI of a resource, `#` and a fragment (EMF: ResourceSet.getEObject, without loading); `None` if no
+    /// resource has the URI, or nothing is there.
     ///
-    /// Refused, the first that applies: `TextLength` above 65,535 bytes, `BadUri` where the text has no `#`, `Memory`.
+    /// Refused, the first that applies: `TextLength` above 65,535 bytes, `BadUri` if the text has no `#`, `Memory`.
     #[tactic(auto, using(crate::proofs::DocumentLemmas::object_found))]
     pub fn object_at(&self, address: &str) -> Result<Option<ObjectNo>, Refused>
         ensures { Executed self.now (ObjectAt address.now) (read_outcome answer.Found result) self.now }
@@ -87,11 +87,11 @@ impl<L: LinkStore, A: Adapter> Repository<L, A> {
         Ok(object)
     }
 
-    /// The document of a resource (EMF: Resource.save), as JSON without spaces: its roots with all that they contain, each with the features
-    /// that are set, container references left out.
+    /// The document of a resource (EMF: Resource.save), as JSON without spaces: its roots with all that they contain, each with the
+    /// features that are set, container references left out.
     ///
-    /// Refused, the first that applies: `NoResource`, `Dangling` where an object that is referred to is in no resource, `TooDeep` where
-    /// objects are nested more than 40 deep, `Memory`.
+    /// Refused, the first that applies: `NoResource`, `Dangling` if an object that is referred to is in no resource, `TooDeep` if objects
+    /// are nested more than 40 deep, `Memory`.
     #[tactic(auto, using(crate::proofs::DocumentLemmas::resource_saved))]
     pub fn save(&self, resource: ResourceNo) -> Result<Text, Refused>
         ensures { Executed self.now (Save resource) (read_outcome answer.Document result) self.now }

@@ -12,15 +12,14 @@ use mm_types::{FeatureNo, Node, Refused, Value};
 
 impl<L: LinkStore, A: Adapter> Repository<L, A> {
     /// Adds a value to a list, before the one at an index, or at the end (EMF: EList.add). A reference's opposite follows, what the new
-    /// link displaces is cut at both ends, and an object that is put into a container leaves the one that it was in. Answers whether the
-    /// list changed: at the end a value that a unique list has already changes and tells nothing. Notifies as `e_set` does, at the
+    /// link displaces is cut at both ends, and an object that is put into a container leaves the one that it was in. Returns whether the
+    /// list changed: adding a value at the end that a unique list has already changes and tells nothing. Notifies as `e_set` does, at the
     /// feature itself with ADD.
     ///
-    /// Refused, the first that applies: `NoObject` where the node or the value is an object that does not live, `NoResource`,
-    /// `NoFeature`, `NotMany` where the feature has one value, `WrongType`, `TextLength` above 65,535 bytes, `Index` above the length,
-    /// `Duplicate` where a unique list has the value that is to stand at an index, `Bound` where the list, or the opposite one, has as many values
-    /// as its upper bound, `Recursive` where an object would contain itself, `Limit` where one of the two has 1,000,000 values,
-    /// `AdapterFull`, `Memory`.
+    /// Refused, the first that applies: `NoObject` if the node or the value is an object that does not live, `NoResource`, `NoFeature`,
+    /// `NotMany` if the feature has one value, `WrongType`, `TextLength` above 65,535 bytes, `Index` above the length, `Duplicate` if a
+    /// unique list has the value that is to be at an index, `Bound` if the list, or the opposite one, has as many values as its upper
+    /// bound, `Recursive` if an object would contain itself, `Limit` if one of the two has 1,000,000 values, `AdapterFull`, `Memory`.
     pub fn add(
         &mut self,
         node: Node,
@@ -38,11 +37,11 @@ impl<L: LinkStore, A: Adapter> Repository<L, A> {
         })
     }
 
-    /// Takes the value at an index out of a list, and answers it (EMF: EList.remove). A link is cut at both ends. Notifies the adapters at
+    /// Takes the value at an index out of a list, and returns it (EMF: EList.remove). A link is cut at both ends. Notifies the adapters at
     /// the opposite, and those at the list with REMOVE.
     ///
-    /// Refused, the first that applies: `NoObject`, `NoResource`, `NoFeature`, `NotMany`, `Index` where nothing stands there,
-    /// `AdapterFull`, `Memory`.
+    /// Refused, the first that applies: `NoObject`, `NoResource`, `NoFeature`, `NotMany`, `Index` if nothing is there, `AdapterFull`,
+    /// `Memory`.
     pub fn remove(
         &mut self,
         node: Node,
@@ -58,11 +57,11 @@ impl<L: LinkStore, A: Adapter> Repository<L, A> {
         })
     }
 
-    /// Takes a value out of a list where it first stands, and answers whether it stood there (EMF: EList.remove). Where it did not, nothing
-    /// changes and nobody is notified. Notifies as `remove` does.
+    /// Takes the first occurrence of a value out of a list, and returns whether there was one (EMF: EList.remove). If there was none,
+    /// nothing changes and nobody is notified. Notifies as `remove` does.
     ///
-    /// Refused, the first that applies: `NoObject` where the node or the value is an object that does not live, `NoResource`,
-    /// `NoFeature`, `NotMany`, `WrongType`, `TextLength`, `AdapterFull`, `Memory`.
+    /// Refused, the first that applies: `NoObject` if the node or the value is an object that does not live, `NoResource`, `NoFeature`,
+    /// `NotMany`, `WrongType`, `TextLength`, `AdapterFull`, `Memory`.
     pub fn remove_value(
         &mut self,
         node: Node,
@@ -78,11 +77,11 @@ impl<L: LinkStore, A: Adapter> Repository<L, A> {
         })
     }
 
-    /// Moves the value at `from` of a list, so that it then stands at `to`, and answers it (EMF: EList.move). Notifies the adapters at the
-    /// list with MOVE, also where both places are the same; the opposite ends stay as they are.
+    /// Moves the value at `from` of a list, so that it is then at `to`, and returns it (EMF: EList.move). Notifies the adapters at the list
+    /// with MOVE, even if both places are the same; the opposite ends stay as they are.
     ///
-    /// Refused, the first that applies: `NoObject`, `NoResource`, `NoFeature`, `NotMany`, `Index` where nothing stands at one of the
-    /// two places, `AdapterFull`, `Memory`.
+    /// Refused, the first that applies: `NoObject`, `NoResource`, `NoFeature`, `NotMany`, `Index` if nothing is at one of the two places,
+    /// `AdapterFull`, `Memory`.
     pub fn move_to(
         &mut self,
         node: Node,

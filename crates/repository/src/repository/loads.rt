@@ -17,13 +17,13 @@ use models::ModelRef;
 use resource_docs::read_doc;
 
 impl<L: LinkStore, A: Adapter> Repository<L, A> {
-    /// Makes what a document says in an empty resource (EMF: Resource.load), `bytes` as JSON: its objects with their values, links and proxies, or
-    /// nothing. The objects get the next numbers, root by root, each before what it contains, by feature in the order of all features of its
-    /// class, then by position. Both ends of a pair take the order that the document gives. Answers how many objects were made. Notifies
-    /// the adapters at the resource with one ADD on `contents` for each root.
+    /// Makes what a document says in an empty resource (EMF: Resource.load), `bytes` as JSON: its objects with their values, links and
+    /// proxies, or nothing. The objects get the next numbers, root by root, each before what it contains, by feature in the order of all
+    /// features of its class, then by position. Both ends of a pair take the order that the document gives. Returns how many objects were
+    /// made. Notifies the adapters at the resource with one ADD on `contents` for each root.
     ///
-    /// Refused, the first that applies: `NoResource`; `Limit` where the document has no fault and more objects than can be made; `NotEmpty` where the
-    /// resource has roots; `Document` with the cause for which the document can't be read; `AdapterFull`, `Memory`.
+    /// Refused, the first that applies: `NoResource`; `Limit` if the document has no fault and more objects than can be made; `NotEmpty` if
+    /// the resource has roots; `Document` with the cause for which the document can't be read; `AdapterFull`, `Memory`.
     pub fn load(&mut self, resource: ResourceNo, bytes: &[u8]) -> Result<Reply<A>, Refused>
         ensures { Executed self.old (Load resource bytes.now) (change_outcome (changed_view A.heard result)) self.new }
     {
@@ -39,7 +39,7 @@ impl<L: LinkStore, A: Adapter> Repository<L, A> {
     }
 }
 
-/// What is answered where a document has a fault: it comes last.
+/// What is returned if a document has a fault: it comes last.
 fn fault_refusal<L: LinkStore>(
     model: &ModelRef<L>,
     resource: ResourceNo,

@@ -44,9 +44,9 @@ impl<L: LinkStore, A: Adapter> Repository<L, A> {
         Ok(FeatureValue::Many(values))
     }
 
-    /// The value that `e_get` answers of a feature of one value, where it is kept; `None` stands for null. Takes no memory.
+    /// The value that `e_get` returns of a feature of one value, borrowed from its place; `None` stands for null. Takes no memory.
     ///
-    /// Refused, the first that applies: `NoObject`, `NoResource`, `NoFeature`, `NotSingle` where the feature has a list.
+    /// Refused, the first that applies: `NoObject`, `NoResource`, `NoFeature`, `NotSingle` if the feature has a list.
     #[tactic(auto, using(crate::proofs::QuietLemmas::get_done))]
     pub fn value(&self, node: Node, feature: FeatureNo) -> Result<Option<Found<'_>>, Refused>
         ensures ok { IfOk result (λ v. Executed self.now (Get node feature) (read_outcome answer.Value (Ok (unwrap_or (option_map found_value v) Null))) self.now) }
@@ -62,8 +62,8 @@ impl<L: LinkStore, A: Adapter> Repository<L, A> {
         Ok(model.value_at(End { node, feature }))
     }
 
-    /// Whether a feature of an object is set (EMF: EObject.eIsSet): a list where it has values, an unsettable feature where `e_set` was the
-    /// last to change it, another where its value differs from its default. Takes no memory.
+    /// Whether a feature of an object is set (EMF: EObject.eIsSet): a list if it has values, an unsettable feature if `e_set` was the last
+    /// to change it, any other if its value differs from its default. Takes no memory.
     ///
     /// Refused, the first that applies: `NoObject`, `NoResource`, `NoFeature`.
     #[tactic(auto, using(crate::proofs::QuietLemmas::is_set_done))]
@@ -78,8 +78,8 @@ impl<L: LinkStore, A: Adapter> Repository<L, A> {
         Ok(model.is_set(End { node, feature }))
     }
 
-    /// The object that contains an object (EMF: EObject.eContainer); `None` where none does. Takes no memory. Refused with `NoObject`
-    /// where none lives.
+    /// The object that contains an object (EMF: EObject.eContainer); `None` if none does. Takes no memory. Refused with `NoObject` if none
+    /// lives.
     #[tactic(auto, using(crate::proofs::QuietLemmas::container_done))]
     pub fn e_container(&self, object: ObjectNo) -> Result<Option<ObjectNo>, Refused>
         ensures read { Executed self.now (Container object) (read_outcome answer.Container result) self.now }
@@ -92,8 +92,8 @@ impl<L: LinkStore, A: Adapter> Repository<L, A> {
         Ok(container(&model, object))
     }
 
-    /// The resource that an object is in, through however many objects (EMF: EObject.eResource); `None` where it is in none. Takes no
-    /// memory. Refused with `NoObject` where none lives.
+    /// The resource that an object is in, through however many objects (EMF: EObject.eResource); `None` if it is in none. Takes no memory.
+    /// Refused with `NoObject` if none lives.
     #[tactic(auto, using(crate::proofs::QuietLemmas::resource_done))]
     pub fn e_resource(&self, object: ObjectNo) -> Result<Option<ResourceNo>, Refused>
         ensures read { Executed self.now (Resource object) (read_outcome answer.Within result) self.now }
@@ -138,7 +138,7 @@ impl<L: LinkStore, A: Adapter> Repository<L, A> {
         Ok(snapshot)
     }
 
-    /// The class of an object (EMF: EObject.eClass). Takes no memory. Refused with `NoObject` where none lives.
+    /// The class of an object (EMF: EObject.eClass). Takes no memory. Refused with `NoObject` if none lives.
     #[tactic(auto, using(crate::proofs::QuietLemmas::class_done))]
     pub fn e_class(&self, object: ObjectNo) -> Result<ClassNo, Refused>
         ensures read { Executed self.now (Class object) (read_outcome answer.Class result) self.now }

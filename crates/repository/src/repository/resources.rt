@@ -17,9 +17,9 @@ impl<L: LinkStore, A: Adapter> Repository<L, A> {
     /// Makes an empty resource (EMF: ResourceSet.createResource). Its URI is what the text is as a URI of http or https, written as the URL
     /// Standard has it. Notifies nobody.
     ///
-    /// Refused, the first that applies: `TextLength` where the text, or the URI that it gives, is above 65,535 bytes, `Limit` where 100,000
-    /// resources were made, `BadUri` where the text gives no http or https URI, or one with a fragment, `ResourceExists` where a resource
-    /// has the URI, `Memory`.
+    /// Refused, the first that applies: `TextLength` if the text, or the URI that it gives, is above 65,535 bytes, `Limit` if 100,000
+    /// resources were made, `BadUri` if the text gives no http or https URI, or one with a fragment, `ResourceExists` if a resource has the
+    /// URI, `Memory`.
     pub fn create_resource(&mut self, text: &str) -> Result<Reply<A>, Refused>
         ensures { Executed self.old (CreateResource text.now) (change_outcome (changed_view A.heard result)) self.new }
     {

@@ -20,10 +20,10 @@ use std::alloc::{AllocError, Global};
 
 impl<L: LinkStore, A: Adapter> Repository<L, A> {
     /// The features of an object that have fewer values than their lower bounds, in the order of all features of its class (EMF:
-    /// Diagnostician.validate, of multiplicities; MOF 2.5.1: MultiplicityElement.lower). A feature of one value whose lower bound is 1 has too few
-    /// where its value is null, or where it is unsettable and not set.
+    /// Diagnostician.validate, of multiplicities; MOF 2.5.1: MultiplicityElement.lower). A feature of one value whose lower bound is 1 has
+    /// too few if its value is null, or if it is unsettable and not set.
     ///
-    /// Refused, the first that applies: `NoObject` where none lives, `Memory`.
+    /// Refused, the first that applies: `NoObject` if none lives, `Memory`.
     #[tactic(auto, using(crate::proofs::QuietLemmas::validate_done))]
     pub fn validate(&self, object: ObjectNo) -> Result<Seq<FeatureNo>, Refused>
         ensures { Executed self.now (Validate object) (read_outcome answer.Features result) self.now }
@@ -37,7 +37,7 @@ impl<L: LinkStore, A: Adapter> Repository<L, A> {
     }
 }
 
-/// The features of an object that have too few values, in the order of all features. Errs only when out of memory.
+/// The features of an object that have too few values, in the order of all features. Errs only if memory is refused.
 fn short_features<L: LinkStore>(
     alloc: Global,
     model: &ModelRef<L>,

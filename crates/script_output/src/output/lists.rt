@@ -10,7 +10,7 @@ use script_lines::grammar::SPACE;
 use std::alloc::AllocError;
 
 impl Output {
-    /// Adds the values of a feature: `["a" "b"]`, `[:NOVEL]`, `[#1 #2]`, or `[]` where there are none.
+    /// Adds the values of a feature: `["a" "b"]`, `[:NOVEL]`, `[#1 #2]`, or `[]` if there are none.
     pub fn values(
         &mut self,
         meta: &Meta,

@@ -1,4 +1,4 @@
-//! What is printed of the objects that a command answers.
+//! What is printed of the objects that a command returns.
 ghost use Rattle.std.specs.Prelude.{◌≡◌, ◌++◌, OnOk};
 ghost use Rattle.script_output.specs.Printed.{holder_text, objects_text, spaced_objects};
 
@@ -8,7 +8,7 @@ use script_lines::grammar::SPACE;
 use std::alloc::AllocError;
 
 impl Output {
-    /// Adds an object or a resource, or `null` where there is none.
+    /// Adds an object or a resource, or `null` if there is none.
     pub fn node_or_null(&mut self, node: Option<Node>) -> Result<(), AllocError>
         ensures ok { OnOk result (self.new ≡ self.old ++ holder_text node) }
     {

@@ -11,7 +11,7 @@ use notice_chain::Notice;
 use script_lines::grammar::{NEWLINE, SPACE};
 use std::alloc::AllocError;
 
-/// Stands between a node and its feature: `#0.pages`.
+/// Comes between a node and its feature: `#0.pages`.
 const FEATURE_MARK: u8 = b'.';
 
 impl Output {
@@ -63,7 +63,7 @@ impl Output {
         self.change(meta, notice)
     }
 
-    /// Adds the line of a notice that an adapter is told, with its newline: `told A1 SET #0.pages 100 1 -1`. These are
+    /// Adds the line of a notice that an adapter is told, with its newline: `told A1 SET #0.pages 100 1 -1`. The words are
     /// the adapter, the kind, the notifier with the feature, if there is one, the old and the new value, and the position.
     pub fn notified(
         &mut self,
@@ -88,8 +88,8 @@ impl Output {
         self.natural(kept)
     }
 
-    /// Adds the line of a released adapter, with its newline: `released A1 told 1 kept 1`. These are how many notices it
-    /// was told, and how many it keeps.
+    /// Adds the line of a released adapter, with its newline: `released A1 told 1 kept 1`. The numbers are how many
+    /// notices it was told, and how many it keeps.
     pub fn released(&mut self, no: AdapterNo, told: u64, kept: u64) -> Result<(), AllocError>
         ensures ok { OnOk result (self.new ≡ self.old ++ released_text no told kept ++ NEWLINE ∷ []) }
     {

@@ -1,0 +1,57 @@
+-- An object at whose ends that contain nothing stands is above no node.
+use Rattle.std.proofs.Common.{◌≡◌, ◌∙◌, ◌&&◌, ◌||◌, ◌++◌, ℕ, nat_eq, nat_lt, Bool, true, false, List, [], ◌∷◌, cond, filter, flat_map, length, arith, refl, sym, ap}
+use Rattle.std.specs.List.{list_any}
+use Rattle.std.proofs.lemmas.Bool.{false≢true, true≢false}
+use Rattle.std.proofs.lemmas.Bool.Decides.{nat_tests}
+use Rattle.mm_types.specs.Same.{same_node, same_object}
+use Rattle.mm_types.specs.Shapes.{is_containment}
+use Rattle.mm_types.specs.declared.numbers.FeatureNo.{FeatureNo}
+use Rattle.mm_types.specs.declared.numbers.Node.{Node}
+use Rattle.mm_types.specs.declared.numbers.Node.TheVariants as node
+use Rattle.mm_types.specs.declared.numbers.ObjectNo.{ObjectNo}
+use Rattle.mm_types.specs.declared.value.Value.{Value}
+use Rattle.models.specs.Legal.{IsLegal}
+use Rattle.models.specs.Model.{Model, reading}
+use Rattle.models.specs.Reading.{Reading, all_features_of, at_end, is_within, objects_of}
+use Rattle.containment.specs.Forest.{contents, has_parts, has_parts_at, is_node_among, parts, subtree}
+use Rattle.containment.proofs.ForestLemmas.{parts-first}
+use Rattle.containment.proofs.MemberLemmas.{subtree-has}
+use Rattle.containment.proofs.TreeLemmas.{subtree-parts}
+
+empty : (vs : List Value) → nat_lt 0 (length vs) ≡ false → vs ≡ []
+empty [] h = refl
+empty (v ∷ vs) h = absurd (let some : nat_lt 0 (length (v ∷ vs)) ≡ true = grind (arith, nat_tests) in true≢false (sym some ∙ h))
+
+none-at : (r : Reading) (n : Node) (f : FeatureNo) → has_parts_at r n f ≡ false → parts r n (f ∷ []) ≡ []
+none-at r n f h = by (is_containment r.metamodel f) h
+  where
+    by : (b : Bool) → (b && nat_lt 0 (length (r.values (at_end n f)))) ≡ false → flat_map (λ g. objects_of (r.values (at_end n g))) (cond b (f ∷ []) []) ≡ []
+    by true none = ap (λ (vs : List Value). objects_of vs ++ []) (empty (r.values (at_end n f)) none)
+    by false none = refl
+
+both-false : (a b : Bool) → (a || b) ≡ false → (a ≡ false) × (b ≡ false)
+both-false true b h = absurd (true≢false h)
+both-false false b h = (refl, h)
+
+none-in : (r : Reading) (n : Node) (fs : List FeatureNo) → list_any (has_parts_at r n) fs ≡ false → parts r n fs ≡ []
+none-in r n [] h = refl
+none-in r n (f ∷ fs) h =
+    let both = both-false (has_parts_at r n f) (list_any (has_parts_at r n) fs) h in
+    parts-first r n f fs ∙ (λ i. none-at r n f both.0 i ++ none-in r n fs both.1 i)
+
+flipped : (a b : ℕ) → nat_eq a b ≡ nat_eq b a
+flipped a b = grind (arith, nat_tests)
+
+-- what contains nothing is above no other node
+pub leaf-above : (s : Model) → IsLegal s → (o : ObjectNo) (n : Node) → same_node (node.Object o) n ≡ false → has_parts (reading s) (node.Object o) ≡ false → list_any (same_node (node.Object o)) ((reading s).above n) ≡ false
+leaf-above s legal o n apart none = by n apart within
+  where
+    within : is_node_among (o ∷ []) n ≡ is_within (reading s) (node.Object o) n
+    within =
+        sym (ap (λ (os : List ObjectNo). is_node_among os n) (subtree-parts s legal o ∙ ap (λ (cs : List ObjectNo). o ∷ flat_map (subtree (reading s)) cs) (none-in (reading s) (node.Object o) (all_features_of (reading s) (node.Object o)) none)))
+        ∙ subtree-has s legal o n
+
+    by : (n : Node) → same_node (node.Object o) n ≡ false → is_node_among (o ∷ []) n ≡ is_within (reading s) (node.Object o) n → list_any (same_node (node.Object o)) ((reading s).above n) ≡ false
+    by (node.Resource k) other is = sym is
+    by (node.Object c) other is =
+        ap (λ (b : Bool). b || list_any (same_node (node.Object o)) ((reading s).above (node.Object c))) (sym other) ∙ sym is ∙ ap (λ (b : Bool). b || false) (flipped c.0 o.0 ∙ other)
