@@ -4,3 +4,4 @@ mod TextLemmas
 mod ValueLemmas
 mod FormLemmas
 mod LoadLemmas
+mod FrequentLemmas

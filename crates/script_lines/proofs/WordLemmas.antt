@@ -1,8 +1,10 @@
 -- Going on by one step through a line.
-use Rattle.std.proofs.Common.{ap, ◌∙◌, ◌==◌, sub-one, ◌≡◌, ◌≢◌, ◌+◌, ◌-◌, ◌<◌, ◌≤◌, ◌++◌, ℕ, zero, suc, Bool, true, false, List, [], ◌∷◌, None, Some, nat_lt, add-one, append_assoc, arith, cond, drop, drop-cons, get_or, length, position, refl, take}
+use Rattle.std.proofs.Common.{ap, ◌∙◌, ◌&&◌, ◌==◌, sub-one, ◌≡◌, ◌≢◌, ◌+◌, ◌-◌, ◌<◌, ◌≤◌, ◌++◌, ℕ, zero, suc, Bool, true, false, List, [], ◌∷◌, None, Some, nat_lt, add-one, append_assoc, arith, cond, drop, drop-cons, get_or, length, not, position, refl, sym, take, true≢false}
 use Rattle.std.proofs.lemmas.Bool.Decides.{nat_tests}
 use Rattle.std.proofs.lemmas.List.Quantifiers.{position-Some}
 use Rattle.std.proofs.lemmas.List.Sums.{prefix_len-le-length}
+use Rattle.std.proofs.Math.Seq.{drop-length, take-length}
+use Rattle.std.specs.List.{after_first, before_first, position_or_len}
 use Rattle.script_lines.specs.Words.{is_space, plain_len, quoted_len, word_len, words_after}
 
 -- ---- the length of a word
@@ -77,3 +79,59 @@ none_after (c ∷ cs) none = absurd (omega arith)
 pub first_found : (ws : List (List ℕ)) (rest : List ℕ) (all : List (List ℕ)) → ws ++ words_after 0 rest ≡ all → length ws ≤ 6
     → (length ws < 6 → length rest ≡ 0) → ws ≡ take 6 all
 first_found ws rest all is few none = found_at 6 ws (words_after 0 rest) few (λ low. none_after rest (none low)) ∙ ap (take 6) is
+
+-- ---- a word without a quotation mark in front ends at the first space
+
+skipped_at : (b : Bool) (c : ℕ) (cs : List ℕ) → is_space c ≡ b
+    → words_after 0 (drop (position_or_len is_space cs) cs) ≡ words_after 0 (drop (position_or_len is_space cs + 1) cs)
+    → words_after 0 (drop (cond (not b) (1 + position_or_len is_space cs) 0) (c ∷ cs))
+    ≡ words_after 0 (drop (cond (not b) (1 + position_or_len is_space cs) 0 + 1) (c ∷ cs))
+skipped_at true c cs is h = rw is refl
+skipped_at false c cs is h =
+    let n : ℕ = position_or_len is_space cs in
+    let e : 1 + n + 1 ≡ suc (n + 1) = omega arith in
+    let f : 1 + n ≡ suc n = omega arith in
+    rw (e, f) h
+
+-- the space behind a word says nothing
+space_skipped : (bs : List ℕ) → words_after 0 (drop (position_or_len is_space bs) bs) ≡ words_after 0 (drop (position_or_len is_space bs + 1) bs)
+space_skipped [] = refl
+space_skipped (c ∷ cs) = skipped_at (is_space c) c cs refl (space_skipped cs)
+
+-- a text does not begin with a space or a quotation mark
+abbrev pub begins_plain : List ℕ → Bool
+begins_plain [] = false
+begins_plain (c ∷ cs) = not (is_space c) && not (c == 34)
+
+plain_at : (b q : Bool) (c : ℕ) (cs : List ℕ) → is_space c ≡ b → (c == 34) ≡ q → (not b && not q) ≡ true
+    → words_after 0 (c ∷ cs) ≡ take (cond (not b) (1 + position_or_len is_space cs) 0) (c ∷ cs)
+    ∷ words_after 0 (drop (cond (not b) (1 + position_or_len is_space cs) 0 + 1) (c ∷ cs))
+plain_at true q c cs space quote h = absurd (true≢false (sym h))
+plain_at false true c cs space quote h = absurd (true≢false (sym h))
+plain_at false false c cs space quote h =
+    let n : ℕ = position_or_len is_space cs in
+    let e : 1 + n + 1 ≡ suc (n + 1) = omega arith in
+    let f : 1 + n ≡ suc n = omega arith in
+    rw (space, quote, sub-one, e, f) (ap (λ x. (c ∷ take n cs) ∷ x) (words_after-drop n cs ∙ space_skipped cs))
+
+plain_cut_at : (bs : List ℕ) → begins_plain bs ≡ true → words_after 0 bs ≡ before_first is_space bs ∷ words_after 0 (after_first is_space bs)
+plain_cut_at [] h = absurd (true≢false (sym h))
+plain_cut_at (c ∷ cs) h = plain_at (is_space c) (c == 34) c cs refl refl h
+
+cut_begins_at : (b : Bool) (c : ℕ) (cs : List ℕ) (n : ℕ) → is_space c ≡ b → begins_plain (take (cond (not b) (1 + n) 0) (c ∷ cs)) ≡ true
+    → (not (is_space c) && not (c == 34)) ≡ true
+cut_begins_at true c cs n is h = absurd (true≢false (sym h))
+cut_begins_at false c cs n is h = let f : 1 + n ≡ suc n = omega arith in rw f at h
+
+cut_begins : (bs : List ℕ) → begins_plain (before_first is_space bs) ≡ true → begins_plain bs ≡ true
+cut_begins [] h = h
+cut_begins (c ∷ cs) h = cut_begins_at (is_space c) c cs (position_or_len is_space cs) refl h
+
+-- what stands before the first space is the first word
+pub plain_cut : (bs : List ℕ) → begins_plain (before_first is_space bs) ≡ true
+    → words_after 0 bs ≡ before_first is_space bs ∷ words_after 0 (after_first is_space bs)
+plain_cut bs h = plain_cut_at bs (cut_begins bs h)
+
+-- a text that is as long as its first word is that word
+pub whole_word : (bs : List ℕ) → 0 < length bs → get_or bs 0 0 ≢ 32 → word_len bs ≡ length bs → words_after 0 bs ≡ bs ∷ []
+whole_word bs some space h = first_word bs some space ∙ (rw (h, take-length bs, drop-length bs) refl)

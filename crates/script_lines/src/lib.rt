@@ -4,6 +4,7 @@
 
 mod adapter_forms;
 mod form;
+mod frequent;
 pub mod grammar;
 pub mod laws;
 mod line;
@@ -13,12 +14,16 @@ mod name;
 mod parse;
 mod texts;
 mod values;
+mod word;
 mod words;
 mod written_value;
 
 pub use form::Form;
-pub use line::{Line, parse_line};
+pub use frequent::{Frequent, frequent_of};
+pub use line::{Line, parse_line, text_line_of, text_of_line};
 pub use lines::next_line;
 pub use name::Name;
+pub use values::value_of;
+pub use word::Word;
 pub use words::{MOST_WORDS, words_of};
 pub use written_value::WrittenValue;

@@ -1,6 +1,7 @@
 //! A line of a script, and what it asks for.
-ghost use Rattle.std.specs.Prelude.{◌≡◌, IfOk, map};
+ghost use Rattle.std.specs.Prelude.{◌≡◌, IfOk, MatchOption, map};
 ghost use Rattle.script_lines.specs.Forms.{form, line_of as the_line_of, line_with as the_line_with, text_line};
+ghost use Rattle.script_lines.specs.declared.line.Line.TheVariants as asked;
 
 use crate::form::Form;
 use crate::load::{load_of, loaded_of};
@@ -40,13 +41,23 @@ fn line_of<'a>(alloc: Global, words: &[&'a str]) -> Result<Line<'a>, AllocError>
     Ok(line_with(form_of(alloc, words)?))
 }
 
-/// What the text of a line asks for.
-fn text_line_of(alloc: Global, text: &str) -> Result<Line<'_>, AllocError>
+/// What the text of a line asks for. Errs only if memory is refused for the text that the line writes as a value.
+pub fn text_line_of(alloc: Global, text: &str) -> Result<Line<'_>, AllocError>
     ensures { IfOk result (λ l. l ≡ text_line text.now) }
 {
     match loaded_of(text) {
         Some(rest) => Ok(line_with(load_of(alloc, rest)?)),
         None => line_of(alloc, words_of(text).as_slice()),
+    }
+}
+
+/// The text of a line; `None` for a line that is not UTF-8, which is bad.
+pub fn text_of_line(line: &[u8]) -> Option<&str>
+    ensures { MatchOption result (form line.now ≡ asked.Bad) (λ text. form line.now ≡ text_line text.now) }
+{
+    match str::from_utf8(line) {
+        Ok(text) => Some(text),
+        Err(_) => None,
     }
 }
 
@@ -59,8 +70,8 @@ fn text_line_of(alloc: Global, text: &str) -> Result<Line<'_>, AllocError>
 pub fn parse_line(alloc: Global, line: &[u8]) -> Result<Line<'_>, AllocError>
     ensures { IfOk result (λ l. l ≡ form line.now) }
 {
-    match str::from_utf8(line) {
-        Ok(text) => text_line_of(alloc, text),
-        Err(_) => Ok(Line::Bad),
+    match text_of_line(line) {
+        Some(text) => text_line_of(alloc, text),
+        None => Ok(Line::Bad),
     }
 }

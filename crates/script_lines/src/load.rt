@@ -1,7 +1,6 @@
 //! `load` lines. The text of a document is written in the line as it is, up to the end of the line,
 //! and is not cut into words.
 ghost use Rattle.std.specs.Prelude.{◌≡◌, true, false, IfOk, MatchOption, option_map};
-ghost use Rattle.std.specs.List.{after_first, before_first};
 ghost use Rattle.script_lines.specs.Words.{after_spaces, is_space};
 ghost use Rattle.script_lines.specs.Forms.{behind_verb, is_load, load_form, may_load as the_may_load, verb_in};
 ghost use Rattle.script_lines.specs.declared.form.Form.TheVariants as asks;
@@ -9,19 +8,9 @@ ghost use Rattle.script_lines.specs.declared.form.Form.TheVariants as asks;
 use crate::form::Form;
 use crate::grammar::SPACE;
 use crate::values::resource_no_of;
+use crate::words::cut_at_space;
 use mm_types::{ResourceNo, Text};
 use std::alloc::{AllocError, Global};
-
-/// What comes before the first space, and what follows it; nothing follows if there is no space.
-fn cut_at_space(text: &str) -> (&str, &str)
-    ensures before { result.0.now ≡ before_first is_space text.now }
-    ensures after { result.1.now ≡ after_first is_space text.now }
-{
-    match text.split_once(' ') {
-        Some((before, after)) => (before, after),
-        None => (text, ""),
-    }
-}
 
 /// What follows the spaces that lead a text.
 fn after_spaces_of(text: &str) -> &str

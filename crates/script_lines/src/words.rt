@@ -1,5 +1,6 @@
 //! A line is cut into words at its spaces. A word that begins with a quotation mark goes on to the next one.
-ghost use Rattle.std.specs.Prelude.{◌≡◌, ◌<◌, ◌≤◌, drop, false, length, map, position, slice_index, take};
+ghost use Rattle.std.specs.Prelude.{◌≡◌, ◌<◌, ◌≤◌, ◌∷◌, [], drop, false, length, map, position, slice_index, take, true};
+ghost use Rattle.std.specs.List.{after_first, before_first};
 ghost use Rattle.std.specs.Str.{IsUtf8};
 ghost use Rattle.script_lines.specs.Words.{is_space, plain_len, quoted_len, word_len, words};
 
@@ -68,6 +69,27 @@ fn first_word(text: &str) -> (&str, &str)
     ensures text { IsUtf8 result.1.now }
 {
     text.split_at(word_len_of(text.as_bytes()))
+}
+
+/// What comes before the first space of a text, and what follows it; nothing follows if there is no space.
+pub fn cut_at_space(text: &str) -> (&str, &str)
+    ensures before { result.0.now ≡ before_first is_space text.now }
+    ensures after { result.1.now ≡ after_first is_space text.now }
+{
+    let (before, rest) = text.split_at(plain_len_of(text.as_bytes()));
+    if rest.is_empty() {
+        (before, rest)
+    } else {
+        (before, after_byte(rest))
+    }
+}
+
+/// Whether a text is one word.
+pub fn is_word(text: &str) -> bool
+    ensures { result ≡ true → words text.now ≡ text.now ∷ [] }
+{
+    let bytes = text.as_bytes();
+    !bytes.is_empty() && (bytes[0] != SPACE && word_len_of(bytes) == bytes.len())
 }
 
 /// What follows the ASCII byte that a text begins with.

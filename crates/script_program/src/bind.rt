@@ -107,13 +107,13 @@ fn attach_request<A: Adapter>(
     }
 }
 
-fn create_command<A>(meta: &Meta, class: Name<'_>) -> Command<A>
+pub(crate) fn create_command<A>(meta: &Meta, class: Name<'_>) -> Command<A>
     ensures { result ≡ b.create_command meta.now class.entry }
 {
     Command::Create(class_number(meta, class.as_str()))
 }
 
-fn set_command<L: LinkStore, A: Adapter>(
+pub(crate) fn set_command<L: LinkStore, A: Adapter>(
     repository: &Repository<L, A>,
     node: Node,
     name: Name<'_>,
@@ -141,7 +141,7 @@ fn unset_command<L: LinkStore, A: Adapter>(
     Command::Unset { node, feature }
 }
 
-fn add_command<L: LinkStore, A: Adapter>(
+pub(crate) fn add_command<L: LinkStore, A: Adapter>(
     repository: &Repository<L, A>,
     node: Node,
     name: Name<'_>,
@@ -255,7 +255,7 @@ fn class_number(meta: &Meta, name: &str) -> ClassNo
     meta.class_by_name(name).unwrap_or(ClassNo(NOTHING))
 }
 
-fn feature_number<L: LinkStore, A: Adapter>(
+pub(crate) fn feature_number<L: LinkStore, A: Adapter>(
     repository: &Repository<L, A>,
     node: Node,
     name: &str,

@@ -5,22 +5,24 @@ ghost use Rattle.notice_chain.specs.View.{View};
 ghost use Rattle.repository.specs.Views.{command_view, outcome_view};
 ghost use Rattle.repository.specs.declared.command.Command.TheVariants.{Get};
 ghost use Rattle.script_lines.specs.Forms as forms;
+ghost use Rattle.script_lines.specs.Frequent.{frequent_line};
+ghost use Rattle.script_lines.specs.declared.frequent.Frequent.TheVariants as frequent;
 ghost use Rattle.script_program.specs.Bind.{IsGiven, pool_of, request_view};
 ghost use Rattle.script_program.specs.Pool.{Pool as PoolView};
-ghost use Rattle.script_program.specs.Script.{RunsCommand, RunsLine, RunsRequest, seen_printed};
+ghost use Rattle.script_program.specs.Script.{RunsCommand, RunsLine, RunsRequest, bad_printed, seen_printed};
 ghost use Rattle.script_program.specs.Session.{IsBrought, brought_no, session, taken};
 ghost use Rattle.script_program.specs.Turns.{outcome_turn, printed};
 
 use crate::answers::{feature_of, print_found, print_outcome, print_refusal};
-use crate::bind::bind;
+use crate::bind::{add_command, bind, create_command, feature_number, set_command};
 use crate::pool::Pool;
 use crate::request::Request;
 use crate::turn::Turn;
 use adapters::Adapter;
 use links::LinkStore;
-use mm_types::{AdapterNo, FeatureNo, Node, Refused};
+use mm_types::{AdapterNo, FeatureNo, Node, ObjectNo, Refused};
 use repository::{Command, Failure, Reply, Repository};
-use script_lines::{Line, parse_line};
+use script_lines::{Frequent, Line, frequent_of, text_line_of, text_of_line, value_of};
 use script_output::Output;
 use std::alloc::{AllocError, Global};
 
@@ -142,6 +144,94 @@ fn run_request<L: LinkStore, A: Adapter>(
     }
 }
 
+/// Adds the line that a bad line prints. Errs only if memory is refused for it.
+fn print_bad(output: &mut Output) -> Result<Turn, AllocError>
+    requires { output.old ≡ [] }
+    ensures { IfOk result (λ t. printed output.new t ≡ bad_printed) }
+{
+    output.text("bad line\n")?;
+    Ok(Turn::Bad)
+}
+
+/// Reads a feature of an object and prints its value. Errs only if memory is refused for what is printed.
+fn run_read<L: LinkStore, A: Adapter>(
+    repository: &mut Repository<L, A>,
+    pool: &mut Pool<A>,
+    output: &mut Output,
+    object: ObjectNo,
+    name: &str,
+) -> Result<Turn, AllocError>
+    requires { output.old ≡ [] }
+    ensures { IfOk result (λ t. RunsLine (session repository.old pool.old) (frequent_line (frequent.Get object name.now)) (printed output.new t) (session repository.new pool.new)) }
+{
+    let node = Node::Object(object);
+    let feature = feature_number(repository, node, name);
+    if repository.meta().is_single(feature) {
+        run_get(repository, output, node, feature)
+    } else {
+        run_command(repository, pool, output, Command::Get { node, feature })
+    }
+}
+
+/// Runs a line of one of the most frequent forms, and prints the answer. It does what `run_text` does, and is shorter, since it knows which
+/// command it runs.
+///
+/// Errs only if memory is refused for the text that the line writes as a value, or for what is printed.
+fn run_frequent<L: LinkStore, A: Adapter>(
+    alloc: Global,
+    repository: &mut Repository<L, A>,
+    pool: &mut Pool<A>,
+    output: &mut Output,
+    line: Frequent<'_>,
+) -> Result<Turn, AllocError>
+    requires { output.old ≡ [] }
+    ensures { IfOk result (λ t. RunsLine (session repository.old pool.old) (frequent_line line.entry) (printed output.new t) (session repository.new pool.new)) }
+{
+    let command = match line {
+        Frequent::New(class) => create_command(repository.meta(), class),
+        Frequent::Get(object, feature) => return run_read(
+            repository,
+            pool,
+            output,
+            object,
+            feature.as_str(),
+        ),
+        Frequent::Set(object, feature, word) => match value_of(alloc, word.as_str())? {
+            Some(value) => set_command(repository, Node::Object(object), feature, value),
+            None => return print_bad(output),
+        },
+        Frequent::Add(object, feature, word) => match value_of(alloc, word.as_str())? {
+            Some(value) => add_command(repository, Node::Object(object), feature, value, None),
+            None => return print_bad(output),
+        },
+    };
+    run_command(repository, pool, output, command)
+}
+
+/// Runs a line that is a text: parses it, does what it asks for and prints the answer.
+///
+/// Errs only if memory is refused for the text that the line writes as a value, or for what is printed.
+#[inline(never)]
+fn run_text<L: LinkStore, A: Adapter>(
+    alloc: Global,
+    repository: &mut Repository<L, A>,
+    pool: &mut Pool<A>,
+    output: &mut Output,
+    text: &str,
+) -> Result<Turn, AllocError>
+    requires { output.old ≡ [] }
+    ensures { IfOk result (λ t. RunsLine (session repository.old pool.old) (forms.text_line text.now) (printed output.new t) (session repository.new pool.new)) }
+{
+    match text_line_of(alloc, text)? {
+        Line::Blank => Ok(Turn::Blank),
+        Line::Bad => print_bad(output),
+        Line::Form(form) => {
+            let request = bind(repository, pool, form);
+            run_request(repository, pool, output, request)
+        }
+    }
+}
+
 /// Runs a line: parses it, does what it asks for and prints the answer.
 ///
 /// Errs if memory is refused to the program itself. A command that the repository refuses for memory prints that refusal.
@@ -155,15 +245,11 @@ pub(crate) fn run_line<L: LinkStore, A: Adapter>(
     requires { output.old ≡ [] }
     ensures { IfOk result (λ t. RunsLine (session repository.old pool.old) (forms.form line.now) (printed output.new t) (session repository.new pool.new)) }
 {
-    match parse_line(alloc, line)? {
-        Line::Blank => Ok(Turn::Blank),
-        Line::Bad => {
-            output.text("bad line\n")?;
-            Ok(Turn::Bad)
-        }
-        Line::Form(form) => {
-            let request = bind(repository, pool, form);
-            run_request(repository, pool, output, request)
-        }
+    let Some(text) = text_of_line(line) else {
+        return print_bad(output);
+    };
+    match frequent_of(text) {
+        Some(line) => run_frequent(alloc, repository, pool, output, line),
+        None => run_text(alloc, repository, pool, output, text),
     }
 }

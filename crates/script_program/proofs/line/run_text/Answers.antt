@@ -1,14 +1,14 @@
 use Rattle.std.proofs.Common.{◌≡◌, ◌∙◌, sym, subst}
-use Rattle.script_lines.specs.Forms.{form}
+use Rattle.script_lines.specs.Forms.{text_line}
 use Rattle.script_lines.specs.declared.line.Line.TheVariants as line
 use Rattle.script_program.specs.Bind.{IsGiven}
 use Rattle.script_program.specs.Session.{Session, session}
 use Rattle.script_program.proofs.SessionLemmas.{bind-given}
-use Rattle.script_program.proofs.line.run_line.Goals as goal
+use Rattle.script_program.proofs.line.run_text.Goals as goal
 
 pub returns-in-Form : goal.returns-in-Form
 returns-in-Form g c =
     let s : Session = session c.args.repository.now c.args.pool.now in
-    let asked : form c.args.line.now ≡ line.Form c.in-Form.form = sym c.in_ok-parse_line.ensures ∙ c.in-Form.is in
+    let asked : text_line c.args.text.now ≡ line.Form c.in-Form.form = sym c.in_ok-text_line_of.ensures ∙ c.in-Form.is in
     let given = subst (IsGiven s.pool) (sym c.bind-request.ensures.request) (bind-given s c.in-Form.form) in
     rw (asked, ← c.bind-request.ensures.request) (c.run_request.ensures s.pool c.bind-request.ensures.pool given)
