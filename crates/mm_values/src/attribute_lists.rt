@@ -107,11 +107,10 @@ impl AttributeLists {
         match self.find(feature) {
             Ok(at) => Ok(at),
             Err(at) => {
-                let alloc = *self.entries.allocator();
                 let entry = Entry {
                     feature,
                     flag: false,
-                    list: ValueList::new(alloc),
+                    list: ValueList::new(),
                 };
                 self.grow()?;
                 self.entries.insert(at, entry)?;

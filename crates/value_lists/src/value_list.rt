@@ -1,22 +1,26 @@
 //! A list of values that may be looked up by value.
-ghost use Rattle.std.specs.Prelude.{◌≡◌, ◌+◌, ◌<◌, ◌≤◌, [], length, slice_get, position, option_copied, vec_len, OnOk};
+ghost use Rattle.std.specs.Prelude.{◌≡◌, ◌+◌, ◌<◌, ◌≤◌, [], ◌∷◌, length, slice_get, position, option_copied, vec_len, IfOk, OnErr, OnOk};
 ghost use Rattle.std.specs.List.{insert, list_any, remove};
 ghost use Rattle.mm_types.specs.Same.{same_value};
 ghost use Rattle.slot_lists.specs.Moved.{moved};
+ghost use Rattle.value_lists.specs.ValueList.{places_of};
 
 use crate::counted_list::CountedList;
 use mm_types::Value;
 use slot_lists::SlotList;
 use std::alloc::{AllocError, Global};
 use std::marker::Model;
+use std::{mem, slice};
 
 /// A list of more values than this has its hashes counted, if it is looked up by value.
 const SHORT: usize = 64;
 
 /// A list has a table of its hashes if it is long and is looked up by value. It then lies in a box with its table, so that a list without
-/// one keeps no place for it.
+/// one keeps no place for it. Most lists are those of single features: one value is in the list itself, and takes no block of memory.
 #[derive(Drop)]
 enum Layout {
+    Empty,
+    One(Value),
     Plain(SlotList<Value>),
     Counted(Box<CountedList>),
 }
@@ -44,11 +48,11 @@ impl Model for ValueList {
 
 impl ValueList {
     /// No values. Takes no memory.
-    pub fn new(alloc: Global) -> Self
+    pub fn new() -> Self
         ensures { result.items ≡ [] }
     {
         ValueList {
-            layout: Layout::Plain(SlotList::new(alloc)),
+            layout: Layout::Empty,
         }
     }
 
@@ -57,6 +61,8 @@ impl ValueList {
         ensures { result ≡ length self.now.items }
     {
         match &self.layout {
+            Layout::Empty => 0,
+            Layout::One(_) => 1,
             Layout::Plain(list) => list.len(),
             Layout::Counted(counted) => counted.len(),
         }
@@ -67,6 +73,8 @@ impl ValueList {
         ensures { option_copied result ≡ slice_get self.now.items index }
     {
         match &self.layout {
+            Layout::Empty => None,
+            Layout::One(value) => slice::from_ref(value).get(index),
             Layout::Plain(list) => list.get(index),
             Layout::Counted(counted) => counted.get(index),
         }
@@ -77,6 +85,9 @@ impl ValueList {
         ensures { result ≡ position (same_value value.now) self.now.items }
     {
         match &self.layout {
+            Layout::Empty => None,
+            Layout::One(kept) if value == kept => Some(0),
+            Layout::One(_) => None,
             Layout::Plain(list) => list.position(value),
             Layout::Counted(counted) => counted.position(value),
         }
@@ -88,6 +99,8 @@ impl ValueList {
         ensures { result ≡ list_any (same_value value.now) self.now.items }
     {
         match &self.layout {
+            Layout::Empty => false,
+            Layout::One(kept) => value == kept,
             Layout::Plain(list) => list.position(value).is_some(),
             Layout::Counted(counted) => counted.has(value),
         }
@@ -105,13 +118,20 @@ impl ValueList {
         ensures ok { OnOk result (additional ≤ self.new.spare) }
         ensures spare { self.old.spare ≤ self.new.spare }
     {
+        match &mut self.layout {
+            Layout::Empty if additional <= 1 => {}
+            Layout::Empty => self.layout = Layout::Plain(with_places(alloc, additional)?),
+            Layout::One(_) if additional == 0 => {}
+            Layout::One(value) => {
+                self.layout = Layout::Plain(in_block(alloc, value, additional)?);
+            }
+            Layout::Plain(list) => list.reserve(additional)?,
+            Layout::Counted(counted) => counted.reserve(additional)?,
+        }
         if is_asked {
             self.count_hashes(alloc, additional)?;
         }
-        match &mut self.layout {
-            Layout::Plain(list) => list.reserve(additional),
-            Layout::Counted(counted) => counted.reserve(additional),
-        }
+        Ok(())
     }
 
     /// Counts the hashes of a list that is long, or will be. Errs only if memory is refused, and then nothing has changed.
@@ -136,6 +156,8 @@ impl ValueList {
         ensures spare { self.old.spare ≤ self.new.spare + 1 }
     {
         match &mut self.layout {
+            Layout::Empty => self.layout = Layout::One(value),
+            Layout::One(_) => unreachable!(),
             Layout::Plain(list) => match list.insert(index, value) {
                 Ok(()) => {}
                 Err(_) => unreachable!(),
@@ -151,6 +173,7 @@ impl ValueList {
         ensures spare { self.old.spare ≤ self.new.spare }
     {
         match &mut self.layout {
+            Layout::Empty | Layout::One(_) => self.layout = Layout::Empty,
             Layout::Plain(list) => {
                 list.remove(index);
             }
@@ -159,6 +182,7 @@ impl ValueList {
     }
 
     /// Moves the value at `from`, so that it is then at `to`. Takes no memory.
+    #[tactic(auto, using(crate::proofs::ShortLemmas::moved_one))]
     pub fn move_to(&mut self, to: usize, from: usize)
         requires to { to < length self.old.items }
         requires from { from < length self.old.items }
@@ -166,6 +190,7 @@ impl ValueList {
         ensures spare { self.new.spare ≡ self.old.spare }
     {
         match &mut self.layout {
+            Layout::Empty | Layout::One(_) => {}
             Layout::Plain(list) => list.move_to(to, from),
             Layout::Counted(counted) => counted.move_to(to, from),
         }
@@ -177,6 +202,7 @@ impl ValueList {
         ensures spare { self.old.spare ≤ self.new.spare + vec_len values }
     {
         match &mut self.layout {
+            Layout::Empty | Layout::One(_) => self.layout = layout_of(values),
             Layout::Plain(list) => list.replace(values),
             Layout::Counted(counted) => {
                 let mut list = counted.take_list(*values.allocator());
@@ -184,5 +210,47 @@ impl ValueList {
                 self.layout = Layout::Plain(list);
             }
         }
+    }
+}
+
+/// The values of a `Vec`: more than one stay in its block.
+fn layout_of(mut values: Vec<Value>) -> Layout
+    ensures items { (places_of result).items ≡ values.items }
+    ensures spare { 1 ≤ (places_of result).spare + vec_len values }
+{
+    if values.len() > 1 {
+        return Layout::Plain(SlotList::from_vec(values));
+    }
+    match values.pop() {
+        Some(value) => Layout::One(value),
+        None => Layout::Empty,
+    }
+}
+
+/// A list of no values, with places for some. Errs only if memory is refused.
+fn with_places(alloc: Global, places: usize) -> Result<SlotList<Value>, AllocError>
+    ensures items { IfOk result (λ l. l.items ≡ []) }
+    ensures spare { IfOk result (λ l. places ≤ l.spare) }
+{
+    let mut list = SlotList::new(alloc);
+    list.reserve(places)?;
+    Ok(list)
+}
+
+/// Moves a value into a list with places for more. Errs only if memory is refused, and then the value stays where it is.
+fn in_block(
+    alloc: Global,
+    value: &mut Value,
+    additional: usize,
+) -> Result<SlotList<Value>, AllocError>
+    ensures items { IfOk result (λ l. l.items ≡ value.old ∷ []) }
+    ensures spare { IfOk result (λ l. additional ≤ l.spare) }
+    ensures err { OnErr result (value.new ≡ value.old) }
+{
+    let places = additional.checked_add(1).ok_or(AllocError)?;
+    let mut list = with_places(alloc, places)?;
+    match list.insert(0, mem::replace(value, Value::Null)) {
+        Ok(()) => Ok(list),
+        Err(_) => unreachable!(),
     }
 }

@@ -1,0 +1,10 @@
+-- Lists of one value at most.
+use Rattle.std.proofs.Common.{◌≡◌, ℕ, zero, suc, ◌<◌, [], ◌∷◌, refl, arith}
+use Rattle.slot_lists.specs.Moved.{moved}
+use Rattle.mm_types.specs.declared.value.Value.{Value}
+
+-- a value that is alone has no other place
+pub moved_one : (v : Value) (to from : ℕ) → to < 1 → from < 1 → v ∷ [] ≡ moved (v ∷ []) to from
+moved_one v zero zero to_lt from_lt = refl
+moved_one v zero (suc from) to_lt from_lt = absurd (omega (arith, from_lt))
+moved_one v (suc to) from to_lt from_lt = absurd (omega (arith, to_lt))
