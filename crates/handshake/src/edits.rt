@@ -22,7 +22,7 @@ use crate::target::{Counterpart, Target};
 use crate::tie::far_end;
 use links::{Edit, LinkStore, Plan};
 use mm_types::{End, FeatureNo, Node, ObjectNo, Seq, Value};
-use mm_values::{ValueEdit, ValuePlan};
+use mm_values::{NewValues, ValueEdit, ValuePlan};
 use models::{ModelRef, at_end};
 use removal::{Removal, Tie};
 use resource_docs::Doc;
@@ -220,9 +220,10 @@ fn other_edits<L: LinkStore>(
             node,
             feature,
             value,
-        } => set_edits(alloc, model, node, feature, value),
+        } => Ok(set_edits(alloc, model, node, feature, value)),
         Change::Unset { node, feature } => {
-            Ok(put_list(alloc, node, feature, Seq::new(alloc), false))
+            let none = NewValues::from_seq(Seq::new(alloc));
+            Ok(put_list(alloc, node, feature, none, false))
         }
         Change::Add {
             node,
@@ -353,23 +354,15 @@ fn set_edits<L: LinkStore>(
     node: Node,
     feature: FeatureNo,
     value: Value,
-) -> Result<ValuePlan, AllocError>
-    ensures { IfOk result (λ p. p ≡ put_values (at_end node feature) (value ∷ []) (shape model.now.metamodel feature).is_unsettable) }
+) -> ValuePlan
+    ensures { result ≡ put_values (at_end node feature) (value ∷ []) (shape model.now.metamodel feature).is_unsettable }
 {
     let flag = model.meta().is_unsettable(feature);
-    let mut list = Vec::with_capacity(alloc, 1)?;
-    list.push_reserved(value);
-    Ok(put_list(alloc, node, feature, Seq::from_vec(list), flag))
+    put_list(alloc, node, feature, NewValues::one(value), flag)
 }
 
 /// The edits that put a list at an end; none at a resource's, which keeps no values of attributes.
-fn put_list(
-    alloc: Global,
-    node: Node,
-    feature: FeatureNo,
-    list: Seq<Value>,
-    flag: bool,
-) -> ValuePlan
+fn put_list(alloc: Global, node: Node, feature: FeatureNo, list: NewValues, flag: bool) -> ValuePlan
     ensures { result ≡ put_values (at_end node feature) list flag }
 {
     match node {

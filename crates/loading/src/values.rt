@@ -9,7 +9,7 @@ ghost use Rattle.loading.specs.Loading as l;
 use crate::numbers::loaded;
 use mm_meta::Meta;
 use mm_types::ObjectNo;
-use mm_values::ValueEdit;
+use mm_values::{NewValues, ValueEdit};
 use resource_docs::{Content, Doc, DocObject};
 use std::alloc::{AllocError, Global};
 
@@ -93,7 +93,7 @@ fn push_list(
         edits.push(ValueEdit::PutList {
             object: loaded(next, object),
             feature,
-            list: values,
+            list: NewValues::from_seq(values),
             flag: meta.is_unsettable(feature) && meta.is_single(feature),
         })?;
     }

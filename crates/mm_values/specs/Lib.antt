@@ -1,4 +1,5 @@
 pub mod Stored
+pub mod NewValues
 pub mod Attributes
 pub mod ListEdits
 pub mod Values

@@ -1,11 +1,12 @@
 //! What one object holds under its attributes.
-ghost use Rattle.std.specs.Prelude.{◌≡◌, ℕ, ◌-◌, [], length, option_copied, IfOk, IfErr, OnOk};
+ghost use Rattle.std.specs.Prelude.{◌≡◌, ℕ, ◌-◌, [], length, option_copied, IfOk, IfErr, OnErr, OnOk};
 ghost use Rattle.mm_values.specs.Stored.{items_of, with_stored};
 ghost use Rattle.mm_values.specs.Attributes.{change_stored, stored_in, stored_under, taken_of, HasPlace, IsAt, IsGapFor};
 ghost use Rattle.mm_values.specs.ListEdits.{changed, taken, IsReadyFor};
 
 use crate::list_edit::ListEdit;
-use mm_types::{FeatureNo, Seq, Value};
+use crate::new_values::NewValues;
+use mm_types::FeatureNo;
 use std::alloc::{AllocError, Global};
 use std::marker::Model;
 use value_lists::ValueList;
@@ -147,19 +148,38 @@ impl AttributeLists {
     }
 
     /// Replaces what is stored under an attribute, in its place. Takes no memory.
-    pub fn put(&mut self, feature: FeatureNo, list: Seq<Value>, flag: bool)
+    pub fn put(&mut self, feature: FeatureNo, list: NewValues, flag: bool)
         requires { HasPlace self.old feature.0 0 }
         ensures stored { stored_in self.new ≡ with_stored (stored_in self.old) feature.0 (record { list = list; flag = flag }) }
         ensures kept { (f n : ℕ) → HasPlace self.old f n → HasPlace self.new f (n - taken_of feature.0 (length list) f) }
     {
         match self.find(feature) {
-            Ok(at) => {
-                let entry = &mut self.entries[at];
-                entry.list.replace(list.into_vec());
-                entry.flag = flag;
-            }
+            Ok(at) => self.put_at(feature, at, list, flag),
             Err(_) => unreachable!(),
         }
+    }
+
+    /// Replaces what is stored under an attribute, and makes a place for it if it has none. Errs only if memory is refused, and then
+    /// nothing that is seen has changed.
+    pub fn set(&mut self, feature: FeatureNo, list: NewValues, flag: bool) -> Result<(), AllocError>
+        ensures ok { OnOk result (stored_in self.new ≡ with_stored (stored_in self.old) feature.0 (record { list = list; flag = flag })) }
+        ensures err { OnErr result (stored_in self.new ≡ stored_in self.old) }
+    {
+        let at = self.make_entry(feature)?;
+        self.put_at(feature, at, list, flag);
+        Ok(())
+    }
+
+    /// Replaces what the entry of an attribute holds. Takes no memory.
+    fn put_at(&mut self, feature: FeatureNo, at: usize, list: NewValues, flag: bool)
+        requires { IsAt self.old feature.0 at }
+        ensures stored { stored_in self.new ≡ with_stored (stored_in self.old) feature.0 (record { list = list; flag = flag }) }
+        ensures kept { (f n : ℕ) → HasPlace self.old f n → HasPlace self.new f (n - taken_of feature.0 (length list) f) }
+    {
+        let alloc = *self.entries.allocator();
+        let entry = &mut self.entries[at];
+        list.put_in(alloc, &mut entry.list);
+        entry.flag = flag;
     }
 
     /// Changes the list that is stored under an attribute; the flag stays. Takes no memory.

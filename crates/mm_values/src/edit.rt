@@ -1,7 +1,8 @@
 //! Edits of what a repository holds besides links.
 ghost use Rattle.std.specs.Prelude.{◌≡◌};
 
-use mm_types::{ClassNo, FeatureNo, ObjectNo, Seq, Text, Value};
+use crate::new_values::NewValues;
+use mm_types::{ClassNo, FeatureNo, ObjectNo, Text, Value};
 
 /// One edit. At a number that names no live object it changes nothing.
 #[derive(Debug, Drop)]
@@ -14,7 +15,7 @@ pub enum ValueEdit {
     PutList {
         object: ObjectNo,
         feature: FeatureNo,
-        list: Seq<Value>,
+        list: NewValues,
         flag: bool,
     },
     /// Puts one value into an attribute's list, at an index; past the end it is put last. `is_unique` says that the list is one

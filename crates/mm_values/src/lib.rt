@@ -8,11 +8,13 @@
 mod attribute_lists;
 mod edit;
 mod list_edit;
+mod new_values;
 mod objects;
 mod plan;
 mod uris;
 mod values;
 
 pub use edit::ValueEdit;
+pub use new_values::NewValues;
 pub use plan::ValuePlan;
 pub use values::Values;

@@ -9,7 +9,8 @@ ghost use Rattle.mm_values.specs.Values.{object_at, stored_under, with_changed, 
 
 use crate::attribute_lists::AttributeLists;
 use crate::list_edit::ListEdit;
-use mm_types::{ClassNo, FeatureNo, ObjectNo, Seq, Value};
+use crate::new_values::NewValues;
+use mm_types::{ClassNo, FeatureNo, ObjectNo};
 use std::alloc::{AllocError, Global};
 use std::marker::Model;
 use value_lists::ValueList;
@@ -185,7 +186,7 @@ impl Objects {
     }
 
     /// Replaces what a live object holds under an attribute, in its place. Takes no memory.
-    pub fn put(&mut self, object: ObjectNo, feature: FeatureNo, list: Seq<Value>, flag: bool)
+    pub fn put(&mut self, object: ObjectNo, feature: FeatureNo, list: NewValues, flag: bool)
         requires { HasPlaceAt self.old object.0 feature.0 0 }
         ensures objects { objects_of self.new ≡ with_list (objects_of self.old) object feature (record { list = list; flag = flag }) }
         ensures next { self.new.next ≡ self.old.next }
@@ -195,6 +196,34 @@ impl Objects {
         if index < self.next && self.classes[index].is_some() {
             self.lists[index].put(feature, list, flag);
         }
+    }
+
+    /// Makes an object of a class. Errs only if memory is refused, and then nothing that is seen has changed.
+    pub fn create(&mut self, class: ClassNo) -> Result<(), AllocError>
+        ensures ok { OnOk result (objects_of self.new ≡ with_object (objects_of self.old) class) }
+        ensures err { OnErr result (objects_of self.new ≡ objects_of self.old) }
+    {
+        self.reserve(1)?;
+        self.add(class);
+        Ok(())
+    }
+
+    /// Replaces what a live object holds under an attribute. Errs only if memory is refused, and then nothing that is seen has changed.
+    pub fn set(
+        &mut self,
+        object: ObjectNo,
+        feature: FeatureNo,
+        list: NewValues,
+        flag: bool,
+    ) -> Result<(), AllocError>
+        ensures ok { OnOk result (objects_of self.new ≡ with_list (objects_of self.old) object feature (record { list = list; flag = flag })) }
+        ensures err { OnErr result (objects_of self.new ≡ objects_of self.old) }
+    {
+        let index = object.0 as usize;
+        if index < self.next && self.classes[index].is_some() {
+            return self.lists[index].set(feature, list, flag);
+        }
+        Ok(())
     }
 
     /// Changes the list that a live object holds under an attribute; the flag stays. Takes no memory.

@@ -1,5 +1,5 @@
 //! What a repository holds besides links.
-ghost use Rattle.std.specs.Prelude.{◌≡◌, ℕ, List, [], ◌∷◌, length, option_and_then, option_copied, option_map, count_by, position, slice_get, All, IfOk, OnOk};
+ghost use Rattle.std.specs.Prelude.{◌≡◌, ℕ, List, [], ◌∷◌, length, option_and_then, option_copied, option_map, count_by, position, slice_get, All, IfOk, OnErr, OnOk};
 ghost use Rattle.mm_types.specs.Same.{same_value};
 ghost use Rattle.std.specs.List.{list_any};
 ghost use Rattle.mm_values.specs.Room.{is_insert, is_insert_at, is_new_object, is_new_uri, needed};
@@ -11,6 +11,7 @@ use crate::plan::{Edits, ValuePlan};
 use crate::uris::Uris;
 use mm_types::{ClassNo, FeatureNo, ObjectNo, ResourceNo, Seq, Value};
 use std::alloc::{AllocError, Global};
+use std::slice;
 
 /// Objects by number, each with its class and its attribute lists, and the URIs of resources.
 #[derive(Drop)]
@@ -124,7 +125,14 @@ impl Values {
         ensures unchanged { values_of self.new ≡ values_of self.old }
         ensures ok { OnOk result (HasRoom self.new plan.now) }
     {
-        let edits = plan.as_slice();
+        self.reserve_edits(plan.as_slice())
+    }
+
+    /// Takes all the memory that some edits need.
+    fn reserve_edits(&mut self, edits: &[ValueEdit]) -> Result<(), AllocError>
+        ensures unchanged { values_of self.new ≡ values_of self.old }
+        ensures ok { OnOk result (HasRoom self.new edits.now) }
+    {
         let new_objects = objects_made(edits);
         self.objects.reserve(new_objects)?;
         self.make_places(edits)?;
@@ -144,6 +152,55 @@ impl Values {
             Edits::One(edit) => self.apply_edit(edit),
             Edits::Many(edits) => self.apply_all(edits),
         }
+    }
+
+    /// Takes the memory that a plan needs, and makes its edits. Errs only if memory is refused, or if there would be more than 2^32
+    /// resources, and then nothing that is seen has changed. For a plan of one edit this is faster than `reserve_for` and `apply`.
+    pub fn try_apply(&mut self, plan: ValuePlan) -> Result<(), AllocError>
+        ensures ok { OnOk result (values_of self.new ≡ applied (values_of self.old) plan) }
+        ensures err { OnErr result (values_of self.new ≡ values_of self.old) }
+    {
+        match plan.into_edits() {
+            Edits::One(edit) => self.try_edit(edit),
+            Edits::Many(edits) => self.try_all(edits),
+        }
+    }
+
+    /// Takes the memory that an edit needs, and makes it. Errs only if memory is refused, and then nothing that is seen has changed.
+    fn try_edit(&mut self, edit: ValueEdit) -> Result<(), AllocError>
+        ensures ok { OnOk result (values_of self.new ≡ edited (values_of self.old) edit) }
+        ensures err { OnErr result (values_of self.new ≡ values_of self.old) }
+    {
+        match edit {
+            ValueEdit::NewObject(class) => self.objects.create(class),
+            ValueEdit::PutList {
+                object,
+                feature,
+                list,
+                flag,
+            } => self.objects.set(object, feature, list, flag),
+            edit => self.try_any(edit),
+        }
+    }
+
+    /// Makes an edit, as one of a plan is made.
+    fn try_any(&mut self, edit: ValueEdit) -> Result<(), AllocError>
+        ensures ok { OnOk result (values_of self.new ≡ edited (values_of self.old) edit) }
+        ensures err { OnErr result (values_of self.new ≡ values_of self.old) }
+    {
+        self.reserve_edits(slice::from_ref(&edit))?;
+        self.apply_edit(edit);
+        Ok(())
+    }
+
+    /// Makes edits, in their order, once there is room for all of them.
+    fn try_all(&mut self, edits: Seq<ValueEdit>) -> Result<(), AllocError>
+        ensures ok { OnOk result (values_of self.new ≡ applied (values_of self.old) edits) }
+        ensures err { OnErr result (values_of self.new ≡ values_of self.old) }
+    {
+        self.reserve_edits(edits.as_slice())?;
+        self.apply_all(edits);
+        Ok(())
     }
 
     /// Makes edits, in their order.

@@ -1,6 +1,6 @@
 //! Plans and what is seen after them, by hand.
 use mm_types::{ClassNo, FeatureNo, ObjectNo, ResourceNo, Seq, Text, Value};
-use mm_values::{ValueEdit, ValuePlan, Values};
+use mm_values::{NewValues, ValueEdit, ValuePlan, Values};
 use std::alloc::{AllocError, Global};
 use std::test::Fail;
 
@@ -12,15 +12,13 @@ fn new_uri(alloc: Global, uri: &str) -> Result<ValueEdit, AllocError> {
     Ok(ValueEdit::NewUri(Text::from_str(alloc, uri)?))
 }
 
-fn put(alloc: Global, object: u32, feature: u32, number: i64) -> Result<ValueEdit, AllocError> {
-    let mut list = Seq::new(alloc);
-    list.push(Value::Int(number))?;
-    Ok(ValueEdit::PutList {
+fn put(object: u32, feature: u32, number: i64) -> ValueEdit {
+    ValueEdit::PutList {
         object: ObjectNo(object),
         feature: FeatureNo(feature),
-        list,
+        list: NewValues::one(Value::Int(number)),
         flag: false,
-    })
+    }
 }
 
 /// Puts a number and null under feature 3 of object 0, with its flag.
@@ -31,7 +29,7 @@ fn put_two(alloc: Global) -> Result<ValueEdit, AllocError> {
     Ok(ValueEdit::PutList {
         object: ObjectNo(0),
         feature: FeatureNo(3),
-        list,
+        list: NewValues::from_seq(list),
         flag: true,
     })
 }
@@ -115,7 +113,7 @@ fn each_edit(alloc: Global) -> Result<ValuePlan, AllocError> {
     plan.push(ValueEdit::NewObject(ClassNo(8)))?;
     plan.push(put_two(alloc)?)?;
     plan.push(ValueEdit::DropObject(ObjectNo(1)))?;
-    plan.push(put(alloc, 1, 3, 5)?)?;
+    plan.push(put(1, 3, 5))?;
     Ok(ValuePlan::from_seq(plan))
 }
 
@@ -162,9 +160,9 @@ fn no_number_is_given_twice(rt: HostRuntime) -> Result<(), Fail> {
 
 fn two_features(alloc: Global) -> Result<ValuePlan, AllocError> {
     let mut plan = Seq::new(alloc);
-    plan.push(put(alloc, 0, 9, 90)?)?;
-    plan.push(put(alloc, 0, 5, 50)?)?;
-    plan.push(put(alloc, 0, 5, 51)?)?;
+    plan.push(put(0, 9, 90))?;
+    plan.push(put(0, 5, 50))?;
+    plan.push(put(0, 5, 51))?;
     Ok(ValuePlan::from_seq(plan))
 }
 
@@ -221,7 +219,7 @@ fn list_edits(alloc: Global) -> Result<ValuePlan, AllocError> {
     plan.push(remove(3, 7))?;
     plan.push(shift(3, 9, 0))?;
     plan.push(shift(3, 0, 5))?;
-    plan.push(put(alloc, 0, 4, 50)?)?;
+    plan.push(put(0, 4, 50))?;
     plan.push(insert(0, 4, 0, 49))?;
     plan.push(insert(1, 4, 0, 48))?;
     Ok(ValuePlan::from_seq(plan))
@@ -242,6 +240,55 @@ fn lists_are_edited(rt: HostRuntime) -> Result<(), Fail> {
     Ok(())
 }
 
+/// Edits of a list of one value, which grows and shrinks.
+fn edits_of_one(alloc: Global) -> Result<ValuePlan, AllocError> {
+    let mut plan = Seq::new(alloc);
+    plan.push(put(0, 3, 30))?;
+    plan.push(put(0, 3, 31))?;
+    plan.push(shift(3, 0, 0))?;
+    plan.push(insert(0, 3, 0, 29))?;
+    plan.push(remove(3, 1))?;
+    plan.push(insert(0, 4, 0, 40))?;
+    plan.push(remove(4, 0))?;
+    plan.push(insert(0, 4, 0, 41))?;
+    Ok(ValuePlan::from_seq(plan))
+}
+
+const AFTER_EDITS_OF_ONE: &str = "0 (None, None) (None, None)
+1
+Some(ClassNo(1)) (Some([Int(29)]), Some([Int(41)])) (Some(false), Some(false))
+None (None, None) (None, None)
+None (None, None) (None, None)
+";
+
+#[test]
+fn a_list_of_one_value_is_edited(rt: HostRuntime) -> Result<(), Fail> {
+    let alloc = rt.alloc();
+    let found = seen_after(alloc, make(1), edits_of_one(alloc)?, [3, 4])?;
+    assert_eq!(rt; found.as_str(), AFTER_EDITS_OF_ONE);
+    Ok(())
+}
+
+const HELD_AFTER_EDITS_OF_ONE: &str =
+    "Some(ClassNo(1)) (Some([Int(29)]), Some([Int(41)])) (Some(false), Some(false))\n";
+
+#[test]
+fn a_plan_is_carried_out_at_once(rt: HostRuntime) -> Result<(), Fail> {
+    let alloc = rt.alloc();
+    let mut values = empty(alloc)?;
+    values.try_apply(make(1))?;
+    values.try_apply(ValuePlan::one(put(0, 2, 2)))?;
+    values.try_apply(ValuePlan::one(put(0, 2, 3)))?;
+    values.try_apply(ValuePlan::one(put(5, 2, 4)))?;
+    values.try_apply(ValuePlan::one(new_uri(alloc, "a.xmi")?))?;
+    let found = seen(alloc, &values, [2, 3])?;
+    assert_eq!(rt; found.as_str(), AFTER_AN_OBJECT_AND_A_URI);
+    values.try_apply(edits_of_one(alloc)?)?;
+    let found = held(alloc, &values, 0, [3, 4])?;
+    assert_eq!(rt; found.as_str(), HELD_AFTER_EDITS_OF_ONE);
+    Ok(())
+}
+
 /// Puts the numbers from 0 on under feature 3 of object 0.
 pub(crate) fn put_many(alloc: Global, count: i64) -> Result<ValueEdit, AllocError> {
     let mut list = Seq::new(alloc);
@@ -251,7 +298,7 @@ pub(crate) fn put_many(alloc: Global, count: i64) -> Result<ValueEdit, AllocErro
     Ok(ValueEdit::PutList {
         object: ObjectNo(0),
         feature: FeatureNo(3),
-        list,
+        list: NewValues::from_seq(list),
         flag: false,
     })
 }
@@ -317,7 +364,7 @@ fn each_uri_is_kept_once(rt: HostRuntime) -> Result<(), Fail> {
 fn object_and_uri(alloc: Global) -> Result<ValuePlan, AllocError> {
     let mut plan = Seq::new(alloc);
     plan.push(ValueEdit::NewObject(ClassNo(1)))?;
-    plan.push(put(alloc, 0, 2, 3)?)?;
+    plan.push(put(0, 2, 3))?;
     plan.push(new_uri(alloc, "a.xmi")?)?;
     Ok(ValuePlan::from_seq(plan))
 }

@@ -211,6 +211,24 @@ impl ValueList {
             }
         }
     }
+
+    /// Replaces the values by one. Takes no memory.
+    pub fn replace_by_one(&mut self, alloc: Global, value: Value)
+        ensures items { self.new.items ≡ value ∷ [] }
+        ensures spare { self.old.spare ≤ self.new.spare + 1 }
+    {
+        match &mut self.layout {
+            Layout::Empty | Layout::One(_) => self.layout = Layout::One(value),
+            Layout::Plain(list) => {
+                let list = mem::replace(list, SlotList::new(alloc));
+                self.layout = layout_of_one(alloc, list, value);
+            }
+            Layout::Counted(counted) => {
+                let list = counted.take_list(alloc);
+                self.layout = layout_of_one(alloc, list, value);
+            }
+        }
+    }
 }
 
 /// The values of a `Vec`: more than one stay in its block.
@@ -224,6 +242,21 @@ fn layout_of(mut values: Vec<Value>) -> Layout
     match values.pop() {
         Some(value) => Layout::One(value),
         None => Layout::Empty,
+    }
+}
+
+/// One value in place of those of a list, which keeps its block if it has places for more.
+fn layout_of_one(alloc: Global, mut list: SlotList<Value>, value: Value) -> Layout
+    ensures items { (places_of result).items ≡ value ∷ [] }
+    ensures spare { list.spare ≤ (places_of result).spare + 1 }
+{
+    if list.spare() <= 1 {
+        return Layout::One(value);
+    }
+    list.replace(Vec::new(alloc));
+    match list.insert(0, value) {
+        Ok(()) => Layout::Plain(list),
+        Err(_) => unreachable!(),
     }
 }
 
