@@ -1,11 +1,15 @@
 //! Look-ups by name.
 ghost use Rattle.std.specs.Prelude.{◌≡◌, ◌∷◌, ◌++◌, [], ℕ, List, length, map, IfOk, OnOk, position, option_and_then, slice_get};
 ghost use Rattle.std.specs.Str.{bytes_eq};
+ghost use Rattle.indexmap.specs.IndexMap.{get_by_text};
 ghost use Rattle.mm_meta.specs.NameTable.{AreTablesOf, IsTableOf, position_in};
 
 use indexmap::IndexMap;
 use mm_types::{Class, Enumeration, Feature, RawClass, RawFeature, Text};
 use std::alloc::{AllocError, Global};
+
+/// The names of a table that has no more than these are compared one by one, which is faster than to hash the name.
+const FEW: usize = 16;
 
 /// What has a name.
 pub trait Named {
@@ -105,7 +109,33 @@ impl NameTable {
     pub fn position(&self, name: &str) -> Option<usize>
         ensures { (names : List (List ℕ)) → IsTableOf self.now names → result ≡ position (λ n. bytes_eq n name.now) names }
     {
+        if self.positions.len() > FEW {
+            self.hashed(name)
+        } else {
+            self.compared(name)
+        }
+    }
+
+    /// The first position of a name, which is found by its hash. It is apart, so that a search in a small table saves no registers for it.
+    #[cold]
+    fn hashed(&self, name: &str) -> Option<usize>
+        ensures { result ≡ get_by_text self.now.positions name.now }
+    {
         self.positions.get(name).copied()
+    }
+
+    /// The first position of a name, with which each name is compared.
+    fn compared(&self, name: &str) -> Option<usize>
+        ensures { result ≡ get_by_text self.now.positions name.now }
+    {
+        'names: for index in 0..self.positions.len() {
+            if let Some((key, at)) = self.positions.get_index(index) {
+                if name == key.as_str() {
+                    return Some(*at);
+                }
+            }
+        }
+        None
     }
 }
 
