@@ -1,17 +1,18 @@
 //! Stores of links.
-ghost use Rattle.std.specs.Prelude.{◌≡◌, List, length, map, slice_get, IfOk, OnOk, MatchOption, Some};
+ghost use Rattle.std.specs.Prelude.{◌≡◌, List, [], ◌∷◌, if◌then◌else◌, is_ok, length, map, slice_get, IfOk, OnOk, MatchOption, Some};
 ghost use Rattle.std.specs.Option.{option_copied};
 ghost use Rattle.mm_types.specs.declared.numbers.Node.TheVariants as node;
 ghost use Rattle.mm_types.specs.declared.value.Value.TheVariants as value;
 ghost use Rattle.links.specs.declared.plan.Edit.{Edit};
+ghost use Rattle.links.specs.declared.plan.Edit.TheVariants as edit;
 ghost use Rattle.links.specs.Holders.{holder as holder_of};
 ghost use Rattle.links.specs.LegalSets.{AreKinds, IsLegalSet, Kinds};
-ghost use Rattle.links.specs.Links.{Links, end as end_of, no_links, object_at, proxy_at as proxy_of};
-ghost use Rattle.links.specs.Plans.{AreIncoming, AreInOrder, ArePlacesOf, HasPlanOfKind, IsPlanOfKind, Lacks, PlanFits, applied, incoming_end};
+ghost use Rattle.links.specs.Links.{Links, end as end_of, no_links, object_at, proxy_at as proxy_of, put};
+ghost use Rattle.links.specs.Plans.{AreIncoming, AreInOrder, ArePlacesOf, EditFits, HasPlanOfKind, IsEditOfKind, IsPlanOfKind, Lacks, PlanFits, applied, incoming_end};
 
 use crate::incoming::Incoming;
 use crate::plan::Plan;
-use mm_types::{End, ObjectNo};
+use mm_types::{End, FeatureNo, ObjectNo};
 use std::alloc::{AllocError, Global};
 
 /// A set of links, however it is kept.
@@ -84,4 +85,19 @@ pub trait LinkStore: Drop {
         requires reserved { has_room self.old plan }
         ensures links { links self.new ≡ applied (links self.old) plan }
         ensures kinds { (m : Kinds) → kinds self.old m → IsPlanOfKind m plan → kinds self.new m };
+
+    /// Takes the memory for one `Edit::Put`, and makes it. Errs only if memory is refused, and then no link changes.
+    fn put(
+        &mut self,
+        end: End,
+        index: u32,
+        object: ObjectNo,
+        opposite: Option<FeatureNo>,
+        container: Option<FeatureNo>,
+    ) -> Result<(), AllocError>
+        requires legal { IsLegalSet (links self.old) }
+        requires fits { EditFits (links self.old) (edit.Put end index object opposite container) }
+        requires of_kind { HasPlanOfKind (kinds self.old) (edit.Put end index object opposite container ∷ []) }
+        ensures links { links self.new ≡ (if is_ok result then put (links self.old) end index object opposite container else links self.old) }
+        ensures kinds { (m : Kinds) → kinds self.old m → OnOk result (IsEditOfKind m (edit.Put end index object opposite container)) → kinds self.new m };
 }
