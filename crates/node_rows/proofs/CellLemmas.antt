@@ -15,10 +15,10 @@ use Rattle.node_rows.specs.declared.row.RowEdit.{RowEdit}
 use Rattle.node_rows.specs.declared.row.RowEdit.TheVariants.{Change, Hold, Enter, Leave, ForgetEntries}
 use Rattle.node_rows.specs.declared.node_rows.NodeRows.{NodeRows}
 use Rattle.node_rows.specs.Rows.{AreRowsEdited, AreRowsGrown, AreRowsReordered, IsRowEdited, IsRowGrown, IsRowReordered, RowFits, entered_after, entries_taken, hold_after, is_row, places_taken, row_entered, row_entries, row_hold, row_pairing, row_places, row_vals, told_after, vals_after}
-use Rattle.node_rows.specs.Tables.{Table, row_in}
-use Rattle.node_rows.specs.Cells.{AreReordered, Cells, Fits, KeepsRoom, cell_edit, cells, object_of, resource_of, room, row_at}
+use Rattle.node_rows.specs.Tables.{Table, row_from, row_in}
+use Rattle.node_rows.specs.Cells.{AreReordered, Cells, Fits, KeepsRoom, cell_edit, cells, object_of, resource_of, room, row_at, row_place}
 use Rattle.node_rows.specs.Growth.{HasGained, no_ends, no_values, one_if}
-use Rattle.node_rows.proofs.RowLemmas.{row_same, row_unmoved}
+use Rattle.node_rows.proofs.RowLemmas.{row_same, row_unmoved, unedited_row}
 
 pub fits_at : (t : NodeRows) (n : Node) (x : RowEdit) → Fits n x (room t) → RowFits x (row_at t n)
 unfolding room
@@ -196,3 +196,36 @@ forget_entries_cells n k c = λ i.
       hold = λ m. same_twice (same_node n m) (c.hold m) i;
       entered = λ m. same_twice (same_node n m) (c.entered m) i;
     }
+
+pub grown_room : (t u : NodeRows) → ((n : Node) → IsRowGrown (row_at t n) (row_at u n)) → HasGained no_values no_ends (room t) (room u)
+unfolding room
+grown_room t u each = record {
+  places = λ x. omega (arith, (each x.node).places x.feature);
+  entries = λ m. omega (arith, (each m).entries);
+}
+
+---------------------------------------------------------------- no row
+
+-- a node without a row is not changed
+module _ (t : NodeRows) (n : Node) (x : RowEdit) (none : row_place t n ≡ None) (fits : Fits n x (room t)) where
+  no_row : row_at t n ≡ None
+  no_row = by n none
+    where
+      by : (m : Node) → row_place t m ≡ None → row_at t m ≡ None
+      by (node.Object o) h = ap (row_from t.objects.rows) h
+      by (node.Resource r) h = ap (row_from t.resources.rows) h
+
+  unchanged : IsRowEdited x (row_at t n) (row_at t n)
+  unchanged = unedited_row x (row_at t n) no_row (fits_at t n x fits)
+
+  pub unedited_cells : cells t ≡ cell_edit n x (cells t)
+  unedited_cells = cells_edited t t n x unchanged (λ m ne. refl)
+
+  pub unedited_room : KeepsRoom n x (room t) (room t)
+  unedited_room = room_edited t t n x unchanged (λ m ne. refl)
+
+-- a node with a row has a place for it
+pub known_place : (t : NodeRows) (n : Node) → row_place t n ≡ None → (room t).rows n ≡ true → ⊥
+unfolding room
+known_place t (node.Object o) none h = false≢true (ap (λ (p : Option ℕ). is_row (row_from t.objects.rows p)) (sym none) ∙ h)
+known_place t (node.Resource r) none h = false≢true (ap (λ (p : Option ℕ). is_row (row_from t.resources.rows p)) (sym none) ∙ h)

@@ -9,7 +9,7 @@ use Rattle.node_rows.specs.declared.row.Row.{Row}
 use Rattle.node_rows.specs.declared.row.RowEdit.{RowEdit}
 use Rattle.node_rows.specs.Rows.{AreRowsEdited, AreRowsGrown, AreRowsReordered, IsRowEdited, IsRowGrown, IsRowReordered}
 use Rattle.node_rows.specs.Tables.{ArePlaces, Table, place_at, place_in, row_from, row_in}
-use Rattle.node_rows.proofs.RowLemmas.{row_grown_twice, row_same, row_unmoved}
+use Rattle.node_rows.proofs.RowLemmas.{row_same, row_unmoved}
 
 slice_get-set : {X : Type 0} (xs : List X) (i : ℕ) (x : X) → i < length xs → slice_get (set xs i x) i ≡ Some x
 slice_get-set [] i x lt = absurd (omega (arith, lt))
@@ -87,19 +87,11 @@ module _ (ps : List ℕ) (rs : List Row) (n k : ℕ) (r s : Row) (ok : ArePlaces
     | inr ne ↦ subst (λ (o : Option Row). IsRowReordered (row_in old m) o) (sym (others m ne)) (row_unmoved (row_in old m))
   ]
 
-  -- where there were as many places before
-  module _ (t u : Table) (view : old ≡ u) where
-    pub promised_grown : AreRowsGrown (row_in t) (row_in u) → IsRowGrown (Some r) (Some s) → AreRowsGrown (row_in t) (row_in new)
-    promised_grown h more m =
-        let first = subst (λ (x : Table). IsRowGrown (row_in t m) (row_in x m)) (sym view) (h m) in
-        row_grown_twice (row_in t m) (row_in old m) (row_in new m) first (written_grown more m)
-
-    pub promised_more : (P : Option Row → ℕ) → P (row_in t n) ≤ P (row_in u n) → P (Some r) + 1 ≤ P (Some s) → P (row_in t n) + 1 ≤ P (row_in new n)
-    promised_more P le more =
-        let a = ap (λ (x : Table). P (row_in x n)) view in
-        let b = ap P was in
-        let c = ap P is_now in
-        omega (arith, a, b, c)
+  pub written_more : (P : Option Row → ℕ) → P (Some r) + 1 ≤ P (Some s) → P (row_in old n) + 1 ≤ P (row_in new n)
+  written_more P more =
+      let before = ap P was in
+      let after = ap P is_now in
+      omega (arith, before, after)
 
 ---------------------------------------------------------------- one more row
 

@@ -14,7 +14,7 @@ use Rattle.node_rows.specs.declared.row.RowEdit.TheVariants.{Change, Hold, Enter
 use Rattle.node_rows.specs.declared.node_rows.NodeRows.{NodeRows}
 use Rattle.node_rows.specs.Slots.{taken, unpaired}
 use Rattle.node_rows.specs.Rows.{entered_after, entries_taken, hold_after, is_row, places_taken, row_entered, row_entries, row_hold, row_pairing, row_places, row_slots, row_vals, told_after, vals_after}
-use Rattle.node_rows.specs.Tables.{Table, place_at, row_from, row_in}
+use Rattle.node_rows.specs.Tables.{Table, place_at, place_in, row_from, row_in}
 
 -- the values of each end, what puts told of its feature, the end that contains each node, and the ends with no opposite that hold it
 pub record Cells : Type 0 where
@@ -38,6 +38,11 @@ pub record Room : Type 0 where
 abbrev pub row_at : NodeRows → Node → Option Row
 row_at t (node.Object o) = row_in t.objects o.0
 row_at t (node.Resource r) = row_in t.resources r.0
+
+-- the place of the row of a node, if it has one
+abbrev pub row_place : NodeRows → Node → Option ℕ
+row_place t (node.Object o) = place_in t.objects.places o.0
+row_place t (node.Resource r) = place_in t.resources.places r.0
 
 unfoldable pub cells : NodeRows → Cells
 cells t =

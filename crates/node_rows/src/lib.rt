@@ -10,7 +10,7 @@ mod row;
 mod row_table;
 mod slot;
 
-pub use node_rows::NodeRows;
+pub use node_rows::{NodeRows, PutPlaces};
 pub use order::entry_rank;
 pub use row::{Row, RowEdit};
 pub use slot::{Pairing, Slot, SlotEdit};

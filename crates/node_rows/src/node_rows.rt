@@ -1,19 +1,18 @@
 //! The rows of all nodes.
-ghost use Rattle.std.specs.Prelude.{◌≡◌, [], length, option_copied, position, slice_get, OnOk};
-ghost use Rattle.mm_types.specs.Same.{same_end, same_node, same_value};
-ghost use Rattle.mm_types.specs.declared.end.End.{End};
+ghost use Rattle.std.specs.Prelude.{◌≡◌, [], length, option_copied, position, slice_get, true, Some};
+ghost use Rattle.mm_types.specs.Same.{same_end, same_value};
 ghost use Rattle.mm_types.specs.declared.numbers.Node.{Node};
-ghost use Rattle.mm_types.specs.declared.numbers.Node.TheVariants as node;
 ghost use Rattle.node_rows.specs.Rows.{row_slot, row_slots};
-ghost use Rattle.node_rows.specs.Cells.{AreReordered, Fits, KeepsRoom, cell_edit, cells, ends_of, no_cells, room, row_at};
-ghost use Rattle.node_rows.specs.Growth.{HasGained, HasRoom, entry, far_gain, gain, lone_entry, no_ends, no_values, one_if};
+ghost use Rattle.node_rows.specs.Cells.{AreReordered, Fits, KeepsRoom, cell_edit, cells, ends_of, no_cells, room, row_at, row_place};
+
+mod growth;
 
 use crate::row::{Row, RowEdit};
 use crate::row_table::RowTable;
-use crate::slot::{Pairing, Slot, SlotEdit};
-use links::{Edit, Plan};
-use mm_types::{End, FeatureNo, Node, ObjectNo, Value};
-use std::alloc::{AllocError, Global};
+use crate::slot::{Pairing, Slot};
+pub use growth::PutPlaces;
+use mm_types::{End, Node, Value};
+use std::alloc::Global;
 
 /// A row for each node that was promised a place for a value, or for an end that holds it.
 #[derive(Drop)]
@@ -137,15 +136,50 @@ impl NodeRows {
         self.row(node)?.entered.position(&end)
     }
 
+    /// The place of the row of a node; `None` if it has none.
+    fn find(&self, node: Node) -> Option<usize>
+        ensures { result ≡ row_place self.now node }
+    {
+        match node {
+            Node::Object(object) => self.objects.place(object.0 as usize),
+            Node::Resource(resource) => self.resources.place(resource.0 as usize),
+        }
+    }
+
+    /// The place of the row of a node that has one.
+    pub fn place(&self, node: Node) -> usize
+        requires { (room self.now).rows node ≡ true }
+        ensures { row_place self.now node ≡ Some result }
+    {
+        match self.find(node) {
+            Some(place) => place,
+            None => unreachable!(),
+        }
+    }
+
     /// Makes one change of a node. Takes no memory.
     pub fn edit(&mut self, node: Node, edit: RowEdit)
         requires { Fits node edit (room self.old) }
         ensures cells { cells self.new ≡ cell_edit node edit (cells self.old) }
         ensures room { KeepsRoom node edit (room self.old) (room self.new) }
     {
+        match self.find(node) {
+            Some(place) => self.edit_at(node, place, edit),
+            None => drop(edit),
+        }
+    }
+
+    /// Makes one change of a node, whose row is at a place. Takes no memory, and moves no row.
+    pub fn edit_at(&mut self, node: Node, place: usize, edit: RowEdit)
+        requires at { row_place self.old node ≡ Some place }
+        requires fits { Fits node edit (room self.old) }
+        ensures cells { cells self.new ≡ cell_edit node edit (cells self.old) }
+        ensures room { KeepsRoom node edit (room self.old) (room self.new) }
+        ensures places { (n : Node) → row_place self.new n ≡ row_place self.old n }
+    {
         match node {
-            Node::Object(object) => self.objects.edit(object.0 as usize, edit),
-            Node::Resource(resource) => self.resources.edit(resource.0 as usize, edit),
+            Node::Object(object) => self.objects.edit_at(object.0 as usize, place, edit),
+            Node::Resource(resource) => self.resources.edit_at(resource.0 as usize, place, edit),
         }
     }
 
@@ -158,151 +192,5 @@ impl NodeRows {
             Node::Object(object) => self.objects.order_entries(object.0 as usize),
             Node::Resource(resource) => self.resources.order_entries(resource.0 as usize),
         }
-    }
-
-    /// How many values more of an end come with no memory taken.
-    #[tactic(auto, unfolding(crate::specs::Cells::room))]
-    fn places(&self, end: End) -> usize
-        ensures { result ≡ (room self.now).places end }
-    {
-        match self.slot(end) {
-            Some(slot) => slot.places(),
-            None => 0,
-        }
-    }
-
-    /// How many ends more that hold a node come with no memory taken.
-    #[tactic(auto, unfolding(crate::specs::Cells::room))]
-    fn entries(&self, node: Node) -> usize
-        ensures { result ≡ (room self.now).entries node }
-    {
-        match self.row(node) {
-            Some(row) => row.entries(),
-            None => 0,
-        }
-    }
-
-    /// Takes back what an end was promised.
-    fn forget(&mut self, end: End)
-        ensures { cells self.new ≡ cells self.old }
-    {
-        let places = self.places(end);
-        self.edit(
-            end.node,
-            RowEdit::Change(end.feature, SlotEdit::Forget { places }),
-        );
-    }
-
-    /// Takes back what the far side of a put was promised.
-    fn forget_far(&mut self, object: ObjectNo, opposite: Option<FeatureNo>)
-        ensures { cells self.new ≡ cells self.old }
-    {
-        let node = Node::Object(object);
-        match opposite {
-            Some(feature) => self.forget(End { node, feature }),
-            None => {
-                let places = self.entries(node);
-                self.edit(node, RowEdit::ForgetEntries(places));
-            }
-        }
-    }
-
-    /// Takes back what was promised wherever an edit adds something.
-    fn forget_edit(&mut self, edit: &Edit)
-        ensures { cells self.new ≡ cells self.old }
-    {
-        match edit {
-            Edit::Put {
-                end,
-                object,
-                opposite,
-                ..
-            } => {
-                self.forget(*end);
-                self.forget_far(*object, *opposite);
-            }
-            Edit::PutProxy { end, .. } => self.forget(*end),
-            _ => {}
-        }
-    }
-
-    /// Takes back what was promised wherever a plan adds something.
-    fn forget_plan(&mut self, plan: &[Edit])
-        ensures { cells self.new ≡ cells self.old }
-    {
-        for edit in plan {
-            self.forget_edit(edit);
-        }
-    }
-
-    /// Promises one more value of an end a place.
-    fn promise(&mut self, end: End) -> Result<(), AllocError>
-        ensures cells { cells self.new ≡ cells self.old }
-        ensures ok { OnOk result (HasGained (λ e. one_if (same_end end e)) no_ends (room self.old) (room self.new)) }
-    {
-        match end.node {
-            Node::Object(object) => self.objects.promise(object.0 as usize, end.feature),
-            Node::Resource(resource) => self.resources.promise(resource.0 as usize, end.feature),
-        }
-    }
-
-    /// Promises one more end that holds an object a place.
-    fn promise_entry(&mut self, object: ObjectNo) -> Result<(), AllocError>
-        ensures cells { cells self.new ≡ cells self.old }
-        ensures ok { OnOk result (HasGained no_values (λ n. one_if (same_node (node.Object object) n)) (room self.old) (room self.new)) }
-    {
-        self.objects.promise_entry(object.0 as usize)
-    }
-
-    /// Promises the far side of a put its place.
-    fn promise_far(
-        &mut self,
-        object: ObjectNo,
-        opposite: Option<FeatureNo>,
-    ) -> Result<(), AllocError>
-        ensures cells { cells self.new ≡ cells self.old }
-        ensures ok { OnOk result (HasGained (far_gain object opposite) (lone_entry object opposite) (room self.old) (room self.new)) }
-    {
-        match opposite {
-            Some(feature) => {
-                let node = Node::Object(object);
-                self.promise(End { node, feature })
-            }
-            None => self.promise_entry(object),
-        }
-    }
-
-    /// Promises an edit a place wherever it adds something.
-    fn promise_edit(&mut self, edit: &Edit) -> Result<(), AllocError>
-        ensures cells { cells self.new ≡ cells self.old }
-        ensures ok { OnOk result (HasGained (λ e. gain e edit.now) (λ n. entry n edit.now) (room self.old) (room self.new)) }
-    {
-        match edit {
-            Edit::Put {
-                end,
-                object,
-                opposite,
-                ..
-            } => {
-                self.promise(*end)?;
-                self.promise_far(*object, *opposite)
-            }
-            Edit::PutProxy { end, .. } => self.promise(*end),
-            _ => Ok(()),
-        }
-    }
-
-    /// Makes room for a plan, in place of what was made for an earlier one wherever this one adds something. Errs only
-    /// if memory is refused; no value changes.
-    pub fn reserve_for(&mut self, plan: &Plan) -> Result<(), AllocError>
-        ensures cells { cells self.new ≡ cells self.old }
-        ensures ok { OnOk result (HasRoom (room self.new) plan.now) }
-    {
-        let edits = plan.as_slice();
-        self.forget_plan(edits);
-        for edit in edits {
-            self.promise_edit(edit)?;
-        }
-        Ok(())
     }
 }

@@ -47,15 +47,21 @@ impl RowTable {
         self.rows.get(place_of(&self.places, number)?)
     }
 
-    /// Makes one change of the row of a number. Takes no memory.
-    pub fn edit(&mut self, number: usize, edit: RowEdit)
-        requires { RowFits edit (row_in self.old number) }
-        ensures { AreRowsEdited number edit (row_in self.old) (row_in self.new) }
+    /// The place of the row of a number; `None` if it has none.
+    pub fn place(&self, number: usize) -> Option<usize>
+        ensures { result ≡ place_in self.now.places number }
     {
-        match place_of(&self.places, number) {
-            Some(place) => self.rows[place].edit(edit),
-            None => drop(edit),
-        }
+        place_of(&self.places, number)
+    }
+
+    /// Makes one change of the row of a number, which is at a place. Takes no memory.
+    pub fn edit_at(&mut self, number: usize, place: usize, edit: RowEdit)
+        requires at { place_in self.old.places number ≡ Some place }
+        requires fits { RowFits edit (row_in self.old number) }
+        ensures edited { AreRowsEdited number edit (row_in self.old) (row_in self.new) }
+        ensures places { self.new.places ≡ self.old.places }
+    {
+        self.rows[place].edit(edit);
     }
 
     /// Puts the ends that hold the node of a row in order. Takes no memory.
@@ -67,27 +73,37 @@ impl RowTable {
         }
     }
 
-    /// Promises one more value at a feature of the row of a number a place. Errs only if memory is refused; no value changes.
-    pub fn promise(&mut self, number: usize, feature: FeatureNo) -> Result<(), AllocError>
+    /// Promises one more value at a feature of the row of a number, which is at a place. Errs only if memory is refused; no
+    /// value changes.
+    pub fn promise_at(
+        &mut self,
+        number: usize,
+        place: usize,
+        feature: FeatureNo,
+    ) -> Result<(), AllocError>
+        requires at { place_in self.old.places number ≡ Some place }
         ensures grown { AreRowsGrown (row_in self.old) (row_in self.new) }
+        ensures places { self.new.places ≡ self.old.places }
         ensures ok { OnOk result (row_places (row_in self.old number) feature + 1 ≤ row_places (row_in self.new number) feature) }
     {
-        let place = self.make_row(number)?;
         self.rows[place].promise(feature)
     }
 
-    /// Promises one more end that holds the node of a row a place. Errs only if memory is refused; no end changes.
-    pub fn promise_entry(&mut self, number: usize) -> Result<(), AllocError>
+    /// Promises one more end that holds the node of a row, which is at a place, a place there. Errs only if memory is refused; no
+    /// end changes.
+    pub fn promise_entry_at(&mut self, number: usize, place: usize) -> Result<(), AllocError>
+        requires at { place_in self.old.places number ≡ Some place }
         ensures grown { AreRowsGrown (row_in self.old) (row_in self.new) }
+        ensures places { self.new.places ≡ self.old.places }
         ensures ok { OnOk result (row_entries (row_in self.old number) + 1 ≤ row_entries (row_in self.new number)) }
     {
-        let place = self.make_row(number)?;
         self.rows[place].promise_entry()
     }
 
-    /// The place of the row of a number, which is made if there is none.
-    fn make_row(&mut self, number: usize) -> Result<usize, AllocError>
+    /// The place of the row of a number, which is made if there is none. No row is moved.
+    pub fn make_row(&mut self, number: usize) -> Result<usize, AllocError>
         ensures grown { AreRowsGrown (row_in self.old) (row_in self.new) }
+        ensures unmoved { (n k : ℕ) → place_in self.old.places n ≡ Some k → place_in self.new.places n ≡ Some k }
         ensures ok { IfOk result (λ k. place_in self.new.places number ≡ Some k) }
     {
         extend(&mut self.places, number)?;
@@ -103,6 +119,7 @@ impl RowTable {
         requires in_range { number < length self.old.places }
         requires none { place_in self.old.places number ≡ None }
         ensures grown { AreRowsGrown (row_in self.old) (row_in self.new) }
+        ensures unmoved { (n k : ℕ) → place_in self.old.places n ≡ Some k → place_in self.new.places n ≡ Some k }
         ensures ok { IfOk result (λ k. place_in self.new.places number ≡ Some k) }
     {
         let place = self.rows.len();
