@@ -1,5 +1,5 @@
 -- What the rows say once an edit of a plan is made.
-use Rattle.std.proofs.Common.{◌≡◌, ◌+◌, List, ◌∷◌, [], sym, ap, subst, arith}
+use Rattle.std.proofs.Common.{◌≡◌, ◌+◌, Bool, true, false, List, ◌∷◌, [], if◌then◌else◌, is_ok, OnOk, Result, Ok, Err, sym, ap, subst, arith}
 use Rattle.std.proofs.Math.Logic.{∥∥₁_elim, ∥∥₁_map}
 use Rattle.std.proofs.lemmas.List.Sums.{sum_by-append}
 use Rattle.std.specs.Coded.{Coded-set}
@@ -7,7 +7,7 @@ use Rattle.mm_types.specs.declared.numbers.Node.{Node}
 use Rattle.mm_types.specs.declared.end.End.{End}
 use Rattle.links.specs.LegalSets.{AreOfKind, Kinds}
 use Rattle.links.specs.Links.{Links, coded_links}
-use Rattle.links.specs.Plans.{HasPlanOfKind, IsPlanOfKind, PlanFits, applied, edited}
+use Rattle.links.specs.Plans.{EditFits, HasPlanOfKind, IsEditOfKind, IsPlanOfKind, PlanFits, applied, edited}
 use Rattle.links.specs.declared.plan.Edit.{Edit}
 use Rattle.links.proofs.KindLemmas.{plan_keeps_kinds}
 use Rattle.node_rows.specs.declared.node_rows.NodeRows.{NodeRows}
@@ -17,6 +17,7 @@ use Rattle.node_rows.proofs.KeyLemmas.{keys_of}
 use Rattle.slot_store.specs.CellLinks.{IsKept, IsStore, IsStoreOfKind, cell_links, store_links}
 use Rattle.slot_store.specs.EditedCells.{TakesAtMost, cells_after}
 use Rattle.slot_store.proofs.KeptEditLemmas.{kept_edit}
+use Rattle.slot_store.proofs.StoreLemmas.{grown_kept, grown_links}
 
 ---------------------------------------------------------------- room
 
@@ -74,3 +75,18 @@ kinds_applied t u plan is m of kind = (of.0, subst (λ (s : Links). AreOfKind m 
 
 pub kinds_same : (t u : NodeRows) → store_links u ≡ store_links t → (m : Kinds) → IsStoreOfKind t m → IsStoreOfKind u m
 kinds_same t u is m of = (of.0, subst (λ (s : Links). AreOfKind m s) (sym is) of.1)
+
+---------------------------------------------------------------- an edit that memory may refuse
+
+module _ (t u : NodeRows) (kept : ∥ IsStore t ∥₁) (x : Edit) (fits : EditFits (store_links t) x) (kind : HasPlanOfKind (IsStoreOfKind t) (x ∷ [])) where
+  pub tried_kept : (is_made : Bool) → cells u ≡ (if is_made then cells_after x (cells t) else cells t) → ∥ IsStore u ∥₁
+  tried_kept true now = edit_kept t u kept x [] (fits, tt) kind now
+  tried_kept false now = grown_kept t u now kept
+
+  pub tried_links : (is_made : Bool) → cells u ≡ (if is_made then cells_after x (cells t) else cells t) → store_links u ≡ (if is_made then edited (store_links t) x else store_links t)
+  tried_links true now = edit_links t u kept x [] (fits, tt) kind now
+  tried_links false now = grown_links t u now
+
+pub tried_kinds : {A B : Type 0} (t u : NodeRows) (x : Edit) (r : Result A B) → store_links u ≡ (if is_ok r then edited (store_links t) x else store_links t) → (m : Kinds) → IsStoreOfKind t m → OnOk r (IsEditOfKind m x) → IsStoreOfKind u m
+tried_kinds t u x (Ok _) is m of kind = kinds_applied t u (x ∷ []) is m of (kind, tt)
+tried_kinds t u x (Err _) is m of kind = kinds_same t u is m of

@@ -12,6 +12,7 @@ use Rattle.mm_types.specs.declared.value.Value.TheVariants as value
 use Rattle.links.specs.declared.plan.Edit.{Edit}
 use Rattle.links.specs.declared.plan.Edit.TheVariants as edit
 use Rattle.links.specs.Links.{far_end}
+use Rattle.node_rows.specs.declared.node_rows.growth.PutPlaces.{PutPlaces}
 use Rattle.node_rows.specs.declared.slot.Pairing.{Pairing}
 use Rattle.node_rows.specs.declared.slot.SlotEdit.TheVariants.{Insert, Push, Remove, Move}
 use Rattle.node_rows.specs.declared.row.RowEdit.TheVariants.{Change, Hold, Enter, Leave}
@@ -26,6 +27,11 @@ held_far e o (Some g) h = if same_feature g h then Some (e.node, far_end o g) el
 abbrev pub held : End → ObjectNo → Option FeatureNo → Option FeatureNo → Option (Node × End)
 held e o g None = None
 held e o g (Some h) = if same_feature e.feature h then Some (node.Object o, e) else held_far e o g h
+
+-- the place of the row of what a link contains, by the places of the rows of both nodes
+abbrev pub held_place : PutPlaces → End → Option FeatureNo → ℕ
+held_place p e None = p.near
+held_place p e (Some h) = if same_feature e.feature h then p.far else p.near
 
 abbrev pub holds : Option (Node × End) → Cells → Cells
 holds None c = c

@@ -1,18 +1,20 @@
 //! Edits of links in the rows of nodes.
-ghost use Rattle.std.specs.Prelude.{◌≡◌, ◌≤◌, ◌∷◌, []};
+ghost use Rattle.std.specs.Prelude.{◌≡◌, ◌≤◌, ◌∷◌, [], if◌then◌else◌, is_ok, true, IfSome, Some};
 ghost use Rattle.mm_types.specs.Same.{node_value, same_end};
+ghost use Rattle.mm_types.specs.declared.numbers.Node.{Node};
 ghost use Rattle.mm_types.specs.declared.numbers.Node.TheVariants as node;
 ghost use Rattle.links.specs.LegalSets.{IsDistinct};
-ghost use Rattle.node_rows.specs.Cells.{cells, room};
+ghost use Rattle.node_rows.specs.Cells.{cells, room, row_place};
 ghost use Rattle.node_rows.specs.Growth.{HasRoom, entry, far_gain, gain, lone_entry, no_ends, no_values, one_if};
 ghost use Rattle.links.specs.declared.plan.Edit.TheVariants as edit;
 ghost use Rattle.slot_store.specs.CellLinks.{IsOnce, RepeatNothing};
-ghost use Rattle.slot_store.specs.EditedCells.{FarHasRoom, HasHeldRow, TakesAtMost, cells_after, cut_far, held, held_far, holds, put_cells, put_far, put_near, released, without_entry, without_value};
+ghost use Rattle.slot_store.specs.EditedCells.{FarHasRoom, HasHeldRow, TakesAtMost, cells_after, cut_far, held, held_far, held_place, holds, put_cells, put_far, put_near, released, without_entry, without_value};
 
 use crate::search::{entry_from, found};
 use links::Edit;
 use mm_types::{End, FeatureNo, Node, ObjectNo, Value};
-use node_rows::{NodeRows, Pairing, RowEdit, SlotEdit};
+use node_rows::{NodeRows, Pairing, PutPlaces, RowEdit, SlotEdit};
+use std::alloc::AllocError;
 
 /// A node as a value: no end has a resource.
 pub(crate) fn value_of(node: Node) -> Value
@@ -121,28 +123,42 @@ fn cut(rows: &mut NodeRows, end: End, object: ObjectNo, guess: usize)
     release(rows, held_by(end, object, pairing));
 }
 
-/// Tells a node the end that contains it.
-fn hold(rows: &mut NodeRows, pair: Option<(Node, End)>)
-    requires { HasHeldRow pair (room rows.old) }
+/// The place of the row of what a link contains, by the places of the rows of both nodes.
+fn held_place(places: PutPlaces, end: End, container: Option<FeatureNo>) -> usize
+    ensures { result ≡ held_place places end container }
+{
+    match container {
+        Some(feature) if end.feature == feature => places.far,
+        _ => places.near,
+    }
+}
+
+/// Tells a node, whose row is at a place, the end that contains it.
+fn hold(rows: &mut NodeRows, place: usize, pair: Option<(Node, End)>)
+    requires row { HasHeldRow pair (room rows.old) }
+    requires at { IfSome pair (λ p. row_place rows.old p.0 ≡ Some place) }
     ensures cells { cells rows.new ≡ holds pair (cells rows.old) }
     ensures room { TakesAtMost no_values no_ends (room rows.old) (room rows.new) }
 {
     if let Some((node, end)) = pair {
-        rows.edit(node, RowEdit::Hold(Some(end)));
+        rows.edit_at(node, place, RowEdit::Hold(Some(end)));
     }
 }
 
-/// Puts a link in at its far side.
+/// Puts a link in at its far side, whose row is at a place.
 fn put_in_far(
     rows: &mut NodeRows,
+    place: usize,
     end: End,
     object: ObjectNo,
     opposite: Option<FeatureNo>,
     container: Option<FeatureNo>,
 )
-    requires { FarHasRoom object opposite (room rows.old) }
+    requires room { FarHasRoom object opposite (room rows.old) }
+    requires at { row_place rows.old (node.Object object) ≡ Some place }
     ensures cells { cells rows.new ≡ put_far end object opposite container (cells rows.old) }
     ensures room { TakesAtMost (far_gain object opposite) (lone_entry object opposite) (room rows.old) (room rows.new) }
+    ensures places { (n : Node) → row_place rows.new n ≡ row_place rows.old n }
 {
     let node = Node::Object(object);
     match opposite {
@@ -152,32 +168,43 @@ fn put_in_far(
                 container,
             };
             let value = value_of(end.node);
-            rows.edit(
+            rows.edit_at(
                 node,
+                place,
                 RowEdit::Change(feature, SlotEdit::Push { value, pairing }),
             );
         }
-        None => rows.edit(node, RowEdit::Enter(end)),
+        None => rows.edit_at(node, place, RowEdit::Enter(end)),
     }
 }
 
-/// Puts a value in at an index of an end; a put of an object tells of the feature.
-fn put_in(rows: &mut NodeRows, end: End, index: u32, value: Value, pairing: Option<Pairing>)
-    requires { 1 ≤ (room rows.old).places end }
+/// Puts a value in at an index of an end, whose row is at a place; a put of an object tells of the feature.
+fn put_in(
+    rows: &mut NodeRows,
+    place: usize,
+    end: End,
+    index: u32,
+    value: Value,
+    pairing: Option<Pairing>,
+)
+    requires room { 1 ≤ (room rows.old).places end }
+    requires at { row_place rows.old end.node ≡ Some place }
     ensures cells { cells rows.new ≡ put_near end index value pairing (cells rows.old) }
     ensures room { TakesAtMost (λ e. one_if (same_end end e)) no_ends (room rows.old) (room rows.new) }
+    ensures places { (n : Node) → row_place rows.new n ≡ row_place rows.old n }
 {
     let edit = SlotEdit::Insert {
         index: index as usize,
         value,
         pairing,
     };
-    rows.edit(end.node, RowEdit::Change(end.feature, edit));
+    rows.edit_at(end.node, place, RowEdit::Change(end.feature, edit));
 }
 
-/// Puts the link of an object in.
+/// Puts the link of an object in; the rows of its nodes are at these places.
 fn put(
     rows: &mut NodeRows,
+    places: PutPlaces,
     end: End,
     index: u32,
     object: ObjectNo,
@@ -186,6 +213,8 @@ fn put(
 )
     requires room { HasRoom (room rows.old) (edit.Put end index object opposite container ∷ []) }
     requires held { HasHeldRow (held end object opposite container) (room rows.old) }
+    requires near { row_place rows.old end.node ≡ Some places.near }
+    requires far { row_place rows.old (node.Object object) ≡ Some places.far }
     ensures cells { cells rows.new ≡ put_cells end index object opposite container (cells rows.old) }
     ensures room { TakesAtMost (λ e. gain e (edit.Put end index object opposite container)) (λ n. entry n (edit.Put end index object opposite container)) (room rows.old) (room rows.new) }
 {
@@ -193,9 +222,43 @@ fn put(
         opposite,
         container,
     };
-    put_in(rows, end, index, Value::Object(object), Some(pairing));
-    put_in_far(rows, end, object, opposite, container);
-    hold(rows, held_by(end, object, pairing));
+    let PutPlaces { near, far } = places;
+    put_in(rows, near, end, index, Value::Object(object), Some(pairing));
+    put_in_far(rows, places.far, end, object, opposite, container);
+    hold(
+        rows,
+        held_place(places, end, container),
+        held_by(end, object, pairing),
+    );
+}
+
+/// Where the rows are of the nodes of a put for which there is room.
+fn places_of(rows: &NodeRows, end: End, object: ObjectNo) -> PutPlaces
+    requires near { (room rows.now).rows end.node ≡ true }
+    requires far { (room rows.now).rows (node.Object object) ≡ true }
+    ensures near { row_place rows.now end.node ≡ Some result.near }
+    ensures far { row_place rows.now (node.Object object) ≡ Some result.far }
+{
+    PutPlaces {
+        near: rows.place(end.node),
+        far: rows.place(Node::Object(object)),
+    }
+}
+
+/// Makes room for the link of an object, and puts it in. Errs only if memory is refused; no value changes then.
+pub(crate) fn put_with_room(
+    rows: &mut NodeRows,
+    end: End,
+    index: u32,
+    object: ObjectNo,
+    opposite: Option<FeatureNo>,
+    container: Option<FeatureNo>,
+) -> Result<(), AllocError>
+    ensures { cells rows.new ≡ (if is_ok result then put_cells end index object opposite container (cells rows.old) else cells rows.old) }
+{
+    let places = rows.reserve_put(end, object, opposite)?;
+    put(rows, places, end, index, object, opposite, container);
+    Ok(())
 }
 
 /// Moves what is at an index of an end.
@@ -226,9 +289,15 @@ pub(crate) fn edit_rows(rows: &mut NodeRows, edit: Edit, guess: usize)
             object,
             opposite,
             container,
-        } => put(rows, end, index, object, opposite, container),
+        } => {
+            let places = places_of(rows, end, object);
+            put(rows, places, end, index, object, opposite, container);
+        }
         Edit::Shift { end, to, from } => shift(rows, end, to, from),
-        Edit::PutProxy { end, index, text } => put_in(rows, end, index, Value::Proxy(text), None),
+        Edit::PutProxy { end, index, text } => {
+            let place = rows.place(end.node);
+            put_in(rows, place, end, index, Value::Proxy(text), None);
+        }
         Edit::CutProxy { end, text } => take_out(rows, end, &Value::Proxy(text)),
     }
 }

@@ -1,5 +1,18 @@
-use Rattle.slot_store.proofs.RoomLemmas.{held_row}
+use Rattle.std.proofs.Common.{[], ◌∷◌, subst}
+use Rattle.links.specs.declared.plan.Edit.{Edit}
+use Rattle.node_rows.specs.Cells.{room}
+use Rattle.node_rows.specs.Growth.{HasRoom}
+use Rattle.slot_store.proofs.RoomLemmas.{far_row, held_row, near_row, proxy_row}
 use Rattle.slot_store.proofs.edits.edit_rows.Goals as goal
+
+pub places_of-places-requires-clause-near : goal.places_of-places-requires-clause-near
+places_of-places-requires-clause-near c = near_row c.args.rows.now c.in-Put.end c.in-Put.index c.in-Put.object c.in-Put.opposite c.in-Put.container (subst (λ (x : Edit). HasRoom (room c.args.rows.now) (x ∷ [])) c.in-Put.is c.requires.room)
+
+pub places_of-places-requires-clause-far : goal.places_of-places-requires-clause-far
+places_of-places-requires-clause-far c = far_row c.args.rows.now c.in-Put.end c.in-Put.index c.in-Put.object c.in-Put.opposite c.in-Put.container (subst (λ (x : Edit). HasRoom (room c.args.rows.now) (x ∷ [])) c.in-Put.is c.requires.room)
 
 pub put-requires-clause-held : goal.put-requires-clause-held
 put-requires-clause-held c = held_row c.args.rows.now c.args.edit c.in-Put.end c.in-Put.index c.in-Put.object c.in-Put.opposite c.in-Put.container c.in-Put.is c.requires.room
+
+pub place-place-requires : goal.place-place-requires
+place-place-requires c = proxy_row c.args.rows.now c.in-PutProxy.end c.in-PutProxy.index c.in-PutProxy.text (subst (λ (x : Edit). HasRoom (room c.args.rows.now) (x ∷ [])) c.in-PutProxy.is c.requires.room)

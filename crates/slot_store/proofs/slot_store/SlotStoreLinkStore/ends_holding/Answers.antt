@@ -1,6 +1,5 @@
-use Rattle.std.proofs.Common.{◌≡◌, List, sym, subst}
+use Rattle.std.proofs.Common.{◌≡◌, sym, subst}
 use Rattle.std.proofs.lemmas.Result.{IfOk-weaker}
-use Rattle.mm_types.specs.declared.end.End.{End}
 use Rattle.mm_types.specs.declared.numbers.Node.TheVariants as node
 use Rattle.links.specs.Plans.{AreIncoming}
 use Rattle.node_rows.specs.Cells.{cells, row_at}

@@ -1,15 +1,13 @@
 use Rattle.std.proofs.Common.{◌≡◌, ◌∙◌, sym, ap, map, subst, List}
 use Rattle.std.proofs.lemmas.Result.{IfOk-weaker}
 use Rattle.mm_types.specs.declared.end.End.{End}
-use Rattle.mm_types.specs.declared.numbers.ObjectNo.{ObjectNo}
 use Rattle.mm_types.specs.declared.value.Value.TheVariants as value
 use Rattle.links.specs.declared.incoming.Incoming.{Incoming}
-use Rattle.links.specs.LegalSets.{IsLegalSet}
 use Rattle.links.specs.Plans.{AreInOrder, ArePlacesOf, has_end, incoming_end}
 use Rattle.links.specs.Found.{places_by}
 use Rattle.node_rows.specs.Cells.{cells}
 use Rattle.slot_store.specs.CellLinks.{store_links}
-use Rattle.slot_store.specs.Entering.{entering_ends, found_in}
+use Rattle.slot_store.specs.Entering.{found_in}
 use Rattle.slot_store.proofs.EnteringLemmas.{entering_places}
 use Rattle.slot_store.proofs.slot_store.SlotStoreLinkStore.incoming.Goals as goal
 
