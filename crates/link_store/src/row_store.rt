@@ -5,8 +5,8 @@ ghost use Rattle.std.specs.FinSet as set;
 use crate::incoming::places_of;
 use crate::row_edits::edit_rows;
 use crate::rows::{ends_of, holder_in, len_of, object_in, position_of, text_in};
-use links::{Incoming, Link, LinkStore, Plan, put_in_order};
-use mm_types::{End, Node, ObjectNo, Value};
+use links::{Edit, Incoming, Link, LinkStore, Plan, put_in_order};
+use mm_types::{End, FeatureNo, Node, ObjectNo, Value};
 use std::alloc::{AllocError, Global};
 
 /// Links in a row, each found by a scan of all.
@@ -66,5 +66,27 @@ impl LinkStore for RowStore {
         for edit in plan.into_vec() {
             edit_rows(&mut self.rows, edit);
         }
+    }
+
+    fn put(
+        &mut self,
+        end: End,
+        index: u32,
+        object: ObjectNo,
+        opposite: Option<FeatureNo>,
+        container: Option<FeatureNo>,
+    ) -> Result<(), AllocError> {
+        self.rows.reserve(1)?;
+        edit_rows(
+            &mut self.rows,
+            Edit::Put {
+                end,
+                index,
+                object,
+                opposite,
+                container,
+            },
+        );
+        Ok(())
     }
 }
