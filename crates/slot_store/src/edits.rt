@@ -232,7 +232,7 @@ fn put(
     );
 }
 
-/// Where the rows are of the nodes of a put for which there is room.
+/// The places of the rows of the nodes of a put for which there is room.
 fn places_of(rows: &NodeRows, end: End, object: ObjectNo) -> PutPlaces
     requires near { (room rows.now).rows end.node ≡ true }
     requires far { (room rows.now).rows (node.Object object) ≡ true }

@@ -15,7 +15,7 @@ use links::{Edit, Plan};
 use mm_types::{End, FeatureNo, Node, ObjectNo};
 use std::alloc::AllocError;
 
-/// Where the rows are of the two nodes of a put.
+/// The places of the rows of both nodes of a put.
 #[derive(Clone, Copy)]
 pub struct PutPlaces {
     /// The row of the node of the end.
