@@ -54,7 +54,7 @@ impl RowTable {
         place_of(&self.places, number)
     }
 
-    /// Makes one change of the row of a number, which is at a place. Takes no memory.
+    /// Makes one change of the row of a number, which is at this place. Takes no memory.
     pub fn edit_at(&mut self, number: usize, place: usize, edit: RowEdit)
         requires at { place_in self.old.places number ≡ Some place }
         requires fits { RowFits edit (row_in self.old number) }
@@ -73,8 +73,7 @@ impl RowTable {
         }
     }
 
-    /// Promises one more value at a feature of the row of a number, which is at a place. Errs only if memory is refused; no
-    /// value changes.
+    /// Promises one more value of a feature its place, in the row of a number. Errs only if memory is refused; no value changes.
     pub fn promise_at(
         &mut self,
         number: usize,
@@ -89,8 +88,7 @@ impl RowTable {
         self.rows[place].promise(feature)
     }
 
-    /// Promises one more end that holds the node of a row, which is at a place, a place there. Errs only if memory is refused; no
-    /// end changes.
+    /// Promises one more end that holds a node its place, in the row of the node. Errs only if memory is refused; no end changes.
     pub fn promise_entry_at(&mut self, number: usize, place: usize) -> Result<(), AllocError>
         requires at { place_in self.old.places number ≡ Some place }
         ensures grown { AreRowsGrown (row_in self.old) (row_in self.new) }

@@ -222,8 +222,14 @@ fn put(
         opposite,
         container,
     };
-    let PutPlaces { near, far } = places;
-    put_in(rows, near, end, index, Value::Object(object), Some(pairing));
+    put_in(
+        rows,
+        places.near,
+        end,
+        index,
+        Value::Object(object),
+        Some(pairing),
+    );
     put_in_far(rows, places.far, end, object, opposite, container);
     hold(
         rows,

@@ -114,7 +114,7 @@ impl NodeRows {
         }
     }
 
-    /// Promises one more value of an end, whose node has its row at a place, a place.
+    /// Promises one more value of an end its place, in the row of the end's node.
     fn promise_at(&mut self, end: End, place: usize) -> Result<(), AllocError>
         requires at { row_place self.old end.node ≡ Some place }
         ensures cells { cells self.new ≡ cells self.old }
@@ -133,7 +133,7 @@ impl NodeRows {
         }
     }
 
-    /// Promises the far side of a put, whose object has its row at a place, its place.
+    /// Promises the far side of a put its place, in the row of the object.
     fn promise_far_at(
         &mut self,
         object: ObjectNo,
@@ -152,7 +152,7 @@ impl NodeRows {
         }
     }
 
-    /// Promises one more value of an end a place.
+    /// Promises one more value of an end its place.
     fn promise(&mut self, end: End) -> Result<(), AllocError>
         ensures cells { cells self.new ≡ cells self.old }
         ensures ok { OnOk result (HasGained (λ e. one_if (same_end end e)) no_ends (room self.old) (room self.new)) }
@@ -208,7 +208,7 @@ impl NodeRows {
         Ok(())
     }
 
-    /// Makes room for one put of an object into an end, beside what was made before, and returns where the rows of both nodes are.
+    /// Makes room for one put of an object into an end, beside what was made before, and returns the places of the rows of both nodes.
     /// Errs only if memory is refused; no value changes.
     pub fn reserve_put(
         &mut self,
