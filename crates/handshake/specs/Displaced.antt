@@ -1,6 +1,6 @@
 -- Which links a change cuts: those that a new link displaces (EMF: EObjectWithInverse.eInverseRemove, eBasicRemoveFromContainer), or
 -- those of values that an end loses.
-use Rattle.std.specs.Prelude.{ℕ, ◌&&◌, ◌||◌, Bool, false, not, List, [], ◌∷◌, ◌++◌, map, Option, fold, Some, None, option_map, option_to_list, slice_get, if◌then◌else◌}
+use Rattle.std.specs.Prelude.{ℕ, ◌&&◌, ◌||◌, Bool, false, not, List, [], ◌∷◌, ◌++◌, length, map, nat_lt, Option, fold, Some, None, is_some, option_map, option_to_list, slice_get, if◌then◌else◌}
 use Rattle.std.specs.List.{list_any}
 use Rattle.std.specs.Option.{option_map_or}
 use Rattle.mm_types.specs.Same.{node_value, same_end, same_value}
@@ -69,6 +69,17 @@ in_the_way r e o =
     ties_if_single r e
     ++ (option_map_or (ties_if_single r) (opposite_end r e o) []
     ++ option_map_or (λ n. option_to_list (holding_tie r n)) (contained e o (shape_at r e).containing) [])
+
+-- a single end has a link
+abbrev pub is_taken : Reading → End → Bool
+is_taken r e = (shape_at r e).is_single && nat_lt 0 (length (r.values e))
+
+-- a new link of an object at e displaces a link
+abbrev pub displaces : Reading → End → ObjectNo → Bool
+displaces r e o =
+    is_taken r e
+    || (option_map_or (is_taken r) (opposite_end r e o) false
+    || option_map_or (λ n. is_some (r.holder n)) (contained e o (shape_at r e).containing) false)
 
 -- what a new link of an object at e displaces
 abbrev pub yields : Reading → End → ObjectNo → List Tie

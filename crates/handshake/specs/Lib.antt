@@ -12,6 +12,7 @@ pub mod ResolvingAll
 pub mod Keys
 pub mod Leads
 pub mod Joining
+pub mod LonePuts
 pub mod Plans
 pub mod Laws
 pub mod OneByOne

@@ -24,6 +24,31 @@ use models::{Found, ModelRef, at_end};
 use removal::{Removal, Tie, tree_ties};
 use std::alloc::{AllocError, Global};
 
+/// Whether a new link of an object at an end displaces a link. Takes no memory.
+pub(crate) fn displaces<L: LinkStore>(model: &ModelRef<L>, end: End, object: ObjectNo) -> bool
+    ensures { result ≡ d.displaces (reading model.now) end object }
+{
+    if is_taken(model, end) {
+        return true;
+    }
+    if let Some(far) = opposite_end(model, end, object) {
+        if is_taken(model, far) {
+            return true;
+        }
+    }
+    match contained(model.meta(), end, object) {
+        Some(part) => model.holder(part).is_some(),
+        None => false,
+    }
+}
+
+/// Whether a single end has a link.
+fn is_taken<L: LinkStore>(model: &ModelRef<L>, end: End) -> bool
+    ensures { result ≡ d.is_taken (reading model.now) end }
+{
+    model.meta().is_single(end.feature) && model.len(end) > 0
+}
+
 /// What a new link of an object at an end displaces, each link once.
 pub(crate) fn yields<L: LinkStore>(
     alloc: Global,

@@ -15,6 +15,7 @@ mod joining;
 mod keys;
 pub mod laws;
 mod leads;
+mod link_planning;
 mod loads;
 mod named;
 mod place;
@@ -30,6 +31,7 @@ mod value_planning;
 
 pub use change::Change;
 pub use happening::{Happening, Telling};
+pub use link_planning::{LonePut, lone_put};
 pub use named::{early_refusal, feature_refusal, node_refusal};
 pub use place::Place;
 pub use planned::{Planned, Resolved};

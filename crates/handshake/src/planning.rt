@@ -192,7 +192,11 @@ pub(crate) fn late_refusal<L: LinkStore>(
     }
 }
 
-fn set_late_refusal<L: LinkStore>(model: &ModelRef<L>, end: End, value: &Value) -> Option<Refused>
+pub(crate) fn set_late_refusal<L: LinkStore>(
+    model: &ModelRef<L>,
+    end: End,
+    value: &Value,
+) -> Option<Refused>
     ensures { result ≡ (refusals.type_refusal (reading model.now) end.feature value.now else_by refusals.set_refusal (reading model.now) end value.now) }
 {
     if let Some(refused) = type_refusal(model, end.feature, value) {
@@ -201,7 +205,7 @@ fn set_late_refusal<L: LinkStore>(model: &ModelRef<L>, end: End, value: &Value) 
     set_refusal(model, end, value)
 }
 
-fn add_late_refusal<L: LinkStore>(
+pub(crate) fn add_late_refusal<L: LinkStore>(
     model: &ModelRef<L>,
     end: End,
     value: &Value,

@@ -1,0 +1,136 @@
+-- What is planned of a change that puts one link, and edits nothing else.
+use Rattle.std.proofs.Common.{arith, ◌≡◌, ◌++◌, ◌||◌, ◌&&◌, ℕ, suc, Bool, true, false, List, [], ◌∷◌, length, map, nat_lt, is_some, option_map, option_to_list, IfSome, Option, Some, None, if◌then◌else◌, refl, sym, ap, ◌∙◌}
+use Rattle.std.specs.Option.{option_map_or}
+use Rattle.std.proofs.lemmas.Bool.{true≢false}
+use Rattle.std.proofs.lemmas.Bool.Decides.{nat_tests}
+use Rattle.std.proofs.lemmas.Option.{none-some}
+use Rattle.mm_types.specs.declared.end.End.{End}
+use Rattle.mm_types.specs.declared.numbers.FeatureNo.{FeatureNo}
+use Rattle.mm_types.specs.declared.numbers.Node.{Node}
+use Rattle.mm_types.specs.declared.numbers.ObjectNo.{ObjectNo}
+use Rattle.mm_types.specs.Same.{node_value}
+use Rattle.mm_types.specs.declared.value.Value.{Value}
+use Rattle.mm_types.specs.declared.value.Value.TheVariants as value
+use Rattle.links.specs.Holders.{contained}
+use Rattle.models.specs.Legal.{IsLegal}
+use Rattle.models.specs.Model.{Model, reading}
+use Rattle.models.specs.Reading.{Reading, at_end, is_repeat, place_for, shape_at}
+use Rattle.removal.specs.TreeTies.{tie}
+use Rattle.removal.specs.declared.tie.Tie.{Tie}
+use Rattle.handshake.specs.declared.change.Change.{Change}
+use Rattle.handshake.specs.declared.change.Change.TheVariants.{Set, Add}
+use Rattle.handshake.specs.declared.link_planning.LonePut.{LonePut}
+use Rattle.handshake.specs.Displaced.{cut_by_new, cut_by_set, displaces, has_already, holding_tie, is_plain_add, is_plain_set, is_taken, once, ties_if_single, yields}
+use Rattle.handshake.specs.Edits.{cut_of, link_edits, new_put}
+use Rattle.handshake.specs.Effects.{add_value, put_values, value_edits}
+use Rattle.handshake.specs.LonePuts.{lone_put, of_put, put_at, put_edit}
+use Rattle.handshake.specs.Plans.{IsPlanOf}
+use Rattle.handshake.specs.Refusals.{early_refusal, late_refusal}
+use Rattle.handshake.specs.Resolving.{opposite_end}
+use Rattle.handshake.proofs.CutTieLemmas.{plain-not}
+use Rattle.handshake.proofs.PlanLemmas.{planned}
+
+---------------------------------------------------------------- nothing displaced
+
+neither : (a b : Bool) → (a || b) ≡ false → (a ≡ false) × (b ≡ false)
+neither true b h = absurd (true≢false h)
+neither false b h = (refl, h)
+
+positive : (n : ℕ) → nat_lt 0 (suc n) ≡ false → ⊥
+positive n h = grind (arith, nat_tests)
+
+none-of : (e : End) (vs : List Value) → nat_lt 0 (length vs) ≡ false → map (tie e) vs ≡ []
+none-of e [] h = refl
+none-of e (v ∷ vs) h = absurd (positive (length vs) h)
+
+none-held : (r : Reading) (e : End) → is_taken r e ≡ false → ties_if_single r e ≡ []
+none-held r e h = by (shape_at r e).is_single h
+  where
+    by : (b : Bool) → (b && nat_lt 0 (length (r.values e))) ≡ false → (if b then map (tie e) (r.values e) else []) ≡ []
+    by true h = none-of e (r.values e) h
+    by false h = refl
+
+none-far : (r : Reading) (q : Option End) → option_map_or (is_taken r) q false ≡ false → option_map_or (ties_if_single r) q [] ≡ []
+none-far r (Some d) h = none-held r d h
+none-far r None h = refl
+
+none-holding : (r : Reading) (q : Option Node) → option_map_or (λ n. is_some (r.holder n)) q false ≡ false → option_map_or (λ n. option_to_list (holding_tie r n)) q [] ≡ []
+none-holding r (Some n) h = by (r.holder n) h
+  where
+    by : (q : Option End) → is_some q ≡ false → option_to_list (option_map (λ d. tie d (node_value n)) q) ≡ []
+    by (Some d) h = absurd (true≢false h)
+    by None h = refl
+none-holding r None h = refl
+
+pub yields-none : (r : Reading) (e : End) (o : ObjectNo) → displaces r e o ≡ false → yields r e o ≡ []
+yields-none r e o h =
+    let first = neither (is_taken r e) _ h in
+    let second = neither (option_map_or (is_taken r) (opposite_end r e o) false) _ first.1 in
+    let near = none-held r e first.0 in
+    let far = none-far r (opposite_end r e o) second.0 in
+    let up = none-holding r (contained e o (shape_at r e).containing) second.1 in
+    ap (once r) (λ i. near i ++ (far i ++ up i))
+
+---------------------------------------------------------------- the plan
+
+-- what is known where all that is asked is so
+record Chosen (a b c : Bool) (x p : LonePut) : Type 0 where
+  displaced : a ≡ false
+  plain : b ≡ false
+  refused : c ≡ false
+  is : x ≡ p
+
+chosen : (a b c : Bool) (x p : LonePut) → (if a then None else if b then None else if c then None else Some x) ≡ Some p → Chosen a b c x p
+chosen true b c x p h = absurd (none-some p h)
+chosen false true c x p h = absurd (none-some p h)
+chosen false false true x p h = absurd (none-some p h)
+chosen false false false x p h = record { displaced = refl; plain = refl; refused = refl; is = cc }
+
+nothing : {X : Type 0} (q : Option X) → is_some q ≡ false → q ≡ None
+nothing None h = refl
+nothing (Some x) h = absurd (true≢false h)
+
+set-planned : (s : Model) (n : Node) (f : FeatureNo) (v : Value) (p : LonePut) → IsLegal s → early_refusal (reading s) (Set n f v) ≡ None → lone_put (reading s) (Set n f v) ≡ Some p → IsPlanOf false s (Set n f v) (of_put p)
+set-planned s n f (value.Object o) p legal early h =
+    let r = reading s in
+    let e = at_end n f in
+    let v = value.Object o in
+    let c = Set n f v in
+    let k = chosen (displaces r e o) (is_plain_set r e v) (is_some (late_refusal r c)) (put_at r e 0 o) p h in
+    let late = nothing (late_refusal r c) k.refused in
+    let reference = (plain-not (shape_at r e).is_reference (has_already r e v) k.plain).0 in
+    let edits : put_edit p ∷ [] ≡ link_edits r c =
+    sym (ap (λ (b : Bool). map cut_of (if b then [] else cut_by_set r e v) ++ option_to_list (if b then None else new_put r e 0 v)) k.plain
+    ∙ ap (λ (ts : List Tie). map cut_of ts ++ put_edit (put_at r e 0 o) ∷ []) (yields-none r e o k.displaced)
+    ∙ ap (λ (q : LonePut). put_edit q ∷ []) k.is) in
+    let lists : [] ≡ value_edits r c = sym (ap (λ (b : Bool). if b then [] else put_values e (v ∷ []) (shape_at r e).is_unsettable) reference) in
+    planned false s c (of_put p) refl legal early late tt (record { whose = refl; found = tt }) refl refl edits lists refl
+set-planned s n f _ p legal early h = absurd (none-some p h)
+
+add-planned : (s : Model) (n : Node) (f : FeatureNo) (v : Value) (i : Option ℕ) (p : LonePut) → IsLegal s → early_refusal (reading s) (Add n f v i) ≡ None → lone_put (reading s) (Add n f v i) ≡ Some p → IsPlanOf false s (Add n f v i) (of_put p)
+add-planned s n f (value.Object o) i p legal early h =
+    let r = reading s in
+    let e = at_end n f in
+    let v = value.Object o in
+    let c = Add n f v i in
+    let at = place_for r e i in
+    let k = chosen (displaces r e o) (is_plain_add r e v) (is_some (late_refusal r c)) (put_at r e at o) p h in
+    let late = nothing (late_refusal r c) k.refused in
+    let reference = (plain-not (shape_at r e).is_reference (is_repeat r e v) k.plain).0 in
+    let edits : put_edit p ∷ [] ≡ link_edits r c =
+    sym (ap (λ (b : Bool). map cut_of (if b then [] else cut_by_new r e v) ++ option_to_list (if b then None else new_put r e at v)) k.plain
+    ∙ ap (λ (ts : List Tie). map cut_of ts ++ put_edit (put_at r e at o) ∷ []) (yields-none r e o k.displaced)
+    ∙ ap (λ (q : LonePut). put_edit q ∷ []) k.is) in
+    let lists : [] ≡ value_edits r c = sym (ap (λ (b : Bool). if b then [] else add_value r e v i) reference) in
+    planned false s c (of_put p) refl legal early late tt (record { whose = refl; found = tt }) refl refl edits lists refl
+add-planned s n f _ i p legal early h = absurd (none-some p h)
+
+lone-planned : (s : Model) (c : Change) (p : LonePut) → IsLegal s → early_refusal (reading s) c ≡ None → lone_put (reading s) c ≡ Some p → IsPlanOf false s c (of_put p)
+lone-planned s (Set n f v) p legal early h = set-planned s n f v p legal early h
+lone-planned s (Add n f v i) p legal early h = add-planned s n f v i p legal early h
+lone-planned s _ p legal early h = absurd (none-some p h)
+
+-- a put that is found is the whole plan
+pub found-planned : (s : Model) (c : Change) (q : Option LonePut) → IsLegal s → early_refusal (reading s) c ≡ None → q ≡ lone_put (reading s) c → IfSome q (λ p. IsPlanOf false s c (of_put p))
+found-planned s c None legal early is = tt
+found-planned s c (Some p) legal early is = lone-planned s c p legal early (sym is)

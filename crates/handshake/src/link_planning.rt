@@ -1,0 +1,107 @@
+//! Changes that put one link, and edit nothing else.
+ghost use Rattle.std.specs.Prelude.{◌≡◌, false, IfSome, None};
+ghost use Rattle.models.specs.Model.{reading};
+ghost use Rattle.handshake.specs.LonePuts as lone;
+ghost use Rattle.handshake.specs.Plans.{IsPlanOf};
+ghost use Rattle.handshake.specs.Refusals.{early_refusal};
+ghost use Rattle.handshake.specs.declared.change.Change.TheVariants.{Add, Set};
+
+use crate::change::Change;
+use crate::displaced::{displaces, is_plain_add, is_plain_set};
+use crate::planning::{add_late_refusal, set_late_refusal};
+use links::LinkStore;
+use mm_types::{End, FeatureNo, ObjectNo, Value};
+use models::{ModelRef, at_end};
+
+/// The put of a link, as `Edit::Put` has it.
+#[derive(Clone, Copy)]
+pub struct LonePut {
+    pub end: End,
+    pub index: u32,
+    pub object: ObjectNo,
+    pub opposite: Option<FeatureNo>,
+    pub container: Option<FeatureNo>,
+}
+
+/// The put of a change that sets or adds an object, if that is the whole plan: nothing refuses the change, and it displaces no link.
+/// `None` of any other change. Takes no memory.
+pub fn lone_put<L: LinkStore>(model: &ModelRef<L>, change: &Change) -> Option<LonePut>
+    requires asked { early_refusal (reading model.now) change.now ≡ None }
+    ensures put { result ≡ lone.lone_put (reading model.now) change.now }
+    ensures plan { IfSome result (λ p. IsPlanOf false model.now change.now (lone.of_put p)) }
+{
+    model.is_legal();
+    put_of(model, change)
+}
+
+fn put_of<L: LinkStore>(model: &ModelRef<L>, change: &Change) -> Option<LonePut>
+    ensures { result ≡ lone.lone_put (reading model.now) change.now }
+{
+    match change {
+        Change::Set {
+            node,
+            feature,
+            value,
+        } => lone_set(model, at_end(node, feature), value),
+        Change::Add {
+            node,
+            feature,
+            value,
+            index,
+        } => lone_add(model, at_end(node, feature), value, *index),
+        _ => None,
+    }
+}
+
+fn lone_set<L: LinkStore>(model: &ModelRef<L>, end: End, value: &Value) -> Option<LonePut>
+    ensures { result ≡ lone.lone_set (reading model.now) (Set end.node end.feature value.now) end value.now }
+{
+    let Value::Object(object) = value else {
+        return None;
+    };
+    if displaces(model, end, *object) {
+        return None;
+    }
+    if is_plain_set(model, end, value) {
+        return None;
+    }
+    if set_late_refusal(model, end, value).is_some() {
+        return None;
+    }
+    Some(put_at(model, end, 0, *object))
+}
+
+fn lone_add<L: LinkStore>(
+    model: &ModelRef<L>,
+    end: End,
+    value: &Value,
+    index: Option<u32>,
+) -> Option<LonePut>
+    ensures { result ≡ lone.lone_add (reading model.now) (Add end.node end.feature value.now index) end value.now index }
+{
+    let Value::Object(object) = value else {
+        return None;
+    };
+    if displaces(model, end, *object) {
+        return None;
+    }
+    if is_plain_add(model, end, value) {
+        return None;
+    }
+    if add_late_refusal(model, end, value, index).is_some() {
+        return None;
+    }
+    Some(put_at(model, end, model.place_for(end, index), *object))
+}
+
+fn put_at<L: LinkStore>(model: &ModelRef<L>, end: End, index: u32, object: ObjectNo) -> LonePut
+    ensures { result ≡ lone.put_at (reading model.now) end index object }
+{
+    LonePut {
+        end,
+        index,
+        object,
+        opposite: model.meta().opposite(end.feature),
+        container: model.meta().containing(end.feature),
+    }
+}
