@@ -15,6 +15,7 @@ pub mod ReadLemmas
 pub mod RunLemmas
 pub mod RememberedLemmas
 mod KeptNodeLemmas
+mod LonePutLemmas
 mod AttachedLemmas
 mod ReplayLemmas
 mod ThereLemmas

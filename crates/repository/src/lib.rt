@@ -6,6 +6,7 @@
 mod command;
 pub mod laws;
 mod leaving;
+mod lone_puts;
 mod preparing;
 mod reads;
 mod remembered;

@@ -1,6 +1,7 @@
 //! Changes of objects, their values and their links.
-ghost use Rattle.std.specs.Prelude.{◌≡◌, ℕ, List, [], None, true};
-ghost use Rattle.handshake.specs.Plans.{edits_values_alone};
+ghost use Rattle.std.specs.Prelude.{◌≡◌, ℕ, List, [], None, Some, false, true};
+ghost use Rattle.handshake.specs.LonePuts.{lone_put as lone_put_of, of_put};
+ghost use Rattle.handshake.specs.Plans.{IsPlanOf, edits_values_alone};
 ghost use Rattle.handshake.specs.Refusals.{early_refusal as early_refusal_of};
 ghost use Rattle.repository.specs.Run.{Executed, change_outcome};
 ghost use Rattle.repository.specs.State.{reads};
@@ -10,11 +11,12 @@ ghost use Rattle.repository.specs.Proper.{IsProper};
 
 use super::Repository;
 use crate::leaving::notify;
+use crate::lone_puts::{forget_put, put_answer, put_link};
 use crate::preparing::{Prepared, prepare, prepare_values, reserve};
 use crate::remembered::forget_touched;
 use crate::reply::Reply;
 use adapters::Adapter;
-use handshake::{Change, early_refusal};
+use handshake::{Change, LonePut, early_refusal, lone_put};
 use links::LinkStore;
 use mm_types::{ClassNo, FeatureNo, Node, ObjectNo, Refused, Seq, Value};
 
@@ -83,8 +85,13 @@ impl<L: LinkStore, A: Adapter> Repository<L, A> {
         if let Some(refused) = early_refusal(&self.model(), &change) {
             return Err(refused);
         }
-        if self.adapters.len() == 0 && change.edits_values_alone(&self.meta) {
-            return self.change_values(change);
+        if self.adapters.len() == 0 {
+            if change.edits_values_alone(&self.meta) {
+                return self.change_values(change);
+            }
+            if let Some(put) = lone_put(&self.model(), &change) {
+                return self.put_alone(&change, put);
+            }
         }
         self.carry_out(change)
     }
@@ -109,6 +116,28 @@ impl<L: LinkStore, A: Adapter> Repository<L, A> {
         self.values.apply(values);
         Ok(Reply {
             answer,
+            told: Seq::new(self.alloc),
+            released: Seq::new(self.alloc),
+        })
+    }
+
+    /// A change whose plan is one put, if no adapter is attached: the store makes room for the link and puts it in one step, and no plan
+    /// is made. Most links that are made displace none.
+    fn put_alone(&mut self, change: &Change, put: LonePut) -> Result<Reply<A>, Refused>
+        requires proper { IsProper (reads self.old) [] change.now }
+        requires asked { early_refusal_of (reads self.old) change.now ≡ None }
+        requires found { lone_put_of (reads self.old) change.now ≡ Some put }
+        requires planned { IsPlanOf false self.old.model change.now (of_put put) }
+        requires unheard { self.old.adapters ≡ [] }
+        ensures { Executed self.old (command_of [] change.now) (change_outcome (changed_view A.heard result)) self.new }
+    {
+        match put_link(&mut self.store, put) {
+            Ok(()) => {}
+            Err(_) => return Err(Refused::Memory),
+        }
+        forget_put(&mut self.paths, put);
+        Ok(Reply {
+            answer: put_answer(change),
             told: Seq::new(self.alloc),
             released: Seq::new(self.alloc),
         })

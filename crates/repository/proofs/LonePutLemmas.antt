@@ -1,0 +1,54 @@
+-- A change that puts one link, where no adapter is attached: its answer, and what is remembered of fragments.
+use Rattle.std.proofs.Common.{◌≡◌, ◌||◌, ℕ, Bool, true, false, not, List, [], ◌∷◌, Option, Some, None, is_some, if◌then◌else◌, refl, sym, ap, ◌∙◌, subst}
+use Rattle.std.proofs.Math.Bool.{or-false}
+use Rattle.std.proofs.lemmas.Option.{none-some}
+use Rattle.mm_types.specs.declared.end.End.{End}
+use Rattle.mm_types.specs.declared.numbers.FeatureNo.{FeatureNo}
+use Rattle.mm_types.specs.declared.numbers.Node.{Node}
+use Rattle.mm_types.specs.declared.value.Value.{Value}
+use Rattle.mm_types.specs.declared.value.Value.TheVariants as value
+use Rattle.links.specs.Laws.{touches_containment}
+use Rattle.links.specs.LegalSets.{Kinds}
+use Rattle.links.specs.Plans.{IsEditOfKind}
+use Rattle.models.specs.Reading.{Reading, at_end, is_repeat, place_for, shape_at}
+use Rattle.notice_chain.specs.Listed.{Above, Listed}
+use Rattle.adapter_list.specs.Hearing.{AreKnown}
+use Rattle.adapter_list.specs.declared.hearers.Hearers.{Hearers}
+use Rattle.handshake.specs.Displaced.{displaces, is_plain_add}
+use Rattle.handshake.specs.LonePuts.{lone_put, put_at, put_edit}
+use Rattle.handshake.specs.Refusals.{late_refusal}
+use Rattle.handshake.specs.declared.change.Change.{Change}
+use Rattle.handshake.specs.declared.change.Change.TheVariants.{Set, Add}
+use Rattle.handshake.specs.declared.link_planning.LonePut.{LonePut}
+use Rattle.handshake.proofs.CutTieLemmas.{plain-not}
+use Rattle.repository.specs.Answers.{answer_of, put_answer}
+use Rattle.repository.specs.Views.{command_of}
+use Rattle.repository.specs.declared.reply.Answer.{Answer}
+use Rattle.repository.specs.declared.reply.Answer.TheVariants as answer
+
+not-plain : (a b c : Bool) (x p : LonePut) → (if a then None else if b then None else if c then None else Some x) ≡ Some p → b ≡ false
+not-plain true b c x p h = absurd (none-some p h)
+not-plain false true c x p h = absurd (none-some p h)
+not-plain false false c x p h = refl
+
+-- what is added is not there
+new-added : (r : Reading) (n : Node) (f : FeatureNo) (v : Value) (i : Option ℕ) (p : LonePut) → lone_put r (Add n f v i) ≡ Some p → is_repeat r (at_end n f) v ≡ false
+new-added r n f (value.Object o) i p h =
+    let e = at_end n f in
+    let v = value.Object o in
+    (plain-not (shape_at r e).is_reference (is_repeat r e v) (not-plain (displaces r e o) (is_plain_add r e v) (is_some (late_refusal r (Add n f v i))) (put_at r e (place_for r e i) o) p h)).1
+new-added r n f _ i p h = absurd (none-some p h)
+
+pub put-answered : (r : Reading) (rs : List Listed) (text : List ℕ) (c : Change) (p : LonePut) → lone_put r c ≡ Some p → put_answer c ≡ answer_of r rs (command_of text c)
+put-answered r rs text (Set n f v) p h = refl
+put-answered r rs text (Add n f v i) p h = ap (λ (b : Bool). answer.Flag (not b)) (sym (new-added r n f v i p h))
+put-answered r rs text _ p h = absurd (none-some p h)
+
+-- a put is of a link that contains where it names a container
+pub put-touches : (m : Kinds) (p : LonePut) → IsEditOfKind m (put_edit p) → touches_containment m (put_edit p ∷ []) ≡ is_some p.container
+put-touches m p kind = or-false (is_some (m.container p.end.feature)) ∙ ap is_some (sym kind.1)
+
+-- nobody hears, above whatever
+pub none-hears : (up down : Above) (rs : List Listed) (h : Hearers) → rs ≡ [] → AreKnown up rs h → AreKnown down rs h
+none-hears up down [] h none known = known
+none-hears up down (r ∷ rs) h none known = cc
