@@ -6,5 +6,7 @@
 mod members;
 mod read_fault;
 
-pub use members::{find, has_only_keys, is_word, members_of, only_members_of, take};
+pub use members::{
+    find, has_only_keys, has_only_keys_of, is_word, members_of, only_members_of, take,
+};
 pub use read_fault::ReadFault;

@@ -1,5 +1,5 @@
 //! The members of a JSON object are taken by their keys.
-ghost use Rattle.std.specs.Prelude.{◌≡◌, [], ◌∷◌, Some, None, is_some, map, option_map, option_and_then, string_bytes, if◌then◌else◌};
+ghost use Rattle.std.specs.Prelude.{◌≡◌, ◌||◌, ◌++◌, [], ◌∷◌, Some, None, is_some, map, option_map, option_and_then, string_bytes, if◌then◌else◌};
 ghost use Rattle.std.specs.List.{list_all, list_any};
 ghost use Rattle.std.specs.Str.{bytes_eq};
 ghost use Rattle.std.specs.BTreeMap.{keys};
@@ -16,17 +16,32 @@ fn is_one_of(key: &str, names: &[&str]) -> bool
     names.iter().any(|name| *name == key)
 }
 
-fn all_keys_among(members: &Map<String, Value>, names: &[&str]) -> bool
-    ensures { result ≡ list_all (λ k. list_any (λ n. bytes_eq n.now (string_bytes k)) names.now) (keys members.now) }
+fn is_one_of_either(key: &str, names: &[&str], more: &[&str]) -> bool
+    ensures { result ≡ (list_any (λ n. bytes_eq n.now key.now) names.now || list_any (λ n. bytes_eq n.now key.now) more.now) }
 {
-    members.keys().all(|key| is_one_of(key.as_str(), names))
+    is_one_of(key, names) || is_one_of(key, more)
+}
+
+fn all_keys_among(members: &Map<String, Value>, names: &[&str], more: &[&str]) -> bool
+    ensures { result ≡ list_all (λ k. list_any (λ n. bytes_eq n.now (string_bytes k)) names.now || list_any (λ n. bytes_eq n.now (string_bytes k)) more.now) (keys members.now) }
+{
+    members
+        .keys()
+        .all(|key| is_one_of_either(key.as_str(), names, more))
 }
 
 /// Whether the keys of an object are all among some names. Takes no memory.
 pub fn has_only_keys(members: &Map<String, Value>, names: &[&str]) -> bool
     ensures { result ≡ only_keys (map (λ n. n.now) names.now) (members_view members.now.entries) }
 {
-    all_keys_among(members, names)
+    all_keys_among(members, names, &[])
+}
+
+/// Whether the keys of an object are all among some names and some more. Takes no memory.
+pub fn has_only_keys_of(members: &Map<String, Value>, names: &[&str], more: &[&str]) -> bool
+    ensures { result ≡ only_keys (map (λ n. n.now) names.now ++ map (λ n. n.now) more.now) (members_view members.now.entries) }
+{
+    all_keys_among(members, names, more)
 }
 
 /// The members of an object. Takes no memory.

@@ -8,10 +8,13 @@ ghost use Rattle.mm_load.specs.Layout.{attribute, attribute_rows, feature, featu
 use crate::from_json::FromJson;
 use crate::head::Head;
 use crate::keys::{optional, required};
-use json_rows::{ReadFault, has_only_keys, is_word, members_of};
+use json_rows::{ReadFault, has_only_keys_of, is_word, members_of};
 use mm_types::{RawFeature, RawKind};
 use serde_json::{Map, Value};
 use std::alloc::Global;
+
+/// The keys of what every feature says.
+const HEAD: [&str; 4] = ["name", "type", "lower", "upper"];
 
 /// What every feature says, which is taken out.
 fn take_head(alloc: Global, members: &mut Map<String, Value>) -> Result<Head, ReadFault>
@@ -73,23 +76,16 @@ fn unsets_one_at_most(feature: &RawFeature) -> bool
 }
 
 #[tactic(auto, unfolding(crate::specs::Layout::attribute))]
-fn attribute_of(alloc: Global, members: Map<String, Value>) -> Result<RawFeature, ReadFault>
+fn attribute_of(alloc: Global, mut members: Map<String, Value>) -> Result<RawFeature, ReadFault>
     ensures { Gives result (attribute (object (members_view members.entries))) }
 {
-    let keys = [
-        "name",
-        "type",
-        "lower",
-        "upper",
-        "kind",
-        "unique",
-        "unsettable",
-        "default",
-    ];
-    if !has_only_keys(&members, &keys) {
+    if !has_only_keys_of(
+        &members,
+        &HEAD,
+        &["kind", "unique", "unsettable", "default"],
+    ) {
         return Err(ReadFault::Layout);
     }
-    let mut members = members;
     let head = take_head(alloc, &mut members)?;
     let kind = take_attribute(alloc, &mut members)?;
     let feature = head.with(kind);
@@ -100,22 +96,12 @@ fn attribute_of(alloc: Global, members: Map<String, Value>) -> Result<RawFeature
 }
 
 #[tactic(auto, unfolding(crate::specs::Layout::reference))]
-fn reference_of(alloc: Global, members: Map<String, Value>) -> Result<RawFeature, ReadFault>
+fn reference_of(alloc: Global, mut members: Map<String, Value>) -> Result<RawFeature, ReadFault>
     ensures { Gives result (reference (object (members_view members.entries))) }
 {
-    let keys = [
-        "name",
-        "type",
-        "lower",
-        "upper",
-        "kind",
-        "containment",
-        "opposite",
-    ];
-    if !has_only_keys(&members, &keys) {
+    if !has_only_keys_of(&members, &HEAD, &["kind", "containment", "opposite"]) {
         return Err(ReadFault::Layout);
     }
-    let mut members = members;
     let head = take_head(alloc, &mut members)?;
     let kind = take_reference(alloc, &mut members)?;
     Ok(head.with(kind))
