@@ -25,21 +25,6 @@ pub(crate) fn explain_bounds(
     )
 }
 
-/// The upper bound of a container reference that is not single.
-pub(crate) fn explain_container(
-    out: &mut String,
-    at: Named<'_>,
-    feature: &RawFeature,
-    opposite: &str,
-) -> Result<(), AllocError> {
-    let class = feature.type_name.as_str();
-    let upper = feature.upper;
-    writeln!(
-        out,
-        "{at}: its upper is {upper}, and has to be 1, since its opposite {opposite:?} of {class} is a containment"
-    )
-}
-
 /// What the literals of a default are.
 fn literals_of(raw: &RawMeta, type_name: &str) -> &'static str {
     if enum_named(raw, type_name).is_some() {

@@ -1,12 +1,12 @@
 //! What is wrong with a metamodel whose document has the right layout.
-use crate::bounds::{explain_bounds, explain_container, explain_default};
+use crate::bounds::{explain_bounds, explain_default};
 use crate::duplicates::explain_duplicate;
 use crate::inherited::explain_cycle;
-use crate::named::{Named, enum_at, feature_at, name_at, opposite_of};
-use crate::opposites::{explain_both, explain_opposite};
+use crate::named::{Named, enum_at, feature_at, name_at};
+use crate::opposites::explain_opposite;
 use crate::types::{explain_super, explain_type};
 use mm_types::names::is_name;
-use mm_types::{Condition, Place, RawFeature, RawMeta};
+use mm_types::{Condition, Place, RawMeta};
 use std::alloc::{AllocError, Global};
 
 fn is_bad(name: &str) -> bool {
@@ -41,23 +41,6 @@ fn explain_name(out: &mut String, at: Named<'_>) -> Result<(), AllocError> {
     )
 }
 
-/// A fault of the opposite of a reference.
-fn explain_end(
-    out: &mut String,
-    condition: Condition,
-    at: Named<'_>,
-    feature: &RawFeature,
-) -> Result<(), AllocError> {
-    match opposite_of(feature) {
-        Some(opposite) => match condition {
-            Condition::BothContain => explain_both(out, at, feature, opposite),
-            Condition::ContainerBound => explain_container(out, at, feature, opposite),
-            _ => explain_opposite(out, at, feature, opposite),
-        },
-        None => Ok(()),
-    }
-}
-
 /// A fault of a feature.
 fn explain_feature(
     alloc: Global,
@@ -72,7 +55,7 @@ fn explain_feature(
         Condition::NoType => explain_type(alloc, out, at, feature),
         Condition::Bounds => explain_bounds(out, at, feature),
         Condition::Default => explain_default(out, at, feature),
-        _ => explain_end(out, condition, at, feature),
+        _ => explain_opposite(out, condition, at, feature),
     }
 }
 

@@ -118,17 +118,6 @@ pub fn explain_object(
     explain_listed(alloc, out, place, rows, &[], json)
 }
 
-/// The same of an object of a metamodel, for which there are hints on keys that are not listed.
-fn explain_hinted(
-    alloc: Global,
-    out: &mut String,
-    place: &str,
-    rows: &[Row],
-    json: &Value,
-) -> Result<(), AllocError> {
-    explain_listed(alloc, out, place, rows, &MISPLACED, json)
-}
-
 /// The items of an array that is under a key; none if there is no such array.
 fn items_at<'v>(json: &'v Value, key: &str) -> &'v [Value] {
     match json.get(key) {
@@ -158,7 +147,7 @@ fn explain_attribute(
     if out.len() > ENOUGH {
         return Ok(());
     }
-    explain_hinted(alloc, out, place, &ATTRIBUTE, json)?;
+    explain_listed(alloc, out, place, &ATTRIBUTE, &MISPLACED, json)?;
     if unsets_many(json) {
         return writeln!(
             out,
@@ -179,9 +168,9 @@ fn explain_feature(
             explain_attribute(alloc, out, place, json)
         }
         Some(Value::String(kind)) if kind.as_str() == "reference" => {
-            explain_hinted(alloc, out, place, &REFERENCE, json)
+            explain_listed(alloc, out, place, &REFERENCE, &MISPLACED, json)
         }
-        _ => explain_hinted(alloc, out, place, &FEATURE, json),
+        _ => explain_listed(alloc, out, place, &FEATURE, &MISPLACED, json),
     }
 }
 
@@ -201,7 +190,7 @@ fn explain_features(
 fn explain_classes(alloc: Global, out: &mut String, classes: &[Value]) -> Result<(), AllocError> {
     'classes: for (c, json) in classes.iter().enumerate() {
         let place = format!(in alloc; "classes[{c}]")?;
-        explain_hinted(alloc, out, place.as_str(), &CLASS, json)?;
+        explain_listed(alloc, out, place.as_str(), &CLASS, &MISPLACED, json)?;
         explain_features(alloc, out, c, items_at(json, "features"))?;
     }
     Ok(())
@@ -210,7 +199,7 @@ fn explain_classes(alloc: Global, out: &mut String, classes: &[Value]) -> Result
 fn explain_enums(alloc: Global, out: &mut String, enums: &[Value]) -> Result<(), AllocError> {
     'enums: for (i, json) in enums.iter().enumerate() {
         let place = format!(in alloc; "enums[{i}]")?;
-        explain_hinted(alloc, out, place.as_str(), &ENUMERATION, json)?;
+        explain_listed(alloc, out, place.as_str(), &ENUMERATION, &MISPLACED, json)?;
     }
     Ok(())
 }
@@ -221,7 +210,7 @@ pub(crate) fn explain_layout(
     out: &mut String,
     json: &Value,
 ) -> Result<(), AllocError> {
-    explain_hinted(alloc, out, "document", &DOCUMENT, json)?;
+    explain_listed(alloc, out, "document", &DOCUMENT, &MISPLACED, json)?;
     explain_enums(alloc, out, items_at(json, "enums"))?;
     explain_classes(alloc, out, items_at(json, "classes"))
 }

@@ -1,6 +1,6 @@
 //! What is wrong with the opposite of a reference.
 use crate::named::{Named, class_at, class_named, feature_named, name_at, opposite_of};
-use mm_types::{Place, RawFeature, RawKind, RawMeta};
+use mm_types::{Condition, Place, RawFeature, RawKind, RawMeta};
 use std::alloc::AllocError;
 
 /// The feature of a name that the type of a reference declares itself.
@@ -59,7 +59,7 @@ fn explain_declared(
 }
 
 /// A reference whose opposite is none.
-pub(crate) fn explain_opposite(
+fn explain_none(
     out: &mut String,
     at: Named<'_>,
     feature: &RawFeature,
@@ -75,16 +75,27 @@ pub(crate) fn explain_opposite(
     }
 }
 
-/// A reference and its opposite that are both containments.
-pub(crate) fn explain_both(
+/// A condition on a reference and its opposite.
+pub(crate) fn explain_opposite(
     out: &mut String,
+    condition: Condition,
     at: Named<'_>,
     feature: &RawFeature,
-    opposite: &str,
 ) -> Result<(), AllocError> {
+    let Some(opposite) = opposite_of(feature) else {
+        return Ok(());
+    };
     let class = feature.type_name.as_str();
-    writeln!(
-        out,
-        "{at}: it and its opposite {opposite:?} of {class} are both containments; only the end of the holder may be one"
-    )
+    let upper = feature.upper;
+    match condition {
+        Condition::BothContain => writeln!(
+            out,
+            "{at}: it and its opposite {opposite:?} of {class} are both containments; only the end of the holder may be one"
+        ),
+        Condition::ContainerBound => writeln!(
+            out,
+            "{at}: its upper is {upper}, and has to be 1, since its opposite {opposite:?} of {class} is a containment"
+        ),
+        _ => explain_none(out, at, feature, opposite),
+    }
 }

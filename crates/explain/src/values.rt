@@ -5,13 +5,16 @@ use mm_types::limits::NAME_BYTES;
 use serde_json::Value;
 use std::alloc::AllocError;
 
-fn explain_other(
-    out: &mut String,
-    place: &str,
-    key: &str,
-    wanted: &str,
-    json: &Value,
-) -> Result<(), AllocError> {
+/// A value under a key of the object at a place.
+#[derive(Clone, Copy)]
+struct Keyed<'d> {
+    place: &'d str,
+    key: &'d str,
+    json: &'d Value,
+}
+
+fn explain_other(out: &mut String, at: Keyed<'_>, wanted: &str) -> Result<(), AllocError> {
+    let Keyed { place, key, json } = at;
     let shown = Shown(json);
     let advice = advice_in(&ADVICE, key).unwrap_or("");
     writeln!(
@@ -29,16 +32,10 @@ fn text_of(most: usize) -> &'static str {
     }
 }
 
-fn explain_text(
-    out: &mut String,
-    place: &str,
-    key: &str,
-    most: usize,
-    json: &Value,
-) -> Result<(), AllocError> {
-    match json.as_str() {
+fn explain_text(out: &mut String, at: Keyed<'_>, most: usize) -> Result<(), AllocError> {
+    match at.json.as_str() {
         Some(text) if text.len() <= most => Ok(()),
-        _ => explain_other(out, place, key, text_of(most), json),
+        _ => explain_other(out, at, text_of(most)),
     }
 }
 
@@ -54,17 +51,12 @@ fn is_kind(json: &Value) -> bool {
     kind == Some("attribute") || kind == Some("reference")
 }
 
-fn explain_item(
-    out: &mut String,
-    place: &str,
-    key: &str,
-    i: usize,
-    json: &Value,
-) -> Result<(), AllocError> {
-    match json.as_str() {
+fn explain_item(out: &mut String, at: Keyed<'_>, i: usize, item: &Value) -> Result<(), AllocError> {
+    match item.as_str() {
         Some(text) if text.len() <= NAME_BYTES => Ok(()),
         _ => {
-            let shown = Shown(json);
+            let Keyed { place, key, .. } = at;
+            let shown = Shown(item);
             let wanted = text_of(NAME_BYTES);
             writeln!(
                 out,
@@ -74,25 +66,20 @@ fn explain_item(
     }
 }
 
-fn explain_each(
-    out: &mut String,
-    place: &str,
-    key: &str,
-    items: &[Value],
-) -> Result<(), AllocError> {
+fn explain_each(out: &mut String, at: Keyed<'_>, items: &[Value]) -> Result<(), AllocError> {
     'items: for (i, item) in items.iter().enumerate() {
-        explain_item(out, place, key, i, item)?;
+        explain_item(out, at, i, item)?;
     }
     Ok(())
 }
 
 fn explain_count(
     out: &mut String,
-    place: &str,
-    key: &str,
+    at: Keyed<'_>,
     count: usize,
     most: usize,
 ) -> Result<(), AllocError> {
+    let Keyed { place, key, .. } = at;
     if count > most {
         return writeln!(
             out,
@@ -105,32 +92,20 @@ fn explain_count(
     Ok(())
 }
 
-fn explain_texts(
-    out: &mut String,
-    place: &str,
-    key: &str,
-    most: usize,
-    json: &Value,
-) -> Result<(), AllocError> {
-    match json.as_array() {
+fn explain_texts(out: &mut String, at: Keyed<'_>, most: usize) -> Result<(), AllocError> {
+    match at.json.as_array() {
         Some(items) => {
-            explain_count(out, place, key, items.len(), most)?;
-            explain_each(out, place, key, items.as_slice())
+            explain_count(out, at, items.len(), most)?;
+            explain_each(out, at, items.as_slice())
         }
-        None => explain_other(out, place, key, "an array of names", json),
+        None => explain_other(out, at, "an array of names"),
     }
 }
 
-fn explain_objects(
-    out: &mut String,
-    place: &str,
-    key: &str,
-    most: usize,
-    json: &Value,
-) -> Result<(), AllocError> {
-    match json.as_array() {
-        Some(items) => explain_count(out, place, key, items.len(), most),
-        None => explain_other(out, place, key, "an array of objects", json),
+fn explain_objects(out: &mut String, at: Keyed<'_>, most: usize) -> Result<(), AllocError> {
+    match at.json.as_array() {
+        Some(items) => explain_count(out, at, items.len(), most),
+        None => explain_other(out, at, "an array of objects"),
     }
 }
 
@@ -141,18 +116,22 @@ pub(crate) fn explain_value(
     row: &Row,
     json: &Value,
 ) -> Result<(), AllocError> {
-    let key = row.key;
+    let at = Keyed {
+        place,
+        key: row.key,
+        json,
+    };
     match row.sort {
-        Sort::Text(most) => explain_text(out, place, key, most, json),
-        Sort::Texts(most) => explain_texts(out, place, key, most, json),
-        Sort::Objects(most) => explain_objects(out, place, key, most, json),
+        Sort::Text(most) => explain_text(out, at, most),
+        Sort::Texts(most) => explain_texts(out, at, most),
+        Sort::Objects(most) => explain_objects(out, at, most),
         Sort::Object if json.is_object() => Ok(()),
-        Sort::Object => explain_other(out, place, key, "an object", json),
+        Sort::Object => explain_other(out, at, "an object"),
         Sort::Flag if json.is_boolean() => Ok(()),
-        Sort::Flag => explain_other(out, place, key, "true or false", json),
+        Sort::Flag => explain_other(out, at, "true or false"),
         Sort::Number if is_whole_number(json) => Ok(()),
-        Sort::Number => explain_other(out, place, key, "a whole number of 32 bits", json),
+        Sort::Number => explain_other(out, at, "a whole number of 32 bits"),
         Sort::Kind if is_kind(json) => Ok(()),
-        Sort::Kind => explain_other(out, place, key, "\"attribute\" or \"reference\"", json),
+        Sort::Kind => explain_other(out, at, "\"attribute\" or \"reference\""),
     }
 }
