@@ -1,6 +1,8 @@
 -- A list that is turned once around, those of no targets left out.
-use Rattle.std.proofs.Common.{le-leb, option_map, ◌≡◌, ◌≤◌, ◌+◌, ℕ, zero, suc, Bool, true, false, cond, not, nat_lt, List, [], ◌∷◌, ◌++◌, map, filter, take, length, if◌then◌else◌, refl, sym, ap, subst, ◌∙◌, arith, append_assoc}
+use Rattle.std.proofs.Common.{le-leb, option_map, ◌≡◌, ◌≤◌, ◌<◌, ◌+◌, ◌-◌, ℕ, Option, Some, zero, suc, Bool, true, false, cond, not, nat_lt, List, [], ◌∷◌, ◌++◌, map, filter, take, length, if◌then◌else◌, refl, sym, ap, subst, ◌∙◌, arith, append_assoc}
 use Rattle.std.specs.List.{IsDistinct, cons_option, find}
+use Rattle.std.specs.Option.{option_to_list}
+use Rattle.std.proofs.lemmas.Bool.{le-ltb}
 use Rattle.std.proofs.lemmas.List.{append-nil, take-append-le}
 use Rattle.std.proofs.lemmas.List.Elements.{All-filter}
 use Rattle.std.proofs.lemmas.List.Sums.{count_by-le-length, length-filter, sum_by-cons}
@@ -16,6 +18,15 @@ use Rattle.adapter_list.specs.declared.target_lists.Entry.{Entry}
 use Rattle.adapter_list.specs.declared.target_lists.TargetLists.{TargetLists}
 use Rattle.adapter_list.proofs.NumberLemmas.{distinct-filter}
 use Rattle.adapter_list.specs.declared.attached.Attached.{Attached}
+
+-- x is the first of j that are left, and what comes behind it is rest
+pub record IsFront {X : Type 0} (xs rest : List X) (x : X) (j : ℕ) : Type 0 where
+  pub first : xs ≡ x ∷ rest
+  pub next : j ≡ suc (j - 1)
+
+-- it is what is taken from the front
+pub front-taken : {X : Type 0} (xs rest : List X) (o : Option X) (x : X) (j : ℕ) → xs ≡ option_to_list o ++ rest → o ≡ Some x → 0 < j → IsFront xs rest x j
+front-taken xs rest o x j taken is some = record { first = taken ∙ ap (λ (q : Option _). option_to_list q ++ rest) is; next = omega (arith, some) }
 
 module _ {X : Type 0} (p : X → Bool) where
   abbrev pub turn : ℕ → List X → List X
@@ -34,12 +45,18 @@ module _ {X : Type 0} (p : X → Bool) where
   pub turn-all : (xs : List X) (k : ℕ) → k ≡ length xs → turn k xs ≡ filter p xs
   turn-all xs k e = ap (λ (j : ℕ). turn j xs) e ∙ ap (turn (length xs)) (sym (append-nil xs)) ∙ turn-behind xs []
 
-  module _ (xs rest : List X) (x : X) (j k : ℕ) (is : xs ≡ x ∷ rest) (next : j ≡ suc k) where
-    pub turn-kept : p x ≡ true → turn k (rest ++ x ∷ []) ≡ turn j xs
-    turn-kept e = sym (ap (λ (i : ℕ). turn i xs) next ∙ ap (turn (suc k)) is ∙ ap (λ b. if b then turn k (rest ++ x ∷ []) else turn k rest) e)
+  module _ (xs rest : List X) (x : X) (j : ℕ) (front : IsFront xs rest x j) where
+    abbrev k : ℕ
+    k = j - 1
 
-    pub turn-gone : p x ≡ false → turn k rest ≡ turn j xs
-    turn-gone e = sym (ap (λ (i : ℕ). turn i xs) next ∙ ap (turn (suc k)) is ∙ ap (λ b. if b then turn k (rest ++ x ∷ []) else turn k rest) e)
+    turn-front : turn j xs ≡ (if p x then turn k (rest ++ x ∷ []) else turn k rest)
+    turn-front = ap (λ (i : ℕ). turn i xs) front.next ∙ ap (turn (suc k)) front.first
+
+    pub turn-kept : p x ≡ true → turn (j - 1) (rest ++ x ∷ []) ≡ turn j xs
+    turn-kept e = sym (turn-front ∙ ap (λ b. if b then turn k (rest ++ x ∷ []) else turn k rest) e)
+
+    pub turn-gone : p x ≡ false → turn (j - 1) rest ≡ turn j xs
+    turn-gone e = sym (turn-front ∙ ap (λ b. if b then turn k (rest ++ x ∷ []) else turn k rest) e)
 
 module _ {A : Type 0} (heard : A → View) where
   abbrev pub has : Attached A → Bool
@@ -48,14 +65,24 @@ module _ {A : Type 0} (heard : A → View) where
   abbrev pub leaving_of : ℕ → List (Attached A) → List (AdapterNo × View)
   leaving_of k xs = leaving (listed heard (take k xs))
 
-  module _ (xs rest : List (Attached A)) (x : Attached A) (j k : ℕ) (is : xs ≡ x ∷ rest) (next : j ≡ suc k) where
-    pub leaving-gone : has x ≡ false → leaving_of j xs ≡ (x.no, heard x.adapter) ∷ leaving_of k rest
-    leaving-gone e = ap (λ (i : ℕ). leaving_of i xs) next ∙ ap (leaving_of (suc k)) is ∙ ap (λ b. map (λ (r : Listed). (r.no, r.view)) (cond (not b) (listed_one heard x ∷ filter (λ r. not (has_targets r)) (listed heard (take k rest))) (filter (λ r. not (has_targets r)) (listed heard (take k rest))))) e
+  -- those without targets
+  pub bare : (a : Attached A) → length a.targets.items ≤ 0 → has a ≡ false
+  bare a none = le-ltb _ _ none
 
-    pub leaving-kept : k ≤ length rest → has x ≡ true → leaving_of j xs ≡ leaving_of k (rest ++ x ∷ [])
+  module _ (xs rest : List (Attached A)) (x : Attached A) (j : ℕ) (front : IsFront xs rest x j) where
+    abbrev left : ℕ
+    left = j - 1
+
+    leaving-front : leaving_of j xs ≡ leaving_of (suc left) (x ∷ rest)
+    leaving-front = ap (λ (i : ℕ). leaving_of i xs) front.next ∙ ap (leaving_of (suc left)) front.first
+
+    pub leaving-gone : length x.targets.items ≤ 0 → leaving_of j xs ≡ (x.no, heard x.adapter) ∷ leaving_of (j - 1) rest
+    leaving-gone none = leaving-front ∙ ap (λ b. map (λ (r : Listed). (r.no, r.view)) (cond (not b) (listed_one heard x ∷ filter (λ r. not (has_targets r)) (listed heard (take left rest))) (filter (λ r. not (has_targets r)) (listed heard (take left rest))))) (bare x none)
+
+    pub leaving-kept : j - 1 ≤ length rest → has x ≡ true → leaving_of j xs ≡ leaving_of (j - 1) (rest ++ x ∷ [])
     leaving-kept few e =
-        ap (λ (i : ℕ). leaving_of i xs) next ∙ ap (leaving_of (suc k)) is ∙ ap (λ b. map (λ (r : Listed). (r.no, r.view)) (cond (not b) (listed_one heard x ∷ filter (λ r. not (has_targets r)) (listed heard (take k rest))) (filter (λ r. not (has_targets r)) (listed heard (take k rest))))) e
-        ∙ ap (λ ys. leaving (listed heard ys)) (sym (cut k rest (x ∷ []) few))
+        leaving-front ∙ ap (λ b. map (λ (r : Listed). (r.no, r.view)) (cond (not b) (listed_one heard x ∷ filter (λ r. not (has_targets r)) (listed heard (take left rest))) (filter (λ r. not (has_targets r)) (listed heard (take left rest))))) e
+        ∙ ap (λ ys. leaving (listed heard ys)) (sym (cut left rest (x ∷ []) few))
       where
         cut : (n : ℕ) (ys zs : List (Attached A)) → n ≤ length ys → take n (ys ++ zs) ≡ take n ys
         cut n ys zs h = rw take-append-le

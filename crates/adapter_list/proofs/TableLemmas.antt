@@ -1,5 +1,5 @@
 -- What a write to the list of one node makes of a table.
-use Rattle.std.proofs.Common.{◌≡◌, ◌≤◌, ◌<◌, ℕ, zero, suc, Bool, true, false, cond, List, [], ◌∷◌, Option, Some, None, Result, Ok, Err, Vec, Global, insert, remove, length, IfSome, if◌then◌else◌, refl, sym, ap, subst, ◌∙◌, arith}
+use Rattle.std.proofs.Common.{◌≡◌, ◌≤◌, ◌<◌, ℕ, zero, suc, Bool, true, false, cond, List, [], ◌∷◌, Option, Some, None, Result, Ok, Err, Vec, Global, insert, remove, length, IfSome, IsSome, if◌then◌else◌, refl, sym, ap, subst, ◌∙◌, arith}
 use Rattle.std.specs.Option.{option_map_or}
 use Rattle.std.specs.Result.{OnErr}
 use Rattle.indexmap.specs.IndexMap.{get}
@@ -21,10 +21,10 @@ same_key-node (node.Resource x) (node.Resource y) = refl
 abbrev pub items_of : Option (Vec Entry Global) → List Entry
 items_of o = option_map_or (λ v. v.items) o []
 
-module _ (old new : TargetLists) (x : Node) (w : Option (Vec Entry Global)) (updates : (q : NodeKey) → get same_key new.lists q ≡ cond (same_key (key x) q) w (get same_key old.lists q)) where
+module _ (old new : TargetLists) (x : Node) (k : NodeKey) (is : k ≡ key x) (w : Option (Vec Entry Global)) (updates : (q : NodeKey) → get same_key new.lists q ≡ cond (same_key k q) w (get same_key old.lists q)) where
   pub written : (change : List Entry → List Entry) → items_of w ≡ change (entries_in old x) → (y : Node) → entries_in new y ≡ (if same_node x y then change (entries_in old y) else entries_in old y)
   written change made y =
-      ap items_of (updates (key y))
+      ap items_of (updates (key y) ∙ ap (λ (q : NodeKey). cond (same_key q (key y)) w (get same_key old.lists (key y))) is)
       ∙ ap (λ (b : Bool). items_of (cond b w (get same_key old.lists (key y)))) (same_key-node x y)
       ∙ elim (same_node x y) as (λ b. same_node x y ≡ b → items_of (cond b w (get same_key old.lists (key y))) ≡ (if b then change (entries_in old y) else entries_in old y)) [
         | true ↦ λ yes. made ∙ ap (λ (z : Node). change (entries_in old z)) (same_node-true x y yes)
@@ -35,7 +35,7 @@ module _ (old new : TargetLists) (x : Node) (w : Option (Vec Entry Global)) (upd
   pub none_empty-written : IfSome w (λ v. 0 < length v.items) → HasNoEmpty old → HasNoEmpty new
   none_empty-written some all q =
       subst (λ (o : Option (Vec Entry Global)). IfSome o (λ v. 0 < length v.items)) (sym (updates q))
-      (elim (same_key (key x) q) as (λ b. IfSome (cond b w (get same_key old.lists q)) (λ v. 0 < length v.items)) [ true ↦ some | false ↦ all q ])
+      (elim (same_key k q) as (λ b. IfSome (cond b w (get same_key old.lists q)) (λ v. 0 < length v.items)) [ true ↦ some | false ↦ all q ])
 
 pub found : (t : TargetLists) (x : Node) (k : NodeKey) (v : Vec Entry Global) → k ≡ key x → Some v ≡ get same_key t.lists k → entries_in t x ≡ v.items
 found t x k v is at = ap (λ (q : NodeKey). items_of (get same_key t.lists q)) (sym is) ∙ ap items_of (sym at)
@@ -47,9 +47,13 @@ found-none t x k is at = ap (λ (q : NodeKey). items_of (get same_key t.lists q)
 pub some-found : (t : TargetLists) (k : NodeKey) (v : Vec Entry Global) → Some v ≡ get same_key t.lists k → HasNoEmpty t → 0 < length v.items
 some-found t k v at all = subst (λ (o : Option (Vec Entry Global)). IfSome o (λ w. 0 < length w.items)) (sym at) (all k)
 
+-- what is found is there
+pub is-there : (o : Option (Vec Entry Global)) (v : Vec Entry Global) → Some v ≡ o → IsSome o
+is-there o v at = subst (λ (q : Option (Vec Entry Global)). IsSome q) at refl
+
 -- a list that is written as it was
-pub written-same : (old new : TargetLists) (x : Node) (w : Vec Entry Global) → ((q : NodeKey) → get same_key new.lists q ≡ cond (same_key (key x) q) (Some w) (get same_key old.lists q)) → w.items ≡ entries_in old x → (y : Node) → entries_in new y ≡ entries_in old y
-written-same old new x w updates made y = written old new x (Some w) updates (λ es. es) made y ∙ both (same_node x y)
+pub written-same : (old new : TargetLists) (x : Node) (k : NodeKey) → k ≡ key x → (w : Vec Entry Global) → ((q : NodeKey) → get same_key new.lists q ≡ cond (same_key k q) (Some w) (get same_key old.lists q)) → w.items ≡ entries_in old x → (y : Node) → entries_in new y ≡ entries_in old y
+written-same old new x k is w updates made y = written old new x k is (Some w) updates (λ es. es) made y ∙ both (same_node x y)
   where
     both : (b : Bool) → (if b then entries_in old y else entries_in old y) ≡ entries_in old y
     both true = refl

@@ -18,7 +18,7 @@ use Rattle.adapters.specs.declared.adapter.NoRoom.TheVariants as room
 use Rattle.notice_chain.specs.View.{View}
 use Rattle.notice_chain.specs.Listed.{HasDistinctNumbers, HasDistinctTargets, HaveTargets, Listed, adapter, has_no, has_target, is_at, is_target, same_no, targets_len, watched, with_target}
 use Rattle.notice_chain.specs.declared.target.Target.{Target}
-use Rattle.adapter_list.specs.Attached.{IsSound, listed, listed_one}
+use Rattle.adapter_list.specs.Attached.{IsSound, IsWhole, listed, listed_one}
 use Rattle.adapter_list.specs.Counts.{told_at_place}
 use Rattle.adapter_list.specs.Refusals.{but_memory, refusal_of, target_refusal, watch_refusal}
 use Rattle.adapter_list.specs.Targets.{AreSameMarks, AreSetAt, HasNoEmpty, IsOnce, entries, entries_in, entry_of, is_any, targets_at}
@@ -181,7 +181,7 @@ module _ {A : Type 0} {heard : A → View} {places : A → ℕ} {xs : List (Atta
   as-many = length-set xs i y
 
   -- its adapter, with room for more targets, and its table and marks as they were
-  pub sound-same : y.targets.items ≡ x.targets.items → ((z : Node) → entries_in u z ≡ entries_in t z) → AreSameMarks bs cs → IsSound heard places (set xs i y) keys u cs count used room
+  sound-same : y.targets.items ≡ x.targets.items → ((z : Node) → entries_in u z ≡ entries_in t z) → AreSameMarks bs cs → IsSound heard places (set xs i y) keys u cs count used room
   sound-same targets kept marks =
       let after : listed heard (set xs i y) ≡ listed heard xs = listed-same heard xs i x y is same_number targets same_adapter in
       let ready = AreReady-at heard places xs i x sound.ready low is in
@@ -202,10 +202,17 @@ module _ {A : Type 0} {heard : A → View} {places : A → ℕ} {xs : List (Atta
         releasable = omega (arith, as-many, sound.releasable);
       }
 
-  pub some-same : y.targets.items ≡ x.targets.items → HaveTargets (listed heard xs) → HaveTargets (listed heard (set xs i y))
-  some-same targets each = subst HaveTargets (sym (listed-same heard xs i x y is same_number targets same_adapter)) each
+  pub whole-same : HaveTargets (listed heard xs) → y.targets.items ≡ x.targets.items → ((z : Node) → entries_in u z ≡ entries_in t z) → AreSameMarks bs cs → IsWhole heard places (set xs i y) keys u cs count used room
+  whole-same each targets kept marks =
+      record { sound = sound-same targets kept marks; some = subst HaveTargets (sym (listed-same heard xs i x y is same_number targets same_adapter)) each }
 
-  module _ (q : Target) (number : AdapterNo) (at : Some i ≡ position (has_no number) (listed heard xs)) (none : is_target number q.node (listed heard xs) ≡ false) (targets : y.targets.items ≡ x.targets.items ++ q ∷ []) where
+  module _ (q : Target) (number : AdapterNo) (seen : List Listed) (seen_as : seen ≡ listed heard xs) (at_place : Some i ≡ position (has_no number) seen) (has_not : is_target number q.node seen ≡ false) (targets : y.targets.items ≡ x.targets.items ++ q ∷ []) where
+    at : Some i ≡ position (has_no number) (listed heard xs)
+    at = subst (λ (rs : List Listed). Some i ≡ position (has_no number) rs) seen_as at_place
+
+    none : is_target number q.node (listed heard xs) ≡ false
+    none = subst (λ (rs : List Listed). is_target number q.node rs ≡ false) seen_as has_not
+
     stands-at : slice_get (listed heard xs) i ≡ Some (listed_one heard x)
     stands-at = slice_get-map (listed_one heard) xs i ∙ ap (option_map (listed_one heard)) (slice_get_read xs (length xs) i x refl low is)
 
@@ -218,14 +225,16 @@ module _ {A : Type 0} {heard : A → View} {places : A → ℕ} {xs : List (Atta
         listed-put heard xs i y ∙ ap (set (listed heard xs) i) now
 
     -- its adapter, with one target more
-    pub listed-watched : listed heard (set xs i y) ≡ watched number q (listed heard xs)
-    listed-watched = put-there ∙ sym (changed-set number (with_target q) (listed heard xs) i (listed_one heard x) (distinct-numbers heard xs keys sound.numbered sound.distinct) stands-at has-number)
+    pub listed-watched : listed heard (set xs i y) ≡ watched number q seen
+    listed-watched =
+        put-there ∙ sym (changed-set number (with_target q) (listed heard xs) i (listed_one heard x) (distinct-numbers heard xs keys sound.numbered sound.distinct) stands-at has-number)
+        ∙ ap (watched number q) (sym seen_as)
 
-    pub some-watched : HaveTargets (listed heard xs) → HaveTargets (listed heard (set xs i y))
+    some-watched : HaveTargets (listed heard xs) → HaveTargets (listed heard (set xs i y))
     some-watched each = subst HaveTargets (sym put-there) (some-set (listed heard xs) i (listed_one heard x) q each)
 
     -- with a place in reserve, and its entry and its mark
-    pub sound-watched : length x.targets.items < places x.adapter → count < TARGETS → (index : ℕ) → index ≡ length (entries q.node (take i (listed heard xs)))
+    sound-watched : length x.targets.items < places x.adapter → count < TARGETS → (index : ℕ) → index ≡ length (entries q.node (take i (listed heard xs)))
         → ((z : Node) → entries_in u z ≡ (if same_node q.node z then insert (entries_in t z) index (record { no = number; deep = q.deep }) else entries_in t z)) → AreSetAt bs q.node true cs
         → IsSound heard places (set xs i y) keys u cs (count + 1) used room
     sound-watched spare few index index_is entry marks =
@@ -260,6 +269,12 @@ module _ {A : Type 0} {heard : A → View} {places : A → ℕ} {xs : List (Atta
           unused = sound.unused;
           releasable = omega (arith, as-many, sound.releasable);
         }
+
+    pub whole-watched : HaveTargets (listed heard xs) → length x.targets.items < places x.adapter → count < TARGETS → (index : ℕ) → index ≡ length (entries q.node (take i seen))
+        → ((z : Node) → entries_in u z ≡ (if same_node q.node z then insert (entries_in t z) index (record { no = number; deep = q.deep }) else entries_in t z)) → AreSetAt bs q.node true cs
+        → IsWhole heard places (set xs i y) keys u cs (count + 1) used room
+    whole-watched each spare few index index_is entry marks =
+        record { sound = sound-watched spare few index (index_is ∙ ap (λ (rs : List Listed). length (entries q.node (take i rs))) seen_as) entry marks; some = some-watched each }
 
 ----------------------------------------------------------------- why it is refused
 

@@ -54,24 +54,15 @@ impl<A: Adapter> Going<A> {
         ensures some { HaveTargets list.0 }
         ensures room { IsRoomFor (length list.0) (vec_len result.1) (vec_capacity result.1) }
     {
-        let AdapterList {
-            alloc,
-            attached,
-            numbers,
-            by_target,
-            marks,
-            targets_len,
-            released,
-        } = list;
         let going = Going {
-            alloc,
-            attached,
-            numbers,
-            by_target,
-            marks,
-            targets_len,
+            alloc: list.alloc,
+            attached: list.attached,
+            numbers: list.numbers,
+            by_target: list.by_target,
+            marks: list.marks,
+            targets_len: list.targets_len,
         };
-        (going, released)
+        (going, list.released)
     }
 
     /// The list of the parts, once each adapter has a target again.
@@ -80,21 +71,13 @@ impl<A: Adapter> Going<A> {
         requires room { IsRoomFor (length self) (vec_len released) (vec_capacity released) }
         ensures { result.0 ≡ self }
     {
-        let Going {
-            alloc,
-            attached,
-            numbers,
-            by_target,
-            marks,
-            targets_len,
-        } = self;
         AdapterList {
-            alloc,
-            attached,
-            numbers,
-            by_target,
-            marks,
-            targets_len,
+            alloc: self.alloc,
+            attached: self.attached,
+            numbers: self.numbers,
+            by_target: self.by_target,
+            marks: self.marks,
+            targets_len: self.targets_len,
             released,
         }
     }

@@ -74,8 +74,8 @@ pub fn holder_resource<L: LinkStore>(store: &L, object: ObjectNo) -> Option<Reso
     }
 }
 
-/// The node that contains a node; nothing contains a resource.
-fn parent_of<L: LinkStore>(store: &L, node: Node) -> Option<Node>
+/// The node that contains a node; nothing contains a resource. Takes no memory.
+pub fn parent_of<L: LinkStore>(store: &L, node: Node) -> Option<Node>
     requires legal { IsLegalSet (L.links store.now) }
     ensures { result ≡ option_map (λ e. e.node) (holder_of (L.links store.now) node) }
 {

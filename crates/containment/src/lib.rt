@@ -7,6 +7,6 @@ mod forest;
 pub mod laws;
 mod tree;
 
-pub use above::{holder_resource, is_under, root_of};
+pub use above::{holder_resource, is_under, parent_of, root_of};
 pub use forest::{container, contents, push_some};
 pub use tree::{is_within, node_subtree, subtree};

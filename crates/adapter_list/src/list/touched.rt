@@ -35,7 +35,7 @@ impl<A: Adapter> AdapterList<A> {
         ensures { OnOk result ((k : ℕ) → contains nat_cmp places.new k ≡ (contains nat_cmp places.old k || list_any (λ o. is_attached_at self.now.0 (node.Object o) false k) objects.now)) }
     {
         for object in objects {
-            self.add_marked(Node::Object(*object), false, places)?;
+            self.add_attached(Node::Object(*object), false, places)?;
         }
         Ok(())
     }

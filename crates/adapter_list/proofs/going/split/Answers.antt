@@ -1,73 +1,56 @@
-use Rattle.std.proofs.Common.{◌≡◌, ◌≤◌, ◌<◌, ◌+◌, ◌-◌, ◌++◌, ◌∷◌, [], suc, true, false, ap, sym, ◌∙◌, refl, arith, append_assoc, length, length-append, filter, le-leb}
-use Rattle.std.specs.Option.{option_to_list}
-use Rattle.std.proofs.lemmas.Bool.{le-ltb}
+use Rattle.std.proofs.Common.{◌≡◌, ◌≤◌, ◌<◌, ◌+◌, ◌-◌, ◌++◌, ◌∷◌, [], true, ap, sym, ◌∙◌, refl, arith, append_assoc, length, length-append, filter, le-leb}
 use Rattle.std.proofs.lemmas.Grind.{common_steps}
 use Rattle.std.proofs.lemmas.List.{map-append, take_all}
 use Rattle.mm_types.specs.declared.numbers.AdapterNo.{AdapterNo}
 use Rattle.notice_chain.specs.Released.{leaving}
 use Rattle.adapter_list.specs.Attached.{listed, views_of}
-use Rattle.adapter_list.proofs.SplitLemmas.{has, leaving-gone, leaving-kept, leaving_of, turn, turn-all, turn-gone, turn-kept}
+use Rattle.adapter_list.proofs.SplitLemmas.{bare, front-taken, has, leaving-gone, leaving-kept, leaving_of, turn, turn-all, turn-gone, turn-kept}
 use Rattle.adapter_list.proofs.going.split.Goals as goal
 
 pub loop-left-preserved : goal.loop-left-preserved
 loop-left-preserved g c =
     let heard = g.A.Adapter.heard in
-    let before = c.loop-left.waiting.items in
     let one = c.unwrap-one.result in
     let rest = c.pop_front.new.self.items in
-    let first : before ≡ one ∷ rest = c.pop_front.ensures.items ∙ ap (λ o. option_to_list o ++ rest) c.unwrap-one.ensures in
+    let front = front-taken c.loop-left.waiting.items rest c.pop_front.result one c.loop-left.left c.pop_front.ensures.items c.unwrap-one.ensures (omega (arith, c.loop-left-test.true)) in
     let k = c.loop-left.left - 1 in
-    let next : c.loop-left.left ≡ suc k = omega (arith, c.loop-left-test.true) in
     let some : 0 < length one.targets.items = grind (arith, common_steps) in
     let kept : has heard one ≡ true = le-leb _ _ some in
     let now : c.push_back_reserved.new.self.items ≡ rest ++ one ∷ [] = c.push_back_reserved.ensures.items in
-    let long = ap (λ xs. length xs) first in
-    let few : k ≤ length rest = omega (arith, c.loop-left.invariant.many, long, next) in
-    let same : leaving_of heard k c.push_back_reserved.new.self.items ≡ leaving_of heard c.loop-left.left before = ap (leaving_of heard k) now ∙ sym (leaving-kept heard before rest one c.loop-left.left k first next few kept) in
+    let few : k ≤ length rest = omega (arith, c.loop-left.invariant.many, ap (λ xs. length xs) front.first, front.next) in
+    let same : leaving_of heard k c.push_back_reserved.new.self.items ≡ leaving_of heard c.loop-left.left c.loop-left.waiting.items = ap (leaving_of heard k) now ∙ sym (leaving-kept heard _ rest one _ front few kept) in
     let more : length c.push_back_reserved.new.self.items ≡ length rest + 1 = ap (λ xs. length xs) now ∙ length-append rest (one ∷ []) in
     record {
       many = omega (arith, few, more);
       room = omega (arith, c.loop-left.invariant.room, ap (λ vs. length vs) same);
       same_room = c.loop-left.invariant.same_room;
-      stay = ap (turn (has heard) k) now ∙ turn-kept (has heard) before rest one c.loop-left.left k first next kept ∙ c.loop-left.invariant.stay;
+      stay = ap (turn (has heard) k) now ∙ turn-kept (has heard) _ rest one _ front kept ∙ c.loop-left.invariant.stay;
       released = ap (λ vs. views_of heard c.loop-left.released.items ++ vs) same ∙ c.loop-left.invariant.released;
     }
 
 pub push_reserved-requires : goal.push_reserved-requires
 push_reserved-requires g c =
-    let heard = g.A.Adapter.heard in
-    let before = c.loop-left.waiting.items in
     let one = c.unwrap-one.result in
-    let rest = c.pop_front.new.self.items in
-    let first : before ≡ one ∷ rest = c.pop_front.ensures.items ∙ ap (λ o. option_to_list o ++ rest) c.unwrap-one.ensures in
-    let k = c.loop-left.left - 1 in
-    let next : c.loop-left.left ≡ suc k = omega (arith, c.loop-left-test.true) in
+    let front = front-taken c.loop-left.waiting.items c.pop_front.new.self.items c.pop_front.result one c.loop-left.left c.pop_front.ensures.items c.unwrap-one.ensures (omega (arith, c.loop-left-test.true)) in
     let none : length one.targets.items ≤ 0 = grind (arith, common_steps) in
-    let gone : has heard one ≡ false = le-ltb _ _ none in
-    let more = leaving-gone heard before rest one c.loop-left.left k first next gone in
-    omega (arith, c.loop-left.invariant.room, ap (λ vs. length vs) more)
+    omega (arith, c.loop-left.invariant.room, ap (λ vs. length vs) (leaving-gone g.A.Adapter.heard _ _ one _ front none))
 
 pub loop-left-preserved-then-is_empty : goal.loop-left-preserved-then-is_empty
 loop-left-preserved-then-is_empty g c =
     let heard = g.A.Adapter.heard in
-    let before = c.loop-left.waiting.items in
     let one = c.unwrap-one.result in
     let rest = c.pop_front.new.self.items in
-    let first : before ≡ one ∷ rest = c.pop_front.ensures.items ∙ ap (λ o. option_to_list o ++ rest) c.unwrap-one.ensures in
-    let k = c.loop-left.left - 1 in
-    let next : c.loop-left.left ≡ suc k = omega (arith, c.loop-left-test.true) in
+    let front = front-taken c.loop-left.waiting.items rest c.pop_front.result one c.loop-left.left c.pop_front.ensures.items c.unwrap-one.ensures (omega (arith, c.loop-left-test.true)) in
     let none : length one.targets.items ≤ 0 = grind (arith, common_steps) in
-    let gone : has heard one ≡ false = le-ltb _ _ none in
-    let more = leaving-gone heard before rest one c.loop-left.left k first next gone in
-    let long = ap (λ xs. length xs) first in
+    let more = leaving-gone heard _ rest one _ front none in
     let pushed : c.push_reserved.new.self.items ≡ c.loop-left.released.items ++ (one.no, one.adapter) ∷ [] = c.push_reserved.ensures.items in
     let views : views_of heard c.push_reserved.new.self.items ≡ views_of heard c.loop-left.released.items ++ (one.no, heard one.adapter) ∷ [] = ap (views_of heard) pushed ∙ map-append (λ (b : AdapterNo × g.row.A.Denot). (b.0, heard b.1)) c.loop-left.released.items ((one.no, one.adapter) ∷ []) in
     record {
-      many = omega (arith, c.loop-left.invariant.many, long, next);
+      many = omega (arith, c.loop-left.invariant.many, ap (λ xs. length xs) front.first, front.next);
       room = omega (arith, c.loop-left.invariant.room, ap (λ vs. length vs) more, c.push_reserved.ensures.len, c.push_reserved.ensures.capacity);
       same_room = omega (arith, c.push_reserved.ensures.capacity, c.loop-left.invariant.same_room);
-      stay = turn-gone (has heard) before rest one c.loop-left.left k first next gone ∙ c.loop-left.invariant.stay;
-      released = ap (λ vs. vs ++ leaving_of heard k rest) views ∙ append_assoc (views_of heard c.loop-left.released.items) ((one.no, heard one.adapter) ∷ []) (leaving_of heard k rest) ∙ ap (λ vs. views_of heard c.loop-left.released.items ++ vs) (sym more) ∙ c.loop-left.invariant.released;
+      stay = turn-gone (has heard) _ rest one _ front (bare heard one none) ∙ c.loop-left.invariant.stay;
+      released = ap (λ vs. vs ++ leaving_of heard (c.loop-left.left - 1) rest) views ∙ append_assoc (views_of heard c.loop-left.released.items) ((one.no, heard one.adapter) ∷ []) (leaving_of heard (c.loop-left.left - 1) rest) ∙ ap (λ vs. views_of heard c.loop-left.released.items ++ vs) (sym more) ∙ c.loop-left.invariant.released;
     }
 
 pub loop-left-init : goal.loop-left-init
