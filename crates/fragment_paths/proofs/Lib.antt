@@ -1,7 +1,7 @@
 pub mod ObjectLemmas
 pub mod PlaceLemmas
 pub mod UpLemmas
-pub mod DeclaredLemmas
+pub mod SupertypeLemmas
 pub mod NameLemmas
 pub mod HeldLemmas
 pub mod FoundLemmas

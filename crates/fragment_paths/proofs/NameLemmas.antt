@@ -1,5 +1,5 @@
 -- In a metamodel of a document, a feature that a class has is the one of its name there, and that name is one.
-use Rattle.std.proofs.Common.{◌≡◌, ℕ, zero, suc, Bool, true, false, cond, List, [], ◌∷◌, map, Option, Some, None, inl, inr, refl, sym, ap, ◌∙◌, ◌+◌, subst}
+use Rattle.std.proofs.Common.{◌≡◌, ℕ, zero, suc, Bool, true, false, cond, List, [], ◌∷◌, map, Option, Some, None, inl, inr, refl, sym, ap, ◌∙◌, subst}
 use Rattle.std.specs.Prelude.{not, nat_eq, option_and_then, option_map, slice_get}
 use Rattle.std.specs.List.{find, list_any, slice_index_or}
 use Rattle.std.specs.Option.{option_map_or}
@@ -7,12 +7,12 @@ use Rattle.std.specs.Str.{bytes_eq}
 use Rattle.std.proofs.lemmas.Bool.{eq-eqb, eqb-true, false≢true, or_cases, or_left, or_right}
 use Rattle.std.proofs.lemmas.Option.{none-some, same_Some, slice_get-map}
 use Rattle.std.proofs.lemmas.Slice.Eq.{bytes_eq-Decides}
-use Rattle.mm_types.specs.Graph.{Conforms}
+use Rattle.mm_types.specs.Graph.{Conforms, row}
 use Rattle.mm_types.specs.Lookups.{feature, feature_by_name, feature_name, features, has_feature}
 use Rattle.mm_types.specs.Names.{is_name}
 use Rattle.mm_types.specs.OfDocument.{IsOfDocument}
 use Rattle.mm_types.specs.Raw.{RawMetamodel}
-use Rattle.mm_types.specs.Resolved.{Metamodel, graph_of, resolved, resolved_feature}
+use Rattle.mm_types.specs.Resolved.{Metamodel, graph_of, own_of, resolved, resolved_feature}
 use Rattle.mm_types.specs.WellFormed.{WellFormed}
 use Rattle.mm_types.specs.declared.feature.Feature.{Feature}
 use Rattle.mm_types.specs.declared.meta_fault.Condition.TheVariants.{DuplicateName, Name}
@@ -23,7 +23,8 @@ use Rattle.mm_types.specs.declared.raw.RawClass.{RawClass}
 use Rattle.mm_types.specs.declared.raw.RawFeature.{RawFeature}
 use Rattle.mm_meta.proofs.ConformLemmas.{conforms_is, owner_tells}
 use Rattle.mm_meta.proofs.OwnerLemmas.{has_none}
-use Rattle.fragment_paths.proofs.DeclaredLemmas.{IsDeclared, before, declared_at, supertypes-are}
+use Rattle.mm_meta.proofs.PlaceLemmas.{IsDeclared, declared_at}
+use Rattle.fragment_paths.proofs.SupertypeLemmas.{supertypes-are}
 
 ---------------------------------------------------------------- where a feature is declared
 
@@ -86,7 +87,7 @@ one-name raw well c f g a b same = elim (nat_eq f.0 g.0) as (λ t. nat_eq f.0 g.
     other_reached = b.reached;
     here = names-at raw.classes a.class a.index a.written a.declared.here ∙ ap Some same;
     there = names-at raw.classes b.class b.index b.written b.declared.here;
-    apart = λ e. false≢true (sym other ∙ eq-eqb f.0 g.0 (a.declared.number ∙ (λ i. before raw.classes (e.0 i) + e.1 i) ∙ sym b.declared.number));
+    apart = λ e. false≢true (sym other ∙ eq-eqb f.0 g.0 (same_Some f.0 g.0 (sym a.declared.number ∙ (λ i. slice_get (row (own_of raw.classes) (e.0 i)) (e.1 i)) ∙ b.declared.number)));
   })))
 ] refl
 

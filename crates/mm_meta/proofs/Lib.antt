@@ -6,7 +6,7 @@ mod ByNameLemmas
 pub mod OwnerLemmas
 mod ResolverLemmas
 mod TableLemmas
-mod PlaceLemmas
+pub mod PlaceLemmas
 pub mod PairLemmas
 pub mod ConformLemmas
 pub mod ShapeLemmas
