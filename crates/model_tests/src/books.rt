@@ -6,7 +6,7 @@ use mm_check::check;
 use mm_load::load_meta;
 use mm_meta::Meta;
 use mm_types::{AdapterNo, ClassNo, FeatureNo, Node, ObjectNo, Refused, Text, Value};
-use repository::Repository;
+use repository::{Reply, Repository};
 use std::alloc::{AllocError, Global};
 use std::test::Fail;
 
@@ -88,4 +88,14 @@ pub(crate) fn watched<A: Adapter>(
     attach(&mut repository, 6, second)?;
     attach(&mut repository, 7, third)?;
     Ok(repository)
+}
+
+/// Gives a book a name.
+pub(crate) fn name_book<A: Adapter>(
+    alloc: Global,
+    repository: &mut RowRepository<A>,
+    number: u32,
+) -> Result<Result<Reply<A>, Refused>, AllocError> {
+    let emma = text(alloc, "Emma")?;
+    Ok(repository.e_set(object(number), NAME, emma))
 }

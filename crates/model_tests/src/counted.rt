@@ -1,5 +1,4 @@
-//! Adapters with a part that is counted when it is dropped, and again if REMOVING_ADAPTER was its last notice.
-use crate::poor::Poor;
+//! Adapters with a part that is counted when it is dropped, and again if REMOVING_ADAPTER was its last notice. Some are refused memory once.
 use crate::telling::{Kind, LAST_ALONE, NEARLY_FULL};
 use adapters::{Adapter, Counter, NoRoom, Recorder, Window};
 use notice_chain::{Notice, NoticeKind};
@@ -34,15 +33,27 @@ impl Drop for Part {
     }
 }
 
-/// An adapter of any kind, with a part.
+/// An adapter of any kind, with a part. It is refused memory at one of its reserves alone, which is given by its number, from 1, or at
+/// none if that is 0. Refused at its second, it is attached, and the next chain is refused.
 #[derive(Drop)]
 pub(crate) struct Counted<A> {
     part: Part,
     adapter: A,
+    reserves: u64,
+    refused_at: u64,
 }
 
 impl<A: Adapter> Counted<A> {
     pub(crate) fn new(drops: &Rc<Cell<Drops>>, adapter: A) -> Result<Counted<A>, AllocError> {
+        Counted::poor(drops, adapter, 0)
+    }
+
+    /// One that is refused memory at the reserve of a number.
+    fn poor(
+        drops: &Rc<Cell<Drops>>,
+        adapter: A,
+        refused_at: u64,
+    ) -> Result<Counted<A>, AllocError> {
         let drops = drops.clone()?;
         Ok(Counted {
             part: Part {
@@ -50,6 +61,8 @@ impl<A: Adapter> Counted<A> {
                 is_removed: false,
             },
             adapter,
+            reserves: 0,
+            refused_at,
         })
     }
 }
@@ -60,7 +73,11 @@ impl<A: Adapter> Adapter for Counted<A> {
     ghost places = { λ c. A.places c.adapter };
 
     fn reserve(&mut self, n: u64) -> Result<(), NoRoom> {
-        self.adapter.reserve(n)
+        self.reserves = self.reserves.wrapping_add(1);
+        match self.adapter.reserve(n) {
+            Ok(()) if self.reserves == self.refused_at => Err(NoRoom::Memory),
+            outcome => outcome,
+        }
     }
 
     fn notify_changed(&mut self, notice: Notice) {
@@ -103,12 +120,12 @@ pub(crate) fn counted_box(
             Ok(Box::new(alloc, Counted::new(drops, counter)?)?)
         }
         Kind::Poor => {
-            let poor = Poor::new(Counter::new(), 2);
-            Ok(Box::new(alloc, Counted::new(drops, poor)?)?)
+            let poor = Counted::poor(drops, Counter::new(), 2)?;
+            Ok(Box::new(alloc, poor)?)
         }
         Kind::PoorRecorder => {
-            let poor = Poor::new(Recorder::new(alloc), 3);
-            Ok(Box::new(alloc, Counted::new(drops, poor)?)?)
+            let poor = Counted::poor(drops, Recorder::new(alloc), 3)?;
+            Ok(Box::new(alloc, poor)?)
         }
         Kind::WindowOfOne => {
             let window = Window::new(alloc, 1)?;

@@ -47,8 +47,6 @@ mod no_links;
 #[cfg(test)]
 mod notices;
 #[cfg(test)]
-mod poor;
-#[cfg(test)]
 mod printed;
 #[cfg(test)]
 mod refused_adapters;

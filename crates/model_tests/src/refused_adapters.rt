@@ -1,11 +1,10 @@
 //! Changes that an adapter can't hear.
-use crate::books::{NAME, RowRepository, attach, object, one_book, text, watched};
+use crate::books::{NAME, RowRepository, name_book, object, watched};
 use crate::counted::{Drops, NO_DROPS, counted_box};
 use crate::replies::{back, given, made};
 use crate::telling::Kind;
 use adapters::Adapter;
 use mm_types::{AdapterNo, Refused};
-use repository::Reply;
 use std::alloc::{AllocError, Global};
 use std::cell::Cell;
 use std::rc::Rc;
@@ -62,25 +61,17 @@ const WATCHED: [Watched; 3] = [
     },
 ];
 
-fn name_book<A: Adapter>(
-    alloc: Global,
-    repository: &mut RowRepository<A>,
-) -> Result<Result<Reply<A>, Refused>, AllocError> {
-    let emma = text(alloc, "Emma")?;
-    Ok(repository.e_set(object(0), NAME, emma))
-}
-
 /// Why the book is not named, and what the adapters have heard and the book has before and after.
 fn refusal<A: Adapter>(alloc: Global, repository: &mut RowRepository<A>) -> Result<String, Fail> {
     let before = state(alloc, repository)?;
-    let refused = made(name_book(alloc, repository)?).err();
+    let refused = made(name_book(alloc, repository, 0)?).err();
     let after = state(alloc, repository)?;
     Ok(format!(in alloc; "{before}; {refused:?}; {after}")?)
 }
 
 /// What it gives to name the book.
 fn named<A: Adapter>(alloc: Global, repository: &mut RowRepository<A>) -> Result<String, Fail> {
-    given(alloc, name_book(alloc, repository)?)
+    given(alloc, name_book(alloc, repository, 0)?)
 }
 
 /// What the adapters have heard when the repository is closed.
@@ -144,31 +135,6 @@ fn a_set_that_one_adapter_cannot_hear_notifies_none(rt: HostRuntime) -> Result<(
         assert_eq!(rt; found[2].as_str(), *after);
         assert_eq!(rt; last.as_str(), *closed);
         assert_eq!(rt; drops.get().all, 3);
-    }
-    Ok(())
-}
-
-/// Why a book with two adapters is not named.
-fn refused_to_two<A: Adapter>(alloc: Global, first: A, second: A) -> Result<Option<Refused>, Fail> {
-    let mut repository = one_book(alloc)?;
-    attach(&mut repository, 5, first)?;
-    attach(&mut repository, 6, second)?;
-    Ok(made(name_book(alloc, &mut repository)?).err())
-}
-
-#[test]
-fn the_first_adapter_that_refuses_decides(rt: HostRuntime) -> Result<(), Fail> {
-    let alloc = rt.alloc();
-    let cases = [
-        (Kind::LastAlone, Kind::Poor, Refused::AdapterFull),
-        (Kind::Poor, Kind::LastAlone, Refused::Memory),
-    ];
-    for (first, second, reason) in &cases {
-        let drops = Rc::new(alloc, Cell::new(NO_DROPS))?;
-        let first = counted_box(alloc, &drops, *first)?;
-        let found = refused_to_two(alloc, first, counted_box(alloc, &drops, *second)?)?;
-        assert_eq!(rt; found, Some(*reason));
-        assert_eq!(rt; drops.get().all, 2);
     }
     Ok(())
 }

@@ -1,13 +1,12 @@
 //! Adapters with two targets: refused memory at each of their reserves, too full for another notice or another target, and taken from
 //! one target after the other.
-use crate::books::{BOOK, NAME, RowRepository, attach, object, one_book, text};
+use crate::books::{BOOK, NAME, RowRepository, attach, name_book, object, one_book};
 use crate::counted::{Drops, NO_DROPS, counted_box};
 use crate::replies::{back, given, made};
 use crate::telling::{Kind, three};
 use adapter_list::AdapterList;
 use adapters::Adapter;
 use mm_types::{AdapterNo, ObjectNo, Refused};
-use repository::Reply;
 use std::alloc::{AllocError, Global};
 use std::cell::Cell;
 use std::rc::Rc;
@@ -30,15 +29,6 @@ fn watch_both<A: Adapter>(
     made(repository.watch(AdapterNo(no), object(1), false))
 }
 
-/// Gives the second book a name.
-fn name_second<A: Adapter>(
-    alloc: Global,
-    repository: &mut RowRepository<A>,
-) -> Result<Result<Reply<A>, Refused>, AllocError> {
-    let emma = text(alloc, "Emma")?;
-    Ok(repository.e_set(object(1), NAME, emma))
-}
-
 /// What the three adapters were told, and the name of the second book.
 fn state<A: Adapter>(alloc: Global, repository: &RowRepository<A>) -> Result<String, AllocError> {
     let told = [5, 6, 7].map(|no| repository.adapter_told(AdapterNo(no)));
@@ -49,9 +39,9 @@ fn state<A: Adapter>(alloc: Global, repository: &RowRepository<A>) -> Result<Str
 /// Why the second book is not named, and the state after it; and then, line by line, what it gives to name it again, to take the
 /// first book from adapter 6, and to destroy the second book.
 fn calls<A: Adapter>(alloc: Global, repository: &mut RowRepository<A>) -> Result<String, Fail> {
-    let refused = made(name_second(alloc, repository)?).err();
+    let refused = made(name_book(alloc, repository, 1)?).err();
     let state = state(alloc, repository)?;
-    let named = given(alloc, name_second(alloc, repository)?)?;
+    let named = given(alloc, name_book(alloc, repository, 1)?)?;
     let unwatched = given(alloc, repository.unwatch(AdapterNo(6), object(0)))?;
     let deleted = given(alloc, repository.delete(ObjectNo(1)))?;
     Ok(format!(in alloc;
@@ -114,7 +104,7 @@ fn refused_twice<A: Adapter>(alloc: Global, adapter: A) -> Result<String, Fail> 
     let mut repository = two_books(alloc)?;
     attach(&mut repository, 5, adapter)?;
     let first = made(repository.watch(AdapterNo(5), object(1), true)).err();
-    let named = given(alloc, name_second(alloc, &mut repository)?)?;
+    let named = given(alloc, name_book(alloc, &mut repository, 1)?)?;
     let second = made(repository.watch(AdapterNo(5), object(1), true)).err();
     let closed = Box::into_inner(repository).close();
     let closed = back(alloc, closed.as_slice())?;
@@ -140,26 +130,43 @@ fn a_refused_target_leaves_the_others_as_they_are(rt: HostRuntime) -> Result<(),
     Ok(())
 }
 
-/// Why the second book is not named, with two adapters that have both books as targets.
-fn refused_to_two<A: Adapter>(alloc: Global, first: A, second: A) -> Result<Option<Refused>, Fail> {
+/// Why the first book is not named, with two adapters that have it, or both books, as targets.
+fn refused_to_two<A: Adapter>(
+    alloc: Global,
+    has_both: bool,
+    first: A,
+    second: A,
+) -> Result<Option<Refused>, Fail> {
     let mut repository = two_books(alloc)?;
-    watch_both(&mut repository, 5, first)?;
-    watch_both(&mut repository, 6, second)?;
-    Ok(made(name_second(alloc, &mut repository)?).err())
+    attach(&mut repository, 5, first)?;
+    attach(&mut repository, 6, second)?;
+    if has_both {
+        made(repository.watch(AdapterNo(5), object(1), false))?;
+        made(repository.watch(AdapterNo(6), object(1), false))?;
+    }
+    Ok(made(name_book(alloc, &mut repository, 0)?).err())
 }
 
 #[test]
-fn the_first_of_two_with_two_targets_decides(rt: HostRuntime) -> Result<(), Fail> {
+fn the_first_adapter_that_refuses_decides(rt: HostRuntime) -> Result<(), Fail> {
     let alloc = rt.alloc();
-    // A nearly full counter can hear its two last notices, and so none before them.
+    // A nearly full counter can hear the last notices of its two targets, and so none before them.
     let cases = [
-        (Kind::NearlyFull, Kind::PoorRecorder, Refused::AdapterFull),
-        (Kind::PoorRecorder, Kind::NearlyFull, Refused::Memory),
+        (false, Kind::LastAlone, Kind::Poor, Refused::AdapterFull),
+        (false, Kind::Poor, Kind::LastAlone, Refused::Memory),
+        (
+            true,
+            Kind::NearlyFull,
+            Kind::PoorRecorder,
+            Refused::AdapterFull,
+        ),
+        (true, Kind::PoorRecorder, Kind::NearlyFull, Refused::Memory),
     ];
-    for (first, second, reason) in &cases {
+    for (has_both, first, second, reason) in &cases {
         let drops = Rc::new(alloc, Cell::new(NO_DROPS))?;
         let first = counted_box(alloc, &drops, *first)?;
-        let found = refused_to_two(alloc, first, counted_box(alloc, &drops, *second)?)?;
+        let second = counted_box(alloc, &drops, *second)?;
+        let found = refused_to_two(alloc, *has_both, first, second)?;
         assert_eq!(rt; found, Some(*reason));
         assert_eq!(rt; drops.get().all, 2);
     }

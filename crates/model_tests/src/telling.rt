@@ -5,15 +5,17 @@ ghost use Rattle.links.specs.LegalSets.{IsLegalSet};
 ghost use Rattle.notice_chain.specs.Listed.{tell_chain, told_list};
 
 use crate::books::object;
+use crate::counted::{NO_DROPS, counted_box};
 use crate::notices::added;
-use crate::poor::Poor;
 use adapter_list::AdapterList;
 use adapter_list::laws::the_round_of_a_chain_tells_it;
-use adapters::{Adapter, Counter, Recorder, Window};
+use adapters::Adapter;
 use link_store::LinkStore;
 use mm_types::{AdapterNo, Refused};
 use notice_chain::{Chain, Notice};
 use std::alloc::{AllocError, Global};
+use std::cell::Cell;
+use std::rc::Rc;
 use std::test::Fail;
 
 /// An adapter by what it can hear.
@@ -39,16 +41,10 @@ pub(crate) const NEARLY_FULL: u64 = 18446744073709551613;
 /// How many notices a counter was told that can hear its last one alone.
 pub(crate) const LAST_ALONE: u64 = 18446744073709551614;
 
+/// A box of an adapter, whose drop nobody counts.
 pub(crate) fn adapter(alloc: Global, kind: Kind) -> Result<Box<dyn Adapter>, AllocError> {
-    match kind {
-        Kind::Recorder => Ok(Box::new(alloc, Recorder::new(alloc))?),
-        Kind::Counter => Ok(Box::new(alloc, Counter::new())?),
-        Kind::NearlyFull => Ok(Box::new(alloc, Counter::starting_at(NEARLY_FULL))?),
-        Kind::LastAlone => Ok(Box::new(alloc, Counter::starting_at(LAST_ALONE))?),
-        Kind::Poor => Ok(Box::new(alloc, Poor::new(Counter::new(), 2))?),
-        Kind::PoorRecorder => Ok(Box::new(alloc, Poor::new(Recorder::new(alloc), 3))?),
-        Kind::WindowOfOne => Ok(Box::new(alloc, Window::new(alloc, 1)?)?),
-    }
+    let drops = Rc::new(alloc, Cell::new(NO_DROPS))?;
+    counted_box(alloc, &drops, kind)
 }
 
 /// Attaches an adapter, or says why it is refused; a refused adapter is dropped.
