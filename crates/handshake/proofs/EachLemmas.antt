@@ -9,8 +9,6 @@ use Rattle.notice_chain.specs.declared.notice.Notice.{Notice}
 use Rattle.models.specs.Legal.{IsLegal}
 use Rattle.models.specs.Model.{Model, reading}
 use Rattle.models.specs.Reading.{Reading, held_at}
-use Rattle.removal.specs.declared.tie.Tie.{Tie}
-use Rattle.handshake.specs.Displaced.{counter_tie, tie_in}
 use Rattle.handshake.specs.Effects.{after, joined, with_resolution, without_ties}
 use Rattle.handshake.specs.OneByOne.{ResolvesEach, after_each, count_of_each, is_refused, resolve, told_by_each}
 use Rattle.handshake.specs.Proxies.{end_of, places}
@@ -24,7 +22,7 @@ use Rattle.handshake.specs.declared.target.Target.{Target}
 use Rattle.handshake.proofs.ApartLemmas.{told-append}
 use Rattle.handshake.proofs.HappenedLemmas.{happened_all-at}
 use Rattle.handshake.proofs.KnownLemmas.{resolvable}
-use Rattle.handshake.proofs.ResolveAllLemmas.{all-lead, early, one-resolved, resolved-to}
+use Rattle.handshake.proofs.ResolveAllLemmas.{all-lead, cut, early, one-resolved, resolved-to}
 use Rattle.handshake.proofs.ResolvedReadingLemmas.{with_links}
 
 -- what is not resolved is refused
@@ -46,9 +44,6 @@ module _ (s : Model) (legal : IsLegal s) (p : Place) (x : Target) (is : resolved
   abbrev e : End
   e = end_of p
 
-  abbrev cut : Bool → Option Target → List Tie
-  cut b q = if b then tie_in r e p.index ++ option_map_or (counter_tie r) q [] else []
-
   allowed : is_refused s (resolve p) ≡ false
   allowed =
       let of = resolved-to r p x is in
@@ -58,7 +53,7 @@ module _ (s : Model) (legal : IsLegal s) (p : Place) (x : Target) (is : resolved
   after-one =
       let of = resolved-to r p x is in
       let reference = (resolvable r e p.index of.late).resolvable.reference in
-      λ i. with_links s (let t = without_ties s.links (cut (reference i) (of.found i)) in option_map_or (joined t r e p.index) (of.found i) t)
+      λ i. with_links s (let t = without_ties s.links (cut r p (reference i) (of.found i)) in option_map_or (joined t r e p.index) (of.found i) t)
 
   chain-one : told s.metamodel (held_at r) (resolution_told (record { reads = reading s; place = p; target = x })) ≡ chain r (resolve p)
   chain-one = let of = resolved-to r p x is in sym (ap (λ (q : Option Target). told s.metamodel (held_at r) (option_map_or (resolved e p.index) q [])) of.found)

@@ -3,7 +3,6 @@ use Rattle.std.proofs.Common.{◌≡◌, ◌≢◌, ◌∙◌, ◌<◌, ℕ, zer
 use Rattle.std.specs.Option.{option_map_or}
 use Rattle.std.proofs.lemmas.Bool.Decides.{nat_tests}
 use Rattle.std.proofs.lemmas.Option.{none-some}
-use Rattle.mm_types.specs.Resolved.{Metamodel}
 use Rattle.mm_types.specs.Same.{is_feature}
 use Rattle.mm_types.specs.Shapes.{shape}
 use Rattle.mm_types.specs.declared.end.End.{End}
@@ -46,9 +45,6 @@ stands-held s legal e i o own at =
     holder-at s legal e.node e.feature contains i o (ap (λ (vs : List Value). slice_get vs i) (values-linked s e reference) ∙ at)
 
 module _ (s : Model) (k : ResourceNo) (doc : Doc) (legal : IsLegal s) (early : early_refusal (reading s) (Load k doc) ≡ None) (late : late_refusal (reading s) (Load k doc) ≡ None) (read : IsDocument s.metamodel doc) where
-  abbrev m : Metamodel
-  m = s.metamodel
-
   abbrev n : ℕ
   n = length s.values.objects
 
@@ -79,7 +75,7 @@ module _ (s : Model) (k : ResourceNo) (doc : Doc) (legal : IsLegal s) (early : e
   held-still o e h =
       let at = held_stands s.links legal.links.set (node.Object o) e h in
       let old = made-old e.node (end-made s e at.0 (value.Object o) legal at.1) in
-      let other : contents_end m k ≢ e = λ q. not-there (end s.links e) at.0 o (sym (ap (λ (d : End). end s.links d) q) ∙ no-roots s k doc legal late) at.1 in
+      let other : contents_end s.metamodel k ≢ e = λ q. not-there (end s.links e) at.0 o (sym (ap (λ (d : End). end s.links d) q) ∙ no-roots s k doc legal late) at.1 in
       stands-held t loaded-legal e at.0 o (holder-contains s (node.Object o) e legal h) (ap (λ (vs : List Value). slice_get vs at.0) (linked-before s k doc legal late read e old other) ∙ at.1)
 
   -- an object that was there is none of the new ones
@@ -89,14 +85,14 @@ module _ (s : Model) (k : ResourceNo) (doc : Doc) (legal : IsLegal s) (early : e
   held-before : (o : ObjectNo) (e : End) → o.0 < n → holder t.links (node.Object o) ≡ Some e → holder s.links (node.Object o) ≡ Some e
   held-before o e low h =
       by e (holder-contains t (node.Object o) e loaded-legal h) (held_stands t.links loaded-legal.links.set (node.Object o) e h)
-      (place_of m n k doc (sound s k doc legal late read) s.links legal.links.set legal.links.kinds legal.links.forest (room s k doc legal late) (few s k doc legal late) e)
+      (place_of s.metamodel n k doc (sound s k doc legal late read) s.links legal.links.set legal.links.kinds legal.links.forest (room s k doc legal late) (few s k doc legal late) e)
     where
       at-now : (d : End) (vs : List Value) (i : ℕ) → end t.links d ≡ vs → slice_get (end t.links d) i ≡ Some (value.Object o) → slice_get vs i ≡ Some (value.Object o)
       at-now d vs i is at = ap (λ (us : List Value). slice_get us i) (sym is) ∙ at
 
-      no-root : (i : ℕ) → slice_get (end t.links (contents_end m k)) i ≡ Some (value.Object o) → ⊥
+      no-root : (i : ℕ) → slice_get (end t.links (contents_end s.metamodel k)) i ≡ Some (value.Object o) → ⊥
       no-root i at =
-          let x = map-at (λ (a : ObjectNo). value.Object (loaded n a)) doc.roots i (value.Object o) (at-now (contents_end m k) (roots_loaded n doc) i (linked-roots s k doc legal late read) at) in
+          let x = map-at (λ (a : ObjectNo). value.Object (loaded n a)) doc.roots i (value.Object o) (at-now (contents_end s.metamodel k) (roots_loaded n doc) i (linked-roots s k doc legal late read) at) in
           no-new o x.0 low (same-object (loaded n x.0) o x.2)
 
       no-target : (vs : List Value) (i : ℕ) → slice_get (map (loaded_value n) vs) i ≡ Some (value.Object o) → ⊥
@@ -105,12 +101,12 @@ module _ (s : Model) (k : ResourceNo) (doc : Doc) (legal : IsLegal s) (early : e
           let y = loaded-value-object n x.0 o x.2 in
           no-new o y.0 low (sym y.2)
 
-      by : (d : End) → (shape m d.feature).containing ≡ Some d.feature → Has t.links d (value.Object o)
-          → IsPlaceOf m n k doc (sound s k doc legal late read) s.links legal.links.set legal.links.kinds legal.links.forest (room s k doc legal late) (few s k doc legal late) d → holder s.links (node.Object o) ≡ Some d
+      by : (d : End) → (shape s.metamodel d.feature).containing ≡ Some d.feature → Has t.links d (value.Object o)
+          → IsPlaceOf s.metamodel n k doc (sound s k doc legal late read) s.links legal.links.set legal.links.kinds legal.links.forest (room s k doc legal late) (few s k doc legal late) d → holder s.links (node.Object o) ≡ Some d
       by d own at (at_roots q) = absurd (no-root at.0 (ap (λ (x : End). slice_get (end t.links x) at.0) q ∙ at.1))
       by d own at (at_near a f q side) =
           absurd (no-target (values_in doc a f) at.0 (at-now (object_end n a f) (map (loaded_value n) (values_in doc a f)) at.0 (linked-near s k doc legal late read a f side) (ap (λ (x : End). slice_get (end t.links x) at.0) q ∙ at.1)))
-      by d own at (at_far b g f q side) = absurd (side.holds_not (subst (λ (x : End). (shape m x.feature).containing ≡ Some x.feature) (sym q) own))
+      by d own at (at_far b g f q side) = absurd (side.holds_not (subst (λ (x : End). (shape s.metamodel x.feature).containing ≡ Some x.feature) (sym q) own))
       by d own at (elsewhere outside other) = stands-held s legal d at.0 o own (at-now d (end s.links d) at.0 (linked-elsewhere s k doc legal late read d outside other) at.1)
 
   -- a node that was there has the holder that it had

@@ -81,6 +81,10 @@ named-there r o f has = by (r.class o) refl has
     by None none h = absurd (false≢true h)
     by (Some c) is h = (λ k. (NoObject unless is_some (is k) else_by NoResource unless true) else_by NoFeature unless has k)
 
+-- the links that are cut when a proxy is resolved, if its feature is a reference
+abbrev pub cut : Reading → Place → Bool → Option Target → List Tie
+cut r p b q = if b then tie_in r (end_of p) p.index ++ option_map_or (counter_tie r) q [] else []
+
 module _ (s : Model) (legal : IsLegal s) (p : Place) (x : Target) (late : resolve_refusal (reading s) (end_of p) p.index ≡ None) (found : target_at (reading s) (end_of p) p.index ≡ Some x) where
   abbrev r : Reading
   r = reading s
@@ -88,13 +92,10 @@ module _ (s : Model) (legal : IsLegal s) (p : Place) (x : Target) (late : resolv
   abbrev e : End
   e = end_of p
 
-  abbrev cut : Bool → Option Target → List Tie
-  cut b q = if b then tie_in r e p.index ++ option_map_or (counter_tie r) q [] else []
-
   abbrev Led : Bool → Option Target → Type 0
   Led b q =
-      Leads s (map cut_of (cut b q) ++ option_map_or (joining r e p.index) q []) (option_map_or (resolved e p.index) q [])
-      (let t = without_ties s.links (cut b q) in option_map_or (joined t r e p.index) q t) (values_with r e p.index x)
+      Leads s (map cut_of (cut r p b q) ++ option_map_or (joining r e p.index) q []) (option_map_or (resolved e p.index) q [])
+      (let t = without_ties s.links (cut r p b q) in option_map_or (joined t r e p.index) q t) (values_with r e p.index x)
 
   pub early : early_refusal (reading s) (Resolve p.object p.feature p.index) ≡ None
   early = named-there r p.object p.feature (feature-there s legal e p.index (resolvable r e p.index late).target (resolvable r e p.index late).resolvable)

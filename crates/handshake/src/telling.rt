@@ -218,7 +218,11 @@ fn push_cuts<L: LinkStore>(
 {
     match value {
         Value::Object(object) => {
-            push_other_losses(model, end, *object, ties, out)?;
+            let link = NewLink {
+                end,
+                object: *object,
+            };
+            push_other_losses(model, link, ties, out)?;
             match opposite_end(model, end, *object) {
                 Some(far) => push(out, far, Happening::Gains(node_value(end.node))),
                 None => Ok(()),
@@ -255,18 +259,24 @@ fn push_far_loss<L: LinkStore>(
     }
 }
 
-/// Adds the losses of displaced links at each end that a new link between an end and an object doesn't replace.
-fn push_other_losses<L: LinkStore>(
-    model: &ModelRef<L>,
+/// A new link between an end and an object.
+#[derive(Clone, Copy)]
+struct NewLink {
     end: End,
     object: ObjectNo,
+}
+
+/// Adds the losses of displaced links at each end that a new link doesn't replace.
+fn push_other_losses<L: LinkStore>(
+    model: &ModelRef<L>,
+    link: NewLink,
     ties: &[Tie],
     out: &mut Vec<Telling>,
 ) -> Result<(), AllocError>
-    ensures { OnOk result (out.new.items ≡ out.old.items ++ flat_map (t.other_losses (reading model.now) end object) ties.now) }
+    ensures { OnOk result (out.new.items ≡ out.old.items ++ flat_map (t.other_losses (reading model.now) link.end link.object) ties.now) }
 {
     for tie in ties {
-        push_losses(model, end, object, tie, out)?;
+        push_losses(model, link, tie, out)?;
     }
     Ok(())
 }
@@ -274,65 +284,62 @@ fn push_other_losses<L: LinkStore>(
 /// The containing end's loss comes first.
 fn push_losses<L: LinkStore>(
     model: &ModelRef<L>,
-    end: End,
-    object: ObjectNo,
+    link: NewLink,
     tie: &Tie,
     out: &mut Vec<Telling>,
 ) -> Result<(), AllocError>
-    ensures { OnOk result (out.new.items ≡ out.old.items ++ t.other_losses (reading model.now) end object tie.now) }
+    ensures { OnOk result (out.new.items ≡ out.old.items ++ t.other_losses (reading model.now) link.end link.object tie.now) }
 {
     let Some(far) = turned(model, tie) else {
-        return push_other_loss(model, end, object, tie, out);
+        return push_other_loss(model, link, tie, out);
     };
     if model.meta().is_containment(far.end.feature) {
-        push_both(model, end, object, &far, tie, out)
+        push_both(model, link, &far, tie, out)
     } else {
-        push_both(model, end, object, tie, &far, out)
+        push_both(model, link, tie, &far, out)
     }
 }
 
-/// Adds the losses at both ends of a link, each unless a new link between an end and an object replaces what is lost.
+/// Adds the losses at both ends of a link, each unless a new link replaces what is lost.
 fn push_both<L: LinkStore>(
     model: &ModelRef<L>,
-    end: End,
-    object: ObjectNo,
+    link: NewLink,
     first: &Tie,
     second: &Tie,
     out: &mut Vec<Telling>,
 ) -> Result<(), AllocError>
-    ensures { OnOk result (out.new.items ≡ out.old.items ++ filter (λ x. not (t.is_replaced (reading model.now) end object x.at)) (t.loss first.now ∷ t.loss second.now ∷ [])) }
+    ensures { OnOk result (out.new.items ≡ out.old.items ++ filter (λ x. not (t.is_replaced (reading model.now) link.end link.object x.at)) (t.loss first.now ∷ t.loss second.now ∷ [])) }
 {
-    push_other_loss(model, end, object, first, out)?;
-    push_other_loss(model, end, object, second, out)?;
+    push_other_loss(model, link, first, out)?;
+    push_other_loss(model, link, second, out)?;
     Ok(())
 }
 
-/// Adds a loss, unless a new link between an end and an object replaces what is lost.
+/// Adds a loss, unless a new link replaces what is lost.
 fn push_other_loss<L: LinkStore>(
     model: &ModelRef<L>,
-    end: End,
-    object: ObjectNo,
+    link: NewLink,
     tie: &Tie,
     out: &mut Vec<Telling>,
 ) -> Result<(), AllocError>
-    ensures { OnOk result (out.new.items ≡ out.old.items ++ filter (λ x. not (t.is_replaced (reading model.now) end object x.at)) (t.loss tie.now ∷ [])) }
+    ensures { OnOk result (out.new.items ≡ out.old.items ++ filter (λ x. not (t.is_replaced (reading model.now) link.end link.object x.at)) (t.loss tie.now ∷ [])) }
 {
-    if is_replaced(model, end, object, tie.end) {
+    if is_replaced(model, link, tie.end) {
         return Ok(());
     }
     push_loss(tie, out)
 }
 
-/// Whether a new link between an end and an object replaces what another end holds.
-fn is_replaced<L: LinkStore>(model: &ModelRef<L>, end: End, object: ObjectNo, other: End) -> bool
-    ensures { result ≡ t.is_replaced (reading model.now) end object other }
+/// Whether a new link replaces what another end holds.
+fn is_replaced<L: LinkStore>(model: &ModelRef<L>, link: NewLink, other: End) -> bool
+    ensures { result ≡ t.is_replaced (reading model.now) link.end link.object other }
 {
     if !model.meta().is_single(other.feature) {
         return false;
     }
-    match opposite_end(model, end, object) {
-        Some(far) => end == other || other == far,
-        None => end == other,
+    match opposite_end(model, link.end, link.object) {
+        Some(far) => link.end == other || other == far,
+        None => link.end == other,
     }
 }
 

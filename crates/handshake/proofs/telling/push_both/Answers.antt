@@ -5,10 +5,9 @@ use Rattle.handshake.specs.Tellings.{is_replaced, loss}
 use Rattle.handshake.proofs.TellingLemmas.{both-added}
 use Rattle.handshake.proofs.telling.push_both.Goals as goal
 
--- src/telling.rt:150:1
 pub returns : goal.returns
 returns g c =
-    let stays = λ (x : Telling). not (is_replaced (reading c.args.model.now) c.args.end c.args.object x.at) in
+    let stays = λ (x : Telling). not (is_replaced (reading c.args.model.now) c.args.link.end c.args.link.object x.at) in
     c.in_ok-push_other_loss-2.ensures
     ∙ ap (λ xs. xs ++ filter stays (loss c.args.second.now ∷ [])) c.in_ok-push_other_loss.ensures
     ∙ both-added stays c.args.out.now.items (loss c.args.first.now) (loss c.args.second.now)
