@@ -74,7 +74,7 @@ all-filter : (P : FeatureNo → Type 0) (p : FeatureNo → Bool) (fs : List Feat
 all-filter P p [] all = tt
 all-filter P p (f ∷ fs) all = elim (p f) as (λ b. AllByRecursion P (cond b (f ∷ filter p fs) (filter p fs))) [ true ↦ (all.0, all-filter P p fs all.1) | false ↦ all-filter P p fs all.1 ]
 
-distinct-filter : (p : FeatureNo → Bool) (fs : List FeatureNo) → IsDistinct same_feature fs → IsDistinct same_feature (filter p fs)
+pub distinct-filter : (p : FeatureNo → Bool) (fs : List FeatureNo) → IsDistinct same_feature fs → IsDistinct same_feature (filter p fs)
 unfolding IsDistinct
 distinct-filter p [] d = tt
 distinct-filter p (f ∷ fs) d =

@@ -93,6 +93,19 @@ object-typed m single ELong o = refl
 object-typed m single EBoolean o = refl
 object-typed m single (Enum e) o = refl
 
+kind-same : (m : Metamodel) (x y : ObjectNo → Option ClassNo) (single : Bool) (k : Kind) (a b : ObjectNo) → x a ≡ y b → lookups.is_of_kind m x single k (value.Object a) ≡ lookups.is_of_kind m y single k (value.Object b)
+kind-same m x y single (Attribute t unique unsettable default) a b q = object-typed m single t a ∙ sym (object-typed m single t b)
+kind-same m x y single (Reference target containment opposite) a b q = ap (λ (c : Option ClassNo). option_map_or (λ c. lookups.conforms m c target) c false) q
+
+-- what takes an object takes each of the same class
+pub takes-same : (m : Metamodel) (x y : ObjectNo → Option ClassNo) (f : FeatureNo) (a b : ObjectNo) → x a ≡ y b → lookups.takes m x f (value.Object a) ≡ lookups.takes m y f (value.Object b)
+takes-same m x y f a b q = by (lookups.feature m f)
+  where
+    by : (o : Option Feature) → option_map_or (λ g. lookups.is_of_kind m x (lookups.is_single g) g.kind (value.Object a)) o (lookups.is_live_object x (value.Object a))
+        ≡ option_map_or (λ g. lookups.is_of_kind m y (lookups.is_single g) g.kind (value.Object b)) o (lookups.is_live_object y (value.Object b))
+    by None = ap (λ (c : Option ClassNo). is_some c) q
+    by (Some g) = kind-same m x y (lookups.is_single g) g.kind a b q
+
 -- what a feature takes lives
 pub taken-live : (m : Metamodel) (class : ObjectNo → Option ClassNo) (f : FeatureNo) (o : ObjectNo) → lookups.takes m class f (value.Object o) ≡ true → is_some (class o) ≡ true
 taken-live m class f o = by (lookups.feature m f)

@@ -1,5 +1,5 @@
 -- What ends hold after a document is loaded, and that it is legal.
-use Rattle.std.proofs.Common.{◌≡◌, ◌≢◌, ◌∙◌, ◌+◌, ◌<◌, ◌≤◌, ℕ, zero, suc, Bool, true, false, List, [], ◌∷◌, Option, Some, None, is_some, length, map, nat_le, nat_lt, option_map, slice_get, arith, refl, sym, ap, subst, inl, inr}
+use Rattle.std.proofs.Common.{◌≡◌, ◌≢◌, ◌∙◌, ◌+◌, ◌<◌, ◌≤◌, ℕ, zero, suc, true, false, List, [], ◌∷◌, Option, Some, None, is_some, length, map, nat_le, nat_lt, option_map, slice_get, arith, refl, sym, ap, subst, inl, inr}
 use Rattle.std.specs.List.{AllByRecursion, list_all}
 use Rattle.std.specs.Option.{option_map_or}
 use Rattle.std.proofs.lemmas.Bool.{and_from, and_parts, cases_lt, false≢true, true≢false}
@@ -40,7 +40,7 @@ use Rattle.loading.proofs.PairLemmas.{all-at}
 use Rattle.loading.proofs.SideLemmas.{IsFarSide, IsNearSide, IsPlainFeature, contents-shape, opposite-reference}
 use Rattle.loading.proofs.SoundLemmas.{IsThere, has-content, there-object}
 use Rattle.loading.proofs.SourceLemmas.{ascending-distinct, loaded_values, source-at, sources-ascending, sources_from}
-use Rattle.containment.proofs.PartLemmas.{object-typed}
+use Rattle.containment.proofs.PartLemmas.{takes-same}
 use Rattle.handshake.specs.Laws.{comes_with}
 use Rattle.handshake.specs.Plans.{IsDocument}
 use Rattle.handshake.specs.Refusals.{late_refusal}
@@ -50,19 +50,6 @@ use Rattle.handshake.proofs.LoadLemmas.{few, load-makes, room, sound, unborn}
 use Rattle.handshake.proofs.LoadValueLemmas.{AreLoaded}
 
 ---------------------------------------------------------------- types
-
-kind-same : (m : Metamodel) (x y : ObjectNo → Option ClassNo) (single : Bool) (k : Kind) (a b : ObjectNo) → x a ≡ y b → lookups.is_of_kind m x single k (value.Object a) ≡ lookups.is_of_kind m y single k (value.Object b)
-kind-same m x y single (Attribute t unique unsettable default) a b q = object-typed m single t a ∙ sym (object-typed m single t b)
-kind-same m x y single (Reference target containment opposite) a b q = ap (λ (c : Option ClassNo). option_map_or (λ c. lookups.conforms m c target) c false) q
-
--- what takes an object takes each of the same class
-takes-same : (m : Metamodel) (x y : ObjectNo → Option ClassNo) (f : FeatureNo) (a b : ObjectNo) → x a ≡ y b → lookups.takes m x f (value.Object a) ≡ lookups.takes m y f (value.Object b)
-takes-same m x y f a b q = by (lookups.feature m f)
-  where
-    by : (o : Option Feature) → option_map_or (λ g. lookups.is_of_kind m x (lookups.is_single g) g.kind (value.Object a)) o (lookups.is_live_object x (value.Object a))
-        ≡ option_map_or (λ g. lookups.is_of_kind m y (lookups.is_single g) g.kind (value.Object b)) o (lookups.is_live_object y (value.Object b))
-    by None = ap (λ (c : Option ClassNo). is_some c) q
-    by (Some g) = kind-same m x y (lookups.is_single g) g.kind a b q
 
 kept-kind : (m : Metamodel) (f : FeatureNo) (g : Feature) (k : Kind) (v : Value) → lookups.is_of_attribute m (lookups.is_single g) k v ≡ true → (shape_of m f g k).is_reference ≡ false
 kept-kind m f g (Attribute t unique unsettable default) v h = refl

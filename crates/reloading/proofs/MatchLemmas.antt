@@ -9,14 +9,9 @@ use Rattle.std.proofs.lemmas.Option.{none-some, same_Some, slice_get_within}
 use Rattle.mm_types.specs.Conditions.{◌unless◌, ◌where_so◌, ◌else_by◌}
 use Rattle.mm_types.specs.Ends.{has_value, index_in}
 use Rattle.mm_types.specs.Lookups as lookups
-use Rattle.mm_types.specs.Resolved.{Metamodel}
 use Rattle.mm_types.specs.Same.{same_node}
 use Rattle.mm_types.specs.Shapes.{shape}
 use Rattle.mm_types.specs.declared.end.End.{End}
-use Rattle.mm_types.specs.declared.feature.Feature.{Feature}
-use Rattle.mm_types.specs.declared.feature.Kind.{Kind}
-use Rattle.mm_types.specs.declared.feature.Kind.TheVariants.{Attribute, Reference}
-use Rattle.mm_types.specs.declared.numbers.ClassNo.{ClassNo}
 use Rattle.mm_types.specs.declared.numbers.FeatureNo.{FeatureNo}
 use Rattle.mm_types.specs.declared.numbers.Node.{Node}
 use Rattle.mm_types.specs.declared.numbers.Node.TheVariants as node
@@ -34,7 +29,7 @@ use Rattle.models.specs.Model.{Model, model_of, reading, values_at}
 use Rattle.models.specs.Reading.{Reading, at_end, has_feature, has_uri, is_live, resource_named, takes}
 use Rattle.models.proofs.PlaceLemmas.{has-at, index-at}
 use Rattle.models.proofs.ReadLemmas.{resource-there}
-use Rattle.containment.proofs.PartLemmas.{legal-at, object-typed, values-linked}
+use Rattle.containment.proofs.PartLemmas.{legal-at, takes-same, values-linked}
 use Rattle.fragment_paths.proofs.StayLemmas.{address-finds}
 use Rattle.fragment_paths.specs.Finding.{at, found_by}
 use Rattle.fragment_paths.specs.Fragments.{address}
@@ -71,21 +66,6 @@ position-of {X} p (z ∷ zs) k x at passes =
 leads-proxy : (r : Reading) (n : Node) (v : Value) → leads_to r n v ≡ true → (t : List ℕ) × (v ≡ value.Proxy t)
 leads-proxy r n (value.Proxy t) h = (t, refl)
 leads-proxy r n _ h = absurd (false≢true h)
-
----------------------------------------------------------------- types
-
-kind-same : (m : Metamodel) (x y : ObjectNo → Option ClassNo) (single : Bool) (k : Kind) (a b : ObjectNo) → x a ≡ y b → lookups.is_of_kind m x single k (value.Object a) ≡ lookups.is_of_kind m y single k (value.Object b)
-kind-same m x y single (Attribute t unique unsettable default) a b q = object-typed m single t a ∙ sym (object-typed m single t b)
-kind-same m x y single (Reference target containment opposite) a b q = ap (λ (c : Option ClassNo). option_map_or (λ c. lookups.conforms m c target) c false) q
-
--- objects of one class are of the same types
-takes-same : (m : Metamodel) (x y : ObjectNo → Option ClassNo) (f : FeatureNo) (a b : ObjectNo) → x a ≡ y b → lookups.takes m x f (value.Object a) ≡ lookups.takes m y f (value.Object b)
-takes-same m x y f a b q = by (lookups.feature m f)
-  where
-    by : (o : Option Feature) → option_map_or (λ g. lookups.is_of_kind m x (lookups.is_single g) g.kind (value.Object a)) o (lookups.is_live_object x (value.Object a))
-        ≡ option_map_or (λ g. lookups.is_of_kind m y (lookups.is_single g) g.kind (value.Object b)) o (lookups.is_live_object y (value.Object b))
-    by None = ap (λ (c : Option ClassNo). is_some c) q
-    by (Some g) = kind-same m x y (lookups.is_single g) g.kind a b q
 
 ---------------------------------------------------------------- a proxy
 
