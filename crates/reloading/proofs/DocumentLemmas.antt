@@ -1,17 +1,16 @@
 -- What the document of a resource has under each feature of each object: what stands there, named as the document names it.
-use Rattle.std.proofs.Common.{◌≡◌, ◌∙◌, ℕ, Bool, true, false, ◌&&◌, ◌||◌, not, cond, List, [], ◌∷◌, ◌++◌, Option, Some, None, append-nil, filter, flat_map, map, nat_eq, slice_get, if◌then◌else◌, eq-eqb, eqb-true, refl, sym, ap, subst}
-use Rattle.std.specs.Prelude.{Contains, option_and_then, unwrap_or}
+use Rattle.std.proofs.Common.{◌≡◌, ◌∙◌, ℕ, Bool, true, false, ◌&&◌, ◌||◌, not, List, [], ◌∷◌, ◌++◌, Option, Some, None, append-nil, flat_map, map, slice_get, if◌then◌else◌, eq-eqb, eqb-true, refl, sym, ap, subst}
+use Rattle.std.specs.Prelude.{Contains, option_and_then}
 use Rattle.std.specs.List.{AllByRecursion, IsDistinct, list_all, list_any}
 use Rattle.std.specs.Option.{option_map_or}
 use Rattle.std.proofs.lemmas.Bool.{and_parts, false≢true, true≢false}
 use Rattle.std.proofs.lemmas.Option.{none-some}
-use Rattle.mm_types.specs.Ends.{shown, value_in}
+use Rattle.mm_types.specs.Ends.{shown}
 use Rattle.mm_types.specs.Ends as ends
 use Rattle.mm_types.specs.Lookups as lookups
-use Rattle.mm_types.specs.Same.{is_nil, same_feature, same_value}
+use Rattle.mm_types.specs.Same.{is_nil, same_feature}
 use Rattle.mm_types.specs.Shapes.{Shape, shape}
 use Rattle.mm_types.specs.declared.end.End.{End}
-use Rattle.mm_types.specs.declared.numbers.ClassNo.{ClassNo}
 use Rattle.mm_types.specs.declared.numbers.FeatureNo.{FeatureNo}
 use Rattle.mm_types.specs.declared.numbers.Node.TheVariants as node
 use Rattle.mm_types.specs.declared.numbers.ObjectNo.{ObjectNo}
@@ -20,15 +19,14 @@ use Rattle.mm_types.specs.declared.value.Value.{Value}
 use Rattle.mm_types.specs.declared.value.Value.TheVariants as value
 use Rattle.mm_meta.proofs.ShapeLemmas.{shape_opposite}
 use Rattle.links.specs.Links.{end}
-use Rattle.models.specs.Legal.{IsLegal, is_legal_target}
+use Rattle.models.specs.Legal.{IsLegal}
 use Rattle.models.specs.Model.{Model, attribute_values, kept_flag, kept_values, reading, values_at}
 use Rattle.models.specs.Reading.{Reading, all_features_of, at_end, has_feature, is_set}
-use Rattle.containment.proofs.DistinctLemmas.{features-distinct}
+use Rattle.containment.proofs.DistinctLemmas.{distinct-filter, features-distinct}
 use Rattle.containment.proofs.PartLemmas.{legal-at, values-linked}
 use Rattle.saved_docs.specs.Written.{is_written, objects_in, written_features}
 use Rattle.resource_docs.specs.Read.{values_in, values_under}
 use Rattle.resource_docs.specs.declared.doc.Content.{Content}
-use Rattle.resource_docs.specs.declared.doc.Doc.{Doc}
 use Rattle.resource_docs.specs.declared.doc.DocObject.{DocObject}
 use Rattle.loading.proofs.SideLemmas.{opposite-reference}
 use Rattle.loading.proofs.SoundLemmas.{at-map}
@@ -36,24 +34,12 @@ use Rattle.round_trip.specs.Copied.{copied, object_copied, renamed}
 use Rattle.round_trip.proofs.ContainLemmas.{reference-plain}
 use Rattle.round_trip.proofs.EndLemmas.{written-of}
 use Rattle.round_trip.proofs.ListLemmas.{any-in, any-none}
+use Rattle.round_trip.proofs.SideLemmas.{among-class, first-set, target-of}
 use Rattle.round_trip.proofs.ValuesListLemmas.{behind, in-front, is-kept}
 use Rattle.reloading.proofs.PlainLemmas.{attribute-plain, is_plain}
 use Rattle.reloading.proofs.StoredLemmas.{not-set, set-some, stored-of}
 
 ---------------------------------------------------------------- contents of different features
-
-all-filter : (P : FeatureNo → Type 0) (p : FeatureNo → Bool) (fs : List FeatureNo) → AllByRecursion P fs → AllByRecursion P (filter p fs)
-all-filter P p [] all = tt
-all-filter P p (f ∷ fs) all = elim (p f) as (λ b. AllByRecursion P (cond b (f ∷ filter p fs) (filter p fs))) [ true ↦ (all.0, all-filter P p fs all.1) | false ↦ all-filter P p fs all.1 ]
-
-distinct-filter : (p : FeatureNo → Bool) (fs : List FeatureNo) → IsDistinct same_feature fs → IsDistinct same_feature (filter p fs)
-unfolding IsDistinct
-distinct-filter p [] d = tt
-distinct-filter p (f ∷ fs) d =
-    elim (p f) as (λ b. IsDistinct same_feature (cond b (f ∷ filter p fs) (filter p fs))) [
-      | true ↦ (all-filter (λ g. same_feature f g ≡ false) p fs d.0, distinct-filter p fs d.1)
-      | false ↦ distinct-filter p fs d.1
-    ]
 
 -- what stands under a feature, where each content is of another one
 under : (vals : FeatureNo → List Value) (gs : List FeatureNo) (f : FeatureNo) → IsDistinct same_feature gs
@@ -72,34 +58,6 @@ under vals (g ∷ gs) f d =
 
 ---------------------------------------------------------------- references that are set
 
-abbrev is_target : Value → Bool
-is_target (value.Object o) = true
-is_target (value.Proxy t) = true
-is_target _ = false
-
-target-of : (r : Reading) (f : FeatureNo) (v : Value) → is_legal_target r f v ≡ true → is_target v ≡ true
-target-of r f (value.Object o) h = refl
-target-of r f (value.Proxy t) h = refl
-target-of r f _ h = absurd (false≢true h)
-
--- a reference that has an object or a proxy first is set
-first-set : (a : Shape) (v : Value) (vs : List Value) (flag : Bool) → a.is_unsettable ≡ false → a.default ≡ value.Null → is_target v ≡ true → ends.is_set a (record { values = shown a.is_single (v ∷ vs); flag = flag }) ≡ true
-first-set a v vs flag settable null target = by a.is_single v target
-  where
-    by : (b : Bool) (w : Value) → is_target w ≡ true → (if b then (if a.is_unsettable then flag else not (same_value (value_in (shown b (w ∷ vs)) 0) a.default)) else not (is_nil (shown b (w ∷ vs)))) ≡ true
-    by true (value.Object o) is = λ i. if settable i then flag else not (same_value (value.Object o) (null i))
-    by true (value.Proxy t) is = λ i. if settable i then flag else not (same_value (value.Proxy t) (null i))
-    by true _ is = absurd (false≢true is)
-    by false w is = refl
-
-among-features : (fs : List FeatureNo) (f : FeatureNo) → list_any (λ (g : FeatureNo). nat_eq g.0 f.0) fs ≡ true → Contains fs f
-among-features [] f h = absurd (false≢true h)
-among-features (g ∷ gs) f h =
-    elim (nat_eq g.0 f.0) as (λ b. nat_eq g.0 f.0 ≡ b → (b || list_any (λ (x : FeatureNo). nat_eq x.0 f.0) gs) ≡ true → Contains (g ∷ gs) f) [
-      | true ↦ λ same _. (let is : g ≡ f = λ i. record { 0 = eqb-true g.0 f.0 same i } in subst (λ (x : FeatureNo). Contains (g ∷ gs) x) is (in-front g gs))
-      | false ↦ λ _ later. behind g gs f (among-features gs f later)
-    ] refl h
-
 found-feature : (fs : List FeatureNo) (f : FeatureNo) → list_any (same_feature f) fs ≡ true → Contains fs f
 found-feature [] f h = absurd (false≢true h)
 found-feature (g ∷ gs) f h =
@@ -107,18 +65,6 @@ found-feature (g ∷ gs) f h =
       | true ↦ λ same _. (let is : f ≡ g = λ i. record { 0 = eqb-true f.0 g.0 same i } in subst (λ (x : FeatureNo). Contains (g ∷ gs) x) (sym is) (in-front g gs))
       | false ↦ λ _ later. behind g gs f (found-feature gs f later)
     ] refl h
-
--- a class's feature is among all features of its objects
-pub among-class : (r : Reading) (o : ObjectNo) (f : FeatureNo) → has_feature r (node.Object o) f ≡ true → Contains (all_features_of r (node.Object o)) f
-among-class r o f = by_class (r.class o)
-  where
-    by_all : (x : Option (List FeatureNo)) → option_map_or (λ all. list_any (λ (g : FeatureNo). nat_eq g.0 f.0) all) x false ≡ true → Contains (unwrap_or x []) f
-    by_all None h = absurd (false≢true h)
-    by_all (Some all) h = among-features all f h
-
-    by_class : (x : Option ClassNo) → option_map_or (λ c. lookups.has_feature r.metamodel c f) x false ≡ true → Contains (unwrap_or (option_and_then (lookups.features r.metamodel) x) []) f
-    by_class None h = absurd (false≢true h)
-    by_class (Some c) h = by_all (lookups.features r.metamodel c) h
 
 -- a reference that is no container reference and has a value is written
 pub reference-written : (s : Model) → IsLegal s → (o : ObjectNo) (f : FeatureNo) (i : ℕ) (x : Value) → (shape s.metamodel f).is_reference ≡ true → lookups.is_container s.metamodel f ≡ false
@@ -160,6 +106,10 @@ attribute-some a (v ∷ vs) some = refl
 
 ---------------------------------------------------------------- a document
 
+pub object-in : (r : Reading) (k : ResourceNo) (o : ObjectNo) (i : ℕ) → slice_get (objects_in r k) i ≡ Some o → slice_get (copied r k).objects i ≡ Some (object_copied r (objects_in r k) o)
+unfolding copied
+object-in r k o i at = at-map (object_copied r (objects_in r k)) (objects_in r k) i o at
+
 module _ (s : Model) (legal : IsLegal s) (k : ResourceNo) where
   abbrev r : Reading
   r = reading s
@@ -167,21 +117,18 @@ module _ (s : Model) (legal : IsLegal s) (k : ResourceNo) where
   abbrev os : List ObjectNo
   os = objects_in (reading s) k
 
-  abbrev doc : Doc
-  doc = copied (reading s) k
-
-  pub object-in : (o : ObjectNo) (i : ℕ) → slice_get os i ≡ Some o → slice_get doc.objects i ≡ Some (object_copied r os o)
-  unfolding copied
-  object-in o i at = at-map (object_copied r os) os i o at
-
   module _ (o : ObjectNo) (i : ℕ) (f : FeatureNo) (at : slice_get (objects_in (reading s) k) i ≡ Some o) where
     abbrev e : End
     e = at_end (node.Object o) f
 
+    -- what the document has there
+    abbrev copy : List Value
+    copy = values_in (copied (reading s) k) (record { 0 = i }) f
+
     -- a feature that is written has what stands there
-    values-written : values_in doc (record { 0 = i }) f ≡ (if list_any (same_feature f) (written_features r o) then map (renamed r os) (values_at s e) else [])
+    values-written : copy ≡ (if list_any (same_feature f) (written_features r o) then map (renamed r os) (values_at s e) else [])
     values-written =
-        ap (λ (x : Option DocObject). option_map_or (λ y. values_under y f) x []) (object-in o i at)
+        ap (λ (x : Option DocObject). option_map_or (λ y. values_under y f) x []) (object-in r k o i at)
         ∙ under (λ g. map (renamed r os) (values_at s (at_end (node.Object o) g))) (written_features r o) f (distinct-filter (is_written r o) (all_features_of r (node.Object o)) (features-distinct s legal (node.Object o)))
 
     is-written : has_feature r (node.Object o) f ≡ true → is_set r e ≡ true → lookups.is_container s.metamodel f ≡ false → list_any (same_feature f) (written_features r o) ≡ true
@@ -189,7 +136,7 @@ module _ (s : Model) (legal : IsLegal s) (k : ResourceNo) where
         any-in (same_feature f) (written_features r o) f (is-kept (is_written r o) (all_features_of r (node.Object o)) f (among-class r o f has) (λ j. set j && not (plain j))) (eq-eqb f.0 f.0 refl)
 
     -- a reference that is no container reference has, in the document, what stands there
-    pub reference-values : (shape s.metamodel f).is_reference ≡ true → lookups.is_container s.metamodel f ≡ false → values_in doc (record { 0 = i }) f ≡ map (renamed r os) (values_at s e)
+    pub reference-values : (shape s.metamodel f).is_reference ≡ true → lookups.is_container s.metamodel f ≡ false → copy ≡ map (renamed r os) (values_at s e)
     reference-values reference plain =
         values-written
         ∙ elim (list_any (same_feature f) (written_features r o)) as (λ b. list_any (same_feature f) (written_features r o) ≡ b → (if b then map (renamed r os) (values_at s e) else []) ≡ map (renamed r os) (values_at s e)) [
@@ -205,8 +152,8 @@ module _ (s : Model) (legal : IsLegal s) (k : ResourceNo) where
 
     -- an attribute shows and flags what it did
     pub record IsAttribute : Type 0 where
-      pub values : attribute_values (shape s.metamodel f) (values_in doc (record { 0 = i }) f) ≡ values_at s e
-      pub flag : ((shape s.metamodel f).is_unsettable && ((shape s.metamodel f).is_single && not (is_nil (values_in doc (record { 0 = i }) f)))) ≡ r.flag e
+      pub values : attribute_values (shape s.metamodel f) copy ≡ values_at s e
+      pub flag : ((shape s.metamodel f).is_unsettable && ((shape s.metamodel f).is_single && not (is_nil copy))) ≡ r.flag e
 
     module _ (attribute : (shape s.metamodel f).is_reference ≡ false) where
       abbrev a : Shape
@@ -231,7 +178,7 @@ module _ (s : Model) (legal : IsLegal s) (k : ResourceNo) where
           let some = set-some a kept flag (set-is ∙ set) stored.flagged in
           let vs = values_at s e in
           let own : vs ≡ kept = shows ∙ some.shows in
-          let written : values_in doc (record { 0 = i }) f ≡ vs = values-written ∙ ap (λ (b : Bool). if b then map (renamed r os) vs else []) h ∙ plain-renamed r os vs (attribute-plain s legal e attribute) in
+          let written : copy ≡ vs = values-written ∙ ap (λ (b : Bool). if b then map (renamed r os) vs else []) h ∙ plain-renamed r os vs (attribute-plain s legal e attribute) in
           record {
             values = ap (attribute_values a) written ∙ attribute-some a vs (ap is_nil own ∙ some.some);
             flag = ap (λ (xs : List Value). a.is_unsettable && (a.is_single && not (is_nil xs))) (written ∙ own) ∙ ap (λ (b : Bool). a.is_unsettable && (a.is_single && not b)) some.some ∙ sym some.flag;
@@ -240,7 +187,7 @@ module _ (s : Model) (legal : IsLegal s) (k : ResourceNo) where
       when-not : list_any (same_feature f) (written_features r o) ≡ false → IsAttribute
       when-not h =
           let stored = stored-of s legal o f in
-          let nothing : values_in doc (record { 0 = i }) f ≡ [] = values-written ∙ ap (λ (b : Bool). if b then map (renamed r os) (values_at s e) else []) h in
+          let nothing : copy ≡ [] = values-written ∙ ap (λ (b : Bool). if b then map (renamed r os) (values_at s e) else []) h in
           let off : is_set r e ≡ false =
           elim (is_set r e) as (λ b. is_set r e ≡ b → b ≡ false) [
             | true ↦ λ set.

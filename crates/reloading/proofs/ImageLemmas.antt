@@ -139,7 +139,7 @@ module _ (s : Model) (w : ValuesState) (c : Links) (legal : IsLegal s) (other : 
   image-class o inside =
       let at = place o inside in
       ap (reading u).class (new-is o at) ∙ now.objects.classes (record { 0 = at.number })
-      ∙ ap (option_map (λ (x : DocObject). x.class)) (object-in s legal k o at.number at.there) ∙ some-class (class_of s.values o) (live-inside s legal o k inside)
+      ∙ ap (option_map (λ (x : DocObject). x.class)) (object-in r k o at.number at.there) ∙ some-class (class_of s.values o) (live-inside s legal o k inside)
 
   ---------------------------------------------------------------- attributes
 

@@ -29,12 +29,12 @@ use Rattle.fragment_paths.proofs.ObjectLemmas.{all-objects}
 use Rattle.loading.proofs.SoundLemmas.{at-map, map-at}
 use Rattle.round_trip.proofs.ListLemmas.{of-each}
 use Rattle.round_trip.proofs.PartsListLemmas.{all-passing}
+use Rattle.round_trip.proofs.SideLemmas.{among-class}
 use Rattle.round_trip.proofs.ValuesListLemmas.{place-of, stands}
 use Rattle.handshake.specs.Proxies.{is_proxy_place, place, places_of, places_under}
 use Rattle.handshake.specs.declared.place.Place.{Place}
 use Rattle.handshake.proofs.FollowLemmas.{get-set}
 use Rattle.reloading.specs.Proxies.{HasNoProxy, proxies_len}
-use Rattle.reloading.proofs.DocumentLemmas.{among-class}
 use Rattle.reloading.proofs.PlainLemmas.{reference-of}
 
 ---------------------------------------------------------------- what passes a test

@@ -21,14 +21,14 @@ use Rattle.round_trip.specs.Copied.{copied}
 
 ---------------------------------------------------------------- folders
 
-abbrev fid : ℕ → FeatureNo
+abbrev pub fid : ℕ → FeatureNo
 fid f = record { 0 = f }
 
-abbrev feature : List ℕ → Kind → Feature
+abbrev pub feature : List ℕ → Kind → Feature
 feature name kind = record { name = name; owner = record { 0 = 0 }; lower = pos 0; upper = negsuc 0; kind = kind }
 
 -- 0 names, 1 subs, 2 likes; 3 contents
-abbrev folders : Metamodel
+abbrev pub folders : Metamodel
 folders =
     record {
       enums = [];
@@ -39,39 +39,44 @@ folders =
           ∷ feature (codes "likes") (Reference (record { 0 = 0 }) false None) ∷ [];
     }
 
-abbrev o : ℕ → Node
+abbrev pub o : ℕ → Node
 o n = node.Object (record { 0 = n })
 
-abbrev resource : ℕ → Node
+abbrev pub resource : ℕ → Node
 resource k = node.Resource (record { 0 = k })
 
-abbrev end_of : Node → ℕ → End
+abbrev pub end_of : Node → ℕ → End
 end_of n f = record { node = n; feature = fid f }
 
-abbrev v : ℕ → Value
+abbrev pub v : ℕ → Value
 v n = value.Object (record { 0 = n })
 
-abbrev values : List (End × List Value)
-values =
+-- where this is what object 2 likes
+abbrev pub values : List Value → List (End × List Value)
+values likes =
     (end_of (resource 0) 3, v 1 ∷ []) ∷ (end_of (resource 1) 3, v 0 ∷ []) ∷ (end_of (o 1) 1, v 2 ∷ []) ∷ (end_of (o 1) 0, value.Text (codes "A") ∷ [])
-    ∷ (end_of (o 2) 2, v 1 ∷ v 0 ∷ []) ∷ []
+    ∷ (end_of (o 2) 2, likes) ∷ []
 
-abbrev ups : List (Node × (End × List Node))
+abbrev pub ups : List (Node × (End × List Node))
 ups =
     (o 0, (end_of (resource 1) 3, resource 1 ∷ [])) ∷ (o 1, (end_of (resource 0) 3, resource 0 ∷ [])) ∷ (o 2, (end_of (o 1) 1, o 1 ∷ resource 0 ∷ [])) ∷ []
 
-abbrev two_resources : Reading
-two_resources =
+abbrev pub two_resources : List Value → Reading
+two_resources likes =
     record {
       metamodel = folders;
       next = 3;
       class = λ x. slice_get (map (λ c. record { 0 = c }) (0 ∷ 0 ∷ 0 ∷ [])) x.0;
       uris = codes "http://m.example/a" ∷ codes "http://m.example/b" ∷ [];
-      values = λ e. unwrap_or (option_map (λ row. row.1) (find (λ row. same_end row.0 e) values)) [];
+      values = λ e. unwrap_or (option_map (λ row. row.1) (find (λ row. same_end row.0 e) (values likes))) [];
       flag = λ e. false;
       holder = λ n. option_map (λ row. row.1.0) (find (λ row. same_node row.0 n) ups);
       above = λ n. unwrap_or (option_map (λ row. row.1.1) (find (λ row. same_node row.0 n) ups)) [];
     }
+
+-- object 2 likes both others
+abbrev pub whole : Reading
+whole = two_resources (v 1 ∷ v 0 ∷ [])
 
 ---------------------------------------------------------------- as a document
 
@@ -82,7 +87,7 @@ abbrev folder : List Content → DocObject
 folder contents = record { class = record { 0 = 0 }; contents = contents }
 
 -- objects are named by their places, the folder of the other resource by its address
-as-document : copied two_resources (record { 0 = 0 }) ≡ record {
+as-document : copied whole (record { 0 = 0 }) ≡ record {
   objects =
       folder (content 0 (value.Text (codes "A") ∷ []) ∷ content 1 (v 1 ∷ []) ∷ [])
       ∷ folder (content 2 (v 0 ∷ value.Proxy (codes "http://m.example/b#/") ∷ []) ∷ []) ∷ [];

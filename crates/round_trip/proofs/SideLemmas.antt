@@ -91,7 +91,7 @@ among-features (g ∷ gs) f h =
     ] refl h
 
 -- a reference that has an object or a proxy first is set
-first-set : (a : Shape) (v : Value) (vs : List Value) (flag : Bool) → a.is_unsettable ≡ false → a.default ≡ value.Null → is_target v ≡ true → ends.is_set a (record { values = shown a.is_single (v ∷ vs); flag = flag }) ≡ true
+pub first-set : (a : Shape) (v : Value) (vs : List Value) (flag : Bool) → a.is_unsettable ≡ false → a.default ≡ value.Null → is_target v ≡ true → ends.is_set a (record { values = shown a.is_single (v ∷ vs); flag = flag }) ≡ true
 first-set a v vs flag settable null target = by a.is_single v target
   where
     by : (b : Bool) (w : Value) → is_target w ≡ true → (if b then (if a.is_unsettable then flag else not (same_value (value_in (shown b (w ∷ vs)) 0) a.default)) else not (is_nil (shown b (w ∷ vs)))) ≡ true
@@ -100,7 +100,7 @@ first-set a v vs flag settable null target = by a.is_single v target
     by true _ is = absurd (false≢true is)
     by false w is = refl
 
-target-of : (r : Reading) (f : FeatureNo) (v : Value) → is_legal_target r f v ≡ true → is_target v ≡ true
+pub target-of : (r : Reading) (f : FeatureNo) (v : Value) → is_legal_target r f v ≡ true → is_target v ≡ true
 target-of r f (value.Object o) h = refl
 target-of r f (value.Proxy t) h = refl
 target-of r f _ h = absurd (false≢true h)
@@ -112,7 +112,7 @@ some-set r e (w ∷ ws) i v settable null legal at =
     first-set (shape r.metamodel e.feature) w ws (r.flag e) settable null (target-of r e.feature w (legal-at r e (w ∷ ws) 0 w legal refl).1)
 
 -- a class's feature is among all features of its objects
-among-class : (r : Reading) (o : ObjectNo) (f : FeatureNo) → has_feature r (node.Object o) f ≡ true → Contains (all_features_of r (node.Object o)) f
+pub among-class : (r : Reading) (o : ObjectNo) (f : FeatureNo) → has_feature r (node.Object o) f ≡ true → Contains (all_features_of r (node.Object o)) f
 among-class r o f = by_class (r.class o)
   where
     by_all : (x : Option (List FeatureNo)) → option_map_or (λ all. list_any (λ (g : FeatureNo). nat_eq g.0 f.0) all) x false ≡ true → Contains (unwrap_or x []) f
