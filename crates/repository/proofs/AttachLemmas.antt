@@ -16,6 +16,7 @@ use Rattle.notice_chain.specs.Listed.{HasDistinctNumbers, Listed, adapter, has_n
 use Rattle.notice_chain.specs.Released.{Spot, is_of, released, spots}
 use Rattle.notice_chain.specs.declared.target.Target.{Target}
 use Rattle.adapter_list.specs.Refusals.{attach_refusal, but_memory, watch_refusal}
+use Rattle.models.specs.Model.{Model, reading}
 use Rattle.models.specs.Reading.{is_node_live, is_resource_there}
 use Rattle.handshake.specs.Named.{node_refusal}
 use Rattle.handshake.specs.Plans.{is_memory_refusal}
@@ -40,6 +41,10 @@ node-refused s n r e = subst (λ (o : Option Refused). option_map_or is_memory_r
   | true ↦ elim (is_resource_there (reads s) n) as (λ b. option_map_or is_memory_refusal (if b then None else Some NoResource) false ≡ false) [ true ↦ refl | false ↦ refl ]
   | false ↦ refl
 ])
+
+-- what is found of a node in the model that is read is so in the state that is seen
+pub found-refusal : (s v : State) (m : Model) (n : Node) (found q : Option Refused) → s ≡ v → m ≡ v.model → found ≡ node_refusal (reading m) n → found ≡ q → node_refusal (reads s) n ≡ q
+found-refusal s v m n found q seen read is same = ap (λ (t : State). node_refusal (reads t) n) seen ∙ ap (λ (x : Model). node_refusal (reading x) n) (sym read) ∙ sym is ∙ same
 
 ---------------------------------------------------------------- attaching
 

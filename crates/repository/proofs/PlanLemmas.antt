@@ -49,6 +49,16 @@ use Rattle.handshake.proofs.KnownLemmas.{none-else_by, none-unless}
 use Rattle.handshake.proofs.RefusalLemmas.{IsNot, late-not, later-not, unless-not, where-not}
 use Rattle.std.proofs.lemmas.Bool.{and_parts}
 
+-- that a change is proper, and not refused early
+pub record IsAsked (s : State) (text : List ℕ) (c : Change) : Type 0 where
+  pub early : early_refusal (reads s) c ≡ None
+  pub proper : IsProper (reads s) text c
+
+-- what is asked of the state that is seen holds of the one that shows it
+pub asked-of : (s v : State) (text : List ℕ) (c : Change) → s ≡ v → early_refusal (reads v) c ≡ None → IsProper (reads v) text c → IsAsked s text c
+asked-of s v text c seen early proper =
+    record { early = subst (λ (t : State). early_refusal (reads t) c ≡ None) (sym seen) early; proper = subst (λ (t : State). IsProper (reads t) text c) (sym seen) proper }
+
 full : State → Change → Option Refused
 full s c = AdapterFull where_so is_chain_full (reads s).above (chain (reads s) c) s.adapters
 

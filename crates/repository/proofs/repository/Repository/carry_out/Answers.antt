@@ -21,7 +21,6 @@ use Rattle.models.specs.Model.{Model, model_of, reading}
 use Rattle.models.specs.Steady.{HasSteadyTexts}
 use Rattle.handshake.specs.Effects.{after}
 use Rattle.handshake.specs.Plans.{IsPlanOf}
-use Rattle.handshake.specs.Refusals.{early_refusal}
 use Rattle.handshake.specs.Tellings.{chain}
 use Rattle.handshake.proofs.ProxyLemmas.{change-keeps-steady}
 use Rattle.repository.specs.Answers.{answer_of}
@@ -33,7 +32,7 @@ use Rattle.repository.specs.Repository.{KeepsFragments, state}
 use Rattle.repository.specs.State.{IsLegal, State, reads}
 use Rattle.repository.proofs.AdapterLemmas.{Heard, heard_where_attached}
 use Rattle.repository.proofs.RememberedLemmas.{hearers-after, kept-after, known-delivered}
-use Rattle.repository.proofs.PlanLemmas.{chain_err, changed_to, planned_err, releases_of}
+use Rattle.repository.proofs.PlanLemmas.{asked-of, chain_err, changed_to, planned_err, releases_of}
 use Rattle.repository.proofs.LegalLemmas.{stepped-legal}
 use Rattle.repository.proofs.LoadLemmas.{proper-steady}
 use Rattle.repository.proofs.repository.Repository.carry_out.Goals as goal
@@ -46,10 +45,9 @@ pub returns-in-Err : goal.returns-in-Err
 returns-in-Err g c =
     let s : State = state g.L.LinkStore.links c.self.inside in
     let is : c.model-model.result ≡ s.model = c.model-model.ensures ∙ ap (λ (t : State). t.model) (sym c.self.view_is) in
-    let early : early_refusal (reads s) c.args.change ≡ None = subst (λ (t : State). early_refusal (reads t) c.args.change ≡ None) (sym c.self.view_is) c.requires.asked in
     λ text own.
-    let proper : IsProper (reads s) text c.args.change = subst (λ (t : State). IsProper (reads t) text c.args.change) (sym c.self.view_is) own in
-    rw (← c.self.view_is) (planned_err s text c.args.change c.in-Err.refused proper early (subst (λ (m : Model). IsPlanRefusal m c.args.change c.in-Err.refused) is c.in-Err.ensures.refused))
+    let asked = asked-of s c.args.self.now text c.args.change c.self.view_is c.requires.asked own in
+    rw (← c.self.view_is) (planned_err s text c.args.change c.in-Err.refused asked.proper asked.early (subst (λ (m : Model). IsPlanRefusal m c.args.change c.in-Err.refused) is c.in-Err.ensures.refused))
 
 pub reserve-requires-clause-no_cycle : goal.reserve-requires-clause-no_cycle
 reserve-requires-clause-no_cycle g c = c.self.invariant.legal.model.links.forest
@@ -58,28 +56,26 @@ pub returns-in-Err-reserve : goal.returns-in-Err-reserve
 returns-in-Err-reserve g c =
     let s : State = state g.L.LinkStore.links c.self.inside in
     let is : c.model-model.result ≡ s.model = c.model-model.ensures ∙ ap (λ (t : State). t.model) (sym c.self.view_is) in
-    let early : early_refusal (reads s) c.args.change ≡ None = subst (λ (t : State). early_refusal (reads t) c.args.change ≡ None) (sym c.self.view_is) c.requires.asked in
     λ text own.
-    let proper : IsProper (reads s) text c.args.change = subst (λ (t : State). IsProper (reads t) text c.args.change) (sym c.self.view_is) own in
+    let asked = asked-of s c.args.self.now text c.args.change c.self.view_is c.requires.asked own in
     let plan = subst (λ (m : Model). IsPlanOf (nat_lt 0 (length s.adapters)) m c.args.change c.in-Ok.prepared.planned) is c.in-Ok.ensures.planned in
     let heard : Heard (reads s).above c.in-Ok.prepared.planned.chain (chain (reads s) c.args.change) s.adapters = heard_where_attached (reads s).above _ _ s.adapters plan.tells in
     rw (← c.self.view_is, c.reserve.ensures.links, c.reserve.ensures.values, c.reserve.ensures.adapters)
-    (chain_err s text c.args.change c.in-Ok.prepared.planned.chain c.in-Err-reserve.refused proper early plan.allowed heard c.in-Err-reserve.ensures.reason)
+    (chain_err s text c.args.change c.in-Ok.prepared.planned.chain c.in-Err-reserve.refused asked.proper asked.early plan.allowed heard c.in-Err-reserve.ensures.reason)
 
 pub returns : goal.returns
 returns g c =
     let s : State = state g.L.LinkStore.links c.self.inside in
     let is : c.model-model.result ≡ s.model = c.model-model.ensures ∙ ap (λ (t : State). t.model) (sym c.self.view_is) in
-    let early : early_refusal (reads s) c.args.change ≡ None = subst (λ (t : State). early_refusal (reads t) c.args.change ≡ None) (sym c.self.view_is) c.requires.asked in
     λ text own.
-    let proper : IsProper (reads s) text c.args.change = subst (λ (t : State). IsProper (reads t) text c.args.change) (sym c.self.view_is) own in
+    let asked = asked-of s c.args.self.now text c.args.change c.self.view_is c.requires.asked own in
     let plan = subst (λ (m : Model). IsPlanOf (nat_lt 0 (length s.adapters)) m c.args.change c.in-Ok.prepared.planned) is c.in-Ok.ensures.planned in
     let up = (reads s).above in
     let ns : List Notice = c.in-Ok.prepared.planned.chain in
     let heard : Heard up ns (chain (reads s) c.args.change) s.adapters = heard_where_attached up _ _ s.adapters plan.tells in
     let values = c.apply-2.ensures ∙ ap (λ (v : ValuesState). applied v c.in-Ok.prepared.planned.values) c.reserve.ensures.values ∙ plan.values_made in
     let made_links = c.apply.ensures.links ∙ ap (λ (l : Links). links.applied l c.in-Ok.prepared.planned.edits) c.reserve.ensures.links ∙ plan.links_made in
-    let answered = subst (λ (m : Model). c.in-Ok.prepared.answer ≡ answer_of (reading m) s.adapters (command_of text c.args.change)) is (c.in-Ok.ensures.answer s.adapters text (subst (λ (m : Model). IsProper (reading m) text c.args.change) (sym is) proper)) in
+    let answered = subst (λ (m : Model). c.in-Ok.prepared.answer ≡ answer_of (reading m) s.adapters (command_of text c.args.change)) is (c.in-Ok.ensures.answer s.adapters text (subst (λ (m : Model). IsProper (reading m) text c.args.change) (sym is) asked.proper)) in
     let rs : List Listed = c.reserve.new.adapters.0 in
     let round : RoundView = c.in-Ok-reserve.reserved.0 in
     let delivery : delivered round.copies rs ≡ tell_chain up ns s.adapters = ap (λ (r : RoundView). delivered r.copies rs) c.in-Ok-reserve.ensures.round ∙ ap (delivered (round_copies up ns s.adapters)) c.reserve.ensures.adapters ∙ delivered-round_copies up ns s.adapters in
@@ -91,7 +87,7 @@ returns g c =
     let adapters = c.notify-told.ensures.others ∙ ap (λ (x : Released). x.others) left in
     let t : State = record { model = model_of c.self.inside.meta (values_of c.apply-2.new.self) (g.L.LinkStore.links c.apply.new.self); adapters = c.notify-told.new.adapters.0 } in
     rw (← c.self.view_is)
-    (changed_to s t text c.args.change ns c.in-Ok.prepared.answer c.from_vec.result (views_of g.A.Adapter.heard c.from_vec-2.result) proper early plan.allowed heard c.in-Ok-reserve.ensures.counted answered told views
+    (changed_to s t text c.args.change ns c.in-Ok.prepared.answer c.from_vec.result (views_of g.A.Adapter.heard c.from_vec-2.result) asked.proper asked.early plan.allowed heard c.in-Ok-reserve.ensures.counted answered told views
     (λ i. model_of c.self.inside.meta (values i) (made_links i)) adapters)
 
 -- where places are refused, nothing that is seen has changed

@@ -1,21 +1,18 @@
-use Rattle.std.proofs.Common.{◌≡◌, ◌∙◌, List, true, ap, rules, subst, sym}
-use Rattle.models.specs.Model.{Model, reading}
+use Rattle.std.proofs.Common.{◌∙◌, List, None, true, ap, rules, subst, sym}
 use Rattle.notice_chain.specs.Released.{Spot}
-use Rattle.handshake.specs.Named.{node_refusal}
 use Rattle.repository.specs.Leaving.{LetsGo}
 use Rattle.repository.specs.Repository.{state}
 use Rattle.repository.specs.State.{State}
 use Rattle.repository.specs.Views.{changed_view}
 use Rattle.repository.specs.declared.reply.Answer.TheVariants as answer
-use Rattle.repository.proofs.AttachLemmas.{known, unwatched}
+use Rattle.repository.proofs.AttachLemmas.{found-refusal, known, unwatched}
 use Rattle.repository.proofs.repository.Repository.unwatch.Goals as goal
 
 pub returns : goal.returns
 returns g c =
     let a = c.args in
     let s : State = state g.L.LinkStore.links c.self.inside in
-    let is : s.model ≡ c.model.result = sym (c.model.ensures ∙ ap (λ (t : State). t.model) (sym c.self.view_is)) in
-    let there = ap (λ (m : Model). node_refusal (reading m) a.target) is ∙ sym c.node_refusal.ensures ∙ c.in_default.is in
+    let there = found-refusal s a.self.now c.model.result a.target c.node_refusal.result None c.self.view_is c.model.ensures c.node_refusal.ensures c.in_default.is in
     let attached = known s.adapters a.no c.told.result true (c.told.ensures ∙ search rules) (search rules) in
     let flag = ap answer.Flag c.is_target.ensures in
     let went = subst (λ (t : State). LetsGo t c.in-Ok.spots.items (answer.Flag c.is_target.result) (changed_view g.A.Adapter.heard c.release.result) c.release.new.self) (sym c.self.view_is) c.release.ensures in
