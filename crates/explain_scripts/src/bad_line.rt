@@ -22,20 +22,7 @@ fn explain_word(
     writeln!(out, "line {number}: {word:?} is not {}", sort.wanted)
 }
 
-/// Says of each word after the verb whether it is none of its sort.
-fn explain_words(
-    alloc: Global,
-    out: &mut String,
-    number: u64,
-    form: &str,
-    words: &[&str],
-) -> Result<(), AllocError> {
-    'words: for (sort, word) in form.split(' ').zip(words).skip(1) {
-        explain_word(alloc, out, number, sort, word)?;
-    }
-    Ok(())
-}
-
+/// Says that there are too few words or too many, or of each word after the verb whether it is none of its sort.
 fn explain_form(
     alloc: Global,
     out: &mut String,
@@ -53,7 +40,10 @@ fn explain_form(
             "line {number}: there are too many words; the form is: {form}"
         );
     }
-    explain_words(alloc, out, number, form, words)
+    'words: for (sort, word) in form.split(' ').zip(words).skip(1) {
+        explain_word(alloc, out, number, sort, word)?;
+    }
+    Ok(())
 }
 
 fn explain_verb(

@@ -26,25 +26,17 @@ fn explain_equal(
     Ok(())
 }
 
-fn explain_entry(
-    alloc: Global,
-    out: &mut String,
-    meta: &Meta,
-    entry: &Entry<'_>,
-) -> Result<(), AllocError> {
+/// The values of an attribute that must not repeat one; none of other features.
+fn unique_values<'v>(meta: &Meta, entry: &Entry<'v>) -> &'v [Value] {
     let is_attribute = match meta.feature(entry.feature) {
         Some(feature) => matches!(feature.kind, Kind::Attribute { .. }),
         None => false,
     };
-    if !is_attribute || !meta.is_unique(entry.feature) {
-        return Ok(());
+    if is_attribute && meta.is_unique(entry.feature) {
+        values_of(meta, entry.feature, entry.content)
+    } else {
+        &[]
     }
-    explain_equal(
-        alloc,
-        out,
-        entry,
-        values_of(meta, entry.feature, entry.content),
-    )
 }
 
 /// What a link leads to: the part and the feature that have it, and the number after that of the part it leads to, or 0 and
@@ -86,7 +78,7 @@ pub(crate) fn explain_repeats(
     links: &[Link<'_>],
 ) -> Result<(), AllocError> {
     'entries: for entry in entries {
-        explain_entry(alloc, out, meta, entry)?;
+        explain_equal(alloc, out, entry, unique_values(meta, entry))?;
     }
     explain_links(alloc, out, links)
 }
