@@ -82,14 +82,11 @@ module _ (s : Model) (legal : IsLegal s) (ps : List Place) (p : Place) (x : Targ
   abbrev now : Reading
   now = left_by (reading s) ps
 
-  abbrev e : End
-  e = end_of p
-
   abbrev with : Option Counterpart → Target
   with q = record { object = x.object; counterpart = q }
 
   found : IsFound (left_by (reading s) ps) (end_of p) p.index x
-  found = found-is now e p.index x (resolved-to now p x to).found
+  found = found-is now (end_of p) p.index x (resolved-to now p x to).found
 
   abbrev mine : Key → Bool
   mine k = same_key k (key_of p)
@@ -130,7 +127,7 @@ module _ (s : Model) (legal : IsLegal s) (ps : List Place) (p : Place) (x : Targ
     q = place x.object c.end.feature c.index
 
     match-there : c.end ≡ end_of q
-    match-there = let match = match-is now e x.object c (sym found.matched ∙ there) in match.stands ∙ ap (λ (f : FeatureNo). at_end (node.Object x.object) f) (sym (ap (λ (y : End). y.feature) match.stands))
+    match-there = let match = match-is now (end_of p) x.object c (sym found.matched ∙ there) in match.stands ∙ ap (λ (f : FeatureNo). at_end (node.Object x.object) f) (sym (ap (λ (y : End). y.feature) match.stands))
 
     abbrev back : End → List Value
     back = replaced now.values (end_of q) c.index (value.Object p.object)
@@ -139,27 +136,27 @@ module _ (s : Model) (legal : IsLegal s) (ps : List Place) (p : Place) (x : Targ
     back-is = ap (λ (y : End). replaced now.values y c.index (value.Object p.object)) match-there
 
     met : (text : List ℕ) × (slice_get (now.values (end_of q)) c.index ≡ Some (value.Proxy text))
-    met = let match = match-is now e x.object c (sym found.matched ∙ there) in (match.text, subst (λ (y : End). slice_get (now.values y) c.index ≡ Some (value.Proxy match.text)) match-there match.proxy)
+    met = let match = match-is now (end_of p) x.object c (sym found.matched ∙ there) in (match.text, subst (λ (y : End). slice_get (now.values y) c.index ≡ Some (value.Proxy match.text)) match-there match.proxy)
 
-    still : slice_get (back e) p.index ≡ Some (value.Proxy found.text)
+    still : slice_get (back (end_of p)) p.index ≡ Some (value.Proxy found.text)
     still =
-        let match = match-is now e x.object c (sym found.matched ∙ there) in
-        let apart = ap (λ (y : End). same_end y e) (sym match-there ∙ match.stands) ∙ match-apart now e x.object match.feature legal.metamodel match.opposite in
-        ap (λ (b : Bool). slice_get (if b then slice_set (now.values e) c.index (value.Object p.object) else now.values e) p.index) apart ∙ found.proxy
+        let match = match-is now (end_of p) x.object c (sym found.matched ∙ there) in
+        let apart = ap (λ (y : End). same_end y (end_of p)) (sym match-there ∙ match.stands) ∙ match-apart now (end_of p) x.object match.feature legal.metamodel match.opposite in
+        ap (λ (b : Bool). slice_get (if b then slice_set (now.values (end_of p)) c.index (value.Object p.object) else now.values (end_of p)) p.index) apart ∙ found.proxy
 
   gone-more : (z : Option Counterpart) → x.counterpart ≡ z → (y : Place)
-      → is_proxy_in (values_with now e p.index (with z)) y ≡ (is_proxy_place r y && not ((has g.gone (key_of y) || mine (key_of y)) || option_map_or (λ c. is_far_place x c (key_of y)) z false))
+      → is_proxy_in (values_with now (end_of p) p.index (with z)) y ≡ (is_proxy_place r y && not ((has g.gone (key_of y) || mine (key_of y)) || option_map_or (λ c. is_far_place x c (key_of y)) z false))
   gone-more None none y =
       proxy-replaced now.values p x.object found.text found.proxy y ∙ ap (λ (b : Bool). b && not (mine (key_of y))) (known.gone y) ∙ parted (is_proxy_place r y) (has g.gone (key_of y)) (mine (key_of y)) false
   gone-more (Some c) there y =
       let far = is_far_place x c (key_of y) in
-      ap (λ (ends : End → List Value). is_proxy_in (replaced ends e p.index (value.Object x.object)) y) (back-is c there)
+      ap (λ (ends : End → List Value). is_proxy_in (replaced ends (end_of p) p.index (value.Object x.object)) y) (back-is c there)
       ∙ proxy-replaced (back c there) p x.object found.text (still c there) y
       ∙ ap (λ (b : Bool). b && not (mine (key_of y))) (proxy-replaced now.values (q c there) p.object (met c there).0 (met c there).1 y ∙ ap (λ (b : Bool). b && not far) (known.gone y))
       ∙ parted_two (is_proxy_place r y) (has g.gone (key_of y)) (mine (key_of y)) far
 
   linked-more : (z : Option Counterpart) → x.counterpart ≡ z → (o : ObjectNo) (f : FeatureNo) (b : ObjectNo)
-      → has_value (values_with now e p.index (with z) (at_end (node.Object o) f)) (value.Object b)
+      → has_value (values_with now (end_of p) p.index (with z) (at_end (node.Object o) f)) (value.Object b)
       ≡ (has_value (r.values (at_end (node.Object o) f)) (value.Object b) || ((has g.linked (key o f b.0) || own (key o f b.0)) || option_map_or (λ c. is_far_link p x c (key o f b.0)) z false))
   linked-more None none o f b =
       let k = key o f b.0 in
@@ -168,12 +165,12 @@ module _ (s : Model) (legal : IsLegal s) (ps : List Place) (p : Place) (x : Targ
   linked-more (Some c) there o f b =
       let k = key o f b.0 in
       let far = is_far_link p x c k in
-      ap (λ (ends : End → List Value). has_value (replaced ends e p.index (value.Object x.object) (at_end (node.Object o) f)) (value.Object b)) (back-is c there)
+      ap (λ (ends : End → List Value). has_value (replaced ends (end_of p) p.index (value.Object x.object) (at_end (node.Object o) f)) (value.Object b)) (back-is c there)
       ∙ has-replaced (back c there) p x.object found.text (still c there) o f b
       ∙ ap (λ (c : Bool). c || own k) (has-replaced now.values (q c there) p.object (met c there).0 (met c there).1 o f b ∙ ap (λ (c : Bool). c || far) (known.linked o f b))
       ∙ grouped_two (has_value (r.values (at_end (node.Object o) f)) (value.Object b)) (has g.linked k) (own k) far
 
-  one-known : IsKnown r (map joint_of (resolutions r ps) ++ joint p x ∷ []) (values_with now e p.index x) h
+  one-known : IsKnown r (map joint_of (resolutions r ps) ++ joint p x ∷ []) (values_with now (end_of p) p.index x) h
   one-known =
       record {
         joints = adds.joints ∙ ap (λ (js : List Joint). js ++ joint p x ∷ []) known.joints;
