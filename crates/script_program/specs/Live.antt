@@ -6,9 +6,9 @@ use Rattle.mm_types.specs.declared.limits.TheConstants.{INPUT_BYTES}
 use Rattle.script_lines.specs.Forms.{form}
 use Rattle.script_lines.specs.Lines.{lines}
 use Rattle.script_lines.specs.declared.grammar.TheConstants.{NEWLINE}
-use Rattle.script_program.specs.Script.{RunsLine, RunsLines}
+use Rattle.script_program.specs.Script.{PrintsAs, PrintsFrontAs, RunsLine}
 use Rattle.script_program.specs.Session.{Session}
-use Rattle.script_program.specs.Turns.{Printed, summary_of}
+use Rattle.script_program.specs.Turns.{Printed}
 use Rattle.script_program.specs.declared.summary.Summary.{Summary}
 use Rattle.script_program.specs.declared.turn.Turn.{Turn}
 use Rattle.script_streams.specs.Streams.{AppendsFront}
@@ -40,22 +40,12 @@ pub record AnswersLiveFront (line : List ℕ) (s : Session) (old new : Option (L
   pub written : AppendsFront old new (live_answer printed)
 
 -- All lines of a script were run, their answers were written, each with an empty line behind, and the counts are theirs.
-pub record PrintsLive (s : Session) (old new : Option (List ℕ)) (bytes : List ℕ) (summary : Summary) : Type 0 where
-  pub printed : List Printed
-  pub after : Session
-  pub ran : RunsLines s (lines bytes) printed after
-  pub counted : summary_of printed ≡ summary
-  pub written : Appends old new (live_text printed)
+abbrev pub PrintsLive : Session → Option (List ℕ) → Option (List ℕ) → List ℕ → Summary → Type 0
+PrintsLive = PrintsAs live_text
 
 -- The first lines of a script were run, and a front of what is written for them was written.
-pub record PrintsLiveFront (s : Session) (old new : Option (List ℕ)) (bytes : List ℕ) : Type 0 where
-  pub first : List (List ℕ)
-  pub rest : List (List ℕ)
-  pub lines_are : lines bytes ≡ first ++ rest
-  pub printed : List Printed
-  pub after : Session
-  pub ran : RunsLines s first printed after
-  pub written : AppendsFront old new (live_text printed)
+abbrev pub PrintsLiveFront : Session → Option (List ℕ) → Option (List ℕ) → List ℕ → Type 0
+PrintsLiveFront = PrintsFrontAs live_text
 
 -- Known input was run to its end.
 abbrev pub PrintsInputLive : Option (List ℕ) → Session → Option (List ℕ) → Option (List ℕ) → Summary → Type 0

@@ -73,23 +73,31 @@ RunsLines s [] (p ∷ ps) t = ⊥
 RunsLines s (l ∷ ls) [] t = ⊥
 RunsLines s (l ∷ ls) (p ∷ ps) t = (u : Session) × RunsLine s (form l) p u × RunsLines u ls ps t
 
--- All lines of a script were run, what they printed was written, and the counts are theirs.
-pub record Prints (s : Session) (old new : Option (List ℕ)) (bytes : List ℕ) (summary : Summary) : Type 0 where
+-- All lines of a script were run, `shown` of what they printed was written, and the counts are theirs.
+pub record PrintsAs (shown : List Printed → List ℕ) (s : Session) (old new : Option (List ℕ)) (bytes : List ℕ) (summary : Summary) : Type 0 where
   pub printed : List Printed
   pub after : Session
   pub ran : RunsLines s (lines bytes) printed after
   pub counted : summary_of printed ≡ summary
-  pub written : Appends old new (texts printed)
+  pub written : Appends old new (shown printed)
 
--- The first lines of a script were run, and a front of what they printed was written.
-pub record PrintsFront (s : Session) (old new : Option (List ℕ)) (bytes : List ℕ) : Type 0 where
+-- The first lines of a script were run, and a front of `shown` of what they printed was written.
+pub record PrintsFrontAs (shown : List Printed → List ℕ) (s : Session) (old new : Option (List ℕ)) (bytes : List ℕ) : Type 0 where
   pub first : List (List ℕ)
   pub rest : List (List ℕ)
   pub lines_are : lines bytes ≡ first ++ rest
   pub printed : List Printed
   pub after : Session
   pub ran : RunsLines s first printed after
-  pub written : AppendsFront old new (texts printed)
+  pub written : AppendsFront old new (shown printed)
+
+-- All lines of a script were run, what they printed was written, and the counts are theirs.
+abbrev pub Prints : Session → Option (List ℕ) → Option (List ℕ) → List ℕ → Summary → Type 0
+Prints = PrintsAs texts
+
+-- The first lines of a script were run, and a front of what they printed was written.
+abbrev pub PrintsFront : Session → Option (List ℕ) → Option (List ℕ) → List ℕ → Type 0
+PrintsFront = PrintsFrontAs texts
 
 -- Known input is no longer than it may be, and it was run to its end.
 abbrev pub PrintsInput : Option (List ℕ) → Session → Option (List ℕ) → Option (List ℕ) → Summary → Type 0
