@@ -1,8 +1,7 @@
 -- A change that puts one link, where no adapter is attached: its answer, and what is remembered of fragments.
-use Rattle.std.proofs.Common.{◌≡◌, ◌||◌, ℕ, Bool, true, false, not, List, [], ◌∷◌, Option, Some, None, is_some, if◌then◌else◌, refl, sym, ap, ◌∙◌, subst}
+use Rattle.std.proofs.Common.{◌≡◌, ℕ, Bool, true, false, not, List, [], ◌∷◌, Option, Some, None, is_some, if◌then◌else◌, refl, sym, ap, ◌∙◌}
 use Rattle.std.proofs.Math.Bool.{or-false}
 use Rattle.std.proofs.lemmas.Option.{none-some}
-use Rattle.mm_types.specs.declared.end.End.{End}
 use Rattle.mm_types.specs.declared.numbers.FeatureNo.{FeatureNo}
 use Rattle.mm_types.specs.declared.numbers.Node.{Node}
 use Rattle.mm_types.specs.declared.value.Value.{Value}
@@ -23,7 +22,6 @@ use Rattle.handshake.specs.declared.link_planning.LonePut.{LonePut}
 use Rattle.handshake.proofs.CutTieLemmas.{plain-not}
 use Rattle.repository.specs.Answers.{answer_of, put_answer}
 use Rattle.repository.specs.Views.{command_of}
-use Rattle.repository.specs.declared.reply.Answer.{Answer}
 use Rattle.repository.specs.declared.reply.Answer.TheVariants as answer
 
 not-plain : (a b c : Bool) (x p : LonePut) → (if a then None else if b then None else if c then None else Some x) ≡ Some p → b ≡ false
