@@ -348,7 +348,8 @@ fn move_value(alloc: Global, node: Node, feature: FeatureNo, to: u32, from: u32)
     }
 }
 
-fn set_edits<L: LinkStore>(
+/// The edits of a set of an attribute. Errs only if memory is refused.
+pub(crate) fn set_edits<L: LinkStore>(
     alloc: Global,
     model: &ModelRef<L>,
     node: Node,

@@ -4,6 +4,7 @@ ghost use Rattle.models.specs.Model.{reading};
 ghost use Rattle.models.specs.Reading as r;
 ghost use Rattle.handshake.specs.Named as named;
 ghost use Rattle.handshake.specs.Refusals as refusals;
+ghost use Rattle.handshake.specs.declared.change.Change.TheVariants.{Set};
 
 use crate::change::Change;
 use links::LinkStore;
@@ -32,10 +33,7 @@ pub fn early_refusal<L: LinkStore>(model: &ModelRef<L>, change: &Change) -> Opti
             node,
             feature,
             value,
-        } => value_refusal(model, *node, *feature, value).or(single_refusal(
-            model.meta(),
-            *feature,
-        )),
+        } => set_early_refusal(model, *node, *feature, value),
         Change::Unset { node, feature } => feature_refusal(model, *node, *feature),
         Change::Add {
             node,
@@ -52,6 +50,18 @@ pub fn early_refusal<L: LinkStore>(model: &ModelRef<L>, change: &Change) -> Opti
             feature_refusal(model, *node, *feature).or(many_refusal(model.meta(), *feature))
         }
     }
+}
+
+/// `early_refusal` of a set, whose parts come one by one.
+pub fn set_early_refusal<L: LinkStore>(
+    model: &ModelRef<L>,
+    node: Node,
+    feature: FeatureNo,
+    value: &Value,
+) -> Option<Refused>
+    ensures { result ≡ refusals.early_refusal (reading model.now) (Set node feature value.now) }
+{
+    value_refusal(model, node, feature, value).or(single_refusal(model.meta(), feature))
 }
 
 fn single_refusal(meta: &Meta, feature: FeatureNo) -> Option<Refused>

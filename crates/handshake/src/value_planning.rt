@@ -1,19 +1,21 @@
 //! What a change makes of values alone.
-ghost use Rattle.std.specs.Prelude.{◌≡◌, ◌&&◌, None, Some, IfErr, IfOk, IsFalse, OnOk, if◌then◌else◌};
+ghost use Rattle.std.specs.Prelude.{◌≡◌, ◌&&◌, false, None, Some, IfErr, IfOk, IsFalse, OnOk, if◌then◌else◌};
+ghost use Rattle.mm_types.specs.Shapes.{shape};
 ghost use Rattle.models.specs.Model.{reading};
 ghost use Rattle.handshake.specs.Effects.{value_edits as value_edits_of};
 ghost use Rattle.handshake.specs.Plans.{HasReadDocument, is_memory_refusal, looks_first};
 ghost use Rattle.handshake.specs.Refusals as refusals;
+ghost use Rattle.handshake.specs.declared.change.Change.TheVariants.{Set};
 
 use crate::change::Change;
 use crate::destroyed::removal_of;
-use crate::edits::value_edits;
-use crate::planning::late_refusal;
+use crate::edits::{set_edits, value_edits};
+use crate::planning::{late_refusal, set_late_refusal};
 use crate::resolving::target_of;
 use links::LinkStore;
-use mm_types::Refused;
+use mm_types::{FeatureNo, Node, Refused, Value};
 use mm_values::ValuePlan;
-use models::ModelRef;
+use models::{ModelRef, at_end};
 use std::alloc::Global;
 
 /// The edits of values that a change makes, or the first refusal that planning finds: the part of `plan` that is left of a change that
@@ -36,4 +38,24 @@ pub fn plan_values<L: LinkStore>(
     }
     let removal = removal_of(alloc, model, &change)?;
     Ok(value_edits(alloc, model, change, &removal)?)
+}
+
+/// `plan_values` of a set of an attribute, whose parts come one by one: to make a `Change` of them and to take it apart again takes longer
+/// than all that the set does.
+pub fn plan_set<L: LinkStore>(
+    alloc: Global,
+    model: &ModelRef<L>,
+    node: Node,
+    feature: FeatureNo,
+    value: Value,
+) -> Result<ValuePlan, Refused>
+    requires attribute { (shape model.now.metamodel feature).is_reference ≡ false }
+    ensures values { IfOk result (λ p. p ≡ value_edits_of (reading model.now) (Set node feature value)) }
+    ensures allowed { OnOk result (refusals.late_refusal (reading model.now) (Set node feature value) ≡ None) }
+    ensures refused { IfErr result (λ r. refusals.late_refusal (reading model.now) (Set node feature value) ≡ (if is_memory_refusal r then None else Some r)) }
+{
+    if let Some(refused) = set_late_refusal(model, at_end(&node, &feature), &value) {
+        return Err(refused);
+    }
+    Ok(set_edits(alloc, model, node, feature, value))
 }

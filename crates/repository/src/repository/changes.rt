@@ -1,5 +1,6 @@
 //! Changes of objects, their values and their links.
 ghost use Rattle.std.specs.Prelude.{◌≡◌, ℕ, List, [], None, Some, false, true};
+ghost use Rattle.mm_types.specs.Shapes.{shape};
 ghost use Rattle.handshake.specs.LonePuts.{lone_put as lone_put_of, of_put};
 ghost use Rattle.handshake.specs.Plans.{IsPlanOf, edits_values_alone};
 ghost use Rattle.handshake.specs.Refusals.{early_refusal as early_refusal_of};
@@ -14,9 +15,9 @@ use crate::leaving::notify;
 use crate::lone_puts::{forget_put, put_answer, put_link};
 use crate::preparing::{Prepared, prepare, prepare_values, reserve};
 use crate::remembered::forget_touched;
-use crate::reply::Reply;
+use crate::reply::{Answer, Reply};
 use adapters::Adapter;
-use handshake::{Change, LonePut, early_refusal, lone_put};
+use handshake::{Change, LonePut, early_refusal, lone_put, plan_set, set_early_refusal};
 use links::LinkStore;
 use mm_types::{ClassNo, FeatureNo, Node, ObjectNo, Refused, Seq, Value};
 
@@ -47,6 +48,9 @@ impl<L: LinkStore, A: Adapter> Repository<L, A> {
     ) -> Result<Reply<A>, Refused>
         ensures { Executed self.old (Set node feature value) (change_outcome (changed_view A.heard result)) self.new }
     {
+        if self.adapters.len() == 0 && !self.meta.is_reference(feature) {
+            return self.set_value(node, feature, value);
+        }
         self.change(Change::Set {
             node,
             feature,
@@ -138,6 +142,36 @@ impl<L: LinkStore, A: Adapter> Repository<L, A> {
         forget_put(&mut self.paths, put);
         Ok(Reply {
             answer: put_answer(change),
+            told: Seq::new(self.alloc),
+            released: Seq::new(self.alloc),
+        })
+    }
+
+    /// `change_values` of a set of an attribute, without a `Change`: most sets are of attributes, and what they cost is to hand it on.
+    fn set_value(
+        &mut self,
+        node: Node,
+        feature: FeatureNo,
+        value: Value,
+    ) -> Result<Reply<A>, Refused>
+        requires attribute { (shape self.old.model.metamodel feature).is_reference ≡ false }
+        requires unheard { self.old.adapters ≡ [] }
+        ensures { Executed self.old (Set node feature value) (change_outcome (changed_view A.heard result)) self.new }
+    {
+        let model = self.model();
+        if let Some(refused) = set_early_refusal(&model, node, feature, &value) {
+            return Err(refused);
+        }
+        let values = match plan_set(self.alloc, &model, node, feature, value) {
+            Ok(values) => values,
+            Err(refused) => return Err(refused),
+        };
+        if self.values.reserve_for(&values).is_err() {
+            return Err(Refused::Memory);
+        }
+        self.values.apply(values);
+        Ok(Reply {
+            answer: Answer::Done,
             told: Seq::new(self.alloc),
             released: Seq::new(self.alloc),
         })
