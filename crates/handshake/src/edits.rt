@@ -348,7 +348,7 @@ fn move_value(alloc: Global, node: Node, feature: FeatureNo, to: u32, from: u32)
     }
 }
 
-/// The edits of a set of an attribute. Errs only if memory is refused.
+/// The edits of a set of an attribute.
 pub(crate) fn set_edits<L: LinkStore>(
     alloc: Global,
     model: &ModelRef<L>,
