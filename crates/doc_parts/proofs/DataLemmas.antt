@@ -12,7 +12,7 @@ use Rattle.mm_types.specs.Lookups as lookups
 use Rattle.mm_types.specs.Resolved.{Metamodel}
 use Rattle.mm_types.specs.declared.numbers.ClassNo.{ClassNo}
 use Rattle.mm_types.specs.declared.numbers.FeatureNo.{FeatureNo}
-use Rattle.doc_parts.specs.Parts.{Entry, content_at, entries, entries_in, entry_at, known, list_of, new_entry}
+use Rattle.doc_parts.specs.Parts.{Entry, content_at, entries_in, entry_at, list_of, new_entry}
 
 pub list_of-items_of : (ds : List Data) → list_of (items_of ds) ≡ ds
 list_of-items_of [] = refl
@@ -51,9 +51,11 @@ any_entries m ms holds (f ∷ fs) =
     ∙ ap (λ b. option_map_or (λ d. holds (new_entry f d)) (content_at m ms f) false || b) (any_entries m ms holds fs)
 
 -- of an object whose class is there
-pub any_of_known : (m : Metamodel) (d : Data) (holds : Entry → Bool) (c : ClassNo) (ms : Members) (fs : List FeatureNo) (b : Bool) → Some (c, ms) ≡ known m d → Some fs ≡ lookups.features m c
-    → b ≡ list_any (λ f. option_map_or (λ x. holds (new_entry f x)) (content_at m ms f) false) fs → b ≡ list_any holds (entries m d)
-any_of_known m d holds c ms fs b is features h =
-    h ∙ sym (any_entries m ms holds fs)
-    ∙ ap (λ o. list_any holds (filter_map (entry_at m ms) (unwrap_or o []))) features
-    ∙ ap (λ o. list_any holds (option_map_or (λ k. entries_in m k.0 k.1) o [])) is
+pub entries_of_known : (m : Metamodel) (o : Option (ClassNo × Members)) (c : ClassNo) (ms : Members) (fs : List FeatureNo) → Some (c, ms) ≡ o → Some fs ≡ lookups.features m c
+    → filter_map (entry_at m ms) fs ≡ option_map_or (λ k. entries_in m k.0 k.1) o []
+entries_of_known m o c ms fs is features = ap (λ x. filter_map (entry_at m ms) (unwrap_or x [])) features ∙ ap (λ x. option_map_or (λ k. entries_in m k.0 k.1) x []) is
+
+pub any_of_known : (m : Metamodel) (o : Option (ClassNo × Members)) (holds : Entry → Bool) (c : ClassNo) (ms : Members) (fs : List FeatureNo) (b : Bool) → Some (c, ms) ≡ o → Some fs ≡ lookups.features m c
+    → b ≡ list_any (λ f. option_map_or (λ x. holds (new_entry f x)) (content_at m ms f) false) fs → b ≡ list_any holds (option_map_or (λ k. entries_in m k.0 k.1) o [])
+any_of_known m o holds c ms fs b is features h =
+    h ∙ sym (any_entries m ms holds fs) ∙ ap (list_any holds) (entries_of_known m o c ms fs is features)

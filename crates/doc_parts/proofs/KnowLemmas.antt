@@ -1,19 +1,26 @@
 -- What is known of parts stays known while more are found.
-use Rattle.std.proofs.Common.{◌≡◌, ◌∙◌, ◌++◌, Bool, List, [], ◌∷◌, Option, Some, None, ℕ, ap, cond, length, map, refl, sym}
-use Rattle.std.specs.List.{list_any}
-use Rattle.std.specs.Option.{option_or}
+use Rattle.std.proofs.Common.{◌≡◌, ◌∙◌, ◌++◌, Bool, true, false, List, [], ◌∷◌, Option, Some, None, ℕ, ap, cond, length, map, refl, sym}
+use Rattle.std.specs.Prelude.{◌&&◌, ◌||◌, is_some, not, option_map}
+use Rattle.std.specs.List.{list_all, list_any}
+use Rattle.std.specs.Option.{option_map_or, option_or}
 use Rattle.std.proofs.lemmas.List.{length-map, map-append}
-use Rattle.doc_parts.specs.Found.{Seen, row_seen, seen}
-use Rattle.doc_parts.specs.Parts.{Part, level_of, number_of}
+use Rattle.doc_parts.specs.Contents.{conforms_to}
+use Rattle.doc_parts.specs.Faults.{has_no_class, has_other_key, is_misshapen, is_readable, of_written}
+use Rattle.doc_parts.specs.Found.{Seen, conforms_seen, has_other_member, lacks_class, looks_misshapen, row_seen, seen}
+use Rattle.doc_parts.specs.Layout.{Written, written}
+use Rattle.doc_parts.specs.Parts.{Part, class_of, known, level_of, number_of}
 use Rattle.doc_parts.specs.declared.found.Row.{Row}
 use Rattle.doc_parts.proofs.DataLemmas.{list_any-map}
 use Rattle.doc_parts.proofs.WayLemmas.{number_pushed}
 use Rattle.web_uris.specs.Paths.{same_path}
-use Rattle.serde_json.specs.Data.{Data}
-use Rattle.serde_json.specs.View.{view}
+use Rattle.serde_json.specs.Data.{Data, Members}
+use Rattle.json_rows.specs.Rows.{◌>>=◌, keys_of}
+use Rattle.mm_types.specs.Lookups as lookups
+use Rattle.mm_types.specs.Resolved.{Metamodel}
+use Rattle.mm_types.specs.declared.numbers.ClassNo.{ClassNo}
 
-abbrev new_seen : ℕ → Data → Option ℕ → Seen
-new_seen level d n = record { level = level; json = d; number = n }
+abbrev new_seen : ℕ → Data → Option (ClassNo × Members) → Option ℕ → Seen
+new_seen level d k n = record { level = level; json = d; known = k; number = n }
 
 -- the number of a path that was found stays
 pub number_stays : (ps : List Part) (p : Part) (x : Part) (n : ℕ) → number_of ps x.path ≡ Some n → number_of (ps ++ p ∷ []) x.path ≡ number_of ps x.path
@@ -34,32 +41,99 @@ head_same : (x y : Seen) (xs ys : List Seen) → x ∷ xs ≡ y ∷ ys → (x �
 unfolding first_or rest_of
 head_same x y xs ys e = (ap (first_or x) e, ap rest_of e)
 
-pub seen_stays : (ps : List Part) (p : Part) (rows : List Row) (xs : List Part) → map row_seen rows ≡ map (seen ps) xs → map (seen (ps ++ p ∷ [])) xs ≡ map (seen ps) xs
-seen_stays ps p rows [] e = refl
-seen_stays ps p [] (x ∷ xs) e = cc
-seen_stays ps p (r ∷ rows) (x ∷ xs) e =
-    let (first, rest) = head_same (row_seen r) (seen ps x) (map row_seen rows) (map (seen ps) xs) e in
-    ap (λ n. new_seen (level_of x) x.json n ∷ map (seen (ps ++ p ∷ [])) xs) (number_stays ps p x r.number (sym (ap (λ s. s.number) first)))
-    ∙ ap (λ ss. seen ps x ∷ ss) (seen_stays ps p rows xs rest)
+pub seen_stays : (m : Metamodel) (ps : List Part) (p : Part) (rows : List Row) (xs : List Part) → map row_seen rows ≡ map (seen m ps) xs → map (seen m (ps ++ p ∷ [])) xs ≡ map (seen m ps) xs
+seen_stays m ps p rows [] e = refl
+seen_stays m ps p [] (x ∷ xs) e = cc
+seen_stays m ps p (r ∷ rows) (x ∷ xs) e =
+    let (first, rest) = head_same (row_seen r) (seen m ps x) (map row_seen rows) (map (seen m ps) xs) e in
+    ap (λ n. new_seen (level_of x) x.json (known m x.json) n ∷ map (seen m (ps ++ p ∷ [])) xs) (number_stays ps p x r.number (sym (ap (λ s. s.number) first)))
+    ∙ ap (λ ss. seen m ps x ∷ ss) (seen_stays m ps p rows xs rest)
 
-pub rows_more : (ps : List Part) (p : Part) (rows new : List Row) (r : Row) → new ≡ rows ++ r ∷ [] → map row_seen rows ≡ map (seen ps) ps → row_seen r ≡ seen (ps ++ p ∷ []) p
-    → map row_seen new ≡ map (seen (ps ++ p ∷ [])) (ps ++ p ∷ [])
-rows_more ps p rows new r more known one =
+pub rows_more : (m : Metamodel) (ps : List Part) (p : Part) (rows new : List Row) (r : Row) → new ≡ rows ++ r ∷ [] → map row_seen rows ≡ map (seen m ps) ps → row_seen r ≡ seen m (ps ++ p ∷ []) p
+    → map row_seen new ≡ map (seen m (ps ++ p ∷ [])) (ps ++ p ∷ [])
+rows_more m ps p rows new r more are one =
     ap (map row_seen) more
     ∙ map-append row_seen rows (r ∷ [])
-    ∙ ap (λ ss. ss ++ row_seen r ∷ []) (known ∙ sym (seen_stays ps p rows ps known))
-    ∙ ap (λ s. map (seen (ps ++ p ∷ [])) ps ++ s ∷ []) one
-    ∙ sym (map-append (seen (ps ++ p ∷ [])) ps (p ∷ []))
+    ∙ ap (λ ss. ss ++ row_seen r ∷ []) (are ∙ sym (seen_stays m ps p rows ps are))
+    ∙ ap (λ s. map (seen m (ps ++ p ∷ [])) ps ++ s ∷ []) one
+    ∙ sym (map-append (seen m (ps ++ p ∷ [])) ps (p ∷ []))
 
-pub count_known : (ps : List Part) (rows : List Row) → map row_seen rows ≡ map (seen ps) ps → length rows ≡ length ps
-count_known ps rows known = sym (length-map rows row_seen) ∙ ap length known ∙ length-map ps (seen ps)
+pub count_known : (m : Metamodel) (ps : List Part) (rows : List Row) → map row_seen rows ≡ map (seen m ps) ps → length rows ≡ length ps
+count_known m ps rows are = sym (length-map rows row_seen) ∙ ap length are ∙ length-map ps (seen m ps)
 
-pub one_known : (ps : List Part) (p : Part) (level : ℕ) (d : Data) (n : ℕ) → level ≡ level_of p → d ≡ p.json → number_of ps p.path ≡ Some n → new_seen level d (Some n) ≡ seen ps p
-one_known ps p level d n levels jsons first =
-    ap (λ l. new_seen l d (Some n)) levels ∙ ap (λ x. new_seen (level_of p) x (Some n)) jsons ∙ ap (new_seen (level_of p) p.json) (sym first)
+pub one_known : (m : Metamodel) (ps : List Part) (p : Part) (level : ℕ) (d : Data) (k : Option (ClassNo × Members)) (n : ℕ) → level ≡ level_of p → d ≡ p.json → k ≡ known m p.json → number_of ps p.path ≡ Some n
+    → new_seen level d k (Some n) ≡ seen m ps p
+one_known m ps p level d k n levels jsons knowns first =
+    ap (λ l. new_seen l d k (Some n)) levels
+    ∙ ap (λ x. new_seen (level_of p) x k (Some n)) jsons
+    ∙ ap (λ x. new_seen (level_of p) p.json x (Some n)) knowns
+    ∙ ap (new_seen (level_of p) p.json (known m p.json)) (sym first)
 
----------------------------------------------------------------- a test of levels and of what stands there
+---------------------------------------------------------------- a test of what was seen
 
-pub any_known : (test : ℕ → Data → Bool) (ps : List Part) (rows : List Row) → map row_seen rows ≡ map (seen ps) ps → list_any (λ r. test r.level (view r.json.now)) rows ≡ list_any (λ p. test (level_of p) p.json) ps
-any_known test ps rows known =
-    sym (list_any-map row_seen (λ s. test s.level s.json) rows) ∙ ap (list_any (λ s. test s.level s.json)) known ∙ list_any-map (seen ps) (λ s. test s.level s.json) ps
+list_any-as : {X : Type 0} (p q : X → Bool) (xs : List X) → ((x : X) → p x ≡ q x) → list_any p xs ≡ list_any q xs
+list_any-as p q [] same = refl
+list_any-as p q (x ∷ xs) same = ap (λ b. b || list_any p xs) (same x) ∙ ap (λ b. q x || b) (list_any-as p q xs same)
+
+pub any_seen : (m : Metamodel) (test : Seen → Bool) (ps : List Part) (rows : List Row) → map row_seen rows ≡ map (seen m ps) ps → list_any (λ r. test (row_seen r)) rows ≡ list_any (λ p. test (seen m ps p)) ps
+any_seen m test ps rows are = sym (list_any-map row_seen test rows) ∙ ap (list_any test) are ∙ list_any-map (seen m ps) test ps
+
+abbrev known_of : Metamodel → Option Written → Option (ClassNo × Members)
+known_of m o = o >>= (λ w. option_map (λ c. (c, w.features)) (lookups.class_by_name m w.class))
+
+nothing_more : (b c : Bool) → b && (false && c) ≡ false
+nothing_more true c = refl
+nothing_more false c = refl
+
+misshapen_of : (m : Metamodel) (o : Option Written) (c : Bool) → not (is_some (known_of m o)) && (not (is_some o) && c) ≡ not (is_some o) && c
+misshapen_of m None c = refl
+misshapen_of m (Some w) c = nothing_more (not (is_some (known_of m (Some w)))) c
+
+pub any_misshapen : (m : Metamodel) (ps : List Part) (rows : List Row) → map row_seen rows ≡ map (seen m ps) ps → list_any (λ r. looks_misshapen (row_seen r)) rows ≡ list_any is_misshapen ps
+any_misshapen m ps rows are = any_seen m looks_misshapen ps rows are ∙ list_any-as (λ p. looks_misshapen (seen m ps p)) is_misshapen ps (λ p. misshapen_of m (written p.json) _)
+
+no_class_by : (m : Metamodel) (w : Written) (o : Option ClassNo) → option_map_or (λ k. not (lookups.is_concrete m k.0)) (option_map {U = ClassNo × Members} (λ c. (c, w.features)) o) true ≡ not (option_map_or (lookups.is_concrete m) o false)
+no_class_by m w None = refl
+no_class_by m w (Some c) = refl
+
+no_class_of : (m : Metamodel) (o : Option Written) → option_map_or (λ k. not (lookups.is_concrete m k.0)) (known_of m o) (is_some o) ≡ option_map_or (has_no_class m) o false
+no_class_of m None = refl
+no_class_of m (Some w) = no_class_by m w (lookups.class_by_name m w.class)
+
+pub any_without_class : (m : Metamodel) (ps : List Part) (rows : List Row) → map row_seen rows ≡ map (seen m ps) ps → list_any (λ r. lacks_class m (row_seen r)) rows ≡ of_written (has_no_class m) ps
+any_without_class m ps rows are =
+    any_seen m (lacks_class m) ps rows are ∙ list_any-as (λ p. lacks_class m (seen m ps p)) (λ p. option_map_or (has_no_class m) (written p.json) false) ps (λ p. no_class_of m (written p.json))
+
+other_key_by : (other : ClassNo → Members → Bool) (w : Written) (o : Option ClassNo) → option_map_or (λ k. other k.0 k.1) (option_map {U = ClassNo × Members} (λ c. (c, w.features)) o) false ≡ option_map_or (λ c. other c w.features) o false
+other_key_by other w None = refl
+other_key_by other w (Some c) = refl
+
+other_key_of : (other : ClassNo → Members → Bool) (m : Metamodel) (o : Option Written)
+    → option_map_or (λ k. other k.0 k.1) (known_of m o) false ≡ option_map_or (λ w. option_map_or (λ c. other c w.features) (lookups.class_by_name m w.class) false) o false
+other_key_of other m None = refl
+other_key_of other m (Some w) = other_key_by other w (lookups.class_by_name m w.class)
+
+pub any_with_other_key : (m : Metamodel) (ps : List Part) (rows : List Row) → map row_seen rows ≡ map (seen m ps) ps → list_any (λ r. has_other_member m (row_seen r)) rows ≡ of_written (has_other_key m) ps
+any_with_other_key m ps rows are =
+    any_seen m (has_other_member m) ps rows are
+    ∙ list_any-as (λ p. has_other_member m (seen m ps p)) (λ p. option_map_or (has_other_key m) (written p.json) false) ps (λ p. other_key_of (λ c ms. not (list_all (is_readable m c) (keys_of ms))) m (written p.json))
+
+---------------------------------------------------------------- the class of what is known
+
+class_by : (ms : Members) (o : Option ClassNo) → option_map (λ k. k.0) (option_map {U = ClassNo × Members} (λ c. (c, ms)) o) ≡ o
+class_by ms None = refl
+class_by ms (Some c) = refl
+
+class_of_written : (m : Metamodel) (o : Option Written) → option_map (λ k. k.0) (known_of m o) ≡ (o >>= (λ w. lookups.class_by_name m w.class))
+class_of_written m None = refl
+class_of_written m (Some w) = class_by w.features (lookups.class_by_name m w.class)
+
+class_of_known : (m : Metamodel) (d : Data) → option_map (λ k. k.0) (known m d) ≡ class_of m d
+class_of_known m d = class_of_written m (written d)
+
+conforms_by : (m : Metamodel) (target : ClassNo) (o : Option (ClassNo × Members)) → option_map_or (λ k. lookups.conforms m k.0 target) o false ≡ option_map_or (λ c. lookups.conforms m c target) (option_map (λ k. k.0) o) false
+conforms_by m target None = refl
+conforms_by m target (Some k) = refl
+
+pub conforms_known : (m : Metamodel) (target : ClassNo) (ps : List Part) (p : Part) → conforms_seen m target (seen m ps p) ≡ conforms_to m target p.json
+conforms_known m target ps p = conforms_by m target (known m p.json) ∙ ap (λ o. option_map_or (λ c. lookups.conforms m c target) o false) (class_of_known m p.json)

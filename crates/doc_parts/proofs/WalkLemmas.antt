@@ -19,6 +19,7 @@ use Rattle.doc_parts.specs.Found.{FindsBelow, IsPlaced, Knows, Walks, parts_at, 
 use Rattle.doc_parts.specs.Parts.{Entry, Part, content_at, entries, entries_in, known, level_of, new_entry, number_of, parts_from, parts_in, values_of}
 use Rattle.doc_parts.specs.Places.{Key, RootKey, UnderKey}
 use Rattle.doc_parts.specs.declared.found.Found.{Found}
+use Rattle.doc_parts.proofs.DataLemmas.{entries_of_known}
 use Rattle.doc_parts.proofs.WayLemmas.{number_pushed}
 
 append_nil : {X : Type 0} (xs : List X) → xs ++ [] ≡ xs
@@ -35,15 +36,15 @@ number_more ps (q ∷ qs) path n first =
 
 ---------------------------------------------------------------- one after the other
 
-pub finds_then : (a b c : Found) (n l : ℕ) (f g : Path → List Part) → FindsBelow a b n l f → FindsBelow b c n l g → FindsBelow a c n l (λ path. f path ++ g path)
-finds_then a b c n l f g first second = λ ps p kn num level.
-    subst (Knows c) (append_assoc ps (f p.path) (g p.path)) (second (ps ++ f p.path) p (first ps p kn num level) (number_more ps (f p.path) p.path n num) level)
+pub finds_then : (m : Metamodel) (a b c : Found) (n l : ℕ) (f g : Path → List Part) → FindsBelow m a b n l f → FindsBelow m b c n l g → FindsBelow m a c n l (λ path. f path ++ g path)
+finds_then m a b c n l f g first second = λ ps p kn num level.
+    subst (Knows m c) (append_assoc ps (f p.path) (g p.path)) (second (ps ++ f p.path) p (first ps p kn num level) (number_more ps (f p.path) p.path n num) level)
 
-pub finds_as : (a b : Found) (n l : ℕ) (f g : Path → List Part) → ((path : Path) → f path ≡ g path) → FindsBelow a b n l f → FindsBelow a b n l g
-finds_as a b n l f g same first = λ ps p kn num level. subst (λ xs. Knows b (ps ++ xs)) (same p.path) (first ps p kn num level)
+pub finds_as : (m : Metamodel) (a b : Found) (n l : ℕ) (f g : Path → List Part) → ((path : Path) → f path ≡ g path) → FindsBelow m a b n l f → FindsBelow m a b n l g
+finds_as m a b n l f g same first = λ ps p kn num level. subst (λ xs. Knows m b (ps ++ xs)) (same p.path) (first ps p kn num level)
 
-pub finds_nothing : (a : Found) (n l : ℕ) (f : Path → List Part) → ((path : Path) → f path ≡ []) → FindsBelow a a n l f
-finds_nothing a n l f none = λ ps p kn num level. subst (Knows a) (sym (ap (λ xs. ps ++ xs) (none p.path) ∙ append_nil ps)) kn
+pub finds_nothing : (m : Metamodel) (a : Found) (n l : ℕ) (f : Path → List Part) → ((path : Path) → f path ≡ []) → FindsBelow m a a n l f
+finds_nothing m a n l f none = λ ps p kn num level. subst (Knows m a) (sym (ap (λ xs. ps ++ xs) (none p.path) ∙ append_nil ps)) kn
 
 ---------------------------------------------------------------- values
 
@@ -51,7 +52,7 @@ abbrev pub child : Path → List ℕ → Option ℕ → Data → Part
 child path name index d = record { path = with_step path (new_step name index); json = d }
 
 pub walks_below : (m : Metamodel) (n : ℕ) (a b : Found) (part level : ℕ) (name : List ℕ) (index : Option ℕ) (d : Data) → Walks m n a b (UnderKey part name index) level d
-    → FindsBelow a b part level (λ path. parts_from m n (child path name index d))
+    → FindsBelow m a b part level (λ path. parts_from m n (child path name index d))
 walks_below m n a b part level name index d w = λ ps p kn num lev.
     let e = length-append p.path.steps (new_step name index ∷ []) in
     w ps (child p.path name index d) kn (p.path, num, refl) (lev ∙ ap suc (let next : suc (length p.path.steps) ≡ length (p.path.steps ++ new_step name index ∷ []) = omega (arith, e) in next)) refl
@@ -130,30 +131,33 @@ entries_parts m path ms (f ∷ fs) =
 
 known_parts : (m : Metamodel) (path : Path) (d : Data) (c : ClassNo) (ms : Members) (fs : List FeatureNo) → Some (c, ms) ≡ known m d → Some fs ≡ lookups.features m c
     → flat_map (parts_at m path ms) fs ≡ flat_map (parts_in m path) (entries m d)
-known_parts m path d c ms fs is features =
-    sym (entries_parts m path ms fs)
-    ∙ ap (λ o. flat_map (parts_in m path) (filter_map (λ f. option_map (new_entry f) (content_at m ms f)) (unwrap_or o []))) features
-    ∙ ap (λ o. flat_map (parts_in m path) (option_map_or (λ k. entries_in m k.0 k.1) o [])) is
+known_parts m path d c ms fs is features = sym (entries_parts m path ms fs) ∙ ap (flat_map (parts_in m path)) (entries_of_known m (known m d) c ms fs is features)
 
-abbrev pub Adds : Found → Found → Key → ℕ → Data → ℕ → Type 0
-Adds old new k level d part =
-    (ps : List Part) (p : Part) → Knows old ps → IsPlaced ps k p.path → level ≡ level_of p → d ≡ p.json → Knows new (ps ++ p ∷ []) × (number_of (ps ++ p ∷ []) p.path ≡ Some part)
+abbrev pub Adds : Metamodel → Found → Found → Key → ℕ → Data → ℕ → Type 0
+Adds m old new k level d part =
+    (ps : List Part) (p : Part) → Knows m old ps → IsPlaced ps k p.path → level ≡ level_of p → d ≡ p.json → Knows m new (ps ++ p ∷ []) × (number_of (ps ++ p ∷ []) p.path ≡ Some part)
 
-pub walked_known : (m : Metamodel) (levels n : ℕ) (a b c : Found) (k : Key) (level below : ℕ) (d : Data) (part : ℕ) (class : ClassNo) (ms : Members) (fs : List FeatureNo) → levels ≡ suc n → Adds a b k level d part
+-- what is added with the class and the members that it is known to have
+pub added_known : (m : Metamodel) (old new : Found) (k : Key) (level : ℕ) (d : Data) (o : Option (ClassNo × Members)) (part : ℕ) → o ≡ known m d
+    → ((n : Metamodel) (ps : List Part) (p : Part) → Knows n old ps → IsPlaced ps k p.path → level ≡ level_of p → d ≡ p.json → o ≡ known n p.json → Knows n new (ps ++ p ∷ []) × (number_of (ps ++ p ∷ []) p.path ≡ Some part))
+    → Adds m old new k level d part
+added_known m old new k level d o part is added = λ ps p kn placed lev json. added m ps p kn placed lev json (is ∙ ap (known m) json)
+
+pub walked_known : (m : Metamodel) (levels n : ℕ) (a b c : Found) (k : Key) (level below : ℕ) (d : Data) (part : ℕ) (class : ClassNo) (ms : Members) (fs : List FeatureNo) → levels ≡ suc n → Adds m a b k level d part
     → below ≡ suc level → Some (class, ms) ≡ known m d → Some fs ≡ lookups.features m class
-    → FindsBelow b c part below (λ path. flat_map (parts_from m n) (flat_map (parts_at m path ms) fs)) → Walks m levels a c k level d
+    → FindsBelow m b c part below (λ path. flat_map (parts_from m n) (flat_map (parts_at m path ms) fs)) → Walks m levels a c k level d
 walked_known m levels n a b c k level below d part class ms fs count added next is features more = λ ps p kn placed lev json.
     let (kn2, num) = added ps p kn placed lev json in
-    subst (Knows c)
+    subst (Knows m c)
     (append_assoc ps (p ∷ []) (flat_map (parts_from m n) (flat_map (parts_at m p.path ms) fs))
     ∙ ap (λ xs. ps ++ p ∷ flat_map (parts_from m n) xs) (known_parts m p.path d class ms fs is features ∙ ap (λ x. flat_map (parts_in m p.path) (entries m x)) json)
     ∙ ap (λ l. ps ++ parts_from m l p) (sym count))
     (more (ps ++ p ∷ []) p kn2 num (next ∙ ap suc lev))
 
-pub walked_nothing : (m : Metamodel) (levels n : ℕ) (a b : Found) (k : Key) (level : ℕ) (d : Data) (part : ℕ) → levels ≡ suc n → Adds a b k level d part → entries m d ≡ [] → Walks m levels a b k level d
+pub walked_nothing : (m : Metamodel) (levels n : ℕ) (a b : Found) (k : Key) (level : ℕ) (d : Data) (part : ℕ) → levels ≡ suc n → Adds m a b k level d part → entries m d ≡ [] → Walks m levels a b k level d
 walked_nothing m levels n a b k level d part count added none = λ ps p kn placed lev json.
     let (kn2, num) = added ps p kn placed lev json in
-    subst (Knows b)
+    subst (Knows m b)
     (ap (λ es. ps ++ p ∷ flat_map (parts_from m n) (flat_map (parts_in m p.path) es)) (sym none)
     ∙ ap (λ x. ps ++ p ∷ flat_map (parts_from m n) (flat_map (parts_in m p.path) (entries m x))) json
     ∙ ap (λ l. ps ++ parts_from m l p) (sym count))
@@ -192,9 +196,9 @@ roots_next vs i v below is =
     ∙ ap (λ k. roots_from (map view (take i vs)) ++ root k (view v) ∷ []) (taken i vs below)
 
 pub root_walked : (m : Metamodel) (n : ℕ) (a b : Found) (vs : List Value) (i : ℕ) (v : Value) (ps : List Part) → i < length vs → v ≡ get_or vs i v → Walks m n a b (RootKey i) 1 (view v)
-    → Knows a (ps ++ flat_map (parts_from m n) (roots_from (map view (take i vs)))) → Knows b (ps ++ flat_map (parts_from m n) (roots_from (map view (take (i + 1) vs))))
+    → Knows m a (ps ++ flat_map (parts_from m n) (roots_from (map view (take i vs)))) → Knows m b (ps ++ flat_map (parts_from m n) (roots_from (map view (take (i + 1) vs))))
 root_walked m n a b vs i v ps below is walked kn =
-    subst (Knows b)
+    subst (Knows m b)
     (append_assoc ps (flat_map (parts_from m n) (roots_from (map view (take i vs)))) (parts_from m n (root i (view v)))
     ∙ ap (λ xs. ps ++ (flat_map (parts_from m n) (roots_from (map view (take i vs))) ++ xs)) (sym (append_nil (parts_from m n (root i (view v)))))
     ∙ ap (λ xs. ps ++ xs) (sym (flat_map-append (parts_from m n) (roots_from (map view (take i vs))) (root i (view v) ∷ [])))

@@ -1,9 +1,10 @@
 //! The parts of a document that are looked at, as they are found.
-ghost use Rattle.std.specs.Prelude.{◌≡◌, ◌++◌, ◌∷◌, [], IfOk, List, None, OnOk, Some, if◌then◌else◌, length};
+ghost use Rattle.std.specs.Prelude.{◌≡◌, ◌++◌, ◌∷◌, [], IfOk, List, None, OnOk, Some, if◌then◌else◌, length, option_map};
 ghost use Rattle.std.specs.Option.{option_or};
 
 use indexmap::IndexMap;
-use serde_json::Value as JsonValue;
+use mm_types::ClassNo;
+use serde_json::{Map, Value as JsonValue};
 use std::alloc::{AllocError, Global};
 use web_uris::{Path, Step};
 
@@ -24,11 +25,13 @@ pub struct Numbers<'m> {
     numbers: IndexMap<Place<'m>, u32>,
 }
 
-/// A part: its level, what is there, and the number of the first part of its path.
+/// A part: its level, what is there, its class and its members if its class is there, and the number of the first part of
+/// its path.
 #[derive(Clone, Copy)]
 pub struct Row<'v> {
     pub level: usize,
     pub json: &'v JsonValue,
+    pub known: Option<(ClassNo, &'v Map<String, JsonValue>)>,
     pub number: u32,
 }
 
@@ -114,14 +117,15 @@ impl<'m> Numbers<'m> {
 }
 
 impl<'v, 'm> Found<'v, 'm> {
-    ghost use Rattle.serde_json.specs.View.{view};
+    ghost use Rattle.mm_types.specs.Resolved.{Metamodel};
+    ghost use Rattle.serde_json.specs.View.{members_view, view};
     ghost use Rattle.doc_parts.specs.Found.{IsPlaced, Knows};
-    ghost use Rattle.doc_parts.specs.Parts.{Part, level_of, number_of};
+    ghost use Rattle.doc_parts.specs.Parts.{Part, known as known_meant, level_of, number_of};
     ghost use Rattle.doc_parts.specs.Places.{key_of};
 
     /// No parts. Takes no memory.
     pub fn new(alloc: Global) -> Self
-        ensures { Knows result [] }
+        ensures { (m : Metamodel) → Knows m result [] }
     {
         Found {
             rows: Vec::new(alloc),
@@ -136,9 +140,10 @@ impl<'v, 'm> Found<'v, 'm> {
         place: Place<'m>,
         level: usize,
         json: &'v JsonValue,
+        known: Option<(ClassNo, &'v Map<String, JsonValue>)>,
     ) -> Result<u32, AllocError>
-        ensures { IfOk result (λ n. (ps : List Part) (p : Part) → Knows self.old ps → IsPlaced ps (key_of place.entry) p.path → level ≡ level_of p → view json.entry.now ≡ p.json
-            → Knows self.new (ps ++ p ∷ []) × (number_of (ps ++ p ∷ []) p.path ≡ Some n)) }
+        ensures { IfOk result (λ n. (m : Metamodel) (ps : List Part) (p : Part) → Knows m self.old ps → IsPlaced ps (key_of place.entry) p.path → level ≡ level_of p → view json.entry.now ≡ p.json
+            → option_map (λ k. (k.0, members_view k.1.now.entries)) known.entry ≡ known_meant m p.json → Knows m self.new (ps ++ p ∷ []) × (number_of (ps ++ p ∷ []) p.path ≡ Some n)) }
     {
         let count = self.rows.as_slice().len();
         if count > u32::MAX as usize {
@@ -148,6 +153,7 @@ impl<'v, 'm> Found<'v, 'm> {
         self.rows.push(Row {
             level,
             json,
+            known,
             number,
         })?;
         Ok(number)

@@ -34,12 +34,13 @@ pub(crate) fn walk<'v, 'm>(
     if levels == 0 {
         return Ok(());
     }
-    let part = found.add(place, level, json)?;
+    let seen = known(meta, json);
+    let part = found.add(place, level, json, seen)?;
     let Some(level) = level.checked_add(1) else {
         return Err(AllocError);
     };
     let below = Below { part, level };
-    match known(meta, json) {
+    match seen {
         Some((class, members)) => match meta.features(class) {
             Some(features) => walk_features(found, meta, levels - 1, below, members, features),
             None => Ok(()),
@@ -57,7 +58,7 @@ fn walk_features<'v, 'm>(
     members: &'v Map<String, JsonValue>,
     features: &[FeatureNo],
 ) -> Result<(), AllocError>
-    ensures { OnOk result (FindsBelow found.old found.new below.part below.level (λ path. flat_map (parts_from meta.entry.now levels) (flat_map (parts_at meta.entry.now path (members_view members.entry.now.entries)) features.now))) }
+    ensures { OnOk result (FindsBelow meta.entry.now found.old found.new below.part below.level (λ path. flat_map (parts_from meta.entry.now levels) (flat_map (parts_at meta.entry.now path (members_view members.entry.now.entries)) features.now))) }
 {
     'features: for feature in features {
         walk_feature(found, meta, levels, below, members, *feature)?;
@@ -74,7 +75,7 @@ fn walk_feature<'v, 'm>(
     members: &'v Map<String, JsonValue>,
     feature: FeatureNo,
 ) -> Result<(), AllocError>
-    ensures { OnOk result (FindsBelow found.old found.new below.part below.level (λ path. flat_map (parts_from meta.entry.now levels) (parts_at meta.entry.now path (members_view members.entry.now.entries) feature))) }
+    ensures { OnOk result (FindsBelow meta.entry.now found.old found.new below.part below.level (λ path. flat_map (parts_from meta.entry.now levels) (parts_at meta.entry.now path (members_view members.entry.now.entries) feature))) }
 {
     if !meta.is_containment(feature) {
         return Ok(());
@@ -112,7 +113,7 @@ fn walk_values<'v, 'm>(
     is_single: bool,
     values: &'v [JsonValue],
 ) -> Result<(), AllocError>
-    ensures { OnOk result (FindsBelow found.old found.new below.part below.level (λ path. flat_map (parts_from meta.entry.now levels) (parts_under path name.entry.now is_single (map view values.entry.now)))) }
+    ensures { OnOk result (FindsBelow meta.entry.now found.old found.new below.part below.level (λ path. flat_map (parts_from meta.entry.now levels) (parts_under path name.entry.now is_single (map view values.entry.now)))) }
 {
     'values: for (i, value) in values.iter().enumerate() {
         if i > u32::MAX as usize {
@@ -141,7 +142,7 @@ fn walk_roots<'v, 'm>(
     levels: usize,
     roots: &'v [JsonValue],
 ) -> Result<(), AllocError>
-    ensures { OnOk result ((ps : List Part) → Knows found.old ps → Knows found.new (ps ++ flat_map (parts_from meta.entry.now levels) (roots_from (map view roots.entry.now)))) }
+    ensures { OnOk result ((ps : List Part) → Knows meta.entry.now found.old ps → Knows meta.entry.now found.new (ps ++ flat_map (parts_from meta.entry.now levels) (roots_from (map view roots.entry.now)))) }
 {
     'roots: for (i, root) in roots.iter().enumerate() {
         if i > u32::MAX as usize {
@@ -159,7 +160,7 @@ pub fn find_parts<'v, 'm>(
     levels: usize,
     roots: &'v [JsonValue],
 ) -> Result<Found<'v, 'm>, AllocError>
-    ensures { IfOk result (λ found. Knows found (flat_map (parts_from meta.entry.now levels) (roots_from (map view roots.entry.now)))) }
+    ensures { IfOk result (λ found. Knows meta.entry.now found (flat_map (parts_from meta.entry.now levels) (roots_from (map view roots.entry.now)))) }
 {
     let mut found = Found::new(alloc);
     walk_roots(&mut found, meta, levels, roots)?;

@@ -83,9 +83,9 @@ count_roots vs rs are =
 
 -- enough levels find the parts of a document
 pub found_parts : (m : Metamodel) (f : Found) (n : ℕ) (d : Data) (format : ℤ) (vs : List json.Value) → depth d ≤ n → top d ≡ Some (new_top format (items_view vs))
-    → Knows f (flat_map (parts_from m n) (roots_from (map view vs))) → Knows f (parts m d)
+    → Knows m f (flat_map (parts_from m n) (roots_from (map view vs))) → Knows m f (parts m d)
 found_parts m f n d format vs deep here known =
-    subst (Knows f) (sym (parts_within m n d deep ∙ ap (flat_map (parts_from m n)) (roots_are d format vs here))) known
+    subst (Knows m f) (sym (parts_within m n d deep ∙ ap (flat_map (parts_from m n)) (roots_are d format vs here))) known
 
 ---------------------------------------------------------------- bytes
 

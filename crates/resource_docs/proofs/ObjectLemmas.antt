@@ -8,7 +8,7 @@ use Rattle.mm_types.specs.Resolved.{Metamodel}
 use Rattle.mm_types.specs.declared.numbers.FeatureNo.{FeatureNo}
 use Rattle.web_uris.specs.Paths.{new_path}
 use Rattle.doc_parts.specs.Found.{Knows, row_seen, seen}
-use Rattle.doc_parts.specs.Parts.{Part, entry_at, known}
+use Rattle.doc_parts.specs.Parts.{Part, entry_at}
 use Rattle.doc_parts.specs.declared.found.Found.{Found}
 use Rattle.doc_parts.specs.declared.found.Row.{Row}
 use Rattle.doc_parts.proofs.KnowLemmas.{count_known}
@@ -33,14 +33,14 @@ no_part = record { path = new_path 0 []; json = null }
 pub part_at : List Part → ℕ → Part
 part_at ps i = get_or ps i no_part
 
-pub parts_more : (f : Found) (ps : List Part) (i : ℕ) → Knows f ps → i < length f.rows.items → take i ps ++ part_at ps i ∷ [] ≡ take (i + 1) ps
+pub parts_more : (m : Metamodel) (f : Found) (ps : List Part) (i : ℕ) → Knows m f ps → i < length f.rows.items → take i ps ++ part_at ps i ∷ [] ≡ take (i + 1) ps
 unfolding part_at
-parts_more f ps i known below = let e = count_known ps f.rows.items known.rows in sym (take_more ps i no_part (omega (arith, below, e)))
+parts_more m f ps i known below = let e = count_known m ps f.rows.items known.rows in sym (take_more ps i no_part (omega (arith, below, e)))
 
-pub row_of_part : (f : Found) (ps : List Part) (i : ℕ) (r : Row) → Knows f ps → i < length f.rows.items → r ≡ get_or f.rows.items i r → row_seen r ≡ seen ps (part_at ps i)
+pub row_of_part : (m : Metamodel) (f : Found) (ps : List Part) (i : ℕ) (r : Row) → Knows m f ps → i < length f.rows.items → r ≡ get_or f.rows.items i r → row_seen r ≡ seen m ps (part_at ps i)
 unfolding part_at
-row_of_part f ps i r known below is =
+row_of_part m f ps i r known below is =
     ap row_seen is
     ∙ sym (get_or-map row_seen f.rows.items i r (row_seen r) below)
     ∙ ap (λ ss. get_or ss i (row_seen r)) known.rows
-    ∙ (let e = count_known ps f.rows.items known.rows in get_or-map (seen ps) ps i no_part (row_seen r) (omega (arith, below, e)))
+    ∙ (let e = count_known m ps f.rows.items known.rows in get_or-map (seen m ps) ps i no_part (row_seen r) (omega (arith, below, e)))

@@ -22,8 +22,8 @@ use Rattle.resource_docs.specs.declared.objects.ReadObjects.{ReadObjects}
 use Rattle.resource_docs.specs.declared.values.ReadValues.{ReadValues}
 
 -- something holds of the path whose first part has a number, whatever the parts that were found
-abbrev pub Numbered : Found → ℕ → (List Part → Path → Type 0) → Type 0
-Numbered f n says = (ps : List Part) (path : Path) → Knows f ps → number_of ps path ≡ Some n → says ps path
+abbrev pub Numbered : Metamodel → Found → ℕ → (List Part → Path → Type 0) → Type 0
+Numbered m f n says = (ps : List Part) (path : Path) → Knows m f ps → number_of ps path ≡ Some n → says ps path
 
 ---------------------------------------------------------------- values under a feature
 

@@ -34,7 +34,7 @@ pub(crate) fn has_first_format(top: TopMembers) -> bool
 
 /// What is wrong with the shape of what is written, or with its names and types. Takes no memory.
 pub(crate) fn shape_cause(meta: &Meta, top: TopMembers, found: &Found) -> Option<DocFault>
-    ensures { (ps : List Part) → Knows found.now ps → result ≡ shape_meant meta.now (Some (new_top top.entry.format (items_view top.entry.roots.now.items))) ps }
+    ensures { (ps : List Part) → Knows meta.now found.now ps → result ≡ shape_meant meta.now (Some (new_top top.entry.format (items_view top.entry.roots.now.items))) ps }
 {
     if has_misshapen(found) {
         return Some(DocFault::Layout);
@@ -70,7 +70,7 @@ pub(crate) fn sense_cause(
     is_lost: bool,
     doc: &Doc,
 ) -> Result<Option<DocFault>, AllocError>
-    ensures { IfOk result (λ o. (ps : List Part) (d : Data) → Knows source.now.found.now ps → has_first_format ≡ option_map_or first_meant (top_meant d) false → root_count ≡ length (root_parts d)
+    ensures { IfOk result (λ o. (ps : List Part) (d : Data) → Knows source.now.meta.now source.now.found.now ps → has_first_format ≡ option_map_or first_meant (top_meant d) false → root_count ≡ length (root_parts d)
         → is_lost ≡ of_entry source.now.meta.now (has_lost source.now.meta.now (base_of source.now.uri.now) ps) ps
         → o ≡ sense_meant source.now.meta.now (base_of source.now.uri.now) d ps doc.now) }
 {

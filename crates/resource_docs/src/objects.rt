@@ -11,7 +11,7 @@ ghost use Rattle.resource_docs.specs.Values.{IsProxyValue};
 use crate::doc::{Content, DocObject};
 use crate::source::Source;
 use crate::values::{ReadValues, read_content};
-use doc_parts::{Row, class_of, content_at, known};
+use doc_parts::{Row, content_at};
 use mm_types::{ClassNo, FeatureNo, Seq};
 use serde_json::{Map, Value as JsonValue};
 use std::alloc::{AllocError, Global};
@@ -64,7 +64,7 @@ fn add_feature(
     members: &Map<String, JsonValue>,
     feature: FeatureNo,
 ) -> Result<(), AllocError>
-    ensures value { OnOk result (Numbered source.now.found.now number (λ ps path. (es : List Entry)
+    ensures value { OnOk result (Numbered source.now.meta.now source.now.found.now number (λ ps path. (es : List Entry)
         → read.old ≡ contents_so_far source.now.meta.now (base_of source.now.uri.now) ps path es
         → read.new ≡ contents_so_far source.now.meta.now (base_of source.now.uri.now) ps path (es ++ option_to_list (entry_at source.now.meta.now (members_view members.now.entries) feature)))) }
     ensures proxy { OnOk result (All IsProxyContent read.old.contents → All IsProxyContent read.new.contents) }
@@ -84,7 +84,7 @@ fn read_features(
     members: &Map<String, JsonValue>,
     features: &[FeatureNo],
 ) -> Result<ReadContents, AllocError>
-    ensures value { IfOk result (λ r. Numbered source.now.found.now number (λ ps path. r ≡ contents_so_far source.now.meta.now (base_of source.now.uri.now) ps path (filter_map (entry_at source.now.meta.now (members_view members.now.entries)) features.now))) }
+    ensures value { IfOk result (λ r. Numbered source.now.meta.now source.now.found.now number (λ ps path. r ≡ contents_so_far source.now.meta.now (base_of source.now.uri.now) ps path (filter_map (entry_at source.now.meta.now (members_view members.now.entries)) features.now))) }
     ensures proxy { IfOk result (λ r. All IsProxyContent r.contents) }
 {
     let mut read = no_contents(source.alloc);
@@ -96,11 +96,11 @@ fn read_features(
 
 /// Reads what is written in the object of a part.
 fn read_contents(source: &Source, row: &Row) -> Result<ReadContents, AllocError>
-    ensures value { IfOk result (λ r. (ps : List Part) (p : Part) → Knows source.now.found.now ps → row_seen row.now ≡ seen ps p
+    ensures value { IfOk result (λ r. (ps : List Part) (p : Part) → Knows source.now.meta.now source.now.found.now ps → row_seen row.now ≡ seen source.now.meta.now ps p
         → r ≡ contents_so_far source.now.meta.now (base_of source.now.uri.now) ps p.path (entries source.now.meta.now p.json)) }
     ensures proxy { IfOk result (λ r. All IsProxyContent r.contents) }
 {
-    match known(source.meta, row.json) {
+    match row.known {
         Some((class, members)) => match source.meta.features(class) {
             Some(features) => read_features(source, row.number, members, features),
             None => Ok(no_contents(source.alloc)),
@@ -111,13 +111,16 @@ fn read_contents(source: &Source, row: &Row) -> Result<ReadContents, AllocError>
 
 /// Reads the object of one more part.
 fn add_object(read: &mut ReadObjects, source: &Source, row: &Row) -> Result<(), AllocError>
-    ensures value { OnOk result ((ps qs : List Part) (p : Part) → Knows source.now.found.now ps → row_seen row.now ≡ seen ps p
+    ensures value { OnOk result ((ps qs : List Part) (p : Part) → Knows source.now.meta.now source.now.found.now ps → row_seen row.now ≡ seen source.now.meta.now ps p
         → read.old ≡ objects_so_far source.now.meta.now (base_of source.now.uri.now) ps qs
         → read.new ≡ objects_so_far source.now.meta.now (base_of source.now.uri.now) ps (qs ++ p ∷ [])) }
     ensures proxy { OnOk result (All IsProxyObject read.old.objects → All IsProxyObject read.new.objects) }
 {
     let ReadContents { contents, is_lost } = read_contents(source, row)?;
-    let class = class_of(source.meta, row.json).unwrap_or(ClassNo(0));
+    let class = match row.known {
+        Some((class, _)) => class,
+        None => ClassNo(0),
+    };
     read.is_lost = read.is_lost || is_lost;
     read.objects.push(DocObject { class, contents })?;
     Ok(())
@@ -126,7 +129,7 @@ fn add_object(read: &mut ReadObjects, source: &Source, row: &Row) -> Result<(), 
 /// Reads the objects of the parts that were found, in loading order. Errs only if memory is refused, or if a list has
 /// more than 2^32 values.
 pub(crate) fn read_objects(source: &Source) -> Result<ReadObjects, AllocError>
-    ensures value { IfOk result (λ r. (ps : List Part) → Knows source.now.found.now ps → r ≡ objects_so_far source.now.meta.now (base_of source.now.uri.now) ps ps) }
+    ensures value { IfOk result (λ r. (ps : List Part) → Knows source.now.meta.now source.now.found.now ps → r ≡ objects_so_far source.now.meta.now (base_of source.now.uri.now) ps ps) }
     ensures proxy { IfOk result (λ r. All IsProxyObject r.objects) }
 {
     let mut read = ReadObjects {

@@ -27,7 +27,7 @@ const NESTING: usize = 127;
 /// Reads the document whose parts were found and have the right shape, and of which is known whether it has the first
 /// format.
 fn read_found(source: &Source, has_first_format: bool, roots: &[JsonValue]) -> Result<Doc, Refused>
-    ensures { (d : Data) → Knows source.now.found.now (parts source.now.meta.now d) → has_first_format ≡ option_map_or first_meant (top_meant d) false
+    ensures { (d : Data) → Knows source.now.meta.now source.now.found.now (parts source.now.meta.now d) → has_first_format ≡ option_map_or first_meant (top_meant d) false
         → root_parts d ≡ roots_from (map view roots.now)
         → Answers result (unless_faulty (sense_meant source.now.meta.now (base_of source.now.uri.now) d (parts source.now.meta.now d) (doc_read source.now.meta.now (base_of source.now.uri.now) d))
         (doc_read source.now.meta.now (base_of source.now.uri.now) d)) }
@@ -54,7 +54,7 @@ fn read_found(source: &Source, has_first_format: bool, roots: &[JsonValue]) -> R
 
 /// Reads the document whose parts were found.
 fn read_parts(source: &Source, top: TopMembers) -> Result<Doc, Refused>
-    ensures { (d : Data) → Knows source.now.found.now (parts source.now.meta.now d) → top_meant d ≡ Some (new_top top.entry.format (items_view top.entry.roots.now.items))
+    ensures { (d : Data) → Knows source.now.meta.now source.now.found.now (parts source.now.meta.now d) → top_meant d ≡ Some (new_top top.entry.format (items_view top.entry.roots.now.items))
         → Answers result (reads source.now.meta.now (base_of source.now.uri.now) d) }
 {
     match shape_cause(source.meta, top, source.found) {

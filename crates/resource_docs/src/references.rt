@@ -1,8 +1,7 @@
 //! What the text of a reference is read as, among the parts that were found.
 ghost use Rattle.std.specs.Prelude.{◌≡◌, IfOk, IfSome, List, None, Some, if◌then◌else◌, slice_get};
 ghost use Rattle.serde_json.specs.View.{view};
-ghost use Rattle.doc_parts.specs.Contents.{conforms_to as conforms_meant};
-ghost use Rattle.doc_parts.specs.Found.{Knows};
+ghost use Rattle.doc_parts.specs.Found.{Knows, conforms_seen, row_seen};
 ghost use Rattle.doc_parts.specs.Parts.{Part};
 ghost use Rattle.doc_parts.specs.declared.found.Row.{Row};
 ghost use Rattle.resource_docs.specs.Texts.{IsProxyTarget, base_of};
@@ -11,27 +10,37 @@ ghost use Rattle.resource_docs.specs.declared.target.Target.TheVariants.{Here};
 
 use crate::source::Source;
 use crate::target::{Target, target_of};
-use doc_parts::{Found, conforms_to};
+use doc_parts::{Found, Row};
 use mm_meta::Meta;
 use mm_types::{ClassNo, ObjectNo, Value};
 use serde_json::Value as JsonValue;
 use std::alloc::AllocError;
 use web_uris::Path;
 
+/// Whether the object of a part conforms to a class.
+fn conforms_to(meta: &Meta, class: ClassNo, row: Row) -> bool
+    ensures { result ≡ conforms_seen meta.now class (row_seen row.entry) }
+{
+    match row.known {
+        Some((own, _)) => meta.conforms(own, class),
+        None => false,
+    }
+}
+
 /// The object of a number, if it conforms to a class.
 fn object_of_number(meta: &Meta, found: &Found, class: ClassNo, number: u32) -> Option<Value>
-    ensures value { (r : Row) → slice_get found.now.rows.items number ≡ Some r → result ≡ (if conforms_meant meta.now class (view r.json.now) then Some (object_of number) else None) }
+    ensures value { (r : Row) → slice_get found.now.rows.items number ≡ Some r → result ≡ (if conforms_seen meta.now class (row_seen r) then Some (object_of number) else None) }
     ensures proxy { IfSome result IsProxyValue }
 {
     match found.rows.as_slice().get(number as usize).copied() {
-        Some(row) if conforms_to(meta, class, row.json) => Some(Value::Object(ObjectNo(number))),
+        Some(row) if conforms_to(meta, class, row) => Some(Value::Object(ObjectNo(number))),
         _ => None,
     }
 }
 
 /// The object that a path leads to, if it conforms to a class.
 fn object_at(meta: &Meta, found: &Found, class: ClassNo, path: &Path) -> Option<Value>
-    ensures value { (ps : List Part) → Knows found.now ps → result ≡ led_meant meta.now ps class (Here path.now) }
+    ensures value { (ps : List Part) → Knows meta.now found.now ps → result ≡ led_meant meta.now ps class (Here path.now) }
     ensures proxy { IfSome result IsProxyValue }
 {
     match found.numbers.of_path(path) {
@@ -41,7 +50,7 @@ fn object_at(meta: &Meta, found: &Found, class: ClassNo, path: &Path) -> Option<
 }
 
 fn led_to(meta: &Meta, found: &Found, class: ClassNo, target: Target) -> Option<Value>
-    ensures value { (ps : List Part) → Knows found.now ps → result ≡ led_meant meta.now ps class target }
+    ensures value { (ps : List Part) → Knows meta.now found.now ps → result ≡ led_meant meta.now ps class target }
     ensures proxy { IsProxyTarget target → IfSome result IsProxyValue }
 {
     match target {
@@ -57,7 +66,7 @@ pub(crate) fn reference_value(
     class: ClassNo,
     json: &JsonValue,
 ) -> Result<Option<Value>, AllocError>
-    ensures value { IfOk result (λ v. (ps : List Part) → Knows source.now.found.now ps → v ≡ value_meant source.now.meta.now (base_of source.now.uri.now) ps class (view json.now)) }
+    ensures value { IfOk result (λ v. (ps : List Part) → Knows source.now.meta.now source.now.found.now ps → v ≡ value_meant source.now.meta.now (base_of source.now.uri.now) ps class (view json.now)) }
     ensures proxy { IfOk result (λ v. IfSome v IsProxyValue) }
 {
     let Some(text) = json.as_str() else {

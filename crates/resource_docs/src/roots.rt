@@ -1,5 +1,6 @@
 //! The roots of a document, among its objects.
 ghost use Rattle.std.specs.Prelude.{◌≡◌, ◌++◌, [], IfOk, List, OnOk, filter_map, map, option_map, option_to_list};
+ghost use Rattle.mm_types.specs.Resolved.{Metamodel};
 ghost use Rattle.serde_json.specs.View.{view};
 ghost use Rattle.web_uris.specs.Paths.{new_path};
 ghost use Rattle.doc_parts.specs.Found.{Knows, roots_from};
@@ -13,7 +14,7 @@ use std::alloc::{AllocError, Global};
 
 /// Adds the number of the root at a position.
 fn add_root(roots: &mut Seq<ObjectNo>, found: &Found, position: usize) -> Result<(), AllocError>
-    ensures { OnOk result ((ps : List Part) → Knows found.now ps → roots.new ≡ roots.old ++ option_to_list (root_number ps (new_path position []))) }
+    ensures { OnOk result ((m : Metamodel) (ps : List Part) → Knows m found.now ps → roots.new ≡ roots.old ++ option_to_list (root_number ps (new_path position []))) }
 {
     if position > u32::MAX as usize {
         return Err(AllocError);
@@ -31,7 +32,7 @@ pub(crate) fn read_roots(
     found: &Found,
     roots: &[JsonValue],
 ) -> Result<Seq<ObjectNo>, AllocError>
-    ensures { IfOk result (λ r. (ps : List Part) → Knows found.now ps → r ≡ filter_map (λ p. root_number ps p.path) (roots_from (map view roots.now))) }
+    ensures { IfOk result (λ r. (m : Metamodel) (ps : List Part) → Knows m found.now ps → r ≡ filter_map (λ p. root_number ps p.path) (roots_from (map view roots.now))) }
 {
     let mut numbers = Seq::new(alloc);
     'roots: for (i, _root) in roots.iter().enumerate() {

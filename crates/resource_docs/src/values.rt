@@ -25,7 +25,7 @@ pub(crate) struct ReadValues {
 
 /// The object that a step leads to under a part. The part is given by its number.
 fn part_at(source: &Source, number: u32, name: &str, index: Option<u32>) -> Option<Value>
-    ensures value { Numbered source.now.found.now number (λ ps path. result ≡ option_map object_of (number_of ps (with_step path (new_step name.now index)))) }
+    ensures value { Numbered source.now.meta.now source.now.found.now number (λ ps path. result ≡ option_map object_of (number_of ps (with_step path (new_step name.now index)))) }
     ensures proxy { IfSome result IsProxyValue }
 {
     match source.found.numbers.at(Place::Under {
@@ -40,7 +40,7 @@ fn part_at(source: &Source, number: u32, name: &str, index: Option<u32>) -> Opti
 
 /// The object at a position under a feature of a part. The part is given by its number.
 fn part_of(source: &Source, number: u32, feature: FeatureNo, position: u32) -> Option<Value>
-    ensures value { Numbered source.now.found.now number (λ ps path. result ≡ option_map object_of (number_of ps (with_step path (step_to source.now.meta.now feature position)))) }
+    ensures value { Numbered source.now.meta.now source.now.found.now number (λ ps path. result ≡ option_map object_of (number_of ps (with_step path (step_to source.now.meta.now feature position)))) }
     ensures proxy { IfSome result IsProxyValue }
 {
     if source.meta.is_single(feature) {
@@ -64,7 +64,7 @@ fn value_of(
     position: u32,
     json: &JsonValue,
 ) -> Result<Option<Value>, AllocError>
-    ensures value { IfOk result (λ v. Numbered source.now.found.now number (λ ps path. v ≡ value_meant source.now.meta.now (base_of source.now.uri.now) ps path feature kind.now (position, view json.now))) }
+    ensures value { IfOk result (λ v. Numbered source.now.meta.now source.now.found.now number (λ ps path. v ≡ value_meant source.now.meta.now (base_of source.now.uri.now) ps path feature kind.now (position, view json.now))) }
     ensures proxy { IfOk result (λ v. IfSome v IsProxyValue) }
 {
     match kind {
@@ -112,7 +112,7 @@ fn add_value(
     position: usize,
     json: &JsonValue,
 ) -> Result<(), AllocError>
-    ensures value { OnOk result (Numbered source.now.found.now number (λ ps path. (ds : List Data) → position ≡ length ds
+    ensures value { OnOk result (Numbered source.now.meta.now source.now.found.now number (λ ps path. (ds : List Data) → position ≡ length ds
         → read.old ≡ values_so_far source.now.meta.now (base_of source.now.uri.now) ps path feature kind.now ds
         → read.new ≡ values_so_far source.now.meta.now (base_of source.now.uri.now) ps path feature kind.now (ds ++ view json.now ∷ []))) }
     ensures proxy { OnOk result (All IsProxyValue read.old.values → All IsProxyValue read.new.values) }
@@ -135,7 +135,7 @@ fn read_values(
     kind: &Kind,
     values: &[JsonValue],
 ) -> Result<ReadValues, AllocError>
-    ensures value { IfOk result (λ r. Numbered source.now.found.now number (λ ps path. r ≡ values_so_far source.now.meta.now (base_of source.now.uri.now) ps path feature kind.now (map view values.now))) }
+    ensures value { IfOk result (λ r. Numbered source.now.meta.now source.now.found.now number (λ ps path. r ≡ values_so_far source.now.meta.now (base_of source.now.uri.now) ps path feature kind.now (map view values.now))) }
     ensures proxy { IfOk result (λ r. All IsProxyValue r.values) }
 {
     let mut read = ReadValues {
@@ -156,7 +156,7 @@ pub(crate) fn read_content(
     feature: FeatureNo,
     content: &JsonValue,
 ) -> Result<ReadValues, AllocError>
-    ensures value { IfOk result (λ r. Numbered source.now.found.now number (λ ps path. r ≡ entry_read source.now.meta.now (base_of source.now.uri.now) ps path (new_entry feature (view content.now)))) }
+    ensures value { IfOk result (λ r. Numbered source.now.meta.now source.now.found.now number (λ ps path. r ≡ entry_read source.now.meta.now (base_of source.now.uri.now) ps path (new_entry feature (view content.now)))) }
     ensures proxy { IfOk result (λ r. All IsProxyValue r.values) }
 {
     match source.meta.feature(feature) {

@@ -1,12 +1,11 @@
-use Rattle.std.proofs.Common.{◌∙◌, Bool, ℕ, ap}
+use Rattle.std.proofs.Common.{◌∙◌, Bool, ap}
 use Rattle.std.specs.List.{list_any}
-use Rattle.serde_json.specs.Data.{Data}
-use Rattle.serde_json.specs.View.{view}
 use Rattle.doc_parts.specs.Faults.{is_deep_at}
-use Rattle.doc_parts.proofs.KnowLemmas.{any_known}
+use Rattle.doc_parts.specs.Found.{Seen, row_seen}
+use Rattle.doc_parts.proofs.KnowLemmas.{any_seen}
 use Rattle.doc_parts.proofs.checks.has_deep.Goals as goal
 
 pub returns : goal.returns
-returns c = λ ps known.
-    let test : ℕ → Data → Bool = λ level d. is_deep_at level in
-    c.is_any_deep.ensures ∙ ap (list_any (λ r. test r.level (view r.json.now))) c.as_slice.ensures.value ∙ any_known test ps c.args.found.now.rows.items known.rows
+returns c = λ m ps known.
+    let test : Seen → Bool = λ s. is_deep_at s.level in
+    c.is_any_deep.ensures ∙ ap (list_any (λ r. test (row_seen r))) c.as_slice.ensures.value ∙ any_seen m test ps c.args.found.now.rows.items known.rows

@@ -1,14 +1,12 @@
-use Rattle.std.proofs.Common.{◌∙◌, Bool, ℕ, ap}
+use Rattle.std.proofs.Common.{◌∙◌, Bool, ap}
 use Rattle.std.specs.Prelude.{not}
 use Rattle.std.specs.List.{list_any}
-use Rattle.serde_json.specs.Data.{Data}
-use Rattle.serde_json.specs.View.{view}
 use Rattle.doc_parts.specs.Contents.{is_content}
-use Rattle.doc_parts.specs.Parts.{entries}
-use Rattle.doc_parts.proofs.KnowLemmas.{any_known}
+use Rattle.doc_parts.specs.Found.{Seen, entries_seen, row_seen}
+use Rattle.doc_parts.proofs.KnowLemmas.{any_seen}
 use Rattle.doc_parts.proofs.checks.has_other_value.Goals as goal
 
 pub returns : goal.returns
 returns c = λ ps known.
-    let test : ℕ → Data → Bool = λ level d. list_any (λ e. not (is_content c.args.meta.now e)) (entries c.args.meta.now d) in
-    c.is_any_with_other_content.ensures ∙ ap (list_any (λ r. test r.level (view r.json.now))) c.as_slice.ensures.value ∙ any_known test ps c.args.found.now.rows.items known.rows
+    let test : Seen → Bool = λ s. list_any (λ e. not (is_content c.args.meta.now e)) (entries_seen c.args.meta.now s) in
+    c.is_any_with_other_content.ensures ∙ ap (list_any (λ r. test (row_seen r))) c.as_slice.ensures.value ∙ any_seen c.args.meta.now test ps c.args.found.now.rows.items known.rows

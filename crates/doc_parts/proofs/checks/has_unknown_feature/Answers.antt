@@ -1,15 +1,8 @@
-use Rattle.std.proofs.Common.{◌∙◌, Bool, ℕ, ap}
-use Rattle.std.specs.Prelude.{false}
+use Rattle.std.proofs.Common.{◌∙◌, ap}
 use Rattle.std.specs.List.{list_any}
-use Rattle.std.specs.Option.{option_map_or}
-use Rattle.serde_json.specs.Data.{Data}
-use Rattle.serde_json.specs.View.{view}
-use Rattle.doc_parts.specs.Faults.{has_other_key}
-use Rattle.doc_parts.specs.Layout.{written}
-use Rattle.doc_parts.proofs.KnowLemmas.{any_known}
+use Rattle.doc_parts.specs.Found.{has_other_member, row_seen}
+use Rattle.doc_parts.proofs.KnowLemmas.{any_with_other_key}
 use Rattle.doc_parts.proofs.checks.has_unknown_feature.Goals as goal
 
 pub returns : goal.returns
-returns c = λ ps known.
-    let test : ℕ → Data → Bool = λ level d. option_map_or (has_other_key c.args.meta.now) (written d) false in
-    c.is_any_with_other_key.ensures ∙ ap (list_any (λ r. test r.level (view r.json.now))) c.as_slice.ensures.value ∙ any_known test ps c.args.found.now.rows.items known.rows
+returns c = λ ps known. c.is_any_with_other_key.ensures ∙ ap (list_any (λ r. has_other_member c.args.meta.now (row_seen r))) c.as_slice.ensures.value ∙ any_with_other_key c.args.meta.now ps c.args.found.now.rows.items known.rows

@@ -18,8 +18,8 @@ decreases-walk_values l = 4 * l.levels + 1
 
 abbrev pub invariant-walk_features-features : goal.invariant-walk_features-features
 invariant-walk_features-features l =
-    FindsBelow l.initial.found l.found l.below.part l.below.level (λ path. flat_map (parts_from l.meta l.levels) (flat_map (parts_at l.meta path (members_view l.members.entries)) (take l.feature-index l.features)))
+    FindsBelow l.meta l.initial.found l.found l.below.part l.below.level (λ path. flat_map (parts_from l.meta l.levels) (flat_map (parts_at l.meta path (members_view l.members.entries)) (take l.feature-index l.features)))
 
 abbrev pub invariant-walk_values-values : goal.invariant-walk_values-values
 invariant-walk_values-values l =
-    FindsBelow l.initial.found l.found l.below.part l.below.level (λ path. flat_map (parts_from l.meta l.levels) (parts_under path l.name l.is_single (map view (take l.i l.values))))
+    FindsBelow l.meta l.initial.found l.found l.below.part l.below.level (λ path. flat_map (parts_from l.meta l.levels) (parts_under path l.name l.is_single (map view (take l.i l.values))))

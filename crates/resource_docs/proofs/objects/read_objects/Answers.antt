@@ -12,8 +12,8 @@ rows-preserved c =
     record {
       value = λ ps known.
           c.in_ok-add_object.ensures.value ps (take c.rows.row-index ps) (part_at ps c.rows.row-index) known
-          (row_of_part c.args.source.now.found.now ps c.rows.row-index c.row-item.result known below (c.row-item.is ∙ ap (λ xs. get_or xs c.rows.row-index c.row-item.result) same))
+          (row_of_part c.args.source.now.meta.now c.args.source.now.found.now ps c.rows.row-index c.row-item.result known below (c.row-item.is ∙ ap (λ xs. get_or xs c.rows.row-index c.row-item.result) same))
           (c.rows.invariant.value ps known)
-          ∙ ap (objects_so_far c.args.source.now.meta.now (base_of c.args.source.now.uri.now) ps) (parts_more c.args.source.now.found.now ps c.rows.row-index known below);
+          ∙ ap (objects_so_far c.args.source.now.meta.now (base_of c.args.source.now.uri.now) ps) (parts_more c.args.source.now.meta.now c.args.source.now.found.now ps c.rows.row-index known below);
       proxy = c.in_ok-add_object.ensures.proxy c.rows.invariant.proxy;
     }

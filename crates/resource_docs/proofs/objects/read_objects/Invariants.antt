@@ -9,6 +9,6 @@ use Rattle.resource_docs.proofs.objects.read_objects.Given as goal
 abbrev pub invariant-rows : goal.invariant-rows
 invariant-rows l =
     record {
-      value : (ps : List Part) → Knows l.source.found.now ps → l.read ≡ objects_so_far l.source.meta.now (base_of l.source.uri.now) ps (take l.row-index ps);
+      value : (ps : List Part) → Knows l.source.meta.now l.source.found.now ps → l.read ≡ objects_so_far l.source.meta.now (base_of l.source.uri.now) ps (take l.row-index ps);
       proxy : All IsProxyObject l.read.objects;
     }

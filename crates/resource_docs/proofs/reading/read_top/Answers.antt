@@ -10,4 +10,4 @@ pub returns-in-Ok : goal.returns-in-Ok
 returns-in-Ok c = λ d deep here.
     c.read_parts.ensures d
     (found_parts c.args.meta.now c.in-Ok.found 127 d c.args.top.format c.args.top.roots.now.items deep here
-    (subst (λ vs. Knows c.in-Ok.found (flat_map (parts_from c.args.meta.now 127) (roots_from (map view vs)))) c.as_slice.ensures.value c.in-Ok.ensures)) here
+    (subst (λ vs. Knows c.args.meta.now c.in-Ok.found (flat_map (parts_from c.args.meta.now 127) (roots_from (map view vs)))) c.as_slice.ensures.value c.in-Ok.ensures)) here

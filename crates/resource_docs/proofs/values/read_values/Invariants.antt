@@ -9,6 +9,6 @@ use Rattle.resource_docs.proofs.values.read_values.Given as goal
 abbrev pub invariant-values : goal.invariant-values
 invariant-values l =
     record {
-      value : Numbered l.source.found.now l.number (λ ps path. l.read ≡ values_so_far l.source.meta.now (base_of l.source.uri.now) ps path l.feature l.kind (map view (take l.i l.values)));
+      value : Numbered l.source.meta.now l.source.found.now l.number (λ ps path. l.read ≡ values_so_far l.source.meta.now (base_of l.source.uri.now) ps path l.feature l.kind (map view (take l.i l.values)));
       proxy : All IsProxyValue l.read.values;
     }
