@@ -88,6 +88,10 @@ fn is_bounded(meta: &Meta, feature: FeatureNo, count: usize) -> bool
 fn is_long_content(meta: &Meta, members: &Map<String, JsonValue>, feature: FeatureNo) -> bool
     ensures { result ≡ option_map_or (λ d. long meta.now (new_entry feature d)) (content_at_meant meta.now (members_view members.now.entries) feature) false }
 {
+    // One value is never too many.
+    if meta.is_single(feature) {
+        return false;
+    }
     match content_at(meta, members, feature) {
         Some(content) => !is_bounded(meta, feature, values_of(meta, feature, content).len()),
         None => false,
