@@ -1,7 +1,7 @@
 pub mod ListLemmas
 pub mod LevelLemmas
 pub mod RootLemmas
-pub mod JsonLemmas
-pub mod FloatLemmas
+pub mod OrderLemmas
+pub mod AddedLemmas
 mod LibraryModels
 mod Examples

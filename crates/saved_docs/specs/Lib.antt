@@ -1,3 +1,4 @@
 pub mod Written
 pub mod Document
+pub mod Added
 pub mod Saved

@@ -1,47 +1,73 @@
 //! The document of a resource.
-ghost use Rattle.std.specs.Prelude.{◌≡◌, IfOk, map, string_bytes};
+ghost use Rattle.std.specs.Prelude.{◌≡◌, [], IfOk, OnOk, codes, map, string_bytes};
 ghost use Rattle.fragment_paths.specs.Finding.{roots as roots_of};
+ghost use Rattle.json.specs.Lex.{tokens};
+ghost use Rattle.json.specs.Print.{print};
 ghost use Rattle.models.specs.Model.{reading};
-ghost use Rattle.serde_json.specs.Data.{array};
-ghost use Rattle.serde_json.specs.View.{items_of, view};
+ghost use Rattle.serde_json.specs.Data.{array, number, unsigned};
+ghost use Rattle.serde_json.specs.View.{items_of};
+ghost use Rattle.mm_types.specs.declared.limits.TheConstants.{DOCUMENT_FORMAT};
+ghost use Rattle.saved_docs.specs.Added.{Adds, AddsMember};
 ghost use Rattle.saved_docs.specs.Document as spec;
 ghost use Rattle.saved_docs.specs.Saved.{IsReadAs};
 
 use crate::source::Source;
-use crate::values::{object_value, two};
+use crate::values::write_object;
 use fragment_paths::Places;
+use json::Writer;
 use links::LinkStore;
 use mm_types::{ObjectNo, ResourceNo, limits};
-use serde_json::Value as JsonValue;
 use std::alloc::{AllocError, Global};
 
-/// The roots of a resource and all in them.
-fn roots_value<L: LinkStore>(
+/// Writes the roots of a resource and all in them.
+fn write_roots<L: LinkStore>(
     source: &Source<L>,
     roots: &[ObjectNo],
-) -> Result<JsonValue, AllocError>
-    ensures { IfOk result (λ v. view v ≡ array (items_of (map (spec.object_data (reading source.now.places.now) source.now.resource (reading source.now.places.now).next) roots.now))) }
+    out: &mut Writer,
+) -> Result<(), AllocError>
+    ensures { OnOk result (Adds (array (items_of (map (spec.object_data (reading source.now.places.now) source.now.resource (reading source.now.places.now).next) roots.now))) out.old out.new) }
 {
-    let mut items = Vec::new(source.alloc);
+    out.begin_array()?;
     'roots: for root in roots {
-        items.push(object_value(source, source.places.model().next(), *root)?)?;
+        write_object(source, source.places.model().next(), *root, out)?;
     }
-    Ok(JsonValue::Array(items))
+    out.end_array()
 }
 
-/// The document of a resource that has these roots.
-fn document<L: LinkStore>(source: &Source<L>, roots: &[ObjectNo]) -> Result<JsonValue, AllocError>
-    requires roots { roots.now ≡ roots_of (reading source.now.places.now) source.now.resource }
-    ensures { IfOk result (λ v. view v ≡ spec.document (reading source.now.places.now) source.now.resource) }
+/// Writes the format of documents as a member.
+fn write_format(out: &mut Writer) -> Result<(), AllocError>
+    ensures { OnOk result (AddsMember (codes "format") (number (unsigned DOCUMENT_FORMAT)) out.old out.new) }
 {
-    let roots = roots_value(source, roots)?;
-    two(
-        source.alloc,
-        "format",
-        JsonValue::from(limits::DOCUMENT_FORMAT),
-        "roots",
-        roots,
-    )
+    out.key("format")?;
+    out.u64(u64::from(limits::DOCUMENT_FORMAT))
+}
+
+/// Writes the document of a resource that has these roots.
+fn write_document<L: LinkStore>(
+    source: &Source<L>,
+    roots: &[ObjectNo],
+    out: &mut Writer,
+) -> Result<(), AllocError>
+    requires roots { roots.now ≡ roots_of (reading source.now.places.now) source.now.resource }
+    ensures { OnOk result (Adds (spec.document (reading source.now.places.now) source.now.resource) out.old out.new) }
+{
+    out.begin_object()?;
+    write_format(out)?;
+    out.key("roots")?;
+    write_roots(source, roots, out)?;
+    out.end_object()
+}
+
+/// The text of a writer that began with no text.
+fn text_of(out: Writer) -> String
+    requires alone { out.before ≡ [] }
+    ensures text { string_bytes result ≡ print out.tokens }
+    ensures reads_back { tokens (print out.tokens) ≡ out.tokens }
+{
+    match String::from_utf8(out.into_inner()) {
+        Ok(text) => text,
+        Err(_) => unreachable!(),
+    }
 }
 
 /// The text of the document of a resource that has these roots. Errs only if memory is refused.
@@ -60,6 +86,7 @@ pub(crate) fn document_text<L: LinkStore>(
         places,
         resource,
     };
-    let value = document(&source, roots)?;
-    value.to_string(alloc)
+    let mut out = Writer::new(Vec::new(alloc));
+    write_document(&source, roots, &mut out)?;
+    Ok(text_of(out))
 }

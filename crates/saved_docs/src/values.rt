@@ -1,223 +1,192 @@
-//! Objects and their values become JSON.
-ghost use Rattle.std.specs.Prelude.{◌≡◌, ◌∷◌, [], IfOk, OnOk, filter, map};
+//! Objects and their values are written as JSON.
+ghost use Rattle.std.specs.Prelude.{◌≡◌, OnOk, codes, map};
 ghost use Rattle.mm_types.specs.Ends.{value_in};
+ghost use Rattle.mm_types.specs.Lookups as lookups;
 ghost use Rattle.models.specs.Found.{found_value};
 ghost use Rattle.models.specs.Model.{reading};
 ghost use Rattle.serde_json.specs.Data.{array, object as object_of, string};
-ghost use Rattle.serde_json.specs.View.{items_of, members_view, view};
+ghost use Rattle.serde_json.specs.View.{items_of};
+ghost use Rattle.saved_docs.specs.Added.{Adds, AddsMember, by_name};
 ghost use Rattle.saved_docs.specs.Document as spec;
 ghost use Rattle.saved_docs.specs.Written as written;
 
+use crate::leaves::{write_null, write_plain, write_reference, write_text};
 use crate::names::class_name;
+use crate::order::features_by_name;
 use crate::source::Source;
-use crate::written::is_written;
-use fragment_paths::reference;
+use json::Writer;
 use links::LinkStore;
-use mm_meta::Meta;
 use mm_types::{End, FeatureNo, Node, ObjectNo, Value};
 use models::Found;
-use serde_json::{Map, Value as JsonValue, put};
-use std::alloc::{AllocError, Global};
+use std::alloc::AllocError;
 
-fn text_value(alloc: Global, text: &str) -> Result<JsonValue, AllocError>
-    ensures { IfOk result (λ v. view v ≡ string text.now) }
-{
-    let text = String::from_str(alloc, text)?;
-    Ok(JsonValue::String(text))
-}
-
-/// An object of two members.
-pub(crate) fn two(
-    alloc: Global,
-    first_key: &str,
-    first: JsonValue,
-    second_key: &str,
-    second: JsonValue,
-) -> Result<JsonValue, AllocError>
-    ensures { IfOk result (λ v. view v ≡ spec.two first_key.now (view first) second_key.now (view second)) }
-{
-    let mut members = Map::new(alloc);
-    put(&mut members, alloc, first_key, first)?;
-    put(&mut members, alloc, second_key, second)?;
-    Ok(JsonValue::Object(members))
-}
-
-/// A reference to an object.
-fn reference_value<L: LinkStore>(
-    source: &Source<L>,
-    object: ObjectNo,
-) -> Result<JsonValue, AllocError>
-    ensures { IfOk result (λ v. view v ≡ string (spec.reference_text (reading source.now.places.now) source.now.resource object)) }
-{
-    match reference(source.alloc, source.places, source.resource, object)? {
-        Some(text) => Ok(JsonValue::String(text.into_string())),
-        None => text_value(source.alloc, ""),
-    }
-}
-
-/// A value that is no object.
-fn plain_value(
-    alloc: Global,
-    meta: &Meta,
-    feature: FeatureNo,
-    value: &Value,
-) -> Result<JsonValue, AllocError>
-    ensures { IfOk result (λ v. view v ≡ spec.plain_data meta.now feature value.now) }
-{
-    match value {
-        Value::Null | Value::Object(_) | Value::Adapter(_) => Ok(JsonValue::Null),
-        Value::Bool(truth) => Ok(JsonValue::Bool(*truth)),
-        Value::Int(number) => Ok(JsonValue::from(*number)),
-        Value::Text(text) => text_value(alloc, text.as_str()),
-        Value::Literal(index) => text_value(alloc, meta.literal_text(feature, *index)),
-        Value::Proxy(text) => text_value(alloc, text.as_str()),
-    }
-}
-
-/// An object under a feature: what it is if the feature contains it, and else a reference to it.
+/// Writes an object under a feature: what it is if the feature contains it, and else a reference to it.
 #[cycle(object)]
-fn object_under<L: LinkStore>(
+fn write_under<L: LinkStore>(
     source: &Source<L>,
     levels: usize,
     feature: FeatureNo,
     object: ObjectNo,
-) -> Result<JsonValue, AllocError>
-    ensures { IfOk result (λ v. view v ≡ spec.object_under (reading source.now.places.now) source.now.resource (spec.object_data (reading source.now.places.now) source.now.resource levels) feature object) }
+    out: &mut Writer,
+) -> Result<(), AllocError>
+    ensures { OnOk result (Adds (spec.object_under (reading source.now.places.now) source.now.resource (spec.object_data (reading source.now.places.now) source.now.resource levels) feature object) out.old out.new) }
 {
     if source.places.model().meta().is_containment(feature) {
-        object_value(source, levels, object)
+        write_object(source, levels, object, out)
     } else {
-        reference_value(source, object)
+        write_reference(source, object, out)
     }
 }
 
-/// What is at an end.
+/// Writes what is at an end.
 #[cycle(object)]
-fn found_json<L: LinkStore>(
+fn write_found<L: LinkStore>(
     source: &Source<L>,
     levels: usize,
     feature: FeatureNo,
     found: Found,
-) -> Result<JsonValue, AllocError>
-    ensures { IfOk result (λ v. view v ≡ spec.value_data (reading source.now.places.now) source.now.resource (spec.object_data (reading source.now.places.now) source.now.resource levels) feature (found_value found.entry)) }
+    out: &mut Writer,
+) -> Result<(), AllocError>
+    ensures { OnOk result (Adds (spec.value_data (reading source.now.places.now) source.now.resource (spec.object_data (reading source.now.places.now) source.now.resource levels) feature (found_value found.entry)) out.old out.new) }
 {
     match found {
-        Found::Object(object) => object_under(source, levels, feature, object),
-        Found::Kept(Value::Object(object)) => { object_under(source, levels, feature, *object) }
-        Found::Kept(value) => plain_value(
-            source.alloc,
-            source.places.model().meta(),
-            feature,
-            value,
-        ),
-        Found::Proxy(text) => text_value(source.alloc, text),
+        Found::Object(object) => write_under(source, levels, feature, object, out),
+        Found::Kept(Value::Object(object)) => { write_under(source, levels, feature, *object, out) }
+        Found::Kept(value) => write_plain(source.places.model().meta(), feature, value, out),
+        Found::Proxy(text) => write_text(text, out),
     }
 }
 
-/// What is at a place of an end, or null past the last.
+/// Writes what is at a place of an end, or null past the last.
 #[cycle(object)]
-fn item_value<L: LinkStore>(
+fn write_item<L: LinkStore>(
     source: &Source<L>,
     levels: usize,
     end: End,
     index: u32,
-) -> Result<JsonValue, AllocError>
-    ensures { IfOk result (λ v. view v ≡ spec.value_data (reading source.now.places.now) source.now.resource (spec.object_data (reading source.now.places.now) source.now.resource levels) end.feature (value_in ((reading source.now.places.now).values end) index)) }
+    out: &mut Writer,
+) -> Result<(), AllocError>
+    ensures { OnOk result (Adds (spec.value_data (reading source.now.places.now) source.now.resource (spec.object_data (reading source.now.places.now) source.now.resource levels) end.feature (value_in ((reading source.now.places.now).values end) index)) out.old out.new) }
 {
     match source.places.model().value_in(end, index) {
-        Some(found) => found_json(source, levels, end.feature, found),
-        None => Ok(JsonValue::Null),
+        Some(found) => write_found(source, levels, end.feature, found, out),
+        None => write_null(out),
     }
 }
 
-/// All that is at an end.
+/// Writes all that is at an end.
 #[cycle(object)]
-fn items_value<L: LinkStore>(
+fn write_items<L: LinkStore>(
     source: &Source<L>,
     levels: usize,
     end: End,
-) -> Result<JsonValue, AllocError>
-    ensures { IfOk result (λ v. view v ≡ array (items_of (map (spec.value_data (reading source.now.places.now) source.now.resource (spec.object_data (reading source.now.places.now) source.now.resource levels) end.feature) ((reading source.now.places.now).values end)))) }
+    out: &mut Writer,
+) -> Result<(), AllocError>
+    ensures { OnOk result (Adds (array (items_of (map (spec.value_data (reading source.now.places.now) source.now.resource (spec.object_data (reading source.now.places.now) source.now.resource levels) end.feature) ((reading source.now.places.now).values end)))) out.old out.new) }
 {
-    let mut items = Vec::new(source.alloc);
+    out.begin_array()?;
     'values: for index in 0..source.places.model().len(end) {
-        items.push(item_value(source, levels, end, index)?)?;
+        write_item(source, levels, end, index, out)?;
     }
-    Ok(JsonValue::Array(items))
+    out.end_array()
 }
 
-/// What an object holds under a feature.
+/// Writes what an object holds under a feature.
 #[cycle(object)]
-fn content_value<L: LinkStore>(
+fn write_content<L: LinkStore>(
     source: &Source<L>,
     levels: usize,
     object: ObjectNo,
     feature: FeatureNo,
-) -> Result<JsonValue, AllocError>
-    ensures { IfOk result (λ v. view v ≡ spec.content_data (reading source.now.places.now) source.now.resource (spec.object_data (reading source.now.places.now) source.now.resource levels) object feature) }
+    out: &mut Writer,
+) -> Result<(), AllocError>
+    ensures { OnOk result (Adds (spec.content_data (reading source.now.places.now) source.now.resource (spec.object_data (reading source.now.places.now) source.now.resource levels) object feature) out.old out.new) }
 {
     let node = Node::Object(object);
     let end = End { node, feature };
     if source.places.model().meta().is_single(feature) {
-        item_value(source, levels, end, 0)
+        write_item(source, levels, end, 0, out)
     } else {
-        items_value(source, levels, end)
+        write_items(source, levels, end, out)
     }
 }
 
-/// Puts what an object holds under a feature among its members, if the feature is written.
+/// Writes what an object holds under a feature, after the name of the feature.
 #[cycle(object)]
-fn put_feature<L: LinkStore>(
+fn write_feature<L: LinkStore>(
     source: &Source<L>,
     levels: usize,
     object: ObjectNo,
     feature: FeatureNo,
-    members: &mut Map<String, JsonValue>,
+    out: &mut Writer,
 ) -> Result<(), AllocError>
-    ensures { OnOk result (members_view members.new.entries ≡ spec.members_with (members_view members.old.entries) (map (spec.feature_member (reading source.now.places.now) source.now.resource (spec.object_data (reading source.now.places.now) source.now.resource levels) object) (filter (written.is_written (reading source.now.places.now) object) (feature ∷ [])))) }
+    ensures { OnOk result (AddsMember (lookups.feature_name (reading source.now.places.now).metamodel feature) (spec.content_data (reading source.now.places.now) source.now.resource (spec.object_data (reading source.now.places.now) source.now.resource levels) object feature) out.old out.new) }
 {
-    if !is_written(source.places.model(), object, feature) {
-        return Ok(());
-    }
-    let content = content_value(source, levels, object, feature)?;
-    put(
-        members,
-        source.alloc,
-        source.places.model().meta().feature_name(feature),
-        content,
-    )
+    out.key(source.places.model().meta().feature_name(feature))?;
+    write_content(source, levels, object, feature, out)
 }
 
-/// What an object holds, under the names of its features.
+/// Writes what an object holds, under the names of its features.
 #[cycle(object)]
-fn features_value<L: LinkStore>(
+fn write_features<L: LinkStore>(
     source: &Source<L>,
     levels: usize,
     object: ObjectNo,
-) -> Result<JsonValue, AllocError>
-    ensures { IfOk result (λ v. view v ≡ object_of (spec.members (map (spec.feature_member (reading source.now.places.now) source.now.resource (spec.object_data (reading source.now.places.now) source.now.resource levels) object) (written.written_features (reading source.now.places.now) object)))) }
+    features: &[FeatureNo],
+    out: &mut Writer,
+) -> Result<(), AllocError>
+    requires order { features.now ≡ by_name (reading source.now.places.now).metamodel (written.written_features (reading source.now.places.now) object) }
+    ensures { OnOk result (Adds (object_of (spec.members (map (spec.feature_member (reading source.now.places.now) source.now.resource (spec.object_data (reading source.now.places.now) source.now.resource levels) object) (written.written_features (reading source.now.places.now) object)))) out.old out.new) }
 {
-    let mut members = Map::new(source.alloc);
-    let features = source.places.model().all_features(Node::Object(object));
+    out.begin_object()?;
     'features: for feature in features {
-        put_feature(source, levels, object, *feature, &mut members)?;
+        write_feature(source, levels, object, *feature, out)?;
     }
-    Ok(JsonValue::Object(members))
+    out.end_object()
 }
 
-/// An object and what it contains, for so many levels. Errs only if memory is refused.
+/// Writes the class of an object as a member.
+fn write_class<L: LinkStore>(
+    source: &Source<L>,
+    object: ObjectNo,
+    out: &mut Writer,
+) -> Result<(), AllocError>
+    ensures { OnOk result (AddsMember (codes "class") (string (spec.class_name (reading source.now.places.now) object)) out.old out.new) }
+{
+    out.key("class")?;
+    write_text(class_name(source.places.model(), object), out)
+}
+
+/// Writes the features of an object as a member.
 #[cycle(object)]
-pub(crate) fn object_value<L: LinkStore>(
+fn write_members<L: LinkStore>(
     source: &Source<L>,
     levels: usize,
     object: ObjectNo,
-) -> Result<JsonValue, AllocError>
-    ensures { IfOk result (λ v. view v ≡ spec.object_data (reading source.now.places.now) source.now.resource levels object) }
+    out: &mut Writer,
+) -> Result<(), AllocError>
+    ensures { OnOk result (AddsMember (codes "features") (object_of (spec.members (map (spec.feature_member (reading source.now.places.now) source.now.resource (spec.object_data (reading source.now.places.now) source.now.resource levels) object) (written.written_features (reading source.now.places.now) object)))) out.old out.new) }
+{
+    let features = features_by_name(source, object)?;
+    out.key("features")?;
+    write_features(source, levels, object, features.as_slice(), out)
+}
+
+/// Writes an object and what it contains, for so many levels. Errs only if memory is refused; then a part may be written.
+#[cycle(object)]
+pub(crate) fn write_object<L: LinkStore>(
+    source: &Source<L>,
+    levels: usize,
+    object: ObjectNo,
+    out: &mut Writer,
+) -> Result<(), AllocError>
+    ensures { OnOk result (Adds (spec.object_data (reading source.now.places.now) source.now.resource levels object) out.old out.new) }
 {
     if levels == 0 {
-        return Ok(JsonValue::Null);
+        return write_null(out);
     }
-    let features = features_value(source, levels - 1, object)?;
-    let class = text_value(source.alloc, class_name(source.places.model(), object))?;
-    two(source.alloc, "class", class, "features", features)
+    out.begin_object()?;
+    write_class(source, object, out)?;
+    write_members(source, levels - 1, object, out)?;
+    out.end_object()
 }

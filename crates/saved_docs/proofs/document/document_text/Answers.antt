@@ -1,18 +1,21 @@
-use Rattle.std.proofs.Common.{Some, ap, sym, ◌∙◌, subst, ◌≤◌, ℕ}
-use Rattle.serde_json.specs.Data.{depth}
-use Rattle.serde_json.specs.Read.{max_depth}
-use Rattle.serde_json.specs.Written.{compact_text, has_float}
+use Rattle.std.proofs.Common.{◌++◌, ap, ◌∙◌}
+use Rattle.json.specs.Tree.{json_tokens}
+use Rattle.serde_json.specs.Read.{read}
+use Rattle.serde_json.specs.Written.{outline}
 use Rattle.models.specs.Model.{reading}
-use Rattle.saved_docs.proofs.FloatLemmas.{document-none}
-use Rattle.saved_docs.proofs.JsonLemmas.{ok-more}
+use Rattle.saved_docs.specs.Document.{document}
+use Rattle.saved_docs.proofs.AddedLemmas.{read-added, text-added}
 use Rattle.saved_docs.proofs.document.document_text.Goals as goal
 
 pub returns-clause-text : goal.returns-clause-text
 returns-clause-text g c =
-    let is = c.in_ok-value.ensures in
-    ok-more c.to_string.result (λ s h. h (ap has_float is ∙ document-none (reading c.args.places.now) c.args.resource) ∙ ap compact_text is) c.to_string.ensures.text
+    let d = document (reading c.args.places.now) c.args.resource in
+    let is = c.in_ok-write_document.ensures.tokens ∙ ap (λ ts. ts ++ json_tokens (outline d)) c.new-out.ensures.tokens in
+    c.text_of.ensures.text ∙ text-added d c.write_document.new.out.tokens is
 
 pub returns-clause-reads : goal.returns-clause-reads
 returns-clause-reads g c =
-    let is = c.in_ok-value.ensures in
-    ok-more c.to_string.result (λ s h low. h (subst (λ (n : ℕ). n ≤ max_depth) (sym (ap depth is)) low) ∙ ap Some is) c.to_string.ensures.reads_back
+    let d = document (reading c.args.places.now) c.args.resource in
+    let a = c.in_ok-write_document.ensures in
+    let is = a.tokens ∙ ap (λ ts. ts ++ json_tokens (outline d)) c.new-out.ensures.tokens in
+    λ shallow. ap read c.text_of.ensures.text ∙ read-added d c.write_document.new.out.tokens is a.reads c.text_of.ensures.reads_back shallow
