@@ -161,7 +161,7 @@ pub(crate) type Hint = (&'static str, &'static str);
 
 /// What is said of a key that is in an object for which it is not listed: those of Ecore and of similar formats, and those of
 /// a different object.
-pub(crate) const MISPLACED: [Hint; 30] = [
+pub(crate) const MISPLACED: [Hint; 41] = [
     ("upperBound", "a feature has \"upper\""),
     ("lowerBound", "a feature has \"lower\""),
     (
@@ -176,6 +176,7 @@ pub(crate) const MISPLACED: [Hint; 30] = [
     ("defaultValue", "an attribute has \"default\""),
     ("defaultValueLiteral", "an attribute has \"default\""),
     ("eSuperTypes", "a class has \"supers\""),
+    ("eSuperType", "a class has \"supers\""),
     ("superTypes", "a class has \"supers\""),
     ("extends", "a class has \"supers\""),
     ("eStructuralFeatures", "a class has \"features\""),
@@ -194,6 +195,22 @@ pub(crate) const MISPLACED: [Hint; 30] = [
         "a metamodel has no URI and no prefix; leave it out",
     ),
     ("ordered", "every list is ordered; leave it out"),
+    ("id", "no attribute is an ID; leave it out"),
+    ("iD", "no attribute is an ID; leave it out"),
+    ("transient", "no feature is transient; leave it out"),
+    ("derived", "no feature is derived; leave it out"),
+    ("volatile", "no feature is volatile; leave it out"),
+    ("changeable", "every feature is changeable; leave it out"),
+    (
+        "resolveProxies",
+        "a proxy stays until it is resolved; leave it out",
+    ),
+    ("eKeys", "references go by position; leave it out"),
+    ("eOperations", "a class has no operations; leave it out"),
+    (
+        "eAnnotations",
+        "a metamodel has no annotations; leave it out",
+    ),
     (
         "unique",
         "only an attribute has it; the list of a reference never repeats an object",
