@@ -223,7 +223,7 @@ pub(crate) const MISPLACED: [Hint; 41] = [
     ("enums", "only the document has it"),
 ];
 
-/// What is said besides of the value of a key that is not written as its row says.
+/// What is said besides of the value of a key, or of an item of it, that is not written as its row says.
 pub(crate) const ADVICE: [Hint; 3] = [
     ("upper", "; -1 stands for any number"),
     (

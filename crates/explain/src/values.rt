@@ -58,9 +58,10 @@ fn explain_item(out: &mut String, at: Keyed<'_>, i: usize, item: &Value) -> Resu
             let Keyed { place, key, .. } = at;
             let shown = Shown(item);
             let wanted = text_of(NAME_BYTES);
+            let advice = advice_in(&ADVICE, key).unwrap_or("");
             writeln!(
                 out,
-                "{place}: {key}[{i}] is {shown}, and has to be {wanted}"
+                "{place}: {key}[{i}] is {shown}, and has to be {wanted}{advice}"
             )
         }
     }
