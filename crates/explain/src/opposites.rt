@@ -17,25 +17,33 @@ fn owner_of(at: Named<'_>) -> &str {
     }
 }
 
-/// What is wrong with a feature that a reference names as its opposite, and a name that this is about.
-fn wrong_with<'m>(
-    at: Named<'_>,
-    feature: &RawFeature,
-    other: &'m RawFeature,
-) -> (&'static str, Option<&'m str>) {
+/// What is wrong with a feature that a reference names as its opposite.
+#[derive(Clone, Copy)]
+enum Wrong<'m> {
+    IsAttribute,
+    NoOpposite,
+    /// It names a different opposite.
+    Names(&'m str),
+    /// Its type is not the class that declares the reference.
+    HasType(&'m str),
+    IsItself,
+}
+
+/// What is wrong with a feature that a reference names as its opposite.
+fn wrong_with<'m>(at: Named<'_>, feature: &RawFeature, other: &'m RawFeature) -> Wrong<'m> {
     if matches!(other.kind, RawKind::Attribute { .. }) {
-        return ("is an attribute", None);
+        return Wrong::IsAttribute;
     }
     let Some(back) = opposite_of(other) else {
-        return ("names no opposite", None);
+        return Wrong::NoOpposite;
     };
     if back != feature.name.as_str() {
-        return ("names", Some(back));
+        return Wrong::Names(back);
     }
     if other.type_name.as_str() != owner_of(at) {
-        return ("has the type", Some(other.type_name.as_str()));
+        return Wrong::HasType(other.type_name.as_str());
     }
-    ("is the reference itself", None)
+    Wrong::IsItself
 }
 
 /// A reference whose opposite is declared by its type, and is none of it.
@@ -47,14 +55,17 @@ fn explain_declared(
 ) -> Result<(), AllocError> {
     let name = other.name.as_str();
     let class = feature.type_name.as_str();
+    write!(out, "{at}: its opposite {name:?} of {class} ")?;
     match wrong_with(at, feature, other) {
-        (what, Some(word)) => {
-            writeln!(
-                out,
-                "{at}: its opposite {name:?} of {class} {what} {word:?}"
-            )
-        }
-        (what, None) => writeln!(out, "{at}: its opposite {name:?} of {class} {what}"),
+        Wrong::IsAttribute => writeln!(out, "is an attribute"),
+        Wrong::NoOpposite => writeln!(out, "names no opposite"),
+        Wrong::Names(back) => writeln!(out, "names {back:?}"),
+        Wrong::HasType(found) => writeln!(
+            out,
+            "has the type {found:?}, and has to have {:?}, the class that declares this reference",
+            owner_of(at)
+        ),
+        Wrong::IsItself => writeln!(out, "is the reference itself"),
     }
 }
 
