@@ -62,14 +62,16 @@ fn explain_data_type(
         return explain_name(alloc, out, at, name, "data type", &DATA_TYPES);
     }
     let names = enum_names(alloc, at.raw)?;
-    explain_name(
-        alloc,
-        out,
-        at,
-        name,
-        "data type and no enumeration",
-        names.as_slice(),
-    )
+    match nearest(alloc, name, names.as_slice())? {
+        Some(meant) => writeln!(
+            out,
+            "{at}: {name:?} is no data type and no enumeration; is {meant:?} meant?"
+        ),
+        None => writeln!(
+            out,
+            "{at}: {name:?} is no data type and no enumeration; the data types are EString, EInt, ELong and EBoolean"
+        ),
+    }
 }
 
 /// The first supertype of a class that is none.
