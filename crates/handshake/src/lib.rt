@@ -37,4 +37,4 @@ pub use place::Place;
 pub use planned::{Planned, Resolved};
 pub use planning::plan;
 pub use target::{Counterpart, Target};
-pub use value_planning::{plan_set, plan_values};
+pub use value_planning::{create_refusal, plan_set, plan_values};

@@ -84,7 +84,7 @@ fn many_refusal(meta: &Meta, feature: FeatureNo) -> Option<Refused>
     }
 }
 
-fn class_refusal(meta: &Meta, class: ClassNo) -> Option<Refused>
+pub(crate) fn class_refusal(meta: &Meta, class: ClassNo) -> Option<Refused>
     ensures { result ≡ named.class_refusal meta.now class }
 {
     if meta.class(class).is_none() {

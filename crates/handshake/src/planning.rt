@@ -1,6 +1,7 @@
 //! The plan of a change: its edits, and the notices that it tells.
 ghost use Rattle.std.specs.Prelude.{◌≡◌, [], true, false, None, IfOk, if◌then◌else◌};
 ghost use Rattle.mm_types.specs.Conditions.{◌unless◌, ◌else_by◌};
+ghost use Rattle.mm_types.specs.declared.numbers.ClassNo.{ClassNo};
 ghost use Rattle.mm_types.specs.declared.refused.Refused.TheVariants.{Index};
 ghost use Rattle.models.specs.Model.{reading};
 ghost use Rattle.models.specs.Reading.{takes};
@@ -10,7 +11,7 @@ ghost use Rattle.handshake.specs.Effects.{value_edits as value_edits_of};
 ghost use Rattle.handshake.specs.Plans.{HasFittingDocument, HasReadDocument, IsPlanOf, IsRemovalOf, Plans};
 ghost use Rattle.handshake.specs.Refusals as refusals;
 ghost use Rattle.handshake.specs.Tellings as t;
-ghost use Rattle.handshake.specs.declared.change.Change.TheVariants.{Add};
+ghost use Rattle.handshake.specs.declared.change.Change.TheVariants.{Add, Create};
 
 use crate::chain::{lost_notices, notices};
 use crate::change::Change;
@@ -154,8 +155,8 @@ pub(crate) fn late_refusal<L: LinkStore>(
     ensures { result ≡ refusals.late_refusal (reading model.now) change.now }
 {
     match change {
-        Change::Create(_) if model.next() >= limits::OBJECTS => Some(Refused::Limit),
-        Change::Create(_) | Change::Unset { .. } | Change::Delete(_) | Change::ResolveAll => None,
+        Change::Create(_) => create_late_refusal(model),
+        Change::Unset { .. } | Change::Delete(_) | Change::ResolveAll => None,
         Change::NewResource(uri) => uri_refusal(model, uri),
         Change::Resolve {
             object,
@@ -189,6 +190,16 @@ pub(crate) fn late_refusal<L: LinkStore>(
             let len = model.len(at_end(node, feature));
             index_refusal(*to < len && *from < len)
         }
+    }
+}
+
+pub(crate) fn create_late_refusal<L: LinkStore>(model: &ModelRef<L>) -> Option<Refused>
+    ensures { (class : ClassNo) → result ≡ refusals.late_refusal (reading model.now) (Create class) }
+{
+    if model.next() < limits::OBJECTS {
+        None
+    } else {
+        Some(Refused::Limit)
     }
 }
 

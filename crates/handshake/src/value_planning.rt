@@ -1,19 +1,21 @@
 //! What a change makes of values alone.
 ghost use Rattle.std.specs.Prelude.{◌≡◌, ◌&&◌, false, None, Some, IfErr, IfOk, IsFalse, OnOk, if◌then◌else◌};
+ghost use Rattle.mm_types.specs.Conditions.{◌else_by◌};
 ghost use Rattle.mm_types.specs.Shapes.{shape};
 ghost use Rattle.models.specs.Model.{reading};
 ghost use Rattle.handshake.specs.Effects.{value_edits as value_edits_of};
 ghost use Rattle.handshake.specs.Plans.{HasReadDocument, is_memory_refusal, looks_first};
 ghost use Rattle.handshake.specs.Refusals as refusals;
-ghost use Rattle.handshake.specs.declared.change.Change.TheVariants.{Set};
+ghost use Rattle.handshake.specs.declared.change.Change.TheVariants.{Create, Set};
 
 use crate::change::Change;
 use crate::destroyed::removal_of;
 use crate::edits::{set_edits, value_edits};
-use crate::planning::{late_refusal, set_late_refusal};
+use crate::named::class_refusal;
+use crate::planning::{create_late_refusal, late_refusal, set_late_refusal};
 use crate::resolving::target_of;
 use links::LinkStore;
-use mm_types::{FeatureNo, Node, Refused, Value};
+use mm_types::{ClassNo, FeatureNo, Node, Refused, Value};
 use mm_values::ValuePlan;
 use models::{ModelRef, at_end};
 use std::alloc::Global;
@@ -58,4 +60,12 @@ pub fn plan_set<L: LinkStore>(
         return Err(refused);
     }
     Ok(set_edits(alloc, model, node, feature, value))
+}
+
+/// Why an object of a class can't be made, if not for memory: `NoClass`, `Abstract`, or `Limit` if 1,000,000 objects were made. Takes no
+/// memory.
+pub fn create_refusal<L: LinkStore>(model: &ModelRef<L>, class: ClassNo) -> Option<Refused>
+    ensures { result ≡ (refusals.early_refusal (reading model.now) (Create class) else_by refusals.late_refusal (reading model.now) (Create class)) }
+{
+    class_refusal(model.meta(), class).or(create_late_refusal(model))
 }
