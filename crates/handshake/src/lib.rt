@@ -31,8 +31,10 @@ mod value_planning;
 
 pub use change::Change;
 pub use happening::{Happening, Telling};
-pub use link_planning::{LonePut, lone_put};
-pub use named::{early_refusal, feature_refusal, node_refusal, set_early_refusal};
+pub use link_planning::{LonePut, lone_add, lone_set};
+pub use named::{
+    early_refusal, feature_refusal, list_early_refusal, node_refusal, set_early_refusal,
+};
 pub use place::Place;
 pub use planned::{Planned, Resolved};
 pub use planning::plan;

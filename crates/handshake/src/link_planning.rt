@@ -6,11 +6,10 @@ ghost use Rattle.handshake.specs.Plans.{IsPlanOf};
 ghost use Rattle.handshake.specs.Refusals.{early_refusal};
 ghost use Rattle.handshake.specs.declared.change.Change.TheVariants.{Add, Set};
 
-use crate::change::Change;
 use crate::displaced::{displaces, is_plain_add, is_plain_set};
 use crate::planning::{add_late_refusal, set_late_refusal};
 use links::LinkStore;
-use mm_types::{End, FeatureNo, ObjectNo, Value};
+use mm_types::{End, FeatureNo, Node, ObjectNo, Value};
 use models::{ModelRef, at_end};
 
 /// The put of a link, as `Edit::Put` has it.
@@ -23,37 +22,38 @@ pub struct LonePut {
     pub container: Option<FeatureNo>,
 }
 
-/// The put of a change that sets or adds an object, if that is the whole plan: nothing refuses the change, and it displaces no link.
-/// `None` of any other change. Takes no memory.
-pub fn lone_put<L: LinkStore>(model: &ModelRef<L>, change: &Change) -> Option<LonePut>
-    requires asked { early_refusal (reading model.now) change.now ≡ None }
-    ensures put { result ≡ lone.lone_put (reading model.now) change.now }
-    ensures plan { IfSome result (λ p. IsPlanOf false model.now change.now (lone.of_put p)) }
+/// The put of a set of an object, if that is the whole plan: nothing refuses the set, and it displaces no link. Takes no memory.
+pub fn lone_set<L: LinkStore>(
+    model: &ModelRef<L>,
+    node: Node,
+    feature: FeatureNo,
+    value: &Value,
+) -> Option<LonePut>
+    requires asked { early_refusal (reading model.now) (Set node feature value.now) ≡ None }
+    ensures put { result ≡ lone.lone_put (reading model.now) (Set node feature value.now) }
+    ensures plan { IfSome result (λ p. IsPlanOf false model.now (Set node feature value.now) (lone.of_put p)) }
 {
     model.is_legal();
-    put_of(model, change)
+    put_of_set(model, at_end(&node, &feature), value)
 }
 
-fn put_of<L: LinkStore>(model: &ModelRef<L>, change: &Change) -> Option<LonePut>
-    ensures { result ≡ lone.lone_put (reading model.now) change.now }
+/// The put of an addition of an object, as `lone_set` has it. Takes no memory.
+pub fn lone_add<L: LinkStore>(
+    model: &ModelRef<L>,
+    node: Node,
+    feature: FeatureNo,
+    value: &Value,
+    index: Option<u32>,
+) -> Option<LonePut>
+    requires asked { early_refusal (reading model.now) (Add node feature value.now index) ≡ None }
+    ensures put { result ≡ lone.lone_put (reading model.now) (Add node feature value.now index) }
+    ensures plan { IfSome result (λ p. IsPlanOf false model.now (Add node feature value.now index) (lone.of_put p)) }
 {
-    match change {
-        Change::Set {
-            node,
-            feature,
-            value,
-        } => lone_set(model, at_end(node, feature), value),
-        Change::Add {
-            node,
-            feature,
-            value,
-            index,
-        } => lone_add(model, at_end(node, feature), value, *index),
-        _ => None,
-    }
+    model.is_legal();
+    put_of_add(model, at_end(&node, &feature), value, index)
 }
 
-fn lone_set<L: LinkStore>(model: &ModelRef<L>, end: End, value: &Value) -> Option<LonePut>
+fn put_of_set<L: LinkStore>(model: &ModelRef<L>, end: End, value: &Value) -> Option<LonePut>
     ensures { result ≡ lone.lone_set (reading model.now) (Set end.node end.feature value.now) end value.now }
 {
     let Value::Object(object) = value else {
@@ -71,7 +71,7 @@ fn lone_set<L: LinkStore>(model: &ModelRef<L>, end: End, value: &Value) -> Optio
     Some(put_at(model, end, 0, *object))
 }
 
-fn lone_add<L: LinkStore>(
+fn put_of_add<L: LinkStore>(
     model: &ModelRef<L>,
     end: End,
     value: &Value,
@@ -88,7 +88,7 @@ fn lone_add<L: LinkStore>(
     if is_plain_add(model, end, value) {
         return None;
     }
-    if add_late_refusal(model, end, value, index).is_some() {
+    if add_late_refusal(model, end, value, index, false).is_some() {
         return None;
     }
     Some(put_at(model, end, model.place_for(end, index), *object))

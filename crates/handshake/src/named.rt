@@ -1,5 +1,6 @@
 //! Whether what a change names is there. None of this takes memory.
 ghost use Rattle.std.specs.Prelude.{◌≡◌};
+ghost use Rattle.mm_types.specs.Conditions.{◌else_by◌};
 ghost use Rattle.models.specs.Model.{reading};
 ghost use Rattle.models.specs.Reading as r;
 ghost use Rattle.handshake.specs.Named as named;
@@ -45,7 +46,7 @@ pub fn early_refusal<L: LinkStore>(model: &ModelRef<L>, change: &Change) -> Opti
             node,
             feature,
             value,
-        } => value_refusal(model, *node, *feature, value).or(many_refusal(model.meta(), *feature)),
+        } => list_early_refusal(model, *node, *feature, value),
         Change::Remove { node, feature, .. } | Change::Move { node, feature, .. } => {
             feature_refusal(model, *node, *feature).or(many_refusal(model.meta(), *feature))
         }
@@ -62,6 +63,18 @@ pub fn set_early_refusal<L: LinkStore>(
     ensures { result ≡ refusals.early_refusal (reading model.now) (Set node feature value.now) }
 {
     value_refusal(model, node, feature, value).or(single_refusal(model.meta(), feature))
+}
+
+/// `early_refusal` of an addition or a removal of a value, whose parts come one by one.
+pub fn list_early_refusal<L: LinkStore>(
+    model: &ModelRef<L>,
+    node: Node,
+    feature: FeatureNo,
+    value: &Value,
+) -> Option<Refused>
+    ensures { result ≡ (named.value_refusal (reading model.now) node feature value.now else_by named.many_refusal (reading model.now).metamodel feature) }
+{
+    value_refusal(model, node, feature, value).or(many_refusal(model.meta(), feature))
 }
 
 fn single_refusal(meta: &Meta, feature: FeatureNo) -> Option<Refused>

@@ -1,17 +1,17 @@
 //! The plan of a change: its edits, and the notices that it tells.
-ghost use Rattle.std.specs.Prelude.{◌≡◌, [], true, false, None, IfOk, if◌then◌else◌};
+ghost use Rattle.std.specs.Prelude.{◌≡◌, [], true, false, nat_lt, None, IfOk, if◌then◌else◌};
 ghost use Rattle.mm_types.specs.Conditions.{◌unless◌, ◌else_by◌};
-ghost use Rattle.mm_types.specs.declared.numbers.ClassNo.{ClassNo};
-ghost use Rattle.mm_types.specs.declared.refused.Refused.TheVariants.{Index};
+ghost use Rattle.mm_types.specs.declared.limits.TheConstants.{OBJECTS};
+ghost use Rattle.mm_types.specs.declared.refused.Refused.TheVariants.{Index, Limit};
 ghost use Rattle.models.specs.Model.{reading};
-ghost use Rattle.models.specs.Reading.{takes};
+ghost use Rattle.models.specs.Reading.{is_repeat, takes};
 ghost use Rattle.handshake.specs.Displaced as d;
 ghost use Rattle.handshake.specs.Edits as e;
 ghost use Rattle.handshake.specs.Effects.{value_edits as value_edits_of};
 ghost use Rattle.handshake.specs.Plans.{HasFittingDocument, HasReadDocument, IsPlanOf, IsRemovalOf, Plans};
 ghost use Rattle.handshake.specs.Refusals as refusals;
 ghost use Rattle.handshake.specs.Tellings as t;
-ghost use Rattle.handshake.specs.declared.change.Change.TheVariants.{Add, Create};
+ghost use Rattle.handshake.specs.declared.change.Change.TheVariants.{Add};
 
 use crate::chain::{lost_notices, notices};
 use crate::change::Change;
@@ -174,7 +174,10 @@ pub(crate) fn late_refusal<L: LinkStore>(
             feature,
             value,
             index,
-        } => add_late_refusal(model, at_end(node, feature), value, *index),
+        } => {
+            let end = at_end(node, feature);
+            add_late_refusal(model, end, value, *index, model.is_repeat(end, value))
+        }
         Change::RemoveValue { feature, value, .. } => type_refusal(model, *feature, value),
         Change::Remove {
             node,
@@ -194,7 +197,7 @@ pub(crate) fn late_refusal<L: LinkStore>(
 }
 
 pub(crate) fn create_late_refusal<L: LinkStore>(model: &ModelRef<L>) -> Option<Refused>
-    ensures { (class : ClassNo) → result ≡ refusals.late_refusal (reading model.now) (Create class) }
+    ensures { result ≡ (Limit unless nat_lt (reading model.now).next OBJECTS) }
 {
     if model.next() < limits::OBJECTS {
         None
@@ -216,12 +219,15 @@ pub(crate) fn set_late_refusal<L: LinkStore>(
     set_refusal(model, end, value)
 }
 
+/// `late_refusal` of an addition, of which it is known whether a unique list has the value.
 pub(crate) fn add_late_refusal<L: LinkStore>(
     model: &ModelRef<L>,
     end: End,
     value: &Value,
     index: Option<u32>,
+    repeats: bool,
 ) -> Option<Refused>
+    requires repeats { repeats ≡ is_repeat (reading model.now) end value.now }
     ensures { result ≡ refusals.late_refusal (reading model.now) (Add end.node end.feature value.now index) }
 {
     if let Some(refused) = type_refusal(model, end.feature, value) {
@@ -230,7 +236,7 @@ pub(crate) fn add_late_refusal<L: LinkStore>(
     if model.place_for(end, index) > model.len(end) {
         return Some(Refused::Index);
     }
-    if !model.is_repeat(end, value) {
+    if !repeats {
         return gain_refusal(model, end, value);
     }
     match index {
