@@ -16,11 +16,10 @@ use Rattle.adapter_list.specs.declared.hearers.Hearers.{Hearers}
 use Rattle.handshake.specs.Displaced.{displaces, is_plain_add}
 use Rattle.handshake.specs.LonePuts.{lone_put, put_at, put_edit}
 use Rattle.handshake.specs.Refusals.{late_refusal}
-use Rattle.handshake.specs.declared.change.Change.{Change}
-use Rattle.handshake.specs.declared.change.Change.TheVariants.{Set, Add}
+use Rattle.handshake.specs.declared.change.Change.TheVariants.{Add}
 use Rattle.handshake.specs.declared.link_planning.LonePut.{LonePut}
 use Rattle.handshake.proofs.CutTieLemmas.{plain-not}
-use Rattle.repository.specs.Answers.{answer_of, put_answer}
+use Rattle.repository.specs.Answers.{answer_of}
 use Rattle.repository.specs.Views.{command_of}
 use Rattle.repository.specs.declared.reply.Answer.TheVariants as answer
 
@@ -37,10 +36,8 @@ new-added r n f (value.Object o) i p h =
     (plain-not (shape_at r e).is_reference (is_repeat r e v) (not-plain (displaces r e o) (is_plain_add r e v) (is_some (late_refusal r (Add n f v i))) (put_at r e (place_for r e i) o) p h)).1
 new-added r n f _ i p h = absurd (none-some p h)
 
-pub put-answered : (r : Reading) (rs : List Listed) (text : List ℕ) (c : Change) (p : LonePut) → lone_put r c ≡ Some p → put_answer c ≡ answer_of r rs (command_of text c)
-put-answered r rs text (Set n f v) p h = refl
-put-answered r rs text (Add n f v i) p h = ap (λ (b : Bool). answer.Flag (not b)) (sym (new-added r n f v i p h))
-put-answered r rs text _ p h = absurd (none-some p h)
+pub add-answered : (r : Reading) (rs : List Listed) (n : Node) (f : FeatureNo) (v : Value) (i : Option ℕ) (p : LonePut) → lone_put r (Add n f v i) ≡ Some p → answer.Flag true ≡ answer_of r rs (command_of [] (Add n f v i))
+add-answered r rs n f v i p h = ap (λ (b : Bool). answer.Flag (not b)) (sym (new-added r n f v i p h))
 
 -- a put is of a link that contains where it names a container
 pub put-touches : (m : Kinds) (p : LonePut) → IsEditOfKind m (put_edit p) → touches_containment m (put_edit p ∷ []) ≡ is_some p.container

@@ -46,7 +46,7 @@ use Rattle.repository.specs.Loads.{load_of, load_refusal, objects_of}
 use Rattle.repository.specs.Proper.{IsProper}
 use Rattle.repository.specs.Refusals.{IsPlanRefusal, resource_refusal}
 use Rattle.handshake.proofs.KnownLemmas.{none-else_by, none-unless}
-use Rattle.handshake.proofs.RefusalLemmas.{IsNot, late-not, later-not, unless-not, where-not}
+use Rattle.handshake.proofs.RefusalLemmas.{IsNot, late-not, late-refused, later-not, unless-not, where-not}
 use Rattle.std.proofs.lemmas.Bool.{and_parts}
 
 -- that a change is proper, and not refused early
@@ -226,6 +226,15 @@ plan_refusal s c r h =
 pub planned_err : (s : State) (text : List ℕ) (c : Change) (r : Refused) → IsProper (reads s) text c → early_refusal (reads s) c ≡ None → IsPlanRefusal s.model c r → Executed s (command_of text c) (Err (record { refused = r; given_back = None })) s
 planned_err s text c Memory brought early h = out_of_memory s text c brought early
 planned_err s text c r brought early h = refused_as s text c r refl (refusal-planned s text c brought early ∙ ap (λ (o : Option Refused). o else_by full s c) h)
+
+-- what is refused by the first refusal, early or late, that is not for memory
+refused-either : (s : State) (text : List ℕ) (c : Change) (r : Refused) (o : Option Refused) → IsProper (reads s) text c → early_refusal (reads s) c ≡ o → (o else_by late_refusal (reads s) c) ≡ Some r → Executed s (command_of text c) (Err (record { refused = r; given_back = None })) s
+refused-either s text c r None proper is found =
+    planned_err s text c r proper is (plan_refusal s.model c r (λ h. late-refused (reads s) c r found))
+refused-either s text c r (Some q) proper is found = early_err s text c r (is ∙ found)
+
+pub first_err : (s : State) (text : List ℕ) (c : Change) (r : Refused) → IsProper (reads s) text c → (early_refusal (reads s) c else_by late_refusal (reads s) c) ≡ Some r → Executed s (command_of text c) (Err (record { refused = r; given_back = None })) s
+first_err s text c r proper found = refused-either s text c r (early_refusal (reads s) c) proper refl found
 
 -- what the adapters refuse
 pub chain_err : (s : State) (text : List ℕ) (c : Change) (made : List Notice) (r : Refused) → IsProper (reads s) text c → early_refusal (reads s) c ≡ None → late_refusal (reads s) c ≡ None → Heard (reads s).above made (chain (reads s) c) s.adapters → IsChainRefusal (is_chain_full (reads s).above made s.adapters) r → Executed s (command_of text c) (Err (record { refused = r; given_back = None })) s

@@ -110,8 +110,3 @@ abbrev pub planned_answer : Option Removal → Option Target → Option Resolved
 planned_answer q (Some x) y = answer.Object x.object
 planned_answer q None (Some y) = answer.Resolved y.done y.left
 planned_answer q None None = answer.Destroyed (option_map_or (λ (x : Removal). length x.objects.items) q 0)
-
--- the answer of a change that puts one link
-abbrev pub put_answer : Change → Answer
-put_answer (change.Add n f v i) = answer.Flag true
-put_answer _ = answer.Done

@@ -4,11 +4,9 @@ ghost use Rattle.std.specs.Prelude.{◌≡◌, ◌∷◌, [], if◌then◌else�
 ghost use Rattle.links.specs.LegalSets.{IsLegalSet, Kinds};
 ghost use Rattle.links.specs.Plans.{EditFits, HasPlanOfKind, IsEditOfKind, edited};
 ghost use Rattle.handshake.specs.LonePuts.{put_edit};
-ghost use Rattle.repository.specs.Answers.{put_answer as put_answer_of};
 
-use crate::reply::Answer;
 use fragment_paths::PathCache;
-use handshake::{Change, LonePut};
+use handshake::LonePut;
 use links::LinkStore;
 use std::alloc::AllocError;
 
@@ -36,15 +34,5 @@ pub(crate) fn forget_put(paths: &mut PathCache, put: LonePut)
 {
     if put.container.is_some() {
         paths.clear();
-    }
-}
-
-/// The answer of a change that puts one link.
-pub(crate) fn put_answer(change: &Change) -> Answer
-    ensures { result ≡ put_answer_of change.now }
-{
-    match change {
-        Change::Add { .. } => Answer::Flag(true),
-        _ => Answer::Done,
     }
 }

@@ -135,7 +135,7 @@ fn early_answer<L: LinkStore>(
     model.is_legal();
     match change {
         Change::Delete(_) | Change::Resolve { .. } | Change::ResolveAll => Ok(None),
-        Change::Create(_) => Ok(Some(Answer::Object(ObjectNo(model.next() as u32)))),
+        Change::Create(_) => Ok(Some(Answer::Object(next_object(model)))),
         Change::NewResource(_) => Ok(Some(Answer::Resource(ResourceNo(model.resources() as u32)))),
         Change::Load(_, doc) => Ok(Some(Answer::Loaded(doc.objects.len() as u64))),
         Change::Set { .. } | Change::Unset { .. } => Ok(Some(Answer::Done)),
@@ -162,6 +162,14 @@ fn early_answer<L: LinkStore>(
             ..
         } => Ok(Some(value_answer(alloc, model, at_end(node, feature), *from)?)),
     }
+}
+
+/// The number of the object that is made next.
+pub(crate) fn next_object<L: LinkStore>(model: &ModelRef<L>) -> ObjectNo
+    ensures { result ≡ record { 0 = (reading model.now).next } }
+{
+    model.is_legal();
+    ObjectNo(model.next() as u32)
 }
 
 /// The object that a proxy finds, how many proxies are resolved, or how many objects go, as an answer.

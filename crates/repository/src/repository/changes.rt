@@ -1,10 +1,11 @@
 //! Changes of objects, their values and their links.
 ghost use Rattle.std.specs.Prelude.{◌≡◌, ℕ, List, [], None, Some, false, true};
 ghost use Rattle.mm_types.specs.Shapes.{shape};
-ghost use Rattle.handshake.specs.LonePuts.{lone_put as lone_put_of, of_put};
-ghost use Rattle.handshake.specs.Plans.{IsPlanOf, edits_values_alone};
+ghost use Rattle.handshake.specs.Plans.{edits_values_alone};
+ghost use Rattle.handshake.specs.declared.change.Change.{Change};
 ghost use Rattle.handshake.specs.Refusals.{early_refusal as early_refusal_of};
 ghost use Rattle.repository.specs.Run.{Executed, change_outcome};
+ghost use Rattle.repository.specs.Puts.{IsPutAlone};
 ghost use Rattle.repository.specs.State.{reads};
 ghost use Rattle.repository.specs.Views.{changed_view, command_of};
 ghost use Rattle.repository.specs.declared.command.Command.TheVariants.{Create, Delete, Set, Unset};
@@ -12,14 +13,17 @@ ghost use Rattle.repository.specs.Proper.{IsProper};
 
 use super::Repository;
 use crate::leaving::notify;
-use crate::lone_puts::{forget_put, put_answer, put_link};
-use crate::preparing::{Prepared, prepare, prepare_values, reserve};
+use crate::lone_puts::{forget_put, put_link};
+use crate::preparing::{Prepared, next_object, prepare, prepare_values, reserve};
 use crate::remembered::forget_touched;
 use crate::reply::{Answer, Reply};
 use adapters::Adapter;
-use handshake::{Change, LonePut, early_refusal, lone_put, plan_set, set_early_refusal};
+use handshake::{
+    Change, LonePut, create_refusal, early_refusal, lone_set, plan_set, set_early_refusal,
+};
 use links::LinkStore;
 use mm_types::{ClassNo, FeatureNo, Node, ObjectNo, Refused, Seq, Value};
+use mm_values::{ValueEdit, ValuePlan};
 
 impl<L: LinkStore, A: Adapter> Repository<L, A> {
     /// Makes an object of a class, each of whose attributes has its default (EMF: EFactory.create). Notifies nobody.
@@ -28,6 +32,9 @@ impl<L: LinkStore, A: Adapter> Repository<L, A> {
     pub fn create(&mut self, class: ClassNo) -> Result<Reply<A>, Refused>
         ensures { Executed self.old (Create class) (change_outcome (changed_view A.heard result)) self.new }
     {
+        if self.adapters.len() == 0 {
+            return self.create_unheard(class);
+        }
         self.change(Change::Create(class))
     }
 
@@ -48,7 +55,10 @@ impl<L: LinkStore, A: Adapter> Repository<L, A> {
     ) -> Result<Reply<A>, Refused>
         ensures { Executed self.old (Set node feature value) (change_outcome (changed_view A.heard result)) self.new }
     {
-        if self.adapters.len() == 0 && !self.meta.is_reference(feature) {
+        if self.adapters.len() == 0 {
+            if self.meta.is_reference(feature) {
+                return self.set_link(node, feature, value);
+            }
             return self.set_value(node, feature, value);
         }
         self.change(Change::Set {
@@ -89,13 +99,8 @@ impl<L: LinkStore, A: Adapter> Repository<L, A> {
         if let Some(refused) = early_refusal(&self.model(), &change) {
             return Err(refused);
         }
-        if self.adapters.len() == 0 {
-            if change.edits_values_alone(&self.meta) {
-                return self.change_values(change);
-            }
-            if let Some(put) = lone_put(&self.model(), &change) {
-                return self.put_alone(&change, put);
-            }
+        if self.adapters.len() == 0 && change.edits_values_alone(&self.meta) {
+            return self.change_values(change);
         }
         self.carry_out(change)
     }
@@ -114,10 +119,10 @@ impl<L: LinkStore, A: Adapter> Repository<L, A> {
             Ok(prepared) => prepared,
             Err(refused) => return Err(refused),
         };
-        if self.values.reserve_for(&values).is_err() {
-            return Err(Refused::Memory);
+        match self.values.try_apply(values) {
+            Ok(()) => {}
+            Err(_) => return Err(Refused::Memory),
         }
-        self.values.apply(values);
         Ok(Reply {
             answer,
             told: Seq::new(self.alloc),
@@ -127,13 +132,9 @@ impl<L: LinkStore, A: Adapter> Repository<L, A> {
 
     /// A change whose plan is one put, if no adapter is attached: the store makes room for the link and puts it in one step, and no plan
     /// is made. Most links that are made displace none.
-    fn put_alone(&mut self, change: &Change, put: LonePut) -> Result<Reply<A>, Refused>
-        requires proper { IsProper (reads self.old) [] change.now }
-        requires asked { early_refusal_of (reads self.old) change.now ≡ None }
-        requires found { lone_put_of (reads self.old) change.now ≡ Some put }
-        requires planned { IsPlanOf false self.old.model change.now (of_put put) }
-        requires unheard { self.old.adapters ≡ [] }
-        ensures { Executed self.old (command_of [] change.now) (change_outcome (changed_view A.heard result)) self.new }
+    pub(super) fn put_alone(&mut self, put: LonePut, answer: Answer) -> Result<Reply<A>, Refused>
+        requires alone { (c : Change) × IsPutAlone self.old c put answer }
+        ensures { (c : Change) → IsPutAlone self.old c put answer → Executed self.old (command_of [] c) (change_outcome (changed_view A.heard result)) self.new }
     {
         match put_link(&mut self.store, put) {
             Ok(()) => {}
@@ -141,7 +142,55 @@ impl<L: LinkStore, A: Adapter> Repository<L, A> {
         }
         forget_put(&mut self.paths, put);
         Ok(Reply {
-            answer: put_answer(change),
+            answer,
+            told: Seq::new(self.alloc),
+            released: Seq::new(self.alloc),
+        })
+    }
+
+    /// A set of a reference, if no adapter is attached.
+    fn set_link(
+        &mut self,
+        node: Node,
+        feature: FeatureNo,
+        value: Value,
+    ) -> Result<Reply<A>, Refused>
+        requires unheard { self.old.adapters ≡ [] }
+        ensures { Executed self.old (Set node feature value) (change_outcome (changed_view A.heard result)) self.new }
+    {
+        let model = self.model();
+        if let Some(refused) = set_early_refusal(&model, node, feature, &value) {
+            return Err(refused);
+        }
+        if let Some(put) = lone_set(&model, node, feature, &value) {
+            return self.put_alone(put, Answer::Done);
+        }
+        self.carry_out(Change::Set {
+            node,
+            feature,
+            value,
+        })
+    }
+
+    /// `change_values` of a new object, without a `Change`.
+    fn create_unheard(&mut self, class: ClassNo) -> Result<Reply<A>, Refused>
+        requires unheard { self.old.adapters ≡ [] }
+        ensures { Executed self.old (Create class) (change_outcome (changed_view A.heard result)) self.new }
+    {
+        let model = self.model();
+        if let Some(refused) = create_refusal(&model, class) {
+            return Err(refused);
+        }
+        let object = next_object(&model);
+        match self
+            .values
+            .try_apply(ValuePlan::one(ValueEdit::NewObject(class)))
+        {
+            Ok(()) => {}
+            Err(_) => return Err(Refused::Memory),
+        }
+        Ok(Reply {
+            answer: Answer::Object(object),
             told: Seq::new(self.alloc),
             released: Seq::new(self.alloc),
         })
@@ -166,10 +215,10 @@ impl<L: LinkStore, A: Adapter> Repository<L, A> {
             Ok(values) => values,
             Err(refused) => return Err(refused),
         };
-        if self.values.reserve_for(&values).is_err() {
-            return Err(Refused::Memory);
+        match self.values.try_apply(values) {
+            Ok(()) => {}
+            Err(_) => return Err(Refused::Memory),
         }
-        self.values.apply(values);
         Ok(Reply {
             answer: Answer::Done,
             told: Seq::new(self.alloc),

@@ -1,12 +1,13 @@
 //! Changes of the lists of objects.
+ghost use Rattle.std.specs.Prelude.{◌≡◌, []};
 ghost use Rattle.repository.specs.Run.{Executed, change_outcome};
 ghost use Rattle.repository.specs.Views.{changed_view};
 ghost use Rattle.repository.specs.declared.command.Command.TheVariants as command;
 
 use super::Repository;
-use crate::reply::Reply;
+use crate::reply::{Answer, Reply};
 use adapters::Adapter;
-use handshake::Change;
+use handshake::{Change, list_early_refusal, lone_add};
 use links::LinkStore;
 use mm_types::{FeatureNo, Node, Refused, Value};
 
@@ -29,6 +30,9 @@ impl<L: LinkStore, A: Adapter> Repository<L, A> {
     ) -> Result<Reply<A>, Refused>
         ensures { Executed self.old (command.Add node feature value index) (change_outcome (changed_view A.heard result)) self.new }
     {
+        if self.adapters.len() == 0 && self.meta.is_reference(feature) {
+            return self.add_link(node, feature, value, index);
+        }
         self.change(Change::Add {
             node,
             feature,
@@ -96,6 +100,32 @@ impl<L: LinkStore, A: Adapter> Repository<L, A> {
             feature,
             to,
             from,
+        })
+    }
+
+    /// An addition to a reference, if no adapter is attached.
+    fn add_link(
+        &mut self,
+        node: Node,
+        feature: FeatureNo,
+        value: Value,
+        index: Option<u32>,
+    ) -> Result<Reply<A>, Refused>
+        requires unheard { self.old.adapters ≡ [] }
+        ensures { Executed self.old (command.Add node feature value index) (change_outcome (changed_view A.heard result)) self.new }
+    {
+        let model = self.model();
+        if let Some(refused) = list_early_refusal(&model, node, feature, &value) {
+            return Err(refused);
+        }
+        if let Some(put) = lone_add(&model, node, feature, &value, index) {
+            return self.put_alone(put, Answer::Flag(true));
+        }
+        self.carry_out(Change::Add {
+            node,
+            feature,
+            value,
+            index,
         })
     }
 }

@@ -1,23 +1,19 @@
 use Rattle.std.proofs.Common.{◌≡◌, ◌∙◌, [], None, false, refl, sym, ap, subst}
-use Rattle.mm_values.specs.Values.{ValuesState, applied}
 use Rattle.mm_values.specs.Room.{values_of}
 use Rattle.models.specs.Model.{Model, model_of, reading}
-use Rattle.models.specs.Steady.{HasSteadyTexts}
 use Rattle.adapter_list.specs.Attached.{views_of}
-use Rattle.handshake.specs.Effects.{after}
 use Rattle.handshake.specs.Plans.{IsPlanOf, of_values}
 use Rattle.handshake.specs.Refusals.{early_refusal}
-use Rattle.handshake.proofs.ProxyLemmas.{change-keeps-steady}
 use Rattle.repository.specs.Answers.{answer_of}
 use Rattle.repository.specs.Proper.{IsProper}
 use Rattle.repository.specs.Refusals.{IsPlanRefusal}
 use Rattle.repository.specs.Repository.{state}
 use Rattle.repository.specs.State.{IsLegal, State, reads}
 use Rattle.repository.specs.Views.{command_of}
+use Rattle.repository.proofs.InsideLemmas.{made, refused}
 use Rattle.repository.proofs.LegalLemmas.{stepped-legal}
 use Rattle.repository.proofs.LoadLemmas.{proper-steady}
-use Rattle.repository.proofs.PlanLemmas.{planned_err}
-use Rattle.repository.proofs.RememberedLemmas.{kept-after}
+use Rattle.repository.proofs.PlanLemmas.{out_of_memory, planned_err}
 use Rattle.repository.proofs.ValueLemmas.{changed-unheard}
 use Rattle.repository.proofs.repository.Repository.change_values.Goals as goal
 
@@ -29,6 +25,17 @@ returns-in-Err g c =
     let proper : IsProper (reads s) [] c.args.change = subst (λ (t : State). IsProper (reads t) [] c.args.change) (sym c.self.view_is) c.requires.proper in
     rw (← c.self.view_is) (planned_err s [] c.args.change c.in-Err.refused proper early (subst (λ (m : Model). IsPlanRefusal m c.args.change c.in-Err.refused) is c.in-Err.ensures.refused))
 
+pub returns-in-Err-2 : goal.returns-in-Err-2
+returns-in-Err-2 g c =
+    let s : State = state g.L.LinkStore.links c.self.inside in
+    let early : early_refusal (reads s) c.args.change ≡ None = subst (λ (t : State). early_refusal (reads t) c.args.change ≡ None) (sym c.self.view_is) c.requires.asked in
+    let proper : IsProper (reads s) [] c.args.change = subst (λ (t : State). IsProper (reads t) [] c.args.change) (sym c.self.view_is) c.requires.proper in
+    rw (← c.self.view_is, c.in-Err-2.ensures.err) (out_of_memory s [] c.args.change proper early)
+
+-- if memory is refused, nothing that is seen has changed
+pub invariant_of-self : goal.invariant_of-self
+invariant_of-self g c = refused g.L.LinkStore.links g.L.LinkStore.kinds c.self.inside c.try_apply.new.self c.in-Err-2.ensures.err c.self.invariant
+
 pub returns : goal.returns
 returns g c =
     let s : State = state g.L.LinkStore.links c.self.inside in
@@ -38,9 +45,9 @@ returns g c =
     let none : s.adapters ≡ [] = subst (λ (t : State). t.adapters ≡ []) (sym c.self.view_is) c.requires.unheard in
     let vs = c.in-Ok.prepared.1 in
     let plan = subst (λ (m : Model). IsPlanOf false m c.args.change (of_values vs)) is c.in-Ok.ensures.planned in
-    let values = c.apply.ensures ∙ ap (λ (v : ValuesState). applied v vs) c.reserve_for.ensures.unchanged ∙ plan.values_made in
+    let values = c.in-Ok-2.ensures.ok ∙ plan.values_made in
     let answered = subst (λ (m : Model). c.in-Ok.prepared.0 ≡ answer_of (reading m) s.adapters (command_of [] c.args.change)) is (c.in-Ok.ensures.answer s.adapters [] (subst (λ (m : Model). IsProper (reading m) [] c.args.change) (sym is) proper)) in
-    let t : State = record { model = model_of c.self.inside.meta (values_of c.apply.new.self) (g.L.LinkStore.links c.self.inside.store); adapters = c.self.inside.adapters.0 } in
+    let t : State = record { model = model_of c.self.inside.meta (values_of c.try_apply.new.self) (g.L.LinkStore.links c.self.inside.store); adapters = c.self.inside.adapters.0 } in
     rw (← c.self.view_is)
     (changed-unheard s t [] c.args.change c.in-Ok.prepared.0 c.new.result (views_of g.A.Adapter.heard c.new-2.result) none c.new.ensures (ap (views_of g.A.Adapter.heard) c.new-2.ensures) proper early plan.allowed answered
     (λ i. model_of c.self.inside.meta (values i) (plan.links_made i)) refl)
@@ -52,16 +59,5 @@ invariant_of-self-2 g c =
     let proper : IsProper (reads s) [] c.args.change = subst (λ (t : State). IsProper (reads t) [] c.args.change) (sym c.self.view_is) c.requires.proper in
     let vs = c.in-Ok.prepared.1 in
     let plan = subst (λ (m : Model). IsPlanOf false m c.args.change (of_values vs)) is c.in-Ok.ensures.planned in
-    let m = c.self.inside.meta in
-    let w = values_of c.apply.new.self in
-    let old = g.L.LinkStore.links c.self.inside.store in
-    let values = c.apply.ensures ∙ ap (λ (v : ValuesState). applied v vs) c.reserve_for.ensures.unchanged ∙ plan.values_made in
-    let made : model_of m w old ≡ after s.model c.args.change = λ i. model_of m (values i) (plan.links_made i) in
     let legal = stepped-legal _ _ (command_of [] c.args.change) _ (subst IsLegal c.self.view_is c.self.invariant.legal) (returns g c) in
-    record {
-      legal = legal;
-      steady = subst HasSteadyTexts (sym made) (change-keeps-steady s.model c.args.change c.self.invariant.steady (proper-steady (reads s) [] c.args.change proper));
-      kinds_are = c.self.invariant.kinds_are;
-      paths = kept-after m (values_of c.self.inside.values) w old [] c.self.invariant.legal.model legal.model plan.fits plan.of_kind c.self.inside.paths c.self.invariant.paths;
-      hearers = c.self.invariant.hearers;
-    }
+    made g.L.LinkStore.links g.L.LinkStore.kinds c.self.inside c.try_apply.new.self c.args.change vs plan c.in-Ok-2.ensures.ok (proper-steady (reads s) [] c.args.change proper) legal c.self.invariant

@@ -13,38 +13,41 @@ use Rattle.models.specs.Model.{Model, model_of, reading}
 use Rattle.models.specs.Steady.{HasSteadyTexts}
 use Rattle.fragment_paths.specs.Kept.{Kept}
 use Rattle.handshake.specs.Effects.{after}
-use Rattle.handshake.specs.LonePuts.{lone_put, of_put, put_edit}
-use Rattle.handshake.specs.Plans.{IsPlanOf}
-use Rattle.handshake.specs.Refusals.{early_refusal}
+use Rattle.handshake.specs.LonePuts.{put_edit}
+use Rattle.handshake.specs.declared.change.Change.{Change}
+use Rattle.handshake.specs.declared.link_planning.LonePut.{LonePut}
 use Rattle.handshake.proofs.ProxyLemmas.{change-keeps-steady}
-use Rattle.repository.specs.Proper.{IsProper}
+use Rattle.repository.specs.Puts.{IsPutAlone}
 use Rattle.repository.specs.Repository.{KeepsFragments, state}
 use Rattle.repository.specs.State.{IsLegal, State, reads}
 use Rattle.repository.specs.Views.{command_of}
+use Rattle.repository.specs.declared.reply.Answer.{Answer}
 use Rattle.repository.proofs.LegalLemmas.{stepped-legal}
 use Rattle.repository.proofs.LoadLemmas.{proper-steady}
-use Rattle.repository.proofs.LonePutLemmas.{none-hears, put-answered, put-touches}
+use Rattle.repository.proofs.LonePutLemmas.{none-hears, put-touches}
 use Rattle.repository.proofs.PlanLemmas.{out_of_memory}
 use Rattle.repository.proofs.RememberedLemmas.{kept-after}
 use Rattle.repository.proofs.ValueLemmas.{changed-unheard}
 use Rattle.repository.proofs.repository.Repository.put_alone.Goals as goal
 
+-- what is asked of the state that is seen holds of the one that shows it
+seen : (s v : State) (ch : Change) (p : LonePut) (a : Answer) → s ≡ v → IsPutAlone v ch p a → IsPutAlone s ch p a
+seen s v ch p a is h = subst (λ (t : State). IsPutAlone t ch p a) (sym is) h
+
 pub put_link-requires-clause-fits : goal.put_link-requires-clause-fits
-put_link-requires-clause-fits g c = (subst (λ (t : State). IsPlanOf false t.model c.args.change.now (of_put c.args.put)) (sym c.self.view_is) c.requires.planned).fits.0
+put_link-requires-clause-fits g c = (seen _ _ c.requires.alone.0 c.args.put c.args.answer c.self.view_is c.requires.alone.1).planned.fits.0
 
 pub put_link-requires-clause-of_kind : goal.put_link-requires-clause-of_kind
 put_link-requires-clause-of_kind g c =
-    let plan = subst (λ (t : State). IsPlanOf false t.model c.args.change.now (of_put c.args.put)) (sym c.self.view_is) c.requires.planned in
-    (kinds_of c.self.inside.meta, c.self.invariant.kinds_are, plan.of_kind)
+    let alone = seen _ _ c.requires.alone.0 c.args.put c.args.answer c.self.view_is c.requires.alone.1 in
+    (kinds_of c.self.inside.meta, c.self.invariant.kinds_are, alone.planned.of_kind)
 
 -- if memory is refused, nothing that is seen has changed
 pub returns-in-Err : goal.returns-in-Err
-returns-in-Err g c =
+returns-in-Err g c = λ change given.
     let s : State = state g.L.LinkStore.links c.self.inside in
-    let change = c.args.change.now in
-    let early : early_refusal (reads s) change ≡ None = subst (λ (t : State). early_refusal (reads t) change ≡ None) (sym c.self.view_is) c.requires.asked in
-    let proper : IsProper (reads s) [] change = subst (λ (t : State). IsProper (reads t) [] change) (sym c.self.view_is) c.requires.proper in
-    rw (← c.self.view_is, c.in-Err.ensures.links) (out_of_memory s [] change proper early)
+    let alone = seen s _ change c.args.put c.args.answer c.self.view_is given in
+    rw (← c.self.view_is, c.in-Err.ensures.links) (out_of_memory s [] change alone.proper alone.asked)
 
 pub invariant_of-self : goal.invariant_of-self
 invariant_of-self g c =
@@ -60,30 +63,24 @@ invariant_of-self g c =
     }
 
 pub returns : goal.returns
-returns g c =
+returns g c = λ change given.
     let s : State = state g.L.LinkStore.links c.self.inside in
-    let change = c.args.change.now in
     let put = c.args.put in
-    let early : early_refusal (reads s) change ≡ None = subst (λ (t : State). early_refusal (reads t) change ≡ None) (sym c.self.view_is) c.requires.asked in
-    let proper : IsProper (reads s) [] change = subst (λ (t : State). IsProper (reads t) [] change) (sym c.self.view_is) c.requires.proper in
-    let found : lone_put (reads s) change ≡ Some put = subst (λ (t : State). lone_put (reads t) change ≡ Some put) (sym c.self.view_is) c.requires.found in
-    let plan = subst (λ (t : State). IsPlanOf false t.model change (of_put put)) (sym c.self.view_is) c.requires.planned in
-    let none : s.adapters ≡ [] = subst (λ (t : State). t.adapters ≡ []) (sym c.self.view_is) c.requires.unheard in
+    let alone = seen s _ change put c.args.answer c.self.view_is given in
+    let plan = alone.planned in
     let links = c.in-Ok.ensures.links ∙ plan.links_made in
-    let answered = c.put_answer.ensures ∙ put-answered (reads s) s.adapters [] change put found in
     let t : State = record { model = model_of c.self.inside.meta (values_of c.self.inside.values) (g.L.LinkStore.links c.put_link.new.store); adapters = c.self.inside.adapters.0 } in
     rw (← c.self.view_is)
-    (changed-unheard s t [] change c.put_answer.result c.new.result (views_of g.A.Adapter.heard c.new-2.result) none c.new.ensures (ap (views_of g.A.Adapter.heard) c.new-2.ensures) proper early plan.allowed answered
+    (changed-unheard s t [] change c.args.answer c.new.result (views_of g.A.Adapter.heard c.new-2.result) alone.unheard c.new.ensures (ap (views_of g.A.Adapter.heard) c.new-2.ensures) alone.proper alone.asked plan.allowed alone.answered
     (λ i. model_of c.self.inside.meta (plan.values_made i) (links i)) refl)
 
 pub invariant_of-self-2 : goal.invariant_of-self-2
 invariant_of-self-2 g c =
     let s : State = state g.L.LinkStore.links c.self.inside in
-    let change = c.args.change.now in
+    let change = c.requires.alone.0 in
     let put = c.args.put in
-    let proper : IsProper (reads s) [] change = subst (λ (t : State). IsProper (reads t) [] change) (sym c.self.view_is) c.requires.proper in
-    let plan = subst (λ (t : State). IsPlanOf false t.model change (of_put put)) (sym c.self.view_is) c.requires.planned in
-    let none : s.adapters ≡ [] = subst (λ (t : State). t.adapters ≡ []) (sym c.self.view_is) c.requires.unheard in
+    let alone = seen s _ change put c.args.answer c.self.view_is c.requires.alone.1 in
+    let plan = alone.planned in
     let m = c.self.inside.meta in
     let v = values_of c.self.inside.values in
     let old = g.L.LinkStore.links c.self.inside.store in
@@ -91,15 +88,15 @@ invariant_of-self-2 g c =
     let is = c.in-Ok.ensures.links in
     let links = is ∙ plan.links_made in
     let made : model_of m v new ≡ after s.model change = λ i. model_of m (plan.values_made i) (links i) in
-    let legal = stepped-legal _ _ (command_of [] change) _ (subst IsLegal c.self.view_is c.self.invariant.legal) (returns g c) in
+    let legal = stepped-legal _ _ (command_of [] change) _ (subst IsLegal c.self.view_is c.self.invariant.legal) (returns g c change c.requires.alone.1) in
     let legal_after = subst (λ (l : Links). models.IsLegal (model_of m v l)) is legal.model in
     let kept = kept-after m v v old (put_edit put ∷ []) c.self.invariant.legal.model legal_after plan.fits plan.of_kind c.self.inside.paths c.self.invariant.paths in
     let forgets : Bool → Kept = λ b. if b then map.empty else c.self.inside.paths in
     let paths : c.forget_put.new.paths ≡ forgets (touches_containment (kinds_of m) (put_edit put ∷ [])) = c.forget_put.ensures ∙ ap forgets (sym (put-touches (kinds_of m) put plan.of_kind.0)) in
     record {
       legal = legal;
-      steady = subst HasSteadyTexts (sym made) (change-keeps-steady s.model change c.self.invariant.steady (proper-steady (reads s) [] change proper));
+      steady = subst HasSteadyTexts (sym made) (change-keeps-steady s.model change c.self.invariant.steady (proper-steady (reads s) [] change alone.proper));
       kinds_are = c.in-Ok.ensures.kinds (kinds_of m) c.self.invariant.kinds_are plan.of_kind.0;
       paths = subst (λ (l : Links). KeepsFragments (reading (model_of m v l)) c.forget_put.new.paths) (sym is) (subst (KeepsFragments (reading (model_of m v _))) (sym paths) kept);
-      hearers = none-hears (above old) (above new) c.self.inside.adapters.0 c.self.inside.hearers none c.self.invariant.hearers;
+      hearers = none-hears (above old) (above new) c.self.inside.adapters.0 c.self.inside.hearers alone.unheard c.self.invariant.hearers;
     }

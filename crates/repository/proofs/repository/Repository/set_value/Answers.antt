@@ -1,25 +1,22 @@
 use Rattle.std.proofs.Common.{◌≡◌, ◌∙◌, [], None, true, not, refl, sym, ap, subst}
-use Rattle.mm_values.specs.Values.{ValuesState, applied}
 use Rattle.mm_values.specs.Room.{values_of}
 use Rattle.models.specs.Model.{Model, model_of, reading}
-use Rattle.models.specs.Steady.{HasSteadyTexts}
 use Rattle.adapter_list.specs.Attached.{views_of}
-use Rattle.handshake.specs.Effects.{after, value_edits}
+use Rattle.handshake.specs.Effects.{value_edits}
 use Rattle.handshake.specs.Plans.{edits_values_alone}
 use Rattle.handshake.specs.Refusals.{early_refusal, late_refusal}
 use Rattle.handshake.specs.declared.change.Change.{Change}
 use Rattle.handshake.specs.declared.change.Change.TheVariants.{Set}
-use Rattle.handshake.proofs.ProxyLemmas.{change-keeps-steady}
 use Rattle.handshake.proofs.ValueLemmas.{values-planned}
 use Rattle.repository.specs.Refusals.{IsPlanRefusal}
 use Rattle.repository.specs.Repository.{state}
 use Rattle.repository.specs.State.{IsLegal, State, reads}
 use Rattle.repository.specs.Views.{command_of}
 use Rattle.repository.specs.declared.reply.Answer.TheVariants as answer
+use Rattle.repository.proofs.InsideLemmas.{made, refused}
 use Rattle.repository.proofs.LegalLemmas.{stepped-legal}
 use Rattle.repository.proofs.LoadLemmas.{proper-steady}
-use Rattle.repository.proofs.PlanLemmas.{early_err, plan_refusal, planned_err}
-use Rattle.repository.proofs.RememberedLemmas.{kept-after}
+use Rattle.repository.proofs.PlanLemmas.{early_err, out_of_memory, plan_refusal, planned_err}
 use Rattle.repository.proofs.ValueLemmas.{changed-unheard}
 use Rattle.repository.proofs.repository.Repository.set_value.Goals as goal
 
@@ -37,6 +34,18 @@ returns-in-Err g c =
     let late = subst (λ (m : Model). IsPlanRefusal m change c.in-Err.refused) is (plan_refusal c.model-model.result change c.in-Err.refused (λ _. c.in-Err.ensures.refused)) in
     rw (← c.self.view_is) (planned_err s [] change c.in-Err.refused tt early late)
 
+pub returns-in-Err-2 : goal.returns-in-Err-2
+returns-in-Err-2 g c =
+    let s : State = state g.L.LinkStore.links c.self.inside in
+    let change : Change = Set c.args.node c.args.feature c.args.value in
+    let is : c.model-model.result ≡ s.model = c.model-model.ensures ∙ ap (λ (t : State). t.model) (sym c.self.view_is) in
+    let early : early_refusal (reads s) change ≡ None = ap (λ (m : Model). early_refusal (reading m) change) (sym is) ∙ sym c.set_early_refusal.ensures ∙ c.in_default.is in
+    rw (← c.self.view_is, c.in-Err-2.ensures.err) (out_of_memory s [] change tt early)
+
+-- if memory is refused, nothing that is seen has changed
+pub invariant_of-self : goal.invariant_of-self
+invariant_of-self g c = refused g.L.LinkStore.links g.L.LinkStore.kinds c.self.inside c.try_apply.new.self c.in-Err-2.ensures.err c.self.invariant
+
 pub returns : goal.returns
 returns g c =
     let s : State = state g.L.LinkStore.links c.self.inside in
@@ -49,8 +58,8 @@ returns g c =
     let vs = c.in-Ok.values in
     let lists : vs ≡ value_edits (reads s) change = subst (λ (m : Model). vs ≡ value_edits (reading m) change) is c.in-Ok.ensures.values in
     let plan = values-planned s.model change vs alone c.self.invariant.legal.model early late lists in
-    let values = c.apply.ensures ∙ ap (λ (v : ValuesState). applied v vs) c.reserve_for.ensures.unchanged ∙ plan.values_made in
-    let t : State = record { model = model_of c.self.inside.meta (values_of c.apply.new.self) (g.L.LinkStore.links c.self.inside.store); adapters = c.self.inside.adapters.0 } in
+    let values = c.in-Ok-2.ensures.ok ∙ plan.values_made in
+    let t : State = record { model = model_of c.self.inside.meta (values_of c.try_apply.new.self) (g.L.LinkStore.links c.self.inside.store); adapters = c.self.inside.adapters.0 } in
     rw (← c.self.view_is)
     (changed-unheard s t [] change answer.Done c.new.result (views_of g.A.Adapter.heard c.new-2.result) none c.new.ensures (ap (views_of g.A.Adapter.heard) c.new-2.ensures) tt early late refl
     (λ i. model_of c.self.inside.meta (values i) (plan.links_made i)) refl)
@@ -66,16 +75,5 @@ invariant_of-self-2 g c =
     let vs = c.in-Ok.values in
     let lists : vs ≡ value_edits (reads s) change = subst (λ (m : Model). vs ≡ value_edits (reading m) change) is c.in-Ok.ensures.values in
     let plan = values-planned s.model change vs alone c.self.invariant.legal.model early late lists in
-    let m = c.self.inside.meta in
-    let w = values_of c.apply.new.self in
-    let old = g.L.LinkStore.links c.self.inside.store in
-    let values = c.apply.ensures ∙ ap (λ (v : ValuesState). applied v vs) c.reserve_for.ensures.unchanged ∙ plan.values_made in
-    let made : model_of m w old ≡ after s.model change = λ i. model_of m (values i) (plan.links_made i) in
     let legal = stepped-legal _ _ (command_of [] change) _ (subst IsLegal c.self.view_is c.self.invariant.legal) (returns g c) in
-    record {
-      legal = legal;
-      steady = subst HasSteadyTexts (sym made) (change-keeps-steady s.model change c.self.invariant.steady (proper-steady (reads s) [] change tt));
-      kinds_are = c.self.invariant.kinds_are;
-      paths = kept-after m (values_of c.self.inside.values) w old [] c.self.invariant.legal.model legal.model plan.fits plan.of_kind c.self.inside.paths c.self.invariant.paths;
-      hearers = c.self.invariant.hearers;
-    }
+    made g.L.LinkStore.links g.L.LinkStore.kinds c.self.inside c.try_apply.new.self change vs plan c.in-Ok-2.ensures.ok (proper-steady (reads s) [] change tt) legal c.self.invariant
