@@ -1,0 +1,36 @@
+"""A program is run on a script, and what it takes is measured."""
+import re
+import subprocess
+import sys
+import time
+
+COUNTED = re.compile(rb'Collected : (\d+)')
+
+
+def run(words, script):
+    with open(script, 'rb') as file:
+        return subprocess.run(words, stdin=file, capture_output=True, check=True)
+
+
+def best_time(command, script, runs, wanted):
+    """The least wall time of some runs, in seconds. Each has to print what is wanted."""
+    times = []
+    for _ in range(runs):
+        start = time.perf_counter()
+        ran = run(command, script)
+        times.append(time.perf_counter() - start)
+        if ran.stdout != wanted:
+            sys.exit(f'{command[0]} does not print what the workload says')
+    return min(times)
+
+
+def peak_memory(command, script):
+    """The largest resident set of a run, in kilobytes."""
+    ran = run(['/usr/bin/time', '-f', '%M', *command], script)
+    return int(ran.stderr.split()[-1])
+
+
+def instructions(command, script):
+    """The instructions of a run, which are the same each time."""
+    ran = run(['valgrind', '--tool=callgrind', '--callgrind-out-file=/dev/null', *command], script)
+    return int(COUNTED.search(ran.stderr)[1])
