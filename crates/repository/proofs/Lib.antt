@@ -14,6 +14,7 @@ pub mod DocumentLemmas
 pub mod ReadLemmas
 pub mod RunLemmas
 pub mod RememberedLemmas
+mod InsideLemmas
 mod KeptNodeLemmas
 mod LonePutLemmas
 mod AttachedLemmas

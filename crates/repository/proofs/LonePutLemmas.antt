@@ -1,5 +1,5 @@
 -- A change that puts one link, where no adapter is attached: its answer, and what is remembered of fragments.
-use Rattle.std.proofs.Common.{◌≡◌, ℕ, Bool, true, false, not, List, [], ◌∷◌, Option, Some, None, is_some, if◌then◌else◌, refl, sym, ap, ◌∙◌}
+use Rattle.std.proofs.Common.{◌≡◌, ℕ, Bool, true, false, not, List, [], ◌∷◌, Option, Some, None, is_some, if◌then◌else◌, refl, sym, ap, subst, ◌∙◌}
 use Rattle.std.proofs.Math.Bool.{or-false}
 use Rattle.std.proofs.lemmas.Option.{none-some}
 use Rattle.mm_types.specs.declared.numbers.FeatureNo.{FeatureNo}
@@ -9,17 +9,22 @@ use Rattle.mm_types.specs.declared.value.Value.TheVariants as value
 use Rattle.links.specs.Laws.{touches_containment}
 use Rattle.links.specs.LegalSets.{Kinds}
 use Rattle.links.specs.Plans.{IsEditOfKind}
+use Rattle.models.specs.Model.{Model, reading}
 use Rattle.models.specs.Reading.{Reading, at_end, is_repeat, place_for, shape_at}
 use Rattle.notice_chain.specs.Listed.{Above, Listed}
 use Rattle.adapter_list.specs.Hearing.{AreKnown}
 use Rattle.adapter_list.specs.declared.hearers.Hearers.{Hearers}
 use Rattle.handshake.specs.Displaced.{displaces, is_plain_add}
-use Rattle.handshake.specs.LonePuts.{lone_put, put_at, put_edit}
-use Rattle.handshake.specs.Refusals.{late_refusal}
-use Rattle.handshake.specs.declared.change.Change.TheVariants.{Add}
+use Rattle.handshake.specs.LonePuts.{lone_put, of_put, put_at, put_edit}
+use Rattle.handshake.specs.Plans.{IsPlanOf}
+use Rattle.handshake.specs.Refusals.{early_refusal, late_refusal}
+use Rattle.handshake.specs.declared.change.Change.{Change}
+use Rattle.handshake.specs.declared.change.Change.TheVariants.{Add, Set}
 use Rattle.handshake.specs.declared.link_planning.LonePut.{LonePut}
 use Rattle.handshake.proofs.CutTieLemmas.{plain-not}
 use Rattle.repository.specs.Answers.{answer_of}
+use Rattle.repository.specs.Puts.{IsPutAlone}
+use Rattle.repository.specs.State.{State, reads}
 use Rattle.repository.specs.Views.{command_of}
 use Rattle.repository.specs.declared.reply.Answer.TheVariants as answer
 
@@ -38,6 +43,31 @@ new-added r n f _ i p h = absurd (none-some p h)
 
 pub add-answered : (r : Reading) (rs : List Listed) (n : Node) (f : FeatureNo) (v : Value) (i : Option ℕ) (p : LonePut) → lone_put r (Add n f v i) ≡ Some p → answer.Flag true ≡ answer_of r rs (command_of [] (Add n f v i))
 add-answered r rs n f v i p h = ap (λ (b : Bool). answer.Flag (not b)) (sym (new-added r n f v i p h))
+
+-- an addition that is one put, of which nobody hears, by what its parts give
+pub add-alone : (s : State) (m : Model) (n : Node) (f : FeatureNo) (v : Value) (i : Option ℕ) (q : Option LonePut) (p : LonePut) → m ≡ s.model → s.adapters ≡ [] → early_refusal (reading m) (Add n f v i) ≡ None → q ≡ lone_put (reading m) (Add n f v i) → q ≡ Some p
+    → IsPlanOf false m (Add n f v i) (of_put p) → IsPutAlone s (Add n f v i) p (answer.Flag true)
+add-alone s m n f v i q p is none early found some plan =
+    let c : Change = Add n f v i in
+    record {
+      asked = subst (λ (x : Model). early_refusal (reading x) c ≡ None) is early;
+      proper = tt;
+      planned = subst (λ (x : Model). IsPlanOf false x c (of_put p)) is plan;
+      answered = add-answered (reads s) s.adapters n f v i p (subst (λ (x : Model). lone_put (reading x) c ≡ Some p) is (sym found ∙ some));
+      unheard = none;
+    }
+
+-- a set, likewise
+pub set-alone : (s : State) (m : Model) (n : Node) (f : FeatureNo) (v : Value) (p : LonePut) → m ≡ s.model → s.adapters ≡ [] → early_refusal (reading m) (Set n f v) ≡ None → IsPlanOf false m (Set n f v) (of_put p) → IsPutAlone s (Set n f v) p answer.Done
+set-alone s m n f v p is none early plan =
+    let c : Change = Set n f v in
+    record {
+      asked = subst (λ (x : Model). early_refusal (reading x) c ≡ None) is early;
+      proper = tt;
+      planned = subst (λ (x : Model). IsPlanOf false x c (of_put p)) is plan;
+      answered = refl;
+      unheard = none;
+    }
 
 -- a put is of a link that contains where it names a container
 pub put-touches : (m : Kinds) (p : LonePut) → IsEditOfKind m (put_edit p) → touches_containment m (put_edit p ∷ []) ≡ is_some p.container

@@ -25,16 +25,16 @@ returns-in-Err g c =
     let proper : IsProper (reads s) [] c.args.change = subst (λ (t : State). IsProper (reads t) [] c.args.change) (sym c.self.view_is) c.requires.proper in
     rw (← c.self.view_is) (planned_err s [] c.args.change c.in-Err.refused proper early (subst (λ (m : Model). IsPlanRefusal m c.args.change c.in-Err.refused) is c.in-Err.ensures.refused))
 
-pub returns-in-Err-2 : goal.returns-in-Err-2
-returns-in-Err-2 g c =
+pub returns-in-Err-try_apply : goal.returns-in-Err-try_apply
+returns-in-Err-try_apply g c =
     let s : State = state g.L.LinkStore.links c.self.inside in
     let early : early_refusal (reads s) c.args.change ≡ None = subst (λ (t : State). early_refusal (reads t) c.args.change ≡ None) (sym c.self.view_is) c.requires.asked in
     let proper : IsProper (reads s) [] c.args.change = subst (λ (t : State). IsProper (reads t) [] c.args.change) (sym c.self.view_is) c.requires.proper in
-    rw (← c.self.view_is, c.in-Err-2.ensures.err) (out_of_memory s [] c.args.change proper early)
+    rw (← c.self.view_is, c.in-Err-try_apply.ensures.err) (out_of_memory s [] c.args.change proper early)
 
 -- if memory is refused, nothing that is seen has changed
 pub invariant_of-self : goal.invariant_of-self
-invariant_of-self g c = refused g.L.LinkStore.links g.L.LinkStore.kinds c.self.inside c.try_apply.new.self c.in-Err-2.ensures.err c.self.invariant
+invariant_of-self g c = refused g.L.LinkStore.links g.L.LinkStore.kinds c.self.inside c.try_apply.new.self c.in-Err-try_apply.ensures.err c.self.invariant
 
 pub returns : goal.returns
 returns g c =
@@ -45,7 +45,7 @@ returns g c =
     let none : s.adapters ≡ [] = subst (λ (t : State). t.adapters ≡ []) (sym c.self.view_is) c.requires.unheard in
     let vs = c.in-Ok.prepared.1 in
     let plan = subst (λ (m : Model). IsPlanOf false m c.args.change (of_values vs)) is c.in-Ok.ensures.planned in
-    let values = c.in-Ok-2.ensures.ok ∙ plan.values_made in
+    let values = c.in-Ok-try_apply.ensures.ok ∙ plan.values_made in
     let answered = subst (λ (m : Model). c.in-Ok.prepared.0 ≡ answer_of (reading m) s.adapters (command_of [] c.args.change)) is (c.in-Ok.ensures.answer s.adapters [] (subst (λ (m : Model). IsProper (reading m) [] c.args.change) (sym is) proper)) in
     let t : State = record { model = model_of c.self.inside.meta (values_of c.try_apply.new.self) (g.L.LinkStore.links c.self.inside.store); adapters = c.self.inside.adapters.0 } in
     rw (← c.self.view_is)
@@ -60,4 +60,4 @@ invariant_of-self-2 g c =
     let vs = c.in-Ok.prepared.1 in
     let plan = subst (λ (m : Model). IsPlanOf false m c.args.change (of_values vs)) is c.in-Ok.ensures.planned in
     let legal = stepped-legal _ _ (command_of [] c.args.change) _ (subst IsLegal c.self.view_is c.self.invariant.legal) (returns g c) in
-    made g.L.LinkStore.links g.L.LinkStore.kinds c.self.inside c.try_apply.new.self c.args.change vs plan c.in-Ok-2.ensures.ok (proper-steady (reads s) [] c.args.change proper) legal c.self.invariant
+    made g.L.LinkStore.links g.L.LinkStore.kinds c.self.inside c.try_apply.new.self c.args.change vs plan c.in-Ok-try_apply.ensures.ok (proper-steady (reads s) [] c.args.change proper) legal c.self.invariant

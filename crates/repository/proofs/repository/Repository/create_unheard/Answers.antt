@@ -1,10 +1,8 @@
-use Rattle.std.proofs.Common.{◌≡◌, ◌∙◌, [], ◌∷◌, Option, None, refl, sym, ap, subst}
+use Rattle.std.proofs.Common.{◌≡◌, ◌∙◌, [], Option, refl, sym, ap, subst}
 use Rattle.mm_types.specs.Conditions.{◌else_by◌}
 use Rattle.mm_types.specs.declared.refused.Refused.{Refused}
-use Rattle.mm_values.specs.Values.{ValuesState}
 use Rattle.mm_values.specs.Room.{values_of}
 use Rattle.models.specs.Model.{Model, model_of, reading}
-use Rattle.models.specs.Reading.{Reading}
 use Rattle.adapter_list.specs.Attached.{views_of}
 use Rattle.handshake.specs.Refusals.{early_refusal, late_refusal}
 use Rattle.handshake.specs.declared.change.Change.{Change}
@@ -51,12 +49,12 @@ returns g c =
     let first : (m : Model) → Option Refused = λ m. early_refusal (reading m) change else_by late_refusal (reading m) change in
     let free = none-else_by _ _ (ap first (sym is) ∙ sym c.create_refusal.ensures ∙ c.in_default.is) in
     let none : s.adapters ≡ [] = subst (λ (t : State). t.adapters ≡ []) (sym c.self.view_is) c.requires.unheard in
-    let answered = ap answer.Object (c.next_object.ensures ∙ ap (λ (m : Model). record { 0 = (reading m).next }) is) in
-    let plan = values-planned s.model change _ refl c.self.invariant.legal.model free.0 free.1 refl in
+    let answered = ap answer.Object (c.next_object-object.ensures ∙ ap (λ (m : Model). record { 0 = (reading m).next }) is) in
+    let plan = values-planned s.model change c.one.result refl c.self.invariant.legal.model free.0 free.1 c.one.ensures in
     let values = c.in-Ok.ensures.ok ∙ plan.values_made in
     let t : State = record { model = model_of c.self.inside.meta (values_of c.try_apply.new.self) (g.L.LinkStore.links c.self.inside.store); adapters = c.self.inside.adapters.0 } in
     rw (← c.self.view_is)
-    (changed-unheard s t [] change (answer.Object c.next_object.result) c.new.result (views_of g.A.Adapter.heard c.new-2.result) none c.new.ensures (ap (views_of g.A.Adapter.heard) c.new-2.ensures) tt free.0 free.1 answered
+    (changed-unheard s t [] change (answer.Object c.next_object-object.result) c.new.result (views_of g.A.Adapter.heard c.new-2.result) none c.new.ensures (ap (views_of g.A.Adapter.heard) c.new-2.ensures) tt free.0 free.1 answered
     (λ i. model_of c.self.inside.meta (values i) (plan.links_made i)) refl)
 
 pub invariant_of-self-2 : goal.invariant_of-self-2
@@ -66,6 +64,6 @@ invariant_of-self-2 g c =
     let is : c.model-model.result ≡ s.model = c.model-model.ensures ∙ ap (λ (t : State). t.model) (sym c.self.view_is) in
     let first : (m : Model) → Option Refused = λ m. early_refusal (reading m) change else_by late_refusal (reading m) change in
     let free = none-else_by _ _ (ap first (sym is) ∙ sym c.create_refusal.ensures ∙ c.in_default.is) in
-    let plan = values-planned s.model change _ refl c.self.invariant.legal.model free.0 free.1 refl in
+    let plan = values-planned s.model change c.one.result refl c.self.invariant.legal.model free.0 free.1 c.one.ensures in
     let legal = stepped-legal _ _ (command_of [] change) _ (subst IsLegal c.self.view_is c.self.invariant.legal) (returns g c) in
-    made g.L.LinkStore.links g.L.LinkStore.kinds c.self.inside c.try_apply.new.self change _ plan c.in-Ok.ensures.ok (proper-steady (reads s) [] change tt) legal c.self.invariant
+    made g.L.LinkStore.links g.L.LinkStore.kinds c.self.inside c.try_apply.new.self change c.one.result plan c.in-Ok.ensures.ok (proper-steady (reads s) [] change tt) legal c.self.invariant

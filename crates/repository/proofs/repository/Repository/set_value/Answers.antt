@@ -34,17 +34,17 @@ returns-in-Err g c =
     let late = subst (λ (m : Model). IsPlanRefusal m change c.in-Err.refused) is (plan_refusal c.model-model.result change c.in-Err.refused (λ _. c.in-Err.ensures.refused)) in
     rw (← c.self.view_is) (planned_err s [] change c.in-Err.refused tt early late)
 
-pub returns-in-Err-2 : goal.returns-in-Err-2
-returns-in-Err-2 g c =
+pub returns-in-Err-try_apply : goal.returns-in-Err-try_apply
+returns-in-Err-try_apply g c =
     let s : State = state g.L.LinkStore.links c.self.inside in
     let change : Change = Set c.args.node c.args.feature c.args.value in
     let is : c.model-model.result ≡ s.model = c.model-model.ensures ∙ ap (λ (t : State). t.model) (sym c.self.view_is) in
     let early : early_refusal (reads s) change ≡ None = ap (λ (m : Model). early_refusal (reading m) change) (sym is) ∙ sym c.set_early_refusal.ensures ∙ c.in_default.is in
-    rw (← c.self.view_is, c.in-Err-2.ensures.err) (out_of_memory s [] change tt early)
+    rw (← c.self.view_is, c.in-Err-try_apply.ensures.err) (out_of_memory s [] change tt early)
 
 -- if memory is refused, nothing that is seen has changed
 pub invariant_of-self : goal.invariant_of-self
-invariant_of-self g c = refused g.L.LinkStore.links g.L.LinkStore.kinds c.self.inside c.try_apply.new.self c.in-Err-2.ensures.err c.self.invariant
+invariant_of-self g c = refused g.L.LinkStore.links g.L.LinkStore.kinds c.self.inside c.try_apply.new.self c.in-Err-try_apply.ensures.err c.self.invariant
 
 pub returns : goal.returns
 returns g c =
@@ -58,7 +58,7 @@ returns g c =
     let vs = c.in-Ok.values in
     let lists : vs ≡ value_edits (reads s) change = subst (λ (m : Model). vs ≡ value_edits (reading m) change) is c.in-Ok.ensures.values in
     let plan = values-planned s.model change vs alone c.self.invariant.legal.model early late lists in
-    let values = c.in-Ok-2.ensures.ok ∙ plan.values_made in
+    let values = c.in-Ok-try_apply.ensures.ok ∙ plan.values_made in
     let t : State = record { model = model_of c.self.inside.meta (values_of c.try_apply.new.self) (g.L.LinkStore.links c.self.inside.store); adapters = c.self.inside.adapters.0 } in
     rw (← c.self.view_is)
     (changed-unheard s t [] change answer.Done c.new.result (views_of g.A.Adapter.heard c.new-2.result) none c.new.ensures (ap (views_of g.A.Adapter.heard) c.new-2.ensures) tt early late refl
@@ -76,4 +76,4 @@ invariant_of-self-2 g c =
     let lists : vs ≡ value_edits (reads s) change = subst (λ (m : Model). vs ≡ value_edits (reading m) change) is c.in-Ok.ensures.values in
     let plan = values-planned s.model change vs alone c.self.invariant.legal.model early late lists in
     let legal = stepped-legal _ _ (command_of [] change) _ (subst IsLegal c.self.view_is c.self.invariant.legal) (returns g c) in
-    made g.L.LinkStore.links g.L.LinkStore.kinds c.self.inside c.try_apply.new.self change vs plan c.in-Ok-2.ensures.ok (proper-steady (reads s) [] change tt) legal c.self.invariant
+    made g.L.LinkStore.links g.L.LinkStore.kinds c.self.inside c.try_apply.new.self change vs plan c.in-Ok-try_apply.ensures.ok (proper-steady (reads s) [] change tt) legal c.self.invariant
