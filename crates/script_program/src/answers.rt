@@ -1,9 +1,9 @@
 //! What is printed for a command.
-ghost use Rattle.std.specs.Prelude.{◌≡◌, ◌++◌, OnOk, map, option_map, unwrap_or};
+ghost use Rattle.std.specs.Prelude.{◌≡◌, ◌++◌, Ok, OnOk, map, option_map, unwrap_or};
 ghost use Rattle.mm_types.specs.declared.value.Value.TheVariants.{Null};
 ghost use Rattle.models.specs.Found.{found_value};
 ghost use Rattle.notice_chain.specs.View.{View};
-ghost use Rattle.repository.specs.Views.{command_view, outcome_view};
+ghost use Rattle.repository.specs.Views.{command_view, outcome_view, reply_view};
 ghost use Rattle.script_program.specs.Answers as a;
 
 use crate::bind::NOTHING;
@@ -179,6 +179,24 @@ fn print_notified<A: Adapter>(
     print_released(output, released)
 }
 
+/// Adds the lines that a command prints that is done; the feature is the one that it names.
+pub(crate) fn print_reply<A: Adapter>(
+    output: &mut Output,
+    meta: &Meta,
+    feature: FeatureNo,
+    reply: &Reply<A>,
+) -> Result<(), AllocError>
+    ensures ok { OnOk result (output.new ≡ output.old ++ a.outcome_text meta.now feature (Ok (reply_view A.heard reply.now))) }
+{
+    print_answer_line(output, meta, feature, &reply.answer)?;
+    print_notified(
+        output,
+        meta,
+        reply.told.as_slice(),
+        reply.released.as_slice(),
+    )
+}
+
 /// Adds the lines that a command prints; the feature is the one that it names.
 pub(crate) fn print_outcome<A: Adapter>(
     output: &mut Output,
@@ -189,15 +207,7 @@ pub(crate) fn print_outcome<A: Adapter>(
     ensures ok { OnOk result (output.new ≡ output.old ++ a.outcome_text meta.now feature (outcome_view A.heard outcome.now)) }
 {
     match outcome {
-        Ok(reply) => {
-            print_answer_line(output, meta, feature, &reply.answer)?;
-            print_notified(
-                output,
-                meta,
-                reply.told.as_slice(),
-                reply.released.as_slice(),
-            )
-        }
+        Ok(reply) => print_reply(output, meta, feature, reply),
         Err(failure) => print_refusal(output, failure.refused),
     }
 }

@@ -107,13 +107,13 @@ fn attach_request<A: Adapter>(
     }
 }
 
-pub(crate) fn create_command<A>(meta: &Meta, class: Name<'_>) -> Command<A>
+fn create_command<A>(meta: &Meta, class: Name<'_>) -> Command<A>
     ensures { result ≡ b.create_command meta.now class.entry }
 {
     Command::Create(class_number(meta, class.as_str()))
 }
 
-pub(crate) fn set_command<L: LinkStore, A: Adapter>(
+fn set_command<L: LinkStore, A: Adapter>(
     repository: &Repository<L, A>,
     node: Node,
     name: Name<'_>,
@@ -141,7 +141,7 @@ fn unset_command<L: LinkStore, A: Adapter>(
     Command::Unset { node, feature }
 }
 
-pub(crate) fn add_command<L: LinkStore, A: Adapter>(
+fn add_command<L: LinkStore, A: Adapter>(
     repository: &Repository<L, A>,
     node: Node,
     name: Name<'_>,
@@ -249,7 +249,7 @@ fn isset_command<L: LinkStore, A: Adapter>(
     Command::IsSet { node, feature }
 }
 
-fn class_number(meta: &Meta, name: &str) -> ClassNo
+pub(crate) fn class_number(meta: &Meta, name: &str) -> ClassNo
     ensures { result ≡ b.class_number meta.now name.now }
 {
     meta.class_by_name(name).unwrap_or(ClassNo(NOTHING))
@@ -289,7 +289,7 @@ fn literal_number(meta: &Meta, feature: FeatureNo, name: &str) -> u32
     meta.literal_by_name(e, name).unwrap_or(NOTHING)
 }
 
-fn value_in(meta: &Meta, feature: FeatureNo, written: WrittenValue<'_>) -> Value
+pub(crate) fn value_in(meta: &Meta, feature: FeatureNo, written: WrittenValue<'_>) -> Value
     ensures { result ≡ b.value_in meta.now feature written.entry }
 {
     match written {

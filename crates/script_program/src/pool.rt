@@ -96,7 +96,8 @@ impl<A: Adapter> Pool<A> {
         }
     }
 
-    fn put_all(&mut self, released: Vec<(AdapterNo, A)>)
+    /// Puts boxes that were released back in their places.
+    pub(crate) fn put_all(&mut self, released: Vec<(AdapterNo, A)>)
         ensures { self.new ≡ fold p.with_box self.old (map (λ b. (b.0, A.heard b.1)) released.items) }
     {
         'released: for (no, adapter) in released {
