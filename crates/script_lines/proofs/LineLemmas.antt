@@ -1,10 +1,11 @@
 -- The first line of some bytes, and the lines of all of them.
-use Rattle.std.proofs.Common.{◌++◌, ◌⊎◌, inl, inr, ◌==◌, ◌≡◌, ◌+◌, ◌<◌, ℕ, suc, Bool, true, false, List, [], ◌∷◌, ap, ap₂, arith, cond, drop, length, not, refl, sym, take}
+use Rattle.std.proofs.Common.{◌++◌, ◌⊎◌, inl, inr, ◌∙◌, ◌==◌, ◌≡◌, ◌+◌, ◌-◌, ◌<◌, ℕ, suc, Bool, true, false, List, [], ◌∷◌, ap, ap₂, arith, cond, drop, length, not, refl, sym, take}
 use Rattle.std.specs.List.{after_first, before_first, list_all, position_or_len}
 use Rattle.std.proofs.lemmas.Bool.Decides.{nat_tests}
+use Rattle.std.proofs.lemmas.List.{length-drop}
 use Rattle.std.proofs.lemmas.List.Sums.{position_or_len_is}
 use Rattle.memchr.specs.Find.{NoneBefore, Nowhere, Passes, is_byte}
-use Rattle.script_lines.specs.Lines.{has_no_newline, is_newline, lines, with_byte, with_newlines}
+use Rattle.script_lines.specs.Lines.{IsCut, has_no_newline, is_newline, lines, with_byte, with_newlines}
 
 eq_false : (b : Bool) → (b ≡ true → ⊥) → b ≡ false
 eq_false true h = absurd (h refl)
@@ -32,6 +33,17 @@ pub first_line : (bs : List ℕ) → 0 < length bs → lines bs ≡ before_first
 first_line [] some = absurd (omega arith)
 first_line (c ∷ []) some = first_only (is_newline c) c
 first_line (c ∷ d ∷ ds) some = first_at (is_newline c) c (d ∷ ds) (position_or_len is_newline (d ∷ ds)) (first_line (d ∷ ds) (omega arith))
+
+-- some bytes are cut behind their first line
+pub cut_first : (bytes line rest : List ℕ) → 0 < length bytes → line ≡ before_first is_newline bytes → rest ≡ after_first is_newline bytes → IsCut bytes line rest
+cut_first bytes line rest some line_is rest_is =
+    let len : length rest ≡ length bytes - (position_or_len is_newline bytes + 1) = ap length rest_is ∙ length-drop _ bytes in
+    record {
+      line_is = line_is;
+      rest_is = rest_is;
+      shorter = omega (arith, len, some);
+      lines_are = first_line bytes some ∙ sym (ap₂ (λ l ls. l ∷ lines ls) line_is rest_is);
+    }
 
 -- ---- a script is its lines
 

@@ -3,3 +3,4 @@ pub mod Words
 pub mod Values
 pub mod Forms
 pub mod Frequent
+pub mod Source

@@ -52,7 +52,7 @@ pub fn text_line_of(alloc: Global, text: &str) -> Result<Line<'_>, AllocError>
 }
 
 /// The text of a line; `None` for a line that is not UTF-8, which is bad.
-pub fn text_of_line(line: &[u8]) -> Option<&str>
+pub(crate) fn text_of_line(line: &[u8]) -> Option<&str>
     ensures { MatchOption result (form line.now ≡ asked.Bad) (λ text. form line.now ≡ text_line text.now) }
 {
     match str::from_utf8(line) {

@@ -1,5 +1,5 @@
 //! The lines of a script.
-ghost use Rattle.std.specs.Prelude.{◌≡◌, ◌≤◌, ◌+◌, drop, length};
+ghost use Rattle.std.specs.Prelude.{◌≡◌, ◌<◌, ◌≤◌, ◌+◌, drop, length, slice_index};
 ghost use Rattle.std.specs.List.{position_or_len};
 ghost use Rattle.script_lines.specs.Lines.{CutsLine, is_newline};
 
@@ -7,9 +7,10 @@ use crate::grammar::NEWLINE;
 use memchr::memchr;
 
 /// How many bytes come before the first newline.
-fn line_len_of(bytes: &[u8]) -> usize
+pub(crate) fn line_len_of(bytes: &[u8]) -> usize
     ensures value { result ≡ position_or_len is_newline bytes.now }
     ensures within { result ≤ length bytes.now }
+    ensures end { result < length bytes.now → slice_index bytes.now result ≡ NEWLINE }
 {
     match memchr(NEWLINE, bytes) {
         Some(n) => n,

@@ -12,6 +12,7 @@ use adapters::Adapter;
 use links::LinkStore;
 use mm_meta::Meta;
 use repository::Repository;
+use script_lines::Source;
 use script_output::Output;
 use std::alloc::{AllocError, Global};
 
@@ -54,7 +55,7 @@ impl<L: LinkStore, A: Adapter> Interpreter<L, A> {
             &mut self.repository,
             &mut self.pool,
             &mut self.output,
-            line,
+            Source::Bytes(line),
         )
     }
 

@@ -11,6 +11,7 @@ ghost use Rattle.repository.specs.declared.command.Command.{Command};
 ghost use Rattle.repository.specs.declared.command.Command.TheVariants.{Get};
 ghost use Rattle.script_lines.specs.Forms as forms;
 ghost use Rattle.script_lines.specs.Frequent.{frequent_line};
+ghost use Rattle.script_lines.specs.Source.{bytes_of};
 ghost use Rattle.script_lines.specs.declared.frequent.Frequent.TheVariants as frequent;
 ghost use Rattle.script_program.specs.Answers.{feature_of as feature_named};
 ghost use Rattle.script_program.specs.Bind.{IsGiven, add_command, create_command, pool_of, request_view, set_command};
@@ -29,7 +30,7 @@ use links::LinkStore;
 use mm_types::{AdapterNo, FeatureNo, Node, ObjectNo, Refused};
 use repository::{Command, Failure, Reply, Repository};
 use script_lines::{
-    Frequent, Line, Name, WrittenValue, frequent_of, text_line_of, text_of_line, value_of,
+    Frequent, Line, Name, Source, WrittenValue, frequent_of, text_line_of, value_of,
 };
 use script_output::Output;
 use std::alloc::{AllocError, Global};
@@ -331,12 +332,12 @@ pub(crate) fn run_line<L: LinkStore, A: Adapter>(
     repository: &mut Repository<L, A>,
     pool: &mut Pool<A>,
     output: &mut Output,
-    line: &[u8],
+    line: Source<'_>,
 ) -> Result<Turn, AllocError>
     requires { output.old ≡ [] }
-    ensures { IfOk result (λ t. RunsLine (session repository.old pool.old) (forms.form line.now) (printed output.new t) (session repository.new pool.new)) }
+    ensures { IfOk result (λ t. RunsLine (session repository.old pool.old) (forms.form (bytes_of line.entry)) (printed output.new t) (session repository.new pool.new)) }
 {
-    let Some(text) = text_of_line(line) else {
+    let Some(text) = line.text_of_line() else {
         return print_bad(output);
     };
     match frequent_of(text) {

@@ -15,6 +15,7 @@ use adapters::Adapter;
 use links::LinkStore;
 use mm_meta::Meta;
 use repository::Repository;
+use script_lines::Source;
 use script_output::Output;
 use script_streams::{LineEnd, RunFault, read_line, write_all};
 use std::alloc::Global;
@@ -49,7 +50,7 @@ fn answer_live<W: Write, L: LinkStore, A: Adapter>(
         output,
         Dress::plain(),
         0,
-        line,
+        Source::Bytes(line),
     )?;
     write_all(writer, BEHIND)?;
     Ok(turn)

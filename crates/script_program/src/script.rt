@@ -1,6 +1,7 @@
 //! A script is run.
 ghost use Rattle.std.specs.Prelude.{◌≡◌, ◌≤◌, ◌<◌, ◌⊎◌, IfErr, IfOk, IfSome, IsErrOf, OnErr, OnOk, length};
 ghost use Rattle.std.specs.Io.KnownBytes.{IsAtEnd, Keeps};
+ghost use Rattle.script_lines.specs.Source.{bytes_of};
 ghost use Rattle.script_streams.specs.Faults.{IsReadOrTooLong, IsWriteOrMemory};
 ghost use Rattle.script_program.specs.Batch.{AnswersFront, AnswersLine, PrintsDressed, PrintsDressedFront, PrintsInputDressed, PrintsInputDressedFront};
 ghost use Rattle.script_program.specs.Script.{PrintsInput, PrintsInputFront};
@@ -17,7 +18,7 @@ use links::LinkStore;
 use mm_meta::Meta;
 use mm_types::limits::INPUT_BYTES;
 use repository::Repository;
-use script_lines::next_line;
+use script_lines::Source;
 use script_output::Output;
 use script_streams::{RunFault, read_all};
 use std::alloc::Global;
@@ -34,18 +35,19 @@ pub(crate) fn answer_line<W: Write, L: LinkStore, A: Adapter>(
     output: &mut Output,
     dress: Dress,
     number: u64,
-    line: &[u8],
+    source: Source<'_>,
 ) -> Result<Turn, RunFault>
-    ensures ok { IfOk result (λ t. AnswersLine dress number line.now (session repository.old pool.old) (W.contents writer.old) (W.contents writer.new) t
+    ensures ok { IfOk result (λ t. AnswersLine dress number (bytes_of source.entry) (session repository.old pool.old) (W.contents writer.old) (W.contents writer.new) t
         (session repository.new pool.new)) }
     ensures err { OnErr result ((W.contents writer.new ≡ W.contents writer.old)
-        ⊎ AnswersFront dress number line.now (session repository.old pool.old) (W.contents writer.old) (W.contents writer.new)) }
+        ⊎ AnswersFront dress number (bytes_of source.entry) (session repository.old pool.old) (W.contents writer.old) (W.contents writer.new)) }
     ensures kind { IfErr result (λ e. IsWriteOrMemory e) }
 {
     output.clear();
-    let Ok(turn) = run_line(alloc, repository, pool, output, line) else {
+    let Ok(turn) = run_line(alloc, repository, pool, output, source) else {
         return Err(RunFault::Memory);
     };
+    let line = source.as_bytes();
     write_dressed(writer, dress, number, line, turn, output.as_bytes())?;
     Ok(turn)
 }
@@ -67,8 +69,8 @@ fn run_lines<W: Write, L: LinkStore, A: Adapter>(
     let mut output = Output::new(alloc);
     let mut summary = Summary::new();
     let mut number = 0;
-    let mut rest = input;
-    'lines: while let Some((line, more)) = next_line(rest) {
+    let mut rest = Source::new(input);
+    'lines: while let Some((line, more)) = rest.next_line() {
         number += 1;
         let turn = answer_line(
             alloc,

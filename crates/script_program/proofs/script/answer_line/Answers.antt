@@ -10,5 +10,5 @@ returns-in_err-write_dressed-clause-err g c =
       printed = printed c.run_line.new.output c.in-Ok.turn;
       after = record { state = c.run_line.new.repository; pool = c.run_line.new.pool };
       ran = c.in-Ok.ensures;
-      written = rw c.as_bytes.ensures at c.in_err-write_dressed.ensures.err;
+      written = rw (c.as_bytes-line.ensures, c.as_bytes.ensures) at c.in_err-write_dressed.ensures.err;
     }))
