@@ -12,7 +12,9 @@ mod told;
 use json::Writer;
 use mm_meta::Meta;
 use mm_types::{AdapterNo, ClassNo, DocFault, Node, Refused, Value};
-use script_lines::grammar::{ADAPTER_MARK, LITERAL_MARK, OBJECT_MARK, RESOURCE_MARK, SPACE};
+use script_lines::grammar::{
+    ADAPTER_MARK, LITERAL_MARK, NEWLINE, OBJECT_MARK, RESOURCE_MARK, SPACE,
+};
 use std::alloc::{AllocError, Global};
 use std::marker::Model;
 use std::mem;
@@ -69,6 +71,13 @@ impl Output {
     {
         self.bytes.push(byte)?;
         Ok(())
+    }
+
+    /// Adds the newline that ends a line.
+    pub fn line_end(&mut self) -> Result<(), AllocError>
+        ensures ok { OnOk result (self.new ≡ self.old ++ NEWLINE ∷ []) }
+    {
+        self.byte(NEWLINE)
     }
 
     /// Adds a number in decimal.

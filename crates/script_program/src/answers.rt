@@ -100,7 +100,7 @@ pub(crate) fn print_found(
         Some(Found::Object(object)) => print_value(output, meta, feature, &Value::Object(object)),
         Some(Found::Proxy(text)) => {
             output.proxy(text)?;
-            output.text("\n")
+            output.line_end()
         }
         None => print_value(output, meta, feature, &Value::Null),
     }
@@ -115,7 +115,7 @@ fn print_value(
     ensures ok { OnOk result (output.new ≡ output.old ++ a.read_text meta.now feature value.now) }
 {
     output.value(value, literal_name(meta, feature, value))?;
-    output.text("\n")
+    output.line_end()
 }
 
 /// Adds the line of an answer to a command that names the feature.
@@ -128,7 +128,7 @@ fn print_answer_line(
     ensures ok { OnOk result (output.new ≡ output.old ++ a.answer_line meta.now feature answer.now) }
 {
     print_answer(output, meta, feature, answer)?;
-    output.text("\n")
+    output.line_end()
 }
 
 /// Adds the line that a refusal prints.
@@ -136,7 +136,7 @@ pub(crate) fn print_refusal(output: &mut Output, refused: Refused) -> Result<(),
     ensures ok { OnOk result (output.new ≡ output.old ++ a.refusal_line refused) }
 {
     output.refused(refused)?;
-    output.text("\n")
+    output.line_end()
 }
 
 /// Adds a line for each notice that an adapter was told.

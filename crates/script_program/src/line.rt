@@ -102,7 +102,7 @@ fn run_seen<L: LinkStore, A: Adapter>(
     match (repository.adapter_told(no), repository.adapter_kept(no)) {
         (Ok(told), Ok(kept)) => {
             output.seen(told, kept)?;
-            output.text("\n")?;
+            output.line_end()?;
             Ok(Turn::Done)
         }
         (Err(refused), _) | (_, Err(refused)) => {
