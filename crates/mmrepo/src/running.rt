@@ -26,9 +26,12 @@ const LEFT: u64 = 2;
 /// The status after a script of which a line was refused or bad, if that gives a status of its own.
 const FAULTY: u8 = 4;
 
-/// Standard output through a buffer.
-fn writer_of(rt: &HostRuntime) -> Result<BufWriter<Printer<'_, HostRuntime>>, Stop> {
-    match BufWriter::new(rt.alloc(), io::writer(rt)) {
+/// Standard output through a buffer. It is watched below the buffer, so that a write into the buffer costs no more than the copy.
+fn writer_of<'w, 'm>(
+    rt: &'w HostRuntime,
+    watch: Option<&'w RefCell<Watch<'m>>>,
+) -> Result<BufWriter<Watched<'w, 'm, Printer<'w, HostRuntime>>>, Stop> {
+    match BufWriter::new(rt.alloc(), Watched::new(rt, io::writer(rt), watch)) {
         Ok(writer) => Ok(writer),
         Err(_) => Err(Stop::Run(RunFault::Memory)),
     }
@@ -57,7 +60,7 @@ fn run_reader<R: Read + Drop, A: Adapter>(
     watch: Option<&RefCell<Watch<'_>>>,
 ) -> Result<Summary, Stop> {
     let mut reader = Watched::new(rt, reader, watch);
-    let mut writer = Watched::new(rt, writer_of(rt)?, watch);
+    let mut writer = writer_of(rt, watch)?;
     let meta = Box::into_inner(meta);
     let outcome = run_dressed::<_, _, SlotStore, _>(
         rt.alloc(),
@@ -81,7 +84,7 @@ fn run_dialogue<A: Adapter>(
     let Ok(mut reader) = BufReader::new(rt.alloc(), stream) else {
         return Err(Stop::Run(RunFault::Memory));
     };
-    let mut writer = Watched::new(rt, writer_of(rt)?, watch);
+    let mut writer = writer_of(rt, watch)?;
     let meta = Box::into_inner(meta);
     let outcome = run_live::<_, _, SlotStore, _>(rt.alloc(), &mut reader, &mut writer, meta, boxes);
     Ok(ended(&mut writer, outcome)?)
