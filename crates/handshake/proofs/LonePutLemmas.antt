@@ -12,6 +12,7 @@ use Rattle.mm_types.specs.Same.{node_value}
 use Rattle.mm_types.specs.declared.value.Value.{Value}
 use Rattle.mm_types.specs.declared.value.Value.TheVariants as value
 use Rattle.links.specs.Holders.{contained}
+use Rattle.links.specs.Plans.{put_edit}
 use Rattle.models.specs.Legal.{IsLegal}
 use Rattle.models.specs.Model.{Model, reading}
 use Rattle.models.specs.Reading.{Reading, at_end, is_repeat, place_for, shape_at}
@@ -19,11 +20,11 @@ use Rattle.removal.specs.TreeTies.{tie}
 use Rattle.removal.specs.declared.tie.Tie.{Tie}
 use Rattle.handshake.specs.declared.change.Change.{Change}
 use Rattle.handshake.specs.declared.change.Change.TheVariants.{Set, Add}
-use Rattle.handshake.specs.declared.link_planning.LonePut.{LonePut}
+use Rattle.links.specs.declared.link.NewLink.{NewLink}
 use Rattle.handshake.specs.Displaced.{cut_by_new, cut_by_set, displaces, has_already, holding_tie, is_plain_add, is_plain_set, is_taken, once, ties_if_single, yields}
 use Rattle.handshake.specs.Edits.{cut_of, link_edits, new_put}
 use Rattle.handshake.specs.Effects.{add_value, put_values, value_edits}
-use Rattle.handshake.specs.LonePuts.{lone_put, of_put, put_at, put_edit}
+use Rattle.handshake.specs.LonePuts.{lone_put, of_put, put_at}
 use Rattle.handshake.specs.Plans.{IsPlanOf}
 use Rattle.handshake.specs.Refusals.{early_refusal, late_refusal}
 use Rattle.handshake.specs.Resolving.{opposite_end}
@@ -74,13 +75,13 @@ yields-none r e o h =
 ---------------------------------------------------------------- the plan
 
 -- what is known where all that is asked is so
-record Chosen (a b c : Bool) (x p : LonePut) : Type 0 where
+record Chosen (a b c : Bool) (x p : NewLink) : Type 0 where
   displaced : a ≡ false
   plain : b ≡ false
   refused : c ≡ false
   is : x ≡ p
 
-chosen : (a b c : Bool) (x p : LonePut) → (if a then None else if b then None else if c then None else Some x) ≡ Some p → Chosen a b c x p
+chosen : (a b c : Bool) (x p : NewLink) → (if a then None else if b then None else if c then None else Some x) ≡ Some p → Chosen a b c x p
 chosen true b c x p h = absurd (none-some p h)
 chosen false true c x p h = absurd (none-some p h)
 chosen false false true x p h = absurd (none-some p h)
@@ -90,7 +91,7 @@ nothing : {X : Type 0} (q : Option X) → is_some q ≡ false → q ≡ None
 nothing None h = refl
 nothing (Some x) h = absurd (true≢false h)
 
-set-planned : (s : Model) (n : Node) (f : FeatureNo) (v : Value) (p : LonePut) → IsLegal s → early_refusal (reading s) (Set n f v) ≡ None → lone_put (reading s) (Set n f v) ≡ Some p → IsPlanOf false s (Set n f v) (of_put p)
+set-planned : (s : Model) (n : Node) (f : FeatureNo) (v : Value) (p : NewLink) → IsLegal s → early_refusal (reading s) (Set n f v) ≡ None → lone_put (reading s) (Set n f v) ≡ Some p → IsPlanOf false s (Set n f v) (of_put p)
 set-planned s n f (value.Object o) p legal early h =
     let r = reading s in
     let e = at_end n f in
@@ -102,12 +103,12 @@ set-planned s n f (value.Object o) p legal early h =
     let edits : put_edit p ∷ [] ≡ link_edits r c =
     sym (ap (λ (b : Bool). map cut_of (if b then [] else cut_by_set r e v) ++ option_to_list (if b then None else new_put r e 0 v)) k.plain
     ∙ ap (λ (ts : List Tie). map cut_of ts ++ put_edit (put_at r e 0 o) ∷ []) (yields-none r e o k.displaced)
-    ∙ ap (λ (q : LonePut). put_edit q ∷ []) k.is) in
+    ∙ ap (λ (q : NewLink). put_edit q ∷ []) k.is) in
     let lists : [] ≡ value_edits r c = sym (ap (λ (b : Bool). if b then [] else put_values e (v ∷ []) (shape_at r e).is_unsettable) reference) in
     planned false s c (of_put p) refl legal early late tt (record { whose = refl; found = tt }) refl refl edits lists refl
 set-planned s n f _ p legal early h = absurd (none-some p h)
 
-add-planned : (s : Model) (n : Node) (f : FeatureNo) (v : Value) (i : Option ℕ) (p : LonePut) → IsLegal s → early_refusal (reading s) (Add n f v i) ≡ None → lone_put (reading s) (Add n f v i) ≡ Some p → IsPlanOf false s (Add n f v i) (of_put p)
+add-planned : (s : Model) (n : Node) (f : FeatureNo) (v : Value) (i : Option ℕ) (p : NewLink) → IsLegal s → early_refusal (reading s) (Add n f v i) ≡ None → lone_put (reading s) (Add n f v i) ≡ Some p → IsPlanOf false s (Add n f v i) (of_put p)
 add-planned s n f (value.Object o) i p legal early h =
     let r = reading s in
     let e = at_end n f in
@@ -120,17 +121,17 @@ add-planned s n f (value.Object o) i p legal early h =
     let edits : put_edit p ∷ [] ≡ link_edits r c =
     sym (ap (λ (b : Bool). map cut_of (if b then [] else cut_by_new r e v) ++ option_to_list (if b then None else new_put r e at v)) k.plain
     ∙ ap (λ (ts : List Tie). map cut_of ts ++ put_edit (put_at r e at o) ∷ []) (yields-none r e o k.displaced)
-    ∙ ap (λ (q : LonePut). put_edit q ∷ []) k.is) in
+    ∙ ap (λ (q : NewLink). put_edit q ∷ []) k.is) in
     let lists : [] ≡ value_edits r c = sym (ap (λ (b : Bool). if b then [] else add_value r e v i) reference) in
     planned false s c (of_put p) refl legal early late tt (record { whose = refl; found = tt }) refl refl edits lists refl
 add-planned s n f _ i p legal early h = absurd (none-some p h)
 
-lone-planned : (s : Model) (c : Change) (p : LonePut) → IsLegal s → early_refusal (reading s) c ≡ None → lone_put (reading s) c ≡ Some p → IsPlanOf false s c (of_put p)
+lone-planned : (s : Model) (c : Change) (p : NewLink) → IsLegal s → early_refusal (reading s) c ≡ None → lone_put (reading s) c ≡ Some p → IsPlanOf false s c (of_put p)
 lone-planned s (Set n f v) p legal early h = set-planned s n f v p legal early h
 lone-planned s (Add n f v i) p legal early h = add-planned s n f v i p legal early h
 lone-planned s _ p legal early h = absurd (none-some p h)
 
 -- a put that is found is the whole plan
-pub found-planned : (s : Model) (c : Change) (q : Option LonePut) → IsLegal s → early_refusal (reading s) c ≡ None → q ≡ lone_put (reading s) c → IfSome q (λ p. IsPlanOf false s c (of_put p))
+pub found-planned : (s : Model) (c : Change) (q : Option NewLink) → IsLegal s → early_refusal (reading s) c ≡ None → q ≡ lone_put (reading s) c → IfSome q (λ p. IsPlanOf false s c (of_put p))
 found-planned s c None legal early is = tt
 found-planned s c (Some p) legal early is = lone-planned s c p legal early (sym is)

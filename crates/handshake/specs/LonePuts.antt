@@ -4,21 +4,20 @@ use Rattle.mm_types.specs.declared.end.End.{End}
 use Rattle.mm_types.specs.declared.numbers.ObjectNo.{ObjectNo}
 use Rattle.mm_types.specs.declared.value.Value.{Value}
 use Rattle.mm_types.specs.declared.value.Value.TheVariants as value
-use Rattle.links.specs.declared.plan.Edit.{Edit}
-use Rattle.links.specs.declared.plan.Edit.TheVariants.{Put}
+use Rattle.links.specs.Plans.{put_edit}
+use Rattle.links.specs.declared.link.NewLink.{NewLink}
 use Rattle.models.specs.Reading.{Reading, at_end, place_for, shape_at}
 use Rattle.handshake.specs.declared.change.Change.{Change}
 use Rattle.handshake.specs.declared.change.Change.TheVariants.{Set, Add}
-use Rattle.handshake.specs.declared.link_planning.LonePut.{LonePut}
 use Rattle.handshake.specs.declared.planned.Planned.{Planned}
 use Rattle.handshake.specs.Displaced.{displaces, is_plain_add, is_plain_set}
 use Rattle.handshake.specs.Refusals.{late_refusal}
 
 -- the put of an object at a place of an end
-abbrev pub put_at : Reading → End → ℕ → ObjectNo → LonePut
+abbrev pub put_at : Reading → End → ℕ → ObjectNo → NewLink
 put_at r e i o = record { end = e; index = i; object = o; opposite = (shape_at r e).opposite; container = (shape_at r e).containing }
 
-abbrev pub lone_set : Reading → Change → End → Value → Option LonePut
+abbrev pub lone_set : Reading → Change → End → Value → Option NewLink
 lone_set r c e (value.Object o) =
     if displaces r e o then None else
     if is_plain_set r e (value.Object o) then None else
@@ -26,7 +25,7 @@ lone_set r c e (value.Object o) =
     Some (put_at r e 0 o)
 lone_set r c e v = None
 
-abbrev pub lone_add : Reading → Change → End → Value → Option ℕ → Option LonePut
+abbrev pub lone_add : Reading → Change → End → Value → Option ℕ → Option NewLink
 lone_add r c e (value.Object o) i =
     if displaces r e o then None else
     if is_plain_add r e (value.Object o) then None else
@@ -35,14 +34,11 @@ lone_add r c e (value.Object o) i =
 lone_add r c e v i = None
 
 -- the put of a set or an addition of an object that nothing refuses, and that displaces nothing
-abbrev pub lone_put : Reading → Change → Option LonePut
+abbrev pub lone_put : Reading → Change → Option NewLink
 lone_put r (Set n f v) = lone_set r (Set n f v) (at_end n f) v
 lone_put r (Add n f v i) = lone_add r (Add n f v i) (at_end n f) v i
 lone_put r _ = None
 
-abbrev pub put_edit : LonePut → Edit
-put_edit p = Put p.end p.index p.object p.opposite p.container
-
 -- the plan that puts one link, of which nobody hears
-abbrev pub of_put : LonePut → Planned
+abbrev pub of_put : NewLink → Planned
 of_put p = record { removal = None; target = None; resolved = None; edits = put_edit p ∷ []; values = []; chain = [] }

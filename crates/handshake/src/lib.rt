@@ -31,7 +31,7 @@ mod value_planning;
 
 pub use change::Change;
 pub use happening::{Happening, Telling};
-pub use link_planning::{LonePut, lone_add, lone_set};
+pub use link_planning::{lone_add, lone_set};
 pub use named::{
     early_refusal, feature_refusal, list_early_refusal, node_refusal, set_early_refusal,
 };

@@ -8,19 +8,9 @@ ghost use Rattle.handshake.specs.declared.change.Change.TheVariants.{Add, Set};
 
 use crate::displaced::{displaces, is_plain_add, is_plain_set};
 use crate::planning::{add_late_refusal, set_late_refusal};
-use links::LinkStore;
+use links::{LinkStore, NewLink};
 use mm_types::{End, FeatureNo, Node, ObjectNo, Value};
 use models::{ModelRef, at_end};
-
-/// The put of a link, as `Edit::Put` has it.
-#[derive(Clone, Copy)]
-pub struct LonePut {
-    pub end: End,
-    pub index: u32,
-    pub object: ObjectNo,
-    pub opposite: Option<FeatureNo>,
-    pub container: Option<FeatureNo>,
-}
 
 /// The put of a set of an object, if that is the whole plan: nothing refuses the set, and it displaces no link. Takes no memory.
 pub fn lone_set<L: LinkStore>(
@@ -28,7 +18,7 @@ pub fn lone_set<L: LinkStore>(
     node: Node,
     feature: FeatureNo,
     value: &Value,
-) -> Option<LonePut>
+) -> Option<NewLink>
     requires asked { early_refusal (reading model.now) (Set node feature value.now) ≡ None }
     ensures put { result ≡ lone.lone_put (reading model.now) (Set node feature value.now) }
     ensures plan { IfSome result (λ p. IsPlanOf false model.now (Set node feature value.now) (lone.of_put p)) }
@@ -44,7 +34,7 @@ pub fn lone_add<L: LinkStore>(
     feature: FeatureNo,
     value: &Value,
     index: Option<u32>,
-) -> Option<LonePut>
+) -> Option<NewLink>
     requires asked { early_refusal (reading model.now) (Add node feature value.now index) ≡ None }
     ensures put { result ≡ lone.lone_put (reading model.now) (Add node feature value.now index) }
     ensures plan { IfSome result (λ p. IsPlanOf false model.now (Add node feature value.now index) (lone.of_put p)) }
@@ -53,7 +43,7 @@ pub fn lone_add<L: LinkStore>(
     put_of_add(model, at_end(&node, &feature), value, index)
 }
 
-fn put_of_set<L: LinkStore>(model: &ModelRef<L>, end: End, value: &Value) -> Option<LonePut>
+fn put_of_set<L: LinkStore>(model: &ModelRef<L>, end: End, value: &Value) -> Option<NewLink>
     ensures { result ≡ lone.lone_set (reading model.now) (Set end.node end.feature value.now) end value.now }
 {
     let Value::Object(object) = value else {
@@ -76,7 +66,7 @@ fn put_of_add<L: LinkStore>(
     end: End,
     value: &Value,
     index: Option<u32>,
-) -> Option<LonePut>
+) -> Option<NewLink>
     ensures { result ≡ lone.lone_add (reading model.now) (Add end.node end.feature value.now index) end value.now index }
 {
     let Value::Object(object) = value else {
@@ -94,10 +84,10 @@ fn put_of_add<L: LinkStore>(
     Some(put_at(model, end, model.place_for(end, index), *object))
 }
 
-fn put_at<L: LinkStore>(model: &ModelRef<L>, end: End, index: u32, object: ObjectNo) -> LonePut
+fn put_at<L: LinkStore>(model: &ModelRef<L>, end: End, index: u32, object: ObjectNo) -> NewLink
     ensures { result ≡ lone.put_at (reading model.now) end index object }
 {
-    LonePut {
+    NewLink {
         end,
         index,
         object,

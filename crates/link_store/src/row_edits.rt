@@ -3,14 +3,14 @@ ghost use Rattle.std.specs.FinSet as set;
 ghost use Rattle.std.specs.List.{All};
 ghost use Rattle.std.specs.Prelude.{◌≡◌, ◌+◌, ◌<◌, ◌≤◌, not, map, filter, vec_len, vec_capacity};
 ghost use Rattle.links.specs.LegalSets.{IsPlaced};
-ghost use Rattle.links.specs.Links.{cut_value, joined, new_link, put, put_proxy, shift};
+ghost use Rattle.links.specs.Links.{cut_value, joined, new_link, put_proxy, shift};
 ghost use Rattle.links.specs.Places.{has_value, moved};
-ghost use Rattle.links.specs.Plans.{edited};
+ghost use Rattle.links.specs.Plans.{edited, put_edit};
 ghost use Rattle.link_store.specs.Rows.{CanMove, changed_index};
 
 use crate::renumbering::Renumbering;
 use crate::rows::{has, len_of, spot_of};
-use links::{Edit, Far, Link};
+use links::{Edit, Far, Link, NewLink};
 use mm_types::{End, FeatureNo, Node, ObjectNo, Text, Value};
 
 /// Changes the row's position in an end.
@@ -93,17 +93,17 @@ fn join(x: End, i: u32, y: End, j: u32, container: Option<FeatureNo>) -> Link
 }
 
 /// The link that puts an object at a position of an end.
-fn new_row(
-    rows: &[Link],
-    end: End,
-    index: u32,
-    object: ObjectNo,
-    opposite: Option<FeatureNo>,
-    container: Option<FeatureNo>,
-) -> Link
+fn new_row(rows: &[Link], link: NewLink) -> Link
     requires placed { IsPlaced (set.from_list rows.now) }
-    ensures { result ≡ new_link (set.from_list rows.now) end index object opposite container }
+    ensures { result ≡ new_link (set.from_list rows.now) link.end link.index link.object link.opposite link.container }
 {
+    let NewLink {
+        end,
+        index,
+        object,
+        opposite,
+        container,
+    } = link;
     match opposite {
         None => Link {
             end,
@@ -121,23 +121,16 @@ fn new_row(
     }
 }
 
-/// Puts an object at a position of an end.
-fn put_row(
-    rows: &mut Vec<Link>,
-    end: End,
-    index: u32,
-    object: ObjectNo,
-    opposite: Option<FeatureNo>,
-    container: Option<FeatureNo>,
-)
+/// Puts a link in.
+pub(crate) fn put_row(rows: &mut Vec<Link>, link: NewLink)
     requires placed { IsPlaced (set.from_list rows.old.items) }
     requires room { vec_len rows.old < vec_capacity rows.old }
-    ensures put { set.from_list rows.new.items ≡ put (set.from_list rows.old.items) end index object opposite container }
+    ensures put { set.from_list rows.new.items ≡ edited (set.from_list rows.old.items) (put_edit link) }
     ensures len { vec_len rows.new ≡ vec_len rows.old + 1 }
     ensures capacity { vec_capacity rows.new ≡ vec_capacity rows.old }
 {
-    let row = new_row(rows, end, index, object, opposite, container);
-    renumber(rows, end, Renumbering::Raise(index));
+    let row = new_row(rows, link);
+    renumber(rows, link.end, Renumbering::Raise(link.index));
     rows.push_reserved(row);
 }
 
@@ -185,7 +178,16 @@ pub(crate) fn edit_rows(rows: &mut Vec<Link>, edit: Edit)
             object,
             opposite,
             container,
-        } => put_row(rows, end, index, object, opposite, container),
+        } => put_row(
+            rows,
+            NewLink {
+                end,
+                index,
+                object,
+                opposite,
+                container,
+            },
+        ),
         Edit::Shift { end, to, from } => shift_rows(rows, end, to, from),
         Edit::PutProxy { end, index, text } => put_proxy_row(rows, end, index, text),
         Edit::CutProxy { end, text } => cut_row(rows, end, &Value::Proxy(text)),

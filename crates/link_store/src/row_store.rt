@@ -3,10 +3,10 @@ ghost use Rattle.std.specs.Prelude.{◌≡◌, ◌+◌, ◌≤◌, length, vec_l
 ghost use Rattle.std.specs.FinSet as set;
 
 use crate::incoming::places_of;
-use crate::row_edits::edit_rows;
+use crate::row_edits::{edit_rows, put_row};
 use crate::rows::{ends_of, holder_in, len_of, object_in, position_of, text_in};
-use links::{Edit, Incoming, Link, LinkStore, Plan, put_in_order};
-use mm_types::{End, FeatureNo, Node, ObjectNo, Value};
+use links::{Incoming, Link, LinkStore, NewLink, Plan, put_in_order};
+use mm_types::{End, Node, ObjectNo, Value};
 use std::alloc::{AllocError, Global};
 
 /// Links in a row, each found by a scan of all.
@@ -68,25 +68,9 @@ impl LinkStore for RowStore {
         }
     }
 
-    fn put(
-        &mut self,
-        end: End,
-        index: u32,
-        object: ObjectNo,
-        opposite: Option<FeatureNo>,
-        container: Option<FeatureNo>,
-    ) -> Result<(), AllocError> {
+    fn put(&mut self, link: NewLink) -> Result<(), AllocError> {
         self.rows.reserve(1)?;
-        edit_rows(
-            &mut self.rows,
-            Edit::Put {
-                end,
-                index,
-                object,
-                opposite,
-                container,
-            },
-        );
+        put_row(&mut self.rows, link);
         Ok(())
     }
 }

@@ -11,11 +11,16 @@ use Rattle.mm_types.specs.declared.value.Value.{Value}
 use Rattle.mm_types.specs.declared.value.Value.TheVariants as value
 use Rattle.links.specs.declared.incoming.Incoming.{Incoming}
 use Rattle.links.specs.declared.link.Link.{Link}
+use Rattle.links.specs.declared.link.NewLink.{NewLink}
 use Rattle.links.specs.declared.plan.Edit.{Edit}
 use Rattle.links.specs.declared.plan.Edit.TheVariants as edit
 use Rattle.links.specs.Links.{Links, cut_value, end, far_end, new_link, put, put_proxy, shift}
 use Rattle.links.specs.Holders.{IsUnder, contained, holder, holding}
 use Rattle.links.specs.LegalSets.{IsObject, Kinds, most}
+
+-- the edit that puts a link in
+abbrev pub put_edit : NewLink → Edit
+put_edit l = edit.Put l.end l.index l.object l.opposite l.container
 
 abbrev pub edited : Links → Edit → Links
 edited s (edit.Cut e o) = cut_value s e (value.Object o)

@@ -10,7 +10,7 @@ mod plan;
 mod store;
 
 pub use incoming::Incoming;
-pub use link::{Far, Link};
+pub use link::{Far, Link, NewLink};
 pub use order::put_in_order;
 pub use plan::{Edit, Plan};
 pub use store::LinkStore;

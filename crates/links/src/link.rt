@@ -21,3 +21,16 @@ pub struct Link {
     /// The feature of the pair that contains, if one does.
     pub container: Option<FeatureNo>,
 }
+
+/// A link that is put in (`Edit::Put`). It is last in the opposite end, if there is one.
+#[derive(Clone, Copy)]
+pub struct NewLink {
+    pub end: End,
+    /// The position of the object in the end.
+    pub index: u32,
+    pub object: ObjectNo,
+    /// The opposite of the end's feature, if it has one.
+    pub opposite: Option<FeatureNo>,
+    /// The feature of the pair that contains, if one does.
+    pub container: Option<FeatureNo>,
+}

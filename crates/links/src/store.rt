@@ -4,15 +4,15 @@ ghost use Rattle.std.specs.Option.{option_copied};
 ghost use Rattle.mm_types.specs.declared.numbers.Node.TheVariants as node;
 ghost use Rattle.mm_types.specs.declared.value.Value.TheVariants as value;
 ghost use Rattle.links.specs.declared.plan.Edit.{Edit};
-ghost use Rattle.links.specs.declared.plan.Edit.TheVariants as edit;
 ghost use Rattle.links.specs.Holders.{holder as holder_of};
 ghost use Rattle.links.specs.LegalSets.{AreKinds, IsLegalSet, Kinds};
-ghost use Rattle.links.specs.Links.{Links, end as end_of, no_links, object_at, proxy_at as proxy_of, put};
-ghost use Rattle.links.specs.Plans.{AreIncoming, AreInOrder, ArePlacesOf, EditFits, HasPlanOfKind, IsEditOfKind, IsPlanOfKind, Lacks, PlanFits, applied, incoming_end};
+ghost use Rattle.links.specs.Links.{Links, end as end_of, no_links, object_at, proxy_at as proxy_of};
+ghost use Rattle.links.specs.Plans.{AreIncoming, AreInOrder, ArePlacesOf, EditFits, HasPlanOfKind, IsEditOfKind, IsPlanOfKind, Lacks, PlanFits, applied, edited, incoming_end, put_edit};
 
 use crate::incoming::Incoming;
+use crate::link::NewLink;
 use crate::plan::Plan;
-use mm_types::{End, FeatureNo, ObjectNo};
+use mm_types::{End, ObjectNo};
 use std::alloc::{AllocError, Global};
 
 /// A set of links, however it is kept.
@@ -86,18 +86,11 @@ pub trait LinkStore: Drop {
         ensures links { links self.new ≡ applied (links self.old) plan }
         ensures kinds { (m : Kinds) → kinds self.old m → IsPlanOfKind m plan → kinds self.new m };
 
-    /// Takes the memory for one `Edit::Put`, and makes it. Errs only if memory is refused, and then no link changes.
-    fn put(
-        &mut self,
-        end: End,
-        index: u32,
-        object: ObjectNo,
-        opposite: Option<FeatureNo>,
-        container: Option<FeatureNo>,
-    ) -> Result<(), AllocError>
+    /// Takes the memory for one link, and puts it in (`Edit::Put`). Errs only if memory is refused, and then no link changes.
+    fn put(&mut self, link: NewLink) -> Result<(), AllocError>
         requires legal { IsLegalSet (links self.old) }
-        requires fits { EditFits (links self.old) (edit.Put end index object opposite container) }
-        requires of_kind { HasPlanOfKind (kinds self.old) (edit.Put end index object opposite container ∷ []) }
-        ensures links { links self.new ≡ (if is_ok result then put (links self.old) end index object opposite container else links self.old) }
-        ensures kinds { (m : Kinds) → kinds self.old m → OnOk result (IsEditOfKind m (edit.Put end index object opposite container)) → kinds self.new m };
+        requires fits { EditFits (links self.old) (put_edit link) }
+        requires of_kind { HasPlanOfKind (kinds self.old) (put_edit link ∷ []) }
+        ensures links { links self.new ≡ (if is_ok result then edited (links self.old) (put_edit link) else links self.old) }
+        ensures kinds { (m : Kinds) → kinds self.old m → OnOk result (IsEditOfKind m (put_edit link)) → kinds self.new m };
 }

@@ -8,19 +8,19 @@ use Rattle.mm_types.specs.declared.value.Value.{Value}
 use Rattle.mm_types.specs.declared.value.Value.TheVariants as value
 use Rattle.links.specs.Laws.{touches_containment}
 use Rattle.links.specs.LegalSets.{Kinds}
-use Rattle.links.specs.Plans.{IsEditOfKind}
+use Rattle.links.specs.Plans.{IsEditOfKind, put_edit}
 use Rattle.models.specs.Model.{Model, reading}
 use Rattle.models.specs.Reading.{Reading, at_end, is_repeat, place_for, shape_at}
 use Rattle.notice_chain.specs.Listed.{Above, Listed}
 use Rattle.adapter_list.specs.Hearing.{AreKnown}
 use Rattle.adapter_list.specs.declared.hearers.Hearers.{Hearers}
 use Rattle.handshake.specs.Displaced.{displaces, is_plain_add}
-use Rattle.handshake.specs.LonePuts.{lone_put, of_put, put_at, put_edit}
+use Rattle.handshake.specs.LonePuts.{lone_put, of_put, put_at}
 use Rattle.handshake.specs.Plans.{IsPlanOf}
 use Rattle.handshake.specs.Refusals.{early_refusal, late_refusal}
 use Rattle.handshake.specs.declared.change.Change.{Change}
 use Rattle.handshake.specs.declared.change.Change.TheVariants.{Add, Set}
-use Rattle.handshake.specs.declared.link_planning.LonePut.{LonePut}
+use Rattle.links.specs.declared.link.NewLink.{NewLink}
 use Rattle.handshake.proofs.CutTieLemmas.{plain-not}
 use Rattle.repository.specs.Answers.{answer_of}
 use Rattle.repository.specs.Puts.{IsPutAlone}
@@ -28,24 +28,24 @@ use Rattle.repository.specs.State.{State, reads}
 use Rattle.repository.specs.Views.{command_of}
 use Rattle.repository.specs.declared.reply.Answer.TheVariants as answer
 
-not-plain : (a b c : Bool) (x p : LonePut) → (if a then None else if b then None else if c then None else Some x) ≡ Some p → b ≡ false
+not-plain : (a b c : Bool) (x p : NewLink) → (if a then None else if b then None else if c then None else Some x) ≡ Some p → b ≡ false
 not-plain true b c x p h = absurd (none-some p h)
 not-plain false true c x p h = absurd (none-some p h)
 not-plain false false c x p h = refl
 
 -- what is added is not there
-new-added : (r : Reading) (n : Node) (f : FeatureNo) (v : Value) (i : Option ℕ) (p : LonePut) → lone_put r (Add n f v i) ≡ Some p → is_repeat r (at_end n f) v ≡ false
+new-added : (r : Reading) (n : Node) (f : FeatureNo) (v : Value) (i : Option ℕ) (p : NewLink) → lone_put r (Add n f v i) ≡ Some p → is_repeat r (at_end n f) v ≡ false
 new-added r n f (value.Object o) i p h =
     let e = at_end n f in
     let v = value.Object o in
     (plain-not (shape_at r e).is_reference (is_repeat r e v) (not-plain (displaces r e o) (is_plain_add r e v) (is_some (late_refusal r (Add n f v i))) (put_at r e (place_for r e i) o) p h)).1
 new-added r n f _ i p h = absurd (none-some p h)
 
-pub add-answered : (r : Reading) (rs : List Listed) (n : Node) (f : FeatureNo) (v : Value) (i : Option ℕ) (p : LonePut) → lone_put r (Add n f v i) ≡ Some p → answer.Flag true ≡ answer_of r rs (command_of [] (Add n f v i))
+pub add-answered : (r : Reading) (rs : List Listed) (n : Node) (f : FeatureNo) (v : Value) (i : Option ℕ) (p : NewLink) → lone_put r (Add n f v i) ≡ Some p → answer.Flag true ≡ answer_of r rs (command_of [] (Add n f v i))
 add-answered r rs n f v i p h = ap (λ (b : Bool). answer.Flag (not b)) (sym (new-added r n f v i p h))
 
 -- an addition that is one put, of which nobody hears, by what its parts give
-pub add-alone : (s : State) (m : Model) (n : Node) (f : FeatureNo) (v : Value) (i : Option ℕ) (q : Option LonePut) (p : LonePut) → m ≡ s.model → s.adapters ≡ [] → early_refusal (reading m) (Add n f v i) ≡ None → q ≡ lone_put (reading m) (Add n f v i) → q ≡ Some p
+pub add-alone : (s : State) (m : Model) (n : Node) (f : FeatureNo) (v : Value) (i : Option ℕ) (q : Option NewLink) (p : NewLink) → m ≡ s.model → s.adapters ≡ [] → early_refusal (reading m) (Add n f v i) ≡ None → q ≡ lone_put (reading m) (Add n f v i) → q ≡ Some p
     → IsPlanOf false m (Add n f v i) (of_put p) → IsPutAlone s (Add n f v i) p (answer.Flag true)
 add-alone s m n f v i q p is none early found some plan =
     let c : Change = Add n f v i in
@@ -58,7 +58,7 @@ add-alone s m n f v i q p is none early found some plan =
     }
 
 -- a set, likewise
-pub set-alone : (s : State) (m : Model) (n : Node) (f : FeatureNo) (v : Value) (p : LonePut) → m ≡ s.model → s.adapters ≡ [] → early_refusal (reading m) (Set n f v) ≡ None → IsPlanOf false m (Set n f v) (of_put p) → IsPutAlone s (Set n f v) p answer.Done
+pub set-alone : (s : State) (m : Model) (n : Node) (f : FeatureNo) (v : Value) (p : NewLink) → m ≡ s.model → s.adapters ≡ [] → early_refusal (reading m) (Set n f v) ≡ None → IsPlanOf false m (Set n f v) (of_put p) → IsPutAlone s (Set n f v) p answer.Done
 set-alone s m n f v p is none early plan =
     let c : Change = Set n f v in
     record {
@@ -70,7 +70,7 @@ set-alone s m n f v p is none early plan =
     }
 
 -- a put is of a link that contains where it names a container
-pub put-touches : (m : Kinds) (p : LonePut) → IsEditOfKind m (put_edit p) → touches_containment m (put_edit p ∷ []) ≡ is_some p.container
+pub put-touches : (m : Kinds) (p : NewLink) → IsEditOfKind m (put_edit p) → touches_containment m (put_edit p ∷ []) ≡ is_some p.container
 put-touches m p kind = or-false (is_some (m.container p.end.feature)) ∙ ap is_some (sym kind.1)
 
 -- nobody hears, above whatever

@@ -4,14 +4,15 @@ ghost use Rattle.mm_types.specs.Same.{node_value, same_end};
 ghost use Rattle.mm_types.specs.declared.numbers.Node.{Node};
 ghost use Rattle.mm_types.specs.declared.numbers.Node.TheVariants as node;
 ghost use Rattle.links.specs.LegalSets.{IsDistinct};
+ghost use Rattle.links.specs.Plans.{put_edit};
 ghost use Rattle.node_rows.specs.Cells.{cells, room, row_place};
 ghost use Rattle.node_rows.specs.Growth.{HasRoom, entry, far_gain, gain, lone_entry, no_ends, no_values, one_if};
 ghost use Rattle.links.specs.declared.plan.Edit.TheVariants as edit;
 ghost use Rattle.slot_store.specs.CellLinks.{IsOnce, RepeatNothing};
-ghost use Rattle.slot_store.specs.EditedCells.{FarHasRoom, HasHeldRow, TakesAtMost, cells_after, cut_far, held, held_far, held_place, holds, put_cells, put_far, put_near, released, without_entry, without_value};
+ghost use Rattle.slot_store.specs.EditedCells.{FarHasRoom, HasHeldRow, TakesAtMost, cells_after, cut_far, held, held_far, held_place, holds, put_far, put_near, released, without_entry, without_value};
 
 use crate::search::{entry_from, found};
-use links::Edit;
+use links::{Edit, NewLink};
 use mm_types::{End, FeatureNo, Node, ObjectNo, Value};
 use node_rows::{NodeRows, Pairing, PutPlaces, RowEdit, SlotEdit};
 use std::alloc::AllocError;
@@ -146,35 +147,28 @@ fn hold(rows: &mut NodeRows, place: usize, pair: Option<(Node, End)>)
 }
 
 /// Puts a link in at its far side, whose row is at a place.
-fn put_in_far(
-    rows: &mut NodeRows,
-    place: usize,
-    end: End,
-    object: ObjectNo,
-    opposite: Option<FeatureNo>,
-    container: Option<FeatureNo>,
-)
-    requires room { FarHasRoom object opposite (room rows.old) }
-    requires at { row_place rows.old (node.Object object) ≡ Some place }
-    ensures cells { cells rows.new ≡ put_far end object opposite container (cells rows.old) }
-    ensures room { TakesAtMost (far_gain object opposite) (lone_entry object opposite) (room rows.old) (room rows.new) }
+fn put_in_far(rows: &mut NodeRows, place: usize, link: NewLink)
+    requires room { FarHasRoom link.object link.opposite (room rows.old) }
+    requires at { row_place rows.old (node.Object link.object) ≡ Some place }
+    ensures cells { cells rows.new ≡ put_far link.end link.object link.opposite link.container (cells rows.old) }
+    ensures room { TakesAtMost (far_gain link.object link.opposite) (lone_entry link.object link.opposite) (room rows.old) (room rows.new) }
     ensures places { (n : Node) → row_place rows.new n ≡ row_place rows.old n }
 {
-    let node = Node::Object(object);
-    match opposite {
+    let node = Node::Object(link.object);
+    match link.opposite {
         Some(feature) => {
             let pairing = Pairing {
-                opposite: Some(end.feature),
-                container,
+                opposite: Some(link.end.feature),
+                container: link.container,
             };
-            let value = value_of(end.node);
+            let value = value_of(link.end.node);
             rows.edit_at(
                 node,
                 place,
                 RowEdit::Change(feature, SlotEdit::Push { value, pairing }),
             );
         }
-        None => rows.edit_at(node, place, RowEdit::Enter(end)),
+        None => rows.edit_at(node, place, RowEdit::Enter(link.end)),
     }
 }
 
@@ -201,40 +195,32 @@ fn put_in(
     rows.edit_at(end.node, place, RowEdit::Change(end.feature, edit));
 }
 
-/// Puts the link of an object in; the rows of its nodes are at these places.
-fn put(
-    rows: &mut NodeRows,
-    places: PutPlaces,
-    end: End,
-    index: u32,
-    object: ObjectNo,
-    opposite: Option<FeatureNo>,
-    container: Option<FeatureNo>,
-)
-    requires room { HasRoom (room rows.old) (edit.Put end index object opposite container ∷ []) }
-    requires held { HasHeldRow (held end object opposite container) (room rows.old) }
-    requires near { row_place rows.old end.node ≡ Some places.near }
-    requires far { row_place rows.old (node.Object object) ≡ Some places.far }
-    ensures cells { cells rows.new ≡ put_cells end index object opposite container (cells rows.old) }
-    ensures room { TakesAtMost (λ e. gain e (edit.Put end index object opposite container)) (λ n. entry n (edit.Put end index object opposite container)) (room rows.old) (room rows.new) }
+/// Puts a link in; the rows of its nodes are at these places.
+fn put(rows: &mut NodeRows, places: PutPlaces, link: NewLink)
+    requires room { HasRoom (room rows.old) (put_edit link ∷ []) }
+    requires held { HasHeldRow (held link.end link.object link.opposite link.container) (room rows.old) }
+    requires near { row_place rows.old link.end.node ≡ Some places.near }
+    requires far { row_place rows.old (node.Object link.object) ≡ Some places.far }
+    ensures cells { cells rows.new ≡ cells_after (put_edit link) (cells rows.old) }
+    ensures room { TakesAtMost (λ e. gain e (put_edit link)) (λ n. entry n (put_edit link)) (room rows.old) (room rows.new) }
 {
     let pairing = Pairing {
-        opposite,
-        container,
+        opposite: link.opposite,
+        container: link.container,
     };
     put_in(
         rows,
         places.near,
-        end,
-        index,
-        Value::Object(object),
+        link.end,
+        link.index,
+        Value::Object(link.object),
         Some(pairing),
     );
-    put_in_far(rows, places.far, end, object, opposite, container);
+    put_in_far(rows, places.far, link);
     hold(
         rows,
-        held_place(places, end, container),
-        held_by(end, object, pairing),
+        held_place(places, link.end, link.container),
+        held_by(link.end, link.object, pairing),
     );
 }
 
@@ -251,19 +237,12 @@ fn places_of(rows: &NodeRows, end: End, object: ObjectNo) -> PutPlaces
     }
 }
 
-/// Makes room for the link of an object, and puts it in. Errs only if memory is refused; no value changes then.
-pub(crate) fn put_with_room(
-    rows: &mut NodeRows,
-    end: End,
-    index: u32,
-    object: ObjectNo,
-    opposite: Option<FeatureNo>,
-    container: Option<FeatureNo>,
-) -> Result<(), AllocError>
-    ensures { cells rows.new ≡ (if is_ok result then put_cells end index object opposite container (cells rows.old) else cells rows.old) }
+/// Makes room for a link, and puts it in. Errs only if memory is refused; no value changes then.
+pub(crate) fn put_with_room(rows: &mut NodeRows, link: NewLink) -> Result<(), AllocError>
+    ensures { cells rows.new ≡ (if is_ok result then cells_after (put_edit link) (cells rows.old) else cells rows.old) }
 {
-    let places = rows.reserve_put(end, object, opposite)?;
-    put(rows, places, end, index, object, opposite, container);
+    let places = rows.reserve_put(link)?;
+    put(rows, places, link);
     Ok(())
 }
 
@@ -297,7 +276,14 @@ pub(crate) fn edit_rows(rows: &mut NodeRows, edit: Edit, guess: usize)
             container,
         } => {
             let places = places_of(rows, end, object);
-            put(rows, places, end, index, object, opposite, container);
+            let link = NewLink {
+                end,
+                index,
+                object,
+                opposite,
+                container,
+            };
+            put(rows, places, link);
         }
         Edit::Shift { end, to, from } => shift(rows, end, to, from),
         Edit::PutProxy { end, index, text } => {

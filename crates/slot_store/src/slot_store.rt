@@ -11,8 +11,8 @@ ghost use Rattle.slot_store.specs.CellLinks.{IsStore, IsStoreOfKind, Stands, sto
 use crate::edits::{edit_rows, put_with_room, value_of};
 use crate::incoming::{entering, places_of};
 use crate::search::{entry_found, found, ordered_guess};
-use links::{Edit, Incoming, LinkStore, Plan, put_in_order};
-use mm_types::{End, FeatureNo, Node, ObjectNo, Value};
+use links::{Edit, Incoming, LinkStore, NewLink, Plan, put_in_order};
+use mm_types::{End, Node, ObjectNo, Value};
 use node_rows::NodeRows;
 use std::alloc::{AllocError, Global};
 
@@ -81,15 +81,8 @@ impl LinkStore for SlotStore {
         apply_rows(&mut self.rows, plan);
     }
 
-    fn put(
-        &mut self,
-        end: End,
-        index: u32,
-        object: ObjectNo,
-        opposite: Option<FeatureNo>,
-        container: Option<FeatureNo>,
-    ) -> Result<(), AllocError> {
-        put_with_room(&mut self.rows, end, index, object, opposite, container)
+    fn put(&mut self, link: NewLink) -> Result<(), AllocError> {
+        put_with_room(&mut self.rows, link)
     }
 }
 

@@ -1,17 +1,16 @@
 //! Room for edits, which is made before they are.
-ghost use Rattle.std.specs.Prelude.{◌≡◌, ℕ, [], ◌∷◌, IfOk, OnOk, Option, Some};
+ghost use Rattle.std.specs.Prelude.{◌≡◌, ℕ, [], ◌∷◌, IfOk, OnOk, Some};
 ghost use Rattle.mm_types.specs.Same.{same_end};
-ghost use Rattle.mm_types.specs.declared.numbers.FeatureNo.{FeatureNo};
 ghost use Rattle.mm_types.specs.declared.numbers.Node.{Node};
 ghost use Rattle.mm_types.specs.declared.numbers.Node.TheVariants as node;
-ghost use Rattle.links.specs.declared.plan.Edit.TheVariants as edit;
+ghost use Rattle.links.specs.Plans.{put_edit};
 ghost use Rattle.node_rows.specs.Cells.{cells, room, row_place};
 ghost use Rattle.node_rows.specs.Growth.{HasGained, HasRoom, entry, far_gain, gain, lone_entry, no_ends, no_values, one_if};
 
 use super::NodeRows;
 use crate::row::RowEdit;
 use crate::slot::SlotEdit;
-use links::{Edit, Plan};
+use links::{Edit, NewLink, Plan};
 use mm_types::{End, FeatureNo, Node, ObjectNo};
 use std::alloc::AllocError;
 
@@ -208,26 +207,21 @@ impl NodeRows {
         Ok(())
     }
 
-    /// Makes room for one put of an object into an end, beside what was made before, and returns the places of the rows of both nodes.
-    /// Errs only if memory is refused; no value changes.
-    pub fn reserve_put(
-        &mut self,
-        end: End,
-        object: ObjectNo,
-        opposite: Option<FeatureNo>,
-    ) -> Result<PutPlaces, AllocError>
+    /// Makes room for one link, beside what was made before, and returns the places of the rows of both nodes. Errs only if memory is
+    /// refused; no value changes.
+    pub fn reserve_put(&mut self, link: NewLink) -> Result<PutPlaces, AllocError>
         ensures cells { cells self.new ≡ cells self.old }
-        ensures near { IfOk result (λ p. row_place self.new end.node ≡ Some p.near) }
-        ensures far { IfOk result (λ p. row_place self.new (node.Object object) ≡ Some p.far) }
-        ensures room { OnOk result ((index : ℕ) (container : Option FeatureNo) → HasRoom (room self.new) (edit.Put end index object opposite container ∷ [])) }
+        ensures near { IfOk result (λ p. row_place self.new link.end.node ≡ Some p.near) }
+        ensures far { IfOk result (λ p. row_place self.new (node.Object link.object) ≡ Some p.far) }
+        ensures room { OnOk result (HasRoom (room self.new) (put_edit link ∷ [])) }
     {
-        let near = self.make_row(end.node)?;
-        let far = self.make_row(Node::Object(object))?;
-        self.promise_at(end, near)?;
-        match self.promise_far_at(object, far, opposite) {
+        let near = self.make_row(link.end.node)?;
+        let far = self.make_row(Node::Object(link.object))?;
+        self.promise_at(link.end, near)?;
+        match self.promise_far_at(link.object, far, link.opposite) {
             Ok(()) => Ok(PutPlaces { near, far }),
             Err(refused) => {
-                self.forget(end);
+                self.forget(link.end);
                 Err(refused)
             }
         }

@@ -13,15 +13,15 @@ ghost use Rattle.repository.specs.Proper.{IsProper};
 
 use super::Repository;
 use crate::leaving::notify;
-use crate::lone_puts::{forget_put, put_link};
+use crate::lone_puts::forget_put;
 use crate::preparing::{Prepared, next_object, prepare, prepare_values, reserve};
 use crate::remembered::forget_touched;
 use crate::reply::{Answer, Reply};
 use adapters::Adapter;
 use handshake::{
-    Change, LonePut, create_refusal, early_refusal, lone_set, plan_set, set_early_refusal,
+    Change, create_refusal, early_refusal, lone_set, plan_set, set_early_refusal,
 };
-use links::LinkStore;
+use links::{LinkStore, NewLink};
 use mm_types::{ClassNo, FeatureNo, Node, ObjectNo, Refused, Seq, Value};
 use mm_values::{ValueEdit, ValuePlan};
 
@@ -132,11 +132,11 @@ impl<L: LinkStore, A: Adapter> Repository<L, A> {
 
     /// A change whose plan is one put, if no adapter is attached: the store makes room for the link and puts it in one step, and no plan
     /// is made. Most links that are made displace none.
-    pub(super) fn put_alone(&mut self, put: LonePut, answer: Answer) -> Result<Reply<A>, Refused>
+    pub(super) fn put_alone(&mut self, put: NewLink, answer: Answer) -> Result<Reply<A>, Refused>
         requires alone { (c : Change) × IsPutAlone self.old c put answer }
         ensures { (c : Change) → IsPutAlone self.old c put answer → Executed self.old (command_of [] c) (change_outcome (changed_view A.heard result)) self.new }
     {
-        match put_link(&mut self.store, put) {
+        match self.store.put(put) {
             Ok(()) => {}
             Err(_) => return Err(Refused::Memory),
         }

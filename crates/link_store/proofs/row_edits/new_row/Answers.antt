@@ -8,15 +8,15 @@ use Rattle.link_store.proofs.row_edits.new_row.Goals as goal
 pub overflow_cast-len_of : goal.overflow_cast-len_of
 overflow_cast-len_of c =
     let rows = c.args.rows.now in
-    let far = far_end c.args.object c.in-Some.feature in
+    let far = far_end c.args.link.object c.in-Some.feature in
     let same = length_at_end rows (of_rows rows) far (end (of_rows rows) far) (from_list_HasLinks rows) (c.requires.placed.ends far) in
     omega (arith, c.len_of.ensures, same, c.requires.placed.few far)
 
 pub returns-in-Some : goal.returns-in-Some
 returns-in-Some c =
     let rows = c.args.rows.now in
-    let far = far_end c.args.object c.in-Some.feature in
+    let far = far_end c.args.link.object c.in-Some.feature in
     let same = length_at_end rows (of_rows rows) far (end (of_rows rows) far) (from_list_HasLinks rows) (c.requires.placed.ends far) in
     c.join.ensures
-    ∙ ap (λ (j : ℕ). joined c.args.end c.args.index far j c.args.container) (c.len_of.ensures ∙ same)
-    ∙ ap (λ (g : Option FeatureNo). new_link (of_rows rows) c.args.end c.args.index c.args.object g c.args.container) (sym c.in-Some.is)
+    ∙ ap (λ (j : ℕ). joined c.args.link.end c.args.link.index far j c.args.link.container) (c.len_of.ensures ∙ same)
+    ∙ ap (λ (g : Option FeatureNo). new_link (of_rows rows) c.args.link.end c.args.link.index c.args.link.object g c.args.link.container) (sym c.in-Some.is)

@@ -7,15 +7,15 @@ use Rattle.adapter_list.specs.Hearing.{AreKnown}
 use Rattle.links.specs.Holders.{above}
 use Rattle.links.specs.Laws.{touches_containment}
 use Rattle.links.specs.Links.{Links}
+use Rattle.links.specs.Plans.{put_edit}
 use Rattle.models.specs.Legal as models
 use Rattle.models.specs.Legal.{kinds_of}
 use Rattle.models.specs.Model.{Model, model_of, reading}
 use Rattle.models.specs.Steady.{HasSteadyTexts}
 use Rattle.fragment_paths.specs.Kept.{Kept}
 use Rattle.handshake.specs.Effects.{after}
-use Rattle.handshake.specs.LonePuts.{put_edit}
 use Rattle.handshake.specs.declared.change.Change.{Change}
-use Rattle.handshake.specs.declared.link_planning.LonePut.{LonePut}
+use Rattle.links.specs.declared.link.NewLink.{NewLink}
 use Rattle.handshake.proofs.ProxyLemmas.{change-keeps-steady}
 use Rattle.repository.specs.Puts.{IsPutAlone}
 use Rattle.repository.specs.Repository.{KeepsFragments, state}
@@ -31,14 +31,14 @@ use Rattle.repository.proofs.ValueLemmas.{changed-unheard}
 use Rattle.repository.proofs.repository.Repository.put_alone.Goals as goal
 
 -- what is asked of the state that is seen holds of the one that shows it
-seen : (s v : State) (ch : Change) (p : LonePut) (a : Answer) → s ≡ v → IsPutAlone v ch p a → IsPutAlone s ch p a
+seen : (s v : State) (ch : Change) (p : NewLink) (a : Answer) → s ≡ v → IsPutAlone v ch p a → IsPutAlone s ch p a
 seen s v ch p a is h = subst (λ (t : State). IsPutAlone t ch p a) (sym is) h
 
-pub put_link-requires-clause-fits : goal.put_link-requires-clause-fits
-put_link-requires-clause-fits g c = (seen _ _ c.requires.alone.0 c.args.put c.args.answer c.self.view_is c.requires.alone.1).planned.fits.0
+pub put-requires-clause-fits : goal.put-requires-clause-fits
+put-requires-clause-fits g c = (seen _ _ c.requires.alone.0 c.args.put c.args.answer c.self.view_is c.requires.alone.1).planned.fits.0
 
-pub put_link-requires-clause-of_kind : goal.put_link-requires-clause-of_kind
-put_link-requires-clause-of_kind g c =
+pub put-requires-clause-of_kind : goal.put-requires-clause-of_kind
+put-requires-clause-of_kind g c =
     let alone = seen _ _ c.requires.alone.0 c.args.put c.args.answer c.self.view_is c.requires.alone.1 in
     (kinds_of c.self.inside.meta, c.self.invariant.kinds_are, alone.planned.of_kind)
 
@@ -52,7 +52,7 @@ returns-in-Err g c = λ change given.
 pub invariant_of-self : goal.invariant_of-self
 invariant_of-self g c =
     let m = c.self.inside.meta in
-    let same : model_of m (values_of c.self.inside.values) (g.L.LinkStore.links c.self.inside.store) ≡ model_of m (values_of c.self.inside.values) (g.L.LinkStore.links c.put_link.new.store) =
+    let same : model_of m (values_of c.self.inside.values) (g.L.LinkStore.links c.self.inside.store) ≡ model_of m (values_of c.self.inside.values) (g.L.LinkStore.links c.put.new.self) =
     λ i. model_of m (values_of c.self.inside.values) (sym c.in-Err.ensures.links i) in
     record {
       legal = subst IsLegal (λ i. record { model = same i; adapters = c.self.inside.adapters.0 }) c.self.invariant.legal;
@@ -69,7 +69,7 @@ returns g c = λ change given.
     let alone = seen s _ change put c.args.answer c.self.view_is given in
     let plan = alone.planned in
     let links = c.in-Ok.ensures.links ∙ plan.links_made in
-    let t : State = record { model = model_of c.self.inside.meta (values_of c.self.inside.values) (g.L.LinkStore.links c.put_link.new.store); adapters = c.self.inside.adapters.0 } in
+    let t : State = record { model = model_of c.self.inside.meta (values_of c.self.inside.values) (g.L.LinkStore.links c.put.new.self); adapters = c.self.inside.adapters.0 } in
     rw (← c.self.view_is)
     (changed-unheard s t [] change c.args.answer c.new.result (views_of g.A.Adapter.heard c.new-2.result) alone.unheard c.new.ensures (ap (views_of g.A.Adapter.heard) c.new-2.ensures) alone.proper alone.asked plan.allowed alone.answered
     (λ i. model_of c.self.inside.meta (plan.values_made i) (links i)) refl)
@@ -84,7 +84,7 @@ invariant_of-self-2 g c =
     let m = c.self.inside.meta in
     let v = values_of c.self.inside.values in
     let old = g.L.LinkStore.links c.self.inside.store in
-    let new = g.L.LinkStore.links c.put_link.new.store in
+    let new = g.L.LinkStore.links c.put.new.self in
     let is = c.in-Ok.ensures.links in
     let links = is ∙ plan.links_made in
     let made : model_of m v new ≡ after s.model change = λ i. model_of m (plan.values_made i) (links i) in
