@@ -3,3 +3,4 @@ pub mod HoleLemmas
 pub mod LayoutLemmas
 pub mod MoveLemmas
 pub mod PositionLemmas
+pub mod ShortLemmas

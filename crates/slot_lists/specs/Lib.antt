@@ -3,3 +3,4 @@ pub mod Places
 pub mod Layout
 pub mod SlotList
 pub mod Moved
+pub mod ShortList

@@ -6,6 +6,8 @@
 mod hole;
 mod piece;
 mod pieces;
+mod short_list;
 mod slot_list;
 
+pub use short_list::ShortList;
 pub use slot_list::SlotList;

@@ -1,0 +1,11 @@
+-- How a list of which most have one value lies in memory.
+use Rattle.std.specs.Prelude.{[], ◌∷◌}
+use Rattle.slot_lists.specs.declared.short_list.Layout.{Layout}
+use Rattle.slot_lists.specs.declared.short_list.Layout.TheVariants.{Empty, One, Many}
+use Rattle.slot_lists.specs.Places.{Places}
+
+-- the one value that a list may have in itself has a place without a block
+abbrev pub short_places : {T : Type 0} → Layout T → Places T
+short_places Empty = record { items = []; spare = 1 }
+short_places (One v) = record { items = v ∷ []; spare = 0 }
+short_places (Many b) = b.value
