@@ -7,7 +7,7 @@ ghost use Rattle.node_rows.specs.Rows.{IsRowEdited, IsRowGrown, IsRowReordered, 
 use crate::order::put_in_order;
 use crate::slot::{Slot, SlotEdit, push_on, remove_from};
 use mm_types::{End, FeatureNo};
-use slot_lists::SlotList;
+use slot_lists::ShortList;
 use std::alloc::{AllocError, Global};
 
 /// One change of what is kept of a node.
@@ -33,7 +33,7 @@ pub struct Row {
     /// The end that contains the node.
     pub holder: Option<End>,
     /// The ends with no opposite that hold the node, in the order in which they came, until they are put in order.
-    pub entered: SlotList<End>,
+    pub entered: ShortList<End>,
     /// How many ends more are promised a place there.
     pub promised: usize,
 }
@@ -48,7 +48,7 @@ impl Row {
         Row {
             slots: Vec::new(alloc),
             holder: None,
-            entered: SlotList::new(alloc),
+            entered: ShortList::new(),
             promised: 0,
         }
     }
@@ -112,7 +112,8 @@ impl Row {
             return Err(AllocError);
         }
         let promised = self.promised + 1;
-        self.entered.reserve(promised)?;
+        let alloc = *self.slots.allocator();
+        self.entered.reserve(alloc, promised)?;
         self.promised = promised;
         Ok(())
     }
@@ -153,8 +154,7 @@ fn add_slot(slots: &mut Vec<Slot>, feature: FeatureNo) -> Result<(), AllocError>
     if slot_index(slots, feature).is_some() {
         return Ok(());
     }
-    let alloc = *slots.allocator();
-    push_slot(slots, Slot::new(alloc, feature))?;
+    push_slot(slots, Slot::new(feature))?;
     Ok(())
 }
 
@@ -165,7 +165,10 @@ fn promise_in(slots: &mut Vec<Slot>, feature: FeatureNo) -> Result<(), AllocErro
     ensures ok { OnOk result (places_of (slot_in slots.old.items feature) + 1 ≤ places_of (slot_in slots.new.items feature)) }
 {
     match slot_index(slots, feature) {
-        Some(index) => slots[index].promise(),
+        Some(index) => {
+            let alloc = *slots.allocator();
+            slots[index].promise(alloc)
+        }
         None => unreachable!(),
     }
 }

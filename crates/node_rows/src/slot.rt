@@ -5,7 +5,7 @@ ghost use Rattle.mm_types.specs.Lists.{shifted};
 ghost use Rattle.node_rows.specs.Slots.{IsSlotEdited, slot_places, taken, unpaired};
 
 use mm_types::{FeatureNo, Value};
-use slot_lists::SlotList;
+use slot_lists::ShortList;
 use std::alloc::{AllocError, Global};
 
 /// What a put tells of a feature.
@@ -52,14 +52,14 @@ pub struct Slot {
     pub feature: FeatureNo,
     /// As the last put of an object told; neither opposite nor container if none was put.
     pub pairing: Pairing,
-    pub values: SlotList<Value>,
+    pub values: ShortList<Value>,
     /// How many values more are promised a place.
     pub promised: usize,
 }
 
 impl Slot {
     /// A feature with no values. Takes no memory.
-    pub fn new(alloc: Global, feature: FeatureNo) -> Self
+    pub fn new(feature: FeatureNo) -> Self
         ensures feature { result.feature ≡ feature }
         ensures values { result.values.items ≡ [] }
         ensures pairing { result.pairing ≡ unpaired }
@@ -70,7 +70,7 @@ impl Slot {
                 opposite: None,
                 container: None,
             },
-            values: SlotList::new(alloc),
+            values: ShortList::new(),
             promised: 0,
         }
     }
@@ -83,7 +83,7 @@ impl Slot {
     }
 
     /// Promises one more value a place. Errs only if memory is refused; no value changes.
-    pub fn promise(&mut self) -> Result<(), AllocError>
+    pub fn promise(&mut self, alloc: Global) -> Result<(), AllocError>
         ensures feature { self.new.feature ≡ self.old.feature }
         ensures values { self.new.values.items ≡ self.old.values.items }
         ensures pairing { self.new.pairing ≡ self.old.pairing }
@@ -94,7 +94,7 @@ impl Slot {
             return Err(AllocError);
         }
         let promised = self.promised + 1;
-        self.values.reserve(promised)?;
+        self.values.reserve(alloc, promised)?;
         self.promised = promised;
         Ok(())
     }
@@ -127,19 +127,16 @@ impl Slot {
 }
 
 /// Puts a value in, in a place that there is.
-fn insert_in<T: Drop>(values: &mut SlotList<T>, index: usize, value: T)
+fn insert_in<T: Drop>(values: &mut ShortList<T>, index: usize, value: T)
     requires { 1 ≤ values.old.spare }
     ensures items { values.new.items ≡ insert values.old.items index value }
     ensures places { values.old.spare ≤ values.new.spare + 1 }
 {
-    match values.insert(index.min(values.len()), value) {
-        Ok(()) => {}
-        Err(_) => unreachable!(),
-    }
+    values.insert(index.min(values.len()), value);
 }
 
 /// Puts a value in last, in a place that there is.
-pub(crate) fn push_on<T: Drop>(values: &mut SlotList<T>, value: T)
+pub(crate) fn push_on<T: Drop>(values: &mut ShortList<T>, value: T)
     requires { 1 ≤ values.old.spare }
     ensures items { values.new.items ≡ values.old.items ++ value ∷ [] }
     ensures places { values.old.spare ≤ values.new.spare + 1 }
@@ -148,7 +145,7 @@ pub(crate) fn push_on<T: Drop>(values: &mut SlotList<T>, value: T)
 }
 
 /// Takes a value out; past the end nothing changes.
-pub(crate) fn remove_from<T: Drop>(values: &mut SlotList<T>, index: usize)
+pub(crate) fn remove_from<T: Drop>(values: &mut ShortList<T>, index: usize)
     ensures items { values.new.items ≡ remove values.old.items index }
     ensures places { values.old.spare ≤ values.new.spare }
 {
@@ -157,7 +154,7 @@ pub(crate) fn remove_from<T: Drop>(values: &mut SlotList<T>, index: usize)
     }
 }
 
-fn move_in(values: &mut SlotList<Value>, to: usize, from: usize)
+fn move_in(values: &mut ShortList<Value>, to: usize, from: usize)
     ensures items { values.new.items ≡ shifted values.old.items to from }
     ensures places { values.old.spare ≤ values.new.spare }
 {
