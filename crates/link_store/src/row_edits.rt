@@ -129,9 +129,9 @@ pub(crate) fn put_row(rows: &mut Vec<Link>, link: NewLink)
     ensures len { vec_len rows.new ≡ vec_len rows.old + 1 }
     ensures capacity { vec_capacity rows.new ≡ vec_capacity rows.old }
 {
-    let row = new_row(rows, link);
+    let put = new_row(rows, link);
     renumber(rows, link.end, Renumbering::Raise(link.index));
-    rows.push_reserved(row);
+    rows.push_reserved(put);
 }
 
 /// Puts a proxy at a position of an end.

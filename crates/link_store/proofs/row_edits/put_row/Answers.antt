@@ -10,5 +10,5 @@ renumber-requires c = rows_can_move c.args.rows.now.items (Raise c.args.link.ind
 
 pub returns-clause-put : goal.returns-clause-put
 returns-clause-put c =
-    let new = c.new_row-row.ensures ∙ ap (λ (rows : List Link). new_link (of_rows rows) c.args.link.end c.args.link.index c.args.link.object c.args.link.opposite c.args.link.container) c.deref.ensures.value in
-    rows_put c.args.rows.now.items _ _ c.new_row-row.result c.args.link.end c.args.link.index c.args.link.object c.args.link.opposite c.args.link.container c.renumber.ensures.rows new c.push_reserved.ensures.items
+    let new = c.new_row-put.ensures ∙ ap (λ (rows : List Link). new_link (of_rows rows) c.args.link.end c.args.link.index c.args.link.object c.args.link.opposite c.args.link.container) c.deref.ensures.value in
+    rows_put c.args.rows.now.items _ _ c.new_row-put.result c.args.link.end c.args.link.index c.args.link.object c.args.link.opposite c.args.link.container c.renumber.ensures.rows new c.push_reserved.ensures.items
