@@ -1,10 +1,10 @@
 //! The plan of a change: its edits, and the notices that it tells.
-ghost use Rattle.std.specs.Prelude.{◌≡◌, [], true, false, nat_lt, None, IfOk, if◌then◌else◌};
+ghost use Rattle.std.specs.Prelude.{◌≡◌, [], true, false, not, nat_le, nat_lt, None, IfOk, if◌then◌else◌};
 ghost use Rattle.mm_types.specs.Conditions.{◌unless◌, ◌else_by◌};
 ghost use Rattle.mm_types.specs.declared.limits.TheConstants.{OBJECTS};
 ghost use Rattle.mm_types.specs.declared.refused.Refused.TheVariants.{Index, Limit};
 ghost use Rattle.models.specs.Model.{reading};
-ghost use Rattle.models.specs.Reading.{is_repeat, takes};
+ghost use Rattle.models.specs.Reading.{is_repeat, place_for, takes};
 ghost use Rattle.handshake.specs.Displaced as d;
 ghost use Rattle.handshake.specs.Edits as e;
 ghost use Rattle.handshake.specs.Effects.{value_edits as value_edits_of};
@@ -233,7 +233,7 @@ pub(crate) fn add_late_refusal<L: LinkStore>(
     if let Some(refused) = type_refusal(model, end.feature, value) {
         return Some(refused);
     }
-    if model.place_for(end, index) > model.len(end) {
+    if is_past(model, end, index) {
         return Some(Refused::Index);
     }
     if !repeats {
@@ -242,6 +242,16 @@ pub(crate) fn add_late_refusal<L: LinkStore>(
     match index {
         Some(_) => Some(Refused::Duplicate),
         None => None,
+    }
+}
+
+/// Whether an index is past the place after the last value of an end; none is, if none is named.
+fn is_past<L: LinkStore>(model: &ModelRef<L>, end: End, index: Option<u32>) -> bool
+    ensures { result ≡ not (nat_le (place_for (reading model.now) end index) (refusals.count_at (reading model.now) end)) }
+{
+    match index {
+        Some(index) => index > model.len(end),
+        None => false,
     }
 }
 
