@@ -65,7 +65,7 @@ fn all_below<L: LinkStore>(
 }
 
 /// So many levels are climbed before it is asked whether an object contains anything.
-const NEAR: u32 = 8;
+const NEAR: u32 = 2;
 
 /// Whether a node is a given one, or is below it. Takes no memory, and few steps if the given one contains nothing.
 pub fn is_within<L: LinkStore>(model: &ModelRef<L>, above: Node, node: Node) -> bool
