@@ -170,56 +170,56 @@ once-of heard (x ∷ xs) zero one all low is = subst (λ (a : Attached _). IsDis
 once-of heard (x ∷ xs) (suc i) one all low is = once-of heard xs i one (All-tail IsOnce (listed_one heard x) (listed heard xs) all) (omega (arith, low)) is
 
 -- all that is known where a target goes: its place, its index, and the adapters after it
-pub record Goes {A : Type 0} (heard : A → View) (xs : List (Attached A)) (x : Node) (number : AdapterNo) (place index : ℕ) (one after : Attached A) : Type 0 where
+pub record Goes {A : Type 0} (heard : A → View) (xs : List (Attached A)) (x : Node) (number : AdapterNo) (ordinal index : ℕ) (one after : Attached A) : Type 0 where
   pub there : is_target number x (listed heard xs) ≡ true
   pub index_is : index ≡ index_at (number, x) (listed heard xs)
   pub fewer : suc (length after.targets.items) ≡ length one.targets.items
   pub once : IsDistinct same_node (map (λ t. t.node) after.targets.items)
-  pub others : listed heard (set xs place after) ≡ without (number, x) (listed heard xs)
-  pub tied : (y : Node) → (if same_node x y then remove (entries y (listed heard xs)) index else entries y (listed heard xs)) ≡ entries y (listed heard (set xs place after))
-  pub counted : targets_len (listed heard (set xs place after)) + 1 ≡ targets_len (listed heard xs)
+  pub others : listed heard (set xs ordinal after) ≡ without (number, x) (listed heard xs)
+  pub tied : (y : Node) → (if same_node x y then remove (entries y (listed heard xs)) index else entries y (listed heard xs)) ≡ entries y (listed heard (set xs ordinal after))
+  pub counted : targets_len (listed heard (set xs ordinal after)) + 1 ≡ targets_len (listed heard xs)
 
-module _ {A : Type 0} (heard : A → View) (xs : List (Attached A)) (x : Node) (number : AdapterNo) (place index : ℕ) (one after : Attached A) where
-  goes : HasDistinctNumbers (listed heard xs) → AllByRecursion IsOnce (listed heard xs) → Some place ≡ position (has_no number) (listed heard xs) → place < length xs → one ≡ get_or xs place one
+module _ {A : Type 0} (heard : A → View) (xs : List (Attached A)) (x : Node) (number : AdapterNo) (ordinal index : ℕ) (one after : Attached A) where
+  goes : HasDistinctNumbers (listed heard xs) → AllByRecursion IsOnce (listed heard xs) → Some ordinal ≡ position (has_no number) (listed heard xs) → ordinal < length xs → one ≡ get_or xs ordinal one
       → Some index ≡ spot-at (is_target number x (listed heard xs)) (index_at (number, x) (listed heard xs))
       → after.no ≡ one.no → after.targets.items ≡ filter (λ t. not (is_at x t)) one.targets.items → heard after.adapter ≡ hear (heard one.adapter) (removing number x index)
-      → Goes heard xs x number place index one after
+      → Goes heard xs x number ordinal index one after
   goes distinct all at within is found same_number targets view =
       let rs = listed heard xs in
       let q = listed_one heard one in
-      let stands : slice_get rs place ≡ Some q = slice_get-map (listed_one heard) xs place ∙ ap (option_map (listed_one heard)) (slice_get_read xs (length xs) place one refl within is) in
-      let has : has_no number q ≡ true = passes-at (has_no number) rs place q at stands in
+      let stands : slice_get rs ordinal ≡ Some q = slice_get-map (listed_one heard) xs ordinal ∙ ap (option_map (listed_one heard)) (slice_get_read xs (length xs) ordinal one refl within is) in
+      let has : has_no number q ≡ true = passes-at (has_no number) rs ordinal q at stands in
       let spot = is-there (is_target number x rs) (index_at (number, x) rs) index found in
-      let target : has_target x q ≡ true = target-at x number rs place q distinct stands has spot.0 in
-      let mine : IsOnce q = subst (λ (o : Option Listed). IfSome o IsOnce) stands (once-there rs place all) in
+      let target : has_target x q ≡ true = target-at x number rs ordinal q distinct stands has spot.0 in
+      let mine : IsOnce q = subst (λ (o : Option Listed). IfSome o IsOnce) stands (once-there rs ordinal all) in
       let n : Notice = last_notice (number, x) rs in
       let heard_it : heard after.adapter ≡ hear q.view n = view ∙ ap (λ (i : ℕ). hear q.view (removing number x i)) spot.1 in
       let now : listed_one heard after ≡ losing x n q = λ i. record { no = same_number i; targets = targets i; view = heard_it i } in
       let fewer : suc (length after.targets.items) ≡ length one.targets.items = ap (λ (ts : List Target). suc (length ts)) targets ∙ one-fewer x one.targets.items mine target in
-      let put : listed heard (set xs place after) ≡ set rs place (losing x n q) = listed-put heard xs place after ∙ ap (set rs place) now in
-      let changed : listed heard (set xs place after) ≡ with_changed number (losing x n) rs = put ∙ sym (changed-set number (losing x n) rs place q distinct stands has) in
+      let put : listed heard (set xs ordinal after) ≡ set rs ordinal (losing x n q) = listed-put heard xs ordinal after ∙ ap (set rs ordinal) now in
+      let changed : listed heard (set xs ordinal after) ≡ with_changed number (losing x n) rs = put ∙ sym (changed-set number (losing x n) rs ordinal q distinct stands has) in
       record {
         there = spot.0;
         index_is = spot.1;
         fewer = fewer;
         once = subst (λ (ts : List Target). IsDistinct same_node (map (λ t. t.node) ts)) (sym targets) (once-filter x one.targets.items mine);
         others = changed ∙ without-one x number rs spot.0;
-        tied = λ y. elim (same_node x y) as (λ b. same_node x y ≡ b → (if b then remove (entries y rs) index else entries y rs) ≡ entries y (listed heard (set xs place after))) [
-          | true ↦ λ same. subst (λ (z : Node). remove (entries z rs) index ≡ entries z (listed heard (set xs place after))) (same_node-true x y same) (ap (remove (entries x rs)) spot.1 ∙ sym (entries-gone x number n rs spot.0 distinct) ∙ ap (entries x) (sym changed))
+        tied = λ y. elim (same_node x y) as (λ b. same_node x y ≡ b → (if b then remove (entries y rs) index else entries y rs) ≡ entries y (listed heard (set xs ordinal after))) [
+          | true ↦ λ same. subst (λ (z : Node). remove (entries z rs) index ≡ entries z (listed heard (set xs ordinal after))) (same_node-true x y same) (ap (remove (entries x rs)) spot.1 ∙ sym (entries-gone x number n rs spot.0 distinct) ∙ ap (entries x) (sym changed))
           | false ↦ λ other. sym (ap (entries y) changed ∙ entries-others x y number n rs other)
         ] refl;
-        counted = ap (λ (ss : List Listed). targets_len ss + 1) put ∙ targets_len-set rs place q (losing x n q) stands (ap (λ (ts : List Target). suc (length ts)) (sym targets) ∙ fewer);
+        counted = ap (λ (ss : List Listed). targets_len ss + 1) put ∙ targets_len-set rs ordinal q (losing x n q) stands (ap (λ (ts : List Target). suc (length ts)) (sym targets) ∙ fewer);
       }
 
   -- the adapter has some target
-  some-by : HasDistinctNumbers (listed heard xs) → Some place ≡ position (has_no number) (listed heard xs) → place < length xs → one ≡ get_or xs place one → Some index ≡ spot-at (is_target number x (listed heard xs)) (index_at (number, x) (listed heard xs)) → 0 < length one.targets.items
+  some-by : HasDistinctNumbers (listed heard xs) → Some ordinal ≡ position (has_no number) (listed heard xs) → ordinal < length xs → one ≡ get_or xs ordinal one → Some index ≡ spot-at (is_target number x (listed heard xs)) (index_at (number, x) (listed heard xs)) → 0 < length one.targets.items
   some-by distinct at within is found =
       let rs = listed heard xs in
       let q = listed_one heard one in
-      let stands : slice_get rs place ≡ Some q = slice_get-map (listed_one heard) xs place ∙ ap (option_map (listed_one heard)) (slice_get_read xs (length xs) place one refl within is) in
-      let has : has_no number q ≡ true = passes-at (has_no number) rs place q at stands in
+      let stands : slice_get rs ordinal ≡ Some q = slice_get-map (listed_one heard) xs ordinal ∙ ap (option_map (listed_one heard)) (slice_get_read xs (length xs) ordinal one refl within is) in
+      let has : has_no number q ≡ true = passes-at (has_no number) rs ordinal q at stands in
       let spot = is-there (is_target number x rs) (index_at (number, x) rs) index found in
-      any-some one.targets.items (target-at x number rs place q distinct stands has spot.0)
+      any-some one.targets.items (target-at x number rs ordinal q distinct stands has spot.0)
     where
       any-some : (ts : List Target) → list_any (is_at x) ts ≡ true → 0 < length ts
       any-some [] h = absurd (false≢true h)
@@ -254,9 +254,9 @@ index-low x number rs there = let low = low-from x number 0 rs there in omega (a
 ----------------------------------------------------------------- by the words of the list
 
 -- where a target stands: the place of its adapter, and its index among those that have the target
-pub record Stands {A : Type 0} (heard : A → View) (xs : List (Attached A)) (x : Node) (number : AdapterNo) (place index : ℕ) : Type 0 where
-  pub within : place < length xs
-  pub at : Some place ≡ position (has_no number) (listed heard xs)
+pub record Stands {A : Type 0} (heard : A → View) (xs : List (Attached A)) (x : Node) (number : AdapterNo) (ordinal index : ℕ) : Type 0 where
+  pub within : ordinal < length xs
+  pub at : Some ordinal ≡ position (has_no number) (listed heard xs)
   pub found : Some index ≡ spot-at (is_target number x (listed heard xs)) (index_at (number, x) (listed heard xs))
   pub there : is_target number x (listed heard xs) ≡ true
   pub index_is : index ≡ index_at (number, x) (listed heard xs)
@@ -270,8 +270,8 @@ module _ {A : Type 0} {heard : A → View} {places : A → ℕ} {xs : List (Atta
   pub no-spot : None ≡ position (at-number number) (entries_in t x) → is_target number x now ≡ false
   no-spot none = not-there (is_target number x now) (index_at (number, x) now) (none ∙ position-found)
 
-  module _ (place index : ℕ) where
-    pub standing : Some place ≡ position (has_no number) now → place < length now → Some index ≡ position (at-number number) (entries_in t x) → Stands heard xs x number place index
+  module _ (ordinal index : ℕ) where
+    pub standing : Some ordinal ≡ position (has_no number) now → ordinal < length now → Some index ≡ position (at-number number) (entries_in t x) → Stands heard xs x number ordinal index
     standing at low found =
         let rs = listed heard xs in
         let many : length xs ≡ length now = sym (length-map xs (listed_one heard)) ∙ ap (λ (ys : List Listed). length ys) seen in
@@ -287,12 +287,12 @@ module _ {A : Type 0} {heard : A → View} {places : A → ℕ} {xs : List (Atta
           low = omega (arith, spot.1, less);
         }
 
-    module _ (stands : Stands heard xs x number place index) (one : Attached A) (is : one ≡ get_or xs place one) where
+    module _ (stands : Stands heard xs x number ordinal index) (one : Attached A) (is : one ≡ get_or xs ordinal one) where
       -- the adapter has some target
       pub some-target : 0 < length one.targets.items
-      some-target = some-by heard xs x number place index one one (distinct-numbers heard xs keys sound.numbered sound.distinct) stands.at stands.within is stands.found
+      some-target = some-by heard xs x number ordinal index one one (distinct-numbers heard xs keys sound.numbered sound.distinct) stands.at stands.within is stands.found
 
       -- all that is known once it has gone
-      pub going : (after : Attached A) → after.no ≡ one.no → after.targets.items ≡ filter (λ q. not (is_at x q)) one.targets.items → heard after.adapter ≡ hear (heard one.adapter) (removing number x index) → Goes heard xs x number place index one after
+      pub going : (after : Attached A) → after.no ≡ one.no → after.targets.items ≡ filter (λ q. not (is_at x q)) one.targets.items → heard after.adapter ≡ hear (heard one.adapter) (removing number x index) → Goes heard xs x number ordinal index one after
       going after same_number targets view =
-          goes heard xs x number place index one after (distinct-numbers heard xs keys sound.numbered sound.distinct) (recursion_from_All IsOnce (listed heard xs) sound.once) stands.at stands.within is stands.found same_number targets view
+          goes heard xs x number ordinal index one after (distinct-numbers heard xs keys sound.numbered sound.distinct) (recursion_from_All IsOnce (listed heard xs) sound.once) stands.at stands.within is stands.found same_number targets view

@@ -22,7 +22,7 @@ use Rattle.mm_types.specs.declared.numbers.Node.{Node}
 use Rattle.mm_types.specs.declared.numbers.Node.TheVariants as node
 use Rattle.mm_types.specs.declared.numbers.ObjectNo.{ObjectNo}
 use Rattle.notice_chain.specs.Listed.{Above, HasDistinctNumbers, Listed, brings_in, has_no, has_target, is_at, same_no}
-use Rattle.adapter_list.specs.Hearing.{hearers, hears_node, is_touched, places_from, touched}
+use Rattle.adapter_list.specs.Hearing.{hearers, hears_node, is_touched, ordinals_from, touched}
 use Rattle.adapter_list.specs.Targets.{IsOnce, entries, finds, has_number_at, is_attached, is_attached_at}
 use Rattle.adapter_list.specs.declared.target_lists.Entry.{Entry}
 use Rattle.notice_chain.specs.declared.target.Target.{Target}
@@ -74,23 +74,23 @@ module _ {X : Type 0} (f : X → AdapterNo) where
   number-at P (q ∷ xs) (suc k) r h e = number-at P xs k r h.1 e
 
   -- where numbers are distinct, each is at one place
-  pub one-place : (xs : List X) (i k : ℕ) (q r : X) → IsDistinct same_no (map f xs) → slice_get xs i ≡ Some q → slice_get xs k ≡ Some r → same_no (f q) (f r) ≡ true → k ≡ i
-  one-place [] i k q r distinct at there same = absurd (no-some q at)
-  one-place (x ∷ xs) zero zero q r distinct at there same = refl
-  one-place (x ∷ xs) zero (suc k) q r distinct at there same =
+  pub one-ordinal : (xs : List X) (i k : ℕ) (q r : X) → IsDistinct same_no (map f xs) → slice_get xs i ≡ Some q → slice_get xs k ≡ Some r → same_no (f q) (f r) ≡ true → k ≡ i
+  one-ordinal [] i k q r distinct at there same = absurd (no-some q at)
+  one-ordinal (x ∷ xs) zero zero q r distinct at there same = refl
+  one-ordinal (x ∷ xs) zero (suc k) q r distinct at there same =
       let first : x ≡ q = cc in
       let apart : same_no (f x) (f r) ≡ false = number-at (λ n. same_no (f x) n ≡ false) xs k r (IsDistinct-head same_no (f x) (map f xs) distinct) there in
       absurd (false≢true (sym apart ∙ ap (λ (y : X). same_no (f y) (f r)) first ∙ same))
-  one-place (x ∷ xs) (suc i) zero q r distinct at there same =
+  one-ordinal (x ∷ xs) (suc i) zero q r distinct at there same =
       let first : x ≡ r = cc in
       let apart : same_no (f x) (f q) ≡ false = number-at (λ n. same_no (f x) n ≡ false) xs i q (IsDistinct-head same_no (f x) (map f xs) distinct) at in
       absurd (false≢true (sym (flipped (f x) (f q) apart) ∙ ap (λ (y : X). same_no (f q) (f y)) first ∙ same))
-  one-place (x ∷ xs) (suc i) (suc k) q r distinct at there same = ap suc (one-place xs i k q r (IsDistinct-tail same_no (f x) (map f xs) distinct) at there same)
+  one-ordinal (x ∷ xs) (suc i) (suc k) q r distinct at there same = ap suc (one-ordinal xs i k q r (IsDistinct-tail same_no (f x) (map f xs) distinct) at there same)
 
   pub places-apart : (xs : List X) (i k : ℕ) (q r : X) → IsDistinct same_no (map f xs) → slice_get xs i ≡ Some q → slice_get xs k ≡ Some r → (k ≡ i → ⊥) → same_no (f q) (f r) ≡ false
   places-apart xs i k q r distinct at there other =
       elim (same_no (f q) (f r)) as (λ b. same_no (f q) (f r) ≡ b → b ≡ false) [
-        | true ↦ λ same. absurd (other (one-place xs i k q r distinct at there same))
+        | true ↦ λ same. absurd (other (one-ordinal xs i k q r distinct at there same))
         | false ↦ λ _. refl
       ] refl
 
@@ -105,7 +105,7 @@ number-here rs number i q distinct at has k = by (slice_get rs k) refl
     by None e = sym (ne_eqb k i (λ (h : k ≡ i). no-some q (sym e ∙ at_i h)))
     by (Some r) e =
         elim (has_no number r) as (λ b. has_no number r ≡ b → b ≡ nat_eq k i) [
-          | true ↦ λ yes. sym (eq-eqb k i (one-place (λ (y : Listed). y.no) rs i k q r distinct at e (let same : q.no.0 ≡ r.no.0 = sym (eqb-true number.0 q.no.0 has) ∙ eqb-true number.0 r.no.0 yes in eq-eqb q.no.0 r.no.0 same)))
+          | true ↦ λ yes. sym (eq-eqb k i (one-ordinal (λ (y : Listed). y.no) rs i k q r distinct at e (let same : q.no.0 ≡ r.no.0 = sym (eqb-true number.0 q.no.0 has) ∙ eqb-true number.0 r.no.0 yes in eq-eqb q.no.0 r.no.0 same)))
           | false ↦ λ other. sym (ne_eqb k i (λ (h : k ≡ i). let same : q ≡ r = same_Some q r (sym (at_i h) ∙ e) in false≢true (sym other ∙ ap (has_no number) (sym same) ∙ has)))
         ] refl
 
@@ -279,56 +279,56 @@ deep-first t ts apart (a ∷ xs) =
 
 -- the places of the adapters of which something is so
 module _ (p : Listed → Bool) where
-  none-before : (k j : ℕ) (rs : List Listed) → k < j → list_any (λ y. is_eq (nat_cmp k y)) (places_from p j rs) ≡ false
+  none-before : (k j : ℕ) (rs : List Listed) → k < j → list_any (λ y. is_eq (nat_cmp k y)) (ordinals_from p j rs) ≡ false
   none-before k j [] h = refl
   none-before k j (r ∷ rs) h =
       let later = none-before k (suc j) rs (omega (arith, h)) in
-      elim (p r) as (λ b. list_any (λ y. is_eq (nat_cmp k y)) (cond b (j ∷ places_from p (suc j) rs) (places_from p (suc j) rs)) ≡ false) [
-        | true ↦ ap (λ c. c || list_any (λ y. is_eq (nat_cmp k y)) (places_from p (suc j) rs)) (is_eq-nat k j ∙ ne_eqb k j (λ (e : k ≡ j). omega (arith, h, e))) ∙ later
+      elim (p r) as (λ b. list_any (λ y. is_eq (nat_cmp k y)) (cond b (j ∷ ordinals_from p (suc j) rs) (ordinals_from p (suc j) rs)) ≡ false) [
+        | true ↦ ap (λ c. c || list_any (λ y. is_eq (nat_cmp k y)) (ordinals_from p (suc j) rs)) (is_eq-nat k j ∙ ne_eqb k j (λ (e : k ≡ j). omega (arith, h, e))) ∙ later
         | false ↦ later
       ]
 
-  has-place : (i j : ℕ) (rs : List Listed) → list_any (λ y. is_eq (nat_cmp (j + i) y)) (places_from p j rs) ≡ option_map_or p (slice_get rs i) false
-  has-place i j [] = refl
-  has-place zero j (r ∷ rs) =
-      elim (p r) as (λ b. list_any (λ y. is_eq (nat_cmp (j + 0) y)) (cond b (j ∷ places_from p (suc j) rs) (places_from p (suc j) rs)) ≡ b) [
-        | true ↦ ap (λ c. c || list_any (λ y. is_eq (nat_cmp (j + 0) y)) (places_from p (suc j) rs)) (is_eq-nat (j + 0) j ∙ eq-eqb (j + 0) j (omega arith))
+  has-ordinal : (i j : ℕ) (rs : List Listed) → list_any (λ y. is_eq (nat_cmp (j + i) y)) (ordinals_from p j rs) ≡ option_map_or p (slice_get rs i) false
+  has-ordinal i j [] = refl
+  has-ordinal zero j (r ∷ rs) =
+      elim (p r) as (λ b. list_any (λ y. is_eq (nat_cmp (j + 0) y)) (cond b (j ∷ ordinals_from p (suc j) rs) (ordinals_from p (suc j) rs)) ≡ b) [
+        | true ↦ ap (λ c. c || list_any (λ y. is_eq (nat_cmp (j + 0) y)) (ordinals_from p (suc j) rs)) (is_eq-nat (j + 0) j ∙ eq-eqb (j + 0) j (omega arith))
         | false ↦ none-before (j + 0) (suc j) rs (omega arith)
       ]
-  has-place (suc i) j (r ∷ rs) =
+  has-ordinal (suc i) j (r ∷ rs) =
       let moved : suc j + i ≡ j + suc i = omega arith in
-      let later : list_any (λ y. is_eq (nat_cmp (j + suc i) y)) (places_from p (suc j) rs) ≡ option_map_or p (slice_get rs i) false =
-      subst (λ (k : ℕ). list_any (λ y. is_eq (nat_cmp k y)) (places_from p (suc j) rs) ≡ option_map_or p (slice_get rs i) false) moved (has-place i (suc j) rs) in
-      elim (p r) as (λ b. list_any (λ y. is_eq (nat_cmp (j + suc i) y)) (cond b (j ∷ places_from p (suc j) rs) (places_from p (suc j) rs)) ≡ option_map_or p (slice_get rs i) false) [
-        | true ↦ ap (λ c. c || list_any (λ y. is_eq (nat_cmp (j + suc i) y)) (places_from p (suc j) rs)) (is_eq-nat (j + suc i) j ∙ ne_eqb (j + suc i) j (λ (e : j + suc i ≡ j). omega (arith, e))) ∙ later
+      let later : list_any (λ y. is_eq (nat_cmp (j + suc i) y)) (ordinals_from p (suc j) rs) ≡ option_map_or p (slice_get rs i) false =
+      subst (λ (k : ℕ). list_any (λ y. is_eq (nat_cmp k y)) (ordinals_from p (suc j) rs) ≡ option_map_or p (slice_get rs i) false) moved (has-ordinal i (suc j) rs) in
+      elim (p r) as (λ b. list_any (λ y. is_eq (nat_cmp (j + suc i) y)) (cond b (j ∷ ordinals_from p (suc j) rs) (ordinals_from p (suc j) rs)) ≡ option_map_or p (slice_get rs i) false) [
+        | true ↦ ap (λ c. c || list_any (λ y. is_eq (nat_cmp (j + suc i) y)) (ordinals_from p (suc j) rs)) (is_eq-nat (j + suc i) j ∙ ne_eqb (j + suc i) j (λ (e : j + suc i ≡ j). omega (arith, e))) ∙ later
         | false ↦ later
       ]
 
   less : (k j : ℕ) → k < j → nat_cmp k j ≡ Less
   less k j h = grind (arith, nat_tests)
 
-  all-behind : (k j : ℕ) (rs : List Listed) → k < j → AllByRecursion (λ y. nat_cmp k y ≡ Less) (places_from p j rs)
+  all-behind : (k j : ℕ) (rs : List Listed) → k < j → AllByRecursion (λ y. nat_cmp k y ≡ Less) (ordinals_from p j rs)
   all-behind k j [] h = tt
   all-behind k j (r ∷ rs) h =
       let later = all-behind k (suc j) rs (omega (arith, h)) in
-      elim (p r) as (λ b. AllByRecursion (λ y. nat_cmp k y ≡ Less) (cond b (j ∷ places_from p (suc j) rs) (places_from p (suc j) rs))) [ true ↦ (less k j h, later) | false ↦ later ]
+      elim (p r) as (λ b. AllByRecursion (λ y. nat_cmp k y ≡ Less) (cond b (j ∷ ordinals_from p (suc j) rs) (ordinals_from p (suc j) rs))) [ true ↦ (less k j h, later) | false ↦ later ]
 
-  in-order : (j : ℕ) (rs : List Listed) → IsStrictlySortedBy nat_cmp (places_from p j rs)
+  in-order : (j : ℕ) (rs : List Listed) → IsStrictlySortedBy nat_cmp (ordinals_from p j rs)
   unfolding IsStrictlySortedBy
   in-order j [] = tt
   in-order j (r ∷ rs) =
-      elim (p r) as (λ b. IsStrictlySortedBy nat_cmp (cond b (j ∷ places_from p (suc j) rs) (places_from p (suc j) rs))) [
+      elim (p r) as (λ b. IsStrictlySortedBy nat_cmp (cond b (j ∷ ordinals_from p (suc j) rs) (ordinals_from p (suc j) rs))) [
         | true ↦ (all-behind j (suc j) rs (omega arith), in-order (suc j) rs)
         | false ↦ in-order (suc j) rs
       ]
 
   -- a set with the places of which this is so, and with no others
-  pub places-are : (rs : List Listed) (s : BTreeSet ℕ) → tree.IsOrdered nat_cmp s → ((k : ℕ) → tree.contains nat_cmp s k ≡ option_map_or p (slice_get rs k) false) → s.keys ≡ places_from p 0 rs
+  pub places-are : (rs : List Listed) (s : BTreeSet ℕ) → tree.IsOrdered nat_cmp s → ((k : ℕ) → tree.contains nat_cmp s k ≡ option_map_or p (slice_get rs k) false) → s.keys ≡ ordinals_from p 0 rs
   places-are rs s order has =
-      let all : BTreeSet ℕ = record { keys = places_from p 0 rs } in
+      let all : BTreeSet ℕ = record { keys = ordinals_from p 0 rs } in
       let same : (k : ℕ) → tree.contains nat_cmp s k ≡ tree.contains nat_cmp all k =
       λ k. let plain : 0 + k ≡ k = omega arith in
-      has k ∙ sym (subst (λ (j : ℕ). list_any (λ y. is_eq (nat_cmp j y)) (places_from p 0 rs) ≡ option_map_or p (slice_get rs k) false) plain (has-place k 0 rs)) in
+      has k ∙ sym (subst (λ (j : ℕ). list_any (λ y. is_eq (nat_cmp j y)) (ordinals_from p 0 rs) ≡ option_map_or p (slice_get rs k) false) plain (has-ordinal k 0 rs)) in
       btree_set_from_contains nat_cmp_total s all order (in-order 0 rs) same exact_unsigned
 
 module _ (up : Above) (x : Node) where

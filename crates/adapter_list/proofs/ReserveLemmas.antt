@@ -15,7 +15,7 @@ use Rattle.notice_chain.specs.View.{View}
 use Rattle.notice_chain.specs.Listed.{Above, Listed, heard_of, is_full, is_chain_full}
 use Rattle.notice_chain.specs.declared.notice.Notice.{Notice}
 use Rattle.adapter_list.specs.Attached.{HasReserve}
-use Rattle.adapter_list.specs.Counts.{IsCounted, IsFirstFull, IsFullFor, IsReadyFor, copies_len, is_place_of, told_at_place}
+use Rattle.adapter_list.specs.Counts.{IsCounted, IsFirstFull, IsFullFor, IsReadyFor, copies_len, is_ordinal_of, told_at_ordinal}
 use Rattle.adapter_list.specs.Refusals.{IsChainRefusal, refusal_of}
 use Rattle.adapter_list.specs.Rounds.{round_copies}
 use Rattle.adapter_list.specs.Targets.{targets_at}
@@ -79,11 +79,11 @@ set-is (y ∷ ks) k = ap (λ b. b || list_any (nat_eq k) ks) (sym (eq-is k y)) �
     eq-is : (i j : ℕ) → is_eq (nat_cmp i j) ≡ nat_eq i j
     eq-is i j = grind (arith, nat_tests)
 
-pub place-more : (cs : List (ℕ × Notice)) (i k : ℕ) (x : ℕ × Notice) (b new all : Bool) → i < length cs → x ≡ get_or cs i x → new ≡ cond (is_eq (nat_cmp x.0 k)) true b → (b || is_place_of (drop i cs) k) ≡ all → (new || is_place_of (drop (i + 1) cs) k) ≡ all
-place-more cs i k x b new all low is now whole =
-    ap (λ c. c || is_place_of (drop (i + 1) cs) k) (now ∙ ap (λ c. cond c true b) (eq-is x.0 k))
-    ∙ step b (nat_eq x.0 k) (is_place_of (drop (i + 1) cs) k)
-    ∙ ap (λ (ds : List (ℕ × Notice)). b || is_place_of ds k) (sym (first cs i x low is))
+pub ordinal-more : (cs : List (ℕ × Notice)) (i k : ℕ) (x : ℕ × Notice) (b new all : Bool) → i < length cs → x ≡ get_or cs i x → new ≡ cond (is_eq (nat_cmp x.0 k)) true b → (b || is_ordinal_of (drop i cs) k) ≡ all → (new || is_ordinal_of (drop (i + 1) cs) k) ≡ all
+ordinal-more cs i k x b new all low is now whole =
+    ap (λ c. c || is_ordinal_of (drop (i + 1) cs) k) (now ∙ ap (λ c. cond c true b) (eq-is x.0 k))
+    ∙ step b (nat_eq x.0 k) (is_ordinal_of (drop (i + 1) cs) k)
+    ∙ ap (λ (ds : List (ℕ × Notice)). b || is_ordinal_of ds k) (sym (first cs i x low is))
     ∙ whole
   where
     eq-is : (m n : ℕ) → is_eq (nat_cmp m n) ≡ nat_eq m n
@@ -95,9 +95,9 @@ place-more cs i k x b new all low is now whole =
     step false true r = refl
     step false false r = refl
 
-pub places-all : (cs : List (ℕ × Notice)) (i k : ℕ) (ks found : List ℕ) (all : Bool) → length cs ≤ i → found ≡ ks → (list_any (λ y. is_eq (nat_cmp k y)) ks || is_place_of (drop i cs) k) ≡ all → list_any (nat_eq k) found ≡ all
+pub places-all : (cs : List (ℕ × Notice)) (i k : ℕ) (ks found : List ℕ) (all : Bool) → length cs ≤ i → found ≡ ks → (list_any (λ y. is_eq (nat_cmp k y)) ks || is_ordinal_of (drop i cs) k) ≡ all → list_any (nat_eq k) found ≡ all
 places-all cs i k ks found all past is whole =
-    ap (list_any (nat_eq k)) is ∙ set-is ks k ∙ or-false (list_any (λ y. is_eq (nat_cmp k y)) ks) ∙ ap (λ (ds : List (ℕ × Notice)). list_any (λ y. is_eq (nat_cmp k y)) ks || is_place_of ds k) (sym (drop_all i cs past)) ∙ whole
+    ap (list_any (nat_eq k)) is ∙ set-is ks k ∙ or-false (list_any (λ y. is_eq (nat_cmp k y)) ks) ∙ ap (λ (ds : List (ℕ × Notice)). list_any (λ y. is_eq (nat_cmp k y)) ks || is_ordinal_of ds k) (sym (drop_all i cs past)) ∙ whole
   where
     or-false : (b : Bool) → b ≡ (b || false)
     or-false true = refl
@@ -113,26 +113,26 @@ counted-nothing (Some n) all h = omega (arith, h.1)
 pub count-is : (cs : List (ℕ × Notice)) (k : ℕ) (o : Option ℕ) → IsCounted o 0 (copies_len cs k) → unwrap_or o 0 ≡ copies_len cs k
 count-is cs k o h = counted-nothing o (copies_len cs k) h
 
-is_place-more : (cs : List (ℕ × Notice)) (k : ℕ) → is_place_of cs k ≡ true → 0 < copies_len cs k
+is_place-more : (cs : List (ℕ × Notice)) (k : ℕ) → is_ordinal_of cs k ≡ true → 0 < copies_len cs k
 is_place-more [] k h = absurd (false≢true h)
 is_place-more (c ∷ cs) k h =
-    elim (nat_eq c.0 k) as (λ b. (b || is_place_of cs k) ≡ true → 0 < length (map (λ (d : ℕ × Notice). d.1) (cond b (c ∷ filter (λ d. nat_eq d.0 k) cs) (filter (λ d. nat_eq d.0 k) cs)))) [
+    elim (nat_eq c.0 k) as (λ b. (b || is_ordinal_of cs k) ≡ true → 0 < length (map (λ (d : ℕ × Notice). d.1) (cond b (c ∷ filter (λ d. nat_eq d.0 k) cs) (filter (λ d. nat_eq d.0 k) cs)))) [
       | true ↦ λ _. omega arith
       | false ↦ λ later. is_place-more cs k later
     ] h
 
-is_place-none : (cs : List (ℕ × Notice)) (k : ℕ) → is_place_of cs k ≡ false → copies_len cs k ≡ 0
+is_place-none : (cs : List (ℕ × Notice)) (k : ℕ) → is_ordinal_of cs k ≡ false → copies_len cs k ≡ 0
 is_place-none [] k h = refl
 is_place-none (c ∷ cs) k h =
-    elim (nat_eq c.0 k) as (λ b. (b || is_place_of cs k) ≡ false → length (map (λ (d : ℕ × Notice). d.1) (cond b (c ∷ filter (λ d. nat_eq d.0 k) cs) (filter (λ d. nat_eq d.0 k) cs))) ≡ 0) [
+    elim (nat_eq c.0 k) as (λ b. (b || is_ordinal_of cs k) ≡ false → length (map (λ (d : ℕ × Notice). d.1) (cond b (c ∷ filter (λ d. nat_eq d.0 k) cs) (filter (λ d. nat_eq d.0 k) cs))) ≡ 0) [
       | true ↦ λ other. absurd (false≢true (sym other))
       | false ↦ λ later. is_place-none cs k later
     ] h
 
-is_place-within : (n : ℕ) (cs : List (ℕ × Notice)) (k : ℕ) → AllByRecursion (λ c. c.0 < n) cs → is_place_of cs k ≡ true → k < n
+is_place-within : (n : ℕ) (cs : List (ℕ × Notice)) (k : ℕ) → AllByRecursion (λ c. c.0 < n) cs → is_ordinal_of cs k ≡ true → k < n
 is_place-within n [] k h e = absurd (false≢true e)
 is_place-within n (c ∷ cs) k h e =
-    elim (nat_eq c.0 k) as (λ b. nat_eq c.0 k ≡ b → (b || is_place_of cs k) ≡ true → k < n) [
+    elim (nat_eq c.0 k) as (λ b. nat_eq c.0 k ≡ b → (b || is_ordinal_of cs k) ≡ true → k < n) [
       | true ↦ λ same _. subst (λ (j : ℕ). j < n) (eqb-true c.0 k same) h.0
       | false ↦ λ _ later. is_place-within n cs k h.1 later
     ] refl e
@@ -145,7 +145,7 @@ ready-more rs ps qs k n same more h = record { places = λ low. let few = h.plac
 abbrev pub AreAsked : List Listed → List ℕ → List (ℕ × Notice) → List ℕ → Type 0
 AreAsked rs ps cs rest = (k : ℕ) → list_any (nat_eq k) rest ≡ false → IsReadyFor rs ps k (copies_len cs k)
 
-pub asked-none : (rs : List Listed) (ps : List ℕ) (cs : List (ℕ × Notice)) (all : List ℕ) → HasReserve rs ps → ((k : ℕ) → list_any (nat_eq k) all ≡ is_place_of cs k) → AreAsked rs ps cs all
+pub asked-none : (rs : List Listed) (ps : List ℕ) (cs : List (ℕ × Notice)) (all : List ℕ) → HasReserve rs ps → ((k : ℕ) → list_any (nat_eq k) all ≡ is_ordinal_of cs k) → AreAsked rs ps cs all
 asked-none rs ps cs all reserve places = λ k other.
     let none : copies_len cs k ≡ 0 = is_place-none cs k (sym (places k) ∙ other) in
     let room = reserve k in
@@ -156,7 +156,7 @@ in-at [] i low = absurd (omega (arith, low))
 in-at (x ∷ all) zero low = let same : nat_eq x x ≡ true = eq-eqb x x refl in ap (λ b. b || list_any (nat_eq x) all) same
 in-at (x ∷ all) (suc i) low = elim (nat_eq (get_or all i 0) x) as (λ b. (b || list_any (nat_eq (get_or all i 0)) all) ≡ true) [ true ↦ refl | false ↦ in-at all i (omega (arith, low)) ]
 
-module _ (cs : List (ℕ × Notice)) (all : List ℕ) (places : (k : ℕ) → list_any (nat_eq k) all ≡ is_place_of cs k) (i : ℕ) (low : i < length all) where
+module _ (cs : List (ℕ × Notice)) (all : List ℕ) (places : (k : ℕ) → list_any (nat_eq k) all ≡ is_ordinal_of cs k) (i : ℕ) (low : i < length all) where
   -- the adapter that is asked next gets copies
   pub asked-some : 0 < copies_len cs (get_or all i 0)
   asked-some = is_place-more cs (get_or all i 0) (sym (places (get_or all i 0)) ∙ in-at all i low)
@@ -216,7 +216,7 @@ there [] k h = absurd (omega (arith, h))
 there (r ∷ rs) zero h = (r, refl)
 there (r ∷ rs) (suc k) h = there rs k (omega (arith, h))
 
-pub told-there : (rs : List Listed) (k : ℕ) (r : Listed) → slice_get rs k ≡ Some r → told_at_place rs k ≡ r.view.told
+pub told-there : (rs : List Listed) (k : ℕ) (r : Listed) → slice_get rs k ≡ Some r → told_at_ordinal rs k ≡ r.view.told
 told-there [] k r e = absurd (none-of e)
   where
     none-of : None ≡ Some r → ⊥

@@ -19,7 +19,7 @@ use Rattle.notice_chain.specs.View.{View}
 use Rattle.notice_chain.specs.Listed.{HasDistinctNumbers, HasDistinctTargets, HaveTargets, Listed, adapter, has_no, has_target, is_at, is_target, same_no, targets_len, watched, with_target}
 use Rattle.notice_chain.specs.declared.target.Target.{Target}
 use Rattle.adapter_list.specs.Attached.{IsSound, IsWhole, listed, listed_one}
-use Rattle.adapter_list.specs.Counts.{told_at_place}
+use Rattle.adapter_list.specs.Counts.{told_at_ordinal}
 use Rattle.adapter_list.specs.Refusals.{but_memory, refusal_of, target_refusal, watch_refusal}
 use Rattle.adapter_list.specs.Targets.{AreSameMarks, AreSetAt, HasNoEmpty, IsOnce, entries, entries_in, entry_of, is_any, targets_at}
 use Rattle.adapter_list.specs.declared.attached.Attached.{Attached}
@@ -144,9 +144,9 @@ module _ (before : AdapterNo → Bool) (x : Node) where
       some-step r (entries x rs) (entries x (take n rs)) yes (count-before rs n (λ j q e. h (suc j) q e ∙ lt-suc j n)) (find (is_at x) r.targets)
 
 -- the entries of a node whose adapters stand before a place
-pub entries-before : (x : Node) (rs : List Listed) (place : ℕ) → HasDistinctNumbers rs → length (filter (λ e. option_map_or (λ k. nat_lt k place) (position (has_no e.no) rs) false) (entries x rs)) ≡ length (entries x (take place rs))
-entries-before x rs place distinct =
-    count-before (λ n. option_map_or (λ k. nat_lt k place) (position (has_no n) rs) false) x rs place (λ j r e. ap (λ (o : Option ℕ). option_map_or (λ k. nat_lt k place) o false) (position-here rs j r distinct e))
+pub entries-before : (x : Node) (rs : List Listed) (ordinal : ℕ) → HasDistinctNumbers rs → length (filter (λ e. option_map_or (λ k. nat_lt k ordinal) (position (has_no e.no) rs) false) (entries x rs)) ≡ length (entries x (take ordinal rs))
+entries-before x rs ordinal distinct =
+    count-before (λ n. option_map_or (λ k. nat_lt k ordinal) (position (has_no n) rs) false) x rs ordinal (λ j r e. ap (λ (o : Option ℕ). option_map_or (λ k. nat_lt k ordinal) o false) (position-here rs j r distinct e))
 
 -- how many stand before is at most how many there are
 fewer-before : (o : Option Entry) (ds es : List Entry) → length ds ≤ length es → length (cons_option o ds) ≤ length (cons_option o es)
@@ -278,20 +278,20 @@ module _ {A : Type 0} {heard : A → View} {places : A → ℕ} {xs : List (Atta
 
 ----------------------------------------------------------------- why it is refused
 
-found-at : (rs : List Listed) (number : AdapterNo) (i : ℕ) → Some i ≡ position (has_no number) rs → i < length rs → target_refusal (adapter number rs) ≡ (if nat_le (2 ^ 64) (told_at_place rs i + (targets_at rs i + 1)) then Some refused.AdapterFull else None)
+found-at : (rs : List Listed) (number : AdapterNo) (i : ℕ) → Some i ≡ position (has_no number) rs → i < length rs → target_refusal (adapter number rs) ≡ (if nat_le (2 ^ 64) (told_at_ordinal rs i + (targets_at rs i + 1)) then Some refused.AdapterFull else None)
 found-at rs number i at low =
     let one = there rs i low in
     let found : adapter number rs ≡ Some one.0 = find-position (has_no number) rs ∙ ap (option_and_then (slice_get rs)) (sym at) ∙ one.1 in
-    ap target_refusal found ∙ ap (λ (n : ℕ). if nat_le (2 ^ 64) n then Some refused.AdapterFull else None) (sym (let told = told-there rs i one.0 one.1 in let many = targets-there rs i one.0 one.1 in let sum : told_at_place rs i + (targets_at rs i + 1) ≡ one.0.view.told + (length one.0.targets + 1) = omega (arith, told, many) in sum))
+    ap target_refusal found ∙ ap (λ (n : ℕ). if nat_le (2 ^ 64) n then Some refused.AdapterFull else None) (sym (let told = told-there rs i one.0 one.1 in let many = targets-there rs i one.0 one.1 in let sum : told_at_ordinal rs i + (targets_at rs i + 1) ≡ one.0.view.told + (length one.0.targets + 1) = omega (arith, told, many) in sum))
 
 -- by what its adapter answers to a request for places
-pub target-refused : (rs : List Listed) (number : AdapterNo) (i n : ℕ) (reason : NoRoom) → Some i ≡ position (has_no number) rs → i < length rs → n ≡ targets_at rs i → (reason ≡ room.Full → 2 ^ 64 ≤ told_at_place rs i + (n + 1)) → (2 ^ 64 ≤ told_at_place rs i + (n + 1) → reason ≡ room.Full) → but_memory (refusal_of reason) ≡ target_refusal (adapter number rs)
+pub target-refused : (rs : List Listed) (number : AdapterNo) (i n : ℕ) (reason : NoRoom) → Some i ≡ position (has_no number) rs → i < length rs → n ≡ targets_at rs i → (reason ≡ room.Full → 2 ^ 64 ≤ told_at_ordinal rs i + (n + 1)) → (2 ^ 64 ≤ told_at_ordinal rs i + (n + 1) → reason ≡ room.Full) → but_memory (refusal_of reason) ≡ target_refusal (adapter number rs)
 target-refused rs number i n reason at low many full only = by reason full only ∙ sym (found-at rs number i at low)
   where
-    by : (e : NoRoom) → (e ≡ room.Full → 2 ^ 64 ≤ told_at_place rs i + (n + 1)) → (2 ^ 64 ≤ told_at_place rs i + (n + 1) → e ≡ room.Full) → but_memory (refusal_of e) ≡ (if nat_le (2 ^ 64) (told_at_place rs i + (targets_at rs i + 1)) then Some refused.AdapterFull else None)
+    by : (e : NoRoom) → (e ≡ room.Full → 2 ^ 64 ≤ told_at_ordinal rs i + (n + 1)) → (2 ^ 64 ≤ told_at_ordinal rs i + (n + 1) → e ≡ room.Full) → but_memory (refusal_of e) ≡ (if nat_le (2 ^ 64) (told_at_ordinal rs i + (targets_at rs i + 1)) then Some refused.AdapterFull else None)
     by room.Full past back = let over = past refl in sym (ap (λ b. if b then Some refused.AdapterFull else None) (le-leb _ _ (omega (arith, over, many))))
     by room.Memory past back =
-        elim (nat_le (2 ^ 64) (told_at_place rs i + (targets_at rs i + 1))) as (λ b. nat_le (2 ^ 64) (told_at_place rs i + (targets_at rs i + 1)) ≡ b → None ≡ (if b then Some refused.AdapterFull else None)) [
+        elim (nat_le (2 ^ 64) (told_at_ordinal rs i + (targets_at rs i + 1))) as (λ b. nat_le (2 ^ 64) (told_at_ordinal rs i + (targets_at rs i + 1)) ≡ b → None ≡ (if b then Some refused.AdapterFull else None)) [
           | true ↦ λ over. absurd (memory-full (back (let far = leb-true _ _ over in omega (arith, far, many))))
           | false ↦ λ _. refl
         ] refl
@@ -299,10 +299,10 @@ target-refused rs number i n reason at low many full only = by reason full only 
         memory-full : room.Memory ≡ room.Full → ⊥
         memory-full e = cc
 
-pub target-allowed : (rs : List Listed) (number : AdapterNo) (i n : ℕ) → Some i ≡ position (has_no number) rs → i < length rs → n ≡ targets_at rs i → (2 ^ 64 ≤ told_at_place rs i + (n + 1) → ⊥) → target_refusal (adapter number rs) ≡ None
+pub target-allowed : (rs : List Listed) (number : AdapterNo) (i n : ℕ) → Some i ≡ position (has_no number) rs → i < length rs → n ≡ targets_at rs i → (2 ^ 64 ≤ told_at_ordinal rs i + (n + 1) → ⊥) → target_refusal (adapter number rs) ≡ None
 target-allowed rs number i n at low many fits =
     found-at rs number i at low
-    ∙ elim (nat_le (2 ^ 64) (told_at_place rs i + (targets_at rs i + 1))) as (λ b. nat_le (2 ^ 64) (told_at_place rs i + (targets_at rs i + 1)) ≡ b → (if b then Some refused.AdapterFull else None) ≡ None) [
+    ∙ elim (nat_le (2 ^ 64) (told_at_ordinal rs i + (targets_at rs i + 1))) as (λ b. nat_le (2 ^ 64) (told_at_ordinal rs i + (targets_at rs i + 1)) ≡ b → (if b then Some refused.AdapterFull else None) ≡ None) [
       | true ↦ λ over. absurd (fits (let far = leb-true _ _ over in omega (arith, far, many)))
       | false ↦ λ _. refl
     ] refl

@@ -6,7 +6,7 @@ use Rattle.notice_chain.specs.declared.notice.Notice.{Notice}
 use Rattle.adapter_list.specs.Rounds.{copies_for}
 use Rattle.adapter_list.specs.Targets.{targets_at}
 
--- how many copies the adapter at place k gets
+-- how many copies the adapter at ordinal k gets
 abbrev pub copies_len : List (ℕ × Notice) → ℕ → ℕ
 copies_len cs k = length (copies_for k cs)
 
@@ -15,26 +15,26 @@ abbrev pub IsCounted : Option ℕ → ℕ → ℕ → Type 0
 IsCounted None rest all = rest ≡ all
 IsCounted (Some n) rest all = (0 < n) × (n + rest ≡ all)
 
--- the notices that the adapter at place k was told
-abbrev pub told_at_place : List Listed → ℕ → ℕ
-told_at_place rs k = slice_index (map (λ r. r.view.told) rs) k
+-- the notices that the adapter at ordinal k was told
+abbrev pub told_at_ordinal : List Listed → ℕ → ℕ
+told_at_ordinal rs k = slice_index (map (λ r. r.view.told) rs) k
 
--- the adapter at place k has a place for each of n notices and one more for each of its targets, and can count them all
+-- the adapter at ordinal k has places for n notices and one more for each of its targets, and can count them all
 pub record IsReadyFor (rs : List Listed) (ps : List ℕ) (k n : ℕ) : Type 0 where
   pub places : k < length ps → n + targets_at rs k ≤ slice_index ps k
-  pub countable : 0 < n → told_at_place rs k + (n + targets_at rs k) < 2 ^ 64
+  pub countable : 0 < n → told_at_ordinal rs k + (n + targets_at rs k) < 2 ^ 64
 
 -- an adapter can't count the copies that it gets
 pub record IsFullFor (rs : List Listed) (cs : List (ℕ × Notice)) (k : ℕ) : Type 0 where
   pub within : k < length rs
   pub some : 0 < copies_len cs k
-  pub full : 2 ^ 64 ≤ told_at_place rs k + (copies_len cs k + targets_at rs k)
+  pub full : 2 ^ 64 ≤ told_at_ordinal rs k + (copies_len cs k + targets_at rs k)
 
 -- it is the first in attach order that refuses its copies: each before it is ready for those that it gets
 pub record IsFirstFull (rs : List Listed) (ps : List ℕ) (cs : List (ℕ × Notice)) (k : ℕ) : Type 0 where
   pub full : IsFullFor rs cs k
   pub earlier : (j : ℕ) → j < k → IsReadyFor rs ps j (copies_len cs j)
 
--- some copy is for place k
-abbrev pub is_place_of : List (ℕ × Notice) → ℕ → Bool
-is_place_of cs k = list_any (λ c. nat_eq c.0 k) cs
+-- some copy is for ordinal k
+abbrev pub is_ordinal_of : List (ℕ × Notice) → ℕ → Bool
+is_ordinal_of cs k = list_any (λ c. nat_eq c.0 k) cs

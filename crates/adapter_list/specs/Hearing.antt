@@ -1,4 +1,4 @@
--- The adapters that hear the notices of a node, by their places in attach order, and the copies that they get.
+-- The adapters that hear the notices of a node, by their ordinals in attach order, and the copies that they get.
 use Rattle.std.specs.Prelude.{◌≡◌, ℕ, suc, Bool, List, [], ◌∷◌, map, IfSome, if◌then◌else◌}
 use Rattle.std.specs.List.{list_any}
 use Rattle.mm_types.specs.declared.numbers.Node.{Node}
@@ -12,27 +12,27 @@ use Rattle.adapter_list.specs.declared.hearers.Hearers.{Hearers}
 abbrev pub hears_node : Above → Node → Listed → Bool
 hears_node up x r = list_any (brings_in up x) r.targets
 
--- the places of the adapters of which something is so, where the first adapter stands at place k
-abbrev pub places_from : (Listed → Bool) → ℕ → List Listed → List ℕ
-places_from p k [] = []
-places_from p k (r ∷ rs) = if p r then k ∷ places_from p (suc k) rs else places_from p (suc k) rs
+-- the ordinals of the adapters of which something is so, where the first adapter stands at ordinal k
+abbrev pub ordinals_from : (Listed → Bool) → ℕ → List Listed → List ℕ
+ordinals_from p k [] = []
+ordinals_from p k (r ∷ rs) = if p r then k ∷ ordinals_from p (suc k) rs else ordinals_from p (suc k) rs
 
--- the places of those who hear the notices of a node
+-- the ordinals of those who hear the notices of a node
 abbrev pub hearers : Above → Node → List Listed → List ℕ
-hearers up x rs = places_from (hears_node up x) 0 rs
+hearers up x rs = ordinals_from (hears_node up x) 0 rs
 
 -- an adapter has one of some objects as a target
 abbrev pub is_touched : List ObjectNo → Listed → Bool
 is_touched os r = list_any (λ o. has_target (node.Object o) r) os
 
--- the places of the adapters that have one of some objects as a target
+-- the ordinals of the adapters that have one of some objects as a target
 abbrev pub touched : List ObjectNo → List Listed → List ℕ
-touched os rs = places_from (is_touched os) 0 rs
+touched os rs = ordinals_from (is_touched os) 0 rs
 
 -- what was found last is right: it is of no node, or has the hearers of its node
 abbrev pub AreKnown : Above → List Listed → Hearers → Type 0
-AreKnown up rs h = IfSome h.node (λ x. h.places.items ≡ hearers up x rs)
+AreKnown up rs h = IfSome h.node (λ x. h.ordinals.items ≡ hearers up x rs)
 
--- the copies of a notice for the adapters at some places
+-- the copies of a notice for the adapters at some ordinals
 abbrev pub copies_at : List ℕ → Notice → List (ℕ × Notice)
 copies_at ks n = map (λ k. (k, n)) ks

@@ -73,9 +73,9 @@ abbrev pub HasMarkRoom : List Bool → Node → Type 0
 HasMarkRoom bs (node.Object o) = o.0 < length bs
 HasMarkRoom bs (node.Resource k) = ⊤
 
----------------------------------------------------------------- places
+---------------------------------------------------------------- ordinals
 
--- the adapter at place k has a number
+-- the adapter at ordinal k has a number
 abbrev pub has_number_at : List Listed → AdapterNo → ℕ → Bool
 has_number_at rs number k = option_map_or (has_no number) (slice_get rs k) false
 
@@ -83,15 +83,15 @@ has_number_at rs number k = option_map_or (has_no number) (slice_get rs k) false
 abbrev pub is_attached : Node → Bool → Listed → Bool
 is_attached x only_deep r = option_map_or (λ t. not only_deep || t.deep) (find (is_at x) r.targets) false
 
--- one of the adapter at place k is
+-- one of the adapter at ordinal k is
 abbrev pub is_attached_at : List Listed → Node → Bool → ℕ → Bool
 is_attached_at rs x only_deep k = option_map_or (is_attached x only_deep) (slice_get rs k) false
 
--- how many targets the adapter at place k has
+-- how many targets the adapter at ordinal k has
 abbrev pub targets_at : List Listed → ℕ → ℕ
 targets_at rs k = slice_index (map (λ r. length r.targets) rs) k
 
--- an entry is of the adapter at place k, and is asked for
+-- an entry is of the adapter at ordinal k, and is asked for
 abbrev pub finds : List Listed → Bool → ℕ → Entry → Bool
 finds rs only_deep k e = (not only_deep || e.deep) && has_number_at rs e.no k
 

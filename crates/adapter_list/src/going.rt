@@ -90,11 +90,11 @@ impl<A: Adapter> Going<A> {
         ensures none { result ≡ None → self.new ≡ self.old }
         ensures some { IfSome result (λ r. r.1 ≡ false → HaveTargets self.old → HaveTargets self.new) }
     {
-        let place = self.place_of(no)?;
+        let ordinal = self.ordinal_of(no)?;
         let index = self.by_target.index_of(node, no)?;
         self.by_target.remove(node, index);
         set_mark(&mut self.marks, node, self.by_target.has_any(node));
-        let one = &mut self.attached[place];
+        let one = &mut self.attached[ordinal];
         drop_target(&mut one.targets, node);
         one.adapter.notify_changed(last_notice(no, node, index));
         let is_bare = one.targets.is_empty();
@@ -102,9 +102,9 @@ impl<A: Adapter> Going<A> {
         Some((last_notice(no, node, index), is_bare))
     }
 
-    /// The place of an adapter in attach order.
-    fn place_of(&self, no: AdapterNo) -> Option<usize>
-        ensures place { result ≡ position (has_no no) self.now }
+    /// The ordinal of an adapter in attach order.
+    fn ordinal_of(&self, no: AdapterNo) -> Option<usize>
+        ensures ordinal { result ≡ position (has_no no) self.now }
         ensures within { IfSome result (λ i. i < length self.now) }
     {
         self.numbers.get_index_of(&no)

@@ -27,8 +27,8 @@ use std::marker::Model;
 /// The attached adapters, in attach order (EMF: the adapters of all notifiers). It is seen as two lists: the adapters with their
 /// targets, by what they have heard, and how many places each has, which only a delivery mentions.
 ///
-/// Their numbers are distinct. They have at most 100,000 targets, each adapter at least one, and none has one twice. Each has a
-/// place in reserve for each of its targets, for its last notice from it, and can count those notices.
+/// Their numbers are distinct. They have at most 100,000 targets, each adapter at least one, and none has one twice. Each has
+/// places in reserve for its targets, one for each, for its last notice from it, and can count those notices.
 #[derive(Drop)]
 pub struct AdapterList<A: Adapter> {
     pub(crate) alloc: Global,
@@ -121,9 +121,9 @@ impl<A: Adapter> AdapterList<A> {
     }
 
     /// What holds of every list, for callers whose proofs need it: there are no more targets than there may be, the numbers of the
-    /// adapters are distinct, each has a target, none has one twice, and each has a place in reserve for each of its targets, and can
+    /// adapters are distinct, each has a target, none has one twice, and each has places in reserve for its targets, one for each, and can
     /// count a notice for each.
-    pub fn keeps_its_rules(&self)
+    pub fn lemma_keeps_rules(&self)
         ensures few { targets_len self.now.0 ≤ TARGETS }
         ensures distinct { HasDistinctNumbers self.now.0 }
         ensures some { HaveTargets self.now.0 }
@@ -139,15 +139,15 @@ impl<A: Adapter> AdapterList<A> {
     fn find(&self, no: AdapterNo) -> Option<&Attached<A>>
         ensures { option_map (λ a. listed_one A.heard a.now) result ≡ adapter no self.now.0 }
     {
-        match self.place_of(no) {
-            Some(place) => Some(&self.attached[place]),
+        match self.ordinal_of(no) {
+            Some(ordinal) => Some(&self.attached[ordinal]),
             None => None,
         }
     }
 
-    /// The place of an adapter in attach order.
-    fn place_of(&self, no: AdapterNo) -> Option<usize>
-        ensures place { result ≡ position (has_no no) self.now.0 }
+    /// The ordinal of an adapter in attach order.
+    fn ordinal_of(&self, no: AdapterNo) -> Option<usize>
+        ensures ordinal { result ≡ position (has_no no) self.now.0 }
         ensures within { IfSome result (λ i. i < length self.now.0) }
     {
         self.numbers.get_index_of(&no)

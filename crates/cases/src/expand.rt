@@ -5,7 +5,7 @@
 use crate::fault::CaseFault;
 use std::io::Write;
 
-/// Adds a text once: `number` in place of each `%`, the number after it in place of each `^`, a newline in place of each `|`.
+/// Adds a text once: `number` instead of each `%`, the number after it instead of each `^`, a newline instead of each `|`.
 fn push_numbered(out: &mut Vec<u8>, text: &str, number: u32) -> Result<(), CaseFault> {
     for byte in text.bytes() {
         match byte {

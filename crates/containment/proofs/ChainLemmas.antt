@@ -10,7 +10,7 @@ use Rattle.mm_types.specs.declared.numbers.ObjectNo.{ObjectNo}
 use Rattle.mm_types.specs.declared.numbers.Node.{Node}
 use Rattle.mm_types.specs.declared.numbers.Node.TheVariants as node
 use Rattle.links.proofs.AboveLemmas.{above_held, above_is, not_above_itself}
-use Rattle.links.proofs.HolderLemmas.{holder-some, place_held}
+use Rattle.links.proofs.HolderLemmas.{holder-some, indexed_held}
 use Rattle.links.specs.Holders.{above, holder}
 use Rattle.models.specs.Legal.{IsLegal}
 use Rattle.models.specs.Model.{Model}
@@ -59,7 +59,7 @@ module _ (s : Model) (legal : IsLegal s) where
   holder-made : (n : Node) (e : End) → holder s.links n ≡ Some e → IsMade s e.node
   holder-made n e h =
       let l = holder-some s.links n e h in
-      let at = place_held l.0 n e (legal.links.set.placed.sides l.0 l.1) l.2 in
+      let at = indexed_held l.0 n e (legal.links.set.placed.sides l.0 l.1) l.2 in
       end-made s e at.0 (node_value n) legal ((legal.links.set.placed.ends e).has at.0 (node_value n) (l.0, l.1, at.1))
 
   longer : (x : Node) → IsMade s x → IsChain s (above s.links x) → IsChain s (x ∷ above s.links x)

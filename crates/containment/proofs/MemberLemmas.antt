@@ -20,7 +20,7 @@ use Rattle.mm_types.specs.declared.value.Value.{Value}
 use Rattle.mm_types.specs.declared.value.Value.TheVariants as value
 use Rattle.links.proofs.AboveLemmas.{above-under, above_is, above_under, resource_top}
 use Rattle.links.proofs.ClimbLemmas.{climb_step, climb_stop, under_holder, under_more}
-use Rattle.links.proofs.HolderLemmas.{holder-some, place_held}
+use Rattle.links.proofs.HolderLemmas.{holder-some, indexed_held}
 use Rattle.links.specs.Holders.{IsUnder, above, climb, holder}
 use Rattle.links.specs.Links.{Links, end}
 use Rattle.models.specs.Legal.{IsLegal, kinds_of}
@@ -136,7 +136,7 @@ module _ (s : Model) (legal : IsLegal s) where
   held-contents c e h =
       let m = s.metamodel in
       let l = holder-some s.links (node.Object c) e h in
-      let at = place_held l.0 (node.Object c) e (legal.links.set.placed.sides l.0 l.1) l.2 in
+      let at = indexed_held l.0 (node.Object c) e (legal.links.set.placed.sides l.0 l.1) l.2 in
       let there = (legal.links.set.placed.ends e).has at.0 (value.Object c) (l.0, l.1, at.1) in
       let own = own-feature (reading s) e.node e.feature (legal-at (reading s) e (end s.links e) at.0 (value.Object c) (legal.links.ends e) there).0 in
       let by = holding-feature l.0 (node.Object c) e l.2 in

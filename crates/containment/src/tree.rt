@@ -53,7 +53,7 @@ fn all_below<L: LinkStore>(
 ) -> Result<Vec<ObjectNo>, AllocError>
     ensures { IfOk result (λ r. r.items ≡ flat_map (forest.subtree (reading model.now)) (reverse waiting.items)) }
 {
-    model.is_legal();
+    model.lemma_is_legal();
     let mut found = Vec::new(alloc);
     while let Some(next) = waiting.pop() {
         found.push(next)?;
@@ -80,7 +80,7 @@ fn is_below<L: LinkStore>(model: &ModelRef<L>, above: Node, node: Node) -> bool
     requires apart { same_node above node ≡ false }
     ensures { result ≡ list_any (same_node above) ((reading model.now).above node) }
 {
-    model.is_legal();
+    model.lemma_is_legal();
     if let Some(is_below) = is_near(model.store(), node, above, NEAR) {
         return is_below;
     }

@@ -8,7 +8,7 @@ use Rattle.std.specs.Option.{option_map_or}
 use Rattle.std.proofs.lemmas.Option.{option_and_then_some, same_Some}
 use Rattle.serde_json.specs.Data.{Data, null, boolean, number, string, array, object, Items, no_items, item, Members, no_members, member, depth, items_depth, members_depth}
 use Rattle.serde_json.specs.Find.{as_array, as_object, get, get_member}
-use Rattle.json_rows.specs.Rows.{has_only, required_at, text, whole_number_of_64}
+use Rattle.json_fields.specs.Fields.{has_only, required_at, text, whole_number_of_64}
 use Rattle.mm_types.specs.Lookups as lookups
 use Rattle.mm_types.specs.Resolved.{Metamodel}
 use Rattle.mm_types.specs.Shapes.{is_containment, shape}
@@ -16,7 +16,7 @@ use Rattle.mm_types.specs.declared.numbers.ClassNo.{ClassNo}
 use Rattle.mm_types.specs.declared.numbers.FeatureNo.{FeatureNo}
 use Rattle.web_uris.specs.Paths.{new_path, with_step}
 use Rattle.web_uris.specs.declared.path.Path.{Path}
-use Rattle.doc_parts.specs.Layout.{Top, Written, new_top, new_written, top, top_rows, written, written_rows}
+use Rattle.doc_parts.specs.Layout.{Top, Written, new_top, new_written, top, top_fields, written, written_fields}
 use Rattle.doc_parts.specs.Parts.{Entry, Part, content_at, entries, entries_in, entry_at, known, list_of, new_entry, parts, parts_from, parts_in, root_parts, step_to, values_of}
 
 ---------------------------------------------------------------- what holds of each
@@ -106,7 +106,7 @@ not_then false o d is = is
 features_depth : (d : Data) (w : Written) → written d ≡ Some w → suc (suc (members_depth w.features)) ≤ depth d
 unfolding written
 features_depth d w is =
-    option_and_then_some (λ f. option_and_then (λ a. Some (f a)) (required_at (codes "features") as_object d)) _ w (if_some (has_only written_rows.keys d) (written_rows.reading d) w is) (λ f made rest.
+    option_and_then_some (λ f. option_and_then (λ a. Some (f a)) (required_at (codes "features") as_object d)) _ w (if_some (has_only written_fields.keys d) (written_fields.reading d) w is) (λ f made rest.
     option_and_then_some (λ a. Some (f a)) (required_at (codes "features") as_object d) w rest (λ ms there whole.
     option_and_then_some (λ a. Some (new_written a)) (required_at (codes "class") text d) f made (λ c named first.
     option_and_then_some as_object (get (codes "features") d) ms there (λ e got members.
@@ -200,7 +200,7 @@ more_levels m (suc n) (suc k) p below other =
 roots_depth : (d : Data) (t : Top) → top d ≡ Some t → items_depth t.roots < depth d
 unfolding top
 roots_depth d t is =
-    option_and_then_some (λ f. option_and_then (λ a. Some (f a)) (required_at (codes "roots") as_array d)) _ t (if_some (has_only top_rows.keys d) (top_rows.reading d) t is) (λ f made rest.
+    option_and_then_some (λ f. option_and_then (λ a. Some (f a)) (required_at (codes "roots") as_array d)) _ t (if_some (has_only top_fields.keys d) (top_fields.reading d) t is) (λ f made rest.
     option_and_then_some (λ a. Some (f a)) (required_at (codes "roots") as_array d) t rest (λ ds there whole.
     option_and_then_some (λ a. Some (new_top a)) (required_at (codes "format") whole_number_of_64 d) f made (λ z named first.
     option_and_then_some as_array (get (codes "roots") d) ds there (λ e got items.

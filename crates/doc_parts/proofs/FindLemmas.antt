@@ -9,12 +9,12 @@ use Rattle.std.proofs.lemmas.Slice.Eq.{bytes_eq-Decides}
 use Rattle.web_uris.specs.Paths.{new_path, new_step, same_path, with_step}
 use Rattle.web_uris.specs.declared.path.Path.{Path}
 use Rattle.web_uris.specs.declared.path.Step.{Step}
-use Rattle.doc_parts.specs.Found.{Finds, IsPlaced}
+use Rattle.doc_parts.specs.FoundParts.{Finds, IsPlaced}
 use Rattle.doc_parts.specs.Parts.{Part, number_of}
-use Rattle.doc_parts.specs.Places.{Key, RootKey, UnderKey, is_at, key_of, number_at, way, way_of}
+use Rattle.doc_parts.specs.Keys.{Key, RootKey, UnderKey, is_at, key_of, number_at, way, way_of}
 use Rattle.doc_parts.specs.declared.found.Numbers.{Numbers}
-use Rattle.doc_parts.specs.declared.found.Place.{Place}
-use Rattle.doc_parts.specs.declared.found.Place.TheVariants.{Root, Under}
+use Rattle.doc_parts.specs.declared.found.PartKey.{PartKey}
+use Rattle.doc_parts.specs.declared.found.PartKey.TheVariants.{Root, Under}
 use Rattle.doc_parts.proofs.PlaceLemmas.{is_at_tells}
 use Rattle.doc_parts.proofs.WayLemmas.{both_true, same_index_self, Adds, IsKeyOf, goes, new_other, or_none, number_below, number_pushed, number_tells, same_path_self, same_path_tells, way_of_key}
 
@@ -71,21 +71,21 @@ one_way t ps i rs j ss c f first second =
     let e = number_tells (new_path i (reverse rs)) (new_path j (reverse ss)) ps c (way_path t ps i rs f ∙ first) (way_path t ps j ss f ∙ second) in
     (ap (λ q. q.root) e, sym (reverse-reverse rs) ∙ ap (λ q. reverse q.steps) e ∙ reverse-reverse ss)
 
-adds : (t new : Numbers) (ps : List Part) (p : Part) (place : Place) (n : ℕ) → n ≡ length ps → Finds t ps → IsPlaced ps (key_of place) p.path → number_at t (key_of place) ≡ None
-    → ((k : Key) → number_at new k ≡ option_or (number_at t k) (cond (is_at k place) (Some n) None)) → is_at (key_of place) place ≡ true → Adds (number_at t) (number_at new) n (key_of place) (λ k. is_at k place)
-adds t new ps p place n count f is none more own =
+adds : (t new : Numbers) (ps : List Part) (p : Part) (key : PartKey) (n : ℕ) → n ≡ length ps → Finds t ps → IsPlaced ps (key_of key) p.path → number_at t (key_of key) ≡ None
+    → ((k : Key) → number_at new k ≡ option_or (number_at t k) (cond (is_at k key) (Some n) None)) → is_at (key_of key) key ≡ true → Adds (number_at t) (number_at new) n (key_of key) (λ k. is_at k key)
+adds t new ps p key n count f is none more own =
     record {
       none = none;
       own = own;
-      tells = λ x at. is_at_tells x place at;
+      tells = λ x at. is_at_tells x key at;
       new_at = more;
       fresh = λ w i. f.below n w i (omega (arith, count));
-      apart = λ w i e. let b = under_below ps (key_of place) p.path n w i is e in omega (arith, b, count);
+      apart = λ w i e. let b = under_below ps (key_of key) p.path n w i is e in omega (arith, b, count);
       ways = λ i rs j ss c first second. one_way t ps i rs j ss c f first second;
     }
 
-abbrev Puts : Numbers → Numbers → Place → ℕ → Type 0
-Puts t new place n = (k : Key) → number_at new k ≡ option_or (number_at t k) (cond (is_at k place) (Some n) None)
+abbrev Puts : Numbers → Numbers → PartKey → ℕ → Type 0
+Puts t new key n = (k : Key) → number_at new k ≡ option_or (number_at t k) (cond (is_at k key) (Some n) None)
 
 way_added : (t new : Numbers) (ps : List Part) (p : Part) (k : Key) (test : Key → Bool) (q : Path) (b : Bool) → same_path q p.path ≡ b → Finds t ps → IsPlaced ps k p.path → Adds (number_at t) (number_at new) (length ps) k test
     → way_of (number_at new) q ≡ option_or (number_of ps q) (cond b (Some (length ps)) None)
@@ -98,24 +98,24 @@ way_added t new ps p k test q false other f is a =
     (λ (roots, steps). true≢false (sym (ap (λ x. same_path x p.path) (ap (λ n. new_path n q.steps) roots ∙ ap (new_path p.path.root) (sym (reverse-reverse q.steps) ∙ ap reverse steps ∙ reverse-reverse p.path.steps)) ∙ same_path_self p.path) ∙ other))
     ∙ f.ways q ∙ sym (or_none (number_of ps q))
 
-pub found_new : (t new : Numbers) (ps : List Part) (p : Part) (place : Place) (n : ℕ) → n ≡ length ps → Finds t ps → IsPlaced ps (key_of place) p.path → number_at t (key_of place) ≡ None → Puts t new place n
-    → is_at (key_of place) place ≡ true → Finds new (ps ++ p ∷ []) × (number_of (ps ++ p ∷ []) p.path ≡ Some n)
-found_new t new ps p place n count f is none more own =
-    let more_there : Puts t new place (length ps) = subst (Puts t new place) count more in
-    let a = adds t new ps p place (length ps) refl f is none more_there own in (
+pub found_new : (t new : Numbers) (ps : List Part) (p : Part) (key : PartKey) (n : ℕ) → n ≡ length ps → Finds t ps → IsPlaced ps (key_of key) p.path → number_at t (key_of key) ≡ None → Puts t new key n
+    → is_at (key_of key) key ≡ true → Finds new (ps ++ p ∷ []) × (number_of (ps ++ p ∷ []) p.path ≡ Some n)
+found_new t new ps p key n count f is none more own =
+    let more_there : Puts t new key (length ps) = subst (Puts t new key) count more in
+    let a = adds t new ps p key (length ps) refl f is none more_there own in (
       record {
-        ways = λ q. way_added t new ps p (key_of place) (λ k. is_at k place) q _ refl f is a ∙ sym (number_pushed q ps p);
+        ways = λ q. way_added t new ps p (key_of key) (λ k. is_at k key) q _ refl f is a ∙ sym (number_pushed q ps p);
         below = λ m w i over.
             let e = length-append ps (p ∷ []) in
-            new_other (number_at t) (number_at new) (length ps) (key_of place) (λ k. is_at k place) (UnderKey m w i) a
-            (λ same. let b = under_below ps (key_of place) p.path m w i is (sym same) in omega (arith, b, e, over))
+            new_other (number_at t) (number_at new) (length ps) (key_of key) (λ k. is_at k key) (UnderKey m w i) a
+            (λ same. let b = under_below ps (key_of key) p.path m w i is (sym same) in omega (arith, b, e, over))
             ∙ f.below m w i (omega (arith, e, over));
       },
-      number_pushed p.path ps p ∙ ap (λ o. option_or o (cond (same_path p.path p.path) (Some (length ps)) None)) (number_placed t ps (key_of place) p.path f is ∙ none)
+      number_pushed p.path ps p ∙ ap (λ o. option_or o (cond (same_path p.path p.path) (Some (length ps)) None)) (number_placed t ps (key_of key) p.path f is ∙ none)
           ∙ ap (λ b. cond b (Some (length ps)) None) (same_path_self p.path) ∙ ap Some (sym count),
     )
 
-pub own_place : (place : Place) → is_at (key_of place) place ≡ true
+pub own_place : (key : PartKey) → is_at (key_of key) key ≡ true
 own_place (Root i) = (Decides-eqb i i).1 refl
 own_place (Under n w i) = both_true _ _ ((Decides-eqb n n).1 refl) (both_true _ _ ((bytes_eq-Decides w.now w.now).1 refl) (same_index_self i))
 

@@ -6,15 +6,15 @@ use Rattle.std.specs.Option.{option_map_or, option_or}
 use Rattle.std.proofs.lemmas.List.{length-map, map-append}
 use Rattle.doc_parts.specs.Contents.{conforms_to}
 use Rattle.doc_parts.specs.Faults.{has_no_class, has_other_key, is_misshapen, is_readable, of_written}
-use Rattle.doc_parts.specs.Found.{Seen, conforms_seen, has_other_member, lacks_class, looks_misshapen, row_seen, seen}
+use Rattle.doc_parts.specs.FoundParts.{Seen, conforms_seen, has_other_member, lacks_class, looks_misshapen, part_seen, seen}
 use Rattle.doc_parts.specs.Layout.{Written, written}
 use Rattle.doc_parts.specs.Parts.{Part, class_of, known, level_of, number_of}
-use Rattle.doc_parts.specs.declared.found.Row.{Row}
+use Rattle.doc_parts.specs.declared.found.FoundPart.{FoundPart}
 use Rattle.doc_parts.proofs.DataLemmas.{list_any-map}
 use Rattle.doc_parts.proofs.WayLemmas.{number_pushed}
 use Rattle.web_uris.specs.Paths.{same_path}
 use Rattle.serde_json.specs.Data.{Data, Members}
-use Rattle.json_rows.specs.Rows.{◌>>=◌, keys_of}
+use Rattle.json_fields.specs.Fields.{◌>>=◌, keys_of}
 use Rattle.mm_types.specs.Lookups as lookups
 use Rattle.mm_types.specs.Resolved.{Metamodel}
 use Rattle.mm_types.specs.declared.numbers.ClassNo.{ClassNo}
@@ -41,25 +41,25 @@ head_same : (x y : Seen) (xs ys : List Seen) → x ∷ xs ≡ y ∷ ys → (x �
 unfolding first_or rest_of
 head_same x y xs ys e = (ap (first_or x) e, ap rest_of e)
 
-pub seen_stays : (m : Metamodel) (ps : List Part) (p : Part) (rows : List Row) (xs : List Part) → map row_seen rows ≡ map (seen m ps) xs → map (seen m (ps ++ p ∷ [])) xs ≡ map (seen m ps) xs
-seen_stays m ps p rows [] e = refl
+pub seen_stays : (m : Metamodel) (ps : List Part) (p : Part) (parts : List FoundPart) (xs : List Part) → map part_seen parts ≡ map (seen m ps) xs → map (seen m (ps ++ p ∷ [])) xs ≡ map (seen m ps) xs
+seen_stays m ps p parts [] e = refl
 seen_stays m ps p [] (x ∷ xs) e = cc
-seen_stays m ps p (r ∷ rows) (x ∷ xs) e =
-    let (first, rest) = head_same (row_seen r) (seen m ps x) (map row_seen rows) (map (seen m ps) xs) e in
+seen_stays m ps p (r ∷ parts) (x ∷ xs) e =
+    let (first, rest) = head_same (part_seen r) (seen m ps x) (map part_seen parts) (map (seen m ps) xs) e in
     ap (λ n. new_seen (level_of x) x.json (known m x.json) n ∷ map (seen m (ps ++ p ∷ [])) xs) (number_stays ps p x r.number (sym (ap (λ s. s.number) first)))
-    ∙ ap (λ ss. seen m ps x ∷ ss) (seen_stays m ps p rows xs rest)
+    ∙ ap (λ ss. seen m ps x ∷ ss) (seen_stays m ps p parts xs rest)
 
-pub rows_more : (m : Metamodel) (ps : List Part) (p : Part) (rows new : List Row) (r : Row) → new ≡ rows ++ r ∷ [] → map row_seen rows ≡ map (seen m ps) ps → row_seen r ≡ seen m (ps ++ p ∷ []) p
-    → map row_seen new ≡ map (seen m (ps ++ p ∷ [])) (ps ++ p ∷ [])
-rows_more m ps p rows new r more are one =
-    ap (map row_seen) more
-    ∙ map-append row_seen rows (r ∷ [])
-    ∙ ap (λ ss. ss ++ row_seen r ∷ []) (are ∙ sym (seen_stays m ps p rows ps are))
+pub rows_more : (m : Metamodel) (ps : List Part) (p : Part) (parts new : List FoundPart) (r : FoundPart) → new ≡ parts ++ r ∷ [] → map part_seen parts ≡ map (seen m ps) ps → part_seen r ≡ seen m (ps ++ p ∷ []) p
+    → map part_seen new ≡ map (seen m (ps ++ p ∷ [])) (ps ++ p ∷ [])
+rows_more m ps p parts new r more are one =
+    ap (map part_seen) more
+    ∙ map-append part_seen parts (r ∷ [])
+    ∙ ap (λ ss. ss ++ part_seen r ∷ []) (are ∙ sym (seen_stays m ps p parts ps are))
     ∙ ap (λ s. map (seen m (ps ++ p ∷ [])) ps ++ s ∷ []) one
     ∙ sym (map-append (seen m (ps ++ p ∷ [])) ps (p ∷ []))
 
-pub count_known : (m : Metamodel) (ps : List Part) (rows : List Row) → map row_seen rows ≡ map (seen m ps) ps → length rows ≡ length ps
-count_known m ps rows are = sym (length-map rows row_seen) ∙ ap length are ∙ length-map ps (seen m ps)
+pub count_known : (m : Metamodel) (ps : List Part) (parts : List FoundPart) → map part_seen parts ≡ map (seen m ps) ps → length parts ≡ length ps
+count_known m ps parts are = sym (length-map parts part_seen) ∙ ap length are ∙ length-map ps (seen m ps)
 
 pub one_known : (m : Metamodel) (ps : List Part) (p : Part) (level : ℕ) (d : Data) (k : Option (ClassNo × Members)) (n : ℕ) → level ≡ level_of p → d ≡ p.json → k ≡ known m p.json → number_of ps p.path ≡ Some n
     → new_seen level d k (Some n) ≡ seen m ps p
@@ -75,8 +75,8 @@ list_any-as : {X : Type 0} (p q : X → Bool) (xs : List X) → ((x : X) → p x
 list_any-as p q [] same = refl
 list_any-as p q (x ∷ xs) same = ap (λ b. b || list_any p xs) (same x) ∙ ap (λ b. q x || b) (list_any-as p q xs same)
 
-pub any_seen : (m : Metamodel) (test : Seen → Bool) (ps : List Part) (rows : List Row) → map row_seen rows ≡ map (seen m ps) ps → list_any (λ r. test (row_seen r)) rows ≡ list_any (λ p. test (seen m ps p)) ps
-any_seen m test ps rows are = sym (list_any-map row_seen test rows) ∙ ap (list_any test) are ∙ list_any-map (seen m ps) test ps
+pub any_seen : (m : Metamodel) (test : Seen → Bool) (ps : List Part) (parts : List FoundPart) → map part_seen parts ≡ map (seen m ps) ps → list_any (λ r. test (part_seen r)) parts ≡ list_any (λ p. test (seen m ps p)) ps
+any_seen m test ps parts are = sym (list_any-map part_seen test parts) ∙ ap (list_any test) are ∙ list_any-map (seen m ps) test ps
 
 abbrev known_of : Metamodel → Option Written → Option (ClassNo × Members)
 known_of m o = o >>= (λ w. option_map (λ c. (c, w.features)) (lookups.class_by_name m w.class))
@@ -89,8 +89,8 @@ misshapen_of : (m : Metamodel) (o : Option Written) (c : Bool) → not (is_some 
 misshapen_of m None c = refl
 misshapen_of m (Some w) c = nothing_more (not (is_some (known_of m (Some w)))) c
 
-pub any_misshapen : (m : Metamodel) (ps : List Part) (rows : List Row) → map row_seen rows ≡ map (seen m ps) ps → list_any (λ r. looks_misshapen (row_seen r)) rows ≡ list_any is_misshapen ps
-any_misshapen m ps rows are = any_seen m looks_misshapen ps rows are ∙ list_any-as (λ p. looks_misshapen (seen m ps p)) is_misshapen ps (λ p. misshapen_of m (written p.json) _)
+pub any_misshapen : (m : Metamodel) (ps : List Part) (parts : List FoundPart) → map part_seen parts ≡ map (seen m ps) ps → list_any (λ r. looks_misshapen (part_seen r)) parts ≡ list_any is_misshapen ps
+any_misshapen m ps parts are = any_seen m looks_misshapen ps parts are ∙ list_any-as (λ p. looks_misshapen (seen m ps p)) is_misshapen ps (λ p. misshapen_of m (written p.json) _)
 
 no_class_by : (m : Metamodel) (w : Written) (o : Option ClassNo) → option_map_or (λ k. not (lookups.is_concrete m k.0)) (option_map {U = ClassNo × Members} (λ c. (c, w.features)) o) true ≡ not (option_map_or (lookups.is_concrete m) o false)
 no_class_by m w None = refl
@@ -100,9 +100,9 @@ no_class_of : (m : Metamodel) (o : Option Written) → option_map_or (λ k. not 
 no_class_of m None = refl
 no_class_of m (Some w) = no_class_by m w (lookups.class_by_name m w.class)
 
-pub any_without_class : (m : Metamodel) (ps : List Part) (rows : List Row) → map row_seen rows ≡ map (seen m ps) ps → list_any (λ r. lacks_class m (row_seen r)) rows ≡ of_written (has_no_class m) ps
-any_without_class m ps rows are =
-    any_seen m (lacks_class m) ps rows are ∙ list_any-as (λ p. lacks_class m (seen m ps p)) (λ p. option_map_or (has_no_class m) (written p.json) false) ps (λ p. no_class_of m (written p.json))
+pub any_without_class : (m : Metamodel) (ps : List Part) (parts : List FoundPart) → map part_seen parts ≡ map (seen m ps) ps → list_any (λ r. lacks_class m (part_seen r)) parts ≡ of_written (has_no_class m) ps
+any_without_class m ps parts are =
+    any_seen m (lacks_class m) ps parts are ∙ list_any-as (λ p. lacks_class m (seen m ps p)) (λ p. option_map_or (has_no_class m) (written p.json) false) ps (λ p. no_class_of m (written p.json))
 
 other_key_by : (other : ClassNo → Members → Bool) (w : Written) (o : Option ClassNo) → option_map_or (λ k. other k.0 k.1) (option_map {U = ClassNo × Members} (λ c. (c, w.features)) o) false ≡ option_map_or (λ c. other c w.features) o false
 other_key_by other w None = refl
@@ -113,9 +113,9 @@ other_key_of : (other : ClassNo → Members → Bool) (m : Metamodel) (o : Optio
 other_key_of other m None = refl
 other_key_of other m (Some w) = other_key_by other w (lookups.class_by_name m w.class)
 
-pub any_with_other_key : (m : Metamodel) (ps : List Part) (rows : List Row) → map row_seen rows ≡ map (seen m ps) ps → list_any (λ r. has_other_member m (row_seen r)) rows ≡ of_written (has_other_key m) ps
-any_with_other_key m ps rows are =
-    any_seen m (has_other_member m) ps rows are
+pub any_with_other_key : (m : Metamodel) (ps : List Part) (parts : List FoundPart) → map part_seen parts ≡ map (seen m ps) ps → list_any (λ r. has_other_member m (part_seen r)) parts ≡ of_written (has_other_key m) ps
+any_with_other_key m ps parts are =
+    any_seen m (has_other_member m) ps parts are
     ∙ list_any-as (λ p. has_other_member m (seen m ps p)) (λ p. option_map_or (has_other_key m) (written p.json) false) ps (λ p. other_key_of (λ c ms. not (list_all (is_readable m c) (keys_of ms))) m (written p.json))
 
 ---------------------------------------------------------------- the class of what is known

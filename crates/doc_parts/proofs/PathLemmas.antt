@@ -3,7 +3,7 @@ use Rattle.std.proofs.Common.{◌≡◌, ◌∙◌, ◌<◌, ◌++◌, List, [],
 use Rattle.std.specs.Prelude.{reverse}
 use Rattle.std.proofs.lemmas.List.{reverse-append}
 use Rattle.web_uris.specs.declared.path.Step.{Step}
-use Rattle.doc_parts.specs.Places.{Key, RootKey, UnderKey, descend, way}
+use Rattle.doc_parts.specs.Keys.{Key, RootKey, UnderKey, descend, way}
 
 pub descend_none : (at : Key → Option ℕ) (ss : List Step) → descend at None ss ≡ None
 descend_none at [] = refl

@@ -8,9 +8,9 @@ use Rattle.std.proofs.lemmas.Bool.{and_parts}
 use Rattle.std.proofs.lemmas.Bool.Decides.{Decides-eqb}
 use Rattle.std.proofs.lemmas.Slice.Eq.{bytes_eq-Decides}
 use Rattle.web_uris.specs.Paths.{same_index}
-use Rattle.doc_parts.specs.declared.found.Place.{Place}
-use Rattle.doc_parts.specs.declared.found.Place.TheVariants.{Root, Under}
-use Rattle.doc_parts.specs.Places.{Key, RootKey, UnderKey, is_at, key_of}
+use Rattle.doc_parts.specs.declared.found.PartKey.{PartKey}
+use Rattle.doc_parts.specs.declared.found.PartKey.TheVariants.{Root, Under}
+use Rattle.doc_parts.specs.Keys.{Key, RootKey, UnderKey, is_at, key_of}
 
 ---------------------------------------------------------------- keys
 
@@ -20,7 +20,7 @@ same_index_tells (Some i) (Some j) h = ap Some ((Decides-eqb i j).0 h)
 same_index_tells None (Some j) h = cc
 same_index_tells (Some i) None h = cc
 
-pub is_at_tells : (k : Key) (p : Place) → is_at k p ≡ true → k ≡ key_of p
+pub is_at_tells : (k : Key) (p : PartKey) → is_at k p ≡ true → k ≡ key_of p
 is_at_tells (RootKey i) (Root j) h = ap RootKey ((Decides-eqb i j).0 h)
 is_at_tells (RootKey i) (Under n w j) h = cc
 is_at_tells (UnderKey n w i) (Root j) h = cc

@@ -15,10 +15,10 @@ use Rattle.mm_types.specs.declared.numbers.ClassNo.{ClassNo}
 use Rattle.mm_types.specs.declared.numbers.FeatureNo.{FeatureNo}
 use Rattle.web_uris.specs.Paths.{new_path, new_step, same_path, with_step}
 use Rattle.web_uris.specs.declared.path.Path.{Path}
-use Rattle.doc_parts.specs.Found.{FindsBelow, IsPlaced, Knows, Walks, parts_at, parts_under, roots_from}
+use Rattle.doc_parts.specs.FoundParts.{FindsBelow, IsPlaced, Knows, Walks, parts_at, parts_under, roots_from}
 use Rattle.doc_parts.specs.Parts.{Entry, Part, content_at, entries, entries_in, known, level_of, new_entry, number_of, parts_from, parts_in, values_of}
-use Rattle.doc_parts.specs.Places.{Key, RootKey, UnderKey}
-use Rattle.doc_parts.specs.declared.found.Found.{Found}
+use Rattle.doc_parts.specs.Keys.{Key, RootKey, UnderKey}
+use Rattle.doc_parts.specs.declared.found.FoundParts.{FoundParts}
 use Rattle.doc_parts.proofs.DataLemmas.{entries_of_known}
 use Rattle.doc_parts.proofs.WayLemmas.{number_pushed}
 
@@ -36,14 +36,14 @@ number_more ps (q ∷ qs) path n first =
 
 ---------------------------------------------------------------- one after the other
 
-pub finds_then : (m : Metamodel) (a b c : Found) (n l : ℕ) (f g : Path → List Part) → FindsBelow m a b n l f → FindsBelow m b c n l g → FindsBelow m a c n l (λ path. f path ++ g path)
+pub finds_then : (m : Metamodel) (a b c : FoundParts) (n l : ℕ) (f g : Path → List Part) → FindsBelow m a b n l f → FindsBelow m b c n l g → FindsBelow m a c n l (λ path. f path ++ g path)
 finds_then m a b c n l f g first second = λ ps p kn num level.
     subst (Knows m c) (append_assoc ps (f p.path) (g p.path)) (second (ps ++ f p.path) p (first ps p kn num level) (number_more ps (f p.path) p.path n num) level)
 
-pub finds_as : (m : Metamodel) (a b : Found) (n l : ℕ) (f g : Path → List Part) → ((path : Path) → f path ≡ g path) → FindsBelow m a b n l f → FindsBelow m a b n l g
+pub finds_as : (m : Metamodel) (a b : FoundParts) (n l : ℕ) (f g : Path → List Part) → ((path : Path) → f path ≡ g path) → FindsBelow m a b n l f → FindsBelow m a b n l g
 finds_as m a b n l f g same first = λ ps p kn num level. subst (λ xs. Knows m b (ps ++ xs)) (same p.path) (first ps p kn num level)
 
-pub finds_nothing : (m : Metamodel) (a : Found) (n l : ℕ) (f : Path → List Part) → ((path : Path) → f path ≡ []) → FindsBelow m a a n l f
+pub finds_nothing : (m : Metamodel) (a : FoundParts) (n l : ℕ) (f : Path → List Part) → ((path : Path) → f path ≡ []) → FindsBelow m a a n l f
 finds_nothing m a n l f none = λ ps p kn num level. subst (Knows m a) (sym (ap (λ xs. ps ++ xs) (none p.path) ∙ append_nil ps)) kn
 
 ---------------------------------------------------------------- values
@@ -51,7 +51,7 @@ finds_nothing m a n l f none = λ ps p kn num level. subst (Knows m a) (sym (ap 
 abbrev pub child : Path → List ℕ → Option ℕ → Data → Part
 child path name index d = record { path = with_step path (new_step name index); json = d }
 
-pub walks_below : (m : Metamodel) (n : ℕ) (a b : Found) (part level : ℕ) (name : List ℕ) (index : Option ℕ) (d : Data) → Walks m n a b (UnderKey part name index) level d
+pub walks_below : (m : Metamodel) (n : ℕ) (a b : FoundParts) (part level : ℕ) (name : List ℕ) (index : Option ℕ) (d : Data) → Walks m n a b (UnderKey part name index) level d
     → FindsBelow m a b part level (λ path. parts_from m n (child path name index d))
 walks_below m n a b part level name index d w = λ ps p kn num lev.
     let e = length-append p.path.steps (new_step name index ∷ []) in
@@ -133,17 +133,17 @@ known_parts : (m : Metamodel) (path : Path) (d : Data) (c : ClassNo) (ms : Membe
     → flat_map (parts_at m path ms) fs ≡ flat_map (parts_in m path) (entries m d)
 known_parts m path d c ms fs is features = sym (entries_parts m path ms fs) ∙ ap (flat_map (parts_in m path)) (entries_of_known m (known m d) c ms fs is features)
 
-abbrev pub Adds : Metamodel → Found → Found → Key → ℕ → Data → ℕ → Type 0
+abbrev pub Adds : Metamodel → FoundParts → FoundParts → Key → ℕ → Data → ℕ → Type 0
 Adds m old new k level d part =
     (ps : List Part) (p : Part) → Knows m old ps → IsPlaced ps k p.path → level ≡ level_of p → d ≡ p.json → Knows m new (ps ++ p ∷ []) × (number_of (ps ++ p ∷ []) p.path ≡ Some part)
 
 -- what is added with the class and the members that it is known to have
-pub added_known : (m : Metamodel) (old new : Found) (k : Key) (level : ℕ) (d : Data) (o : Option (ClassNo × Members)) (part : ℕ) → o ≡ known m d
+pub added_known : (m : Metamodel) (old new : FoundParts) (k : Key) (level : ℕ) (d : Data) (o : Option (ClassNo × Members)) (part : ℕ) → o ≡ known m d
     → ((n : Metamodel) (ps : List Part) (p : Part) → Knows n old ps → IsPlaced ps k p.path → level ≡ level_of p → d ≡ p.json → o ≡ known n p.json → Knows n new (ps ++ p ∷ []) × (number_of (ps ++ p ∷ []) p.path ≡ Some part))
     → Adds m old new k level d part
 added_known m old new k level d o part is added = λ ps p kn placed lev json. added m ps p kn placed lev json (is ∙ ap (known m) json)
 
-pub walked_known : (m : Metamodel) (levels n : ℕ) (a b c : Found) (k : Key) (level below : ℕ) (d : Data) (part : ℕ) (class : ClassNo) (ms : Members) (fs : List FeatureNo) → levels ≡ suc n → Adds m a b k level d part
+pub walked_known : (m : Metamodel) (levels n : ℕ) (a b c : FoundParts) (k : Key) (level below : ℕ) (d : Data) (part : ℕ) (class : ClassNo) (ms : Members) (fs : List FeatureNo) → levels ≡ suc n → Adds m a b k level d part
     → below ≡ suc level → Some (class, ms) ≡ known m d → Some fs ≡ lookups.features m class
     → FindsBelow m b c part below (λ path. flat_map (parts_from m n) (flat_map (parts_at m path ms) fs)) → Walks m levels a c k level d
 walked_known m levels n a b c k level below d part class ms fs count added next is features more = λ ps p kn placed lev json.
@@ -154,7 +154,7 @@ walked_known m levels n a b c k level below d part class ms fs count added next 
     ∙ ap (λ l. ps ++ parts_from m l p) (sym count))
     (more (ps ++ p ∷ []) p kn2 num (next ∙ ap suc lev))
 
-pub walked_nothing : (m : Metamodel) (levels n : ℕ) (a b : Found) (k : Key) (level : ℕ) (d : Data) (part : ℕ) → levels ≡ suc n → Adds m a b k level d part → entries m d ≡ [] → Walks m levels a b k level d
+pub walked_nothing : (m : Metamodel) (levels n : ℕ) (a b : FoundParts) (k : Key) (level : ℕ) (d : Data) (part : ℕ) → levels ≡ suc n → Adds m a b k level d part → entries m d ≡ [] → Walks m levels a b k level d
 walked_nothing m levels n a b k level d part count added none = λ ps p kn placed lev json.
     let (kn2, num) = added ps p kn placed lev json in
     subst (Knows m b)
@@ -195,7 +195,7 @@ roots_next vs i v below is =
     ∙ roots_push 0 (map view (take i vs)) (view v)
     ∙ ap (λ k. roots_from (map view (take i vs)) ++ root k (view v) ∷ []) (taken i vs below)
 
-pub root_walked : (m : Metamodel) (n : ℕ) (a b : Found) (vs : List Value) (i : ℕ) (v : Value) (ps : List Part) → i < length vs → v ≡ get_or vs i v → Walks m n a b (RootKey i) 1 (view v)
+pub root_walked : (m : Metamodel) (n : ℕ) (a b : FoundParts) (vs : List Value) (i : ℕ) (v : Value) (ps : List Part) → i < length vs → v ≡ get_or vs i v → Walks m n a b (RootKey i) 1 (view v)
     → Knows m a (ps ++ flat_map (parts_from m n) (roots_from (map view (take i vs)))) → Knows m b (ps ++ flat_map (parts_from m n) (roots_from (map view (take (i + 1) vs))))
 root_walked m n a b vs i v ps below is walked kn =
     subst (Knows m b)

@@ -12,7 +12,7 @@ use Rattle.web_uris.specs.Paths.{new_path, same_index, same_path, same_steps}
 use Rattle.web_uris.specs.declared.path.Path.{Path}
 use Rattle.web_uris.specs.declared.path.Step.{Step}
 use Rattle.doc_parts.specs.Parts.{Part, number_of}
-use Rattle.doc_parts.specs.Places.{Key, RootKey, UnderKey, way}
+use Rattle.doc_parts.specs.Keys.{Key, RootKey, UnderKey, way}
 use Rattle.doc_parts.proofs.PlaceLemmas.{same_index_tells}
 
 ---------------------------------------------------------------- when paths are the same

@@ -4,7 +4,7 @@ use Rattle.std.specs.List.{list_all}
 use Rattle.std.specs.Option.{option_map_or, option_or}
 use Rattle.serde_json.specs.Data.{Data}
 use Rattle.serde_json.specs.Find.{as_array, as_bool, as_null, as_object, as_str}
-use Rattle.json_rows.specs.Rows.{◌>>=◌, ◌such_that◌, whole_number, whole_number_of_64}
+use Rattle.json_fields.specs.Fields.{◌>>=◌, ◌such_that◌, whole_number, whole_number_of_64}
 use Rattle.mm_types.specs.Lookups as lookups
 use Rattle.mm_types.specs.Resolved.{Metamodel}
 use Rattle.mm_types.specs.Shapes.{shape}

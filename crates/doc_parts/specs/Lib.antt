@@ -2,5 +2,5 @@ pub mod Layout
 pub mod Parts
 pub mod Contents
 pub mod Faults
-pub mod Places
-pub mod Found
+pub mod Keys
+pub mod FoundParts

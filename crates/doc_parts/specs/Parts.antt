@@ -5,7 +5,7 @@ use Rattle.std.specs.List.{enumerate_from}
 use Rattle.std.specs.Option.{option_map_or}
 use Rattle.serde_json.specs.Data.{Data, Items, no_items, item, Members, depth}
 use Rattle.serde_json.specs.Find.{as_array, get_member}
-use Rattle.json_rows.specs.Rows.{◌>>=◌}
+use Rattle.json_fields.specs.Fields.{◌>>=◌}
 use Rattle.mm_types.specs.Lookups as lookups
 use Rattle.mm_types.specs.Resolved.{Metamodel}
 use Rattle.mm_types.specs.Shapes.{is_containment, shape}

@@ -1,6 +1,6 @@
 //! The values of attributes are read.
 ghost use Rattle.std.specs.Prelude.{◌≡◌, IfOk, is_some, option_map};
-ghost use Rattle.json_rows.specs.Rows.{whole_number};
+ghost use Rattle.json_fields.specs.Fields.{whole_number};
 ghost use Rattle.mm_types.specs.declared.value.Value.TheVariants as value;
 ghost use Rattle.serde_json.specs.View.{view};
 ghost use Rattle.doc_parts.specs.Contents.{attribute_value as value_meant, text_value as text_meant};

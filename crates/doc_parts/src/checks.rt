@@ -4,95 +4,97 @@ ghost use Rattle.std.specs.List.{list_any};
 ghost use Rattle.mm_types.specs.Resolved.{Metamodel};
 ghost use Rattle.doc_parts.specs.Faults.{has_no_class as no_class, has_other_key as other_key, is_deep, is_deep_at, is_long, is_misshapen, of_entry, of_written};
 ghost use Rattle.doc_parts.specs.Contents.{is_content};
-ghost use Rattle.doc_parts.specs.Found.{Knows, entries_seen, has_other_member, lacks_class, looks_misshapen, row_seen};
+ghost use Rattle.doc_parts.specs.FoundParts.{Knows, entries_seen, has_other_member, lacks_class, looks_misshapen, part_seen};
 ghost use Rattle.doc_parts.specs.Parts.{Part};
 
-use crate::found::{Found, Row};
+use crate::found::{FoundPart, FoundParts};
 use crate::layout::written;
 use crate::objects::{has_long_content, has_no_class, has_other_content, has_other_key};
 use mm_meta::Meta;
 use mm_types::limits::LEVELS;
 
-fn is_misshapen_row(row: &Row) -> bool
-    ensures { result ≡ looks_misshapen (row_seen row.now) }
+fn is_misshapen_part(part: &FoundPart) -> bool
+    ensures { result ≡ looks_misshapen (part_seen part.now) }
 {
-    row.known.is_none() && written(row.json).is_none() && (row.level == 1 || row.json.is_object())
+    part.known.is_none()
+        && written(part.json).is_none()
+        && (part.level == 1 || part.json.is_object())
 }
 
-fn is_any_misshapen(rows: &[Row]) -> bool
-    ensures { result ≡ list_any (λ r. looks_misshapen (row_seen r)) rows.now }
+fn is_any_misshapen(parts: &[FoundPart]) -> bool
+    ensures { result ≡ list_any (λ r. looks_misshapen (part_seen r)) parts.now }
 {
-    rows.iter().any(|row| is_misshapen_row(row))
+    parts.iter().any(|part| is_misshapen_part(part))
 }
 
-fn is_any_without_class(meta: &Meta, rows: &[Row]) -> bool
-    ensures { result ≡ list_any (λ r. lacks_class meta.now (row_seen r)) rows.now }
+fn is_any_without_class(meta: &Meta, parts: &[FoundPart]) -> bool
+    ensures { result ≡ list_any (λ r. lacks_class meta.now (part_seen r)) parts.now }
 {
-    rows.iter().any(|row| has_no_class(meta, row))
+    parts.iter().any(|part| has_no_class(meta, part))
 }
 
-fn is_any_with_other_key(meta: &Meta, rows: &[Row]) -> bool
-    ensures { result ≡ list_any (λ r. has_other_member meta.now (row_seen r)) rows.now }
+fn is_any_with_other_key(meta: &Meta, parts: &[FoundPart]) -> bool
+    ensures { result ≡ list_any (λ r. has_other_member meta.now (part_seen r)) parts.now }
 {
-    rows.iter().any(|row| has_other_key(meta, row))
+    parts.iter().any(|part| has_other_key(meta, part))
 }
 
-fn is_any_with_other_content(meta: &Meta, rows: &[Row]) -> bool
-    ensures { result ≡ list_any (λ r. list_any (λ e. not (is_content meta.now e)) (entries_seen meta.now (row_seen r))) rows.now }
+fn is_any_with_other_content(meta: &Meta, parts: &[FoundPart]) -> bool
+    ensures { result ≡ list_any (λ r. list_any (λ e. not (is_content meta.now e)) (entries_seen meta.now (part_seen r))) parts.now }
 {
-    rows.iter().any(|row| has_other_content(meta, row))
+    parts.iter().any(|part| has_other_content(meta, part))
 }
 
-fn is_any_long(meta: &Meta, rows: &[Row]) -> bool
-    ensures { result ≡ list_any (λ r. list_any (is_long meta.now) (entries_seen meta.now (row_seen r))) rows.now }
+fn is_any_long(meta: &Meta, parts: &[FoundPart]) -> bool
+    ensures { result ≡ list_any (λ r. list_any (is_long meta.now) (entries_seen meta.now (part_seen r))) parts.now }
 {
-    rows.iter().any(|row| has_long_content(meta, row))
+    parts.iter().any(|part| has_long_content(meta, part))
 }
 
-fn is_any_deep(rows: &[Row]) -> bool
-    ensures { result ≡ list_any (λ r. is_deep_at r.level) rows.now }
+fn is_any_deep(parts: &[FoundPart]) -> bool
+    ensures { result ≡ list_any (λ r. is_deep_at r.level) parts.now }
 {
-    rows.iter().any(|row| row.level > LEVELS)
+    parts.iter().any(|part| part.level > LEVELS)
 }
 
 /// Whether a part is no object although it should be one. Takes no memory.
-pub fn has_misshapen(found: &Found) -> bool
+pub fn has_misshapen(found: &FoundParts) -> bool
     ensures { (m : Metamodel) (ps : List Part) → Knows m found.now ps → result ≡ list_any is_misshapen ps }
 {
-    is_any_misshapen(found.rows.as_slice())
+    is_any_misshapen(found.parts.as_slice())
 }
 
 /// Whether an object names no class, or an abstract one. Takes no memory.
-pub fn has_unknown_class(meta: &Meta, found: &Found) -> bool
+pub fn has_unknown_class(meta: &Meta, found: &FoundParts) -> bool
     ensures { (ps : List Part) → Knows meta.now found.now ps → result ≡ of_written (no_class meta.now) ps }
 {
-    is_any_without_class(meta, found.rows.as_slice())
+    is_any_without_class(meta, found.parts.as_slice())
 }
 
 /// Whether an object has a key that is no feature of its class, or a container reference. Takes no memory.
-pub fn has_unknown_feature(meta: &Meta, found: &Found) -> bool
+pub fn has_unknown_feature(meta: &Meta, found: &FoundParts) -> bool
     ensures { (ps : List Part) → Knows meta.now found.now ps → result ≡ of_written (other_key meta.now) ps }
 {
-    is_any_with_other_key(meta, found.rows.as_slice())
+    is_any_with_other_key(meta, found.parts.as_slice())
 }
 
 /// Whether what is written under a feature is not of its type. Takes no memory.
-pub fn has_other_value(meta: &Meta, found: &Found) -> bool
+pub fn has_other_value(meta: &Meta, found: &FoundParts) -> bool
     ensures { (ps : List Part) → Knows meta.now found.now ps → result ≡ of_entry meta.now (λ e. not (is_content meta.now e)) ps }
 {
-    is_any_with_other_content(meta, found.rows.as_slice())
+    is_any_with_other_content(meta, found.parts.as_slice())
 }
 
 /// Whether a list of an object has more values than it may have. Takes no memory.
-pub fn has_long_list(meta: &Meta, found: &Found) -> bool
+pub fn has_long_list(meta: &Meta, found: &FoundParts) -> bool
     ensures { (ps : List Part) → Knows meta.now found.now ps → result ≡ of_entry meta.now (is_long meta.now) ps }
 {
-    is_any_long(meta, found.rows.as_slice())
+    is_any_long(meta, found.parts.as_slice())
 }
 
 /// Whether a part is below the last level. Takes no memory.
-pub fn has_deep(found: &Found) -> bool
+pub fn has_deep(found: &FoundParts) -> bool
     ensures { (m : Metamodel) (ps : List Part) → Knows m found.now ps → result ≡ list_any is_deep ps }
 {
-    is_any_deep(found.rows.as_slice())
+    is_any_deep(found.parts.as_slice())
 }

@@ -6,7 +6,7 @@ ghost use Rattle.serde_json.specs.View.{members_view, view};
 ghost use Rattle.doc_parts.specs.Parts.{class_of as class_meant, content_at as content_meant, known as known_meant, new_entry, values_of as values_meant};
 
 use crate::layout::written;
-use json_rows::find;
+use json_fields::find;
 use mm_meta::Meta;
 use mm_types::{ClassNo, FeatureNo};
 use serde_json::{Map, Value as JsonValue};

@@ -8,9 +8,9 @@ use serde_json::{Map, Value as JsonValue};
 use std::alloc::{AllocError, Global};
 use web_uris::{Path, Step};
 
-/// The place of a part: at the position of a root, or under the first part of a path by a step.
+/// The key of a part: at the position of a root, or under the first part of a path by a step.
 #[derive(Clone, Copy, PartialEq, Eq, Hash)]
-pub enum Place<'m> {
+pub enum PartKey<'m> {
     Root(u32),
     Under {
         part: u32,
@@ -19,16 +19,16 @@ pub enum Place<'m> {
     },
 }
 
-/// The numbers of parts by their places.
+/// The numbers of parts by their keys.
 #[derive(Drop)]
 pub struct Numbers<'m> {
-    numbers: IndexMap<Place<'m>, u32>,
+    numbers: IndexMap<PartKey<'m>, u32>,
 }
 
 /// A part: its level, what is there, its class and its members if its class is there, and the number of the first part of
 /// its path.
 #[derive(Clone, Copy)]
-pub struct Row<'v> {
+pub struct FoundPart<'v> {
     pub level: usize,
     pub json: &'v JsonValue,
     pub known: Option<(ClassNo, &'v Map<String, JsonValue>)>,
@@ -37,15 +37,15 @@ pub struct Row<'v> {
 
 /// The parts that were found, in loading order.
 #[derive(Drop)]
-pub struct Found<'v, 'm> {
-    pub rows: Vec<Row<'v>>,
+pub struct FoundParts<'v, 'm> {
+    pub parts: Vec<FoundPart<'v>>,
     pub numbers: Numbers<'m>,
 }
 
 impl<'m> Numbers<'m> {
-    ghost use Rattle.doc_parts.specs.Found.{Finds, IsPlaced};
+    ghost use Rattle.doc_parts.specs.FoundParts.{Finds, IsPlaced};
     ghost use Rattle.doc_parts.specs.Parts.{Part, number_of};
-    ghost use Rattle.doc_parts.specs.Places.{Key, descend, is_at, key_of, number_at, way_of};
+    ghost use Rattle.doc_parts.specs.Keys.{Key, descend, is_at, key_of, number_at, way_of};
 
     /// No numbers. Takes no memory.
     pub fn new(alloc: Global) -> Self
@@ -56,11 +56,11 @@ impl<'m> Numbers<'m> {
         }
     }
 
-    /// The number of the part at a place. Takes no memory.
-    pub fn at(&self, place: Place) -> Option<u32>
-        ensures { result ≡ number_at self.now (key_of place.entry) }
+    /// The number of the part at a key. Takes no memory.
+    pub fn at(&self, key: PartKey) -> Option<u32>
+        ensures { result ≡ number_at self.now (key_of key.entry) }
     {
-        self.numbers.get(&place).copied()
+        self.numbers.get(&key).copied()
     }
 
     /// The number that steps lead to from a part.
@@ -69,12 +69,12 @@ impl<'m> Numbers<'m> {
     {
         let mut part = from;
         'steps: for step in steps {
-            let place = Place::Under {
+            let key = PartKey::Under {
                 part,
                 name: step.name.as_str(),
                 index: step.index,
             };
-            match self.at(place) {
+            match self.at(key) {
                 Some(next) => part = next,
                 None => return None,
             }
@@ -86,49 +86,49 @@ impl<'m> Numbers<'m> {
     pub fn of_path(&self, path: &Path) -> Option<u32>
         ensures { result ≡ way_of (number_at self.now) path.now }
     {
-        match self.at(Place::Root(path.root)) {
+        match self.at(PartKey::Root(path.root)) {
             Some(root) => self.descend(root, path.steps.as_slice()),
             None => None,
         }
     }
 
-    /// Gives a number to a place that has none yet.
-    pub fn put(&mut self, place: Place<'m>, number: u32) -> Result<(), AllocError>
-        requires { number_at self.old (key_of place) ≡ None }
-        ensures { OnOk result ((k : Key) → number_at self.new k ≡ option_or (number_at self.old k) (if is_at k place.entry then Some number else None)) }
+    /// Gives a number to a key that has none yet.
+    pub fn put(&mut self, key: PartKey<'m>, number: u32) -> Result<(), AllocError>
+        requires { number_at self.old (key_of key) ≡ None }
+        ensures { OnOk result ((k : Key) → number_at self.new k ≡ option_or (number_at self.old k) (if is_at k key.entry then Some number else None)) }
     {
-        self.numbers.insert(place, number)?;
+        self.numbers.insert(key, number)?;
         Ok(())
     }
 
-    /// The number of the part at a place: `next`, if the place has no number yet.
-    pub fn number(&mut self, place: Place<'m>, next: u32) -> Result<u32, AllocError>
-        ensures { IfOk result (λ n. (ps : List Part) (p : Part) → next ≡ length ps → Finds self.old ps → IsPlaced ps (key_of place.entry) p.path
+    /// The number of the part at a key: `next`, if the key has no number yet.
+    pub fn number(&mut self, key: PartKey<'m>, next: u32) -> Result<u32, AllocError>
+        ensures { IfOk result (λ n. (ps : List Part) (p : Part) → next ≡ length ps → Finds self.old ps → IsPlaced ps (key_of key.entry) p.path
             → Finds self.new (ps ++ p ∷ []) × (number_of (ps ++ p ∷ []) p.path ≡ Some n)) }
     {
-        match self.at(place) {
+        match self.at(key) {
             Some(number) => Ok(number),
             None => {
-                self.put(place, next)?;
+                self.put(key, next)?;
                 Ok(next)
             }
         }
     }
 }
 
-impl<'v, 'm> Found<'v, 'm> {
+impl<'v, 'm> FoundParts<'v, 'm> {
     ghost use Rattle.mm_types.specs.Resolved.{Metamodel};
     ghost use Rattle.serde_json.specs.View.{members_view, view};
-    ghost use Rattle.doc_parts.specs.Found.{IsPlaced, Knows};
+    ghost use Rattle.doc_parts.specs.FoundParts.{IsPlaced, Knows};
     ghost use Rattle.doc_parts.specs.Parts.{Part, known as known_meant, level_of, number_of};
-    ghost use Rattle.doc_parts.specs.Places.{key_of};
+    ghost use Rattle.doc_parts.specs.Keys.{key_of};
 
     /// No parts. Takes no memory.
     pub fn new(alloc: Global) -> Self
         ensures { (m : Metamodel) → Knows m result [] }
     {
-        Found {
-            rows: Vec::new(alloc),
+        FoundParts {
+            parts: Vec::new(alloc),
             numbers: Numbers::new(alloc),
         }
     }
@@ -137,20 +137,20 @@ impl<'v, 'm> Found<'v, 'm> {
     /// parts already, what was found may not be used.
     pub fn add(
         &mut self,
-        place: Place<'m>,
+        key: PartKey<'m>,
         level: usize,
         json: &'v JsonValue,
         known: Option<(ClassNo, &'v Map<String, JsonValue>)>,
     ) -> Result<u32, AllocError>
-        ensures { IfOk result (λ n. (m : Metamodel) (ps : List Part) (p : Part) → Knows m self.old ps → IsPlaced ps (key_of place.entry) p.path → level ≡ level_of p → view json.entry.now ≡ p.json
+        ensures { IfOk result (λ n. (m : Metamodel) (ps : List Part) (p : Part) → Knows m self.old ps → IsPlaced ps (key_of key.entry) p.path → level ≡ level_of p → view json.entry.now ≡ p.json
             → option_map (λ k. (k.0, members_view k.1.now.entries)) known.entry ≡ known_meant m p.json → Knows m self.new (ps ++ p ∷ []) × (number_of (ps ++ p ∷ []) p.path ≡ Some n)) }
     {
-        let count = self.rows.as_slice().len();
+        let count = self.parts.as_slice().len();
         if count > u32::MAX as usize {
             return Err(AllocError);
         }
-        let number = self.numbers.number(place, count as u32)?;
-        self.rows.push(Row {
+        let number = self.numbers.number(key, count as u32)?;
+        self.parts.push(FoundPart {
             level,
             json,
             known,

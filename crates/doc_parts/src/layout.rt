@@ -3,7 +3,7 @@ ghost use Rattle.std.specs.Prelude.{◌≡◌, option_map};
 ghost use Rattle.serde_json.specs.View.{items_view, members_view, view};
 ghost use Rattle.doc_parts.specs.Layout.{new_top, new_written, top as top_meant, written as written_meant};
 
-use json_rows::{find, has_only_keys};
+use json_fields::{find, has_only_keys};
 use serde_json::{Map, Value};
 
 /// What the top of a document says.

@@ -1,6 +1,6 @@
-//! The parts of a resource document: what is in the place of each object, with its path, and what its features hold.
+//! The parts of a resource document: what is written for each object, with its path, and what its features hold.
 //!
-//! `specs/Layout.antt` is the layout of a document, row by row, `specs/Parts.antt` says what of it is looked at,
+//! `specs/Layout.antt` is the layout of a document, key by key, `specs/Parts.antt` says what of it is looked at,
 //! `specs/Contents.antt` whether what is written under a feature is of its type, and `specs/Faults.antt` what may be wrong
 //! with an object by itself.
 #![tactic(auto)]
@@ -20,6 +20,6 @@ pub use checks::{
 };
 pub use contents::conforms_to;
 pub use entries::{class_of, content_at, known, values_of};
-pub use found::{Found, Numbers, Place, Row};
+pub use found::{FoundPart, FoundParts, Numbers, PartKey};
 pub use layout::{TopMembers, top};
 pub use walk::find_parts;

@@ -4,29 +4,29 @@ ghost use Rattle.std.specs.BTreeMap.{keys};
 ghost use Rattle.std.specs.List.{list_all, list_any};
 ghost use Rattle.std.specs.Option.{option_map_or};
 ghost use Rattle.serde_json.specs.View.{members_view};
-ghost use Rattle.json_rows.specs.Rows.{keys_of};
+ghost use Rattle.json_fields.specs.Fields.{keys_of};
 ghost use Rattle.mm_types.specs.Lookups.{is_concrete as concrete};
 ghost use Rattle.mm_types.specs.Shapes.{is_bounded as bounded, shape};
 ghost use Rattle.doc_parts.specs.Faults.{is_long as long, is_readable as readable};
 ghost use Rattle.doc_parts.specs.Contents.{is_content as content_meant};
-ghost use Rattle.doc_parts.specs.Found.{entries_seen, has_other_member, lacks_class, row_seen};
+ghost use Rattle.doc_parts.specs.FoundParts.{entries_seen, has_other_member, lacks_class, part_seen};
 ghost use Rattle.doc_parts.specs.Parts.{content_at as content_at_meant, new_entry};
 
 use crate::contents::is_content;
 use crate::entries::{content_at, values_of};
-use crate::found::Row;
+use crate::found::FoundPart;
 use crate::layout::written;
 use mm_meta::Meta;
 use mm_types::{ClassNo, FeatureNo, limits};
 use serde_json::{Map, Value as JsonValue};
 
 /// Whether an object names no class, or an abstract one. Takes no memory.
-pub(crate) fn has_no_class(meta: &Meta, row: &Row) -> bool
-    ensures { result ≡ lacks_class meta.now (row_seen row.now) }
+pub(crate) fn has_no_class(meta: &Meta, part: &FoundPart) -> bool
+    ensures { result ≡ lacks_class meta.now (part_seen part.now) }
 {
-    match row.known {
+    match part.known {
         Some((class, _)) => !meta.is_concrete(class),
-        None => written(row.json).is_some(),
+        None => written(part.json).is_some(),
     }
 }
 
@@ -55,10 +55,10 @@ fn has_only_features(meta: &Meta, class: ClassNo, members: &Map<String, JsonValu
 }
 
 /// Whether an object has a key that is no feature of its class, or a container reference. Takes no memory.
-pub(crate) fn has_other_key(meta: &Meta, row: &Row) -> bool
-    ensures { result ≡ has_other_member meta.now (row_seen row.now) }
+pub(crate) fn has_other_key(meta: &Meta, part: &FoundPart) -> bool
+    ensures { result ≡ has_other_member meta.now (part_seen part.now) }
 {
-    match row.known {
+    match part.known {
         Some((class, members)) => !has_only_features(meta, class, members),
         None => false,
     }
@@ -107,10 +107,10 @@ fn is_any_other(meta: &Meta, members: &Map<String, JsonValue>, features: &[Featu
 }
 
 /// Whether what is written under a feature of an object is not of the feature's type. Takes no memory.
-pub(crate) fn has_other_content(meta: &Meta, row: &Row) -> bool
-    ensures { result ≡ list_any (λ e. not (content_meant meta.now e)) (entries_seen meta.now (row_seen row.now)) }
+pub(crate) fn has_other_content(meta: &Meta, part: &FoundPart) -> bool
+    ensures { result ≡ list_any (λ e. not (content_meant meta.now e)) (entries_seen meta.now (part_seen part.now)) }
 {
-    let Some((class, members)) = row.known else {
+    let Some((class, members)) = part.known else {
         return false;
     };
     match meta.features(class) {
@@ -128,10 +128,10 @@ fn is_any_long(meta: &Meta, members: &Map<String, JsonValue>, features: &[Featur
 }
 
 /// Whether a list of an object has more values than it may have. Takes no memory.
-pub(crate) fn has_long_content(meta: &Meta, row: &Row) -> bool
-    ensures { result ≡ list_any (long meta.now) (entries_seen meta.now (row_seen row.now)) }
+pub(crate) fn has_long_content(meta: &Meta, part: &FoundPart) -> bool
+    ensures { result ≡ list_any (long meta.now) (entries_seen meta.now (part_seen part.now)) }
 {
-    let Some((class, members)) = row.known else {
+    let Some((class, members)) = part.known else {
         return false;
     };
     match meta.features(class) {

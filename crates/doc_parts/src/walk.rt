@@ -1,41 +1,41 @@
 //! The parts of a document are found, each before what it contains.
 ghost use Rattle.std.specs.Prelude.{◌≡◌, ◌++◌, IfOk, List, None, OnOk, Some, flat_map, if◌then◌else◌, map};
 ghost use Rattle.serde_json.specs.View.{members_view, view};
-ghost use Rattle.doc_parts.specs.Found.{FindsBelow, Knows, Walks, parts_at, parts_under, roots_from};
+ghost use Rattle.doc_parts.specs.FoundParts.{FindsBelow, Knows, Walks, parts_at, parts_under, roots_from};
 ghost use Rattle.doc_parts.specs.Parts.{Part, parts_from};
-ghost use Rattle.doc_parts.specs.Places.{UnderKey, key_of};
+ghost use Rattle.doc_parts.specs.Keys.{UnderKey, key_of};
 
 use crate::entries::{content_at, known, values_of};
-use crate::found::{Found, Place};
+use crate::found::{FoundParts, PartKey};
 use mm_meta::Meta;
 use mm_types::FeatureNo;
 use serde_json::{Map, Value as JsonValue};
 use std::alloc::{AllocError, Global};
 
-/// The place of what is below a part: the number of that part, and the level below it.
+/// The key of what is below a part: the number of that part, and the level below it.
 #[derive(Clone, Copy)]
 struct Below {
     part: u32,
     level: usize,
 }
 
-/// Finds a part that is at a place, and what is below it, for so many levels.
+/// Finds a part that is at a key, and what is below it, for so many levels.
 #[cycle(walk)]
 pub(crate) fn walk<'v, 'm>(
-    found: &mut Found<'v, 'm>,
+    found: &mut FoundParts<'v, 'm>,
     meta: &'m Meta,
     levels: usize,
-    place: Place<'m>,
+    key: PartKey<'m>,
     level: usize,
     json: &'v JsonValue,
 ) -> Result<(), AllocError>
-    ensures { OnOk result (Walks meta.entry.now levels found.old found.new (key_of place.entry) level (view json.entry.now)) }
+    ensures { OnOk result (Walks meta.entry.now levels found.old found.new (key_of key.entry) level (view json.entry.now)) }
 {
     if levels == 0 {
         return Ok(());
     }
     let seen = known(meta, json);
-    let part = found.add(place, level, json, seen)?;
+    let part = found.add(key, level, json, seen)?;
     let Some(level) = level.checked_add(1) else {
         return Err(AllocError);
     };
@@ -51,7 +51,7 @@ pub(crate) fn walk<'v, 'm>(
 
 #[cycle(walk)]
 fn walk_features<'v, 'm>(
-    found: &mut Found<'v, 'm>,
+    found: &mut FoundParts<'v, 'm>,
     meta: &'m Meta,
     levels: usize,
     below: Below,
@@ -68,7 +68,7 @@ fn walk_features<'v, 'm>(
 
 #[cycle(walk)]
 fn walk_feature<'v, 'm>(
-    found: &mut Found<'v, 'm>,
+    found: &mut FoundParts<'v, 'm>,
     meta: &'m Meta,
     levels: usize,
     below: Below,
@@ -105,7 +105,7 @@ fn index_at(is_single: bool, position: u32) -> Option<u32>
 
 #[cycle(walk)]
 fn walk_values<'v, 'm>(
-    found: &mut Found<'v, 'm>,
+    found: &mut FoundParts<'v, 'm>,
     meta: &'m Meta,
     levels: usize,
     below: Below,
@@ -124,7 +124,7 @@ fn walk_values<'v, 'm>(
             found,
             meta,
             levels,
-            Place::Under {
+            PartKey::Under {
                 part: below.part,
                 name,
                 index,
@@ -137,7 +137,7 @@ fn walk_values<'v, 'm>(
 }
 
 fn walk_roots<'v, 'm>(
-    found: &mut Found<'v, 'm>,
+    found: &mut FoundParts<'v, 'm>,
     meta: &'m Meta,
     levels: usize,
     roots: &'v [JsonValue],
@@ -148,7 +148,7 @@ fn walk_roots<'v, 'm>(
         if i > u32::MAX as usize {
             return Err(AllocError);
         }
-        walk(found, meta, levels, Place::Root(i as u32), 1, root)?;
+        walk(found, meta, levels, PartKey::Root(i as u32), 1, root)?;
     }
     Ok(())
 }
@@ -159,10 +159,10 @@ pub fn find_parts<'v, 'm>(
     meta: &'m Meta,
     levels: usize,
     roots: &'v [JsonValue],
-) -> Result<Found<'v, 'm>, AllocError>
+) -> Result<FoundParts<'v, 'm>, AllocError>
     ensures { IfOk result (λ found. Knows meta.entry.now found (flat_map (parts_from meta.entry.now levels) (roots_from (map view roots.entry.now)))) }
 {
-    let mut found = Found::new(alloc);
+    let mut found = FoundParts::new(alloc);
     walk_roots(&mut found, meta, levels, roots)?;
     Ok(found)
 }

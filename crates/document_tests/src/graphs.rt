@@ -15,8 +15,8 @@ use std::test::Fail;
 /// Rows of numbers, as a graph has them.
 fn rows_of<T: Copy>(alloc: Global, rows: &[&[T]]) -> Result<Vec<Seq<T>>, AllocError> {
     let mut made = Vec::new(alloc);
-    for row in rows {
-        let items = Vec::from_slice(alloc, row)?;
+    for numbers in rows {
+        let items = Vec::from_slice(alloc, numbers)?;
         made.push(Seq::from_vec(items))?;
     }
     Ok(made)
@@ -67,9 +67,9 @@ fn ladder(alloc: Global, count: usize) -> Result<Vec<Seq<usize>>, AllocError> {
 /// Rows, each between brackets.
 fn shown<T: Debug>(alloc: Global, rows: &[Seq<T>]) -> Result<String, AllocError> {
     let mut shown = String::new(alloc);
-    for row in rows {
-        let row = format!(in alloc; "{:?}", row.as_slice())?;
-        shown.push_str(row.as_str())?;
+    for numbers in rows {
+        let numbers = format!(in alloc; "{:?}", numbers.as_slice())?;
+        shown.push_str(numbers.as_str())?;
     }
     Ok(shown)
 }

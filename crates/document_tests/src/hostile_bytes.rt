@@ -1,4 +1,4 @@
-//! A metamodel and two documents of it that are cut after each of their bytes, or have a different byte in the place of one: each is read
+//! A metamodel and two documents of it that are cut after each of their bytes, or have a different byte instead of one: each is read
 //! or refused, and the answers are counted.
 //!
 //! What is expected follows from JSON alone. None of the texts has a backslash. What is cut before its last brace is none; neither is what
@@ -122,7 +122,7 @@ fn cut(alloc: Global, meta: &Meta, input: &Input) -> Result<Counts, Fail> {
     Ok(counts)
 }
 
-/// A text with a different byte in the place of the one at a position.
+/// A text with a different byte instead of the one at a position.
 fn with_byte(alloc: Global, text: &str, at: usize, byte: u8) -> Result<Vec<u8>, AllocError> {
     let mut bytes = text.as_bytes().to_vec(alloc)?;
     if at < bytes.len() {
@@ -131,7 +131,7 @@ fn with_byte(alloc: Global, text: &str, at: usize, byte: u8) -> Result<Vec<u8>, 
     Ok(bytes)
 }
 
-/// Counts the answers to a text with a different byte in the place of each of its bytes in turn.
+/// Counts the answers to a text with a different byte instead of each of its bytes in turn.
 fn replaced(alloc: Global, meta: &Meta, input: &Input, byte: u8) -> Result<Counts, Fail> {
     let mut counts = [0; 13];
     for at in 0..input.text.len() {

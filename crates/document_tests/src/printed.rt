@@ -134,19 +134,17 @@ fn causes_are_printed(rt: HostRuntime) -> Result<(), Fail> {
     Ok(())
 }
 
-/// A fault by its number, its name and its place, each asked for by its own call.
+/// A fault by its number, its name and where it is, each asked for by its own call.
 fn by_parts(alloc: Global, fault: MetaFault) -> Result<String, AllocError> {
     let name = fault.name();
     match (fault.number(), fault) {
-        (Some(number), MetaFault::IllFormed(_, place)) => {
-            format!(in alloc; "{number} {name} {place}")
-        }
+        (Some(number), MetaFault::IllFormed(_, at)) => { format!(in alloc; "{number} {name} {at}") }
         (Some(number), _) => format!(in alloc; "{number} {name}"),
         (None, _) => String::from_str(alloc, name),
     }
 }
 
-/// Whether a fault is printed as a text, which is its number, its name and its place.
+/// Whether a fault is printed as a text, which is its number, its name and where it is.
 fn is_fault(alloc: Global, fault: MetaFault, text: &str) -> Result<bool, AllocError> {
     let printed = format!(in alloc; "{fault}")?;
     let parts = by_parts(alloc, fault)?;

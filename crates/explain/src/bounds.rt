@@ -44,7 +44,7 @@ struct Literals<'m>(&'m [Text]);
 
 impl fmt::Display for Literals<'_> {
     fn fmt<W: fmt::Write>(&self, f: &mut fmt::Formatter<W>) -> fmt::Result {
-        'literals: for (i, literal) in self.0.iter().enumerate() {
+        for (i, literal) in self.0.iter().enumerate() {
             if i == SHOWN_LITERALS {
                 let more = self.0.len().saturating_sub(i);
                 return write!(f, " and {more} more");

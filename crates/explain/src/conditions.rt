@@ -15,7 +15,7 @@ fn is_bad(name: &str) -> bool {
 
 /// The first literal of an enumeration that is no name.
 fn bad_literal(raw: &RawMeta, i: usize) -> Option<&str> {
-    'literals: for literal in enum_at(raw, i)?.literals.as_slice() {
+    for literal in enum_at(raw, i)?.literals.as_slice() {
         if is_bad(literal.as_str()) {
             return Some(literal.as_str());
         }

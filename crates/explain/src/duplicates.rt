@@ -11,7 +11,7 @@ const RESERVED: [&str; 5] = ["EString", "EInt", "ELong", "EBoolean", "Resource"]
 
 /// The first position of a text before another position.
 fn position_before(texts: &[Text], end: usize, text: &str) -> Option<usize> {
-    'texts: for (i, other) in texts.iter().enumerate() {
+    for (i, other) in texts.iter().enumerate() {
         if i < end && other.as_str() == text {
             return Some(i);
         }
@@ -26,7 +26,7 @@ fn explain_repeated(
     key: &str,
     texts: &[Text],
 ) -> Result<(), AllocError> {
-    'texts: for (j, text) in texts.iter().enumerate() {
+    for (j, text) in texts.iter().enumerate() {
         if let Some(i) = position_before(texts, j, text.as_str()) {
             writeln!(out, "{at}: {key}[{i}] and {key}[{j}] are the same name")?;
         }
@@ -46,7 +46,7 @@ fn clash_in(
     places: &[Place],
 ) -> Result<Option<(Place, Place)>, AllocError> {
     let mut seen: BTreeMap<&str, Place> = BTreeMap::new(alloc);
-    'places: for place in places {
+    for place in places {
         if let Some(first) = seen.insert(name_at(raw, *place), *place)? {
             return Ok(Some((first, *place)));
         }

@@ -19,7 +19,7 @@ pub(crate) struct Ancestry {
 
 impl Ancestry {
     fn has(&self, class: usize) -> bool {
-        'reached: for reached in &self.reached {
+        for reached in &self.reached {
             if reached.class == class {
                 return true;
             }
@@ -37,7 +37,7 @@ impl Ancestry {
             Some(class) => class.supers.as_slice(),
             None => &[],
         };
-        'supers: for name in supers {
+        for name in supers {
             match class_named(raw, name.as_str()) {
                 Some(class) if !self.has(class) => self.reached.push(Reached { class, before })?,
                 _ => {}
@@ -52,7 +52,7 @@ impl Ancestry {
             reached: Vec::new(alloc),
         };
         found.reached.push(Reached { class, before: 0 })?;
-        'classes: for i in 0..raw.classes().len() {
+        for i in 0..raw.classes().len() {
             match found.class_at(i) {
                 Some(class) => found.add_supers(raw, class, i)?,
                 None => return Ok(found),
@@ -64,7 +64,7 @@ impl Ancestry {
 
 /// Adds the places of as many features of a class as it declares.
 fn add_features(places: &mut Vec<Place>, class: usize, count: usize) -> Result<(), AllocError> {
-    'features: for i in 0..count {
+    for i in 0..count {
         places.push(Place::Feature(class, i))?;
     }
     Ok(())
@@ -79,7 +79,7 @@ struct Way<'m> {
 
 impl fmt::Display for Way<'_> {
     fn fmt<W: fmt::Write>(&self, f: &mut fmt::Formatter<W>) -> fmt::Result {
-        'classes: for class in self.classes.iter().rev() {
+        for class in self.classes.iter().rev() {
             let name = name_at(self.raw, Place::Class(*class));
             write!(f, "{name}, ")?;
         }
@@ -91,7 +91,7 @@ impl Ancestry {
     /// The places of the features of all classes that were reached.
     pub(crate) fn features(&self, alloc: Global, raw: &RawMeta) -> Result<Vec<Place>, AllocError> {
         let mut places = Vec::new(alloc);
-        'classes: for reached in &self.reached {
+        for reached in &self.reached {
             if let Some(class) = class_at(raw, reached.class) {
                 add_features(&mut places, reached.class, class.features.len())?;
             }
@@ -101,7 +101,7 @@ impl Ancestry {
 
     /// The position of the first class that was reached and names one as its supertype.
     fn below(&self, raw: &RawMeta, name: &str) -> Option<usize> {
-        'reached: for (i, reached) in self.reached.as_slice().iter().enumerate() {
+        for (i, reached) in self.reached.as_slice().iter().enumerate() {
             if names_super(raw, reached.class, name) {
                 return Some(i);
             }
@@ -113,7 +113,7 @@ impl Ancestry {
     fn way_to(&self, alloc: Global, position: usize) -> Result<Vec<usize>, AllocError> {
         let mut way = Vec::new(alloc);
         let mut at = position;
-        'steps: for _ in 0..self.reached.len() {
+        for _ in 0..self.reached.len() {
             let Some(reached) = self.reached.get(at) else {
                 return Ok(way);
             };
@@ -131,7 +131,7 @@ fn names_super(raw: &RawMeta, class: usize, name: &str) -> bool {
     let Some(class) = class_at(raw, class) else {
         return false;
     };
-    'supers: for found in class.supers.as_slice() {
+    for found in class.supers.as_slice() {
         if found.as_str() == name {
             return true;
         }

@@ -1,9 +1,9 @@
 //! What is wrong with the layout of a document, or with how much there is of it: unknown and absent keys, and values that are
-//! not written as their rows say.
-use crate::near::{is_among, nearest};
-use crate::rows::{
-    ATTRIBUTE, CLASS, DOCUMENT, ENUMERATION, FEATURE, Hint, MISPLACED, REFERENCE, Row, advice_in,
+//! not written as their fields say.
+use crate::fields::{
+    ATTRIBUTE, CLASS, DOCUMENT, ENUMERATION, FEATURE, Field, Hint, MISPLACED, REFERENCE, advice_in,
 };
+use crate::near::{is_among, nearest};
 use crate::shown::Shown;
 use crate::values::explain_value;
 use serde_json::{Map, Value};
@@ -13,10 +13,10 @@ use std::alloc::{AllocError, Global};
 const ENOUGH: usize = 4096;
 
 /// The names of the keys that are listed.
-fn listed(alloc: Global, rows: &[Row]) -> Result<Vec<&'static str>, AllocError> {
+fn listed(alloc: Global, fields: &[Field]) -> Result<Vec<&'static str>, AllocError> {
     let mut keys = Vec::new(alloc);
-    'rows: for row in rows {
-        keys.push(row.key)?;
+    for field in fields {
+        keys.push(field.key)?;
     }
     Ok(keys)
 }
@@ -47,7 +47,7 @@ fn explain_keys(
     hints: &[Hint],
     members: &Map<String, Value>,
 ) -> Result<(), AllocError> {
-    'keys: for key in members.keys() {
+    for key in members.keys() {
         if !is_among(keys, key.as_str()) {
             explain_unknown(alloc, out, place, keys, hints, key.as_str())?;
         }
@@ -55,27 +55,27 @@ fn explain_keys(
     Ok(())
 }
 
-fn explain_row(
+fn explain_field(
     out: &mut String,
     place: &str,
-    row: &Row,
+    field: &Field,
     members: &Map<String, Value>,
 ) -> Result<(), AllocError> {
-    match members.get(row.key) {
-        Some(json) => explain_value(out, place, row, json),
-        None if row.is_required => writeln!(out, "{place}: the key {:?} is absent", row.key),
+    match members.get(field.key) {
+        Some(json) => explain_value(out, place, field, json),
+        None if field.is_required => writeln!(out, "{place}: the key {:?} is absent", field.key),
         None => Ok(()),
     }
 }
 
-fn explain_rows(
+fn explain_fields(
     out: &mut String,
     place: &str,
-    rows: &[Row],
+    fields: &[Field],
     members: &Map<String, Value>,
 ) -> Result<(), AllocError> {
-    'rows: for row in rows {
-        explain_row(out, place, row, members)?;
+    for field in fields {
+        explain_field(out, place, field, members)?;
     }
     Ok(())
 }
@@ -85,7 +85,7 @@ fn explain_listed(
     alloc: Global,
     out: &mut String,
     place: &str,
-    rows: &[Row],
+    fields: &[Field],
     hints: &[Hint],
     json: &Value,
 ) -> Result<(), AllocError> {
@@ -94,8 +94,8 @@ fn explain_listed(
     }
     match json.as_object() {
         Some(members) => {
-            explain_rows(out, place, rows, members)?;
-            let keys = listed(alloc, rows)?;
+            explain_fields(out, place, fields, members)?;
+            let keys = listed(alloc, fields)?;
             explain_keys(alloc, out, place, keys.as_slice(), hints, members)
         }
         None => writeln!(
@@ -106,16 +106,16 @@ fn explain_listed(
     }
 }
 
-/// Adds a line for each key of an object that is unknown or absent, and for each value that is not written as its row says.
+/// Adds a line for each key of an object that is unknown or absent, and for each value that is not written as its field says.
 /// The text is of one document: if it has more than 4,096 bytes already, nothing is added. Errs only if memory is refused.
 pub fn explain_object(
     alloc: Global,
     out: &mut String,
     place: &str,
-    rows: &[Row],
+    fields: &[Field],
     json: &Value,
 ) -> Result<(), AllocError> {
-    explain_listed(alloc, out, place, rows, &[], json)
+    explain_listed(alloc, out, place, fields, &[], json)
 }
 
 /// The items of an array that is under a key; none if there is no such array.
@@ -180,7 +180,7 @@ fn explain_features(
     class: usize,
     features: &[Value],
 ) -> Result<(), AllocError> {
-    'features: for (i, json) in features.iter().enumerate() {
+    for (i, json) in features.iter().enumerate() {
         let place = format!(in alloc; "classes[{class}].features[{i}]")?;
         explain_feature(alloc, out, place.as_str(), json)?;
     }
@@ -188,7 +188,7 @@ fn explain_features(
 }
 
 fn explain_classes(alloc: Global, out: &mut String, classes: &[Value]) -> Result<(), AllocError> {
-    'classes: for (c, json) in classes.iter().enumerate() {
+    for (c, json) in classes.iter().enumerate() {
         let place = format!(in alloc; "classes[{c}]")?;
         explain_listed(alloc, out, place.as_str(), &CLASS, &MISPLACED, json)?;
         explain_features(alloc, out, c, items_at(json, "features"))?;
@@ -197,7 +197,7 @@ fn explain_classes(alloc: Global, out: &mut String, classes: &[Value]) -> Result
 }
 
 fn explain_enums(alloc: Global, out: &mut String, enums: &[Value]) -> Result<(), AllocError> {
-    'enums: for (i, json) in enums.iter().enumerate() {
+    for (i, json) in enums.iter().enumerate() {
         let place = format!(in alloc; "enums[{i}]")?;
         explain_listed(alloc, out, place.as_str(), &ENUMERATION, &MISPLACED, json)?;
     }

@@ -7,19 +7,19 @@
 mod bounds;
 mod conditions;
 mod duplicates;
+mod fields;
 mod inherited;
 mod layout;
 mod metamodel;
 mod named;
 mod near;
 mod opposites;
-mod rows;
 mod shown;
 mod types;
 mod values;
 
+pub use fields::{Field, Sort};
 pub use layout::explain_object;
 pub use metamodel::explain_meta;
 pub use near::nearest;
-pub use rows::{Row, Sort};
 pub use shown::{Shown, front_of};

@@ -15,7 +15,7 @@ struct Bare<'m>(&'m str);
 
 impl fmt::Display for Bare<'_> {
     fn fmt<W: fmt::Write>(&self, f: &mut fmt::Formatter<W>) -> fmt::Result {
-        'characters: for character in self.0.chars() {
+        for character in self.0.chars() {
             if character == '\'' {
                 write!(f, "{character}")?;
             } else {
@@ -73,7 +73,7 @@ pub(crate) fn name_at(raw: &RawMeta, place: Place) -> &str {
 
 /// The position of the first enumeration of a name.
 pub(crate) fn enum_named(raw: &RawMeta, name: &str) -> Option<usize> {
-    'enums: for (i, found) in raw.enums().iter().enumerate() {
+    for (i, found) in raw.enums().iter().enumerate() {
         if found.name.as_str() == name {
             return Some(i);
         }
@@ -83,7 +83,7 @@ pub(crate) fn enum_named(raw: &RawMeta, name: &str) -> Option<usize> {
 
 /// The position of the first class of a name.
 pub(crate) fn class_named(raw: &RawMeta, name: &str) -> Option<usize> {
-    'classes: for (i, found) in raw.classes().iter().enumerate() {
+    for (i, found) in raw.classes().iter().enumerate() {
         if found.name.as_str() == name {
             return Some(i);
         }
@@ -93,7 +93,7 @@ pub(crate) fn class_named(raw: &RawMeta, name: &str) -> Option<usize> {
 
 /// The feature of a name that a class declares itself.
 pub(crate) fn feature_named<'m>(class: &'m RawClass, name: &str) -> Option<&'m RawFeature> {
-    'features: for found in class.features.as_slice() {
+    for found in class.features.as_slice() {
         if found.name.as_str() == name {
             return Some(found);
         }

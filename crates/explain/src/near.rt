@@ -20,7 +20,7 @@ pub fn nearest<'a>(
         return Ok(found);
     }
     let mut least = MOST_EDITS + 1;
-    'others: for other in others {
+    for other in others {
         let edits = levenshtein(alloc, word, other)?;
         if edits < least && edits < other.len() {
             least = edits;
@@ -32,7 +32,7 @@ pub fn nearest<'a>(
 
 /// Whether a word is one of some.
 pub(crate) fn is_among(words: &[&str], word: &str) -> bool {
-    'words: for other in words {
+    for other in words {
         if *other == word {
             return true;
         }

@@ -18,7 +18,7 @@ pub fn front_of(text: &str, most: usize) -> &str {
     if text.len() <= most {
         return text;
     }
-    'ends: for over in 0..CHARACTER_BYTES {
+    for over in 0..CHARACTER_BYTES {
         if let Some(front) = text.get(..most.saturating_sub(over)) {
             return front;
         }

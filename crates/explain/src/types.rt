@@ -10,7 +10,7 @@ const DATA_TYPES: [&str; 4] = ["EString", "EInt", "ELong", "EBoolean"];
 /// The names of the classes.
 fn class_names<'m>(alloc: Global, raw: &'m RawMeta) -> Result<Vec<&'m str>, AllocError> {
     let mut names = Vec::new(alloc);
-    'classes: for class in raw.classes() {
+    for class in raw.classes() {
         names.push(class.name.as_str())?;
     }
     Ok(names)
@@ -19,7 +19,7 @@ fn class_names<'m>(alloc: Global, raw: &'m RawMeta) -> Result<Vec<&'m str>, Allo
 /// The names of the enumerations.
 fn enum_names<'m>(alloc: Global, raw: &'m RawMeta) -> Result<Vec<&'m str>, AllocError> {
     let mut names = Vec::new(alloc);
-    'enums: for found in raw.enums() {
+    for found in raw.enums() {
         names.push(found.name.as_str())?;
     }
     Ok(names)
@@ -76,7 +76,7 @@ fn explain_data_type(
 
 /// The first supertype of a class that is none.
 fn lost_super(raw: &RawMeta, c: usize) -> Option<&str> {
-    'supers: for name in class_at(raw, c)?.supers.as_slice() {
+    for name in class_at(raw, c)?.supers.as_slice() {
         if class_named(raw, name.as_str()).is_none() {
             return Some(name.as_str());
         }

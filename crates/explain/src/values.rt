@@ -1,5 +1,5 @@
 //! What is wrong with the value of a key.
-use crate::rows::{ADVICE, Row, Sort, advice_in};
+use crate::fields::{ADVICE, Field, Sort, advice_in};
 use crate::shown::Shown;
 use mm_types::limits::NAME_BYTES;
 use serde_json::Value;
@@ -68,7 +68,7 @@ fn explain_item(out: &mut String, at: Keyed<'_>, i: usize, item: &Value) -> Resu
 }
 
 fn explain_each(out: &mut String, at: Keyed<'_>, items: &[Value]) -> Result<(), AllocError> {
-    'items: for (i, item) in items.iter().enumerate() {
+    for (i, item) in items.iter().enumerate() {
         explain_item(out, at, i, item)?;
     }
     Ok(())
@@ -114,15 +114,15 @@ fn explain_objects(out: &mut String, at: Keyed<'_>, most: usize) -> Result<(), A
 pub(crate) fn explain_value(
     out: &mut String,
     place: &str,
-    row: &Row,
+    field: &Field,
     json: &Value,
 ) -> Result<(), AllocError> {
     let at = Keyed {
         place,
-        key: row.key,
+        key: field.key,
         json,
     };
-    match row.sort {
+    match field.sort {
         Sort::Text(most) => explain_text(out, at, most),
         Sort::Texts(most) => explain_texts(out, at, most),
         Sort::Objects(most) => explain_objects(out, at, most),

@@ -47,7 +47,7 @@ fn cause_in(line: &[u8]) -> Option<DocFault> {
     if !line.starts_with(b"refused 18 ") {
         return None;
     }
-    'causes: for cause in CAUSES.iter() {
+    for cause in CAUSES.iter() {
         if line.ends_with(cause.name().as_bytes()) {
             return Some(*cause);
         }

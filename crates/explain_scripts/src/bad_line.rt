@@ -40,7 +40,7 @@ fn explain_form(
             "line {number}: there are too many words; the form is: {form}"
         );
     }
-    'words: for (sort, word) in form.split(' ').zip(words).skip(1) {
+    for (sort, word) in form.split(' ').zip(words).skip(1) {
         explain_word(alloc, out, number, sort, word)?;
     }
     Ok(())

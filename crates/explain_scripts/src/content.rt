@@ -118,7 +118,7 @@ fn explain_entry(
     let Some(feature) = meta.feature(entry.feature) else {
         return Ok(());
     };
-    'values: for (i, json) in values_of(meta, entry.feature, entry.content)
+    for (i, json) in values_of(meta, entry.feature, entry.content)
         .iter()
         .enumerate()
     {
@@ -134,7 +134,7 @@ pub(crate) fn explain_values(
     meta: &Meta,
     entries: &[Entry<'_>],
 ) -> Result<(), AllocError> {
-    'entries: for entry in entries {
+    for entry in entries {
         explain_entry(alloc, out, meta, entry)?;
     }
     Ok(())
@@ -165,7 +165,7 @@ pub(crate) fn explain_bounds(
     meta: &Meta,
     entries: &[Entry<'_>],
 ) -> Result<(), AllocError> {
-    'entries: for entry in entries {
+    for entry in entries {
         explain_bound(out, meta, entry)?;
     }
     Ok(())

@@ -21,7 +21,7 @@ const SHOWN_BYTES: usize = 20;
 #[derive(Drop)]
 pub(crate) struct Refused<'d> {
     /// What each line of the explanation begins with.
-    pub(crate) place: &'d str,
+    pub(crate) prefix: &'d str,
     /// The URI of its resource.
     pub(crate) uri: &'d str,
     /// The text of the document.
@@ -39,15 +39,15 @@ fn explain_syntax(out: &mut String, refused: &Refused<'_>, error: Error) -> Resu
     if error.is_memory() {
         return Err(AllocError);
     }
-    let place = refused.place;
+    let prefix = refused.prefix;
     if error.is_eof() {
-        return writeln!(out, "{place}: the document ends within the JSON");
+        return writeln!(out, "{prefix}: the document ends within the JSON");
     }
     let column = error.column();
     let shown = shown_at(refused.text, column.saturating_sub(1));
     writeln!(
         out,
-        "{place}: from byte {column} on the document is no JSON: {shown:?}"
+        "{prefix}: from byte {column} on the document is no JSON: {shown:?}"
     )
 }
 
@@ -102,22 +102,22 @@ fn explain_json(
     refused: &Refused<'_>,
     json: &Value,
 ) -> Result<(), AllocError> {
-    let place = refused.place;
+    let prefix = refused.prefix;
     if refused.cause == DocFault::Layout {
-        explain_top(alloc, out, place, json)?;
+        explain_top(alloc, out, prefix, json)?;
     }
     if refused.cause == DocFault::Format
         && let Some(format) = json.get("format")
     {
         return writeln!(
             out,
-            "{place}: \"format\" is {}, and has to be 2, or 1",
+            "{prefix}: \"format\" is {}, and has to be 2, or 1",
             Shown(format)
         );
     }
     match json.get("roots") {
         Some(Value::Array(roots)) => {
-            let parts = parts_of(alloc, meta, place, roots.as_slice())?;
+            let parts = parts_of(alloc, meta, prefix, roots.as_slice())?;
             explain_parts(alloc, out, meta, refused, parts.as_slice())
         }
         _ => Ok(()),
@@ -143,7 +143,7 @@ fn meta_of(alloc: Global, bytes: &[u8]) -> Option<Box<Meta>> {
     Box::new(alloc, meta).ok()
 }
 
-/// Adds a line for each place of a document that is found to be wrong, for the cause with which it is refused.
+/// Adds a line for each thing in a document that is found to be wrong, for the cause with which it is refused.
 pub(crate) fn explain_document(
     alloc: Global,
     out: &mut String,

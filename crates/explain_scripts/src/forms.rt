@@ -93,7 +93,7 @@ static SORTS: [Sort; 9] = [
 
 /// The sort of a word of a form; the rest of a line has none.
 pub(crate) fn sort_of(word: &str) -> Option<&'static Sort> {
-    'sorts: for sort in SORTS.iter() {
+    for sort in SORTS.iter() {
         if sort.name == word {
             return Some(sort);
         }
@@ -122,7 +122,7 @@ pub(crate) fn count_of(form: &str) -> usize {
 /// The form of a verb: the one of so many words, or else the first.
 pub(crate) fn form_of(verb: &str, count: usize) -> Option<&'static str> {
     let mut found = None;
-    'forms: for form in FORMS.iter() {
+    for form in FORMS.iter() {
         if verb_of(form) == verb && (found.is_none() || count_of(form) == count) {
             found = Some(*form);
         }
@@ -133,7 +133,7 @@ pub(crate) fn form_of(verb: &str, count: usize) -> Option<&'static str> {
 /// All verbs.
 pub(crate) fn verbs(alloc: Global) -> Result<Vec<&'static str>, AllocError> {
     let mut verbs = Vec::new(alloc);
-    'forms: for form in FORMS.iter() {
+    for form in FORMS.iter() {
         verbs.push(verb_of(form))?;
     }
     Ok(verbs)

@@ -26,7 +26,7 @@ pub(crate) fn fragments_of<'p>(
     parts: &'p [Part<'_>],
 ) -> Result<Fragments<'p>, AllocError> {
     let mut fragments = BTreeMap::new(alloc);
-    'parts: for (number, part) in parts.iter().enumerate() {
+    for (number, part) in parts.iter().enumerate() {
         fragments.insert(part.fragment.as_str(), number)?;
     }
     Ok(fragments)

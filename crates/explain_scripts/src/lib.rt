@@ -1,4 +1,4 @@
-//! What to mend in a script: which word of each bad line is wrong, and which place of each refused document.
+//! What to mend in a script: which word of each bad line is wrong, and what is wrong in each refused document.
 //!
 //! `Watch` goes over the lines of a script and what they print side by side. No contract says what a text is. The functions
 //! are proved safe and ending; cases of the program show their texts.

@@ -43,7 +43,7 @@ fn add_links<'e>(
     entry: &'e Entry<'_>,
     values: &'e [Value],
 ) -> Result<(), AllocError> {
-    'values: for (i, json) in values.iter().enumerate() {
+    for (i, json) in values.iter().enumerate() {
         if let Some(text) = json.as_str() {
             let led = led_by(source.alloc, source.uri, source.fragments, text)?;
             links.push(Link {
@@ -75,7 +75,7 @@ fn links_in<'e>(
     entries: &'e [Entry<'_>],
 ) -> Result<Vec<Link<'e>>, AllocError> {
     let mut links = Vec::new(source.alloc);
-    'entries: for entry in entries {
+    for entry in entries {
         if target_of(source.meta, entry.feature).is_some() {
             let values = values_of(source.meta, entry.feature, entry.content);
             add_links(source, &mut links, entry, values)?;
@@ -154,7 +154,7 @@ pub(crate) fn explain_references(
     parts: &[Part<'_>],
     links: &[Link<'_>],
 ) -> Result<(), AllocError> {
-    'links: for link in links {
+    for link in links {
         explain_lost(out, meta, parts, link)?;
     }
     Ok(())
@@ -166,7 +166,7 @@ pub(crate) fn explain_crosses(
     meta: &Meta,
     links: &[Link<'_>],
 ) -> Result<(), AllocError> {
-    'links: for link in links {
+    for link in links {
         if matches!(&link.led, Led::Elsewhere(_)) && meta.opposite(link.feature).is_some() {
             let at = link.at;
             let text = link.text;
@@ -184,7 +184,7 @@ type Naming = (usize, u32, usize);
 
 fn namings_of(alloc: Global, links: &[Link<'_>]) -> Result<BTreeSet<Naming>, AllocError> {
     let mut namings = BTreeSet::new(alloc);
-    'links: for link in links {
+    for link in links {
         if let Some(named) = link.named() {
             namings.insert((link.part, link.feature.0, named))?;
         }
@@ -226,7 +226,7 @@ pub(crate) fn explain_ends(
     links: &[Link<'_>],
 ) -> Result<(), AllocError> {
     let namings = namings_of(alloc, links)?;
-    'links: for link in links {
+    for link in links {
         explain_one_sided(out, meta, parts, &namings, link)?;
     }
     Ok(())

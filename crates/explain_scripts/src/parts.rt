@@ -1,4 +1,4 @@
-//! The objects of a document and what is under their features, each with its place.
+//! The objects of a document and what is under their features, each with where it is.
 use doc_parts::{content_at, known, values_of};
 use mm_meta::Meta;
 use mm_types::{ClassNo, FeatureNo};
@@ -7,10 +7,10 @@ use std::alloc::{AllocError, Global};
 use std::collections::VecDeque;
 use std::fmt;
 
-/// What is in the place of an object.
+/// What is written for an object.
 #[derive(Drop)]
 pub(crate) struct Part<'v> {
-    /// Its place in the JSON, as `line 7: roots[0].features.books[1]`.
+    /// Its path in the JSON, as `line 7: roots[0].features.books[1]`.
     pub(crate) path: String,
     /// Its fragment with the position of its root, as `/0/@books.1`.
     pub(crate) fragment: String,
@@ -21,7 +21,7 @@ pub(crate) struct Part<'v> {
 /// What is written under a feature of a part.
 #[derive(Drop)]
 pub(crate) struct Entry<'v> {
-    /// Its place in the JSON, as `line 7: roots[0].features.books`.
+    /// Its path in the JSON, as `line 7: roots[0].features.books`.
     pub(crate) path: String,
     /// The number of the part.
     pub(crate) part: usize,
@@ -52,7 +52,7 @@ impl fmt::Display for At<'_> {
 }
 
 impl Entry<'_> {
-    /// The place of a value under it.
+    /// The path of a value under it.
     pub(crate) fn at(&self, index: usize) -> At<'_> {
         At {
             path: self.path.as_str(),
@@ -96,7 +96,7 @@ fn add_entries<'v>(
     let Some((class, members)) = known(meta, part.json) else {
         return Ok(());
     };
-    'features: for feature in meta.features(class).unwrap_or(&[]) {
+    for feature in meta.features(class).unwrap_or(&[]) {
         add_entry(
             alloc,
             meta,
@@ -117,7 +117,7 @@ pub(crate) fn entries_of<'v>(
     parts: &[Part<'v>],
 ) -> Result<Vec<Entry<'v>>, AllocError> {
     let mut entries = Vec::new(alloc);
-    'parts: for (number, part) in parts.iter().enumerate() {
+    for (number, part) in parts.iter().enumerate() {
         add_entries(alloc, meta, &mut entries, number, part)?;
     }
     Ok(entries)
@@ -134,7 +134,7 @@ fn add_below<'v>(
 ) -> Result<(), AllocError> {
     let path = format!(in alloc; "{}.features.{name}", part.path.as_str())?;
     let above = part.fragment.as_str();
-    'values: for (index, json) in values.iter().enumerate() {
+    for (index, json) in values.iter().enumerate() {
         let path = At {
             path: path.as_str(),
             is_single,
@@ -165,7 +165,7 @@ fn add_features<'v>(
     class: ClassNo,
     members: &'v Map<String, Value>,
 ) -> Result<(), AllocError> {
-    'features: for feature in meta.features(class).unwrap_or(&[]) {
+    for feature in meta.features(class).unwrap_or(&[]) {
         if meta.is_containment(*feature)
             && let Some(content) = content_at(meta, members, *feature)
         {
@@ -179,12 +179,12 @@ fn add_features<'v>(
 
 fn roots_of<'v>(
     alloc: Global,
-    place: &str,
+    prefix: &str,
     roots: &'v [Value],
 ) -> Result<VecDeque<Part<'v>>, AllocError> {
     let mut queue = VecDeque::new(alloc);
-    'roots: for (i, json) in roots.iter().enumerate() {
-        let path = format!(in alloc; "{place}: roots[{i}]")?;
+    for (i, json) in roots.iter().enumerate() {
+        let path = format!(in alloc; "{prefix}: roots[{i}]")?;
         let fragment = format!(in alloc; "/{i}")?;
         queue.push_back(Part {
             path,
@@ -196,16 +196,16 @@ fn roots_of<'v>(
     Ok(queue)
 }
 
-/// What is in the place of each object, level by level.
+/// What is written for each object, level by level.
 pub(crate) fn parts_of<'v>(
     alloc: Global,
     meta: &Meta,
-    place: &str,
+    prefix: &str,
     roots: &'v [Value],
 ) -> Result<Vec<Part<'v>>, AllocError> {
-    let mut queue = roots_of(alloc, place, roots)?;
+    let mut queue = roots_of(alloc, prefix, roots)?;
     let mut parts = Vec::new(alloc);
-    'parts: for _ in 0..u64::MAX {
+    for _ in 0..u64::MAX {
         let Some(part) = queue.pop_front() else {
             return Ok(parts);
         };

@@ -17,7 +17,7 @@ fn explain_equal(
     values: &[Value],
 ) -> Result<(), AllocError> {
     let mut seen: BTreeMap<String, usize> = BTreeMap::new(alloc);
-    'values: for (i, json) in values.iter().enumerate() {
+    for (i, json) in values.iter().enumerate() {
         if let Some(first) = seen.insert(json.to_string(alloc)?, i)? {
             let path = entry.path.as_str();
             writeln!(out, "{path}: [{first}] and [{i}] are the same value")?;
@@ -54,7 +54,7 @@ fn target_of<'l>(link: &'l Link<'_>) -> Option<Target<'l>> {
 /// References of one list that lead to the same object.
 fn explain_links(alloc: Global, out: &mut String, links: &[Link<'_>]) -> Result<(), AllocError> {
     let mut seen: BTreeMap<Target<'_>, usize> = BTreeMap::new(alloc);
-    'links: for link in links {
+    for link in links {
         if let Some(target) = target_of(link)
             && let Some(first) = seen.insert(target, link.at.index)?
         {
@@ -77,7 +77,7 @@ pub(crate) fn explain_repeats(
     entries: &[Entry<'_>],
     links: &[Link<'_>],
 ) -> Result<(), AllocError> {
-    'entries: for entry in entries {
+    for entry in entries {
         explain_equal(alloc, out, entry, unique_values(meta, entry))?;
     }
     explain_links(alloc, out, links)

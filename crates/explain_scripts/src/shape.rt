@@ -1,32 +1,32 @@
 //! What is wrong with the shape of a document: its layout, its format, the classes and features that it names, and its depth.
 use crate::parts::Part;
 use doc_parts::known;
-use explain::{Row, Sort, explain_object, nearest};
+use explain::{Field, Sort, explain_object, nearest};
 use mm_meta::Meta;
 use mm_types::{ClassNo, FeatureNo, limits};
 use serde_json::{Map, Value};
 use std::alloc::{AllocError, Global};
 
-const DOCUMENT: [Row; 2] = [
-    Row {
+const DOCUMENT: [Field; 2] = [
+    Field {
         key: "format",
         sort: Sort::Number,
         is_required: true,
     },
-    Row {
+    Field {
         key: "roots",
         sort: Sort::Objects(limits::LIST_VALUES),
         is_required: true,
     },
 ];
 
-const OBJECT: [Row; 2] = [
-    Row {
+const OBJECT: [Field; 2] = [
+    Field {
         key: "class",
         sort: Sort::Text(limits::TEXT_BYTES),
         is_required: true,
     },
-    Row {
+    Field {
         key: "features",
         sort: Sort::Object,
         is_required: true,
@@ -37,10 +37,10 @@ const OBJECT: [Row; 2] = [
 pub(crate) fn explain_top(
     alloc: Global,
     out: &mut String,
-    place: &str,
+    prefix: &str,
     json: &Value,
 ) -> Result<(), AllocError> {
-    explain_object(alloc, out, place, &DOCUMENT, json)
+    explain_object(alloc, out, prefix, &DOCUMENT, json)
 }
 
 /// The keys of each object. What is no object at all is wrong only as a root; elsewhere it is a wrong value.
@@ -49,7 +49,7 @@ pub(crate) fn explain_objects(
     out: &mut String,
     parts: &[Part<'_>],
 ) -> Result<(), AllocError> {
-    'parts: for part in parts {
+    for part in parts {
         if part.level == 1 || part.json.is_object() {
             explain_object(alloc, out, part.path.as_str(), &OBJECT, part.json)?;
         }
@@ -60,7 +60,7 @@ pub(crate) fn explain_objects(
 /// The names of the classes.
 fn class_names<'m>(alloc: Global, meta: &'m Meta) -> Result<Vec<&'m str>, AllocError> {
     let mut names = Vec::new(alloc);
-    'classes: for number in 0..limits::CLASSES as u32 {
+    for number in 0..limits::CLASSES as u32 {
         match meta.class(ClassNo(number)) {
             Some(class) => names.push(class.name.as_str())?,
             None => return Ok(names),
@@ -97,7 +97,7 @@ pub(crate) fn explain_classes(
     meta: &Meta,
     parts: &[Part<'_>],
 ) -> Result<(), AllocError> {
-    'parts: for part in parts {
+    for part in parts {
         if let Some(Value::String(name)) = part.json.get("class") {
             explain_class(alloc, out, meta, part.path.as_str(), name.as_str())?;
         }
@@ -111,7 +111,7 @@ fn feature_names<'m>(
     features: &[FeatureNo],
 ) -> Result<Vec<&'m str>, AllocError> {
     let mut names = Vec::new(alloc);
-    'features: for feature in features {
+    for feature in features {
         names.push(meta.feature_name(*feature))?;
     }
     Ok(names)
@@ -154,7 +154,7 @@ fn explain_members(
     class: ClassNo,
     members: &Map<String, Value>,
 ) -> Result<(), AllocError> {
-    'keys: for key in members.keys() {
+    for key in members.keys() {
         explain_key(alloc, out, meta, path, class, key.as_str())?;
     }
     Ok(())
@@ -167,7 +167,7 @@ pub(crate) fn explain_features(
     meta: &Meta,
     parts: &[Part<'_>],
 ) -> Result<(), AllocError> {
-    'parts: for part in parts {
+    for part in parts {
         if let Some((class, members)) = known(meta, part.json) {
             explain_members(alloc, out, meta, part.path.as_str(), class, members)?;
         }
@@ -177,7 +177,7 @@ pub(crate) fn explain_features(
 
 /// Objects below the last level.
 pub(crate) fn explain_depth(out: &mut String, parts: &[Part<'_>]) -> Result<(), AllocError> {
-    'parts: for part in parts {
+    for part in parts {
         if part.level > limits::LEVELS {
             let path = part.path.as_str();
             return writeln!(

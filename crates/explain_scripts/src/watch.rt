@@ -81,7 +81,7 @@ impl<'m> Watch<'m> {
     }
 
     fn note(&mut self, bytes: &[u8]) -> Result<(), AllocError> {
-        'pieces: for (i, piece) in bytes.split(|byte| *byte == NEWLINE).enumerate() {
+        for (i, piece) in bytes.split(|byte| *byte == NEWLINE).enumerate() {
             if i > 0 {
                 self.end_line()?;
             }
@@ -152,7 +152,7 @@ fn is_blank(alloc: Global, line: &[u8]) -> Result<bool, AllocError> {
 fn next_turn(alloc: Global, script: &[u8], number: u64) -> Result<Option<Turn<'_>>, AllocError> {
     let mut number = number;
     let mut rest = script;
-    'lines: for _ in 0..script.len() {
+    for _ in 0..script.len() {
         let Some((line, more)) = next_line(rest) else {
             return Ok(None);
         };
@@ -213,9 +213,9 @@ fn explain_load(
     let Some((resource, text)) = load_of(turn.line) else {
         return Ok(());
     };
-    let place = format!(in alloc; "line {}", turn.number)?;
+    let prefix = format!(in alloc; "line {}", turn.number)?;
     let refused = Refused {
-        place: place.as_str(),
+        prefix: prefix.as_str(),
         uri: uri_of(uris, resource),
         text,
         cause,

@@ -16,7 +16,7 @@ use Rattle.web_uris.specs.Paths.{AreWritten, IsWritable, IsWritten, new_path, wi
 use Rattle.web_uris.specs.declared.path.Path.{Path}
 use Rattle.web_uris.specs.declared.path.Step.{Step}
 use Rattle.fragment_paths.specs.Finding.{find, roots, stepped, walked}
-use Rattle.fragment_paths.specs.Fragments.{has_one_root, path_of, place_in, step_into}
+use Rattle.fragment_paths.specs.Fragments.{has_one_root, path_of, position_in, step_into}
 use Rattle.fragment_paths.proofs.HeldLemmas.{held, held-root, one-root, root-found, step-found, step-written}
 use Rattle.fragment_paths.proofs.UpLemmas.{locate-falls, path-part, path-root, resource-none, resource-part, resource-root}
 
@@ -63,7 +63,7 @@ module _ (s : Model) (legal : IsLegal s) where
       let low = at.low in
       let few = at.few in
       record {
-        path = new_path (place_in (reading s) e o) [];
+        path = new_path (position_in (reading s) e o) [];
         is = path-root s legal o e k h is;
         finds = ap (option_and_then (walked (reading s) [])) (root-found s legal o e k at is);
         writable = record { root = omega arith; steps = tt };

@@ -17,7 +17,7 @@ use Rattle.mm_types.specs.declared.numbers.ObjectNo.{ObjectNo}
 use Rattle.mm_types.specs.declared.numbers.ResourceNo.{ResourceNo}
 use Rattle.mm_types.specs.declared.value.Value.{Value}
 use Rattle.mm_types.specs.declared.value.Value.TheVariants as value
-use Rattle.links.proofs.HolderLemmas.{holder-some, place_held}
+use Rattle.links.proofs.HolderLemmas.{holder-some, indexed_held}
 use Rattle.links.specs.Holders.{holder}
 use Rattle.links.specs.Links.{end}
 use Rattle.models.specs.Legal.{IsLegal, kinds_of}
@@ -29,7 +29,7 @@ use Rattle.containment.proofs.HolderLemmas.{container_at, holding-feature}
 use Rattle.containment.proofs.PartLemmas.{contains-reference, kinds-are, legal-at, values-linked}
 use Rattle.web_uris.specs.Paths.{IsWritten}
 use Rattle.fragment_paths.specs.Finding.{feature_of, goes_by, if_goes_by, roots, stepped}
-use Rattle.fragment_paths.specs.Fragments.{has_one_root, place_in, roots_end, step_into}
+use Rattle.fragment_paths.specs.Fragments.{has_one_root, position_in, roots_end, step_into}
 use Rattle.fragment_paths.proofs.NameLemmas.{own-name, valid-feature}
 use Rattle.fragment_paths.proofs.ObjectLemmas.{all-objects, objects-get}
 
@@ -38,12 +38,12 @@ pub record IsHeld (s : Model) (o : ObjectNo) (e : End) : Type 0 where
   pub reference : (shape s.metamodel e.feature).is_reference ≡ true
   pub contains : is_containment s.metamodel e.feature ≡ true
   pub own : has_feature (reading s) e.node e.feature ≡ true
-  pub here : slice_get (values_at s e) (place_in (reading s) e o) ≡ Some (value.Object o)
-  pub low : place_in (reading s) e o < length (values_at s e)
+  pub here : slice_get (values_at s e) (position_in (reading s) e o) ≡ Some (value.Object o)
+  pub low : position_in (reading s) e o < length (values_at s e)
   pub few : length (values_at s e) ≤ 1000000
 
-place-at : (vs : List Value) (v : Value) (k : ℕ) → slice_get vs k ≡ Some v → slice_get vs (unwrap_or (first_in vs v) 0) ≡ Some v
-place-at vs v k at =
+noted-at : (vs : List Value) (v : Value) (k : ℕ) → slice_get vs k ≡ Some v → slice_get vs (unwrap_or (first_in vs v) 0) ≡ Some v
+noted-at vs v k at =
     let there = has-at vs v k at in
     ap (λ (b : Bool). slice_get vs (unwrap_or (if b then Some (index_in vs v) else None) 0)) there ∙ index-at vs v there
 
@@ -56,28 +56,28 @@ module _ (s : Model) (legal : IsLegal s) where
   held o e h =
       let m = s.metamodel in
       let l = holder-some s.links (node.Object o) e h in
-      let at = place_held l.0 (node.Object o) e (legal.links.set.placed.sides l.0 l.1) l.2 in
+      let at = indexed_held l.0 (node.Object o) e (legal.links.set.placed.sides l.0 l.1) l.2 in
       let there = (legal.links.set.placed.ends e).has at.0 (value.Object o) (l.0, l.1, at.1) in
       let by = holding-feature l.0 (node.Object o) e l.2 in
       let whose : (shape m e.feature).containing ≡ Some by.0 = sym (container_at (kinds_of m) (kinds-are m legal.metamodel) l.0 e (at.0, value.Object o) (legal.links.kinds l.0 l.1) at.1) ∙ by.1 in
       let refers = contains-reference m e.feature by.0 whose in
-      let placed = place-at (values_at s e) (value.Object o) at.0 (ap (λ (vs : List Value). slice_get vs at.0) (values-linked s e refers) ∙ there) in
+      let placed = noted-at (values_at s e) (value.Object o) at.0 (ap (λ (vs : List Value). slice_get vs at.0) (values-linked s e refers) ∙ there) in
       record {
         reference = refers;
         contains = ap (is_feature e.feature) whose ∙ eq-eqb e.feature.0 by.0.0 by.2;
         own = (legal-at (reading s) e (end s.links e) at.0 (value.Object o) (legal.links.ends e) there).0;
         here = placed;
-        low = slice_get_within (values_at s e) (place_in (reading s) e o) (value.Object o) placed;
+        low = slice_get_within (values_at s e) (position_in (reading s) e o) (value.Object o) placed;
         few = values-few s e legal;
       }
 
   -- among the objects there, too
-  pub held-object : (o : ObjectNo) (e : End) → IsHeld s o e → slice_get (objects_of (values_at s e)) (place_in (reading s) e o) ≡ Some o
-  held-object o e h = sym (objects-get (values_at s e) (place_in (reading s) e o) (all-objects s e legal h.contains)) ∙ ap (λ (x : Option Value). option_and_then object_of x) h.here
+  pub held-object : (o : ObjectNo) (e : End) → IsHeld s o e → slice_get (objects_of (values_at s e)) (position_in (reading s) e o) ≡ Some o
+  held-object o e h = sym (objects-get (values_at s e) (position_in (reading s) e o) (all-objects s e legal h.contains)) ∙ ap (λ (x : Option Value). option_and_then object_of x) h.here
 
   -- in a single end, it is the first
-  single-place : (o : ObjectNo) (e : End) → IsHeld s o e → (shape s.metamodel e.feature).is_single ≡ true → place_in (reading s) e o ≡ 0
-  single-place o e h single =
+  single-noted : (o : ObjectNo) (e : End) → IsHeld s o e → (shape s.metamodel e.feature).is_single ≡ true → position_in (reading s) e o ≡ 0
+  single-noted o e h single =
       let one = few-values (values_at s e) (slice_get (values_at s e) 0) (values-single s e legal h.reference single) in
       let low = h.low in
       omega arith
@@ -91,11 +91,11 @@ module _ (s : Model) (legal : IsLegal s) where
       let same = eqb-true e.feature.0 (lookups.contents s.metamodel).0 both.1 in
       ((λ i. record { node = is i; feature = record { 0 = same i } }), both.0)
 
-  pub root-found : (o : ObjectNo) (e : End) (k : ResourceNo) → IsHeld s o e → e.node ≡ node.Resource k → slice_get (roots (reading s) k) (place_in (reading s) e o) ≡ Some o
-  root-found o e k h is = ap (λ (d : End). slice_get (objects_of (values_at s d)) (place_in (reading s) e o)) (sym (held-root o e k h is).0) ∙ held-object o e h
+  pub root-found : (o : ObjectNo) (e : End) (k : ResourceNo) → IsHeld s o e → e.node ≡ node.Resource k → slice_get (roots (reading s) k) (position_in (reading s) e o) ≡ Some o
+  root-found o e k h is = ap (λ (d : End). slice_get (objects_of (values_at s d)) (position_in (reading s) e o)) (sym (held-root o e k h is).0) ∙ held-object o e h
 
   -- the one root of a resource is the first
-  pub one-root : (o : ObjectNo) (e : End) (k : ResourceNo) → IsHeld s o e → e.node ≡ node.Resource k → has_one_root (reading s) k ≡ true → place_in (reading s) e o ≡ 0
+  pub one-root : (o : ObjectNo) (e : End) (k : ResourceNo) → IsHeld s o e → e.node ≡ node.Resource k → has_one_root (reading s) k ≡ true → position_in (reading s) e o ≡ 0
   one-root o e k h is one =
       let count = eqb-true (length (values_at s (roots_end (reading s) k))) 1 one in
       let same = ap (λ (d : End). length (values_at s d)) (held-root o e k h is).0 in
@@ -113,15 +113,15 @@ module _ (s : Model) (legal : IsLegal s) where
 
   goes : (o : ObjectNo) (e : End) → IsHeld s o e → goes_by (reading s) (step_into (reading s) e o) e.feature ≡ true
   goes o e h =
-      let place = place_in (reading s) e o in
-      let index = λ (b : Bool). (if b then None else Some place) in
+      let noted = position_in (reading s) e o in
+      let index = λ (b : Bool). (if b then None else Some noted) in
       ap (λ (c : Bool). c && (if (shape s.metamodel e.feature).is_single then not (is_some (index (shape s.metamodel e.feature).is_single)) else is_some (index (shape s.metamodel e.feature).is_single))) h.contains
       ∙ elim (shape s.metamodel e.feature).is_single as (λ b. (if b then not (is_some (index b)) else is_some (index b)) ≡ true) [ true ↦ refl | false ↦ refl ]
 
-  index-is : (o : ObjectNo) (e : End) → IsHeld s o e → unwrap_or (step_into (reading s) e o).index 0 ≡ place_in (reading s) e o
+  index-is : (o : ObjectNo) (e : End) → IsHeld s o e → unwrap_or (step_into (reading s) e o).index 0 ≡ position_in (reading s) e o
   index-is o e h =
-      elim (shape s.metamodel e.feature).is_single as (λ b. (shape s.metamodel e.feature).is_single ≡ b → unwrap_or (if b then None else Some (place_in (reading s) e o)) 0 ≡ place_in (reading s) e o) [
-        | true ↦ λ single. sym (single-place o e h single)
+      elim (shape s.metamodel e.feature).is_single as (λ b. (shape s.metamodel e.feature).is_single ≡ b → unwrap_or (if b then None else Some (position_in (reading s) e o)) 0 ≡ position_in (reading s) e o) [
+        | true ↦ λ single. sym (single-noted o e h single)
         | false ↦ λ _. refl
       ] refl
 
@@ -149,7 +149,7 @@ module _ (s : Model) (legal : IsLegal s) where
       let c = class-has p e.feature (ap (λ (n : Node). has_feature r n e.feature) (sym is) ∙ h.own) in
       let low = h.low in
       let few = h.few in
-      (valid-feature s.metamodel legal.metamodel c.0 e.feature c.2, within (shape s.metamodel e.feature).is_single (place_in r e o) (omega arith))
+      (valid-feature s.metamodel legal.metamodel c.0 e.feature c.2, within (shape s.metamodel e.feature).is_single (position_in r e o) (omega arith))
     where
       within : (b : Bool) (i : ℕ) → i < 10000000 → IfSome (if b then None else Some i) (λ j. j < 10000000)
       within true i low = tt

@@ -26,15 +26,15 @@ use Rattle.containment.specs.Above.{resource_of}
 use Rattle.fragment_paths.proofs.HeldLemmas.{held, held-root}
 use Rattle.fragment_paths.proofs.UpLemmas.{path-part, path-root, resource-part, resource-root}
 use Rattle.fragment_paths.specs.Laws.{HasImagesOfParts, HasImagesOfRoots, IsImageAt}
-use Rattle.fragment_paths.specs.Fragments.{address, fragment, has_one_root, path_of, place_in, step_into}
+use Rattle.fragment_paths.specs.Fragments.{address, fragment, has_one_root, path_of, position_in, step_into}
 use Rattle.fragment_paths.proofs.InsideLemmas.{contents-contains, each-inside}
 
 -- where a part stands is its place
-pub same-place : (s : Model) → IsLegal s → (o : ObjectNo) (e : End) (i : ℕ) → is_containment s.metamodel e.feature ≡ true → slice_get (values_at s e) i ≡ Some (value.Object o) → place_in (reading s) e o ≡ i
-same-place s legal o e i contains at =
+pub same-noted : (s : Model) → IsLegal s → (o : ObjectNo) (e : End) (i : ℕ) → is_containment s.metamodel e.feature ≡ true → slice_get (values_at s e) i ≡ Some (value.Object o) → position_in (reading s) e o ≡ i
+same-noted s legal o e i contains at =
     let h = held s legal o e (holder-at s legal e.node e.feature contains i o at) in
     let linked = values-linked s e h.reference in
-    let p = place_in (reading s) e o in
+    let p = position_in (reading s) e o in
     legal.links.set.placed.distinct e p i (value.Object o) (ap (λ (vs : List Value). slice_get vs p) (sym linked) ∙ h.here) (ap (λ (vs : List Value). slice_get vs i) (sym linked) ∙ at)
 
 module _ (m : Metamodel) (v w : ValuesState) (a b : Links) (legal : IsLegal (model_of m v a)) (other : IsLegal (model_of m w b)) (k j : ResourceNo) (image : ObjectNo → ObjectNo)
@@ -51,26 +51,26 @@ module _ (m : Metamodel) (v w : ValuesState) (a b : Links) (legal : IsLegal (mod
   at-root : (o : ObjectNo) (e : End) → holder a (node.Object o) ≡ Some e → e.node ≡ node.Resource k → IsAtPath o
   at-root o e h is =
       let there = held s legal o e h in
-      let p = place_in (reading s) e o in
+      let p = position_in (reading s) e o in
       let d : End = at_end (node.Resource j) (lookups.contents m) in
       let at = tops p o (sym (ap (λ (x : End). slice_get (values_at s x) p) (held-root s legal o e k there is).0) ∙ there.here) in
       let up = holder-at t other (node.Resource j) (lookups.contents m) (contents-contains m) p (image o) at in
       record {
         inside = resource-root t other (image o) d j up refl;
-        path = path-root t other (image o) d j up refl ∙ ap (λ (i : ℕ). Some (new_path i [])) (same-place t other (image o) d p (contents-contains m) at) ∙ sym (path-root s legal o e k h is);
+        path = path-root t other (image o) d j up refl ∙ ap (λ (i : ℕ). Some (new_path i [])) (same-noted t other (image o) d p (contents-contains m) at) ∙ sym (path-root s legal o e k h is);
       }
 
   at-part : (o : ObjectNo) (e : End) (p : ObjectNo) → holder a (node.Object o) ≡ Some e → e.node ≡ node.Object p → resource_of (above a) p ≡ Some k → IsAtPath p → IsAtPath o
   at-part o e p h is within up =
       let f = e.feature in
       let there = held s legal o e h in
-      let q = place_in (reading s) e o in
+      let q = position_in (reading s) e o in
       let own : e ≡ at_end (node.Object p) f = λ i. record { node = is i; feature = f } in
       let d : End = at_end (node.Object (image p)) f in
       let at = parts p f q o within there.contains (sym (ap (λ (x : End). slice_get (values_at s x) q) own) ∙ there.here) in
       let over = holder-at t other (node.Object (image p)) f there.contains q (image o) at in
       let step : step_into (reading t) d (image o) ≡ step_into (reading s) e o =
-      ap (λ (i : ℕ). new_step (lookups.feature_name m f) (if (shape m f).is_single then None else Some i)) (same-place t other (image o) d q there.contains at) in
+      ap (λ (i : ℕ). new_step (lookups.feature_name m f) (if (shape m f).is_single then None else Some i)) (same-noted t other (image o) d q there.contains at) in
       record {
         inside = resource-part t other (image o) d (image p) over refl ∙ up.inside;
         path = path-part t other (image o) d (image p) over refl ∙ ap (option_map (λ (x : Path). with_step x (step_into (reading t) d (image o)))) up.path

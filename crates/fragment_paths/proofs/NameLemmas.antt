@@ -7,7 +7,7 @@ use Rattle.std.specs.Str.{bytes_eq}
 use Rattle.std.proofs.lemmas.Bool.{eq-eqb, eqb-true, false≢true, or_cases, or_left, or_right}
 use Rattle.std.proofs.lemmas.Option.{none-some, same_Some, slice_get-map}
 use Rattle.std.proofs.lemmas.Slice.Eq.{bytes_eq-Decides}
-use Rattle.mm_types.specs.Graph.{Conforms, row}
+use Rattle.mm_types.specs.Graph.{Conforms, by_class}
 use Rattle.mm_types.specs.Lookups.{feature, feature_by_name, feature_name, features, has_feature}
 use Rattle.mm_types.specs.Names.{is_name}
 use Rattle.mm_types.specs.OfDocument.{IsOfDocument}
@@ -87,7 +87,7 @@ one-name raw well c f g a b same = elim (nat_eq f.0 g.0) as (λ t. nat_eq f.0 g.
     other_reached = b.reached;
     here = names-at raw.classes a.class a.index a.written a.declared.here ∙ ap Some same;
     there = names-at raw.classes b.class b.index b.written b.declared.here;
-    apart = λ e. false≢true (sym other ∙ eq-eqb f.0 g.0 (same_Some f.0 g.0 (sym a.declared.number ∙ (λ i. slice_get (row (own_of raw.classes) (e.0 i)) (e.1 i)) ∙ b.declared.number)));
+    apart = λ e. false≢true (sym other ∙ eq-eqb f.0 g.0 (same_Some f.0 g.0 (sym a.declared.number ∙ (λ i. slice_get (by_class (own_of raw.classes) (e.0 i)) (e.1 i)) ∙ b.declared.number)));
   })))
 ] refl
 

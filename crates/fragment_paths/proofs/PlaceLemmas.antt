@@ -12,27 +12,27 @@ use Rattle.links.specs.Links.{end}
 use Rattle.models.specs.Legal.{IsLegal}
 use Rattle.models.specs.Model.{Model, reading, values_at}
 use Rattle.models.proofs.PlaceLemmas.{position-target}
-use Rattle.fragment_paths.specs.Fragments.{place_in}
-use Rattle.fragment_paths.specs.Known.{KnowsPlaces}
-use Rattle.fragment_paths.specs.declared.places.Place.{Place}
+use Rattle.fragment_paths.specs.Fragments.{position_in}
+use Rattle.fragment_paths.specs.Known.{KnowsPositions}
+use Rattle.fragment_paths.specs.declared.positions.EndPosition.{EndPosition}
 
-pub nothing-known : (s : Model) (known : List (ℕ × Place)) → known ≡ [] → KnowsPlaces (reading s) known
+pub nothing-known : (s : Model) (known : List (ℕ × EndPosition)) → known ≡ [] → KnowsPositions (reading s) known
 nothing-known s known is o p h = absurd (none-some p (ap (lookup (nat_eq o.0)) (sym is) ∙ h))
 
-stands-at : (s : Model) (e : End) (i : ℕ) (o : ObjectNo) → IsLegal s → (shape s.metamodel e.feature).is_reference ≡ true → slice_get ((reading s).values e) i ≡ Some (value.Object o) → place_in (reading s) e o ≡ i
+stands-at : (s : Model) (e : End) (i : ℕ) (o : ObjectNo) → IsLegal s → (shape s.metamodel e.feature).is_reference ≡ true → slice_get ((reading s).values e) i ≡ Some (value.Object o) → position_in (reading s) e o ≡ i
 stands-at s e i o legal reference there =
     let linked : values_at s e ≡ end s.links e = rw reference refl in
     ap (λ (x : Option ℕ). unwrap_or x 0) (sym (position-target s e (value.Object o) (Some i) legal reference (ap (λ vs. slice_get vs i) (sym linked) ∙ there)))
 
 -- one more place is known
-pub one-more-known : (s : Model) (old new : List (ℕ × Place)) (e : End) (i : ℕ) (o : ObjectNo) → IsLegal s → (shape s.metamodel e.feature).is_reference ≡ true → slice_get ((reading s).values e) i ≡ Some (value.Object o)
-    → ((k : ℕ) → lookup (nat_eq k) new ≡ cond (nat_eq o.0 k) (Some (record { end = e; index = i })) (lookup (nat_eq k) old)) → KnowsPlaces (reading s) old → KnowsPlaces (reading s) new
+pub one-more-known : (s : Model) (old new : List (ℕ × EndPosition)) (e : End) (i : ℕ) (o : ObjectNo) → IsLegal s → (shape s.metamodel e.feature).is_reference ≡ true → slice_get ((reading s).values e) i ≡ Some (value.Object o)
+    → ((k : ℕ) → lookup (nat_eq k) new ≡ cond (nat_eq o.0 k) (Some (record { end = e; index = i })) (lookup (nat_eq k) old)) → KnowsPositions (reading s) old → KnowsPositions (reading s) new
 one-more-known s old new e i o legal reference there sets known p q h =
-    elim (nat_eq o.0 p.0) as (λ b. nat_eq o.0 p.0 ≡ b → cond b (Some (record { end = e; index = i })) (lookup (nat_eq p.0) old) ≡ Some q → place_in (reading s) q.end p ≡ q.index) [
+    elim (nat_eq o.0 p.0) as (λ b. nat_eq o.0 p.0 ≡ b → cond b (Some (record { end = e; index = i })) (lookup (nat_eq p.0) old) ≡ Some q → position_in (reading s) q.end p ≡ q.index) [
       | true ↦ λ same is.
           let number = eqb-true o.0 p.0 same in
           let object : o ≡ p = λ j. record { 0 = number j } in
-          let place = same_Some _ q is in
-          subst (λ (x : Place). place_in (reading s) x.end p ≡ x.index) place (subst (λ (x : ObjectNo). place_in (reading s) e x ≡ i) object (stands-at s e i o legal reference there))
+          let noted = same_Some _ q is in
+          subst (λ (x : EndPosition). position_in (reading s) x.end p ≡ x.index) noted (subst (λ (x : ObjectNo). position_in (reading s) e x ≡ i) object (stands-at s e i o legal reference there))
       | false ↦ λ _ is. known p q is
     ] refl (sym (sets p.0) ∙ h)

@@ -30,7 +30,7 @@ use Rattle.containment.proofs.PartLemmas.{holder-at}
 use Rattle.fragment_paths.proofs.AddressLemmas.{object-found}
 use Rattle.fragment_paths.proofs.HeldLemmas.{held}
 use Rattle.fragment_paths.specs.Finding.{at}
-use Rattle.fragment_paths.specs.Fragments.{address, fragment, has_one_root, path_of, place_in}
+use Rattle.fragment_paths.specs.Fragments.{address, fragment, has_one_root, path_of, position_in}
 use Rattle.fragment_paths.specs.Laws.{HaveSameParts}
 use Rattle.fragment_paths.proofs.InsideLemmas.{contents-contains}
 use Rattle.fragment_paths.proofs.ImageLemmas.{address-image, fragment-image}
@@ -58,7 +58,7 @@ held-still : (m : Metamodel) (v w : ValuesState) (a b : Links) → IsLegal (mode
 held-still m v w a b legal other same o e h =
     let s = model_of m v a in
     let there = held s legal o e h in
-    let p = place_in (reading s) e o in
+    let p = position_in (reading s) e o in
     holder-at (model_of m w b) other e.node e.feature there.contains p o (ap (λ (vs : List Value). slice_get vs p) (same e.node e.feature there.contains) ∙ there.here)
 
 nothing-above : (t : Links) → IsLegalSet t → HasNoCycle t → (n : Node) → holder t n ≡ None → above t n ≡ []

@@ -17,7 +17,7 @@ use Rattle.containment.specs.Above.{resource_node, resource_of}
 use Rattle.web_uris.specs.Paths.{new_path, with_step}
 use Rattle.web_uris.specs.declared.path.Path.{Path}
 use Rattle.web_uris.specs.declared.path.Step.{Step}
-use Rattle.fragment_paths.specs.Fragments.{path_of, path_under, place_in, step_into}
+use Rattle.fragment_paths.specs.Fragments.{path_of, path_under, position_in, step_into}
 use Rattle.fragment_paths.specs.Located.{located, path_by}
 use Rattle.fragment_paths.specs.declared.paths.Located.{Located}
 
@@ -64,10 +64,10 @@ module _ (s : Model) (legal : IsLegal s) where
 
   ---------------------------------------------------------------- paths
 
-  pub path-root : (o : ObjectNo) (e : End) (k : ResourceNo) → holder s.links (node.Object o) ≡ Some e → e.node ≡ node.Resource k → path_of (reading s) o ≡ Some (new_path (place_in (reading s) e o) [])
+  pub path-root : (o : ObjectNo) (e : End) (k : ResourceNo) → holder s.links (node.Object o) ≡ Some e → e.node ≡ node.Resource k → path_of (reading s) o ≡ Some (new_path (position_in (reading s) e o) [])
   path-root o e k h is =
       ap (λ (ns : List Node). path_under (reading s) ns o) (above-node o e (node.Resource k) h is)
-      ∙ ap (option_map (λ (d : End). new_path (place_in (reading s) d o) [])) h
+      ∙ ap (option_map (λ (d : End). new_path (position_in (reading s) d o) [])) h
 
   pub path-part : (o : ObjectNo) (e : End) (p : ObjectNo) → holder s.links (node.Object o) ≡ Some e → e.node ≡ node.Object p
       → path_of (reading s) o ≡ option_map (λ q. with_step q (step_into (reading s) e o)) (path_of (reading s) p)

@@ -25,8 +25,8 @@ abbrev pub roots_end : Reading → ResourceNo → End
 roots_end r k = contents_end r.metamodel k
 
 -- where an object stands in the end that holds it
-abbrev pub place_in : Reading → End → ObjectNo → ℕ
-place_in r e o = unwrap_or (first_at r e (value.Object o)) 0
+abbrev pub position_in : Reading → End → ObjectNo → ℕ
+position_in r e o = unwrap_or (first_at r e (value.Object o)) 0
 
 -- the name of an end's feature
 abbrev pub end_name : Reading → End → List ℕ
@@ -35,12 +35,12 @@ end_name r e = lookups.feature_name r.metamodel e.feature
 -- the step that leads from an end into an object: the feature's name, and the position where the feature is many-valued
 abbrev pub step_into : Reading → End → ObjectNo → Step
 step_into r e o =
-    new_step (end_name r e) (if (shape_at r e).is_single then None else Some (place_in r e o))
+    new_step (end_name r e) (if (shape_at r e).is_single then None else Some (position_in r e o))
 
 -- the path of an object that has these nodes above it, the nearest first; none where the topmost is an object
 abbrev pub path_under : Reading → List Node → ObjectNo → Option Path
 path_under r [] o = None
-path_under r (node.Resource k ∷ ns) o = option_map (λ e. new_path (place_in r e o) []) (r.holder (node.Object o))
+path_under r (node.Resource k ∷ ns) o = option_map (λ e. new_path (position_in r e o) []) (r.holder (node.Object o))
 path_under r (node.Object h ∷ ns) o =
     option_and_then (λ e. option_map (λ p. with_step p (step_into r e o)) (path_under r ns h)) (r.holder (node.Object o))
 

@@ -8,12 +8,12 @@ use Rattle.web_uris.specs.Addresses.{address_text}
 use Rattle.web_uris.specs.Paths.{new_path, path_text}
 use Rattle.web_uris.specs.declared.path.Path.{Path}
 use Rattle.web_uris.specs.declared.path.Step.{Step}
-use Rattle.fragment_paths.specs.Fragments.{has_one_root, path_of, place_in}
+use Rattle.fragment_paths.specs.Fragments.{has_one_root, path_of, position_in}
 use Rattle.fragment_paths.specs.declared.paths.Located.{Located}
 
 -- the path from a root on, by steps of which the last comes first
 abbrev pub path_by : Reading → End → ObjectNo → List Step → Path
-path_by r e o steps = new_path (place_in r e o) (reverse steps)
+path_by r e o steps = new_path (position_in r e o) (reverse steps)
 
 abbrev pub located : Reading → ObjectNo → Option Located
 located r o = option_and_then (λ k. option_map (λ p. record { resource = k; path = p }) (path_of r o)) (resource_of r.above o)

@@ -32,7 +32,7 @@ pub(crate) fn object_in<L: LinkStore>(model: &ModelRef<L>, end: End, index: u32)
     requires contains { is_containment model.now.metamodel end.feature ≡ true }
     ensures { result ≡ slice_get (objects_of ((reading model.now).values end)) index }
 {
-    model.is_legal();
+    model.lemma_is_legal();
     model.object_in(end, index)
 }
 

@@ -83,7 +83,7 @@ fn found_by<L: LinkStore>(
 
 /// The object at an address (EMF: ResourceSet.getEObject, without loading): what the fragment after the first `#` finds in the
 /// resource whose URI comes before it. `None` if there is no `#`, no resource of that very URI, no fragment after it, or nothing
-/// at that place. Errs only if memory is refused.
+/// at that position. Errs only if memory is refused.
 pub fn object_at<L: LinkStore>(
     alloc: Global,
     model: &ModelRef<L>,

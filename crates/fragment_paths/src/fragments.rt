@@ -6,7 +6,7 @@ ghost use Rattle.fragment_paths.specs.Located.{located_address, located_text};
 
 use crate::ends::roots_end;
 use crate::paths::{Located, locate};
-use crate::places::Places;
+use crate::positions::Positions;
 use links::LinkStore;
 use mm_types::{ObjectNo, ResourceNo, Text};
 use models::ModelRef;
@@ -52,7 +52,7 @@ pub fn write<L: LinkStore>(
 ) -> Result<Option<Text>, AllocError>
     ensures { IfOk result (λ t. t ≡ spec.fragment (reading model.now) object) }
 {
-    match locate(alloc, &Places::new(alloc, model), object)? {
+    match locate(alloc, &Positions::new(alloc, model), object)? {
         Some(found) => fragment_by(alloc, model, &found),
         None => Ok(None),
     }
@@ -85,7 +85,7 @@ pub fn address<L: LinkStore>(
 ) -> Result<Option<Text>, AllocError>
     ensures { IfOk result (λ t. t ≡ spec.address (reading model.now) object) }
 {
-    match locate(alloc, &Places::new(alloc, model), object)? {
+    match locate(alloc, &Positions::new(alloc, model), object)? {
         Some(found) => address_by(alloc, model, &found),
         None => Ok(None),
     }
@@ -95,14 +95,14 @@ pub fn address<L: LinkStore>(
 /// its address. `None` if the object is in no resource. Errs only if memory is refused.
 pub fn reference<L: LinkStore>(
     alloc: Global,
-    places: &Places<L>,
+    positions: &Positions<L>,
     from: ResourceNo,
     object: ObjectNo,
 ) -> Result<Option<Text>, AllocError>
-    ensures { IfOk result (λ t. t ≡ spec.reference (reading places.now) from object) }
+    ensures { IfOk result (λ t. t ≡ spec.reference (reading positions.now) from object) }
 {
-    let model = places.model();
-    match locate(alloc, places, object)? {
+    let model = positions.model();
+    match locate(alloc, positions, object)? {
         Some(found) => {
             if found.resource.0 == from.0 {
                 fragment_by(alloc, model, &found)

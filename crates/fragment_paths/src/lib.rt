@@ -10,11 +10,11 @@ mod fragments;
 pub mod laws;
 mod path_cache;
 mod paths;
-mod places;
+mod positions;
 
 pub use ends::{contents_end, roots_end};
 pub use finding::{find, object_at};
 pub use fragments::{address, reference, write};
 pub use path_cache::PathCache;
-pub use places::Places;
+pub use positions::Positions;
 pub use web_uris::{Path, Step, parse};

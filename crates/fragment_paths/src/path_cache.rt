@@ -52,7 +52,7 @@ impl PathCache {
         Some(text.as_str())
     }
 
-    /// Keeps the text of an object, in the place of the one that was kept of it. If 1,024 texts are kept, and none of the object,
+    /// Keeps the text of an object, instead of the one that was kept of it. If 1,024 texts are kept, and none of the object,
     /// all of them are dropped first. If memory is refused, the text is not kept.
     pub fn keep(&mut self, object: ObjectNo, text: &str)
         ensures { kept.MayKeep self.old object text.now self.new }

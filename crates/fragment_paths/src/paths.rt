@@ -4,7 +4,7 @@ ghost use Rattle.models.specs.Model.{reading};
 ghost use Rattle.fragment_paths.specs.Fragments as fragments;
 ghost use Rattle.fragment_paths.specs.Located.{located as located_in, path_by as path_meant};
 
-use crate::places::Places;
+use crate::positions::Positions;
 use links::LinkStore;
 use mm_types::{End, Node, ObjectNo, ResourceNo, Seq, Text};
 use models::ModelRef;
@@ -31,29 +31,34 @@ fn name_of<L: LinkStore>(alloc: Global, model: &ModelRef<L>, end: End) -> Result
 /// The step that leads from an end into an object.
 fn step_into<L: LinkStore>(
     alloc: Global,
-    places: &Places<L>,
+    positions: &Positions<L>,
     end: End,
     object: ObjectNo,
 ) -> Result<Step, AllocError>
-    ensures { IfOk result (λ s. s ≡ fragments.step_into (reading places.now) end object) }
+    ensures { IfOk result (λ s. s ≡ fragments.step_into (reading positions.now) end object) }
 {
-    let model = places.model();
+    let model = positions.model();
     let name = name_of(alloc, model, end)?;
     let index = if model.meta().is_single(end.feature) {
         None
     } else {
-        Some(places.place_in(end, object))
+        Some(positions.position_in(end, object))
     };
     Ok(Step { name, index })
 }
 
 /// The path to a root, and from there by steps, of which the last comes first.
-fn path_by<L: LinkStore>(places: &Places<L>, end: End, root: ObjectNo, mut steps: Vec<Step>) -> Path
-    ensures { result ≡ path_meant (reading places.now) end root steps.items }
+fn path_by<L: LinkStore>(
+    positions: &Positions<L>,
+    end: End,
+    root: ObjectNo,
+    mut steps: Vec<Step>,
+) -> Path
+    ensures { result ≡ path_meant (reading positions.now) end root steps.items }
 {
     steps.reverse();
     Path {
-        root: places.place_in(end, root),
+        root: positions.position_in(end, root),
         steps: Seq::from_vec(steps),
     }
 }
@@ -61,22 +66,22 @@ fn path_by<L: LinkStore>(places: &Places<L>, end: End, root: ObjectNo, mut steps
 /// The resource and the path of an object; `None` if it is in no resource. Errs only if memory is refused.
 pub(crate) fn locate<L: LinkStore>(
     alloc: Global,
-    places: &Places<L>,
+    positions: &Positions<L>,
     object: ObjectNo,
 ) -> Result<Option<Located>, AllocError>
-    ensures { IfOk result (λ x. x ≡ located_in (reading places.now) object) }
+    ensures { IfOk result (λ x. x ≡ located_in (reading positions.now) object) }
 {
-    places.is_legal();
+    positions.lemma_is_legal();
     let mut steps = Vec::new(alloc);
     let mut at = object;
-    'up: while let Some(end) = places.holder(at) {
+    'up: while let Some(end) = positions.holder(at) {
         match end.node {
             Node::Resource(resource) => {
-                let path = path_by(places, end, at, steps);
+                let path = path_by(positions, end, at, steps);
                 return Ok(Some(Located { resource, path }));
             }
             Node::Object(above) => {
-                steps.push(step_into(alloc, places, end, at)?)?;
+                steps.push(step_into(alloc, positions, end, at)?)?;
                 at = above;
             }
         }

@@ -13,16 +13,16 @@ use Rattle.handshake.specs.Keys.{has, key_of}
 use Rattle.handshake.specs.Laws.{ChainReplays, KeepsLegal}
 use Rattle.handshake.specs.Leads.{lead, leads}
 use Rattle.handshake.specs.Plans.{IsPlanOf, IsRemovalOf}
-use Rattle.handshake.specs.Proxies.{places}
+use Rattle.handshake.specs.Proxies.{sites}
 use Rattle.handshake.specs.ResolvingAll.{done, left, resolutions}
-use Rattle.handshake.specs.Telling.{notice_at}
-use Rattle.handshake.specs.Tellings.{chain, tellings}
+use Rattle.handshake.specs.FeatureChange.{notice_at}
+use Rattle.handshake.specs.FeatureChanges.{chain, feature_changes}
 use Rattle.handshake.specs.declared.change.Change.{Change}
 use Rattle.handshake.specs.declared.change.Change.TheVariants.{ResolveAll}
 use Rattle.handshake.specs.declared.joining.Joint.{Joint}
 use Rattle.handshake.specs.declared.joining.Progress.{Progress}
 use Rattle.handshake.specs.declared.leads.Lead.{Lead}
-use Rattle.handshake.specs.declared.place.Place.{Place}
+use Rattle.handshake.specs.declared.site.ProxySite.{ProxySite}
 use Rattle.handshake.specs.declared.planned.Planned.{Planned}
 use Rattle.handshake.proofs.ChainLemmas.{one-replays}
 use Rattle.handshake.proofs.HappenedLemmas.{happened_all-at}
@@ -32,24 +32,24 @@ use Rattle.handshake.proofs.ResolveAllLemmas.{all-lead}
 use Rattle.handshake.proofs.StepLemmas.{chain-all, done-count, edits-all, left-count}
 
 pub change-keeps-legal : (s : Model) (c : Change) → KeepsLegal s c
-change-keeps-legal s ResolveAll legal early late read brought = (all-lead (places (reading s)) s legal).legal
+change-keeps-legal s ResolveAll legal early late read brought = (all-lead (sites (reading s)) s legal).legal
 change-keeps-legal s c legal early late read brought = one-keeps-legal s c refl legal early late read brought
 
 pub chain-replays : (s : Model) (c : Change) → ChainReplays s c
 chain-replays s ResolveAll legal early late read d stays old =
     let m = s.metamodel in
     let r = reading s in
-    let ts = tellings r ResolveAll in
-    ap (λ (y : Ends). y d) (replayed_all-told m (held_at r) ts) ∙ happened_all-at m (held_at r) ts d ∙ (all-lead (places r) s legal).replays d
+    let ts = feature_changes r ResolveAll in
+    ap (λ (y : Ends). y d) (replayed_all-told m (held_at r) ts) ∙ happened_all-at m (held_at r) ts d ∙ (all-lead (sites r) s legal).replays d
 chain-replays s c legal early late read d stays old = one-replays s c refl legal early late read d stays old
 
 ---------------------------------------------------------------- the plan
 
 -- of leads as of places
-count-leads : (r : Reading) (N : Place → Bool) (ps : List Place) → length (filter (λ (x : Lead). N x.place) (map (lead r) ps)) ≡ length (filter N ps)
+count-leads : (r : Reading) (N : ProxySite → Bool) (ps : List ProxySite) → length (filter (λ (x : Lead). N x.site) (map (lead r) ps)) ≡ length (filter N ps)
 count-leads r N [] = refl
 count-leads r N (p ∷ ps) =
-    elim (N p) as (λ b. length (cond b (lead r p ∷ filter (λ (x : Lead). N x.place) (map (lead r) ps)) (filter (λ (x : Lead). N x.place) (map (lead r) ps))) ≡ length (cond b (p ∷ filter N ps) (filter N ps))) [
+    elim (N p) as (λ b. length (cond b (lead r p ∷ filter (λ (x : Lead). N x.site) (map (lead r) ps)) (filter (λ (x : Lead). N x.site) (map (lead r) ps))) ≡ length (cond b (p ∷ filter N ps) (filter N ps))) [
       | true ↦ ap (λ (n : ℕ). suc n) (count-leads r N ps)
       | false ↦ count-leads r N ps
     ]
@@ -57,19 +57,19 @@ count-leads r N (p ∷ ps) =
 -- what planning gives that resolves all proxies, by its parts
 pub all-planned : (is_heard : Bool) (s : Model) (p : Planned) → IsLegal s → (g : Progress) → IsDone (reading s) g → (ls : List Lead) → ls ≡ leads (reading s) → (js : List Joint) → js ≡ g.joints.items
     → p.removal ≡ None → p.target ≡ None
-    → p.resolved ≡ Some (record { done = length js; left = length (filter (λ (x : Lead). not (has g.gone (key_of x.place))) ls) })
+    → p.resolved ≡ Some (record { done = length js; left = length (filter (λ (x : Lead). not (has g.gone (key_of x.site))) ls) })
     → p.edits ≡ flat_map (edits_by (reading s)) js → p.values ≡ []
     → p.chain ≡ (if is_heard then map (notice_at (reading s)) (flat_map told_by js) else []) → IsPlanOf is_heard s ResolveAll p
 all-planned is_heard s p legal g known ls all js joints removal target resolved edits lists tells =
     let r = reading s in
-    let ps = places r in
+    let ps = sites r in
     let lead_on = all-lead ps s legal in
     let same : js ≡ map joint_of (resolutions r ps) = joints ∙ known.joints in
     let plan : p.edits ≡ flat_map edits_of (resolutions r ps) = edits ∙ ap (flat_map (edits_by r)) same ∙ sym (edits-all s legal ps) in
     let told : map (notice_at r) (flat_map told_by js) ≡ chain r ResolveAll = ap (λ (xs : List Joint). map (notice_at r) (flat_map told_by xs)) same ∙ sym (chain-all s legal ps) in
-    let N : Place → Bool = λ q. not (has g.gone (key_of q)) in
+    let N : ProxySite → Bool = λ q. not (has g.gone (key_of q)) in
     let many : length js ≡ done r = ap (λ (xs : List Joint). length xs) joints ∙ done-count r g known in
-    let rest : length (filter (λ (x : Lead). N x.place) ls) ≡ left r = ap (λ (xs : List Lead). length (filter (λ (x : Lead). N x.place) xs)) all ∙ count-leads r N ps ∙ sym (left-count s legal g known) in
+    let rest : length (filter (λ (x : Lead). N x.site) ls) ≡ left r = ap (λ (xs : List Lead). length (filter (λ (x : Lead). N x.site) xs)) all ∙ count-leads r N ps ∙ sym (left-count s legal g known) in
     record {
       allowed = refl;
       removed = subst (IsRemovalOf r ResolveAll) (sym removal) (record { whose = refl; found = tt });

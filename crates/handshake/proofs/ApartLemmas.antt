@@ -30,26 +30,26 @@ use Rattle.notice_chain.specs.Replay.{removed, replayed_in}
 use Rattle.notice_chain.specs.declared.kind.NoticeKind.TheVariants as kind
 use Rattle.notice_chain.specs.declared.notice.Notice.{Notice}
 use Rattle.containment.proofs.PartLemmas.{object-reference}
-use Rattle.handshake.proofs.CutTieLemmas.{Stands, all_append, all_front, all_map, all_push, all_weaker, backwards-different, plain-not, tie_in-different, tie_in-stand, ties_at-different, ties_at-stand, ties_backwards-stand, values-linked, yields-different, yields-stand}
+use Rattle.handshake.proofs.CutLinkEndLemmas.{Stands, all_append, all_front, all_map, all_push, all_weaker, backwards-different, plain-not, link_end_in-different, link_end_in-stand, link_ends_at-different, link_ends_at-stand, link_ends_backwards-stand, values-linked, yields-different, yields-stand}
 use Rattle.handshake.proofs.KnownLemmas.{add-taken, set-named}
 use Rattle.handshake.proofs.LinkLemmas.{IsNewLink, far-lacks}
 use Rattle.handshake.proofs.PlanLemmas.{add-new, set-new}
 use Rattle.handshake.proofs.YieldLemmas.{Origin, yields-origin}
 use Rattle.handshake.proofs.ReplayLemmas.{replayed_all-told}
-use Rattle.handshake.proofs.TieNameLemmas.{IsNameOf, IsYielded, name-stands, names-apart, turned-apart, yielded, yielded-agree, yielded-far, yielded-near}
-use Rattle.handshake.specs.Displaced.{cut_by_new, cut_by_set, cut_ties, has_already, is_plain_add, is_plain_set, other_side, same_link, tie_in, ties_at, ties_backwards, turned, yields}
-use Rattle.removal.specs.TreeTies.{tie}
+use Rattle.handshake.proofs.LinkEndNameLemmas.{IsNameOf, IsYielded, name-stands, names-apart, turned-apart, yielded, yielded-agree, yielded-far, yielded-near}
+use Rattle.handshake.specs.Displaced.{cut_by_new, cut_by_set, cut_link_ends, has_already, is_plain_add, is_plain_set, other_side, same_link, link_end_in, link_ends_at, link_ends_backwards, turned, yields}
+use Rattle.removal.specs.TreeLinkEnds.{link_end}
 use Rattle.handshake.specs.Laws.{AreApart, AreDifferent, takes_many}
 use Rattle.handshake.specs.Refusals.{early_refusal, late_refusal}
-use Rattle.handshake.specs.Telling.{changed, flagged, happened, happened_all, has_flag, notice_at, notice_of, telling, told}
-use Rattle.handshake.specs.Tellings.{all_lost, before_gain, chain, destroyed_by, far_gain, far_loss, far_losses, gain_at, is_replaced, loaded_by, loss, losses, other_losses, resolves_all, taken_out, tellings, tellings_with}
+use Rattle.handshake.specs.FeatureChange.{changed, flagged, happened, happened_all, has_flag, notice_at, notice_of, feature_change, told}
+use Rattle.handshake.specs.FeatureChanges.{all_lost, before_gain, chain, destroyed_by, far_gain, far_loss, far_losses, gain_at, is_replaced, loaded_by, loss, losses, other_losses, resolves_all, taken_out, feature_changes, feature_changes_with}
 use Rattle.handshake.specs.declared.change.Change.TheVariants.{Create, Set, Unset, Add, Remove, RemoveValue, Move, Delete, NewResource, Resolve, ResolveAll, Load}
 use Rattle.resource_docs.specs.declared.doc.Doc.{Doc}
 use Rattle.handshake.specs.declared.change.Change.{Change}
-use Rattle.handshake.specs.declared.happening.Happening.TheVariants.{Gains, LosesAt, Moves, Resolves, Unsets}
-use Rattle.handshake.specs.declared.happening.Happening.{Happening}
-use Rattle.handshake.specs.declared.happening.Telling.{Telling}
-use Rattle.removal.specs.declared.tie.Tie.{Tie}
+use Rattle.handshake.specs.declared.change_kind.ChangeKind.TheVariants.{Gains, LosesAt, Moves, Resolves, Unsets}
+use Rattle.handshake.specs.declared.change_kind.ChangeKind.{ChangeKind}
+use Rattle.handshake.specs.declared.change_kind.FeatureChange.{FeatureChange}
+use Rattle.removal.specs.declared.link_end.LinkEnd.{LinkEnd}
 use Rattle.handshake.proofs.ResolvedLemmas.{resolved-as}
 use Rattle.handshake.proofs.TargetLemmas.{match-apart}
 
@@ -81,65 +81,65 @@ all_flat P Q f (x ∷ xs) each all = all_append Q (f x) (flat_map f xs) (each x 
 ---------------------------------------------------------------- tellings at other ends
 
 -- no telling of the list is at this end
-abbrev pub IsNotAt : End → List Telling → Type 0
-IsNotAt e ts = AllByRecursion (λ (t : Telling). e ≡ t.at → ⊥) ts
+abbrev pub IsNotAt : End → List FeatureChange → Type 0
+IsNotAt e ts = AllByRecursion (λ (t : FeatureChange). e ≡ t.at → ⊥) ts
 
-pub apart_append : (ts us : List Telling) → AreApart ts → AreApart us → AllByRecursion (λ (t : Telling). IsNotAt t.at us) ts → AreApart (ts ++ us)
+pub apart_append : (ts us : List FeatureChange) → AreApart ts → AreApart us → AllByRecursion (λ (t : FeatureChange). IsNotAt t.at us) ts → AreApart (ts ++ us)
 apart_append [] us a b away = b
-apart_append (t ∷ ts) us a b away = (all_append (λ (u : Telling). t.at ≡ u.at → ⊥) ts us a.0 away.0, apart_append ts us a.1 b away.1)
+apart_append (t ∷ ts) us a b away = (all_append (λ (u : FeatureChange). t.at ≡ u.at → ⊥) ts us a.0 away.0, apart_append ts us a.1 b away.1)
 
-apart_filter : (p : Telling → Bool) (ts : List Telling) → AreApart ts → AreApart (filter p ts)
+apart_filter : (p : FeatureChange → Bool) (ts : List FeatureChange) → AreApart ts → AreApart (filter p ts)
 apart_filter p [] apart = tt
 apart_filter p (t ∷ ts) apart =
-    elim (p t) as (λ b. AreApart (if b then t ∷ filter p ts else filter p ts)) [ true ↦ (all_filter (λ (u : Telling). t.at ≡ u.at → ⊥) p ts apart.0, apart_filter p ts apart.1) | false ↦ apart_filter p ts apart.1 ]
+    elim (p t) as (λ b. AreApart (if b then t ∷ filter p ts else filter p ts)) [ true ↦ (all_filter (λ (u : FeatureChange). t.at ≡ u.at → ⊥) p ts apart.0, apart_filter p ts apart.1) | false ↦ apart_filter p ts apart.1 ]
 
 -- one more telling, at another end than all those before it
-apart_push : (ts : List Telling) (u : Telling) → AreApart ts → AllByRecursion (λ (t : Telling). t.at ≡ u.at → ⊥) ts → AreApart (ts ++ u ∷ [])
+apart_push : (ts : List FeatureChange) (u : FeatureChange) → AreApart ts → AllByRecursion (λ (t : FeatureChange). t.at ≡ u.at → ⊥) ts → AreApart (ts ++ u ∷ [])
 apart_push ts u apart away = apart_append ts (u ∷ []) apart (tt, tt) (all_weaker _ _ ts (λ t h. (h, tt)) away)
 
 ---------------------------------------------------------------- tellings read in the model as it is
 
--- the notice of a telling, read in these ends
-abbrev read_in : Metamodel → Ends → Telling → Notice
+-- the notice of a feature change, read in these ends
+abbrev read_in : Metamodel → Ends → FeatureChange → Notice
 read_in m e t = notice_of (shape m t.at.feature) t.at t.does (e t.at)
 
 with_held-other : (e : Ends) (x d : End) (h : Held) → x ≢ d → with_held e x h d ≡ e d
 with_held-other e x d h ne = ap (λ (b : Bool). if b then h else e d) (ne-same_end x d ne)
 
 -- a notice changes no other end
-replayed_in-other : (m : Metamodel) (e : Ends) (t : Telling) (d : End) → t.at ≢ d → replayed_in (has_flag m) e (read_in m e t) d ≡ e d
+replayed_in-other : (m : Metamodel) (e : Ends) (t : FeatureChange) (d : End) → t.at ≢ d → replayed_in (has_flag m) e (read_in m e t) d ≡ e d
 replayed_in-other m e t d ne = ap (λ (f : Ends). f d) (replayed_all-told m e (t ∷ [])) ∙ with_held-other e t.at d (record { values = changed (shape m t.at.feature) t.does (e t.at).values; flag = flagged (shape m t.at.feature) t.does (e t.at).flag }) ne
 
-told-agreeing : (m : Metamodel) (e d : Ends) (ts : List Telling) → AreApart ts → AllByRecursion (λ (t : Telling). d t.at ≡ e t.at) ts → told m d ts ≡ map (read_in m e) ts
+told-agreeing : (m : Metamodel) (e d : Ends) (ts : List FeatureChange) → AreApart ts → AllByRecursion (λ (t : FeatureChange). d t.at ≡ e t.at) ts → told m d ts ≡ map (read_in m e) ts
 told-agreeing m e d [] apart same = refl
 told-agreeing m e d (t ∷ ts) apart same =
     let next : Ends = replayed_in (has_flag m) d (read_in m d t) in
-    let kept : (u : Telling) → (t.at ≡ u.at → ⊥) × (d u.at ≡ e u.at) → next u.at ≡ e u.at = λ u h. replayed_in-other m d t u.at h.0 ∙ h.1 in
+    let kept : (u : FeatureChange) → (t.at ≡ u.at → ⊥) × (d u.at ≡ e u.at) → next u.at ≡ e u.at = λ u h. replayed_in-other m d t u.at h.0 ∙ h.1 in
     ap (λ h. notice_of (shape m t.at.feature) t.at t.does h ∷ told m next ts) same.0
     ∙ ap (λ ns. read_in m e t ∷ ns) (told-agreeing m e next ts apart.1 (all_weaker _ _ ts kept (all_both _ _ ts apart.0 same.1)))
 
 -- where no end is told twice, each notice is the one that is read in the ends as they are
-pub told-apart : (m : Metamodel) (e : Ends) (ts : List Telling) → AreApart ts → told m e ts ≡ map (λ t. notice_of (shape m t.at.feature) t.at t.does (e t.at)) ts
-told-apart m e ts apart = told-agreeing m e e ts apart (all_of (λ (t : Telling). e t.at ≡ e t.at) ts (λ t. refl))
+pub told-apart : (m : Metamodel) (e : Ends) (ts : List FeatureChange) → AreApart ts → told m e ts ≡ map (λ t. notice_of (shape m t.at.feature) t.at t.does (e t.at)) ts
+told-apart m e ts apart = told-agreeing m e e ts apart (all_of (λ (t : FeatureChange). e t.at ≡ e t.at) ts (λ t. refl))
 
 ---------------------------------------------------------------- losses
 
--- a telling is at an end of a link
-record IsOf (r : Reading) (t : Tie) (x : Telling) : Type 0 where
-  name : Tie
+-- a feature change is at an end of a link
+record IsOf (r : Reading) (t : LinkEnd) (x : FeatureChange) : Type 0 where
+  name : LinkEnd
   is_name : IsNameOf r t name
   at : x.at ≡ name.end
 
-of_near : (r : Reading) (t : Tie) → IsOf r t (loss t)
+of_near : (r : Reading) (t : LinkEnd) → IsOf r t (loss t)
 of_near r t = record { name = t; is_name = inl refl; at = refl }
 
-of_far : (r : Reading) (t u : Tie) → turned r t ≡ Some u → IsOf r t (loss u)
+of_far : (r : Reading) (t u : LinkEnd) → turned r t ≡ Some u → IsOf r t (loss u)
 of_far r t u is = record { name = u; is_name = inr is; at = refl }
 
-losses-of : (r : Reading) (t : Tie) → AllByRecursion (IsOf r t) (losses r t)
+losses-of : (r : Reading) (t : LinkEnd) → AllByRecursion (IsOf r t) (losses r t)
 losses-of r t = by (turned r t) refl
   where
-    by : (q : Option Tie) → turned r t ≡ q → AllByRecursion (IsOf r t) (option_map_or (λ u. if is_containment r.metamodel u.end.feature then loss u ∷ loss t ∷ [] else loss t ∷ loss u ∷ []) q (loss t ∷ []))
+    by : (q : Option LinkEnd) → turned r t ≡ q → AllByRecursion (IsOf r t) (option_map_or (λ u. if is_containment r.metamodel u.end.feature then loss u ∷ loss t ∷ [] else loss t ∷ loss u ∷ []) q (loss t ∷ []))
     by None _ = (of_near r t, tt)
     by (Some u) is =
         elim (is_containment r.metamodel u.end.feature) as (λ b. AllByRecursion (IsOf r t) (if b then loss u ∷ loss t ∷ [] else loss t ∷ loss u ∷ [])) [
@@ -147,21 +147,21 @@ losses-of r t = by (turned r t) refl
           | false ↦ (of_near r t, (of_far r t u is, tt))
         ]
 
-far_loss-of : (r : Reading) (t : Tie) → AllByRecursion (IsOf r t) (far_loss r t)
+far_loss-of : (r : Reading) (t : LinkEnd) → AllByRecursion (IsOf r t) (far_loss r t)
 far_loss-of r t = by (turned r t) refl
   where
-    by : (q : Option Tie) → turned r t ≡ q → AllByRecursion (IsOf r t) (option_map_or (λ u. loss u ∷ []) q [])
+    by : (q : Option LinkEnd) → turned r t ≡ q → AllByRecursion (IsOf r t) (option_map_or (λ u. loss u ∷ []) q [])
     by None _ = tt
     by (Some u) is = (of_far r t u is, tt)
 
-far_loss-apart : (r : Reading) (t : Tie) → AreApart (far_loss r t)
+far_loss-apart : (r : Reading) (t : LinkEnd) → AreApart (far_loss r t)
 far_loss-apart r t = elim (turned r t) as (λ q. AreApart (option_map_or (λ u. loss u ∷ []) q [])) [ None ↦ tt | Some u ↦ (tt, tt) ]
 
 module _ (s : Model) (legal : IsLegal s) where
-  losses-apart : (t : Tie) → AreApart (losses (reading s) t)
+  losses-apart : (t : LinkEnd) → AreApart (losses (reading s) t)
   losses-apart t = by (turned (reading s) t) refl
     where
-      by : (q : Option Tie) → turned (reading s) t ≡ q → AreApart (option_map_or (λ u. if is_containment s.metamodel u.end.feature then loss u ∷ loss t ∷ [] else loss t ∷ loss u ∷ []) q (loss t ∷ []))
+      by : (q : Option LinkEnd) → turned (reading s) t ≡ q → AreApart (option_map_or (λ u. if is_containment s.metamodel u.end.feature then loss u ∷ loss t ∷ [] else loss t ∷ loss u ∷ []) q (loss t ∷ []))
       by None _ = (tt, tt)
       by (Some u) is =
           elim (is_containment s.metamodel u.end.feature) as (λ b. AreApart (if b then loss u ∷ loss t ∷ [] else loss t ∷ loss u ∷ [])) [
@@ -170,249 +170,249 @@ module _ (s : Model) (legal : IsLegal s) where
           ]
 
   -- what several links tell, each at its own ends: names of theirs in one end are of one value
-  module _ (f : Tie → List Telling) (of : (t : Tie) → AllByRecursion (IsOf (reading s) t) (f t)) (Ok Key : Tie → Type 0)
-      (key : (t y : Tie) → Ok t → IsNameOf (reading s) t y → Key y) (agree : (y z : Tie) → Stands s.links y → Stands s.links z → Key y → Key z → y.end ≡ z.end → y.value ≡ z.value) where
-    abbrev Known : Tie → Type 0
+  module _ (f : LinkEnd → List FeatureChange) (of : (t : LinkEnd) → AllByRecursion (IsOf (reading s) t) (f t)) (Ok Key : LinkEnd → Type 0)
+      (key : (t y : LinkEnd) → Ok t → IsNameOf (reading s) t y → Key y) (agree : (y z : LinkEnd) → Stands s.links y → Stands s.links z → Key y → Key z → y.end ≡ z.end → y.value ≡ z.value) where
+    abbrev Known : LinkEnd → Type 0
     Known t = Stands s.links t × Ok t
 
-    others_away : (t : Tie) (ts : List Tie) (x : Telling) → Known t → AllByRecursion (λ (u : Tie). same_link (reading s) u t ≡ false) ts → AllByRecursion Known ts → IsOf (reading s) t x → IsNotAt x.at (flat_map f ts)
+    others_away : (t : LinkEnd) (ts : List LinkEnd) (x : FeatureChange) → Known t → AllByRecursion (λ (u : LinkEnd). same_link (reading s) u t ≡ false) ts → AllByRecursion Known ts → IsOf (reading s) t x → IsNotAt x.at (flat_map f ts)
     others_away t ts x at_t others known of_x =
-        let away : (u : Tie) → (same_link (reading s) u t ≡ false) × Known u → IsNotAt x.at (f u) = λ u h. all_weaker (IsOf (reading s) u) (λ (y : Telling). x.at ≡ y.at → ⊥) (f u)
+        let away : (u : LinkEnd) → (same_link (reading s) u t ≡ false) × Known u → IsNotAt x.at (f u) = λ u h. all_weaker (IsOf (reading s) u) (λ (y : FeatureChange). x.at ≡ y.at → ⊥) (f u)
         (λ y of_y same.
         let one = sym of_x.at ∙ same ∙ of_y.at in
         names-apart s legal t u of_x.name of_y.name at_t.0 h.1.0 h.0 of_x.is_name of_y.is_name one
         (agree of_x.name of_y.name (name-stands s legal t of_x.name at_t.0 of_x.is_name) (name-stands s legal u of_y.name h.1.0 of_y.is_name) (key t of_x.name at_t.1 of_x.is_name) (key u of_y.name h.1.1 of_y.is_name) one)) (of u) in
-        all_flat (λ (u : Tie). (same_link (reading s) u t ≡ false) × Known u) (λ (y : Telling). x.at ≡ y.at → ⊥) f ts away (all_both _ _ ts others known)
+        all_flat (λ (u : LinkEnd). (same_link (reading s) u t ≡ false) × Known u) (λ (y : FeatureChange). x.at ≡ y.at → ⊥) f ts away (all_both _ _ ts others known)
 
-    flat-apart : ((t : Tie) → AreApart (f t)) → (ts : List Tie) → AreDifferent (reading s) ts → AllByRecursion Known ts → AreApart (flat_map f ts)
+    flat-apart : ((t : LinkEnd) → AreApart (f t)) → (ts : List LinkEnd) → AreDifferent (reading s) ts → AllByRecursion Known ts → AreApart (flat_map f ts)
     flat-apart each [] different known = tt
     flat-apart each (t ∷ ts) different known =
         apart_append (f t) (flat_map f ts) (each t) (flat-apart each ts different.1 known.1)
-        (all_weaker (IsOf (reading s) t) (λ (x : Telling). IsNotAt x.at (flat_map f ts)) (f t) (λ x of_x. others_away t ts x known.0 different.0 known.1 of_x) (of t))
+        (all_weaker (IsOf (reading s) t) (λ (x : FeatureChange). IsNotAt x.at (flat_map f ts)) (f t) (λ x of_x. others_away t ts x known.0 different.0 known.1 of_x) (of t))
 
   ---------------------------------------------------------------- what cuts of an end tell
 
-  pub far_losses-away : (e : End) (ts : List Tie) → AllByRecursion (λ (t : Tie). t.end ≡ e) ts → AllByRecursion (λ (x : Telling). x.at ≡ e → ⊥) (far_losses (reading s) ts)
-  far_losses-away e ts all = all_flat (λ (t : Tie). t.end ≡ e) (λ (x : Telling). x.at ≡ e → ⊥) (far_loss (reading s)) ts each all
+  pub far_losses-away : (e : End) (ts : List LinkEnd) → AllByRecursion (λ (t : LinkEnd). t.end ≡ e) ts → AllByRecursion (λ (x : FeatureChange). x.at ≡ e → ⊥) (far_losses (reading s) ts)
+  far_losses-away e ts all = all_flat (λ (t : LinkEnd). t.end ≡ e) (λ (x : FeatureChange). x.at ≡ e → ⊥) (far_loss (reading s)) ts each all
     where
-      by : (t : Tie) (q : Option Tie) → t.end ≡ e → turned (reading s) t ≡ q → AllByRecursion (λ (x : Telling). x.at ≡ e → ⊥) (option_map_or (λ u. loss u ∷ []) q [])
+      by : (t : LinkEnd) (q : Option LinkEnd) → t.end ≡ e → turned (reading s) t ≡ q → AllByRecursion (λ (x : FeatureChange). x.at ≡ e → ⊥) (option_map_or (λ u. loss u ∷ []) q [])
       by t None is _ = tt
       by t (Some u) is turns = (λ same. turned-apart s legal t u turns (is ∙ sym same), tt)
 
-      each : (t : Tie) → t.end ≡ e → AllByRecursion (λ (x : Telling). x.at ≡ e → ⊥) (far_loss (reading s) t)
+      each : (t : LinkEnd) → t.end ≡ e → AllByRecursion (λ (x : FeatureChange). x.at ≡ e → ⊥) (far_loss (reading s) t)
       each t is = by t (turned (reading s) t) is refl
 
   -- links that stand in one end, told at their far ends
-  far-name : (e : End) (t y : Tie) → t.end ≡ e → turned (reading s) t ≡ Some y → y.value ≡ node_value e.node
+  far-name : (e : End) (t y : LinkEnd) → t.end ≡ e → turned (reading s) t ≡ Some y → y.value ≡ node_value e.node
   far-name e t y is turns = by t.value (shape s.metamodel t.end.feature).opposite turns ∙ ap (λ (d : End). node_value d.node) is
     where
       by : (v : Value) (q : Option FeatureNo) → other_side t.end.node v q ≡ Some y → y.value ≡ node_value t.end.node
-      by (value.Object o) (Some g) h = ap (λ (z : Tie). z.value) (sym (same_Some (tie (far_end o g) (node_value t.end.node)) y h))
+      by (value.Object o) (Some g) h = ap (λ (z : LinkEnd). z.value) (sym (same_Some (link_end (far_end o g) (node_value t.end.node)) y h))
       by v q h = absurd (none-some y h)
 
-  abbrev FarKey : End → Tie → Type 0
+  abbrev FarKey : End → LinkEnd → Type 0
   FarKey e y = (y.end ≡ e → ⊥) × (y.value ≡ node_value e.node)
 
-  far_loss-far : (e : End) (t : Tie) → t.end ≡ e → AllByRecursion (λ (x : Telling). (y : Tie) × (turned (reading s) t ≡ Some y) × (x.at ≡ y.end)) (far_loss (reading s) t)
+  far_loss-far : (e : End) (t : LinkEnd) → t.end ≡ e → AllByRecursion (λ (x : FeatureChange). (y : LinkEnd) × (turned (reading s) t ≡ Some y) × (x.at ≡ y.end)) (far_loss (reading s) t)
   far_loss-far e t is = by (turned (reading s) t) refl
     where
-      by : (q : Option Tie) → turned (reading s) t ≡ q → AllByRecursion (λ (x : Telling). (y : Tie) × (turned (reading s) t ≡ Some y) × (x.at ≡ y.end)) (option_map_or (λ u. loss u ∷ []) q [])
+      by : (q : Option LinkEnd) → turned (reading s) t ≡ q → AllByRecursion (λ (x : FeatureChange). (y : LinkEnd) × (turned (reading s) t ≡ Some y) × (x.at ≡ y.end)) (option_map_or (λ u. loss u ∷ []) q [])
       by None _ = tt
       by (Some u) turns = ((u, turns, refl), tt)
 
   -- two links of one end have other far ends
-  far-others : (e : End) (t u y z : Tie) → t.end ≡ e → u.end ≡ e → Stands s.links t → Stands s.links u → same_link (reading s) u t ≡ false → turned (reading s) t ≡ Some y → turned (reading s) u ≡ Some z → y.end ≡ z.end → ⊥
+  far-others : (e : End) (t u y z : LinkEnd) → t.end ≡ e → u.end ≡ e → Stands s.links t → Stands s.links u → same_link (reading s) u t ≡ false → turned (reading s) t ≡ Some y → turned (reading s) u ≡ Some z → y.end ≡ z.end → ⊥
   far-others e t u y z is_t is_u at_t at_u other turns_t turns_u same =
       names-apart s legal t u y z at_t at_u other (inr turns_t) (inr turns_u) same (far-name e t y is_t turns_t ∙ sym (far-name e u z is_u turns_u))
 
-  far-apart : (e : End) (ts : List Tie) → AllByRecursion (λ (t : Tie). t.end ≡ e) ts → AreDifferent (reading s) ts → AllByRecursion (Stands s.links) ts → AreApart (far_losses (reading s) ts)
+  far-apart : (e : End) (ts : List LinkEnd) → AllByRecursion (λ (t : LinkEnd). t.end ≡ e) ts → AreDifferent (reading s) ts → AllByRecursion (Stands s.links) ts → AreApart (far_losses (reading s) ts)
   far-apart e [] here different stand = tt
   far-apart e (t ∷ ts) here different stand =
       let r = reading s in
-      let Here : Tie → Type 0 = λ u. (same_link r u t ≡ false) × ((u.end ≡ e) × Stands s.links u) in
-      let away : (x : Telling) → ((y : Tie) × (turned r t ≡ Some y) × (x.at ≡ y.end)) → IsNotAt x.at (far_losses r ts) = λ x of_x. all_flat Here (λ (w : Telling). x.at ≡ w.at → ⊥) (far_loss r) ts
+      let Here : LinkEnd → Type 0 = λ u. (same_link r u t ≡ false) × ((u.end ≡ e) × Stands s.links u) in
+      let away : (x : FeatureChange) → ((y : LinkEnd) × (turned r t ≡ Some y) × (x.at ≡ y.end)) → IsNotAt x.at (far_losses r ts) = λ x of_x. all_flat Here (λ (w : FeatureChange). x.at ≡ w.at → ⊥) (far_loss r) ts
       (λ u h. all_weaker _ _ (far_loss r u) (λ w of_w same. far-others e t u of_x.0 of_w.0 here.0 h.1.0 stand.0 h.1.1 h.0 of_x.1 of_w.1 (sym of_x.2 ∙ same ∙ of_w.2)) (far_loss-far e u h.1.0))
       (all_both _ _ ts different.0 (all_both _ _ ts here.1 stand.1)) in
       apart_append (far_loss r t) (far_losses r ts) (far_loss-apart r t) (far-apart e ts here.1 different.1 stand.1)
       (all_weaker _ _ (far_loss r t) away (far_loss-far e t here.0))
 
   -- what is told of cuts of an end, and then of the end itself
-  pub emptied-apart : (e : End) (ts : List Tie) (h : Happening) → AllByRecursion (λ (t : Tie). t.end ≡ e) ts → AreDifferent (reading s) ts → AllByRecursion (Stands s.links) ts → AreApart (far_losses (reading s) ts ++ telling e h ∷ [])
-  emptied-apart e ts h here different stand = apart_push (far_losses (reading s) ts) (telling e h) (far-apart e ts here different stand) (far_losses-away e ts here)
+  pub emptied-apart : (e : End) (ts : List LinkEnd) (h : ChangeKind) → AllByRecursion (λ (t : LinkEnd). t.end ≡ e) ts → AreDifferent (reading s) ts → AllByRecursion (Stands s.links) ts → AreApart (far_losses (reading s) ts ++ feature_change e h ∷ [])
+  emptied-apart e ts h here different stand = apart_push (far_losses (reading s) ts) (feature_change e h) (far-apart e ts here different stand) (far_losses-away e ts here)
 
   ---------------------------------------------------------------- what a new link tells
 
   module _ (e : End) (o : ObjectNo) (new : IsNewLink s e o) where
     -- what the displaced links tell
-    abbrev kept : List Telling
+    abbrev kept : List FeatureChange
     kept = flat_map (other_losses (reading s) e o) (yields (reading s) e o)
 
-    abbrev gain_by : Option FeatureNo → List Telling
-    gain_by q = option_map_or (λ d. telling d (Gains (node_value e.node)) ∷ []) (option_map (far_end o) q) []
+    abbrev gain_by : Option FeatureNo → List FeatureChange
+    gain_by q = option_map_or (λ d. feature_change d (Gains (node_value e.node)) ∷ []) (option_map (far_end o) q) []
 
-    other_losses-of : (t : Tie) → AllByRecursion (IsOf (reading s) t) (other_losses (reading s) e o t)
+    other_losses-of : (t : LinkEnd) → AllByRecursion (IsOf (reading s) t) (other_losses (reading s) e o t)
     other_losses-of t = all_filter (IsOf (reading s) t) (λ x. not (is_replaced (reading s) e o x.at)) (losses (reading s) t) (losses-of (reading s) t)
 
-    other_losses-apart : (t : Tie) → AreApart (other_losses (reading s) e o t)
+    other_losses-apart : (t : LinkEnd) → AreApart (other_losses (reading s) e o t)
     other_losses-apart t = apart_filter (λ x. not (is_replaced (reading s) e o x.at)) (losses (reading s) t) (losses-apart t)
 
-    known : AllByRecursion (λ (t : Tie). Stands s.links t × Origin s e o t) (yields (reading s) e o)
+    known : AllByRecursion (λ (t : LinkEnd). Stands s.links t × Origin s e o t) (yields (reading s) e o)
     known = all_both _ _ (yields (reading s) e o) (yields-stand s e o legal new.reference) (yields-origin s e o)
 
     kept-apart : AreApart kept
     kept-apart = flat-apart (other_losses (reading s) e o) other_losses-of (Origin s e o) (IsYielded s e o) (yielded s legal e o) (yielded-agree s legal e o) other_losses-apart (yields (reading s) e o) (yields-different (reading s) e o) known
 
-    kept-other : AllByRecursion (λ (x : Telling). not (is_replaced (reading s) e o x.at) ≡ true) kept
-    kept-other = all_flat (λ (t : Tie). Unit {0}) (λ (x : Telling). not (is_replaced (reading s) e o x.at) ≡ true) (other_losses (reading s) e o) (yields (reading s) e o)
-        (λ t _. all_pass (λ x. not (is_replaced (reading s) e o x.at)) (losses (reading s) t)) (all_of (λ (t : Tie). Unit {0}) (yields (reading s) e o) (λ t. tt))
+    kept-other : AllByRecursion (λ (x : FeatureChange). not (is_replaced (reading s) e o x.at) ≡ true) kept
+    kept-other = all_flat (λ (t : LinkEnd). Unit {0}) (λ (x : FeatureChange). not (is_replaced (reading s) e o x.at) ≡ true) (other_losses (reading s) e o) (yields (reading s) e o)
+        (λ t _. all_pass (λ x. not (is_replaced (reading s) e o x.at)) (losses (reading s) t)) (all_of (λ (t : LinkEnd). Unit {0}) (yields (reading s) e o) (λ t. tt))
 
     -- the new link replaces what both its single ends hold
-    replaced_away : (d : End) → is_replaced (reading s) e o d ≡ true → AllByRecursion (λ (x : Telling). x.at ≡ d → ⊥) kept
+    replaced_away : (d : End) → is_replaced (reading s) e o d ≡ true → AllByRecursion (λ (x : FeatureChange). x.at ≡ d → ⊥) kept
     replaced_away d replaced =
-        let away : (x : Telling) → not (is_replaced (reading s) e o x.at) ≡ true → x.at ≡ d → ⊥ = λ x h same. false≢true (sym (ap not (subst (λ (y : End). is_replaced (reading s) e o y ≡ true) (sym same) replaced)) ∙ h) in
+        let away : (x : FeatureChange) → not (is_replaced (reading s) e o x.at) ≡ true → x.at ≡ d → ⊥ = λ x h same. false≢true (sym (ap not (subst (λ (y : End). is_replaced (reading s) e o y ≡ true) (sym same) replaced)) ∙ h) in
         all_weaker _ _ kept away kept-other
 
     -- and a list of the new link lacks what the displaced ones would lose there
-    lacking_away : (d : End) (w : Value) → Lacks s.links d w → ((y : Tie) → IsYielded s e o y → y.end ≡ d → y.value ≡ w) → AllByRecursion (λ (x : Telling). x.at ≡ d → ⊥) kept
+    lacking_away : (d : End) (w : Value) → Lacks s.links d w → ((y : LinkEnd) → IsYielded s e o y → y.end ≡ d → y.value ≡ w) → AllByRecursion (λ (x : FeatureChange). x.at ≡ d → ⊥) kept
     lacking_away d w lacks only =
-        all_flat (λ (t : Tie). Stands s.links t × Origin s e o t) (λ (x : Telling). x.at ≡ d → ⊥) (other_losses (reading s) e o) (yields (reading s) e o)
-        (λ t at_t. all_weaker (IsOf (reading s) t) (λ (x : Telling). x.at ≡ d → ⊥) (other_losses (reading s) e o t) (λ x of_x same.
+        all_flat (λ (t : LinkEnd). Stands s.links t × Origin s e o t) (λ (x : FeatureChange). x.at ≡ d → ⊥) (other_losses (reading s) e o) (yields (reading s) e o)
+        (λ t at_t. all_weaker (IsOf (reading s) t) (λ (x : FeatureChange). x.at ≡ d → ⊥) (other_losses (reading s) e o t) (λ x of_x same.
         let y = of_x.name in
         let here : y.end ≡ d = sym of_x.at ∙ same in
         let at_y = name-stands s legal t y at_t.0 of_x.is_name in
         let is = only y (yielded s legal e o t y at_t.1 of_x.is_name) here in
         lacks at_y.0 (subst (λ (v : Value). slice_get (end s.links d) at_y.0 ≡ Some v) is (subst (λ (x : End). slice_get (end s.links x) at_y.0 ≡ Some y.value) here at_y.1))) (other_losses-of t)) known
 
-    near-away : AllByRecursion (λ (x : Telling). x.at ≡ e → ⊥) kept
+    near-away : AllByRecursion (λ (x : FeatureChange). x.at ≡ e → ⊥) kept
     near-away =
-        elim (shape s.metamodel e.feature).is_single as (λ b. (shape s.metamodel e.feature).is_single ≡ b → AllByRecursion (λ (x : Telling). x.at ≡ e → ⊥) kept) [
+        elim (shape s.metamodel e.feature).is_single as (λ b. (shape s.metamodel e.feature).is_single ≡ b → AllByRecursion (λ (x : FeatureChange). x.at ≡ e → ⊥) kept) [
           | true ↦ λ single. replaced_away e (and_from (shape s.metamodel e.feature).is_single _ single (or_left (same_end e e) _ (same_end-self e)))
           | false ↦ λ many. lacking_away e (value.Object o) new.lacks (λ y name same. yielded-near s legal e o y name many same)
         ] refl
 
-    far-away : (g : FeatureNo) → (shape s.metamodel e.feature).opposite ≡ Some g → AllByRecursion (λ (x : Telling). x.at ≡ far_end o g → ⊥) kept
+    far-away : (g : FeatureNo) → (shape s.metamodel e.feature).opposite ≡ Some g → AllByRecursion (λ (x : FeatureChange). x.at ≡ far_end o g → ⊥) kept
     far-away g opposite =
-        elim (shape s.metamodel g).is_single as (λ b. (shape s.metamodel g).is_single ≡ b → AllByRecursion (λ (x : Telling). x.at ≡ far_end o g → ⊥) kept) [
+        elim (shape s.metamodel g).is_single as (λ b. (shape s.metamodel g).is_single ≡ b → AllByRecursion (λ (x : FeatureChange). x.at ≡ far_end o g → ⊥) kept) [
           | true ↦ λ single. replaced_away (far_end o g) (and_from (shape s.metamodel g).is_single _ single
               (or_right (same_end e (far_end o g)) _ (ap (λ (q : Option FeatureNo). option_map_or (same_end (far_end o g)) (option_map (far_end o) q) false) opposite ∙ same_end-self (far_end o g))))
           | false ↦ λ many. lacking_away (far_end o g) (node_value e.node) (far-lacks s legal e o new g opposite) (λ y name same. yielded-far s legal e o y g opposite name many same)
         ] refl
 
-    with_gain-apart : (q : Option FeatureNo) → (shape s.metamodel e.feature).opposite ≡ q → (h : Happening) → AreApart ((kept ++ gain_by q) ++ telling e h ∷ [])
-    with_gain-apart None opposite h = apart_push (kept ++ []) (telling e h)
-        (apart_append kept [] kept-apart tt (all_of (λ (x : Telling). IsNotAt x.at []) kept (λ x. tt)))
-        (all_append (λ (x : Telling). x.at ≡ e → ⊥) kept [] near-away tt)
-    with_gain-apart (Some g) opposite h = apart_push (kept ++ gain_by (Some g)) (telling e h)
-        (apart_push kept (telling (far_end o g) (Gains (node_value e.node))) kept-apart (far-away g opposite))
-        (all_append (λ (x : Telling). x.at ≡ e → ⊥) kept (gain_by (Some g)) near-away (λ same. (opposites_are_pairs s.metamodel legal.metamodel e.feature g opposite).apart (ap (λ (x : End). x.feature.0) same), tt))
+    with_gain-apart : (q : Option FeatureNo) → (shape s.metamodel e.feature).opposite ≡ q → (h : ChangeKind) → AreApart ((kept ++ gain_by q) ++ feature_change e h ∷ [])
+    with_gain-apart None opposite h = apart_push (kept ++ []) (feature_change e h)
+        (apart_append kept [] kept-apart tt (all_of (λ (x : FeatureChange). IsNotAt x.at []) kept (λ x. tt)))
+        (all_append (λ (x : FeatureChange). x.at ≡ e → ⊥) kept [] near-away tt)
+    with_gain-apart (Some g) opposite h = apart_push (kept ++ gain_by (Some g)) (feature_change e h)
+        (apart_push kept (feature_change (far_end o g) (Gains (node_value e.node))) kept-apart (far-away g opposite))
+        (all_append (λ (x : FeatureChange). x.at ≡ e → ⊥) kept (gain_by (Some g)) near-away (λ same. (opposites_are_pairs s.metamodel legal.metamodel e.feature g opposite).apart (ap (λ (x : End). x.feature.0) same), tt))
 
-    linked-apart : (h : Happening) → AreApart ((kept ++ far_gain (reading s) e o) ++ telling e h ∷ [])
+    linked-apart : (h : ChangeKind) → AreApart ((kept ++ far_gain (reading s) e o) ++ feature_change e h ∷ [])
     linked-apart h = with_gain-apart (shape s.metamodel e.feature).opposite refl h
 
 ---------------------------------------------------------------- changes
 
-pub backwards-here : (e : End) (vs : List Value) → AllByRecursion (λ (t : Tie). t.end ≡ e) (ties_backwards e vs)
+pub backwards-here : (e : End) (vs : List Value) → AllByRecursion (λ (t : LinkEnd). t.end ≡ e) (link_ends_backwards e vs)
 backwards-here e [] = tt
-backwards-here e (v ∷ vs) = all_push (λ (t : Tie). t.end ≡ e) (ties_backwards e vs) (tie e v) (backwards-here e vs) refl
+backwards-here e (v ∷ vs) = all_push (λ (t : LinkEnd). t.end ≡ e) (link_ends_backwards e vs) (link_end e v) (backwards-here e vs) refl
 
-pub tie_in-here : (r : Reading) (e : End) (i : ℕ) → AllByRecursion (λ (t : Tie). t.end ≡ e) (tie_in r e i)
-tie_in-here r e i = elim (slice_get (r.values e) i) as (λ q. AllByRecursion (λ (t : Tie). t.end ≡ e) (option_to_list (option_map (tie e) q))) [ None ↦ tt | Some v ↦ (refl, tt) ]
+pub link_end_in-here : (r : Reading) (e : End) (i : ℕ) → AllByRecursion (λ (t : LinkEnd). t.end ≡ e) (link_end_in r e i)
+link_end_in-here r e i = elim (slice_get (r.values e) i) as (λ q. AllByRecursion (λ (t : LinkEnd). t.end ≡ e) (option_to_list (option_map (link_end e) q))) [ None ↦ tt | Some v ↦ (refl, tt) ]
 
-pub ties_at-here : (r : Reading) (e : End) → AllByRecursion (λ (t : Tie). t.end ≡ e) (ties_at r e)
-ties_at-here r e = all_map (λ (t : Tie). t.end ≡ e) (tie e) (r.values e) (all_of _ (r.values e) (λ v. refl))
+pub link_ends_at-here : (r : Reading) (e : End) → AllByRecursion (λ (t : LinkEnd). t.end ≡ e) (link_ends_at r e)
+link_ends_at-here r e = all_map (λ (t : LinkEnd). t.end ≡ e) (link_end e) (r.values e) (all_of _ (r.values e) (λ v. refl))
 
-one-apart : (t : Telling) → AreApart (t ∷ [])
+one-apart : (t : FeatureChange) → AreApart (t ∷ [])
 one-apart t = (tt, tt)
 
 -- of a reference, or of an attribute, which cuts nothing
-reference-tells : (P : List Tie → Type 0) (b : Bool) (ts : List Tie) → (b ≡ true → P ts) → P [] → P (if b then ts else [])
+reference-tells : (P : List LinkEnd → Type 0) (b : Bool) (ts : List LinkEnd) → (b ≡ true → P ts) → P [] → P (if b then ts else [])
 reference-tells P true ts some none = some refl
 reference-tells P false ts some none = none
 
 set-apart : (s : Model) (n : Node) (f : FeatureNo) (v : Value) → IsLegal s → early_refusal (reading s) (Set n f v) ≡ None → late_refusal (reading s) (Set n f v) ≡ None → is_plain_set (reading s) (at_end n f) v ≡ false
-    → AreApart (before_gain (reading s) (at_end n f) v (cut_by_set (reading s) (at_end n f) v) ++ telling (at_end n f) (Gains v) ∷ [])
+    → AreApart (before_gain (reading s) (at_end n f) v (cut_by_set (reading s) (at_end n f) v) ++ feature_change (at_end n f) (Gains v) ∷ [])
 set-apart s n f (value.Object o) legal early late h = linked-apart s legal (at_end n f) o (set-new s n f o legal early late h) (Gains (value.Object o))
 set-apart s n f v legal early late h =
     let e = at_end n f in
     let both = plain-not (shape s.metamodel f).is_reference (has_already (reading s) e v) h in
-    emptied-apart s legal e (ties_at (reading s) e) (Gains v) (ties_at-here (reading s) e) (ties_at-different s e legal both.0 (set-named (reading s) n f v early).single) (ties_at-stand s e both.0)
+    emptied-apart s legal e (link_ends_at (reading s) e) (Gains v) (link_ends_at-here (reading s) e) (link_ends_at-different s e legal both.0 (set-named (reading s) n f v early).single) (link_ends_at-stand s e both.0)
 
 add-apart : (s : Model) (n : Node) (f : FeatureNo) (v : Value) (i : Option ℕ) → IsLegal s → early_refusal (reading s) (Add n f v i) ≡ None → late_refusal (reading s) (Add n f v i) ≡ None → is_plain_add (reading s) (at_end n f) v ≡ false
-    → AreApart (before_gain (reading s) (at_end n f) v (cut_by_new (reading s) (at_end n f) v) ++ telling (at_end n f) (gain_at i v) ∷ [])
+    → AreApart (before_gain (reading s) (at_end n f) v (cut_by_new (reading s) (at_end n f) v) ++ feature_change (at_end n f) (gain_at i v) ∷ [])
 add-apart s n f (value.Object o) i legal early late h = linked-apart s legal (at_end n f) o (add-new s n f o i early late h) (gain_at i (value.Object o))
-add-apart s n f v i legal early late h = one-apart (telling (at_end n f) (gain_at i v))
+add-apart s n f v i legal early late h = one-apart (feature_change (at_end n f) (gain_at i v))
 
 -- an addition to an attribute tells of it alone
-attribute-add : (s : Model) (n : Node) (f : FeatureNo) (v : Value) (h : Happening) → (shape s.metamodel f).is_reference ≡ false → lookups.takes s.metamodel (reading s).class f v ≡ true
-    → AreApart (before_gain (reading s) (at_end n f) v [] ++ telling (at_end n f) h ∷ [])
+attribute-add : (s : Model) (n : Node) (f : FeatureNo) (v : Value) (h : ChangeKind) → (shape s.metamodel f).is_reference ≡ false → lookups.takes s.metamodel (reading s).class f v ≡ true
+    → AreApart (before_gain (reading s) (at_end n f) v [] ++ feature_change (at_end n f) h ∷ [])
 attribute-add s n f (value.Object o) h attribute takes = absurd (false≢true (sym attribute ∙ object-reference s.metamodel (reading s).class f o takes))
-attribute-add s n f v h attribute takes = one-apart (telling (at_end n f) h)
+attribute-add s n f v h attribute takes = one-apart (feature_change (at_end n f) h)
 
-taken-apart : (s : Model) (n : Node) (f : FeatureNo) (i : ℕ) → IsLegal s → AreApart (taken_out (reading s) (at_end n f) (if (shape s.metamodel f).is_reference then tie_in (reading s) (at_end n f) i else []) i)
+taken-apart : (s : Model) (n : Node) (f : FeatureNo) (i : ℕ) → IsLegal s → AreApart (taken_out (reading s) (at_end n f) (if (shape s.metamodel f).is_reference then link_end_in (reading s) (at_end n f) i else []) i)
 taken-apart s n f i legal =
     let e = at_end n f in
-    reference-tells (λ ts. AreApart (taken_out (reading s) e ts i)) (shape s.metamodel f).is_reference (tie_in (reading s) e i)
-    (λ reference. emptied-apart s legal e (tie_in (reading s) e i) (LosesAt i) (tie_in-here (reading s) e i) (tie_in-different (reading s) e i) (tie_in-stand s e i reference)) (one-apart (telling e (LosesAt i)))
+    reference-tells (λ ts. AreApart (taken_out (reading s) e ts i)) (shape s.metamodel f).is_reference (link_end_in (reading s) e i)
+    (λ reference. emptied-apart s legal e (link_end_in (reading s) e i) (LosesAt i) (link_end_in-here (reading s) e i) (link_end_in-different (reading s) e i) (link_end_in-stand s e i reference)) (one-apart (feature_change e (LosesAt i)))
 
 -- where an end is unset, no far end is told twice, and none of them is the end itself
-pub unset-apart : (s : Model) (n : Node) (f : FeatureNo) (h : Happening) → IsLegal s → AreApart (far_losses (reading s) (cut_ties (reading s) (Unset n f)) ++ telling (at_end n f) h ∷ [])
+pub unset-apart : (s : Model) (n : Node) (f : FeatureNo) (h : ChangeKind) → IsLegal s → AreApart (far_losses (reading s) (cut_link_ends (reading s) (Unset n f)) ++ feature_change (at_end n f) h ∷ [])
 unset-apart s n f h legal =
     let e = at_end n f in
     let vs = (reading s).values e in
-    reference-tells (λ ts. AreApart (far_losses (reading s) ts ++ telling e h ∷ [])) (shape s.metamodel f).is_reference (ties_backwards e vs)
-    (λ reference. emptied-apart s legal e (ties_backwards e vs) h (backwards-here e vs)
-    (subst (λ (ws : List Value). AreDifferent (reading s) (ties_backwards e ws)) (sym (values-linked s e reference)) (backwards-different s e (end s.links e) legal (legal.links.set.placed.distinct e)))
-    (ties_backwards-stand s e reference))
-    (one-apart (telling e h))
+    reference-tells (λ ts. AreApart (far_losses (reading s) ts ++ feature_change e h ∷ [])) (shape s.metamodel f).is_reference (link_ends_backwards e vs)
+    (λ reference. emptied-apart s legal e (link_ends_backwards e vs) h (backwards-here e vs)
+    (subst (λ (ws : List Value). AreDifferent (reading s) (link_ends_backwards e ws)) (sym (values-linked s e reference)) (backwards-different s e (end s.links e) legal (legal.links.set.placed.distinct e)))
+    (link_ends_backwards-stand s e reference))
+    (one-apart (feature_change e h))
 
 -- no end is told twice, but a list that is unset
-pub tellings-apart : (s : Model) (c : Change) → IsLegal s → early_refusal (reading s) c ≡ None → late_refusal (reading s) c ≡ None → takes_many (reading s) c ≡ false → AreApart (tellings (reading s) c)
-tellings-apart s (Create c) legal early late few = tt
-tellings-apart s (NewResource u) legal early late few = tt
-tellings-apart s (Delete o) legal early late few = absurd (false≢true (sym few))
-tellings-apart s (Set n f v) legal early late few =
+pub feature_changes-apart : (s : Model) (c : Change) → IsLegal s → early_refusal (reading s) c ≡ None → late_refusal (reading s) c ≡ None → takes_many (reading s) c ≡ false → AreApart (feature_changes (reading s) c)
+feature_changes-apart s (Create c) legal early late few = tt
+feature_changes-apart s (NewResource u) legal early late few = tt
+feature_changes-apart s (Delete o) legal early late few = absurd (false≢true (sym few))
+feature_changes-apart s (Set n f v) legal early late few =
     let r = reading s in
     let e = at_end n f in
-    elim (is_plain_set r e v) as (λ b. is_plain_set r e v ≡ b → AreApart ((if b then [] else before_gain r e v (if b then [] else cut_by_set r e v)) ++ telling e (Gains v) ∷ [])) [
-      | true ↦ λ _. one-apart (telling e (Gains v))
+    elim (is_plain_set r e v) as (λ b. is_plain_set r e v ≡ b → AreApart ((if b then [] else before_gain r e v (if b then [] else cut_by_set r e v)) ++ feature_change e (Gains v) ∷ [])) [
+      | true ↦ λ _. one-apart (feature_change e (Gains v))
       | false ↦ λ h. set-apart s n f v legal early late h
     ] refl
-tellings-apart s (Unset n f) legal early late few =
+feature_changes-apart s (Unset n f) legal early late few =
     let single = not-not (shape s.metamodel f).is_single few in
-    subst (λ (b : Bool). AreApart (far_losses (reading s) (cut_ties (reading s) (Unset n f)) ++ (if b then telling (at_end n f) Unsets ∷ [] else all_lost (at_end n f) (length ((reading s).values (at_end n f)))))) (sym single)
+    subst (λ (b : Bool). AreApart (far_losses (reading s) (cut_link_ends (reading s) (Unset n f)) ++ (if b then feature_change (at_end n f) Unsets ∷ [] else all_lost (at_end n f) (length ((reading s).values (at_end n f)))))) (sym single)
     (unset-apart s n f Unsets legal)
   where
     not-not : (b : Bool) → not b ≡ false → b ≡ true
     not-not true h = refl
     not-not false h = absurd (false≢true (sym h))
-tellings-apart s (Add n f v i) legal early late few =
+feature_changes-apart s (Add n f v i) legal early late few =
     let r = reading s in
     let e = at_end n f in
-    elim (is_repeat r e v) as (λ b. is_repeat r e v ≡ b → AreApart (if b then [] else before_gain r e v (if not (shape s.metamodel f).is_reference || b then [] else cut_by_new r e v) ++ telling e (gain_at i v) ∷ [])) [
+    elim (is_repeat r e v) as (λ b. is_repeat r e v ≡ b → AreApart (if b then [] else before_gain r e v (if not (shape s.metamodel f).is_reference || b then [] else cut_by_new r e v) ++ feature_change e (gain_at i v) ∷ [])) [
       | true ↦ λ _. tt
-      | false ↦ λ new. elim (shape s.metamodel f).is_reference as (λ b. (shape s.metamodel f).is_reference ≡ b → AreApart (before_gain r e v (if not b || false then [] else cut_by_new r e v) ++ telling e (gain_at i v) ∷ [])) [
+      | false ↦ λ new. elim (shape s.metamodel f).is_reference as (λ b. (shape s.metamodel f).is_reference ≡ b → AreApart (before_gain r e v (if not b || false then [] else cut_by_new r e v) ++ feature_change e (gain_at i v) ∷ [])) [
         | true ↦ λ reference. add-apart s n f v i legal early late (λ j. not (reference j) || new j)
         | false ↦ λ attribute. attribute-add s n f v (gain_at i v) attribute (add-taken r n f v i late).takes
       ] refl
     ] refl
-tellings-apart s (Remove n f i) legal early late few = taken-apart s n f i legal
-tellings-apart s (RemoveValue n f v) legal early late few =
+feature_changes-apart s (Remove n f i) legal early late few = taken-apart s n f i legal
+feature_changes-apart s (RemoveValue n f v) legal early late few =
     let r = reading s in
     let e = at_end n f in
-    elim (first_at r e v) as (λ q. AreApart (option_map_or (taken_out r e (if (shape s.metamodel f).is_reference then option_map_or (tie_in r e) q [] else [])) q [])) [
+    elim (first_at r e v) as (λ q. AreApart (option_map_or (taken_out r e (if (shape s.metamodel f).is_reference then option_map_or (link_end_in r e) q [] else [])) q [])) [
       | None ↦ tt
       | Some i ↦ taken-apart s n f i legal
     ]
-tellings-apart s (Move n f to from) legal early late few = one-apart (telling (at_end n f) (Moves to from))
-tellings-apart s (Load k doc) legal early late few = absurd (true≢false few)
-tellings-apart s ResolveAll legal early late few = absurd (true≢false few)
-tellings-apart s (Resolve o f i) legal early late few =
+feature_changes-apart s (Move n f to from) legal early late few = one-apart (feature_change (at_end n f) (Moves to from))
+feature_changes-apart s (Load k doc) legal early late few = absurd (true≢false few)
+feature_changes-apart s ResolveAll legal early late few = absurd (true≢false few)
+feature_changes-apart s (Resolve o f i) legal early late few =
     let e = at_end (node.Object o) f in
-    resolved-as s legal e i late (λ ts xs us u. AreApart us) (λ x is alone. one-apart (telling e (Resolves i (value.Object x.object))))
+    resolved-as s legal e i late (λ ts xs us u. AreApart us) (λ x is alone. one-apart (feature_change e (Resolves i (value.Object x.object))))
     (λ x is g opposite j text stands.
     let d = far_end x.object g in
     let apart : d ≡ e → ⊥ = λ same. true≢false (sym (same_end-self d) ∙ ap (same_end d) same ∙ match-apart (reading s) e x.object g legal.metamodel opposite) in
-    ((apart, tt), one-apart (telling e (Resolves i (value.Object x.object)))))
+    ((apart, tt), one-apart (feature_change e (Resolves i (value.Object x.object)))))
 
 ---------------------------------------------------------------- a list that is unset
 
@@ -452,7 +452,7 @@ lost-read m e x zero d many is low = refl
 lost-read m e x (suc n) d many is low =
     let a = shape m x.feature in
     let vs = (e x).values in
-    let t = telling x (LosesAt n) in
+    let t = feature_change x (LosesAt n) in
     let next : Ends = replayed_in (has_flag m) d (read_in m d t) in
     let below : n < length vs = omega (arith, low) in
     let left : (next x).values ≡ take n vs =
@@ -469,53 +469,53 @@ lost-read m e x (suc n) d many is low =
     list-set : (a : Shape) (h : Held) → a.is_single ≡ false → not (is_nil h.values) ≡ true → is_set a h ≡ true
     list-set a h many set = rw many set
 
-happened-away : (m : Metamodel) (e : Ends) (ts : List Telling) (x : End) → AllByRecursion (λ (t : Telling). t.at ≡ x → ⊥) ts → happened_all m e ts x ≡ e x
+happened-away : (m : Metamodel) (e : Ends) (ts : List FeatureChange) (x : End) → AllByRecursion (λ (t : FeatureChange). t.at ≡ x → ⊥) ts → happened_all m e ts x ≡ e x
 happened-away m e [] x away = refl
 happened-away m e (t ∷ ts) x away =
     happened-away m (happened m e t) ts x away.1
     ∙ with_held-other e t.at x (record { values = changed (shape m t.at.feature) t.does (e t.at).values; flag = flagged (shape m t.at.feature) t.does (e t.at).flag }) away.0
 
-pub told-append : (m : Metamodel) (e : Ends) (ts us : List Telling) → told m e (ts ++ us) ≡ told m e ts ++ told m (happened_all m e ts) us
+pub told-append : (m : Metamodel) (e : Ends) (ts us : List FeatureChange) → told m e (ts ++ us) ≡ told m e ts ++ told m (happened_all m e ts) us
 told-append m e [] us = refl
 told-append m e (t ∷ ts) us =
     let n = read_in m e t in
     let next : Ends = replayed_in (has_flag m) e n in
     ap (λ (ns : List Notice). n ∷ ns) (told-append m next ts us ∙ ap (λ (d : Ends). told m next ts ++ told m (happened_all m d ts) us) (replayed_all-told m e (t ∷ [])))
 
-map-append : (f : Telling → Notice) (ts us : List Telling) → map f (ts ++ us) ≡ map f ts ++ map f us
+map-append : (f : FeatureChange → Notice) (ts us : List FeatureChange) → map f (ts ++ us) ≡ map f ts ++ map f us
 map-append f [] us = refl
 map-append f (t ∷ ts) us = ap (λ (ns : List Notice). f t ∷ ns) (map-append f ts us)
 
-apart-front : (ts us : List Telling) → AreApart (ts ++ us) → AreApart ts
+apart-front : (ts us : List FeatureChange) → AreApart (ts ++ us) → AreApart ts
 apart-front [] us apart = tt
-apart-front (t ∷ ts) us apart = (all_front (λ (u : Telling). t.at ≡ u.at → ⊥) ts us apart.0, apart-front ts us apart.1)
+apart-front (t ∷ ts) us apart = (all_front (λ (u : FeatureChange). t.at ≡ u.at → ⊥) ts us apart.0, apart-front ts us apart.1)
 
-push-away : (ts : List Telling) (u : Telling) → AreApart (ts ++ u ∷ []) → AllByRecursion (λ (t : Telling). t.at ≡ u.at → ⊥) ts
+push-away : (ts : List FeatureChange) (u : FeatureChange) → AreApart (ts ++ u ∷ []) → AllByRecursion (λ (t : FeatureChange). t.at ≡ u.at → ⊥) ts
 push-away [] u apart = tt
 push-away (t ∷ ts) u apart = (last ts apart.0, push-away ts u apart.1)
   where
-    last : (xs : List Telling) → AllByRecursion (λ (w : Telling). t.at ≡ w.at → ⊥) (xs ++ u ∷ []) → t.at ≡ u.at → ⊥
+    last : (xs : List FeatureChange) → AllByRecursion (λ (w : FeatureChange). t.at ≡ w.at → ⊥) (xs ++ u ∷ []) → t.at ≡ u.at → ⊥
     last [] all = all.0
     last (x ∷ xs) all = last xs all.1
 
-unset-read : (s : Model) (n : Node) (f : FeatureNo) → IsLegal s → (shape s.metamodel f).is_single ≡ false → chain (reading s) (Unset n f) ≡ map (notice_at (reading s)) (tellings (reading s) (Unset n f))
+unset-read : (s : Model) (n : Node) (f : FeatureNo) → IsLegal s → (shape s.metamodel f).is_single ≡ false → chain (reading s) (Unset n f) ≡ map (notice_at (reading s)) (feature_changes (reading s) (Unset n f))
 unset-read s n f legal many =
     let m = s.metamodel in
     let r = reading s in
     let e = at_end n f in
     let h = held_at r in
-    let far = far_losses r (cut_ties r (Unset n f)) in
+    let far = far_losses r (cut_link_ends r (Unset n f)) in
     let own = all_lost e (length (r.values e)) in
     let apart = unset-apart s n f Unsets legal in
-    let away = push-away far (telling e Unsets) apart in
+    let away = push-away far (feature_change e Unsets) apart in
     let listed : (h e).values ≡ r.values e = ap (λ (b : Bool). shown b (r.values e)) many in
     let is : (happened_all m h far e).values ≡ take (length (r.values e)) (h e).values =
     ap (λ (k : Held). k.values) (happened-away m h far e away) ∙ listed ∙ sym (ap (take (length (r.values e))) listed ∙ take-all (r.values e)) in
     let whole : told m h (far ++ own) ≡ map (read_in m h) (far ++ own) =
     told-append m h far own
-    ∙ (λ i. told-apart m h far (apart-front far (telling e Unsets ∷ []) apart) i ++ lost-read m h e (length (r.values e)) (happened_all m h far) many is (within r e listed) i)
+    ∙ (λ i. told-apart m h far (apart-front far (feature_change e Unsets ∷ []) apart) i ++ lost-read m h e (length (r.values e)) (happened_all m h far) many is (within r e listed) i)
     ∙ sym (map-append (read_in m h) far own) in
-    subst (λ (b : Bool). told m h (far ++ (if b then telling e Unsets ∷ [] else own)) ≡ map (read_in m h) (far ++ (if b then telling e Unsets ∷ [] else own))) (sym many) whole
+    subst (λ (b : Bool). told m h (far ++ (if b then feature_change e Unsets ∷ [] else own)) ≡ map (read_in m h) (far ++ (if b then feature_change e Unsets ∷ [] else own))) (sym many) whole
   where
     within : (r : Reading) (e : End) → (held_at r e).values ≡ r.values e → length (r.values e) ≤ length (held_at r e).values
     within r e is = subst (λ (vs : List Value). length (r.values e) ≤ length vs) (sym is) (omega arith)
@@ -526,18 +526,18 @@ nothing-loaded (Load k doc) none = absurd (none k doc refl)
 nothing-loaded _ none = refl
 
 -- the chain of a change that destroys and loads nothing is the notices that are read in the model as it is
-pub chain-read : (s : Model) (c : Change) → resolves_all c ≡ false → IsLegal s → destroyed_by c ≡ None → loaded_by c ≡ None → early_refusal (reading s) c ≡ None → late_refusal (reading s) c ≡ None → chain (reading s) c ≡ map (notice_at (reading s)) (tellings (reading s) c)
+pub chain-read : (s : Model) (c : Change) → resolves_all c ≡ false → IsLegal s → destroyed_by c ≡ None → loaded_by c ≡ None → early_refusal (reading s) c ≡ None → late_refusal (reading s) c ≡ None → chain (reading s) c ≡ map (notice_at (reading s)) (feature_changes (reading s) c)
 chain-read s c one legal none unloaded early late =
-    elim (takes_many (reading s) c) as (λ b. takes_many (reading s) c ≡ b → chain (reading s) c ≡ map (notice_at (reading s)) (tellings (reading s) c)) [
+    elim (takes_many (reading s) c) as (λ b. takes_many (reading s) c ≡ b → chain (reading s) c ≡ map (notice_at (reading s)) (feature_changes (reading s) c)) [
       | true ↦ λ many. by c one none unloaded many
-      | false ↦ λ few. told-apart s.metamodel (held_at (reading s)) (tellings (reading s) c) (tellings-apart s c legal early late few)
+      | false ↦ λ few. told-apart s.metamodel (held_at (reading s)) (feature_changes (reading s) c) (feature_changes-apart s c legal early late few)
     ] refl
   where
     not-true : (b : Bool) → not b ≡ true → b ≡ false
     not-true true h = absurd (false≢true h)
     not-true false h = refl
 
-    by : (c : Change) → resolves_all c ≡ false → destroyed_by c ≡ None → loaded_by c ≡ None → takes_many (reading s) c ≡ true → chain (reading s) c ≡ map (notice_at (reading s)) (tellings (reading s) c)
+    by : (c : Change) → resolves_all c ≡ false → destroyed_by c ≡ None → loaded_by c ≡ None → takes_many (reading s) c ≡ true → chain (reading s) c ≡ map (notice_at (reading s)) (feature_changes (reading s) c)
     by ResolveAll one none unloaded many = absurd (true≢false one)
     by (Load k doc) one none unloaded many = absurd (none-some doc (sym unloaded))
     by (Delete o) one none unloaded many = absurd (none-some o (sym none))
@@ -547,7 +547,7 @@ chain-read s c one legal none unloaded early late =
 ---------------------------------------------------------------- tellings that are made
 
 -- the notices of the tellings that are made are the chain
-pub made-chain : (s : Model) (c : Change) (cut : List Tie) (ts : List Telling) → resolves_all c ≡ false → IsLegal s → destroyed_by c ≡ None → loaded_by c ≡ None → early_refusal (reading s) c ≡ None → late_refusal (reading s) c ≡ None → cut ≡ cut_ties (reading s) c → ts ≡ tellings_with (reading s) c cut
+pub made-chain : (s : Model) (c : Change) (cut : List LinkEnd) (ts : List FeatureChange) → resolves_all c ≡ false → IsLegal s → destroyed_by c ≡ None → loaded_by c ≡ None → early_refusal (reading s) c ≡ None → late_refusal (reading s) c ≡ None → cut ≡ cut_link_ends (reading s) c → ts ≡ feature_changes_with (reading s) c cut
     → (heard : Bool) → heard ≡ true → map (notice_at (reading s)) ts ≡ (if heard then chain (reading s) c else [])
 made-chain s c cut ts one legal none unloaded early late is_cut made heard is =
-    ap (map (notice_at (reading s))) (made ∙ ap (tellings_with (reading s) c) is_cut) ∙ sym (chain-read s c one legal none unloaded early late) ∙ ap (λ (b : Bool). if b then chain (reading s) c else []) (sym is)
+    ap (map (notice_at (reading s))) (made ∙ ap (feature_changes_with (reading s) c) is_cut) ∙ sym (chain-read s c one legal none unloaded early late) ∙ ap (λ (b : Bool). if b then chain (reading s) c else []) (sym is)

@@ -23,11 +23,11 @@ use Rattle.models.specs.Model.{Model, attribute_values, reading}
 use Rattle.models.specs.Reading.{at_end, held_at}
 use Rattle.handshake.specs.Effects.{after}
 use Rattle.handshake.specs.declared.change.Change.TheVariants.{Create}
-use Rattle.handshake.specs.declared.happening.Telling.{Telling}
+use Rattle.handshake.specs.declared.change_kind.FeatureChange.{FeatureChange}
 use Rattle.handshake.proofs.HappenedLemmas.{at-own, happened_at}
 
 -- what tellings do is what is between two models
-abbrev pub Replays : Model → List Telling → Model → Type 0
+abbrev pub Replays : Model → List FeatureChange → Model → Type 0
 Replays s ts t = (d : End) → happened_at s.metamodel ts d (held_at (reading s) d) ≡ held_at (reading t) d
 
 ---------------------------------------------------------------- what an object stores, if there is one
@@ -111,7 +111,7 @@ held_at-put s o f h (node.Object p) g live =
 held_at-put s o f h (node.Resource k) g live = refl
 
 -- what happens at an attribute is what is put
-pub put-replays : (s : Model) (o : ObjectNo) (f : FeatureNo) (own : List Telling) (h : Stored) → IsTrue (is_some ((reading s).class o)) → AllByRecursion (λ (t : Telling). t.at ≡ at_end (node.Object o) f) own
+pub put-replays : (s : Model) (o : ObjectNo) (f : FeatureNo) (own : List FeatureChange) (h : Stored) → IsTrue (is_some ((reading s).class o)) → AllByRecursion (λ (t : FeatureChange). t.at ≡ at_end (node.Object o) f) own
     → ((vs : List Value) → happened_at s.metamodel own (at_end (node.Object o) f) (held_at (reading s) (at_end (node.Object o) f)) ≡ held_of (shape s.metamodel f) vs h) → Replays s own (with_put s o f h)
 put-replays s o f own h live here does d =
     let m = s.metamodel in

@@ -27,19 +27,19 @@ use Rattle.links.specs.Plans.{Has}
 use Rattle.models.specs.Legal.{IsLegal, kinds_of}
 use Rattle.models.specs.Model.{Model, kept_flag, reading}
 use Rattle.models.specs.Reading.{held_at}
-use Rattle.handshake.proofs.CutTieLemmas.{once-of_different, same_end-symmetric, values-linked}
+use Rattle.handshake.proofs.CutLinkEndLemmas.{once-of_different, same_end-symmetric, values-linked}
 use Rattle.removal.specs.Laws.{names_of}
 use Rattle.handshake.proofs.HappenedLemmas.{done, done-other, done_at, happened_at, happened_at-append}
 use Rattle.handshake.proofs.KnownLemmas.{kinds-are}
-use Rattle.handshake.proofs.TieNameLemmas.{open-of}
+use Rattle.handshake.proofs.LinkEndNameLemmas.{open-of}
 use Rattle.handshake.specs.Displaced.{other_side}
-use Rattle.removal.specs.TreeTies.{tie}
+use Rattle.removal.specs.TreeLinkEnds.{link_end}
 use Rattle.handshake.specs.Laws.{AreDifferent}
-use Rattle.handshake.specs.Telling.{without}
-use Rattle.handshake.specs.Tellings.{loss, losses}
-use Rattle.handshake.specs.declared.happening.Happening.TheVariants.{Loses}
-use Rattle.handshake.specs.declared.happening.Telling.{Telling}
-use Rattle.removal.specs.declared.tie.Tie.{Tie}
+use Rattle.handshake.specs.FeatureChange.{without}
+use Rattle.handshake.specs.FeatureChanges.{loss, losses}
+use Rattle.handshake.specs.declared.change_kind.ChangeKind.TheVariants.{Loses}
+use Rattle.handshake.specs.declared.change_kind.FeatureChange.{FeatureChange}
+use Rattle.removal.specs.declared.link_end.LinkEnd.{LinkEnd}
 use Rattle.handshake.proofs.CutEndLemmas.{reference-flag, reference-plain, same-held}
 
 ---------------------------------------------------------------- lists
@@ -88,7 +88,7 @@ all-left s legal =
       set = legal.links.set;
       kinds = legal.links.kinds;
       one = λ d single. by d single (shape s.metamodel d.feature).is_reference refl;
-      refers = λ d v has. (open-of s legal (tie d v) has).reference;
+      refers = λ d v has. (open-of s legal (link_end d v) has).reference;
     }
   where
     by : (d : End) → (shape s.metamodel d.feature).is_single ≡ true → (b : Bool) → (shape s.metamodel d.feature).is_reference ≡ b → length (end s.links d) ≤ 1
@@ -101,7 +101,7 @@ all-left s legal =
         at-most (Some v) = omega arith
     by d single false attribute = elim (end s.links d) as (λ vs. end s.links d ≡ vs → length vs ≤ 1) [
       | [] ↦ λ _. omega arith
-      | v ∷ vs ↦ λ is. absurd (false≢true (sym attribute ∙ (open-of s legal (tie d v) (0, ap (λ (ws : List Value). slice_get ws 0) is)).reference))
+      | v ∷ vs ↦ λ is. absurd (false≢true (sym attribute ∙ (open-of s legal (link_end d v) (0, ap (λ (ws : List Value). slice_get ws 0) is)).reference))
     ] refl
 
 module _ (s : Model) (legal : IsLegal s) where
@@ -186,11 +186,11 @@ module _ (s : Model) (legal : IsLegal s) where
         let same = other-gives d other ∙ filter_all (names_far e v (shape s.metamodel e.feature).opposite d) (end l d) (λ k w at. none w) in
         same-held s l cut d (sym same)
 
-    abbrev At : List Telling → End → Type 0
+    abbrev At : List FeatureChange → End → Type 0
     At ts d = happened_at s.metamodel ts d (held_in s l d) ≡ held_in s cut d
 
-    abbrev t : Tie
-    t = tie e v
+    abbrev t : LinkEnd
+    t = link_end e v
 
     near-loss : done (shape s.metamodel e.feature) (Loses v) (held_in s l e) ≡ held_in s cut e
     near-loss = loss-held l cut e v left has near-gives
@@ -211,8 +211,8 @@ module _ (s : Model) (legal : IsLegal s) where
       abbrev far : End
       far = far_end o g
 
-      abbrev u : Tie
-      u = tie far (node_value e.node)
+      abbrev u : LinkEnd
+      u = link_end far (node_value e.node)
 
       named : (d : End) (w : Value) → names_far e v (shape s.metamodel e.feature).opposite d w ≡ (same_end far d && same_value (node_value e.node) w)
       named d w = λ i. names_far e (is i) (opposite i) d w
@@ -258,7 +258,7 @@ module _ (s : Model) (legal : IsLegal s) where
     losses-by : (x : Value) (q : Option FeatureNo) → v ≡ x → (shape s.metamodel e.feature).opposite ≡ q → (d : End)
         → At (option_map_or (λ u. if is_containment s.metamodel u.end.feature then loss u ∷ loss t ∷ [] else loss t ∷ loss u ∷ []) (other_side e.node x q) (loss t ∷ [])) d
     losses-by (value.Object o) (Some g) is opposite d =
-        elim (is_containment s.metamodel g) as (λ b. At (if b then loss (tie (far_end o g) (node_value e.node)) ∷ loss t ∷ [] else loss t ∷ loss (tie (far_end o g) (node_value e.node)) ∷ []) d) [
+        elim (is_containment s.metamodel g) as (λ b. At (if b then loss (link_end (far_end o g) (node_value e.node)) ∷ loss t ∷ [] else loss t ∷ loss (link_end (far_end o g) (node_value e.node)) ∷ []) d) [
           | true ↦ far-first o g is opposite d
           | false ↦ near-first o g is opposite d
         ]
@@ -271,12 +271,12 @@ module _ (s : Model) (legal : IsLegal s) where
   ---------------------------------------------------------------- several cuts
 
   -- the losses of links that are there, each once, give what is held without them
-  losses-left : (l : Links) (ts : List Tie) → AreLeft s l → AreThere l (names_of ts) → AreOnce m (names_of ts) → (d : End) → happened_at s.metamodel (flat_map (losses (reading s)) ts) d (held_in s l d) ≡ held_in s (without_all l (names_of ts)) d
+  losses-left : (l : Links) (ts : List LinkEnd) → AreLeft s l → AreThere l (names_of ts) → AreOnce m (names_of ts) → (d : End) → happened_at s.metamodel (flat_map (losses (reading s)) ts) d (held_in s l d) ≡ held_in s (without_all l (names_of ts)) d
   losses-left l [] left there once d = refl
   losses-left l (t ∷ ts) left there once d =
       happened_at-append s.metamodel (losses (reading s) t) (flat_map (losses (reading s)) ts) d (held_in s l d)
       ∙ ap (happened_at s.metamodel (flat_map (losses (reading s)) ts) d) (losses-held l t.end t.value left there.0 d)
       ∙ losses-left (cut_value l t.end t.value) ts (left-cut l t.end t.value left) (there_after m ok l left.set left.kinds (t.end, t.value) (names_of ts) once.0 there.1) once.1 d
 
-  pub losses-cut : (ts : List Tie) → AreThere s.links (names_of ts) → AreDifferent (reading s) ts → (d : End) → happened_at s.metamodel (flat_map (losses (reading s)) ts) d (held_at (reading s) d) ≡ held_in s (without_all s.links (names_of ts)) d
+  pub losses-cut : (ts : List LinkEnd) → AreThere s.links (names_of ts) → AreDifferent (reading s) ts → (d : End) → happened_at s.metamodel (flat_map (losses (reading s)) ts) d (held_at (reading s) d) ≡ held_in s (without_all s.links (names_of ts)) d
   losses-cut ts there different d = losses-left s.links ts (all-left s legal) there (once-of_different (reading s) ts different) d

@@ -43,15 +43,15 @@ use Rattle.removal.specs.declared.gone.Removal.{Removal}
 use Rattle.handshake.specs.Effects.{after}
 use Rattle.handshake.specs.Refusals.{early_refusal}
 use Rattle.handshake.specs.Reports.{lost_notice}
-use Rattle.handshake.specs.Telling.{happened_all, notice, notice_of, told, without}
-use Rattle.handshake.specs.Tellings.{chain, destroyed, destroyed_by, lost_with}
+use Rattle.handshake.specs.FeatureChange.{happened_all, notice, notice_of, told, without}
+use Rattle.handshake.specs.FeatureChanges.{chain, destroyed, destroyed_by, lost_with}
 use Rattle.handshake.specs.declared.change.Change.{Change}
 use Rattle.handshake.specs.declared.change.Change.TheVariants.{Delete}
-use Rattle.handshake.specs.declared.happening.Happening.TheVariants.{Loses}
-use Rattle.handshake.specs.declared.happening.Telling.{Telling}
+use Rattle.handshake.specs.declared.change_kind.ChangeKind.TheVariants.{Loses}
+use Rattle.handshake.specs.declared.change_kind.FeatureChange.{FeatureChange}
 use Rattle.handshake.proofs.ApartLemmas.{told-append}
 use Rattle.handshake.proofs.CutEndLemmas.{reference-flag, reference-plain}
-use Rattle.handshake.proofs.CutTieLemmas.{held_stands, same_end-symmetric, same_value-symmetric, values-linked}
+use Rattle.handshake.proofs.CutLinkEndLemmas.{held_stands, same_end-symmetric, same_value-symmetric, values-linked}
 use Rattle.handshake.proofs.HappenedLemmas.{done, happened_all-at, happened_at, happened_at-append}
 use Rattle.handshake.proofs.KnownLemmas.{delete-named}
 use Rattle.handshake.proofs.LegalLemmas.{left-object}
@@ -281,7 +281,7 @@ module _ (s : Model) (legal : IsLegal s) (o : ObjectNo) (live : is_live (reading
 
   ---------------------------------------------------------------- the chain
 
-  abbrev last : Option End → List Telling
+  abbrev last : Option End → List FeatureChange
   last q = map (λ (d : End). loses d root) (option_to_list q)
 
   pub destroyed-chain : chain r (Delete o) ≡ map (lost_notice r) (losses r o)

@@ -9,15 +9,15 @@ use Rattle.notice_chain.specs.declared.notice.Notice.{Notice}
 use Rattle.models.specs.Legal.{IsLegal}
 use Rattle.models.specs.Model.{Model, reading}
 use Rattle.models.specs.Reading.{Reading, held_at}
-use Rattle.handshake.specs.Effects.{after, joined, with_resolution, without_ties}
+use Rattle.handshake.specs.Effects.{after, joined, with_resolution, without_link_ends}
 use Rattle.handshake.specs.OneByOne.{ResolvesEach, after_each, count_of_each, is_refused, resolve, told_by_each}
-use Rattle.handshake.specs.Proxies.{end_of, places}
+use Rattle.handshake.specs.Proxies.{end_of, sites}
 use Rattle.handshake.specs.Refusals.{early_refusal, resolve_refusal}
 use Rattle.handshake.specs.Resolving.{target_at}
 use Rattle.handshake.specs.ResolvingAll.{Resolution, resolutions, resolved_to, with_resolved}
-use Rattle.handshake.specs.Telling.{happened_all, told}
-use Rattle.handshake.specs.Tellings.{chain, resolution_told, resolved}
-use Rattle.handshake.specs.declared.place.Place.{Place}
+use Rattle.handshake.specs.FeatureChange.{happened_all, told}
+use Rattle.handshake.specs.FeatureChanges.{chain, resolution_told, resolved}
+use Rattle.handshake.specs.declared.site.ProxySite.{ProxySite}
 use Rattle.handshake.specs.declared.target.Target.{Target}
 use Rattle.handshake.proofs.ApartLemmas.{told-append}
 use Rattle.handshake.proofs.HappenedLemmas.{happened_all-at}
@@ -26,7 +26,7 @@ use Rattle.handshake.proofs.ResolveAllLemmas.{all-lead, cut, early, one-resolved
 use Rattle.handshake.proofs.ResolvedReadingLemmas.{with_links}
 
 -- what is not resolved is refused
-refused-late : (r : Reading) (p : Place) → resolved_to r p ≡ None → is_some (resolve_refusal r (end_of p) p.index) ≡ true
+refused-late : (r : Reading) (p : ProxySite) → resolved_to r p ≡ None → is_some (resolve_refusal r (end_of p) p.index) ≡ true
 refused-late r p none = by (resolve_refusal r (end_of p) p.index) refl none
   where
     by : (q : Option Refused) → resolve_refusal r (end_of p) p.index ≡ q → (if is_some q then None else target_at r (end_of p) p.index) ≡ None → is_some q ≡ true
@@ -37,7 +37,7 @@ refused-so : (a b : Option Refused) → is_some b ≡ true → is_some (a else_b
 refused-so None b h = h
 refused-so (Some x) b h = refl
 
-module _ (s : Model) (legal : IsLegal s) (p : Place) (x : Target) (is : resolved_to (reading s) p ≡ Some x) where
+module _ (s : Model) (legal : IsLegal s) (p : ProxySite) (x : Target) (is : resolved_to (reading s) p ≡ Some x) where
   abbrev r : Reading
   r = reading s
 
@@ -49,28 +49,28 @@ module _ (s : Model) (legal : IsLegal s) (p : Place) (x : Target) (is : resolved
       let of = resolved-to r p x is in
       λ i. is_some (early s legal p x of.late of.found i else_by of.late i)
 
-  after-one : after s (resolve p) ≡ with_links s (with_resolution s.links (record { reads = reading s; place = p; target = x }))
+  after-one : after s (resolve p) ≡ with_links s (with_resolution s.links (record { reads = reading s; site = p; target = x }))
   after-one =
       let of = resolved-to r p x is in
       let reference = (resolvable r e p.index of.late).resolvable.reference in
-      λ i. with_links s (let t = without_ties s.links (cut r p (reference i) (of.found i)) in option_map_or (joined t r e p.index) (of.found i) t)
+      λ i. with_links s (let t = without_link_ends s.links (cut r p (reference i) (of.found i)) in option_map_or (joined t r e p.index) (of.found i) t)
 
-  chain-one : told s.metamodel (held_at r) (resolution_told (record { reads = reading s; place = p; target = x })) ≡ chain r (resolve p)
+  chain-one : told s.metamodel (held_at r) (resolution_told (record { reads = reading s; site = p; target = x })) ≡ chain r (resolve p)
   chain-one = let of = resolved-to r p x is in sym (ap (λ (q : Option Target). told s.metamodel (held_at r) (option_map_or (resolved e p.index) q [])) of.found)
 
 -- what all places make is what each in turn makes
-record IsEach (s : Model) (ps : List Place) (xs : List Resolution) : Type 0 where
+record IsEach (s : Model) (ps : List ProxySite) (xs : List Resolution) : Type 0 where
   pub leaves : with_links s (fold with_resolution s.links xs) ≡ after_each s ps
   pub tells : told s.metamodel (held_at (reading s)) (flat_map resolution_told xs) ≡ told_by_each s ps
   pub counts : length xs ≡ count_of_each s ps
 
-all-each : (ps : List Place) (s : Model) → IsLegal s → IsEach s ps (resolutions (reading s) ps)
+all-each : (ps : List ProxySite) (s : Model) → IsLegal s → IsEach s ps (resolutions (reading s) ps)
 all-each [] s legal = record { leaves = refl; tells = refl; counts = refl }
 all-each (p ∷ ps) s legal =
     let r = reading s in
     let m = s.metamodel in
     let c = resolve p in
-    let ys : Option Target → List Resolution = λ q. option_map_or (λ x. record { reads = r; place = p; target = x } ∷ resolutions (with_resolved r p x) ps) q (resolutions r ps) in
+    let ys : Option Target → List Resolution = λ q. option_map_or (λ x. record { reads = r; site = p; target = x } ∷ resolutions (with_resolved r p x) ps) q (resolutions r ps) in
     elim (resolved_to r p) as (λ q. resolved_to r p ≡ q → IsEach s (p ∷ ps) (ys q)) [
       | None ↦ λ none.
           let refused = refused-so (early_refusal r c) _ (refused-late r p none) in
@@ -82,7 +82,7 @@ all-each (p ∷ ps) s legal =
           }
       | Some x ↦ λ is.
           let of = resolved-to r p x is in
-          let y : Resolution = record { reads = r; place = p; target = x } in
+          let y : Resolution = record { reads = r; site = p; target = x } in
           let one = one-resolved s legal p x of.late of.found in
           let t = with_links s (with_resolution s.links y) in
           let rest = subst (λ (z : Reading). IsEach t ps (resolutions z ps)) one.reads (all-each ps t one.legal) in
@@ -106,7 +106,7 @@ all-each (p ∷ ps) s legal =
 
 pub resolves-each : (s : Model) → IsLegal s → ResolvesEach s
 resolves-each s legal =
-    let ps = places (reading s) in
+    let ps = sites (reading s) in
     let each = all-each ps s legal in
     let on = all-lead ps s legal in
-    record { leaves = each.leaves; tells = each.tells; counts = each.counts; rest = sym (ap (λ (z : Reading). length (places z)) on.reads) }
+    record { leaves = each.leaves; tells = each.tells; counts = each.counts; rest = sym (ap (λ (z : Reading). length (sites z)) on.reads) }

@@ -30,7 +30,7 @@ use Rattle.fragment_paths.specs.Finding.{at, feature_of, find, stepped, walked}
 use Rattle.handshake.specs.Proxies.{end_of}
 use Rattle.handshake.specs.Resolving.{leads_to}
 use Rattle.handshake.specs.ResolvingAll.{replaced, resolved_to, values_left, values_with, with_resolved}
-use Rattle.handshake.specs.declared.place.Place.{Place}
+use Rattle.handshake.specs.declared.site.ProxySite.{ProxySite}
 use Rattle.handshake.specs.declared.target.Counterpart.{Counterpart}
 use Rattle.handshake.specs.declared.target.Target.{Target}
 use Rattle.handshake.proofs.ResolveAllLemmas.{one-resolved, resolved-to}
@@ -148,7 +148,7 @@ leads-at r o t h = by (at r t) refl h
         object_in (node.Object o) = Some o
         object_in (node.Resource k) = None
 
-module _ (s : Model) (legal : IsLegal s) (p : Place) (x : Target) (is : resolved_to (reading s) p ≡ Some x) where
+module _ (s : Model) (legal : IsLegal s) (p : ProxySite) (x : Target) (is : resolved_to (reading s) p ≡ Some x) where
   abbrev r : Reading
   r = reading s
 
@@ -185,7 +185,7 @@ module _ (s : Model) (legal : IsLegal s) (p : Place) (x : Target) (is : resolved
       record { long = long-with x.counterpart; contains = contains-with s legal p.object p.feature p.index to.late x to.found; each = each-with x.counterpart refl }
 
 -- so does what all resolved proxies leave
-pub all-follow : (ps : List Place) (s : Model) → IsLegal s → Follows (reading s) (values_left (reading s) ps)
+pub all-follow : (ps : List ProxySite) (s : Model) → IsLegal s → Follows (reading s) (values_left (reading s) ps)
 all-follow [] s legal = follows-itself (reading s)
 all-follow (p ∷ ps) s legal =
     let r = reading s in
@@ -195,7 +195,7 @@ all-follow (p ∷ ps) s legal =
       | Some x ↦ λ is.
           let of = resolved-to r p x is in
           let one = one-resolved s legal p x of.late of.found in
-          let t = with_links s (with_resolution s.links (record { reads = r; place = p; target = x })) in
+          let t = with_links s (with_resolution s.links (record { reads = r; site = p; target = x })) in
           follows-on r (values_with r (end_of p) p.index x) (values_left (with_resolved r p x) ps) (one-follows s legal p x is)
           (subst (λ (z : Reading). Follows z (values_left z ps)) one.reads (all-follow ps t one.legal))
     ] refl

@@ -21,7 +21,7 @@ use Rattle.models.specs.Reading.{at_end}
 use Rattle.handshake.specs.Keys.{key, key_of, same_key}
 use Rattle.handshake.specs.Proxies.{end_of}
 use Rattle.handshake.specs.ResolvingAll.{replaced}
-use Rattle.handshake.specs.declared.place.Place.{Place}
+use Rattle.handshake.specs.declared.site.ProxySite.{ProxySite}
 use Rattle.handshake.proofs.FollowLemmas.{get-set}
 
 eq-self : (n : ℕ) → nat_eq n n ≡ true
@@ -36,12 +36,12 @@ eq-is m n h = grind (arith, nat_tests)
 and-from : (a b c : Bool) → a ≡ true → b ≡ true → c ≡ true → (a && (b && c)) ≡ true
 and-from a b c x y z = λ i. x i && (y i && z i)
 
--- the same place has the same key
-pub key-self : (p : Place) → same_key (key_of p) (key_of p) ≡ true
+-- the same position has the same key
+pub key-self : (p : ProxySite) → same_key (key_of p) (key_of p) ≡ true
 key-self p = and-from _ _ _ (eq-self p.object.0) (eq-self p.feature.0) (eq-self p.index)
 
-place-is : (p q : Place) → same_key (key_of p) (key_of q) ≡ true → p ≡ q
-place-is p q h =
+site-is : (p q : ProxySite) → same_key (key_of p) (key_of q) ≡ true → p ≡ q
+site-is p q h =
     let one = and_parts (nat_eq p.object.0 q.object.0) _ h in
     let two = and_parts (nat_eq p.feature.0 q.feature.0) _ one.1 in
     let object = eq-is p.object.0 q.object.0 one.0 in
@@ -50,23 +50,23 @@ place-is p q h =
     λ i. record { object = record { 0 = object i }; feature = record { 0 = feature i }; index = index i }
 
 -- places of one end that have one index have one key
-key-from : (p q : Place) → same_end (end_of q) (end_of p) ≡ true → p.index ≡ q.index → same_key (key_of p) (key_of q) ≡ true
+key-from : (p q : ProxySite) → same_end (end_of q) (end_of p) ≡ true → p.index ≡ q.index → same_key (key_of p) (key_of q) ≡ true
 key-from p q same index =
     let both = and_parts (nat_eq q.object.0 p.object.0) _ same in
     and-from _ _ _ (eq-swap q.object.0 p.object.0 both.0) (eq-swap q.feature.0 p.feature.0 both.1) (ap (λ (n : ℕ). nat_eq n q.index) index ∙ eq-self q.index)
 
 ---------------------------------------------------------------- proxies
 
--- a proxy stands at a place
-abbrev pub is_proxy_in : (End → List Value) → Place → Bool
+-- a proxy stands at a position
+abbrev pub is_proxy_in : (End → List Value) → ProxySite → Bool
 is_proxy_in ends p = is_some (option_and_then text_of (slice_get (ends (end_of p)) p.index))
 
-module _ (ends : End → List Value) (q : Place) (o : ObjectNo) (t : List ℕ) (there : slice_get (ends (end_of q)) q.index ≡ Some (value.Proxy t)) where
+module _ (ends : End → List Value) (q : ProxySite) (o : ObjectNo) (t : List ℕ) (there : slice_get (ends (end_of q)) q.index ≡ Some (value.Proxy t)) where
   abbrev after : End → List Value
   after = replaced ends (end_of q) q.index (value.Object o)
 
-  at-place : slice_get (slice_set (ends (end_of q)) q.index (value.Object o)) q.index ≡ Some (value.Object o)
-  at-place = set-here (ends (end_of q)) q.index there
+  at-site : slice_get (slice_set (ends (end_of q)) q.index (value.Object o)) q.index ≡ Some (value.Object o)
+  at-site = set-here (ends (end_of q)) q.index there
     where
       set-here : (vs : List Value) (i : ℕ) → slice_get vs i ≡ Some (value.Proxy t) → slice_get (slice_set vs i (value.Object o)) i ≡ Some (value.Object o)
       set-here [] i at = absurd (none-some (value.Proxy t) at)
@@ -79,9 +79,9 @@ module _ (ends : End → List Value) (q : Place) (o : ObjectNo) (t : List ℕ) (
   gone-here : is_proxy_in (replaced ends (end_of q) q.index (value.Object o)) q ≡ false
   gone-here =
       ap (λ (b : Bool). is_some (option_and_then text_of (slice_get (if b then slice_set (ends (end_of q)) q.index (value.Object o) else ends (end_of q)) q.index))) end-self
-      ∙ ap (λ (x : Option Value). is_some (option_and_then text_of x)) at-place
+      ∙ ap (λ (x : Option Value). is_some (option_and_then text_of x)) at-site
 
-  still-there : (p : Place) → same_key (key_of p) (key_of q) ≡ false → slice_get (replaced ends (end_of q) q.index (value.Object o) (end_of p)) p.index ≡ slice_get (ends (end_of p)) p.index
+  still-there : (p : ProxySite) → same_key (key_of p) (key_of q) ≡ false → slice_get (replaced ends (end_of q) q.index (value.Object o) (end_of p)) p.index ≡ slice_get (ends (end_of p)) p.index
   still-there p other =
       elim (same_end (end_of q) (end_of p)) as (λ b. same_end (end_of q) (end_of p) ≡ b → slice_get (if b then slice_set (ends (end_of p)) q.index (value.Object o) else ends (end_of p)) p.index ≡ slice_get (ends (end_of p)) p.index) [
         | true ↦ λ same.
@@ -94,10 +94,10 @@ module _ (ends : End → List Value) (q : Place) (o : ObjectNo) (t : List ℕ) (
       ] refl
 
   -- the proxies that stood there still do, but the one
-  pub proxy-replaced : (p : Place) → is_proxy_in (replaced ends (end_of q) q.index (value.Object o)) p ≡ (is_proxy_in ends p && not (same_key (key_of p) (key_of q)))
+  pub proxy-replaced : (p : ProxySite) → is_proxy_in (replaced ends (end_of q) q.index (value.Object o)) p ≡ (is_proxy_in ends p && not (same_key (key_of p) (key_of q)))
   proxy-replaced p =
       elim (same_key (key_of p) (key_of q)) as (λ b. same_key (key_of p) (key_of q) ≡ b → is_proxy_in (replaced ends (end_of q) q.index (value.Object o)) p ≡ (is_proxy_in ends p && not b)) [
-        | true ↦ λ same. subst (λ (y : Place). is_proxy_in after y ≡ (is_proxy_in ends y && false)) (sym (place-is p q same)) (gone-here ∙ sym (and-false (is_proxy_in ends q)))
+        | true ↦ λ same. subst (λ (y : ProxySite). is_proxy_in after y ≡ (is_proxy_in ends y && false)) (sym (site-is p q same)) (gone-here ∙ sym (and-false (is_proxy_in ends q)))
         | false ↦ λ other. ap (λ (x : Option Value). is_some (option_and_then text_of x)) (still-there p other) ∙ sym (and-true (is_proxy_in ends p))
       ] refl
     where
@@ -129,7 +129,7 @@ has-set (v ∷ vs) (suc i) w b t at = ap (λ (c : Bool). same_value (value.Objec
     group false y z = refl
 
 -- the objects that stood at an end still do, and the one
-pub has-replaced : (ends : End → List Value) (q : Place) (w : ObjectNo) (t : List ℕ) → slice_get (ends (end_of q)) q.index ≡ Some (value.Proxy t) → (o : ObjectNo) (f : FeatureNo) (b : ObjectNo)
+pub has-replaced : (ends : End → List Value) (q : ProxySite) (w : ObjectNo) (t : List ℕ) → slice_get (ends (end_of q)) q.index ≡ Some (value.Proxy t) → (o : ObjectNo) (f : FeatureNo) (b : ObjectNo)
     → has_value (replaced ends (end_of q) q.index (value.Object w) (at_end (node.Object o) f)) (value.Object b) ≡ (has_value (ends (at_end (node.Object o) f)) (value.Object b) || same_key (key o f b.0) (key q.object q.feature w.0))
 has-replaced ends q w t there o f b =
     let d = at_end (node.Object o) f in

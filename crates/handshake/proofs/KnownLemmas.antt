@@ -26,7 +26,7 @@ use Rattle.mm_types.specs.declared.value.Value.TheVariants as value
 use Rattle.links.specs.LegalSets.{AreKinds}
 use Rattle.web_uris.specs.Addresses.{uri_part}
 use Rattle.models.specs.Legal.{is_short, kinds_of, is_short_text}
-use Rattle.models.specs.Reading.{Reading, at_end, has_feature, is_live, is_node_live, is_repeat, is_value_live, place_for, takes, has_uri}
+use Rattle.models.specs.Reading.{Reading, at_end, has_feature, is_live, is_node_live, is_repeat, is_value_live, position_for, takes, has_uri}
 use Rattle.containment.proofs.PartLemmas.{object-reference}
 use Rattle.handshake.specs.Named.{feature_refusal, many_refusal, node_refusal, single_refusal, value_refusal}
 use Rattle.handshake.specs.Refusals.{add_refusal, early_refusal, gain_refusal, is_at_limit, is_full_at, is_mistyped, is_recursive, is_there_already, late_refusal, link_refusal, of_either, resolve_refusal, set_refusal, target_refusal, type_refusal, uri_refusal}
@@ -166,7 +166,7 @@ resolve-named r o f i h = feature-named r (node.Object o) f h
 
 ---------------------------------------------------------------- late refusals
 
--- a proxy stands at the index, and an object of the reference's type, which is not in the list, may take its place
+-- a proxy stands at the index, and an object of the reference's type, which is not in the list, may take its position
 pub record IsResolvable (r : Reading) (e : End) (i : ℕ) (x : Target) : Type 0 where
   pub reference : (shape r.metamodel e.feature).is_reference ≡ true
   pub low : nat_lt i (length (r.values e)) ≡ true
@@ -253,11 +253,11 @@ set-taken r n f v h =
     let typed = typed-of r f v both.0 in
     record { takes = typed.takes; short = typed.short; allowed = both.1 }
 
--- an addition that nothing refuses: besides, the place is one of the list or the one behind the last
+-- an addition that nothing refuses: besides, the position is one of the list or the one behind the last
 pub record IsAdded (r : Reading) (n : Node) (f : FeatureNo) (v : Value) (i : Option ℕ) : Type 0 where
   pub takes : takes r f v ≡ true
   pub short : is_short v ≡ true
-  pub placed : nat_le (place_for r (at_end n f) i) (length (r.values (at_end n f))) ≡ true
+  pub placed : nat_le (position_for r (at_end n f) i) (length (r.values (at_end n f))) ≡ true
   pub allowed : add_refusal r (at_end n f) v i ≡ None
 
 pub add-taken : (r : Reading) (n : Node) (f : FeatureNo) (v : Value) (i : Option ℕ) → late_refusal r (Add n f v i) ≡ None → IsAdded r n f v i
@@ -265,7 +265,7 @@ add-taken r n f v i h =
     let e = at_end n f in
     let both = none-else_by (type_refusal r f v) _ h in
     let typed = typed-of r f v both.0 in
-    let rest = none-else_by (Index unless nat_le (place_for r e i) (length (r.values e))) (add_refusal r e v i) both.1 in
+    let rest = none-else_by (Index unless nat_le (position_for r e i) (length (r.values e))) (add_refusal r e v i) both.1 in
     record { takes = typed.takes; short = typed.short; placed = none-unless Index _ rest.0; allowed = rest.1 }
 
 -- what an addition of a value that is no repeat asks of its end

@@ -26,19 +26,19 @@ use Rattle.containment.proofs.PartLemmas.{legal-at, live-made, values-linked}
 use Rattle.fragment_paths.specs.Finding.{at}
 use Rattle.handshake.specs.Keys.{key, same_key}
 use Rattle.handshake.specs.Leads.{first_index, is_by, lead, leads}
-use Rattle.handshake.specs.Proxies.{is_proxy_place, place, places_of, places_under}
+use Rattle.handshake.specs.Proxies.{is_proxy_site, site, sites_of, sites_under}
 use Rattle.handshake.specs.Resolving.{leads_to}
 use Rattle.handshake.specs.declared.keys.Key.{Key}
 use Rattle.handshake.specs.declared.leads.Lead.{Lead}
-use Rattle.handshake.specs.declared.place.Place.{Place}
+use Rattle.handshake.specs.declared.site.ProxySite.{ProxySite}
 use Rattle.handshake.proofs.PositionLemmas.{position-passes}
 
 first-append : (xs ys : List Lead) (k : Key) → first_index (xs ++ ys) k ≡ option_or (first_index xs k) (first_index ys k)
 first-append [] ys k = refl
-first-append (x ∷ xs) ys k = elim (is_by k x) as (λ b. (if b then Some x.place.index else first_index (xs ++ ys) k) ≡ option_or (if b then Some x.place.index else first_index xs k) (first_index ys k)) [ true ↦ refl | false ↦ first-append xs ys k ]
+first-append (x ∷ xs) ys k = elim (is_by k x) as (λ b. (if b then Some x.site.index else first_index (xs ++ ys) k) ≡ option_or (if b then Some x.site.index else first_index xs k) (first_index ys k)) [ true ↦ refl | false ↦ first-append xs ys k ]
 
 -- the leads of each of some things, where those of the ones that pass a test give one index, and those of the others none
-first-each : {X : Type 0} (g : X → List Place) (r : Reading) (test : X → Bool) (k : Key) (q : Option ℕ)
+first-each : {X : Type 0} (g : X → List ProxySite) (r : Reading) (test : X → Bool) (k : Key) (q : Option ℕ)
     → ((x : X) → test x ≡ true → first_index (map (lead r) (g x)) k ≡ q) → ((x : X) → test x ≡ false → first_index (map (lead r) (g x)) k ≡ None)
     → (xs : List X) → first_index (map (lead r) (flat_map g xs)) k ≡ (if list_any test xs then q else None)
 first-each g r test k q here other [] = refl
@@ -74,7 +74,7 @@ module _ (r : Reading) (b : ObjectNo) (f : FeatureNo) (a : ObjectNo) where
   ---------------------------------------------------------------- at the end
 
   -- what stands at an index leads to the object where its lead does
-  by-value : (n : ℕ) (v : Value) → slice_get (r.values e) n ≡ Some v → is_by k (lead r (place b f n)) ≡ leads_back v
+  by-value : (n : ℕ) (v : Value) → slice_get (r.values e) n ≡ Some v → is_by k (lead r (site b f n)) ≡ leads_back v
   by-value n v at_n = ap (λ (q : Option Value). option_map_or (λ (o : ObjectNo). same_key (key b f o.0) k) (option_and_then (at r) (option_and_then text_of q)) false) at_n ∙ by (option_and_then (at r) (text_of v))
     where
       by : (q : Option ObjectNo) → option_map_or (λ (o : ObjectNo). nat_eq b.0 b.0 && (nat_eq f.0 f.0 && nat_eq o.0 a.0)) q false ≡ option_map_or (λ (o : ObjectNo). nat_eq o.0 a.0) q false
@@ -89,11 +89,11 @@ module _ (r : Reading) (b : ObjectNo) (f : FeatureNo) (a : ObjectNo) where
       by None h = refl
       by (Some t) h = absurd (false≢true (sym h))
 
-  first-one : (n : ℕ) (v : Value) → slice_get (r.values e) n ≡ Some v → (rest : List Place)
-      → first_index (map (lead r) (cond (is_proxy_place r (place b f n)) (place b f n ∷ rest) rest)) k ≡ cond (leads_back v) (Some n) (first_index (map (lead r) rest) k)
+  first-one : (n : ℕ) (v : Value) → slice_get (r.values e) n ≡ Some v → (rest : List ProxySite)
+      → first_index (map (lead r) (cond (is_proxy_site r (site b f n)) (site b f n ∷ rest) rest)) k ≡ cond (leads_back v) (Some n) (first_index (map (lead r) rest) k)
   first-one n v at_n rest =
-      let p = place b f n in
-      let proxy : is_proxy_place r p ≡ is_some (text_of v) = ap (λ (q : Option Value). is_some (option_and_then text_of q)) at_n in
+      let p = site b f n in
+      let proxy : is_proxy_site r p ≡ is_some (text_of v) = ap (λ (q : Option Value). is_some (option_and_then text_of q)) at_n in
       ap (λ (c : Bool). first_index (map (lead r) (cond c (p ∷ rest) rest)) k) proxy
       ∙ elim (is_some (text_of v)) as (λ c. is_some (text_of v) ≡ c → first_index (map (lead r) (cond c (p ∷ rest) rest)) k ≡ cond (leads_back v) (Some n) (first_index (map (lead r) rest) k)) [
         | true ↦ λ _. ap (λ (c : Bool). cond c (Some n) (first_index (map (lead r) rest) k)) (by-value n v at_n)
@@ -101,10 +101,10 @@ module _ (r : Reading) (b : ObjectNo) (f : FeatureNo) (a : ObjectNo) where
       ] refl
 
   first-from : (vs : List Value) (n : ℕ) → ((i j : ℕ) → j ≡ n + i → slice_get (r.values e) j ≡ slice_get vs i)
-      → first_index (map (lead r) (filter (is_proxy_place r) (map (place b f) (range_with_len n (length vs))))) k ≡ option_map (λ i. n + i) (position leads_back vs)
+      → first_index (map (lead r) (filter (is_proxy_site r) (map (site b f) (range_with_len n (length vs))))) k ≡ option_map (λ i. n + i) (position leads_back vs)
   first-from [] n same = refl
   first-from (v ∷ vs) n same =
-      first-one n v (same 0 n (omega arith)) (filter (is_proxy_place r) (map (place b f) (range_with_len (n + 1) (length vs))))
+      first-one n v (same 0 n (omega arith)) (filter (is_proxy_site r) (map (site b f) (range_with_len (n + 1) (length vs))))
       ∙ ap (cond (leads_back v) (Some n)) (first-from vs (n + 1) (λ i j is. same (suc i) j (omega (arith, is))))
       ∙ further (leads_back v) (position leads_back vs)
       ∙ sym (ap (option_map (λ i. n + i)) (position_cons leads_back v vs))
@@ -114,7 +114,7 @@ module _ (r : Reading) (b : ObjectNo) (f : FeatureNo) (a : ObjectNo) where
       further false None = refl
       further false (Some i) = ap Some (omega arith)
 
-  first-under : first_index (map (lead r) (places_under r b f)) k ≡ index
+  first-under : first_index (map (lead r) (sites_under r b f)) k ≡ index
   first-under = first-from (r.values e) 0 (λ i j is. ap (slice_get (r.values e)) (omega (arith, is))) ∙ plain index
     where
       plain : (q : Option ℕ) → option_map (λ i. 0 + i) q ≡ q
@@ -123,8 +123,8 @@ module _ (r : Reading) (b : ObjectNo) (f : FeatureNo) (a : ObjectNo) where
 
   ---------------------------------------------------------------- at other ends
 
-  other-lead : (o : ObjectNo) (g : FeatureNo) → (nat_eq o.0 b.0 && nat_eq g.0 f.0) ≡ false → (n : ℕ) → is_by k (lead r (place o g n)) ≡ false
-  other-lead o g other n = by (lead r (place o g n)).object
+  other-lead : (o : ObjectNo) (g : FeatureNo) → (nat_eq o.0 b.0 && nat_eq g.0 f.0) ≡ false → (n : ℕ) → is_by k (lead r (site o g n)) ≡ false
+  other-lead o g other n = by (lead r (site o g n)).object
     where
       apart : (x y z : Bool) → (x && y) ≡ false → (x && (y && z)) ≡ false
       apart true true z h = absurd (false≢true (sym h))
@@ -135,23 +135,23 @@ module _ (r : Reading) (b : ObjectNo) (f : FeatureNo) (a : ObjectNo) where
       by None = refl
       by (Some c) = apart (nat_eq o.0 b.0) (nat_eq g.0 f.0) (nat_eq c.0 a.0) other
 
-  other-places : (o : ObjectNo) (g : FeatureNo) → (nat_eq o.0 b.0 && nat_eq g.0 f.0) ≡ false → (ns : List ℕ) → first_index (map (lead r) (filter (is_proxy_place r) (map (place o g) ns))) k ≡ None
-  other-places o g other [] = refl
-  other-places o g other (n ∷ ns) =
-      let rest = filter (is_proxy_place r) (map (place o g) ns) in
-      elim (is_proxy_place r (place o g n)) as (λ c. first_index (map (lead r) (cond c (place o g n ∷ rest) rest)) k ≡ None) [
-        | true ↦ ap (λ (c : Bool). cond c (Some n) (first_index (map (lead r) rest) k)) (other-lead o g other n) ∙ other-places o g other ns
-        | false ↦ other-places o g other ns
+  other-sites : (o : ObjectNo) (g : FeatureNo) → (nat_eq o.0 b.0 && nat_eq g.0 f.0) ≡ false → (ns : List ℕ) → first_index (map (lead r) (filter (is_proxy_site r) (map (site o g) ns))) k ≡ None
+  other-sites o g other [] = refl
+  other-sites o g other (n ∷ ns) =
+      let rest = filter (is_proxy_site r) (map (site o g) ns) in
+      elim (is_proxy_site r (site o g n)) as (λ c. first_index (map (lead r) (cond c (site o g n ∷ rest) rest)) k ≡ None) [
+        | true ↦ ap (λ (c : Bool). cond c (Some n) (first_index (map (lead r) rest) k)) (other-lead o g other n) ∙ other-sites o g other ns
+        | false ↦ other-sites o g other ns
       ]
 
-  other-under : (o : ObjectNo) (g : FeatureNo) → (nat_eq o.0 b.0 && nat_eq g.0 f.0) ≡ false → first_index (map (lead r) (places_under r o g)) k ≡ None
-  other-under o g other = other-places o g other (range_with_len 0 (length (r.values (at_end (node.Object o) g))))
+  other-under : (o : ObjectNo) (g : FeatureNo) → (nat_eq o.0 b.0 && nat_eq g.0 f.0) ≡ false → first_index (map (lead r) (sites_under r o g)) k ≡ None
+  other-under o g other = other-sites o g other (range_with_len 0 (length (r.values (at_end (node.Object o) g))))
 
   -- under the features of the object
-  first-of : first_index (map (lead r) (places_of r b)) k ≡ (if list_any (λ (g : FeatureNo). nat_eq g.0 f.0) (all_features_of r (node.Object b)) then index else None)
+  first-of : first_index (map (lead r) (sites_of r b)) k ≡ (if list_any (λ (g : FeatureNo). nat_eq g.0 f.0) (all_features_of r (node.Object b)) then index else None)
   first-of =
-      first-each (places_under r b) r (λ (g : FeatureNo). nat_eq g.0 f.0) k index
-      (λ g same. subst (λ (h : FeatureNo). first_index (map (lead r) (places_under r b h)) k ≡ index) (feature-is g same) first-under)
+      first-each (sites_under r b) r (λ (g : FeatureNo). nat_eq g.0 f.0) k index
+      (λ g same. subst (λ (h : FeatureNo). first_index (map (lead r) (sites_under r b h)) k ≡ index) (feature-is g same) first-under)
       (λ g other. other-under b g (λ i. eq-self b.0 i && other i))
       (all_features_of r (node.Object b))
     where
@@ -161,9 +161,9 @@ module _ (r : Reading) (b : ObjectNo) (f : FeatureNo) (a : ObjectNo) where
           number-is : (m n : ℕ) → nat_eq n m ≡ true → m ≡ n
           number-is m n h = grind (arith, nat_tests)
 
-  other-of : (o : ObjectNo) → nat_eq o.0 b.0 ≡ false → first_index (map (lead r) (places_of r o)) k ≡ None
+  other-of : (o : ObjectNo) → nat_eq o.0 b.0 ≡ false → first_index (map (lead r) (sites_of r o)) k ≡ None
   other-of o other =
-      first-each (places_under r o) r (λ (g : FeatureNo). false) k None (λ g no_way. absurd (false≢true no_way)) (λ g _. other-under o g (ap (λ (c : Bool). c && nat_eq g.0 f.0) other)) (all_features_of r (node.Object o))
+      first-each (sites_under r o) r (λ (g : FeatureNo). false) k None (λ g no_way. absurd (false≢true no_way)) (λ g _. other-under o g (ap (λ (c : Bool). c && nat_eq g.0 f.0) other)) (all_features_of r (node.Object o))
       ∙ none-either (list_any (λ (g : FeatureNo). false) (all_features_of r (node.Object o)))
     where
       none-either : (c : Bool) → (let q : Option ℕ = None in (if c then q else q) ≡ q)
@@ -171,10 +171,10 @@ module _ (r : Reading) (b : ObjectNo) (f : FeatureNo) (a : ObjectNo) where
       none-either false = refl
 
   -- among all proxies
-  first-lead : first_index (leads r) k ≡ (if list_any (λ n. nat_eq n b.0) (range_with_len 0 r.next) then first_index (map (lead r) (places_of r b)) k else None)
+  first-lead : first_index (leads r) k ≡ (if list_any (λ n. nat_eq n b.0) (range_with_len 0 r.next) then first_index (map (lead r) (sites_of r b)) k else None)
   first-lead =
-      first-each (λ n. places_of r (record { 0 = n })) r (λ n. nat_eq n b.0) k (first_index (map (lead r) (places_of r b)) k)
-      (λ n same. ap (λ m. first_index (map (lead r) (places_of r (record { 0 = m }))) k) (number-is n b.0 same))
+      first-each (λ n. sites_of r (record { 0 = n })) r (λ n. nat_eq n b.0) k (first_index (map (lead r) (sites_of r b)) k)
+      (λ n same. ap (λ m. first_index (map (lead r) (sites_of r (record { 0 = m }))) k) (number-is n b.0 same))
       (λ n other. other-of (record { 0 = n }) other)
       (range_with_len 0 r.next)
     where
@@ -253,27 +253,27 @@ range-more : (n : ℕ) → range_with_len 0 (n + 1) ≡ range_with_len 0 n ++ n 
 range-more n = sym (map-self (range_with_len 0 (n + 1))) ∙ map-range_with_len_more (λ (x : ℕ). x) 0 n n (omega arith) ∙ ap (λ (xs : List ℕ). xs ++ n ∷ []) (map-self (range_with_len 0 n))
 
 -- the leads of one object more
-pub objects-step : (r : Reading) (n : ℕ) (old new : List Lead) → new ≡ old ++ map (lead r) (places_of r (record { 0 = n })) → old ≡ map (lead r) (flat_map (λ k. places_of r (record { 0 = k })) (range_with_len 0 n))
-    → new ≡ map (lead r) (flat_map (λ k. places_of r (record { 0 = k })) (range_with_len 0 (n + 1)))
+pub objects-step : (r : Reading) (n : ℕ) (old new : List Lead) → new ≡ old ++ map (lead r) (sites_of r (record { 0 = n })) → old ≡ map (lead r) (flat_map (λ k. sites_of r (record { 0 = k })) (range_with_len 0 n))
+    → new ≡ map (lead r) (flat_map (λ k. sites_of r (record { 0 = k })) (range_with_len 0 (n + 1)))
 objects-step r n old new more so_far =
-    let f : ℕ → List Place = λ k. places_of r (record { 0 = k }) in
+    let f : ℕ → List ProxySite = λ k. sites_of r (record { 0 = k }) in
     more ∙ ap (λ (ls : List Lead). ls ++ map (lead r) (f n)) so_far
     ∙ sym (map-append (lead r) (flat_map f (range_with_len 0 n)) (f n))
-    ∙ ap (map (lead r)) (ap (λ (ps : List Place). flat_map f (range_with_len 0 n) ++ ps) (sym (append-nil (f n))) ∙ sym (flat_map-append f (range_with_len 0 n) (n ∷ [])) ∙ ap (flat_map f) (sym (range-more n)))
+    ∙ ap (map (lead r)) (ap (λ (ps : List ProxySite). flat_map f (range_with_len 0 n) ++ ps) (sym (append-nil (f n))) ∙ sym (flat_map-append f (range_with_len 0 n) (n ∷ [])) ∙ ap (flat_map f) (sym (range-more n)))
 
 -- and of one index more
-pub indices-step : (r : Reading) (o : ObjectNo) (f : FeatureNo) (n : ℕ) (was old new : List Lead) → new ≡ old ++ (if is_proxy_place r (place o f n) then lead r (place o f n) ∷ [] else [])
-    → old ≡ was ++ map (lead r) (filter (is_proxy_place r) (map (place o f) (range_with_len 0 n))) → new ≡ was ++ map (lead r) (filter (is_proxy_place r) (map (place o f) (range_with_len 0 (n + 1))))
+pub indices-step : (r : Reading) (o : ObjectNo) (f : FeatureNo) (n : ℕ) (was old new : List Lead) → new ≡ old ++ (if is_proxy_site r (site o f n) then lead r (site o f n) ∷ [] else [])
+    → old ≡ was ++ map (lead r) (filter (is_proxy_site r) (map (site o f) (range_with_len 0 n))) → new ≡ was ++ map (lead r) (filter (is_proxy_site r) (map (site o f) (range_with_len 0 (n + 1))))
 indices-step r o f n was old new more so_far =
-    let p = place o f n in
-    let before = filter (is_proxy_place r) (map (place o f) (range_with_len 0 n)) in
-    more ∙ ap (λ (ls : List Lead). ls ++ (if is_proxy_place r p then lead r p ∷ [] else [])) so_far
-    ∙ append_assoc was (map (lead r) before) (if is_proxy_place r p then lead r p ∷ [] else [])
+    let p = site o f n in
+    let before = filter (is_proxy_site r) (map (site o f) (range_with_len 0 n)) in
+    more ∙ ap (λ (ls : List Lead). ls ++ (if is_proxy_site r p then lead r p ∷ [] else [])) so_far
+    ∙ append_assoc was (map (lead r) before) (if is_proxy_site r p then lead r p ∷ [] else [])
     ∙ ap (λ (ls : List Lead). was ++ ls)
-    (ap (λ (ls : List Lead). map (lead r) before ++ ls) (one (is_proxy_place r p)) ∙ sym (map-append (lead r) before (cond (is_proxy_place r p) (p ∷ []) []))
-    ∙ ap (map (lead r)) (sym (filter_of_map_range_with_len_more (is_proxy_place r) (place o f) 0 n n (omega arith))))
+    (ap (λ (ls : List Lead). map (lead r) before ++ ls) (one (is_proxy_site r p)) ∙ sym (map-append (lead r) before (cond (is_proxy_site r p) (p ∷ []) []))
+    ∙ ap (map (lead r)) (sym (filter_of_map_range_with_len_more (is_proxy_site r) (site o f) 0 n n (omega arith))))
   where
-    one : (b : Bool) → (if b then lead r (place o f n) ∷ [] else []) ≡ map (lead r) (cond b (place o f n ∷ []) [])
+    one : (b : Bool) → (if b then lead r (site o f n) ∷ [] else []) ≡ map (lead r) (cond b (site o f n ∷ []) [])
     one true = refl
     one false = refl
 

@@ -39,7 +39,7 @@ use Rattle.models.specs.Model.{Model, model_of, reading}
 use Rattle.models.specs.Reading.{Reading, has_feature, shape_at, takes}
 use Rattle.handshake.specs.Displaced.{yields}
 use Rattle.handshake.specs.Refusals.{is_at_limit, is_full_at}
-use Rattle.handshake.proofs.CutTieLemmas.{far-emptied, values-linked}
+use Rattle.handshake.proofs.CutLinkEndLemmas.{far-emptied, values-linked}
 use Rattle.removal.specs.Laws.{names_of}
 use Rattle.handshake.proofs.KnownLemmas.{far-reference, feature-there, kinds-are}
 use Rattle.handshake.proofs.LinkLemmas.{IsNewLink, below-limit, far-of, fewer-left, near-empty, near-of, new-fits, without_displaced}

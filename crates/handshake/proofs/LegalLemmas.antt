@@ -40,20 +40,20 @@ use Rattle.links.proofs.KindLemmas.{plan_keeps_kinds}
 use Rattle.links.proofs.LegalLemmas.{plan_keeps_legal}
 use Rattle.models.specs.Legal.{AreLegalLinks, AreLegalUris, IsLegal, IsLegalObject, IsLegalStored, is_legal_end, is_short_text, kinds_of}
 use Rattle.models.specs.Model.{Model, attribute_values, kept_values, reading}
-use Rattle.models.specs.Reading.{at_end, first_at, has_feature, has_resource, is_repeat, place_for, takes}
+use Rattle.models.specs.Reading.{at_end, first_at, has_feature, has_resource, is_repeat, position_for, takes}
 use Rattle.resource_docs.specs.declared.doc.Doc.{Doc}
-use Rattle.loading.proofs.TypedLemmas.{read-typed}
+use Rattle.doc_loader.proofs.TypedLemmas.{read-typed}
 use Rattle.containment.proofs.PartLemmas.{object-reference}
 use Rattle.handshake.specs.declared.change.Change.{Change}
 use Rattle.handshake.specs.declared.change.Change.TheVariants.{Create, Set, Unset, Add, Remove, RemoveValue, Move, Delete, NewResource, Resolve, ResolveAll, Load}
-use Rattle.handshake.specs.Displaced.{cut_by_new, cut_by_set, cut_ties, is_plain_add, is_plain_set}
+use Rattle.handshake.specs.Displaced.{cut_by_new, cut_by_set, cut_link_ends, is_plain_add, is_plain_set}
 use Rattle.handshake.specs.Edits.{link_edits}
 use Rattle.handshake.specs.Effects.{add_value, after, links_after, put_by, put_under, take_value, value_edits, with_value}
 use Rattle.handshake.specs.Laws.{KeepsLegal, IsBrought, goes_with}
 use Rattle.handshake.specs.Plans.{HasReadDocument, IsDocument}
-use Rattle.handshake.specs.Tellings.{loaded_by, resolves_all}
+use Rattle.handshake.specs.FeatureChanges.{loaded_by, resolves_all}
 use Rattle.handshake.specs.Refusals.{early_refusal, gain_refusal, is_at_limit, is_full_at, late_refusal}
-use Rattle.handshake.proofs.CutTieLemmas.{left-cuts, values-linked}
+use Rattle.handshake.proofs.CutLinkEndLemmas.{left-cuts, values-linked}
 use Rattle.removal.specs.Laws.{names_of}
 use Rattle.handshake.proofs.KnownLemmas.{add-gains, add-named, add-taken, kinds-are, move-named, move-placed, none-else_by, none-unless, none-where_so, remove-named, resource-keeps-none, set-named, set-taken, set-there, take-named, uri-taken}
 use Rattle.handshake.proofs.LegalEndLemmas.{HaveClasses, IsUntouched, cut-end, legal-end-kept, none_goes, put-end, shifted-end, untouched-end}
@@ -62,7 +62,7 @@ use Rattle.handshake.proofs.LoadEndLemmas.{linked-legal, no-fewer, same-classes}
 use Rattle.handshake.proofs.LoadLemmas.{few}
 use Rattle.handshake.proofs.LoadValueLemmas.{load-values}
 use Rattle.handshake.proofs.ListLegalLemmas.{insert-legal, move-legal, remove-legal}
-use Rattle.handshake.proofs.PlanLemmas.{add-new, add-place, below, plan-for, set-new}
+use Rattle.handshake.proofs.PlanLemmas.{add-new, add-site, below, plan-for, set-new}
 use Rattle.std.specs.Str.{bytes_eq}
 use Rattle.std.proofs.lemmas.Cmp.{nat_list_eq_equiv}
 use Rattle.std.proofs.lemmas.Map.Keys.{IsDistinct-push}
@@ -165,14 +165,14 @@ module _ (s : Model) (legal : IsLegal s) (o : ObjectNo) (f : FeatureNo) (many : 
   plain-room _ takes h = let both = none-else_by (Bound where_so is_full_at (reading s) e) (Limit where_so is_at_limit (reading s) e) h in (none-where_so Bound _ both.0, none-where_so Limit _ both.1)
 
   added-values : (v : Value) (i : Option ℕ) → late_refusal (reading s) (Add (node.Object o) f v i) ≡ None → is_repeat (reading s) e v ≡ false
-      → AreLegalValues s none_goes (record { objects = with_changed s.values.objects o f (λ vs. insert vs (place_for (reading s) e i) v); uris = s.values.uris })
+      → AreLegalValues s none_goes (record { objects = with_changed s.values.objects o f (λ vs. insert vs (position_for (reading s) e i) v); uris = s.values.uris })
   added-values v i late new =
       let m = s.metamodel in
       let ask = add-taken (reading s) (node.Object o) f v i late in
       let room = plain-room v ask.takes (add-gains (reading s) e v i new ask.allowed) in
-      changed-values s o f (λ vs. insert vs (place_for (reading s) e i) v) legal (λ x is.
+      changed-values s o f (λ vs. insert vs (position_for (reading s) e i) v) legal (λ x is.
       let list = stored-list x is in
-      insert-legal m x.class f (stored_under x f) many (stored-has x is) (stored-legal x is) (place_for (reading s) e i) v (keeps-taken m (class_of s.values) f v attribute ask.takes) ask.short
+      insert-legal m x.class f (stored_under x f) many (stored-has x is) (stored-legal x is) (position_for (reading s) e i) v (keeps-taken m (class_of s.values) f v attribute ask.takes) ask.short
       (subst (λ (vs : List Value). is_full_list (shape m f) (length vs) ≡ false) list room.0) (below-limit _ (subst (λ (vs : List Value). nat_le LIST_VALUES (length vs) ≡ false) list room.1))
       (subst (λ (vs : List Value). ((shape m f).is_unique && has_value vs v) ≡ false) list new))
 
@@ -289,7 +289,7 @@ values-after s (Add (node.Object o) f v i) legal early late read brought =
     let e = at_end (node.Object o) f in
     let named = add-named r (node.Object o) f v i early in
     of-attribute s f (add_value r e v i) legal (λ attribute.
-    elim (is_repeat r e v) as (λ b. is_repeat r e v ≡ b → AreLegalValues s none_goes (applied s.values (if b then [] else InsertValue o f (place_for r e i) v (shape s.metamodel f).is_unique ∷ []))) [
+    elim (is_repeat r e v) as (λ b. is_repeat r e v ≡ b → AreLegalValues s none_goes (applied s.values (if b then [] else InsertValue o f (position_for r e i) v (shape s.metamodel f).is_unique ∷ []))) [
       | true ↦ λ _. same-values s legal
       | false ↦ λ new. added-values s legal o f named.single named.there attribute v i late new
     ] refl)
@@ -335,9 +335,9 @@ add-ends s n f (value.Object o) i legal early late h d =
     let e = at_end n f in
     let a = shape s.metamodel f in
     let t = without_displaced s e o in
-    let at = add-place s n f o i legal early late h in
+    let at = add-site s n f o i legal early late h in
     subst (λ (k : ℕ). is_legal_end (reading s) d (end (put t e k o a.opposite a.containing) d) ≡ true) at.1
-    (put-end s legal e o (add-new s n f o i early late h) (add-taken (reading s) n f (value.Object o) i late).takes (place_for (reading s) e i) at.0 d)
+    (put-end s legal e o (add-new s n f o i early late h) (add-taken (reading s) n f (value.Object o) i late).takes (position_for (reading s) e i) at.0 d)
 add-ends s n f v i legal early late h d = cut-end s (names_of (cut_by_new (reading s) (at_end n f) v)) legal d
 
 move-ends : (s : Model) (n : Node) (f : FeatureNo) (to from : ℕ) → IsLegal s → late_refusal (reading s) (Move n f to from) ≡ None → (shape s.metamodel f).is_reference ≡ true → (d : End) → is_legal_end (reading s) d (end (shift s.links (at_end n f) to from) d) ≡ true
@@ -349,13 +349,13 @@ move-ends s n f to from legal late reference d =
 
 -- of a change that loads nothing and doesn't resolve all proxies
 ends-by-pairs : (s : Model) (c : Change) → loaded_by c ≡ None → resolves_all c ≡ false → IsLegal s → early_refusal (reading s) c ≡ None → late_refusal (reading s) c ≡ None → (d : End)
-    → is_legal_end (reading s) d (end (put_by (without_all s.links (names_of (cut_ties (reading s) c))) (reading s) c) d) ≡ true
+    → is_legal_end (reading s) d (end (put_by (without_all s.links (names_of (cut_link_ends (reading s) c))) (reading s) c) d) ≡ true
 ends-by-pairs s (Create k) none one legal early late d = legal.links.ends d
 ends-by-pairs s (NewResource u) none one legal early late d = legal.links.ends d
-ends-by-pairs s (Delete o) none one legal early late d = cut-end s (names_of (cut_ties (reading s) (Delete o))) legal d
-ends-by-pairs s (Unset n f) none one legal early late d = cut-end s (names_of (cut_ties (reading s) (Unset n f))) legal d
-ends-by-pairs s (Remove n f i) none one legal early late d = cut-end s (names_of (cut_ties (reading s) (Remove n f i))) legal d
-ends-by-pairs s (RemoveValue n f v) none one legal early late d = cut-end s (names_of (cut_ties (reading s) (RemoveValue n f v))) legal d
+ends-by-pairs s (Delete o) none one legal early late d = cut-end s (names_of (cut_link_ends (reading s) (Delete o))) legal d
+ends-by-pairs s (Unset n f) none one legal early late d = cut-end s (names_of (cut_link_ends (reading s) (Unset n f))) legal d
+ends-by-pairs s (Remove n f i) none one legal early late d = cut-end s (names_of (cut_link_ends (reading s) (Remove n f i))) legal d
+ends-by-pairs s (RemoveValue n f v) none one legal early late d = cut-end s (names_of (cut_link_ends (reading s) (RemoveValue n f v))) legal d
 ends-by-pairs s (Set n f v) none one legal early late d =
     let r = reading s in
     let e = at_end n f in

@@ -4,7 +4,7 @@ pub mod AttributeLemmas
 pub mod ChainLemmas
 pub mod CutEndLemmas
 mod CutHeldLemmas
-pub mod CutTieLemmas
+pub mod CutLinkEndLemmas
 mod YieldLemmas
 pub mod HappenedLemmas
 pub mod KnownLemmas
@@ -44,6 +44,6 @@ mod ResolveLemmas
 mod ResolvedLemmas
 pub mod ResolvedReadingLemmas
 pub mod TargetLemmas
-pub mod TellingLemmas
-pub mod TieNameLemmas
+pub mod FeatureChangeLemmas
+pub mod LinkEndNameLemmas
 pub mod ValueLemmas

@@ -40,7 +40,7 @@ use Rattle.models.specs.Reading.{Reading, has_feature, is_repeat, is_within, sha
 use Rattle.handshake.specs.Displaced.{has_already, yields}
 use Rattle.handshake.specs.Resolving.{opposite_end}
 use Rattle.handshake.specs.Refusals.{is_at_limit, is_recursive_for, of_either}
-use Rattle.handshake.proofs.CutTieLemmas.{freed, near-emptied, values-linked}
+use Rattle.handshake.proofs.CutLinkEndLemmas.{freed, near-emptied, values-linked}
 use Rattle.removal.specs.Laws.{names_of}
 use Rattle.handshake.proofs.KnownLemmas.{IsLinkable, far-reference, kinds-are, resource-alone}
 use Rattle.handshake.proofs.YieldLemmas.{near-kept}

@@ -18,7 +18,7 @@ use Rattle.mm_values.specs.Stored.{Stored, list_changed}
 use Rattle.mm_types.specs.Lists.{put_back, shifted}
 use Rattle.links.specs.LegalSets.{most}
 use Rattle.models.specs.Legal.{IsLegalStored, IsUniqueList, is_legal_list, is_legal_value, is_short}
-use Rattle.handshake.proofs.CutTieLemmas.{same_value-symmetric}
+use Rattle.handshake.proofs.CutLinkEndLemmas.{same_value-symmetric}
 use Rattle.handshake.proofs.LegalEndLemmas.{bounded-less, bounded-more, length-put, list_all-insert, single-of, taken_out}
 
 ---------------------------------------------------------------- lists that repeat nothing

@@ -26,11 +26,11 @@ use Rattle.models.specs.Reading.{at_end, has_feature, held_at}
 use Rattle.notice_chain.specs.Replay as replay
 use Rattle.notice_chain.specs.Replay.{moved}
 use Rattle.handshake.specs.Effects.{put_values}
-use Rattle.handshake.specs.Telling.{telling}
-use Rattle.handshake.specs.Tellings.{all_lost, gain_at}
-use Rattle.handshake.specs.declared.happening.Happening.{Happening}
-use Rattle.handshake.specs.declared.happening.Happening.TheVariants.{Gains, LosesAt, Moves, Unsets}
-use Rattle.handshake.specs.declared.happening.Telling.{Telling}
+use Rattle.handshake.specs.FeatureChange.{feature_change}
+use Rattle.handshake.specs.FeatureChanges.{all_lost, gain_at}
+use Rattle.handshake.specs.declared.change_kind.ChangeKind.{ChangeKind}
+use Rattle.handshake.specs.declared.change_kind.ChangeKind.TheVariants.{Gains, LosesAt, Moves, Unsets}
+use Rattle.handshake.specs.declared.change_kind.FeatureChange.{FeatureChange}
 use Rattle.handshake.proofs.AttributeLemmas.{Replays, held_of, put-replays}
 use Rattle.handshake.proofs.HappenedLemmas.{done, done-here, happened_at}
 use Rattle.handshake.proofs.LegalLemmas.{kept-values, stored-legal, stored-list}
@@ -54,10 +54,10 @@ lost-done m e zero (v ∷ vs) b many is = absurd (omega (arith, is))
 lost-done m e (suc n) vs b many is =
     let long : n < length vs = omega (arith, is) in
     let below : nat_lt n (length vs) ≡ true = grind (arith, nat_tests) in
-    ap (happened_at m (all_lost e n) e) (done-here m e (telling e (LosesAt n)) (record { values = vs; flag = b }) (same_end-self e) ∙ ap (λ (x : Bool). record { values = if x then remove vs n else vs; flag = b }) below)
+    ap (happened_at m (all_lost e n) e) (done-here m e (feature_change e (LosesAt n)) (record { values = vs; flag = b }) (same_end-self e) ∙ ap (λ (x : Bool). record { values = if x then remove vs n else vs; flag = b }) below)
     ∙ lost-done m e n (remove vs n) b many (one-fewer vs n (suc n) long is refl)
 
-pub all_lost-own : (e : End) (n : ℕ) → AllByRecursion (λ (t : Telling). t.at ≡ e) (all_lost e n)
+pub all_lost-own : (e : End) (n : ℕ) → AllByRecursion (λ (t : FeatureChange). t.at ≡ e) (all_lost e n)
 all_lost-own e zero = tt
 all_lost-own e (suc n) = (refl, all_lost-own e n)
 
@@ -92,11 +92,11 @@ unset-stored a vs k single attribute = rw (single, attribute) refl
 abbrev with_values : Model → Node → FeatureNo → List Value → Bool → Model
 with_values s n f vs flag = record s { values = applied s.values (put_values (at_end n f) vs flag) }
 
-pub own-one : (e : End) (h : Happening) → AllByRecursion (λ (t : Telling). t.at ≡ e) (telling e h ∷ [])
+pub own-one : (e : End) (h : ChangeKind) → AllByRecursion (λ (t : FeatureChange). t.at ≡ e) (feature_change e h ∷ [])
 own-one e h = (refl, tt)
 
-pub one-done : (m : Metamodel) (e : End) (x : Happening) (h : Held) → happened_at m (telling e x ∷ []) e h ≡ done (shape m e.feature) x h
-one-done m e x h = done-here m e (telling e x) h (same_end-self e)
+pub one-done : (m : Metamodel) (e : End) (x : ChangeKind) (h : Held) → happened_at m (feature_change e x ∷ []) e h ≡ done (shape m e.feature) x h
+one-done m e x h = done-here m e (feature_change e x) h (same_end-self e)
 
 module _ (s : Model) (legal : IsLegal s) (o : ObjectNo) (f : FeatureNo) (has : has_feature (reading s) (node.Object o) f ≡ true) (attribute : (shape s.metamodel f).is_reference ≡ false) where
   abbrev e : End
@@ -108,11 +108,11 @@ module _ (s : Model) (legal : IsLegal s) (o : ObjectNo) (f : FeatureNo) (has : h
   live : IsTrue (is_some ((reading s).class o))
   live = live-of s.metamodel f ((reading s).class o) has
 
-  pub single-set : (v : Value) → a.is_single ≡ true → Replays s (telling e (Gains v) ∷ []) (with_values s (node.Object o) f (v ∷ []) a.is_unsettable)
-  single-set v single = put-replays s o f (telling e (Gains v) ∷ []) (value_stored a v) live (own-one e (Gains v)) (λ vs. one-done s.metamodel e (Gains v) (held_at (reading s) e) ∙ gain-stored a v vs (held_at (reading s) e) single attribute)
+  pub single-set : (v : Value) → a.is_single ≡ true → Replays s (feature_change e (Gains v) ∷ []) (with_values s (node.Object o) f (v ∷ []) a.is_unsettable)
+  single-set v single = put-replays s o f (feature_change e (Gains v) ∷ []) (value_stored a v) live (own-one e (Gains v)) (λ vs. one-done s.metamodel e (Gains v) (held_at (reading s) e) ∙ gain-stored a v vs (held_at (reading s) e) single attribute)
 
-  pub single-unset : a.is_single ≡ true → Replays s (telling e Unsets ∷ []) (with_values s (node.Object o) f [] false)
-  single-unset single = put-replays s o f (telling e Unsets ∷ []) nothing_stored live (own-one e Unsets) (λ vs. one-done s.metamodel e Unsets (held_at (reading s) e) ∙ unset-stored a vs (held_at (reading s) e) single attribute)
+  pub single-unset : a.is_single ≡ true → Replays s (feature_change e Unsets ∷ []) (with_values s (node.Object o) f [] false)
+  single-unset single = put-replays s o f (feature_change e Unsets ∷ []) nothing_stored live (own-one e Unsets) (λ vs. one-done s.metamodel e Unsets (held_at (reading s) e) ∙ unset-stored a vs (held_at (reading s) e) single attribute)
 
   module _ (many : a.is_single ≡ false) where
     -- the object, and what it stores under the attribute
@@ -139,7 +139,7 @@ module _ (s : Model) (legal : IsLegal s) (o : ObjectNo) (f : FeatureNo) (has : h
     of-list vs ws b = rw (many, attribute, kept-values s legal o f many has attribute ws) refl
 
     -- a list that is changed as its tellings say
-    list-replays : (own : List Telling) (g : List Value → List Value) → AllByRecursion (λ (t : Telling). t.at ≡ e) own
+    list-replays : (own : List FeatureChange) (g : List Value → List Value) → AllByRecursion (λ (t : FeatureChange). t.at ≡ e) own
         → happened_at s.metamodel own e (record { values = stored.list; flag = stored.flag }) ≡ record { values = g stored.list; flag = stored.flag }
         → Replays s own (record s { values = record s.values { objects = with_changed s.values.objects o f g } })
     list-replays own g here makes =
@@ -155,23 +155,23 @@ module _ (s : Model) (legal : IsLegal s) (o : ObjectNo) (f : FeatureNo) (has : h
     abbrev before : Held
     before = record { values = stored.list; flag = stored.flag }
 
-    pub list-added : (v : Value) (j : Option ℕ) (i : ℕ) → i ≡ unwrap_or j (length ((reading s).values e)) → i ≤ length ((reading s).values e) → Replays s (telling e (gain_at j v) ∷ []) (record s { values = record s.values { objects = with_changed s.values.objects o f (λ vs. insert vs i v) } })
+    pub list-added : (v : Value) (j : Option ℕ) (i : ℕ) → i ≡ unwrap_or j (length ((reading s).values e)) → i ≤ length ((reading s).values e) → Replays s (feature_change e (gain_at j v) ∷ []) (record s { values = record s.values { objects = with_changed s.values.objects o f (λ vs. insert vs i v) } })
     list-added v j i is low =
-        list-replays (telling e (gain_at j v) ∷ []) (λ vs. insert vs i v) (own-one e (gain_at j v))
+        list-replays (feature_change e (gain_at j v) ∷ []) (λ vs. insert vs i v) (own-one e (gain_at j v))
         (one-done s.metamodel e (gain_at j v) before ∙ gained-list a j v stored.list i stored.flag many (is ∙ ap (λ (vs : List Value). unwrap_or j (length vs)) values-stored) (subst (λ (vs : List Value). i ≤ length vs) values-stored low))
 
-    pub list-taken : (i : ℕ) → nat_lt i (length ((reading s).values e)) ≡ true → Replays s (telling e (LosesAt i) ∷ []) (record s { values = record s.values { objects = with_changed s.values.objects o f (λ vs. remove vs i) } })
+    pub list-taken : (i : ℕ) → nat_lt i (length ((reading s).values e)) ≡ true → Replays s (feature_change e (LosesAt i) ∷ []) (record s { values = record s.values { objects = with_changed s.values.objects o f (λ vs. remove vs i) } })
     list-taken i low =
         let below = subst (λ (vs : List Value). nat_lt i (length vs) ≡ true) values-stored low in
-        list-replays (telling e (LosesAt i) ∷ []) (λ vs. remove vs i) (own-one e (LosesAt i))
+        list-replays (feature_change e (LosesAt i) ∷ []) (λ vs. remove vs i) (own-one e (LosesAt i))
         (one-done s.metamodel e (LosesAt i) before ∙ ap (λ (b : Bool). record { values = if b then remove stored.list i else stored.list; flag = stored.flag }) below)
 
     pub list-moved : (to from : ℕ) → nat_lt to (length ((reading s).values e)) ≡ true → nat_lt from (length ((reading s).values e)) ≡ true
-        → Replays s (telling e (Moves to from) ∷ []) (record s { values = record s.values { objects = with_changed s.values.objects o f (λ vs. shifted vs to from) } })
+        → Replays s (feature_change e (Moves to from) ∷ []) (record s { values = record s.values { objects = with_changed s.values.objects o f (λ vs. shifted vs to from) } })
     list-moved to from low_to low_from =
         let below_to = subst (λ (vs : List Value). nat_lt to (length vs) ≡ true) values-stored low_to in
         let below_from = subst (λ (vs : List Value). nat_lt from (length vs) ≡ true) values-stored low_from in
-        list-replays (telling e (Moves to from) ∷ []) (λ vs. shifted vs to from) (own-one e (Moves to from))
+        list-replays (feature_change e (Moves to from) ∷ []) (λ vs. shifted vs to from) (own-one e (Moves to from))
         (one-done s.metamodel e (Moves to from) before ∙ ap (λ (vs : List Value). record { values = vs; flag = stored.flag }) (moved-shifted stored.list to from below_to below_from))
 
     pub list-unset : Replays s (all_lost e (length ((reading s).values e))) (with_values s (node.Object o) f [] false)

@@ -24,19 +24,19 @@ use Rattle.notice_chain.specs.Kinds.{no_index}
 use Rattle.notice_chain.specs.Replay.{replayed_in}
 use Rattle.notice_chain.specs.declared.kind.NoticeKind.TheVariants as kind
 use Rattle.resource_docs.specs.declared.doc.Doc.{Doc}
-use Rattle.loading.specs.Loading.{contents_end, loaded, roots_loaded}
-use Rattle.loading.proofs.SideLemmas.{contents-shape}
-use Rattle.loading.proofs.TypedLemmas.{read-typed}
+use Rattle.doc_loader.specs.Loading.{contents_end, loaded, roots_loaded}
+use Rattle.doc_loader.proofs.SideLemmas.{contents-shape}
+use Rattle.doc_loader.proofs.TypedLemmas.{read-typed}
 use Rattle.handshake.specs.Effects.{after}
 use Rattle.handshake.specs.Laws.{comes_with}
 use Rattle.handshake.specs.Plans.{IsDocument}
 use Rattle.handshake.specs.Refusals.{late_refusal}
 use Rattle.handshake.specs.Reports.{root_notice}
-use Rattle.handshake.specs.Telling.{happened, has_flag, notice, notice_of, telling, told}
-use Rattle.handshake.specs.Tellings.{chain, loaded as tells_loaded}
+use Rattle.handshake.specs.FeatureChange.{happened, has_flag, notice, notice_of, feature_change, told}
+use Rattle.handshake.specs.FeatureChanges.{chain, loaded as tells_loaded}
 use Rattle.handshake.specs.declared.change.Change.TheVariants.{Load}
-use Rattle.handshake.specs.declared.happening.Happening.TheVariants.{Gains}
-use Rattle.handshake.specs.declared.happening.Telling.{Telling}
+use Rattle.handshake.specs.declared.change_kind.ChangeKind.TheVariants.{Gains}
+use Rattle.handshake.specs.declared.change_kind.FeatureChange.{FeatureChange}
 use Rattle.handshake.proofs.AttributeLemmas.{held_at-object, held_of, stored_for}
 use Rattle.handshake.proofs.HappenedLemmas.{at-own, done, done-here, happened_at}
 use Rattle.handshake.proofs.LoadEndLemmas.{linked-before, linked-roots}
@@ -46,10 +46,10 @@ use Rattle.handshake.proofs.RelinkLemmas.{list-held}
 use Rattle.handshake.proofs.ReplayLemmas.{replayed_in-gain}
 
 -- a list gains several values
-abbrev gains : End → List Value → List Telling
-gains e vs = map (λ v. telling e (Gains v)) vs
+abbrev gains : End → List Value → List FeatureChange
+gains e vs = map (λ v. feature_change e (Gains v)) vs
 
-gains-own : (e : End) (vs : List Value) → AllByRecursion (λ (t : Telling). t.at ≡ e) (gains e vs)
+gains-own : (e : End) (vs : List Value) → AllByRecursion (λ (t : FeatureChange). t.at ≡ e) (gains e vs)
 gains-own e [] = tt
 gains-own e (v ∷ vs) = (refl, gains-own e vs)
 
@@ -58,7 +58,7 @@ gained m e many [] h = ap (λ (vs : List Value). record { values = vs; flag = h.
 gained m e many (v ∷ vs) h =
     let one : done (shape m e.feature) (Gains v) h ≡ record { values = h.values ++ v ∷ []; flag = h.flag } =
     λ i. record { values = if many i then v ∷ [] else h.values ++ v ∷ []; flag = if many i then (shape m e.feature).is_unsettable else h.flag } in
-    ap (happened_at m (gains e vs) e) (done-here m e (telling e (Gains v)) h (same_end-self e) ∙ one)
+    ap (happened_at m (gains e vs) e) (done-here m e (feature_change e (Gains v)) h (same_end-self e) ∙ one)
     ∙ gained m e many vs (record { values = h.values ++ v ∷ []; flag = h.flag })
     ∙ ap (λ (ws : List Value). record { values = ws; flag = h.flag }) (append_assoc h.values (v ∷ []) vs)
 
@@ -85,13 +85,13 @@ told-gains m e many n ends j (o ∷ os) len =
     let a = shape m e.feature in
     let v = value.Object (loaded n o) in
     let h = ends e in
-    let longer : length (happened m ends (telling e (Gains v)) e).values ≡ j + 1 =
+    let longer : length (happened m ends (feature_change e (Gains v)) e).values ≡ j + 1 =
     ap (λ (b : Bool). length (if b then done a (Gains v) h else h).values) (same_end-self e)
     ∙ ap (λ (b : Bool). length (if b then v ∷ [] else h.values ++ v ∷ [])) many
     ∙ length-append h.values (v ∷ []) ∙ ap (λ (x : ℕ). x + 1) len in
     let rest : told m (replayed_in (has_flag m) ends (notice_of a e (Gains v) h)) (gains e (map (λ o. value.Object (loaded n o)) os)) ≡ map (root_notice n e) (enumerate_from (j + 1) os) =
     ap (λ (x : Ends). told m x (gains e (map (λ o. value.Object (loaded n o)) os))) (replayed_in-gain m ends e v)
-    ∙ told-gains m e many n (happened m ends (telling e (Gains v))) (j + 1) os longer in
+    ∙ told-gains m e many n (happened m ends (feature_change e (Gains v))) (j + 1) os longer in
     λ i. gain-notice m e many n h j o len i ∷ rest i
 
 ---------------------------------------------------------------- the list of roots

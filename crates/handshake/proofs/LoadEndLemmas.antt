@@ -32,14 +32,14 @@ use Rattle.resource_docs.specs.Read.{values_in, values_under}
 use Rattle.resource_docs.specs.declared.doc.Content.{Content}
 use Rattle.resource_docs.specs.declared.doc.Doc.{Doc}
 use Rattle.resource_docs.specs.declared.doc.DocObject.{DocObject}
-use Rattle.loading.specs.Loading.{contents_end, loaded, loaded_links, loaded_value, object_end, roots_loaded, with_links}
-use Rattle.loading.specs.Typed.{IsTyped, IsTypedContent, IsTypedObject, IsTypedValue, class_in}
-use Rattle.loading.proofs.EndLemmas.{end-elsewhere, end-held, end-near, end-roots, end-values, loaded-set_is, loaded_set, one-source}
-use Rattle.loading.proofs.NearLemmas.{IsPlaceOf, at_far, at_near, at_roots, elsewhere, place_of}
-use Rattle.loading.proofs.PairLemmas.{all-at}
-use Rattle.loading.proofs.SideLemmas.{IsFarSide, IsNearSide, IsPlainFeature, contents-shape, opposite-reference}
-use Rattle.loading.proofs.SoundLemmas.{IsThere, has-content, there-object}
-use Rattle.loading.proofs.SourceLemmas.{ascending-distinct, loaded_values, source-at, sources-ascending, sources_from}
+use Rattle.doc_loader.specs.Loading.{contents_end, loaded, loaded_links, loaded_value, object_end, roots_loaded, with_links}
+use Rattle.doc_loader.specs.Typed.{IsTyped, IsTypedContent, IsTypedObject, IsTypedValue, class_in}
+use Rattle.doc_loader.proofs.EndLemmas.{end-elsewhere, end-held, end-near, end-roots, end-values, loaded-set_is, loaded_set, one-source}
+use Rattle.doc_loader.proofs.NearLemmas.{IsPlaceOf, at_far, at_near, at_roots, elsewhere, place_of}
+use Rattle.doc_loader.proofs.PairLemmas.{all-at}
+use Rattle.doc_loader.proofs.SideLemmas.{IsFarSide, IsNearSide, IsPlainFeature, contents-shape, opposite-reference}
+use Rattle.doc_loader.proofs.SoundLemmas.{IsThere, has-content, there-object}
+use Rattle.doc_loader.proofs.SourceLemmas.{ascending-distinct, loaded_values, source-at, sources-ascending, sources_from}
 use Rattle.containment.proofs.PartLemmas.{takes-same}
 use Rattle.handshake.specs.Laws.{comes_with}
 use Rattle.handshake.specs.Plans.{IsDocument}
@@ -258,15 +258,15 @@ module _ (s : Model) (k : ResourceNo) (doc : Doc) (legal : IsLegal s) (late : la
         by None none = near-legal b g (opposite-reference m g f side.pair) (λ c has. absurd (none-some c (sym none ∙ has)))
         by (Some c) has = held-legal b g f c side has
 
-    at-place : (d : End) → IsPlaceOf m n k doc (sound s k doc legal late read) s.links legal.links.set legal.links.kinds legal.links.forest (room s k doc legal late) (few s k doc legal late) d → is_legal_end r d (end linked d) ≡ true
-    at-place d (at_roots q) = subst (λ (y : End). is_legal_end r y (end linked y) ≡ true) q roots-legal
-    at-place d (at_near o f q side) =
+    at-site : (d : End) → IsPlaceOf m n k doc (sound s k doc legal late read) s.links legal.links.set legal.links.kinds legal.links.forest (room s k doc legal late) (few s k doc legal late) d → is_legal_end r d (end linked d) ≡ true
+    at-site d (at_roots q) = subst (λ (y : End). is_legal_end r y (end linked y) ≡ true) q roots-legal
+    at-site d (at_near o f q side) =
         subst (λ (y : End). is_legal_end r y (end linked y) ≡ true) q
         (subst (λ (us : List Value). is_legal_end r (object_end n o f) us ≡ true) (sym (linked-near o f side)) (values-legal o f side.reference (values_in doc o f) refl))
-    at-place d (at_far b g f q side) = subst (λ (y : End). is_legal_end r y (end linked y) ≡ true) q (far-legal b g f side)
-    at-place d (elsewhere outside other) =
+    at-site d (at_far b g f q side) = subst (λ (y : End). is_legal_end r y (end linked y) ≡ true) q (far-legal b g f side)
+    at-site d (elsewhere outside other) =
         subst (λ (us : List Value). is_legal_end r d us ≡ true) (sym (linked-elsewhere d outside other))
         (legal-end-kept none_goes s w linked (same-classes w made) (no-fewer w made) d (end s.links d) (untouched-end d (end s.links d)) (legal.links.ends d))
 
     pub linked-legal : (d : End) → is_legal_end r d (end linked d) ≡ true
-    linked-legal d = at-place d (place_of m n k doc (sound s k doc legal late read) s.links legal.links.set legal.links.kinds legal.links.forest (room s k doc legal late) (few s k doc legal late) d)
+    linked-legal d = at-site d (place_of m n k doc (sound s k doc legal late read) s.links legal.links.set legal.links.kinds legal.links.forest (room s k doc legal late) (few s k doc legal late) d)

@@ -21,16 +21,16 @@ use Rattle.models.specs.Model.{Model, reading}
 use Rattle.containment.proofs.PartLemmas.{IsMade, contains-reference, end-made, holder-at, values-linked}
 use Rattle.resource_docs.specs.Read.{values_in}
 use Rattle.resource_docs.specs.declared.doc.Doc.{Doc}
-use Rattle.loading.specs.Loading.{contents_end, loaded, loaded_value, object_end, roots_loaded}
-use Rattle.loading.proofs.NearLemmas.{IsPlaceOf, at_far, at_near, at_roots, elsewhere, place_of}
-use Rattle.loading.proofs.SoundLemmas.{map-at}
-use Rattle.loading.proofs.SourceLemmas.{at-loaded, loaded-value-object, same-object}
+use Rattle.doc_loader.specs.Loading.{contents_end, loaded, loaded_value, object_end, roots_loaded}
+use Rattle.doc_loader.proofs.NearLemmas.{IsPlaceOf, at_far, at_near, at_roots, elsewhere, place_of}
+use Rattle.doc_loader.proofs.SoundLemmas.{map-at}
+use Rattle.doc_loader.proofs.SourceLemmas.{at-loaded, loaded-value-object, same-object}
 use Rattle.handshake.specs.Effects.{after}
 use Rattle.handshake.specs.Laws.{comes_with}
 use Rattle.handshake.specs.Plans.{IsDocument}
 use Rattle.handshake.specs.Refusals.{early_refusal, late_refusal}
 use Rattle.handshake.specs.declared.change.Change.TheVariants.{Load}
-use Rattle.handshake.proofs.CutTieLemmas.{held_stands}
+use Rattle.handshake.proofs.CutLinkEndLemmas.{held_stands}
 use Rattle.handshake.proofs.LegalLemmas.{one-keeps-legal}
 use Rattle.handshake.proofs.LoadEndLemmas.{linked-before, linked-elsewhere, linked-near, linked-roots}
 use Rattle.handshake.proofs.LoadLemmas.{few, no-roots, room, sound}

@@ -31,19 +31,19 @@ use Rattle.models.specs.Legal.{IsLegal, is_legal_end, is_legal_target}
 use Rattle.models.specs.Model.{Model, reading}
 use Rattle.models.specs.Reading.{at_end, has_feature}
 use Rattle.resource_docs.specs.declared.doc.Doc.{Doc}
-use Rattle.loading.specs.Laws.{IsRoomFor, MakesLinks}
-use Rattle.loading.specs.Loading.{contents_end, is_empty_resource, loaded}
-use Rattle.loading.proofs.DocSoundLemmas.{read-sound}
-use Rattle.loading.proofs.FitLemmas.{read-fits}
-use Rattle.loading.proofs.SameLemmas.{links-made}
-use Rattle.loading.proofs.SideLemmas.{contents-shape}
-use Rattle.loading.proofs.SoundLemmas.{IsSound}
+use Rattle.doc_loader.specs.Laws.{IsRoomFor, MakesLinks}
+use Rattle.doc_loader.specs.Loading.{contents_end, is_empty_resource, loaded}
+use Rattle.doc_loader.proofs.DocSoundLemmas.{read-sound}
+use Rattle.doc_loader.proofs.FitLemmas.{read-fits}
+use Rattle.doc_loader.proofs.SameLemmas.{links-made}
+use Rattle.doc_loader.proofs.SideLemmas.{contents-shape}
+use Rattle.doc_loader.proofs.SoundLemmas.{IsSound}
 use Rattle.containment.proofs.PartLemmas.{object-typed}
 use Rattle.handshake.specs.Plans.{HasFittingDocument, HasReadDocument, IsDocument}
 use Rattle.handshake.specs.Refusals.{late_refusal}
 use Rattle.handshake.specs.declared.change.Change.{Change}
 use Rattle.handshake.specs.declared.change.Change.TheVariants.{Load}
-use Rattle.handshake.proofs.CutTieLemmas.{values-linked}
+use Rattle.handshake.proofs.CutLinkEndLemmas.{values-linked}
 use Rattle.handshake.proofs.KnownLemmas.{none-else_by, none-unless}
 
 ---------------------------------------------------------------- numbers that no object has

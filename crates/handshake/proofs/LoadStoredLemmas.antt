@@ -23,11 +23,11 @@ use Rattle.resource_docs.specs.Read.{values_in, values_under}
 use Rattle.resource_docs.specs.declared.doc.Content.{Content}
 use Rattle.resource_docs.specs.declared.doc.Doc.{Doc}
 use Rattle.resource_docs.specs.declared.doc.DocObject.{DocObject}
-use Rattle.loading.specs.Loading.{attribute_edits, loaded, loaded_values, of_contents, of_object}
-use Rattle.loading.specs.Typed.{IsTyped}
-use Rattle.loading.proofs.PairLemmas.{Apart, all-every, all-flat_map, all-more, numbered-all}
-use Rattle.loading.proofs.SoundLemmas.{HaveOtherFeatures}
-use Rattle.loading.proofs.SourceLemmas.{flat_map-none}
+use Rattle.doc_loader.specs.Loading.{attribute_edits, loaded, loaded_values, of_contents, of_object}
+use Rattle.doc_loader.specs.Typed.{IsTyped}
+use Rattle.doc_loader.proofs.PairLemmas.{Apart, all-every, all-flat_map, all-more, numbered-all}
+use Rattle.doc_loader.proofs.SoundLemmas.{HaveOtherFeatures}
+use Rattle.doc_loader.proofs.SourceLemmas.{flat_map-none}
 use Rattle.handshake.proofs.AttributeLemmas.{stored_for, stored_for-with_list}
 use Rattle.handshake.proofs.LoadValueLemmas.{after_made, behind, fresh, load-values, made-class, two-steps}
 use Rattle.handshake.proofs.ObjectLegalLemmas.{class-put}

@@ -23,9 +23,9 @@ use Rattle.models.specs.Legal.{IsLegalObject, IsLegalStored, is_legal_list, is_l
 use Rattle.resource_docs.specs.declared.doc.Content.{Content}
 use Rattle.resource_docs.specs.declared.doc.Doc.{Doc}
 use Rattle.resource_docs.specs.declared.doc.DocObject.{DocObject}
-use Rattle.loading.specs.Loading.{attribute_edits, loaded, loaded_values, of_contents, of_object}
-use Rattle.loading.specs.Typed.{IsTyped, IsTypedContent, IsTypedObject, IsTypedValue, class_in}
-use Rattle.loading.proofs.PairLemmas.{all-at, all-flat_map, numbered-all}
+use Rattle.doc_loader.specs.Loading.{attribute_edits, loaded, loaded_values, of_contents, of_object}
+use Rattle.doc_loader.specs.Typed.{IsTyped, IsTypedContent, IsTypedObject, IsTypedValue, class_in}
+use Rattle.doc_loader.proofs.PairLemmas.{all-at, all-flat_map, numbered-all}
 use Rattle.containment.proofs.PartLemmas.{object-reference}
 use Rattle.handshake.proofs.ObjectLegalLemmas.{class-put, created, legal-at, put-at}
 
@@ -40,7 +40,7 @@ before [] ys i low = absurd (omega (arith, low))
 before (o ∷ os) ys zero low = refl
 before (o ∷ os) ys (suc i) low = before os ys i (omega (arith, low))
 
--- what is put behind a place changes nothing there
+-- what is put behind a position changes nothing there
 set-behind : (os : Objects) (k i : ℕ) (x : Option ObjectState) → i < k → slice_index_or (slice_set os k x) i None ≡ slice_index_or os i None
 set-behind [] k i x low = refl
 set-behind (o ∷ os) zero i x low = absurd (omega (arith, low))

@@ -28,11 +28,11 @@ use Rattle.containment.proofs.PartLemmas.{contains-itself, contains-reference, v
 use Rattle.resource_docs.specs.Read.{values_in, values_under}
 use Rattle.resource_docs.specs.declared.doc.Doc.{Doc}
 use Rattle.resource_docs.specs.declared.doc.DocObject.{DocObject}
-use Rattle.loading.specs.Loading.{contents_end, loaded, loaded_value, object_end}
-use Rattle.loading.proofs.SideLemmas.{IsFarSide, IsPlainFeature, contents-shape, near-contained, opposite-reference, sides}
-use Rattle.loading.proofs.SoundLemmas.{IsSound, at-map, object-there, there-object}
-use Rattle.loading.proofs.SourceLemmas.{at-source, loaded-at, source-at, sources_from}
-use Rattle.loading.proofs.TypedLemmas.{read-typed}
+use Rattle.doc_loader.specs.Loading.{contents_end, loaded, loaded_value, object_end}
+use Rattle.doc_loader.proofs.SideLemmas.{IsFarSide, IsPlainFeature, contents-shape, near-contained, opposite-reference, sides}
+use Rattle.doc_loader.proofs.SoundLemmas.{IsSound, at-map, object-there, there-object}
+use Rattle.doc_loader.proofs.SourceLemmas.{at-source, loaded-at, source-at, sources_from}
+use Rattle.doc_loader.proofs.TypedLemmas.{read-typed}
 use Rattle.handshake.specs.Effects.{after}
 use Rattle.handshake.specs.Laws.{comes_with}
 use Rattle.handshake.specs.Loaded.{HasObjectsOf, HasRootsOf, IsContainer, IsElseAsBefore, IsWrittenWith, LoadsEnds}

@@ -15,20 +15,20 @@ use Rattle.links.specs.Holders.{contained}
 use Rattle.links.specs.Plans.{put_edit}
 use Rattle.models.specs.Legal.{IsLegal}
 use Rattle.models.specs.Model.{Model, reading}
-use Rattle.models.specs.Reading.{Reading, at_end, is_repeat, place_for, shape_at}
-use Rattle.removal.specs.TreeTies.{tie}
-use Rattle.removal.specs.declared.tie.Tie.{Tie}
+use Rattle.models.specs.Reading.{Reading, at_end, is_repeat, position_for, shape_at}
+use Rattle.removal.specs.TreeLinkEnds.{link_end}
+use Rattle.removal.specs.declared.link_end.LinkEnd.{LinkEnd}
 use Rattle.handshake.specs.declared.change.Change.{Change}
 use Rattle.handshake.specs.declared.change.Change.TheVariants.{Set, Add}
 use Rattle.links.specs.declared.link.NewLink.{NewLink}
-use Rattle.handshake.specs.Displaced.{cut_by_new, cut_by_set, displaces, has_already, holding_tie, is_plain_add, is_plain_set, is_taken, once, ties_if_single, yields}
+use Rattle.handshake.specs.Displaced.{cut_by_new, cut_by_set, displaces, has_already, holding_link_end, is_plain_add, is_plain_set, is_taken, once, link_ends_if_single, yields}
 use Rattle.handshake.specs.Edits.{cut_of, link_edits, new_put}
 use Rattle.handshake.specs.Effects.{add_value, put_values, value_edits}
 use Rattle.handshake.specs.LonePuts.{lone_put, of_put, put_at}
 use Rattle.handshake.specs.Plans.{IsPlanOf}
 use Rattle.handshake.specs.Refusals.{early_refusal, late_refusal}
 use Rattle.handshake.specs.Resolving.{opposite_end}
-use Rattle.handshake.proofs.CutTieLemmas.{plain-not}
+use Rattle.handshake.proofs.CutLinkEndLemmas.{plain-not}
 use Rattle.handshake.proofs.PlanLemmas.{planned}
 
 ---------------------------------------------------------------- nothing displaced
@@ -40,25 +40,25 @@ neither false b h = (refl, h)
 positive : (n : ℕ) → nat_lt 0 (suc n) ≡ false → ⊥
 positive n h = grind (arith, nat_tests)
 
-none-of : (e : End) (vs : List Value) → nat_lt 0 (length vs) ≡ false → map (tie e) vs ≡ []
+none-of : (e : End) (vs : List Value) → nat_lt 0 (length vs) ≡ false → map (link_end e) vs ≡ []
 none-of e [] h = refl
 none-of e (v ∷ vs) h = absurd (positive (length vs) h)
 
-none-held : (r : Reading) (e : End) → is_taken r e ≡ false → ties_if_single r e ≡ []
+none-held : (r : Reading) (e : End) → is_taken r e ≡ false → link_ends_if_single r e ≡ []
 none-held r e h = by (shape_at r e).is_single h
   where
-    by : (b : Bool) → (b && nat_lt 0 (length (r.values e))) ≡ false → (if b then map (tie e) (r.values e) else []) ≡ []
+    by : (b : Bool) → (b && nat_lt 0 (length (r.values e))) ≡ false → (if b then map (link_end e) (r.values e) else []) ≡ []
     by true h = none-of e (r.values e) h
     by false h = refl
 
-none-far : (r : Reading) (q : Option End) → option_map_or (is_taken r) q false ≡ false → option_map_or (ties_if_single r) q [] ≡ []
+none-far : (r : Reading) (q : Option End) → option_map_or (is_taken r) q false ≡ false → option_map_or (link_ends_if_single r) q [] ≡ []
 none-far r (Some d) h = none-held r d h
 none-far r None h = refl
 
-none-holding : (r : Reading) (q : Option Node) → option_map_or (λ n. is_some (r.holder n)) q false ≡ false → option_map_or (λ n. option_to_list (holding_tie r n)) q [] ≡ []
+none-holding : (r : Reading) (q : Option Node) → option_map_or (λ n. is_some (r.holder n)) q false ≡ false → option_map_or (λ n. option_to_list (holding_link_end r n)) q [] ≡ []
 none-holding r (Some n) h = by (r.holder n) h
   where
-    by : (q : Option End) → is_some q ≡ false → option_to_list (option_map (λ d. tie d (node_value n)) q) ≡ []
+    by : (q : Option End) → is_some q ≡ false → option_to_list (option_map (λ d. link_end d (node_value n)) q) ≡ []
     by (Some d) h = absurd (true≢false h)
     by None h = refl
 none-holding r None h = refl
@@ -102,7 +102,7 @@ set-planned s n f (value.Object o) p legal early h =
     let reference = (plain-not (shape_at r e).is_reference (has_already r e v) k.plain).0 in
     let edits : put_edit p ∷ [] ≡ link_edits r c =
     sym (ap (λ (b : Bool). map cut_of (if b then [] else cut_by_set r e v) ++ option_to_list (if b then None else new_put r e 0 v)) k.plain
-    ∙ ap (λ (ts : List Tie). map cut_of ts ++ put_edit (put_at r e 0 o) ∷ []) (yields-none r e o k.displaced)
+    ∙ ap (λ (ts : List LinkEnd). map cut_of ts ++ put_edit (put_at r e 0 o) ∷ []) (yields-none r e o k.displaced)
     ∙ ap (λ (q : NewLink). put_edit q ∷ []) k.is) in
     let lists : [] ≡ value_edits r c = sym (ap (λ (b : Bool). if b then [] else put_values e (v ∷ []) (shape_at r e).is_unsettable) reference) in
     planned false s c (of_put p) refl legal early late tt (record { whose = refl; found = tt }) refl refl edits lists refl
@@ -114,13 +114,13 @@ add-planned s n f (value.Object o) i p legal early h =
     let e = at_end n f in
     let v = value.Object o in
     let c = Add n f v i in
-    let at = place_for r e i in
+    let at = position_for r e i in
     let k = chosen (displaces r e o) (is_plain_add r e v) (is_some (late_refusal r c)) (put_at r e at o) p h in
     let late = nothing (late_refusal r c) k.refused in
     let reference = (plain-not (shape_at r e).is_reference (is_repeat r e v) k.plain).0 in
     let edits : put_edit p ∷ [] ≡ link_edits r c =
     sym (ap (λ (b : Bool). map cut_of (if b then [] else cut_by_new r e v) ++ option_to_list (if b then None else new_put r e at v)) k.plain
-    ∙ ap (λ (ts : List Tie). map cut_of ts ++ put_edit (put_at r e at o) ∷ []) (yields-none r e o k.displaced)
+    ∙ ap (λ (ts : List LinkEnd). map cut_of ts ++ put_edit (put_at r e at o) ∷ []) (yields-none r e o k.displaced)
     ∙ ap (λ (q : NewLink). put_edit q ∷ []) k.is) in
     let lists : [] ≡ value_edits r c = sym (ap (λ (b : Bool). if b then [] else add_value r e v i) reference) in
     planned false s c (of_put p) refl legal early late tt (record { whose = refl; found = tt }) refl refl edits lists refl

@@ -10,9 +10,9 @@ use Rattle.mm_types.specs.declared.value.Value.{Value}
 use Rattle.mm_types.specs.declared.value.Value.TheVariants as value
 use Rattle.models.specs.Reading.{Reading}
 use Rattle.handshake.specs.Displaced.{turned}
-use Rattle.handshake.specs.Tellings.{far_loss, is_replaced, loss, losses, other_losses}
-use Rattle.handshake.specs.declared.happening.Happening.TheVariants.{Gains, Loses}
-use Rattle.removal.specs.declared.tie.Tie.{Tie}
+use Rattle.handshake.specs.FeatureChanges.{far_loss, is_replaced, loss, losses, other_losses}
+use Rattle.handshake.specs.declared.change_kind.ChangeKind.TheVariants.{Gains, Loses}
+use Rattle.removal.specs.declared.link_end.LinkEnd.{LinkEnd}
 use Rattle.handshake.proofs.HappenedLemmas.{done, happened_at, happened_at-append, happened_at-filter}
 
 -- what a single end holds after a gain, and after a loss
@@ -29,7 +29,7 @@ pub gained-single : (a : Shape) (v : Value) (h : Held) → IsSingle a → done a
 gained-single a v h single = rw single refl
 
 -- where a new link replaces nothing, the other losses are all
-pub happened_at-other_losses : (r : Reading) (e : End) (o : ObjectNo) (ts : List Tie) (d : End) (h : Held) → is_replaced r e o d ≡ false
+pub happened_at-other_losses : (r : Reading) (e : End) (o : ObjectNo) (ts : List LinkEnd) (d : End) (h : Held) → is_replaced r e o d ≡ false
     → happened_at r.metamodel (flat_map (other_losses r e o) ts) d h ≡ happened_at r.metamodel (flat_map (losses r) ts) d h
 happened_at-other_losses r e o [] d h kept = refl
 happened_at-other_losses r e o (t ∷ ts) d h kept =
@@ -40,16 +40,16 @@ happened_at-other_losses r e o (t ∷ ts) d h kept =
     ∙ sym (happened_at-append m (losses r t) (flat_map (losses r) ts) d h)
 
 -- at another end than the near one, the far losses are all
-pub happened_at-far_loss : (r : Reading) (t : Tie) (d : End) (h : Held) → same_end t.end d ≡ false → happened_at r.metamodel (far_loss r t) d h ≡ happened_at r.metamodel (losses r t) d h
+pub happened_at-far_loss : (r : Reading) (t : LinkEnd) (d : End) (h : Held) → same_end t.end d ≡ false → happened_at r.metamodel (far_loss r t) d h ≡ happened_at r.metamodel (losses r t) d h
 happened_at-far_loss r t d h other = by (turned r t)
   where
-    far : (a : Shape) (v : Value) (u : Tie) (b : Bool) → b ≡ false → (if same_end u.end d then done a (Loses u.value) h else h) ≡ (let k = if b then done a (Loses v) h else h in if same_end u.end d then done a (Loses u.value) k else k)
+    far : (a : Shape) (v : Value) (u : LinkEnd) (b : Bool) → b ≡ false → (if same_end u.end d then done a (Loses u.value) h else h) ≡ (let k = if b then done a (Loses v) h else h in if same_end u.end d then done a (Loses u.value) k else k)
     far a v u b other = rw other refl
 
-    far_turned : (a : Shape) (v : Value) (u : Tie) (b : Bool) → b ≡ false → (if same_end u.end d then done a (Loses u.value) h else h) ≡ (let k = if same_end u.end d then done a (Loses u.value) h else h in if b then done a (Loses v) k else k)
+    far_turned : (a : Shape) (v : Value) (u : LinkEnd) (b : Bool) → b ≡ false → (if same_end u.end d then done a (Loses u.value) h else h) ≡ (let k = if same_end u.end d then done a (Loses u.value) h else h in if b then done a (Loses v) k else k)
     far_turned a v u b other = rw other refl
 
-    by : (o : Option Tie) → happened_at r.metamodel (option_map_or (λ u. loss u ∷ []) o []) d h
+    by : (o : Option LinkEnd) → happened_at r.metamodel (option_map_or (λ u. loss u ∷ []) o []) d h
         ≡ happened_at r.metamodel (option_map_or (λ u. if is_containment r.metamodel u.end.feature then loss u ∷ loss t ∷ [] else loss t ∷ loss u ∷ []) o (loss t ∷ [])) d h
     by None = rw other refl
     by (Some u) =

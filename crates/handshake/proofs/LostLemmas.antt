@@ -29,13 +29,13 @@ use Rattle.links.proofs.OrderLemmas.{order-apart}
 use Rattle.removal.specs.Losses.{is_lost, kept_at, loss, lost_at, lost_from}
 use Rattle.removal.specs.declared.loss.Loss.{Loss}
 use Rattle.handshake.specs.Reports.{lost_notice}
-use Rattle.handshake.specs.Telling.{has_flag, happened_all, notice, notice_of, telling, told, without}
-use Rattle.handshake.specs.Tellings.{lost_with}
-use Rattle.handshake.specs.declared.happening.Happening.TheVariants.{Loses}
-use Rattle.handshake.specs.declared.happening.Telling.{Telling}
+use Rattle.handshake.specs.FeatureChange.{has_flag, happened_all, notice, notice_of, feature_change, told, without}
+use Rattle.handshake.specs.FeatureChanges.{lost_with}
+use Rattle.handshake.specs.declared.change_kind.ChangeKind.TheVariants.{Loses}
+use Rattle.handshake.specs.declared.change_kind.FeatureChange.{FeatureChange}
 use Rattle.handshake.proofs.ApartLemmas.{told-append}
 use Rattle.handshake.proofs.CutEndLemmas.{reference-flag, reference-plain}
-use Rattle.handshake.proofs.CutTieLemmas.{same_end-symmetric, values-linked}
+use Rattle.handshake.proofs.CutLinkEndLemmas.{same_end-symmetric, values-linked}
 use Rattle.handshake.proofs.HappenedLemmas.{at-own, done, done-here, happened_all-at, happened_at, happened_at-append}
 use Rattle.handshake.proofs.ReplayLemmas.{removed-index, replayed_all-told}
 
@@ -73,8 +73,8 @@ length-push (k ∷ ks) v = ap suc (length-push ks v)
 
 ---------------------------------------------------------------- one telling
 
-abbrev pub loses : End → Value → Telling
-loses d v = telling d (Loses v)
+abbrev pub loses : End → Value → FeatureChange
+loses d v = feature_change d (Loses v)
 
 -- what its end holds once a loss is replayed
 next-at : (m : Metamodel) (e : Ends) (d : End) (v : Value) (h : Held) → e d ≡ h → replayed_in (has_flag m) e (notice_of (shape m d.feature) d (Loses v) (e d)) d ≡ done (shape m d.feature) (Loses v) h
@@ -220,7 +220,7 @@ module _ (s : Model) (legal : IsLegal s) (o : ObjectNo) (d : End) (reference : (
 
 ---------------------------------------------------------------- all ends
 
-own-losses : (d : End) (vs : List Value) → AllByRecursion (λ (t : Telling). t.at ≡ d) (map (loses d) vs)
+own-losses : (d : End) (vs : List Value) → AllByRecursion (λ (t : FeatureChange). t.at ≡ d) (map (loses d) vs)
 own-losses d [] = tt
 own-losses d (v ∷ vs) = (refl, own-losses d vs)
 
@@ -228,7 +228,7 @@ module _ (s : Model) (legal : IsLegal s) (o : ObjectNo) where
   abbrev rd : Reading
   rd = reading s
 
-  abbrev lost_ends : List End → List Telling
+  abbrev lost_ends : List End → List FeatureChange
   lost_ends ds = flat_map (lost_with rd o) ds
 
   pub ends-notices : (ds : List End) (e : Ends) → AreInOrder ds → AllByRecursion (λ (d : End). (shape s.metamodel d.feature).is_reference ≡ true) ds → AllByRecursion (λ (d : End). e d ≡ held_at rd d) ds

@@ -21,17 +21,17 @@ use Rattle.links.proofs.LegalLemmas.{IsPlanOfKind-append, PlanFits-append, PlanM
 use Rattle.mm_values.specs.Values as values
 use Rattle.models.specs.Legal.{IsLegal, kinds_of}
 use Rattle.models.specs.Model.{Model, reading}
-use Rattle.models.specs.Reading.{Reading, at_end, is_repeat, place_for, shape_at}
+use Rattle.models.specs.Reading.{Reading, at_end, is_repeat, position_for, shape_at}
 use Rattle.resource_docs.specs.declared.doc.Doc.{Doc}
-use Rattle.loading.specs.LoadEdits.{load_edits}
-use Rattle.loading.specs.Loading.{loaded_links, with_links}
-use Rattle.loading.proofs.KindLemmas.{read-kind}
+use Rattle.doc_loader.specs.LoadEdits.{load_edits}
+use Rattle.doc_loader.specs.Loading.{loaded_links, with_links}
+use Rattle.doc_loader.proofs.KindLemmas.{read-kind}
 use Rattle.handshake.specs.declared.change.Change.{Change}
 use Rattle.handshake.specs.declared.change.Change.TheVariants.{Create, Set, Unset, Add, Remove, RemoveValue, Move, Delete, NewResource, Resolve, ResolveAll, Load}
 use Rattle.handshake.specs.declared.planned.Planned.{Planned}
-use Rattle.removal.specs.declared.tie.Tie.{Tie}
-use Rattle.handshake.specs.Tellings.{chain, resolved_by, resolves_all, target_of}
-use Rattle.handshake.specs.Displaced.{cut_by_new, cut_by_set, cut_ties, has_already, is_plain_add, is_plain_set}
+use Rattle.removal.specs.declared.link_end.LinkEnd.{LinkEnd}
+use Rattle.handshake.specs.FeatureChanges.{chain, resolved_by, resolves_all, target_of}
+use Rattle.handshake.specs.Displaced.{cut_by_new, cut_by_set, cut_link_ends, has_already, is_plain_add, is_plain_set}
 use Rattle.handshake.specs.Edits.{cut_of, link_edits, made_edits, new_put}
 use Rattle.handshake.specs.Effects.{links_after, put_by, value_edits, with_value}
 use Rattle.handshake.specs.Plans.{HasReadDocument, IsDocument, IsPlanOf, IsRemovalOf}
@@ -39,7 +39,7 @@ use Rattle.handshake.specs.Refusals.{early_refusal, late_refusal, link_refusal}
 use Rattle.handshake.proofs.KnownLemmas.{IsResolvable, add-gains, add-named, add-taken, kinds-are, linkable, move-placed, set-named, set-taken}
 use Rattle.handshake.proofs.LoadLemmas.{load-makes}
 use Rattle.handshake.proofs.LinkLemmas.{IsNewLink, many-lacks, near-empty, near-same, new-fits, new-outside, new_edit, single-lacks, without_displaced}
-use Rattle.handshake.proofs.CutTieLemmas.{cuts-once, cuts-there, left-cuts, plain-not, values-linked}
+use Rattle.handshake.proofs.CutLinkEndLemmas.{cuts-once, cuts-there, left-cuts, plain-not, values-linked}
 use Rattle.removal.specs.Laws.{names_of}
 use Rattle.handshake.proofs.ResolveLemmas.{alone-fits, alone-outside, both, joint, joint-fits, joint-outside, last-index, left, shift-fits}
 use Rattle.handshake.proofs.ResolvedLemmas.{resolved-as}
@@ -103,10 +103,10 @@ set-puts s n f (value.Object o) legal early late h =
     one-put s legal e o new 0 _ (omega arith) (ap (λ (vs : List Value). put t e (length vs) o a.opposite a.containing) (sym empty))
 set-puts s n f _ legal early late h = no-puts s _
 
--- the place of an addition is one of the list that is left
-pub add-place : (s : Model) (n : Node) (f : FeatureNo) (o : ObjectNo) (i : Option ℕ) → IsLegal s → (early : early_refusal (reading s) (Add n f (value.Object o) i) ≡ None) (late : late_refusal (reading s) (Add n f (value.Object o) i) ≡ None)
-    → (h : is_plain_add (reading s) (at_end n f) (value.Object o) ≡ false) → (let xs = end (without_displaced s (at_end n f) o) (at_end n f) in let k = place_for (reading s) (at_end n f) i in (k ≤ length xs) × (k ≡ unwrap_or i (length xs)) × (xs ≡ end s.links (at_end n f)))
-add-place s n f o i legal early late h =
+-- the position of an addition is one of the list that is left
+pub add-site : (s : Model) (n : Node) (f : FeatureNo) (o : ObjectNo) (i : Option ℕ) → IsLegal s → (early : early_refusal (reading s) (Add n f (value.Object o) i) ≡ None) (late : late_refusal (reading s) (Add n f (value.Object o) i) ≡ None)
+    → (h : is_plain_add (reading s) (at_end n f) (value.Object o) ≡ false) → (let xs = end (without_displaced s (at_end n f) o) (at_end n f) in let k = position_for (reading s) (at_end n f) i in (k ≤ length xs) × (k ≡ unwrap_or i (length xs)) × (xs ≡ end s.links (at_end n f)))
+add-site s n f o i legal early late h =
     let r = reading s in
     let e = at_end n f in
     let new = add-new s n f o i early late h in
@@ -114,18 +114,18 @@ add-place s n f o i legal early late h =
     let linked = values-linked s e new.reference in
     let is : (reading s).values e ≡ end (without_displaced s e o) e = linked ∙ sym same in
     let placed = (add-taken r n f (value.Object o) i late).placed in
-    let low : place_for r e i ≤ length (r.values e) = grind (arith, nat_tests) in
-    (subst (λ (vs : List Value). place_for r e i ≤ length vs) is low, ap (λ (vs : List Value). unwrap_or i (length vs)) is, same)
+    let low : position_for r e i ≤ length (r.values e) = grind (arith, nat_tests) in
+    (subst (λ (vs : List Value). position_for r e i ≤ length vs) is low, ap (λ (vs : List Value). unwrap_or i (length vs)) is, same)
 
 add-puts : (s : Model) (n : Node) (f : FeatureNo) (v : Value) (i : Option ℕ) → IsLegal s → early_refusal (reading s) (Add n f v i) ≡ None → late_refusal (reading s) (Add n f v i) ≡ None → is_plain_add (reading s) (at_end n f) v ≡ false
-    → (let t = without_all s.links (names_of (cut_by_new (reading s) (at_end n f) v)) in ArePuts s t (option_to_list (new_put (reading s) (at_end n f) (place_for (reading s) (at_end n f) i) v)) (with_value t (reading s) (at_end n f) i v))
+    → (let t = without_all s.links (names_of (cut_by_new (reading s) (at_end n f) v)) in ArePuts s t (option_to_list (new_put (reading s) (at_end n f) (position_for (reading s) (at_end n f) i) v)) (with_value t (reading s) (at_end n f) i v))
 add-puts s n f (value.Object o) i legal early late h =
     let r = reading s in
     let e = at_end n f in
     let a = shape s.metamodel f in
     let t = without_displaced s e o in
-    let at = add-place s n f o i legal early late h in
-    one-put s legal e o (add-new s n f o i early late h) (place_for r e i) _ at.0 (ap (λ (k : ℕ). put t e k o a.opposite a.containing) at.1)
+    let at = add-site s n f o i legal early late h in
+    one-put s legal e o (add-new s n f o i early late h) (position_for r e i) _ at.0 (ap (λ (k : ℕ). put t e k o a.opposite a.containing) at.1)
 add-puts s n f _ i legal early late h = no-puts s _
 
 pub below : (k n : ℕ) → nat_lt k n ≡ true → k < n
@@ -166,7 +166,7 @@ load-puts s k doc legal late read =
     record { fits = made.fits; of_kind = read-kind s.metamodel read.uri doc (length s.values.objects) k read.read; no_cycle = made.no_cycle; makes = made.makes }
 
 are-puts : (s : Model) (c : Change) → resolves_all c ≡ false → IsLegal s → early_refusal (reading s) c ≡ None → late_refusal (reading s) c ≡ None → HasReadDocument s.metamodel c
-    → ArePuts s (without_all s.links (names_of (cut_ties (reading s) c))) (made_edits (reading s) c) (put_by (without_all s.links (names_of (cut_ties (reading s) c))) (reading s) c)
+    → ArePuts s (without_all s.links (names_of (cut_link_ends (reading s) c))) (made_edits (reading s) c) (put_by (without_all s.links (names_of (cut_link_ends (reading s) c))) (reading s) c)
 are-puts s (Create k) one legal early late read = no-puts s s.links
 are-puts s (NewResource u) one legal early late read = no-puts s s.links
 are-puts s (Delete o) one legal early late read = no-puts s _
@@ -185,7 +185,7 @@ are-puts s (Add n f v i) one legal early late read =
     let r = reading s in
     let e = at_end n f in
     let t : Bool → Links = λ b. without_all s.links (names_of (if b then [] else cut_by_new r e v)) in
-    elim (is_plain_add r e v) as (λ b. is_plain_add r e v ≡ b → ArePuts s (t b) (option_to_list (if b then None else new_put r e (place_for r e i) v)) (if b then t b else with_value (t b) r e i v)) [
+    elim (is_plain_add r e v) as (λ b. is_plain_add r e v ≡ b → ArePuts s (t b) (option_to_list (if b then None else new_put r e (position_for r e i) v)) (if b then t b else with_value (t b) r e i v)) [
       | true ↦ λ plain. no-puts s s.links
       | false ↦ λ new. add-puts s n f v i legal early late new
     ] refl
@@ -204,7 +204,7 @@ are-puts s (Load k doc) one legal early late read = load-puts s k doc legal late
 
 ---------------------------------------------------------------- the whole plan
 
-cut_edits-pairs : (ts : List Tie) → map cut_of ts ≡ cut_edits (names_of ts)
+cut_edits-pairs : (ts : List LinkEnd) → map cut_of ts ≡ cut_edits (names_of ts)
 cut_edits-pairs [] = refl
 cut_edits-pairs (t ∷ ts) = ap (λ (xs : List Edit). cut_of t ∷ xs) (cut_edits-pairs ts)
 
@@ -217,7 +217,7 @@ pub record IsPlanFor (s : Model) (c : Change) (xs : List Edit) : Type 0 where
 
 module _ (s : Model) (c : Change) (one : resolves_all c ≡ false) (legal : IsLegal s) (early : early_refusal (reading s) c ≡ None) (late : late_refusal (reading s) c ≡ None) (read : HasReadDocument s.metamodel c) where
   ts : List (End × Value)
-  ts = names_of (cut_ties (reading s) c)
+  ts = names_of (cut_link_ends (reading s) c)
 
   pub plan-for : IsPlanFor s c (link_edits (reading s) c)
   unfolding ts
@@ -237,7 +237,7 @@ module _ (s : Model) (c : Change) (one : resolves_all c ≡ false) (legal : IsLe
             applied-append s.links (cut_edits ts) xs ∙ ap (λ (t : Links). applied t xs) cut ∙ last.makes
             ∙ ap (λ (t : Links). put_by t (reading s) c) (sym (left-cuts s c legal early));
       } in
-      subst (λ (ys : List Edit). IsPlanFor s c (ys ++ xs)) (sym (cut_edits-pairs (cut_ties (reading s) c))) whole
+      subst (λ (ys : List Edit). IsPlanFor s c (ys ++ xs)) (sym (cut_edits-pairs (cut_link_ends (reading s) c))) whole
 
 -- nothing is resolved by a change that doesn't resolve all proxies
 pub none-counted : (r : Reading) (c : Change) → resolves_all c ≡ false → None ≡ resolved_by r c

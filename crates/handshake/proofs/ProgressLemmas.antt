@@ -29,18 +29,18 @@ use Rattle.handshake.specs.Effects.{with_resolution}
 use Rattle.handshake.specs.Joining.{IsProgress, counterpart_by, found_by, target_by, unless_refused}
 use Rattle.handshake.specs.Keys.{has, key, key_of}
 use Rattle.handshake.specs.Leads.{first_index, index_at, lead, leads}
-use Rattle.handshake.specs.Proxies.{end_of, is_proxy_place}
+use Rattle.handshake.specs.Proxies.{end_of, is_proxy_site}
 use Rattle.handshake.specs.Refusals.{is_mistyped, is_there_already, resolve_refusal, target_refusal}
 use Rattle.handshake.specs.Resolving.{counterpart, first_to, is_unmatched, leads_to, proxy_at, target, target_at}
 use Rattle.handshake.specs.ResolvingAll.{left_by, resolutions, resolved_to, values_left}
-use Rattle.handshake.specs.Tellings.{resolution_told}
+use Rattle.handshake.specs.FeatureChanges.{resolution_told}
 use Rattle.handshake.specs.declared.joining.Progress.{Progress}
 use Rattle.handshake.specs.declared.keys.Key.{Key}
 use Rattle.handshake.specs.declared.leads.FirstLeads.{FirstLeads}
-use Rattle.handshake.specs.declared.place.Place.{Place}
+use Rattle.handshake.specs.declared.site.ProxySite.{ProxySite}
 use Rattle.handshake.specs.declared.target.Counterpart.{Counterpart}
 use Rattle.handshake.specs.declared.target.Target.{Target}
-use Rattle.handshake.proofs.CutTieLemmas.{values-linked}
+use Rattle.handshake.proofs.CutLinkEndLemmas.{values-linked}
 use Rattle.handshake.proofs.FollowLemmas.{Follows, IsLed, IsSameOrLed, all-follow, at-stays}
 use Rattle.handshake.proofs.JoinedLemmas.{position-any, positions-alike}
 use Rattle.handshake.proofs.KnownLemmas.{far-reference}
@@ -48,11 +48,11 @@ use Rattle.handshake.proofs.LeadLemmas.{first-is}
 use Rattle.handshake.proofs.LinkLemmas.{lacks-far}
 use Rattle.handshake.proofs.ResolveAllLemmas.{Leads, all-lead}
 use Rattle.handshake.proofs.ResolvedReadingLemmas.{with_links}
-use Rattle.handshake.proofs.ResolveLemmas.{place-below}
+use Rattle.handshake.proofs.ResolveLemmas.{site-below}
 
 ---------------------------------------------------------------- refusals
 
--- where a proxy stands at a place of a list and has a URI that is there, three reasons are left
+-- where a proxy stands at a position of a list and has a URI that is there, three reasons are left
 three-left : (m d w : Bool) → is_some (WrongType where_so m else_by Index unless true else_by Duplicate where_so d else_by NotProxy unless true else_by Unloaded where_so false else_by Unresolved unless true else_by Unmatched where_so w) ≡ (m || (d || w))
 three-left true d w = refl
 three-left false true w = refl
@@ -72,7 +72,7 @@ uri-there r t o h = marked (has_mark t) h
     marked false found = absurd (none-some o found)
 
 -- no proxy, no target, and nothing is resolved
-none-resolved : (r : Reading) (p : Place) → target_at r (end_of p) p.index ≡ None → resolved_to r p ≡ None
+none-resolved : (r : Reading) (p : ProxySite) → target_at r (end_of p) p.index ≡ None → resolved_to r p ≡ None
 none-resolved r p none = elim (is_some (resolve_refusal r (end_of p) p.index)) as (λ b. (if b then None else target_at r (end_of p) p.index) ≡ None) [ true ↦ refl | false ↦ none ]
 
 -- the tests agree where the targets do
@@ -84,7 +84,7 @@ tests-agree false false false W x y same = ap (λ (z : Target). if W z then None
 
 ---------------------------------------------------------------- one proxy
 
-module _ (s : Model) (legal : IsLegal s) (ps : List Place) where
+module _ (s : Model) (legal : IsLegal s) (ps : List ProxySite) where
   abbrev r : Reading
   r = reading s
 
@@ -111,7 +111,7 @@ module _ (s : Model) (legal : IsLegal s) (ps : List Place) where
       by None = refl
       by (Some text) = ap (λ q. option_map_or (λ (o : ObjectNo). nat_eq o.0 a.0) q false) (at-now text)
 
-  module _ (p : Place) (o : ObjectNo) (reference : (shape s.metamodel p.feature).is_reference ≡ true) (absent : has_value ((left_by (reading s) ps).values (end_of p)) (value.Object o) ≡ false) where
+  module _ (p : ProxySite) (o : ObjectNo) (reference : (shape s.metamodel p.feature).is_reference ≡ true) (absent : has_value ((left_by (reading s) ps).values (end_of p)) (value.Object o) ≡ false) where
     abbrev e : End
     e = end_of p
 
@@ -173,7 +173,7 @@ module _ (s : Model) (legal : IsLegal s) (ps : List Place) where
 
   ---------------------------------------------------------------- what it is resolved to
 
-  module _ (g : Progress) (known : IsProgress (reading s) ps g) (f : FirstLeads) (table : (k : Key) → index_at f k ≡ first_index (leads (reading s)) k) (p : Place) (proxy : is_proxy_place (reading s) p ≡ true) where
+  module _ (g : Progress) (known : IsProgress (reading s) ps g) (f : FirstLeads) (table : (k : Key) → index_at f k ≡ first_index (leads (reading s)) k) (p : ProxySite) (proxy : is_proxy_site (reading s) p ≡ true) where
     abbrev here : End
     here = end_of p
 
@@ -200,7 +200,7 @@ module _ (s : Model) (legal : IsLegal s) (ps : List Place) where
     none-left : (x : IsLed r (slice_get (r.values here) i) (slice_get (now.values here) i)) → target_by r g f (lead r p) ≡ resolved_to now p
     none-left x =
         let none : proxy_at now here i ≡ None = ap (option_and_then text_of) x.is in
-        let is_gone = gone-true (is_proxy_place now p) (is_proxy_place r p) gone (ap is_some none) proxy (known.gone p) in
+        let is_gone = gone-true (is_proxy_site now p) (is_proxy_site r p) gone (ap is_some none) proxy (known.gone p) in
         let object : (lead r p).object ≡ Some x.object = ap (λ (q : Option Value). option_and_then (at r) (option_and_then text_of q)) x.proxy ∙ x.leads in
         ap (option_and_then (λ o. unless_refused r g p (found_by r f p o))) object
         ∙ (λ k. let y = found_by r f p x.object in if (is_gone k || (is_mistyped r here (Some y) || (is_there_already r here (Some y) || (has g.linked (key p.object p.feature x.object.0) || is_unmatched r here y)))) then None else Some y)
@@ -211,7 +211,7 @@ module _ (s : Model) (legal : IsLegal s) (ps : List Place) where
       at-proxy = ap (option_and_then text_of) is
 
       not-gone : gone ≡ false
-      not-gone = gone-false (is_proxy_place now p) (is_proxy_place r p) gone (ap is_some at-proxy) proxy (known.gone p)
+      not-gone = gone-false (is_proxy_site now p) (is_proxy_site r p) gone (ap is_some at-proxy) proxy (known.gone p)
 
       object-is : (lead r p).object ≡ at r text
       object-is = ap (λ (q : Option Value). option_and_then (at r) (option_and_then text_of q)) was
@@ -247,7 +247,7 @@ module _ (s : Model) (legal : IsLegal s) (ps : List Place) where
             sym (λ k. record { object = o; counterpart = same k })
 
         low : nat_lt i (length (now.values here)) ≡ true
-        low = below i (length (now.values here)) (place-below (now.values here) i (value.Proxy text) is)
+        low = below i (length (now.values here)) (site-below (now.values here) i (value.Proxy text) is)
           where
             below : (k n : ℕ) → k < n → nat_lt k n ≡ true
             below k n h = grind (arith, nat_tests)

@@ -20,7 +20,7 @@ use Rattle.mm_values.specs.Values.{ValuesState, applied, edited}
 use Rattle.mm_values.specs.declared.edit.ValueEdit.{ValueEdit}
 use Rattle.mm_values.specs.declared.edit.ValueEdit.TheVariants.{NewObject, DropObject, PutList, InsertValue, RemoveValue as TakeValue, MoveValue, NewUri}
 use Rattle.links.specs.Links.{Links, cut, cut_some, cut_value, end, far_end, lower, lowered_far, new_link, put, raise, renumbered, shift, shifted_index, touches, without_nodes}
-use Rattle.links.specs.Places.{far_moved, far_value, has_value, moved}
+use Rattle.links.specs.Indexed.{far_moved, far_value, has_value, moved}
 use Rattle.links.specs.declared.link.Far.{Far}
 use Rattle.links.specs.declared.link.Far.TheVariants.{At, Alone, Proxy}
 use Rattle.links.specs.declared.link.Link.{Link}
@@ -29,25 +29,25 @@ use Rattle.web_uris.specs.Addresses.{IsProxyText, IsSteadyProxy}
 use Rattle.web_uris.specs.Joined.{IsWebUri}
 use Rattle.models.specs.Legal.{OfProxies}
 use Rattle.models.specs.Model.{Model, reading}
-use Rattle.models.specs.Reading.{Reading, at_end, first_at, is_repeat, place_for, shape_at}
+use Rattle.models.specs.Reading.{Reading, at_end, first_at, is_repeat, position_for, shape_at}
 use Rattle.containment.specs.Forest.{subtree}
 use Rattle.removal.specs.Outer.{gone}
 use Rattle.resource_docs.specs.Read.{OfDocProxies}
 use Rattle.resource_docs.specs.declared.doc.Content.{Content}
 use Rattle.resource_docs.specs.declared.doc.Doc.{Doc}
-use Rattle.loading.specs.Loading as loading
-use Rattle.loading.specs.Loading.{attribute_edits, loaded, loaded_links, of_contents, with_links}
-use Rattle.loading.proofs.PairLemmas.{all-append, all-every, all-flat_map_every, all-map}
-use Rattle.loading.proofs.ProxyLemmas.{OfLink, alone-no_proxy, at-no_proxy, far_of, joined-no_proxy, loaded-proxies, read-proxies}
-use Rattle.removal.specs.declared.tie.Tie.{Tie}
+use Rattle.doc_loader.specs.Loading as loading
+use Rattle.doc_loader.specs.Loading.{attribute_edits, loaded, loaded_links, of_contents, with_links}
+use Rattle.doc_loader.proofs.PairLemmas.{all-append, all-every, all-flat_map_every, all-map}
+use Rattle.doc_loader.proofs.ProxyLemmas.{OfLink, alone-no_proxy, at-no_proxy, far_of, joined-no_proxy, loaded-proxies, read-proxies}
+use Rattle.removal.specs.declared.link_end.LinkEnd.{LinkEnd}
 use Rattle.handshake.specs.declared.change.Change.{Change}
 use Rattle.handshake.specs.declared.change.Change.TheVariants.{Create, Set, Unset, Add, Remove, RemoveValue, Move, Delete, NewResource, Resolve, ResolveAll, Load}
-use Rattle.handshake.specs.Displaced.{cut_ties, is_plain_add, is_plain_set, ties_joined}
-use Rattle.handshake.specs.Proxies.{end_of, places}
+use Rattle.handshake.specs.Displaced.{cut_link_ends, is_plain_add, is_plain_set, link_ends_joined}
+use Rattle.handshake.specs.Proxies.{end_of, sites}
 use Rattle.handshake.specs.ResolvingAll.{Resolution, resolutions}
 use Rattle.handshake.specs.Plans.{HasReadDocument}
 use Rattle.handshake.specs.Laws.{BringsSteadyTexts, KeepsSteady}
-use Rattle.handshake.specs.Effects.{add_value, if_attribute, links_after, links_left, of_object, put_by, put_under, take_value, value_edits, with_value, joined, put_back, with_resolution, without_ties}
+use Rattle.handshake.specs.Effects.{add_value, if_attribute, links_after, links_left, of_object, put_by, put_under, take_value, value_edits, with_value, joined, put_back, with_resolution, without_link_ends}
 use Rattle.handshake.specs.Resolving.{target_at}
 use Rattle.handshake.specs.declared.target.Target.{Target}
 
@@ -130,9 +130,9 @@ module _ (Holds : List ℕ → Type 0) where
   resolutions-of : (ys : List Resolution) (s : Links) → OfProxies Holds s → OfProxies Holds (fold with_resolution s ys)
   resolutions-of [] s of = of
   resolutions-of (y ∷ ys) s of =
-      let e = end_of y.place in
-      let ts = ties_joined y.reads e y.place.index y.target in
-      resolutions-of ys (with_resolution s y) (joined-of (without_ties s ts) y.reads e y.place.index y.target (cuts-of (λ (t : Tie). t.end) (λ (t : Tie). t.value) ts s of))
+      let e = end_of y.site in
+      let ts = link_ends_joined y.reads e y.site.index y.target in
+      resolutions-of ys (with_resolution s y) (joined-of (without_link_ends s ts) y.reads e y.site.index y.target (cuts-of (λ (t : LinkEnd). t.end) (λ (t : LinkEnd). t.value) ts s of))
 
   inserted-of : (ls : List Link) (s : Links) → AllByRecursion (OfLink Holds) ls → OfProxies Holds s → OfProxies Holds (with_links s ls)
   unfolding with_links
@@ -157,13 +157,13 @@ module _ (Holds : List ℕ → Type 0) where
   put_by-of s r (Resolve o f i) brings of =
       let e = at_end (node.Object o) f in
       elim (target_at r e i) as (λ q. OfProxies Holds (option_map_or (joined s r e i) q s)) [ None ↦ of | Some x ↦ joined-of s r e i x of ]
-  put_by-of s r ResolveAll brings of = resolutions-of (resolutions r (places r)) s of
+  put_by-of s r ResolveAll brings of = resolutions-of (resolutions r (sites r)) s of
   put_by-of s r (Load k doc) brings of = inserted-of (loaded_links r.metamodel r.next k doc) s (loaded-proxies Holds r.metamodel r.next doc k brings) of
   put_by-of s r _ brings of = of
 
   left-of : (s : Links) (r : Reading) (c : Change) → OfProxies Holds s → OfProxies Holds (links_left s r c)
   left-of s r (Delete o) of = nodes-of s (gone r o) of
-  left-of s r c of = cuts-of (λ (t : Tie). t.end) (λ (t : Tie). t.value) (cut_ties r c) s of
+  left-of s r c of = cuts-of (λ (t : LinkEnd). t.end) (λ (t : LinkEnd). t.value) (cut_link_ends r c) s of
 
   pub proxies-after : (s : Links) (r : Reading) (c : Change) → BringsProxies c → OfProxies Holds s → OfProxies Holds (links_after s r c)
   proxies-after s r c brings of = put_by-of (links_left s r c) r c brings (left-of s r c of)
@@ -200,7 +200,7 @@ module _ (Holds : List ℕ → Type 0) where
 
   added-of : (r : Reading) (e : End) (v : Value) (i : Option ℕ) → AllByRecursion OfEdit (add_value r e v i)
   added-of r e v i =
-      let insert : ObjectNo → ValueEdit = λ o. InsertValue o e.feature (place_for r e i) v (shape_at r e).is_unique in
+      let insert : ObjectNo → ValueEdit = λ o. InsertValue o e.feature (position_for r e i) v (shape_at r e).is_unique in
       elim (is_repeat r e v) as (λ b. AllByRecursion OfEdit (if b then [] else of_object e.node insert)) [ true ↦ tt | false ↦ object-of e.node insert (λ o. tt) ]
 
   taken-of : (e : End) (o : Option ℕ) → AllByRecursion OfEdit (option_map_or (take_value e) o [])

@@ -14,13 +14,13 @@ use Rattle.mm_types.specs.declared.value.Value.{Value}
 use Rattle.mm_types.specs.declared.value.Value.TheVariants as value
 use Rattle.web_uris.specs.Addresses.{uri_part}
 use Rattle.models.specs.Legal.{is_short, is_short_text}
-use Rattle.models.specs.Reading.{Reading, at_end, has_uri, is_repeat, place_for, takes}
-use Rattle.loading.specs.Loading.{is_empty_resource}
+use Rattle.models.specs.Reading.{Reading, at_end, has_uri, is_repeat, position_for, takes}
+use Rattle.doc_loader.specs.Loading.{is_empty_resource}
 use Rattle.handshake.specs.Displaced.{has_already}
 use Rattle.handshake.specs.Plans.{is_memory_refusal}
 use Rattle.handshake.specs.Refusals.{count_at, gain_refusal, is_at_limit, is_full_at, is_mistyped, is_recursive, is_there_already, late_refusal, link_refusal, of_either, set_refusal, type_refusal, uri_refusal, target_refusal}
 use Rattle.handshake.specs.declared.change.Change.{Change}
-use Rattle.handshake.specs.Tellings.{resolves_all}
+use Rattle.handshake.specs.FeatureChanges.{resolves_all}
 use Rattle.handshake.specs.declared.change.Change.TheVariants.{Create, Set, Unset, Add, Remove, RemoveValue, Move, Delete, NewResource, Resolve, ResolveAll, Load}
 use Rattle.handshake.specs.Resolving.{is_unmatched, proxy_at, target_at}
 use Rattle.handshake.specs.declared.target.Target.{Target}
@@ -117,7 +117,7 @@ module _ (q : Refused → Bool) (never : IsNeverLate q) where
   late-not r (Add n f v i) =
       let e = at_end n f in
       later-not q _ _ (type-not r f v)
-      (later-not q _ _ (unless-not q Index (nat_le (place_for r e i) (count_at r e)) never.index)
+      (later-not q _ _ (unless-not q Index (nat_le (position_for r e i) (count_at r e)) never.index)
       (either-not q (is_repeat r e v) (Duplicate where_so is_some i) (gain_refusal r e v) (where-not q Duplicate (is_some i) never.duplicate) (gain-not r e v)))
   late-not r (Remove n f i) = unless-not q Index (nat_lt i (count_at r (at_end n f))) never.index
   late-not r (RemoveValue n f v) = type-not r f v

@@ -29,17 +29,17 @@ use Rattle.models.specs.Reading.{Reading, held_at, value_at}
 use Rattle.handshake.specs.Displaced.{has_already, yields}
 use Rattle.handshake.specs.Resolving.{opposite_end}
 use Rattle.handshake.specs.Laws.{AreDifferent}
-use Rattle.handshake.specs.Telling.{telling}
-use Rattle.handshake.specs.Tellings.{far_gain, far_loss, far_losses, gain_at, is_replaced, losses, other_losses}
-use Rattle.handshake.specs.declared.happening.Happening.{Happening}
-use Rattle.handshake.specs.declared.happening.Happening.TheVariants.{Gains}
-use Rattle.handshake.specs.declared.happening.Telling.{Telling}
-use Rattle.removal.specs.declared.tie.Tie.{Tie}
+use Rattle.handshake.specs.FeatureChange.{feature_change}
+use Rattle.handshake.specs.FeatureChanges.{far_gain, far_loss, far_losses, gain_at, is_replaced, losses, other_losses}
+use Rattle.handshake.specs.declared.change_kind.ChangeKind.{ChangeKind}
+use Rattle.handshake.specs.declared.change_kind.ChangeKind.TheVariants.{Gains}
+use Rattle.handshake.specs.declared.change_kind.FeatureChange.{FeatureChange}
+use Rattle.removal.specs.declared.link_end.LinkEnd.{LinkEnd}
 use Rattle.handshake.proofs.AttributeLemmas.{Replays}
 use Rattle.handshake.proofs.ApartLemmas.{far_losses-away}
 use Rattle.handshake.proofs.CutEndLemmas.{held-one, reference-flag, reference-plain, same-held}
 use Rattle.handshake.proofs.CutHeldLemmas.{held_in, losses-cut}
-use Rattle.handshake.proofs.CutTieLemmas.{Stands, all_map, far-emptied, same_end-symmetric, yields-different, yields-stand}
+use Rattle.handshake.proofs.CutLinkEndLemmas.{Stands, all_map, far-emptied, same_end-symmetric, yields-different, yields-stand}
 use Rattle.removal.specs.Laws.{names_of}
 use Rattle.handshake.proofs.HappenedLemmas.{at-others, at-own, done, done-here, done-other, done_at, happened_at, happened_at-append}
 use Rattle.handshake.proofs.KnownLemmas.{far-reference}
@@ -50,8 +50,8 @@ use Rattle.handshake.proofs.LinkLemmas.{IsNewLink, near-empty, new-fits, without
 pub at-each : (P : End → Type 0) (e d : End) → P e → (same_end e d ≡ false → P d) → P d
 at-each P e d here other = elim (same_end e d) as (λ b. same_end e d ≡ b → P d) [ true ↦ λ same. subst P (same_end-true e d same) here | false ↦ other ] refl
 
-stand-there : (s : Links) (ts : List Tie) → AllByRecursion (Stands s) ts → AreThere s (names_of ts)
-stand-there s ts stand = all_map (λ (x : End × Value). Has s x.0 x.1) (λ (t : Tie). (t.end, t.value)) ts stand
+stand-there : (s : Links) (ts : List LinkEnd) → AllByRecursion (Stands s) ts → AreThere s (names_of ts)
+stand-there s ts stand = all_map (λ (x : End × Value). Has s x.0 x.1) (λ (t : LinkEnd). (t.end, t.value)) ts stand
 
 ---------------------------------------------------------------- the value that is there
 
@@ -71,10 +71,10 @@ module _ (s : Model) (e : End) (legal : IsLegal s) (reference : (shape s.metamod
       λ i. record { values = sym one i; flag = off i }
 
   -- to give it that value again changes nothing
-  pub kept-replays : (v : Value) → has_already (reading s) e v ≡ true → Replays s (telling e (Gains v) ∷ []) s
+  pub kept-replays : (v : Value) → has_already (reading s) e v ≡ true → Replays s (feature_change e (Gains v) ∷ []) s
   kept-replays v already d =
       let m = s.metamodel in
-      let t = telling e (Gains v) in
+      let t = feature_change e (Gains v) in
       at-each (λ x. done_at m x t (held_at (reading s) x) ≡ held_at (reading s) x) e d
       (done-here m e t (held_at (reading s) e) (same_end-self e)
       ∙ gained-single (shape m e.feature) v (held_at (reading s) e) single
@@ -85,7 +85,7 @@ module _ (s : Model) (e : End) (legal : IsLegal s) (reference : (shape s.metamod
 ---------------------------------------------------------------- links of one end are cut
 
 -- the far losses of links of e are all their losses, at another end
-far_losses-all : (r : Reading) (e : End) (ts : List Tie) (d : End) (h : Held) → AllByRecursion (λ (t : Tie). t.end ≡ e) ts → same_end e d ≡ false → happened_at r.metamodel (far_losses r ts) d h ≡ happened_at r.metamodel (flat_map (losses r) ts) d h
+far_losses-all : (r : Reading) (e : End) (ts : List LinkEnd) (d : End) (h : Held) → AllByRecursion (λ (t : LinkEnd). t.end ≡ e) ts → same_end e d ≡ false → happened_at r.metamodel (far_losses r ts) d h ≡ happened_at r.metamodel (flat_map (losses r) ts) d h
 far_losses-all r e [] d h here other = refl
 far_losses-all r e (t ∷ ts) d h here other =
     let m = r.metamodel in
@@ -94,9 +94,9 @@ far_losses-all r e (t ∷ ts) d h here other =
     ∙ ap (happened_at m (flat_map (losses r) ts) d) (happened_at-far_loss r t d h (ap (λ (x : End). same_end x d) here.0 ∙ other))
     ∙ sym (happened_at-append m (losses r t) (flat_map (losses r) ts) d h)
 
-module _ (s : Model) (legal : IsLegal s) (e : End) (ts : List Tie) (here : AllByRecursion (λ (t : Tie). t.end ≡ e) ts) (different : AreDifferent (reading s) ts) (stand : AllByRecursion (Stands s.links) ts) where
+module _ (s : Model) (legal : IsLegal s) (e : End) (ts : List LinkEnd) (here : AllByRecursion (λ (t : LinkEnd). t.end ≡ e) ts) (different : AreDifferent (reading s) ts) (stand : AllByRecursion (Stands s.links) ts) where
   -- the far ends' losses, and then the end's own tellings, where they make of it what the cuts do
-  pub cut-replays : (own : List Telling) → AllByRecursion (λ (t : Telling). t.at ≡ e) own → happened_at s.metamodel own e (held_at (reading s) e) ≡ held_in s (without_all s.links (names_of ts)) e
+  pub cut-replays : (own : List FeatureChange) → AllByRecursion (λ (t : FeatureChange). t.at ≡ e) own → happened_at s.metamodel own e (held_at (reading s) e) ≡ held_in s (without_all s.links (names_of ts)) e
       → Replays s (far_losses (reading s) ts ++ own) (record s { links = without_all s.links (names_of ts) })
   cut-replays own own_here makes d =
       let m = s.metamodel in
@@ -129,9 +129,9 @@ other-kept r e o d near far =
     (far-turned o d (shape r.metamodel e.feature).opposite ∙ far)
 
 far_gain-other : (r : Reading) (e : End) (o : ObjectNo) (d : End) (k : Held) (q : Option FeatureNo) → is_far o q d ≡ false
-    → happened_at r.metamodel (option_map_or (λ y. telling y (Gains (node_value e.node)) ∷ []) (option_map (far_end o) q) []) d k ≡ k
+    → happened_at r.metamodel (option_map_or (λ y. feature_change y (Gains (node_value e.node)) ∷ []) (option_map (far_end o) q) []) d k ≡ k
 far_gain-other r e o d k None far = refl
-far_gain-other r e o d k (Some g) far = done-other r.metamodel d (telling (far_end o g) (Gains (node_value e.node))) k far
+far_gain-other r e o d k (Some g) far = done-other r.metamodel d (feature_change (far_end o g) (Gains (node_value e.node))) k far
 
 module _ (s : Model) (legal : IsLegal s) (e : End) (o : ObjectNo) (new : IsNewLink s e o) (i : ℕ) (placed : i ≤ length (end (without_displaced s e o) e)) where
   abbrev left : Links
@@ -162,10 +162,10 @@ module _ (s : Model) (legal : IsLegal s) (e : End) (o : ObjectNo) (new : IsNewLi
   there = stand-there s.links (yields (reading s) e o) (yields-stand s e o legal new.reference)
 
   -- what the displaced links tell, and what is told before the end itself gains
-  abbrev kept : List Telling
+  abbrev kept : List FeatureChange
   kept = flat_map (other_losses (reading s) e o) (yields (reading s) e o)
 
-  abbrev before : List Telling
+  abbrev before : List FeatureChange
   before = kept ++ far_gain (reading s) e o
 
   -- at an end that the new link does not replace
@@ -174,18 +174,18 @@ module _ (s : Model) (legal : IsLegal s) (e : End) (o : ObjectNo) (new : IsNewLi
       happened_at-other_losses (reading s) e o (yields (reading s) e o) d (held_at (reading s) d) stays
       ∙ losses-cut s legal (yields (reading s) e o) there (yields-different (reading s) e o) d
 
-  module _ (gain : Happening) where
+  module _ (gain : ChangeKind) where
     abbrev At : End → Type 0
-    At d = happened_at s.metamodel (before ++ telling e gain ∷ []) d (held_at (reading s) d) ≡ held_in s joined d
+    At d = happened_at s.metamodel (before ++ feature_change e gain ∷ []) d (held_at (reading s) d) ≡ held_in s joined d
 
     -- at another end, the far gain after the losses
     at-another : (d : End) → same_end e d ≡ false
-        → happened_at s.metamodel (before ++ telling e gain ∷ []) d (held_at (reading s) d) ≡ happened_at s.metamodel (far_gain (reading s) e o) d (happened_at s.metamodel kept d (held_at (reading s) d))
+        → happened_at s.metamodel (before ++ feature_change e gain ∷ []) d (held_at (reading s) d) ≡ happened_at s.metamodel (far_gain (reading s) e o) d (happened_at s.metamodel kept d (held_at (reading s) d))
     at-another d other =
         let m = s.metamodel in
         let r = reading s in
-        happened_at-append m before (telling e gain ∷ []) d (held_at r d)
-        ∙ done-other m d (telling e gain) (happened_at m before d (held_at r d)) other
+        happened_at-append m before (feature_change e gain ∷ []) d (held_at r d)
+        ∙ done-other m d (feature_change e gain) (happened_at m before d (held_at r d)) other
         ∙ happened_at-append m kept (far_gain r e o) d (held_at r d)
 
     -- the far end has the node alone, or behind what it has
@@ -210,8 +210,8 @@ module _ (s : Model) (legal : IsLegal s) (e : End) (o : ObjectNo) (new : IsNewLi
         let v = node_value e.node in
         let k = happened_at m kept y (held_at (reading s) y) in
         at-another y other
-        ∙ ap (λ (q : Option FeatureNo). happened_at m (option_map_or (λ z. telling z (Gains v) ∷ []) (option_map (far_end o) q) []) y k) is
-        ∙ done-here m y (telling y (Gains v)) k (same_end-self y)
+        ∙ ap (λ (q : Option FeatureNo). happened_at m (option_map_or (λ z. feature_change z (Gains v) ∷ []) (option_map (far_end o) q) []) y k) is
+        ∙ done-here m y (feature_change y (Gains v)) k (same_end-self y)
         ∙ far-gained g is other
 
     at-rest : (d : End) → same_end e d ≡ false → is_far o (shape s.metamodel e.feature).opposite d ≡ false → At d
@@ -234,12 +234,12 @@ module _ (s : Model) (legal : IsLegal s) (e : End) (o : ObjectNo) (new : IsNewLi
         ] refl
 
     -- the losses of what is displaced, the far end's gain, and then the near end's, where it makes of it what the put does
-    linked-replays : ((k : Held) → (k ≡ held_in s left e) ⊎ ((shape s.metamodel e.feature).is_single ≡ true) → done (shape s.metamodel e.feature) gain k ≡ held_in s joined e) → Replays s (before ++ telling e gain ∷ []) (record s { links = joined })
+    linked-replays : ((k : Held) → (k ≡ held_in s left e) ⊎ ((shape s.metamodel e.feature).is_single ≡ true) → done (shape s.metamodel e.feature) gain k ≡ held_in s joined e) → Replays s (before ++ feature_change e gain ∷ []) (record s { links = joined })
     linked-replays makes d =
         let m = s.metamodel in
         let h = held_at (reading s) e in
         at-each At e d
-        (happened_at-append m before (telling e gain ∷ []) e h ∙ done-here m e (telling e gain) (happened_at m before e h) (same_end-self e) ∙ makes (happened_at m before e h) near-before)
+        (happened_at-append m before (feature_change e gain ∷ []) e h ∙ done-here m e (feature_change e gain) (happened_at m before e h) (same_end-self e) ∙ makes (happened_at m before e h) near-before)
         (at-other d (shape m e.feature).opposite refl)
       where
         near-before : (happened_at s.metamodel before e (held_at (reading s) e) ≡ held_in s left e) ⊎ ((shape s.metamodel e.feature).is_single ≡ true)
@@ -261,7 +261,7 @@ module _ (s : Model) (legal : IsLegal s) (e : End) (o : ObjectNo) (new : IsNewLi
 
 -- a single end has the object alone
 pub set-replays : (s : Model) (legal : IsLegal s) (e : End) (o : ObjectNo) (new : IsNewLink s e o) → (shape s.metamodel e.feature).is_single ≡ true
-    → Replays s ((flat_map (other_losses (reading s) e o) (yields (reading s) e o) ++ far_gain (reading s) e o) ++ telling e (Gains (value.Object o)) ∷ [])
+    → Replays s ((flat_map (other_losses (reading s) e o) (yields (reading s) e o) ++ far_gain (reading s) e o) ++ feature_change e (Gains (value.Object o)) ∷ [])
     (record s { links = put (without_displaced s e o) e 0 o (shape s.metamodel e.feature).opposite (shape s.metamodel e.feature).containing })
 set-replays s legal e o new single =
     let a = shape s.metamodel e.feature in
@@ -271,7 +271,7 @@ set-replays s legal e o new single =
     linked-replays s legal e o new 0 zero (Gains v) (λ k _.
     gained-single a v k single ∙ held-one s t e legal new.reference single v (near-joined s legal e o new 0 zero ∙ ap (λ (vs : List Value). insert vs 0 v) (near-empty s legal e o new single)))
 
--- a list has it at its place
+-- a list has it at its position
 pub gained-list : (a : Shape) (j : Option ℕ) (v : Value) (vs : List Value) (i : ℕ) (b : Bool) → a.is_single ≡ false → i ≡ unwrap_or j (length vs) → i ≤ length vs → done a (gain_at j v) (record { values = vs; flag = b }) ≡ record { values = insert vs i v; flag = b }
 gained-list a None v vs i b many is low = rw (many, is) (ap (λ (ws : List Value). record { values = ws; flag = b }) (sym (insert_end vs v)))
 gained-list a (Some k) v vs i b many is low =
@@ -283,7 +283,7 @@ pub list-held : (s : Model) (l : Links) (y : End) → (shape s.metamodel y.featu
 list-held s l y reference many = rw (many, reference) refl
 
 pub add-replays : (s : Model) (legal : IsLegal s) (e : End) (o : ObjectNo) (new : IsNewLink s e o) (j : Option ℕ) (i : ℕ) → (shape s.metamodel e.feature).is_single ≡ false → i ≤ length (end (without_displaced s e o) e) → i ≡ unwrap_or j (length (end (without_displaced s e o) e))
-    → Replays s ((flat_map (other_losses (reading s) e o) (yields (reading s) e o) ++ far_gain (reading s) e o) ++ telling e (gain_at j (value.Object o)) ∷ [])
+    → Replays s ((flat_map (other_losses (reading s) e o) (yields (reading s) e o) ++ far_gain (reading s) e o) ++ feature_change e (gain_at j (value.Object o)) ∷ [])
     (record s { links = put (without_displaced s e o) e i o (shape s.metamodel e.feature).opposite (shape s.metamodel e.feature).containing })
 add-replays s legal e o new j i many placed is =
     let a = shape s.metamodel e.feature in
@@ -295,6 +295,6 @@ add-replays s legal e o new j i many placed is =
     let there : record { values = insert vs i v; flag = b } ≡ held_in s t e = sym (list-held s t e new.reference many ∙ ap (λ (ws : List Value). record { values = ws; flag = b }) (near-joined s legal e o new i placed)) in
     linked-replays s legal e o new i placed (gain_at j v) (λ k near. by a (gain_at j v) k (held_in s (without_displaced s e o) e) (held_in s t e) (ap (done a (gain_at j v)) here ∙ gained-list a j v vs i b many is placed ∙ there) many near)
   where
-    by : (a : Shape) (g : Happening) (k l x : Held) → done a g l ≡ x → a.is_single ≡ false → (k ≡ l) ⊎ (a.is_single ≡ true) → done a g k ≡ x
+    by : (a : Shape) (g : ChangeKind) (k l x : Held) → done a g l ≡ x → a.is_single ≡ false → (k ≡ l) ⊎ (a.is_single ≡ true) → done a g k ≡ x
     by a g k l x made many (inl same) = ap (done a g) same ∙ made
     by a g k l x made many (inr single) = absurd (true≢false (sym single ∙ many))

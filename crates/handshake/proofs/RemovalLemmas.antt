@@ -11,7 +11,7 @@ use Rattle.removal.specs.Removals.{IsRemoval}
 use Rattle.removal.specs.declared.gone.Removal.{Removal}
 use Rattle.handshake.specs.Effects.{value_edits}
 use Rattle.handshake.specs.Plans.{IsRemovalOf}
-use Rattle.handshake.specs.Tellings.{destroyed_by}
+use Rattle.handshake.specs.FeatureChanges.{destroyed_by}
 use Rattle.handshake.specs.declared.change.Change.{Change}
 use Rattle.handshake.specs.declared.change.Change.TheVariants.{Delete}
 

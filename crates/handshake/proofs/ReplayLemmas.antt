@@ -13,10 +13,10 @@ use Rattle.mm_types.specs.declared.value.Value.TheVariants as value
 use Rattle.notice_chain.specs.Kinds.{no_index}
 use Rattle.notice_chain.specs.Replay.{added, removed, replayed_all, replayed_in, resolved}
 use Rattle.notice_chain.specs.declared.kind.NoticeKind.TheVariants as kind
-use Rattle.handshake.specs.Telling.{happened, happened_all, has_flag, notice, notice_of, telling, told, without}
-use Rattle.handshake.specs.declared.happening.Happening.{Happening}
-use Rattle.handshake.specs.declared.happening.Happening.TheVariants.{Gains, GainsAt, Loses, LosesAt, Unsets, Moves, Resolves}
-use Rattle.handshake.specs.declared.happening.Telling.{Telling}
+use Rattle.handshake.specs.FeatureChange.{happened, happened_all, has_flag, notice, notice_of, feature_change, told, without}
+use Rattle.handshake.specs.declared.change_kind.ChangeKind.{ChangeKind}
+use Rattle.handshake.specs.declared.change_kind.ChangeKind.TheVariants.{Gains, GainsAt, Loses, LosesAt, Unsets, Moves, Resolves}
+use Rattle.handshake.specs.declared.change_kind.FeatureChange.{FeatureChange}
 
 ---------------------------------------------------------------- what tellings report is what they do
 
@@ -24,7 +24,7 @@ use Rattle.handshake.specs.declared.happening.Telling.{Telling}
 added-length : (vs : List Value) (v : Value) → added vs (pos (length vs)) v ≡ vs ++ v ∷ []
 added-length vs v = rw (lt-ltb (length vs) (suc (length vs)) (omega arith)) (insert_end vs v)
 
-pub replayed_in-gain : (m : Metamodel) (e : Ends) (x : End) (v : Value) → replayed_in (has_flag m) e (notice_of (shape m x.feature) x (Gains v) (e x)) ≡ happened m e (telling x (Gains v))
+pub replayed_in-gain : (m : Metamodel) (e : Ends) (x : End) (v : Value) → replayed_in (has_flag m) e (notice_of (shape m x.feature) x (Gains v) (e x)) ≡ happened m e (feature_change x (Gains v))
 replayed_in-gain m e x v =
     let a = shape m x.feature in
     let h = e x in
@@ -48,7 +48,7 @@ removed-index (w ∷ ws) v =
           rw (same, ← removed-index ws v) (cons-if (nat_lt (index_in ws v) (length ws)) w (remove ws (index_in ws v)) ws)
     ]
 
-replayed_in-loss : (m : Metamodel) (e : Ends) (x : End) (v : Value) → replayed_in (has_flag m) e (notice_of (shape m x.feature) x (Loses v) (e x)) ≡ happened m e (telling x (Loses v))
+replayed_in-loss : (m : Metamodel) (e : Ends) (x : End) (v : Value) → replayed_in (has_flag m) e (notice_of (shape m x.feature) x (Loses v) (e x)) ≡ happened m e (feature_change x (Loses v))
 replayed_in-loss m e x v =
     let a = shape m x.feature in
     let h = e x in
@@ -57,7 +57,7 @@ replayed_in-loss m e x v =
       | false ↦ ap (λ (vs : List Value). with_held e x (record { values = vs; flag = h.flag })) (removed-index h.values v)
     ]
 
-replayed_in-resolved : (m : Metamodel) (e : Ends) (x : End) (i : ℕ) (v : Value) → replayed_in (has_flag m) e (notice_of (shape m x.feature) x (Resolves i v) (e x)) ≡ happened m e (telling x (Resolves i v))
+replayed_in-resolved : (m : Metamodel) (e : Ends) (x : End) (i : ℕ) (v : Value) → replayed_in (has_flag m) e (notice_of (shape m x.feature) x (Resolves i v) (e x)) ≡ happened m e (feature_change x (Resolves i v))
 replayed_in-resolved m e x i v =
     let a = shape m x.feature in
     let h = e x in
@@ -66,7 +66,7 @@ replayed_in-resolved m e x i v =
       | false ↦ refl
     ]
 
-replayed_in-notice_of : (m : Metamodel) (e : Ends) (x : End) (h : Happening) → replayed_in (has_flag m) e (notice_of (shape m x.feature) x h (e x)) ≡ happened m e (telling x h)
+replayed_in-notice_of : (m : Metamodel) (e : Ends) (x : End) (h : ChangeKind) → replayed_in (has_flag m) e (notice_of (shape m x.feature) x h (e x)) ≡ happened m e (feature_change x h)
 replayed_in-notice_of m e x (Gains v) = replayed_in-gain m e x v
 replayed_in-notice_of m e x (Loses v) = replayed_in-loss m e x v
 replayed_in-notice_of m e x (GainsAt i v) = refl
@@ -75,7 +75,7 @@ replayed_in-notice_of m e x Unsets = refl
 replayed_in-notice_of m e x (Moves to from) = refl
 replayed_in-notice_of m e x (Resolves i v) = replayed_in-resolved m e x i v
 
-pub replayed_all-told : (m : Metamodel) (e : Ends) (ts : List Telling) → replayed_all (has_flag m) e (told m e ts) ≡ happened_all m e ts
+pub replayed_all-told : (m : Metamodel) (e : Ends) (ts : List FeatureChange) → replayed_all (has_flag m) e (told m e ts) ≡ happened_all m e ts
 replayed_all-told m e [] = refl
 replayed_all-told m e (t ∷ ts) =
     replayed_all-told m (replayed_in (has_flag m) e (notice_of (shape m t.at.feature) t.at t.does (e t.at))) ts

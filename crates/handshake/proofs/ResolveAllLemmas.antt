@@ -21,18 +21,18 @@ use Rattle.links.proofs.LegalLemmas.{IsPlanOfKind-append, PlanFits-append, PlanM
 use Rattle.models.specs.Legal.{IsLegal, kinds_of}
 use Rattle.models.specs.Model.{Model, reading, values_at}
 use Rattle.models.specs.Reading.{Reading, has_feature, held_at}
-use Rattle.removal.specs.declared.tie.Tie.{Tie}
-use Rattle.handshake.specs.Displaced.{counter_tie, tie_in}
+use Rattle.removal.specs.declared.link_end.LinkEnd.{LinkEnd}
+use Rattle.handshake.specs.Displaced.{counter_link_end, link_end_in}
 use Rattle.handshake.specs.Edits.{cut_of, edits_of, joining}
-use Rattle.handshake.specs.Effects.{joined, with_resolution, without_ties}
+use Rattle.handshake.specs.Effects.{joined, with_resolution, without_link_ends}
 use Rattle.handshake.specs.Proxies.{end_of}
 use Rattle.handshake.specs.Refusals.{early_refusal, resolve_refusal}
 use Rattle.handshake.specs.Resolving.{target_at}
 use Rattle.handshake.specs.ResolvingAll.{Resolution, resolutions, resolved_to, values_left, values_with, with_resolved}
-use Rattle.handshake.specs.Tellings.{resolution_told, resolved}
+use Rattle.handshake.specs.FeatureChanges.{resolution_told, resolved}
 use Rattle.handshake.specs.declared.change.Change.TheVariants.{Resolve}
-use Rattle.handshake.specs.declared.happening.Telling.{Telling}
-use Rattle.handshake.specs.declared.place.Place.{Place}
+use Rattle.handshake.specs.declared.change_kind.FeatureChange.{FeatureChange}
+use Rattle.handshake.specs.declared.site.ProxySite.{ProxySite}
 use Rattle.handshake.specs.declared.target.Target.{Target}
 use Rattle.handshake.proofs.AttributeLemmas.{Replays}
 use Rattle.handshake.proofs.ChainLemmas.{resolve-changes}
@@ -44,7 +44,7 @@ use Rattle.handshake.proofs.ResolveLemmas.{feature-there}
 use Rattle.handshake.proofs.ResolvedReadingLemmas.{reading-after, with_links}
 
 -- these edits and tellings lead from a legal model to a legal one, of these links, where the ends hold these values
-pub record Leads (s : Model) (es : List Edit) (ts : List Telling) (u : Links) (ends : End → List Value) : Type 0 where
+pub record Leads (s : Model) (es : List Edit) (ts : List FeatureChange) (u : Links) (ends : End → List Value) : Type 0 where
   pub legal : IsLegal (with_links s u)
   pub reads : reading (with_links s u) ≡ record (reading s) { values = ends }
   pub fits : PlanFits s.links es
@@ -56,7 +56,7 @@ pub record Leads (s : Model) (es : List Edit) (ts : List Telling) (u : Links) (e
 leads-nowhere : (s : Model) → IsLegal s → Leads s [] [] s.links (values_at s)
 leads-nowhere s legal = record { legal = legal; reads = refl; fits = tt; of_kind = tt; no_cycle = tt; makes = refl; replays = λ d. refl }
 
-leads-on : (s : Model) (es xs : List Edit) (ts us : List Telling) (u w : Links) (ends more : End → List Value) → Leads s es ts u ends → Leads (with_links s u) xs us w more → Leads s (es ++ xs) (ts ++ us) w more
+leads-on : (s : Model) (es xs : List Edit) (ts us : List FeatureChange) (u w : Links) (ends more : End → List Value) → Leads s es ts u ends → Leads (with_links s u) xs us w more → Leads s (es ++ xs) (ts ++ us) w more
 leads-on s es xs ts us u w ends more one two =
     record {
       legal = two.legal;
@@ -82,10 +82,10 @@ named-there r o f has = by (r.class o) refl has
     by (Some c) is h = (λ k. (NoObject unless is_some (is k) else_by NoResource unless true) else_by NoFeature unless has k)
 
 -- the links that are cut when a proxy is resolved, if its feature is a reference
-abbrev pub cut : Reading → Place → Bool → Option Target → List Tie
-cut r p b q = if b then tie_in r (end_of p) p.index ++ option_map_or (counter_tie r) q [] else []
+abbrev pub cut : Reading → ProxySite → Bool → Option Target → List LinkEnd
+cut r p b q = if b then link_end_in r (end_of p) p.index ++ option_map_or (counter_link_end r) q [] else []
 
-module _ (s : Model) (legal : IsLegal s) (p : Place) (x : Target) (late : resolve_refusal (reading s) (end_of p) p.index ≡ None) (found : target_at (reading s) (end_of p) p.index ≡ Some x) where
+module _ (s : Model) (legal : IsLegal s) (p : ProxySite) (x : Target) (late : resolve_refusal (reading s) (end_of p) p.index ≡ None) (found : target_at (reading s) (end_of p) p.index ≡ Some x) where
   abbrev r : Reading
   r = reading s
 
@@ -95,7 +95,7 @@ module _ (s : Model) (legal : IsLegal s) (p : Place) (x : Target) (late : resolv
   abbrev Led : Bool → Option Target → Type 0
   Led b q =
       Leads s (map cut_of (cut r p b q) ++ option_map_or (joining r e p.index) q []) (option_map_or (resolved e p.index) q [])
-      (let t = without_ties s.links (cut r p b q) in option_map_or (joined t r e p.index) q t) (values_with r e p.index x)
+      (let t = without_link_ends s.links (cut r p b q) in option_map_or (joined t r e p.index) q t) (values_with r e p.index x)
 
   pub early : early_refusal (reading s) (Resolve p.object p.feature p.index) ≡ None
   early = named-there r p.object p.feature (feature-there s legal e p.index (resolvable r e p.index late).target (resolvable r e p.index late).resolvable)
@@ -115,28 +115,28 @@ module _ (s : Model) (legal : IsLegal s) (p : Place) (x : Target) (late : resolv
         replays = resolve-changes s legal p.object p.feature p.index late;
       }
 
-  pub one-resolved : (let y : Resolution = record { reads = reading s; place = p; target = x } in Leads s (edits_of y) (resolution_told y) (with_resolution s.links y) (values_with (reading s) (end_of p) p.index x))
+  pub one-resolved : (let y : Resolution = record { reads = reading s; site = p; target = x } in Leads s (edits_of y) (resolution_told y) (with_resolution s.links y) (values_with (reading s) (end_of p) p.index x))
   one-resolved = subst (Led true) found (subst (λ (b : Bool). Led b (target_at r e p.index)) (resolvable r e p.index late).resolvable.reference led)
 
 ---------------------------------------------------------------- one after another
 
 -- what is resolved is not refused, and is what is found
-pub record IsResolvedTo (r : Reading) (p : Place) (x : Target) : Type 0 where
+pub record IsResolvedTo (r : Reading) (p : ProxySite) (x : Target) : Type 0 where
   pub late : resolve_refusal r (end_of p) p.index ≡ None
   pub found : target_at r (end_of p) p.index ≡ Some x
 
-pub resolved-to : (r : Reading) (p : Place) (x : Target) → resolved_to r p ≡ Some x → IsResolvedTo r p x
+pub resolved-to : (r : Reading) (p : ProxySite) (x : Target) → resolved_to r p ≡ Some x → IsResolvedTo r p x
 resolved-to r p x = by (resolve_refusal r (end_of p) p.index) refl
   where
     by : (q : Option Refused) → resolve_refusal r (end_of p) p.index ≡ q → (if is_some q then None else target_at r (end_of p) p.index) ≡ Some x → IsResolvedTo r p x
     by None none is = record { late = none; found = is }
     by (Some y) refused is = absurd (none-some x is)
 
-abbrev resolution : Reading → Place → Target → Resolution
-resolution r p x = record { reads = r; place = p; target = x }
+abbrev resolution : Reading → ProxySite → Target → Resolution
+resolution r p x = record { reads = r; site = p; target = x }
 
 -- what is resolved at places, and what ends hold after it, lead to a legal model
-pub all-lead : (ps : List Place) (s : Model) → IsLegal s
+pub all-lead : (ps : List ProxySite) (s : Model) → IsLegal s
     → (let xs = resolutions (reading s) ps in Leads s (flat_map edits_of xs) (flat_map resolution_told xs) (fold with_resolution s.links xs) (values_left (reading s) ps))
 all-lead [] s legal = leads-nowhere s legal
 all-lead (p ∷ ps) s legal =

@@ -31,16 +31,16 @@ use Rattle.models.specs.Legal.{IsLegal, is_legal_end, is_legal_target, kinds_of,
 use Rattle.models.specs.Model.{Model, reading}
 use Rattle.models.specs.Reading.{has_feature, shape_at}
 use Rattle.containment.proofs.PartLemmas.{legal-at}
-use Rattle.removal.specs.TreeTies.{tie}
-use Rattle.handshake.specs.Displaced.{tie_in}
+use Rattle.removal.specs.TreeLinkEnds.{link_end}
+use Rattle.handshake.specs.Displaced.{link_end_in}
 use Rattle.handshake.specs.declared.target.Target.{Target}
-use Rattle.handshake.proofs.CutTieLemmas.{values-linked}
+use Rattle.handshake.proofs.CutLinkEndLemmas.{values-linked}
 use Rattle.handshake.proofs.KnownLemmas.{IsResolvable, far-reference, kinds-are}
 use Rattle.handshake.proofs.LegalEndLemmas.{end-from, list_all-insert, taken_out, takes-back}
 use Rattle.handshake.proofs.LinkLemmas.{lacks-far, object-has}
 use Rattle.handshake.proofs.TargetLemmas.{match-apart}
 
----------------------------------------------------------------- one value in the place of another
+---------------------------------------------------------------- one value instead of another
 
 pub length-without : (vs : List Value) (i : ℕ) (v : Value) → slice_get vs i ≡ Some v → suc (length (remove vs i)) ≡ length vs
 length-without [] i v at = absurd (none-some v at)
@@ -65,10 +65,10 @@ alone-there (x ∷ []) zero v w few at = refl
 alone-there (x ∷ []) (suc i) v w few at = absurd (none-some v at)
 alone-there (x ∷ y ∷ xs) i v w few at = absurd (omega (arith, few))
 
-pub place-below : (vs : List Value) (i : ℕ) (v : Value) → slice_get vs i ≡ Some v → i < length vs
-place-below [] i v at = absurd (none-some v at)
-place-below (w ∷ ws) zero v at = omega arith
-place-below (w ∷ ws) (suc i) v at = let low = place-below ws i v at in omega (arith, low)
+pub site-below : (vs : List Value) (i : ℕ) (v : Value) → slice_get vs i ≡ Some v → i < length vs
+site-below [] i v at = absurd (none-some v at)
+site-below (w ∷ ws) zero v at = omega arith
+site-below (w ∷ ws) (suc i) v at = let low = site-below ws i v at in omega (arith, low)
 
 -- the last value, taken out and put in at an index
 last-there : (vs : List Value) (w : Value) → slice_get (vs ++ w ∷ []) (length vs) ≡ Some w
@@ -134,8 +134,8 @@ module _ (s : Model) (legal : IsLegal s) (e : End) (i : ℕ) (x : Target) (is : 
   there = subst (λ (vs : List Value). slice_get vs i ≡ Some proxy) linked is.found.proxy
 
   -- the proxy is all that is cut here
-  pub one-cut : tie_in (reading s) e i ≡ tie e proxy ∷ []
-  one-cut = ap (λ (q : Option Value). option_to_list (option_map (tie e) q)) is.found.proxy
+  pub one-cut : link_end_in (reading s) e i ≡ link_end e proxy ∷ []
+  one-cut = ap (λ (q : Option Value). option_to_list (option_map (link_end e) q)) is.found.proxy
 
   ---------------------------------------------------------------- a reference that takes proxies contains nothing
 
@@ -199,7 +199,7 @@ module _ (s : Model) (legal : IsLegal s) (e : End) (i : ℕ) (x : Target) (is : 
 
     near-fits : PutFits rest e i v
     near-fits =
-        let low = place-below was i proxy there in
+        let low = site-below was i proxy there in
         let less = length-without was i proxy there in
         let few = legal.links.set.placed.few e in
         let long = ap (λ (vs : List Value). length vs) near-left in
@@ -347,7 +347,7 @@ module _ (s : Model) (legal : IsLegal s) (e : End) (i : ℕ) (x : Target) (is : 
     pub shift-fits : EditFits (placed both) (edit.Shift far j (length (end (left both) far)))
     shift-fits =
         let less = length-without met j mate far-there in
-        let low = place-below met j mate far-there in
+        let low = site-below met j mate far-there in
         let long = ap (λ (vs : List Value). length vs) far-left in
         let more = ap (λ (vs : List Value). length vs) far-placed ∙ length-pushed (remove met j) self in
         (omega (arith, less, long, more), omega (arith, less, low, more))

@@ -14,17 +14,17 @@ use Rattle.links.specs.declared.plan.Edit.TheVariants as edit
 use Rattle.models.specs.Legal.{IsLegal}
 use Rattle.models.specs.Model.{Model, reading}
 use Rattle.removal.specs.Laws.{names_of}
-use Rattle.removal.specs.TreeTies.{tie}
-use Rattle.removal.specs.declared.tie.Tie.{Tie}
-use Rattle.handshake.specs.Displaced.{counter_tie, tie_in, ties_resolved}
+use Rattle.removal.specs.TreeLinkEnds.{link_end}
+use Rattle.removal.specs.declared.link_end.LinkEnd.{LinkEnd}
+use Rattle.handshake.specs.Displaced.{counter_link_end, link_end_in, link_ends_resolved}
 use Rattle.handshake.specs.Edits.{joining}
 use Rattle.handshake.specs.Effects.{joined}
 use Rattle.handshake.specs.Refusals.{resolve_refusal}
 use Rattle.handshake.specs.Resolving.{target_at}
-use Rattle.handshake.specs.Telling.{telling}
-use Rattle.handshake.specs.Tellings.{resolved}
-use Rattle.handshake.specs.declared.happening.Happening.TheVariants.{Resolves}
-use Rattle.handshake.specs.declared.happening.Telling.{Telling}
+use Rattle.handshake.specs.FeatureChange.{feature_change}
+use Rattle.handshake.specs.FeatureChanges.{resolved}
+use Rattle.handshake.specs.declared.change_kind.ChangeKind.TheVariants.{Resolves}
+use Rattle.handshake.specs.declared.change_kind.FeatureChange.{FeatureChange}
 use Rattle.handshake.specs.declared.target.Counterpart.{Counterpart}
 use Rattle.handshake.specs.declared.target.Target.{Target}
 use Rattle.handshake.proofs.KnownLemmas.{IsResolvable, resolvable}
@@ -34,14 +34,14 @@ use Rattle.handshake.proofs.TargetLemmas.{IsMatch, alone-of, match-is}
 
 -- something holds of the links that are cut, the edits behind the cuts, what is told, and the links that are made
 abbrev pub Resolving : Type 1
-Resolving = List Tie → List Edit → List Telling → Links → Type 0
+Resolving = List LinkEnd → List Edit → List FeatureChange → Links → Type 0
 
 module _ (s : Model) (legal : IsLegal s) (e : End) (i : ℕ) where
   -- of a reference without an opposite
   abbrev pub OfAlone : Resolving → Type 0
   OfAlone P =
       (x : Target) (is : IsResolvable (reading s) e i x) → (shape s.metamodel e.feature).opposite ≡ None
-      → P (tie e (value.Proxy is.found.text) ∷ []) (new_edit s e i x.object ∷ []) (telling e (Resolves i (value.Object x.object)) ∷ []) (placed s legal e i x is [])
+      → P (link_end e (value.Proxy is.found.text) ∷ []) (new_edit s e i x.object ∷ []) (feature_change e (Resolves i (value.Object x.object)) ∷ []) (placed s legal e i x is [])
 
   -- of a link with a proxy at both ends
   abbrev pub OfJoint : Resolving → Type 0
@@ -49,47 +49,47 @@ module _ (s : Model) (legal : IsLegal s) (e : End) (i : ℕ) where
       (x : Target) (is : IsResolvable (reading s) e i x) (g : FeatureNo) (opposite : (shape s.metamodel e.feature).opposite ≡ Some g) (j : ℕ) (text : List ℕ)
       (stands : slice_get ((reading s).values (far_end x.object g)) j ≡ Some (value.Proxy text))
       → (let d = far_end x.object g in P
-      (tie e (value.Proxy is.found.text) ∷ tie d (value.Proxy text) ∷ [])
+      (link_end e (value.Proxy is.found.text) ∷ link_end d (value.Proxy text) ∷ [])
       (new_edit s e i x.object ∷ edit.Shift d j (length ((reading s).values d) - 1) ∷ [])
-      (telling d (Resolves j (node_value e.node)) ∷ telling e (Resolves i (value.Object x.object)) ∷ [])
+      (feature_change d (Resolves j (node_value e.node)) ∷ feature_change e (Resolves i (value.Object x.object)) ∷ [])
       (joint s legal e i x is g opposite j text stands))
 
   -- of what is found, where these links are cut
-  abbrev Of : Resolving → List Tie → Option Target → Type 0
+  abbrev Of : Resolving → List LinkEnd → Option Target → Type 0
   Of P ts q =
       let t = without_all s.links (names_of ts) in
       P ts (option_map_or (joining (reading s) e i) q []) (option_map_or (resolved e i) q []) (option_map_or (joined t (reading s) e i) q t)
 
-  abbrev cuts : Bool → Option Target → List Tie
-  cuts b q = if b then tie_in (reading s) e i ++ option_map_or (counter_tie (reading s)) q [] else []
+  abbrev cuts : Bool → Option Target → List LinkEnd
+  cuts b q = if b then link_end_in (reading s) e i ++ option_map_or (counter_link_end (reading s)) q [] else []
 
   module _ (P : Resolving) (alone : OfAlone P) (both : OfJoint P) (x : Target) (is : IsResolvable (reading s) e i x) where
     abbrev with : Option Counterpart → Target
     with q = record { object = x.object; counterpart = q }
 
-    met : (c : Counterpart) → IsMatch (reading s) e x.object c → Of P (tie e (value.Proxy is.found.text) ∷ tie_in (reading s) c.end c.index) (Some (with (Some c)))
+    met : (c : Counterpart) → IsMatch (reading s) e x.object c → Of P (link_end e (value.Proxy is.found.text) ∷ link_end_in (reading s) c.end c.index) (Some (with (Some c)))
     met c match =
         let r = reading s in
-        let near = tie e (value.Proxy is.found.text) in
+        let near = link_end e (value.Proxy is.found.text) in
         let d = far_end x.object match.feature in
         let here : Counterpart = record { end = d; index = c.index } in
         let same : here ≡ c = λ k. record { end = sym match.stands k; index = c.index } in
         let stands = subst (λ (y : End). slice_get (r.values y) c.index ≡ Some (value.Proxy match.text)) match.stands match.proxy in
-        let cut : tie d (value.Proxy match.text) ∷ [] ≡ tie_in r d c.index = ap (λ (q : Option Value). option_to_list (option_map (tie d) q)) (sym stands) in
-        subst (λ (y : Counterpart). Of P (near ∷ tie_in r y.end y.index) (Some (with (Some y)))) same
-        (subst (λ (ts : List Tie). Of P (near ∷ ts) (Some (with (Some here)))) cut (both x is match.feature match.opposite c.index match.text stands))
+        let cut : link_end d (value.Proxy match.text) ∷ [] ≡ link_end_in r d c.index = ap (λ (q : Option Value). option_to_list (option_map (link_end d) q)) (sym stands) in
+        subst (λ (y : Counterpart). Of P (near ∷ link_end_in r y.end y.index) (Some (with (Some y)))) same
+        (subst (λ (ts : List LinkEnd). Of P (near ∷ ts) (Some (with (Some here)))) cut (both x is match.feature match.opposite c.index match.text stands))
 
     known : Of P (cuts true (Some x)) (Some x)
     known =
         let r = reading s in
-        let near = tie e (value.Proxy is.found.text) in
-        subst (λ (ts : List Tie). Of P (ts ++ counter_tie r x) (Some x)) (sym (one-cut s legal e i x is))
-        (elim x.counterpart as (λ q. x.counterpart ≡ q → Of P (near ∷ counter_tie r (with q)) (Some (with q))) [
+        let near = link_end e (value.Proxy is.found.text) in
+        subst (λ (ts : List LinkEnd). Of P (ts ++ counter_link_end r x) (Some x)) (sym (one-cut s legal e i x is))
+        (elim x.counterpart as (λ q. x.counterpart ≡ q → Of P (near ∷ counter_link_end r (with q)) (Some (with q))) [
           | None ↦ λ none. alone x is (alone-of r e x is.matched none)
           | Some c ↦ λ there. met c (match-is r e x.object c (sym is.found.matched ∙ there))
         ] refl)
 
-  pub resolved-as : resolve_refusal (reading s) e i ≡ None → (P : Resolving) → OfAlone P → OfJoint P → Of P (if (shape s.metamodel e.feature).is_reference then ties_resolved (reading s) e i else []) (target_at (reading s) e i)
+  pub resolved-as : resolve_refusal (reading s) e i ≡ None → (P : Resolving) → OfAlone P → OfJoint P → Of P (if (shape s.metamodel e.feature).is_reference then link_ends_resolved (reading s) e i else []) (target_at (reading s) e i)
   resolved-as late P alone both =
       let r = reading s in
       let found = resolvable r e i late in

@@ -28,20 +28,20 @@ use Rattle.containment.proofs.PartLemmas.{holder-at}
 use Rattle.fragment_paths.proofs.HeldLemmas.{held}
 use Rattle.fragment_paths.proofs.ObjectLemmas.{all-objects}
 use Rattle.fragment_paths.proofs.StayLemmas.{above-stays}
-use Rattle.fragment_paths.specs.Fragments.{place_in}
-use Rattle.handshake.specs.Displaced.{cut_ties}
+use Rattle.fragment_paths.specs.Fragments.{position_in}
+use Rattle.handshake.specs.Displaced.{cut_link_ends}
 use Rattle.handshake.specs.Effects.{after, put_by}
 use Rattle.handshake.specs.Refusals.{resolve_refusal}
 use Rattle.handshake.specs.Resolving.{target_at}
 use Rattle.handshake.specs.ResolvingAll.{replaced, values_with}
-use Rattle.handshake.specs.Tellings.{resolved, tellings}
+use Rattle.handshake.specs.FeatureChanges.{resolved, feature_changes}
 use Rattle.handshake.specs.declared.change.Change.TheVariants.{Resolve}
-use Rattle.handshake.specs.declared.happening.Happening.{Happening}
-use Rattle.handshake.specs.declared.happening.Happening.TheVariants.{Resolves}
-use Rattle.handshake.specs.declared.happening.Telling.{Telling}
+use Rattle.handshake.specs.declared.change_kind.ChangeKind.{ChangeKind}
+use Rattle.handshake.specs.declared.change_kind.ChangeKind.TheVariants.{Resolves}
+use Rattle.handshake.specs.declared.change_kind.FeatureChange.{FeatureChange}
 use Rattle.handshake.specs.declared.target.Counterpart.{Counterpart}
 use Rattle.handshake.specs.declared.target.Target.{Target}
-use Rattle.handshake.proofs.CutTieLemmas.{without_ties-names_of}
+use Rattle.handshake.proofs.CutLinkEndLemmas.{without_link_ends-names_of}
 use Rattle.handshake.proofs.KnownLemmas.{IsResolvable, far-reference}
 use Rattle.handshake.proofs.ResolveLemmas.{end-alone, end-joint, far-now, far-there, joint, now, placed, set-there, there}
 use Rattle.handshake.proofs.ResolvedLemmas.{resolved-as}
@@ -52,11 +52,11 @@ abbrev pub with_links : Model → Links → Model
 with_links s u = record s { links = u }
 
 -- what ends hold once it is told
-abbrev done_in : (End → List Value) → End → Happening → End → List Value
+abbrev done_in : (End → List Value) → End → ChangeKind → End → List Value
 done_in ends d (Resolves i v) = replaced ends d i v
 done_in ends d _ = ends
 
-abbrev told_in : (End → List Value) → List Telling → End → List Value
+abbrev told_in : (End → List Value) → List FeatureChange → End → List Value
 told_in ends [] = ends
 told_in ends (t ∷ ts) = told_in (done_in ends t.at t.does) ts
 
@@ -139,9 +139,9 @@ module _ (s : Model) (legal : IsLegal s) (o : ObjectNo) (f : FeatureNo) (i : ℕ
   abbrev t : Model
   t = after s (Resolve o f i)
 
-  values-told : (d : End) → values_at t d ≡ told_in (values_at s) (tellings (reading s) (Resolve o f i)) d
+  values-told : (d : End) → values_at t d ≡ told_in (values_at s) (feature_changes (reading s) (Resolve o f i)) d
   values-told d =
-      subst (λ (u : Links). values_at (with_links s (put_by u (reading s) (Resolve o f i))) d ≡ told_in (values_at s) (tellings (reading s) (Resolve o f i)) d) (sym (without_ties-names_of s.links (cut_ties (reading s) (Resolve o f i))))
+      subst (λ (u : Links). values_at (with_links s (put_by u (reading s) (Resolve o f i))) d ≡ told_in (values_at s) (feature_changes (reading s) (Resolve o f i)) d) (sym (without_link_ends-names_of s.links (cut_link_ends (reading s) (Resolve o f i))))
       (resolved-as s legal e i late (λ ts xs us u. values_at (with_links s u) d ≡ told_in (values_at s) us d) (λ x is alone. values-alone s legal e i x is alone d) (λ x is g opposite j text stands. values-joint s legal e i x is g opposite j text stands d))
 
   values-after : (d : End) → values_at t d ≡ values_with (reading s) e i x d
@@ -185,13 +185,13 @@ module _ (s : Model) (legal : IsLegal s) (o : ObjectNo) (f : FeatureNo) (i : ℕ
     held-still : (p : ObjectNo) (d : End) → holder s.links (node.Object p) ≡ Some d → holder t.links (node.Object p) ≡ Some d
     held-still p d h =
         let there = held s legal p d h in
-        let k = place_in (reading s) d p in
+        let k = position_in (reading s) d p in
         holder-at t other d.node d.feature there.contains k p (ap (λ (vs : List Value). slice_get vs k) (contains-other d.node d.feature there.contains) ∙ there.here)
 
     held-before : (p : ObjectNo) (d : End) → holder t.links (node.Object p) ≡ Some d → holder s.links (node.Object p) ≡ Some d
     held-before p d h =
         let there = held t other p d h in
-        let k = place_in (reading t) d p in
+        let k = position_in (reading t) d p in
         holder-at s legal d.node d.feature there.contains k p (ap (λ (vs : List Value). slice_get vs k) (sym (contains-other d.node d.feature there.contains)) ∙ there.here)
 
     holder-same : (n : Node) → holder t.links n ≡ holder s.links n

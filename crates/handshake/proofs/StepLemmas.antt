@@ -21,33 +21,33 @@ use Rattle.mm_types.specs.declared.numbers.Node.TheVariants as node
 use Rattle.models.specs.Legal.{IsLegal}
 use Rattle.models.specs.Model.{Model, reading}
 use Rattle.models.specs.Reading.{Reading, all_features_of, at_end, held_at}
-use Rattle.removal.specs.TreeTies.{tie}
-use Rattle.handshake.specs.Displaced.{counter_tie, tie_in}
+use Rattle.removal.specs.TreeLinkEnds.{link_end}
+use Rattle.handshake.specs.Displaced.{counter_link_end, link_end_in}
 use Rattle.handshake.specs.Edits.{cut_of, edits_of, joining, new_put}
 use Rattle.handshake.specs.Effects.{with_resolution}
 use Rattle.handshake.specs.Keys.{has, key_of}
-use Rattle.handshake.specs.Proxies.{end_of, is_proxy_place, place, places, places_of, places_under}
+use Rattle.handshake.specs.Proxies.{end_of, is_proxy_site, site, sites, sites_of, sites_under}
 use Rattle.handshake.specs.ResolvingAll.{Resolution, done, left, left_by, resolutions, resolved_to, values_left, with_resolved}
-use Rattle.handshake.specs.Telling.{happened_all, notice_at, telling, told}
-use Rattle.handshake.specs.Tellings.{resolution_told, resolved}
+use Rattle.handshake.specs.FeatureChange.{happened_all, notice_at, feature_change, told}
+use Rattle.handshake.specs.FeatureChanges.{resolution_told, resolved}
 use Rattle.handshake.specs.Joining.{IsDone, edits_by, joint, joint_of, told_by}
 use Rattle.handshake.specs.declared.change.Change.TheVariants.{Resolve}
-use Rattle.handshake.specs.declared.happening.Happening.TheVariants.{Resolves}
+use Rattle.handshake.specs.declared.change_kind.ChangeKind.TheVariants.{Resolves}
 use Rattle.handshake.specs.declared.joining.Joint.{Joint}
 use Rattle.handshake.specs.declared.joining.Progress.{Progress}
-use Rattle.handshake.specs.declared.place.Place.{Place}
+use Rattle.handshake.specs.declared.site.ProxySite.{ProxySite}
 use Rattle.handshake.specs.declared.target.Counterpart.{Counterpart}
 use Rattle.handshake.specs.declared.target.Target.{Target}
 use Rattle.handshake.proofs.ApartLemmas.{chain-read, told-append}
 use Rattle.handshake.proofs.CutEndLemmas.{reference-plain}
 use Rattle.handshake.proofs.CutHeldLemmas.{all-left}
-use Rattle.handshake.proofs.CutTieLemmas.{values-linked}
+use Rattle.handshake.proofs.CutLinkEndLemmas.{values-linked}
 use Rattle.handshake.proofs.FollowLemmas.{Follows, IsSameOrLed, all-follow, object-apart}
 use Rattle.handshake.proofs.HappenedLemmas.{happened_all-at}
 use Rattle.handshake.proofs.KnownLemmas.{far-reference, resolvable}
 use Rattle.handshake.proofs.ResolveAllLemmas.{early, one-resolved, resolved-to}
 use Rattle.handshake.proofs.ResolvedReadingLemmas.{with_links as relinked}
-use Rattle.handshake.proofs.ResolveLemmas.{place-below}
+use Rattle.handshake.proofs.ResolveLemmas.{site-below}
 use Rattle.handshake.proofs.TargetLemmas.{found-is, match-is}
 use Rattle.handshake.proofs.UnderwayLemmas.{values-append}
 
@@ -55,15 +55,15 @@ use Rattle.handshake.proofs.UnderwayLemmas.{values-append}
 
 -- it is resolved in the model that some places left
 pub record IsStep (r : Reading) (y : Resolution) : Type 0 where
-  pub past : List Place
+  pub past : List ProxySite
   pub is : y.reads ≡ left_by r past
-  pub to : resolved_to (left_by r past) y.place ≡ Some y.target
+  pub to : resolved_to (left_by r past) y.site ≡ Some y.target
 
-pub all-steps : (r : Reading) (ps qs : List Place) → AllByRecursion (IsStep r) (resolutions (left_by r qs) ps)
+pub all-steps : (r : Reading) (ps qs : List ProxySite) → AllByRecursion (IsStep r) (resolutions (left_by r qs) ps)
 all-steps r [] qs = tt
 all-steps r (p ∷ ps) qs =
     let now = left_by r qs in
-    elim (resolved_to now p) as (λ q. resolved_to now p ≡ q → AllByRecursion (IsStep r) (option_map_or (λ x. record { reads = now; place = p; target = x } ∷ resolutions (with_resolved now p x) ps) q (resolutions now ps))) [
+    elim (resolved_to now p) as (λ q. resolved_to now p ≡ q → AllByRecursion (IsStep r) (option_map_or (λ x. record { reads = now; site = p; target = x } ∷ resolutions (with_resolved now p x) ps) q (resolutions now ps))) [
       | None ↦ λ _. all-steps r ps qs
       | Some x ↦ λ to.
           let next : left_by r (qs ++ p ∷ []) ≡ with_resolved now p x =
@@ -90,7 +90,7 @@ slot-same r ends follows d j t at = by (follows.each d j)
     by (inl same) = sym same ∙ at
     by (inr x) = absurd (object-apart x.object t (sym x.is ∙ at))
 
-module _ (s : Model) (legal : IsLegal s) (ps : List Place) (p : Place) (x : Target) (to : resolved_to (left_by (reading s) ps) p ≡ Some x) where
+module _ (s : Model) (legal : IsLegal s) (ps : List ProxySite) (p : ProxySite) (x : Target) (to : resolved_to (left_by (reading s) ps) p ≡ Some x) where
   abbrev r : Reading
   r = reading s
 
@@ -103,31 +103,31 @@ module _ (s : Model) (legal : IsLegal s) (ps : List Place) (p : Place) (x : Targ
   follows : Follows (reading s) (values_left (reading s) ps)
   follows = all-follow ps s legal
 
-  tie-same : (d : End) (j : ℕ) (t : List ℕ) → slice_get (now.values d) j ≡ Some (value.Proxy t) → tie_in now d j ≡ tie_in r d j
-  tie-same d j t at = ap (λ (q : Option Value). option_to_list (option_map (tie d) q)) (at ∙ sym (slot-same r (values_left r ps) follows d j t at))
+  link_end-same : (d : End) (j : ℕ) (t : List ℕ) → slice_get (now.values d) j ≡ Some (value.Proxy t) → link_end_in now d j ≡ link_end_in r d j
+  link_end-same d j t at = ap (λ (q : Option Value). option_to_list (option_map (link_end d) q)) (at ∙ sym (slot-same r (values_left r ps) follows d j t at))
 
   abbrev with : Option Counterpart → Target
   with q = record { object = x.object; counterpart = q }
 
-  counter-same : (q : Option Counterpart) → x.counterpart ≡ q → counter_tie now (with q) ≡ counter_tie r (with q)
+  counter-same : (q : Option Counterpart) → x.counterpart ≡ q → counter_link_end now (with q) ≡ counter_link_end r (with q)
   counter-same None none = refl
   counter-same (Some c) there =
       let found = found-is now e p.index x (resolved-to now p x to).found in
       let match = match-is now e x.object c (sym found.matched ∙ there) in
-      tie-same c.end c.index match.text match.proxy
+      link_end-same c.end c.index match.text match.proxy
 
   joining-same : (q : Option Counterpart) → joining now e p.index (with q) ≡ joining r e p.index (with q)
   joining-same None = refl
   joining-same (Some c) = ap (λ (n : ℕ). option_to_list (new_put r e p.index (value.Object x.object)) ++ Shift c.end c.index (n - 1) ∷ []) (follows.long c.end)
 
-  edits-same : edits_of (record { reads = now; place = p; target = x }) ≡ edits_by r (joint p x)
+  edits-same : edits_of (record { reads = now; site = p; target = x }) ≡ edits_by r (joint p x)
   edits-same =
       let found = found-is now e p.index x (resolved-to now p x to).found in
-      λ i. map cut_of (tie-same e p.index found.text found.proxy i ++ counter-same x.counterpart refl i) ++ joining-same x.counterpart i
+      λ i. map cut_of (link_end-same e p.index found.text found.proxy i ++ counter-same x.counterpart refl i) ++ joining-same x.counterpart i
 
   ---------------------------------------------------------------- notices
 
-  -- what a place shows that has something
+  -- what a position shows that has something
   shown-in : (b : Bool) (vs : List Value) (j : ℕ) (v : Value) → slice_get vs j ≡ Some v → shown b vs ≡ vs
   shown-in true [] j v at = absurd (none-some v at)
   shown-in true (w ∷ ws) j v at = refl
@@ -150,7 +150,7 @@ module _ (s : Model) (legal : IsLegal s) (ps : List Place) (p : Place) (x : Targ
       ] refl
 
   -- a proxy that is resolved at a reference is told alike
-  notice-same : (d : End) (j : ℕ) (t : List ℕ) (v : Value) → (shape s.metamodel d.feature).is_reference ≡ true → slice_get (now.values d) j ≡ Some (value.Proxy t) → notice_at now (telling d (Resolves j v)) ≡ notice_at r (telling d (Resolves j v))
+  notice-same : (d : End) (j : ℕ) (t : List ℕ) (v : Value) → (shape s.metamodel d.feature).is_reference ≡ true → slice_get (now.values d) j ≡ Some (value.Proxy t) → notice_at now (feature_change d (Resolves j v)) ≡ notice_at r (feature_change d (Resolves j v))
   notice-same d j t v reference at =
       let a = shape s.metamodel d.feature in
       let was = slot-same r (values_left r ps) follows d j t at in
@@ -159,7 +159,7 @@ module _ (s : Model) (legal : IsLegal s) (ps : List Place) (p : Place) (x : Targ
       let alone : a.is_single ≡ true → j ≡ 0 = λ single.
       let few = (all-left s legal).one d single in
       let long = ap (λ (xs : List Value). length xs) (values-linked s d reference) in
-      let low = place-below (r.values d) j (value.Proxy t) was in
+      let low = site-below (r.values d) j (value.Proxy t) was in
       omega (arith, few, long, low) in
       let old = ap (λ (xs : List Value). value_in xs j) vs ∙ ap (λ (q : Option Value). unwrap_or q value.Null) (at ∙ sym was) ∙ sym (ap (λ (xs : List Value). value_in xs j) ws) in
       let set =
@@ -193,30 +193,30 @@ module _ (s : Model) (legal : IsLegal s) (ps : List Place) (p : Place) (x : Targ
 -- a step says the same of its own model and of the one of before
 edits-step : (s : Model) → IsLegal s → (y : Resolution) → IsStep (reading s) y → edits_of y ≡ edits_by (reading s) (joint_of y)
 edits-step s legal y step =
-    (λ i. edits_of (record { reads = step.is i; place = y.place; target = y.target })) ∙ edits-same s legal step.past y.place y.target step.to
+    (λ i. edits_of (record { reads = step.is i; site = y.site; target = y.target })) ∙ edits-same s legal step.past y.site y.target step.to
 
 told-step : (s : Model) → IsLegal s → (y : Resolution) → IsStep (reading s) y → map (notice_at y.reads) (resolution_told y) ≡ map (notice_at (reading s)) (told_by (joint_of y))
-told-step s legal y step = ap (λ (z : Reading). map (notice_at z) (resolution_told y)) step.is ∙ told-same s legal step.past y.place y.target step.to
+told-step s legal y step = ap (λ (z : Reading). map (notice_at z) (resolution_told y)) step.is ∙ told-same s legal step.past y.site y.target step.to
 
 -- the edits of all, as they are read in the model of before
-pub edits-all : (s : Model) → IsLegal s → (ps : List Place) → flat_map edits_of (resolutions (reading s) ps) ≡ flat_map (edits_by (reading s)) (map joint_of (resolutions (reading s) ps))
+pub edits-all : (s : Model) → IsLegal s → (ps : List ProxySite) → flat_map edits_of (resolutions (reading s) ps) ≡ flat_map (edits_by (reading s)) (map joint_of (resolutions (reading s) ps))
 edits-all s legal ps = flat-same (IsStep (reading s)) edits_of (edits_by (reading s)) (edits-step s legal) (resolutions (reading s) ps) (all-steps (reading s) ps [])
 
 -- the notices of all are read each in the model that the earlier ones left
-chain-each : (ps : List Place) (s : Model) → IsLegal s
+chain-each : (ps : List ProxySite) (s : Model) → IsLegal s
     → told s.metamodel (held_at (reading s)) (flat_map resolution_told (resolutions (reading s) ps)) ≡ flat_map (λ y. map (notice_at y.reads) (resolution_told y)) (resolutions (reading s) ps)
 chain-each [] s legal = refl
 chain-each (p ∷ ps) s legal =
     let r = reading s in
     let m = s.metamodel in
     let read : Resolution → List Notice = λ y. map (notice_at y.reads) (resolution_told y) in
-    let ys : Option Target → List Resolution = λ q. option_map_or (λ x. record { reads = r; place = p; target = x } ∷ resolutions (with_resolved r p x) ps) q (resolutions r ps) in
+    let ys : Option Target → List Resolution = λ q. option_map_or (λ x. record { reads = r; site = p; target = x } ∷ resolutions (with_resolved r p x) ps) q (resolutions r ps) in
     elim (resolved_to r p) as (λ q. resolved_to r p ≡ q → told m (held_at r) (flat_map resolution_told (ys q)) ≡ flat_map read (ys q)) [
       | None ↦ λ _. chain-each ps s legal
       | Some x ↦ λ is.
           let of = resolved-to r p x is in
           let one = one-resolved s legal p x of.late of.found in
-          let y : Resolution = record { reads = r; place = p; target = x } in
+          let y : Resolution = record { reads = r; site = p; target = x } in
           let c = Resolve p.object p.feature p.index in
           let t = relinked s (with_resolution s.links y) in
           let ts = resolution_told y in
@@ -235,7 +235,7 @@ map-flat f g [] = refl
 map-flat f g (x ∷ xs) = ap (λ zs. map f (g x) ++ zs) (map-flat f g xs) ∙ sym (map-append f (g x) (flat_map g xs))
 
 -- so they are, as they are read in the model of before
-pub chain-all : (s : Model) → IsLegal s → (ps : List Place)
+pub chain-all : (s : Model) → IsLegal s → (ps : List ProxySite)
     → told s.metamodel (held_at (reading s)) (flat_map resolution_told (resolutions (reading s) ps)) ≡ map (notice_at (reading s)) (flat_map told_by (map joint_of (resolutions (reading s) ps)))
 chain-all s legal ps =
     let r = reading s in
@@ -259,21 +259,21 @@ flat-filter N f g same [] = refl
 flat-filter N f g same (x ∷ xs) = (λ i. same x i ++ flat-filter N f g same xs i) ∙ sym (filter-append N (g x) (flat_map g xs))
 
 -- the proxies that stand afterwards are those of before that are not gone
-pub left-places : (r : Reading) (ends : End → List Value) (N : Place → Bool) → ((d : End) → length (ends d) ≡ length (r.values d)) → ((p : Place) → is_proxy_place (record r { values = ends }) p ≡ (is_proxy_place r p && N p))
-    → places (record r { values = ends }) ≡ filter N (places r)
-left-places r ends N long same =
+pub left-sites : (r : Reading) (ends : End → List Value) (N : ProxySite → Bool) → ((d : End) → length (ends d) ≡ length (r.values d)) → ((p : ProxySite) → is_proxy_site (record r { values = ends }) p ≡ (is_proxy_site r p && N p))
+    → sites (record r { values = ends }) ≡ filter N (sites r)
+left-sites r ends N long same =
     let now = record r { values = ends } in
-    flat-filter N (λ n. places_of now (record { 0 = n })) (λ n. places_of r (record { 0 = n })) (λ n. (let o : ObjectNo = record { 0 = n } in
-    flat-filter N (places_under now o) (places_under r o) (λ f.
-    ap (λ (k : ℕ). filter (is_proxy_place now) (map (place o f) (range_with_len 0 k))) (long (at_end (node.Object o) f))
-    ∙ kept-filter (is_proxy_place r) N (is_proxy_place now) same (map (place o f) (range_with_len 0 (length (r.values (at_end (node.Object o) f))))))
+    flat-filter N (λ n. sites_of now (record { 0 = n })) (λ n. sites_of r (record { 0 = n })) (λ n. (let o : ObjectNo = record { 0 = n } in
+    flat-filter N (sites_under now o) (sites_under r o) (λ f.
+    ap (λ (k : ℕ). filter (is_proxy_site now) (map (site o f) (range_with_len 0 k))) (long (at_end (node.Object o) f))
+    ∙ kept-filter (is_proxy_site r) N (is_proxy_site now) same (map (site o f) (range_with_len 0 (length (r.values (at_end (node.Object o) f))))))
     (all_features_of r (node.Object o)))) (range_with_len 0 r.next)
 
 -- how many they are
-pub left-count : (s : Model) → IsLegal s → (g : Progress) → IsDone (reading s) g → left (reading s) ≡ length (filter (λ p. not (has g.gone (key_of p))) (places (reading s)))
+pub left-count : (s : Model) → IsLegal s → (g : Progress) → IsDone (reading s) g → left (reading s) ≡ length (filter (λ p. not (has g.gone (key_of p))) (sites (reading s)))
 left-count s legal g known =
     let r = reading s in
-    ap (λ (ps : List Place). length ps) (left-places r (values_left r (places r)) (λ p. not (has g.gone (key_of p))) (all-follow (places r) s legal).long known.gone)
+    ap (λ (ps : List ProxySite). length ps) (left-sites r (values_left r (sites r)) (λ p. not (has g.gone (key_of p))) (all-follow (sites r) s legal).long known.gone)
 
 length-joints : (ys : List Resolution) → length (map joint_of ys) ≡ length ys
 length-joints [] = refl
@@ -281,4 +281,4 @@ length-joints (y ∷ ys) = ap suc (length-joints ys)
 
 -- and how many were resolved
 pub done-count : (r : Reading) (g : Progress) → IsDone r g → length g.joints.items ≡ done r
-done-count r g known = ap (λ (js : List Joint). length js) known.joints ∙ length-joints (resolutions r (places r))
+done-count r g known = ap (λ (js : List Joint). length js) known.joints ∙ length-joints (resolutions r (sites r))

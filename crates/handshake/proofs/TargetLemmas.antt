@@ -19,9 +19,9 @@ use Rattle.mm_types.specs.declared.value.Value.TheVariants as value
 use Rattle.links.specs.Links.{far_end, text_of}
 use Rattle.models.specs.Reading.{Reading}
 use Rattle.fragment_paths.specs.Finding.{at}
-use Rattle.removal.specs.TreeTies.{tie}
-use Rattle.removal.specs.declared.tie.Tie.{Tie}
-use Rattle.handshake.specs.Displaced.{counter_tie, tie_in, ties_resolved}
+use Rattle.removal.specs.TreeLinkEnds.{link_end}
+use Rattle.removal.specs.declared.link_end.LinkEnd.{LinkEnd}
+use Rattle.handshake.specs.Displaced.{counter_link_end, link_end_in, link_ends_resolved}
 use Rattle.handshake.specs.Resolving.{counterpart, first_to, is_unmatched, leads_to, proxy_at, target, target_at}
 use Rattle.handshake.specs.declared.target.Counterpart.{Counterpart}
 use Rattle.handshake.specs.declared.target.Target.{Target}
@@ -114,17 +114,17 @@ alone-of r e x matched none = by (shape r.metamodel e.feature).opposite (subst (
     by (Some g) h = absurd (false≢true (sym h))
 
 -- what holds of the link of a proxy, and of those of both proxies of a link, holds of those that resolving cuts
-pub resolved-cuts : (P : List Tie → Type 0) (r : Reading) (e : End) (i : ℕ) → P (tie_in r e i)
-    → ((o : ObjectNo) (c : Counterpart) (t : List ℕ) → IsMatch r e o c → slice_get (r.values e) i ≡ Some (value.Proxy t) → P (tie_in r e i ++ tie_in r c.end c.index)) → P (ties_resolved r e i)
+pub resolved-cuts : (P : List LinkEnd → Type 0) (r : Reading) (e : End) (i : ℕ) → P (link_end_in r e i)
+    → ((o : ObjectNo) (c : Counterpart) (t : List ℕ) → IsMatch r e o c → slice_get (r.values e) i ≡ Some (value.Proxy t) → P (link_end_in r e i ++ link_end_in r c.end c.index)) → P (link_ends_resolved r e i)
 resolved-cuts P r e i one two = by (target_at r e i) refl
   where
-    none-more : P (tie_in r e i ++ [])
-    none-more = elim (slice_get (r.values e) i) as (λ q. P (option_to_list (option_map (tie e) q)) → P (option_to_list (option_map (tie e) q) ++ [])) [ None ↦ λ p. p | Some v ↦ λ p. p ] one
+    none-more : P (link_end_in r e i ++ [])
+    none-more = elim (slice_get (r.values e) i) as (λ q. P (option_to_list (option_map (link_end e) q)) → P (option_to_list (option_map (link_end e) q) ++ [])) [ None ↦ λ p. p | Some v ↦ λ p. p ] one
 
-    more : (x : Target) → IsFound r e i x → (q : Option Counterpart) → x.counterpart ≡ q → P (tie_in r e i ++ option_map_or (λ c. tie_in r c.end c.index) q [])
+    more : (x : Target) → IsFound r e i x → (q : Option Counterpart) → x.counterpart ≡ q → P (link_end_in r e i ++ option_map_or (λ c. link_end_in r c.end c.index) q [])
     more x is None none = none-more
     more x is (Some c) there = two x.object c is.text (match-is r e x.object c (sym is.matched ∙ there)) is.proxy
 
-    by : (q : Option Target) → target_at r e i ≡ q → P (tie_in r e i ++ option_map_or (counter_tie r) q [])
+    by : (q : Option Target) → target_at r e i ≡ q → P (link_end_in r e i ++ option_map_or (counter_link_end r) q [])
     by None is = none-more
     by (Some x) is = more x (found-is r e i x is) x.counterpart refl

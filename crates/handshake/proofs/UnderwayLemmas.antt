@@ -17,18 +17,18 @@ use Rattle.mm_types.specs.declared.value.Value.TheVariants as value
 use Rattle.models.specs.Legal.{IsLegal}
 use Rattle.models.specs.Model.{Model, reading}
 use Rattle.models.specs.Reading.{Reading, all_features_of, at_end}
-use Rattle.loading.proofs.PairLemmas.{all-flat_map_every}
-use Rattle.handshake.specs.Joining.{Adds, IsDone, IsKnown, IsNothing, IsProgress, Resolves, is_far_link, is_far_place, joint, joint_of, target_by}
+use Rattle.doc_loader.proofs.PairLemmas.{all-flat_map_every}
+use Rattle.handshake.specs.Joining.{Adds, IsDone, IsKnown, IsNothing, IsProgress, Resolves, is_far_link, is_far_site, joint, joint_of, target_by}
 use Rattle.handshake.specs.Keys.{has, key, key_of, same_key}
 use Rattle.handshake.specs.Leads.{first_index, index_at, lead, leads}
-use Rattle.handshake.specs.Proxies.{end_of, is_proxy_place, place, places, places_of, places_under}
+use Rattle.handshake.specs.Proxies.{end_of, is_proxy_site, site, sites, sites_of, sites_under}
 use Rattle.handshake.specs.ResolvingAll.{Resolution, left_by, replaced, resolutions, resolved_to, values_left, values_with, with_resolved}
 use Rattle.handshake.specs.declared.joining.Joint.{Joint}
 use Rattle.handshake.specs.declared.joining.Progress.{Progress}
 use Rattle.handshake.specs.declared.keys.Key.{Key}
 use Rattle.handshake.specs.declared.leads.FirstLeads.{FirstLeads}
 use Rattle.handshake.specs.declared.leads.Lead.{Lead}
-use Rattle.handshake.specs.declared.place.Place.{Place}
+use Rattle.handshake.specs.declared.site.ProxySite.{ProxySite}
 use Rattle.handshake.specs.declared.target.Counterpart.{Counterpart}
 use Rattle.handshake.specs.declared.target.Target.{Target}
 use Rattle.handshake.proofs.JoinedLemmas.{has-replaced, is_proxy_in, proxy-replaced}
@@ -38,17 +38,17 @@ use Rattle.handshake.proofs.TargetLemmas.{IsFound, found-is, match-apart, match-
 
 ---------------------------------------------------------------- some places, and then others
 
-pub resolutions-append : (r : Reading) (ps qs : List Place) → resolutions r (ps ++ qs) ≡ resolutions r ps ++ resolutions (left_by r ps) qs
+pub resolutions-append : (r : Reading) (ps qs : List ProxySite) → resolutions r (ps ++ qs) ≡ resolutions r ps ++ resolutions (left_by r ps) qs
 resolutions-append r [] qs = refl
 resolutions-append r (p ∷ ps) qs =
-    let one : Target → Resolution = λ x. record { reads = r; place = p; target = x } in
+    let one : Target → Resolution = λ x. record { reads = r; site = p; target = x } in
     elim (resolved_to r p) as (λ q. option_map_or (λ x. one x ∷ resolutions (with_resolved r p x) (ps ++ qs)) q (resolutions r (ps ++ qs))
     ≡ option_map_or (λ x. one x ∷ resolutions (with_resolved r p x) ps) q (resolutions r ps) ++ resolutions (record r { values = option_map_or (λ x. values_left (with_resolved r p x) ps) q (values_left r ps) }) qs) [
       | None ↦ resolutions-append r ps qs
       | Some x ↦ ap (λ (ys : List Resolution). one x ∷ ys) (resolutions-append (with_resolved r p x) ps qs)
     ]
 
-pub values-append : (r : Reading) (ps qs : List Place) → values_left r (ps ++ qs) ≡ values_left (left_by r ps) qs
+pub values-append : (r : Reading) (ps qs : List ProxySite) → values_left r (ps ++ qs) ≡ values_left (left_by r ps) qs
 values-append r [] qs = refl
 values-append r (p ∷ ps) qs =
     elim (resolved_to r p) as (λ q. option_map_or (λ x. values_left (with_resolved r p x) (ps ++ qs)) q (values_left r (ps ++ qs))
@@ -63,7 +63,7 @@ none-known : (r : Reading) (g : Progress) → IsNothing g → IsProgress r [] g
 none-known r g nothing =
     record {
       joints = nothing.joints;
-      gone = λ p. sym (ap (λ (b : Bool). is_proxy_place r p && not b) (nothing.gone (key_of p)) ∙ and-true (is_proxy_place r p));
+      gone = λ p. sym (ap (λ (b : Bool). is_proxy_site r p && not b) (nothing.gone (key_of p)) ∙ and-true (is_proxy_site r p));
       linked = λ o f b. let was = has_value (r.values (at_end (node.Object o) f)) (value.Object b) in sym (ap (λ (c : Bool). was || c) (nothing.linked (key o f b.0)) ∙ or-false was);
     }
   where
@@ -75,7 +75,7 @@ none-known r g nothing =
     or-false true = refl
     or-false false = refl
 
-module _ (s : Model) (legal : IsLegal s) (ps : List Place) (p : Place) (x : Target) (to : resolved_to (left_by (reading s) ps) p ≡ Some x) (g h : Progress) (known : IsProgress (reading s) ps g) (adds : Adds g h p x) where
+module _ (s : Model) (legal : IsLegal s) (ps : List ProxySite) (p : ProxySite) (x : Target) (to : resolved_to (left_by (reading s) ps) p ≡ Some x) (g h : Progress) (known : IsProgress (reading s) ps g) (adds : Adds g h p x) where
   abbrev r : Reading
   r = reading s
 
@@ -123,8 +123,8 @@ module _ (s : Model) (legal : IsLegal s) (ps : List Place) (p : Place) (x : Targ
   grouped_two false false false false = refl
 
   module _ (c : Counterpart) (there : x.counterpart ≡ Some c) where
-    abbrev q : Place
-    q = place x.object c.end.feature c.index
+    abbrev q : ProxySite
+    q = site x.object c.end.feature c.index
 
     match-there : c.end ≡ end_of q
     match-there = let match = match-is now (end_of p) x.object c (sym found.matched ∙ there) in match.stands ∙ ap (λ (f : FeatureNo). at_end (node.Object x.object) f) (sym (ap (λ (y : End). y.feature) match.stands))
@@ -144,16 +144,16 @@ module _ (s : Model) (legal : IsLegal s) (ps : List Place) (p : Place) (x : Targ
         let apart = ap (λ (y : End). same_end y (end_of p)) (sym match-there ∙ match.stands) ∙ match-apart now (end_of p) x.object match.feature legal.metamodel match.opposite in
         ap (λ (b : Bool). slice_get (if b then slice_set (now.values (end_of p)) c.index (value.Object p.object) else now.values (end_of p)) p.index) apart ∙ found.proxy
 
-  gone-more : (z : Option Counterpart) → x.counterpart ≡ z → (y : Place)
-      → is_proxy_in (values_with now (end_of p) p.index (with z)) y ≡ (is_proxy_place r y && not ((has g.gone (key_of y) || mine (key_of y)) || option_map_or (λ c. is_far_place x c (key_of y)) z false))
+  gone-more : (z : Option Counterpart) → x.counterpart ≡ z → (y : ProxySite)
+      → is_proxy_in (values_with now (end_of p) p.index (with z)) y ≡ (is_proxy_site r y && not ((has g.gone (key_of y) || mine (key_of y)) || option_map_or (λ c. is_far_site x c (key_of y)) z false))
   gone-more None none y =
-      proxy-replaced now.values p x.object found.text found.proxy y ∙ ap (λ (b : Bool). b && not (mine (key_of y))) (known.gone y) ∙ parted (is_proxy_place r y) (has g.gone (key_of y)) (mine (key_of y)) false
+      proxy-replaced now.values p x.object found.text found.proxy y ∙ ap (λ (b : Bool). b && not (mine (key_of y))) (known.gone y) ∙ parted (is_proxy_site r y) (has g.gone (key_of y)) (mine (key_of y)) false
   gone-more (Some c) there y =
-      let far = is_far_place x c (key_of y) in
+      let far = is_far_site x c (key_of y) in
       ap (λ (ends : End → List Value). is_proxy_in (replaced ends (end_of p) p.index (value.Object x.object)) y) (back-is c there)
       ∙ proxy-replaced (back c there) p x.object found.text (still c there) y
       ∙ ap (λ (b : Bool). b && not (mine (key_of y))) (proxy-replaced now.values (q c there) p.object (met c there).0 (met c there).1 y ∙ ap (λ (b : Bool). b && not far) (known.gone y))
-      ∙ parted_two (is_proxy_place r y) (has g.gone (key_of y)) (mine (key_of y)) far
+      ∙ parted_two (is_proxy_site r y) (has g.gone (key_of y)) (mine (key_of y)) far
 
   linked-more : (z : Option Counterpart) → x.counterpart ≡ z → (o : ObjectNo) (f : FeatureNo) (b : ObjectNo)
       → has_value (values_with now (end_of p) p.index (with z) (at_end (node.Object o) f)) (value.Object b)
@@ -174,16 +174,16 @@ module _ (s : Model) (legal : IsLegal s) (ps : List Place) (p : Place) (x : Targ
   one-known =
       record {
         joints = adds.joints ∙ ap (λ (js : List Joint). js ++ joint p x ∷ []) known.joints;
-        gone = λ y. gone-more x.counterpart refl y ∙ ap (λ (b : Bool). is_proxy_place r y && not b) (sym (adds.gone (key_of y)));
+        gone = λ y. gone-more x.counterpart refl y ∙ ap (λ (b : Bool). is_proxy_site r y && not b) (sym (adds.gone (key_of y)));
         linked = λ o f b. linked-more x.counterpart refl o f b ∙ ap (λ (c : Bool). has_value (r.values (at_end (node.Object o) f)) (value.Object b) || c) (sym (adds.linked (key o f b.0)));
       }
 
 -- what is known of these places and one more
-known-on : (s : Model) → IsLegal s → (ps : List Place) (p : Place) (g h : Progress) → IsProgress (reading s) ps g → Resolves g h p (resolved_to (left_by (reading s) ps) p) → IsProgress (reading s) (ps ++ p ∷ []) h
+known-on : (s : Model) → IsLegal s → (ps : List ProxySite) (p : ProxySite) (g h : Progress) → IsProgress (reading s) ps g → Resolves g h p (resolved_to (left_by (reading s) ps) p) → IsProgress (reading s) (ps ++ p ∷ []) h
 known-on s legal ps p g h known resolves =
     let r = reading s in
     let now = left_by r ps in
-    let ys : Option Target → List Resolution = λ q. option_map_or (λ x. record { reads = now; place = p; target = x } ∷ []) q [] in
+    let ys : Option Target → List Resolution = λ q. option_map_or (λ x. record { reads = now; site = p; target = x } ∷ []) q [] in
     let ends : Option Target → End → List Value = λ q. option_map_or (λ x. values_with now (end_of p) p.index x) q (values_left r ps) in
     let same : IsKnown r (map joint_of (resolutions r ps) ++ map joint_of (ys (resolved_to now p))) (ends (resolved_to now p)) h ≡ IsProgress r (ps ++ p ∷ []) h =
     λ i. IsKnown r (sym (ap (map joint_of) (resolutions-append r ps (p ∷ [])) ∙ map-append joint_of (resolutions r ps) (ys (resolved_to now p))) i) (sym (values-append r ps (p ∷ [])) i) h in
@@ -197,28 +197,28 @@ known-on s legal ps p g h known resolves =
 
 -- the places so far, and those that are left, with their leads
 pub record IsUnderway (r : Reading) (left : List Lead) (g : Progress) : Type 0 where
-  pub past : List Place
-  pub rest : List Place
-  pub all : past ++ rest ≡ places r
+  pub past : List ProxySite
+  pub rest : List ProxySite
+  pub all : past ++ rest ≡ sites r
   pub next : map (lead r) rest ≡ left
   pub known : IsProgress r past g
 
 pub underway-from : (r : Reading) (g : Progress) → IsNothing g → IsUnderway r (leads r) g
-underway-from r g nothing = record { past = []; rest = places r; all = refl; next = refl; known = none-known r g nothing }
+underway-from r g nothing = record { past = []; rest = sites r; all = refl; next = refl; known = none-known r g nothing }
 
 -- proxies stand at all places
-all-pass : (q : Place → Bool) (xs : List Place) → AllByRecursion (λ (x : Place). q x ≡ true) (filter q xs)
+all-pass : (q : ProxySite → Bool) (xs : List ProxySite) → AllByRecursion (λ (x : ProxySite). q x ≡ true) (filter q xs)
 all-pass q [] = tt
 all-pass q (x ∷ xs) =
-    elim (q x) as (λ b. q x ≡ b → AllByRecursion (λ (y : Place). q y ≡ true) (if b then x ∷ filter q xs else filter q xs)) [ true ↦ λ h. (h, all-pass q xs) | false ↦ λ _. all-pass q xs ] refl
+    elim (q x) as (λ b. q x ≡ b → AllByRecursion (λ (y : ProxySite). q y ≡ true) (if b then x ∷ filter q xs else filter q xs)) [ true ↦ λ h. (h, all-pass q xs) | false ↦ λ _. all-pass q xs ] refl
 
-all-proxies : (r : Reading) → AllByRecursion (λ (p : Place). is_proxy_place r p ≡ true) (places r)
+all-proxies : (r : Reading) → AllByRecursion (λ (p : ProxySite). is_proxy_site r p ≡ true) (sites r)
 all-proxies r =
-    let P : Place → Type 0 = λ p. is_proxy_place r p ≡ true in
-    all-flat_map_every P (λ n. places_of r (record { 0 = n })) (range_with_len 0 r.next) (λ n. (let o : ObjectNo = record { 0 = n } in
-    all-flat_map_every P (places_under r o) (all_features_of r (node.Object o)) (λ f. all-pass (is_proxy_place r) (map (place o f) (range_with_len 0 (length (r.values (at_end (node.Object o) f))))))))
+    let P : ProxySite → Type 0 = λ p. is_proxy_site r p ≡ true in
+    all-flat_map_every P (λ n. sites_of r (record { 0 = n })) (range_with_len 0 r.next) (λ n. (let o : ObjectNo = record { 0 = n } in
+    all-flat_map_every P (sites_under r o) (all_features_of r (node.Object o)) (λ f. all-pass (is_proxy_site r) (map (site o f) (range_with_len 0 (length (r.values (at_end (node.Object o) f))))))))
 
-in-the-middle : (P : Place → Type 0) (xs : List Place) (p : Place) (ys : List Place) → AllByRecursion P (xs ++ p ∷ ys) → P p
+in-the-middle : (P : ProxySite → Type 0) (xs : List ProxySite) (p : ProxySite) (ys : List ProxySite) → AllByRecursion P (xs ++ p ∷ ys) → P p
 in-the-middle P [] p ys all = all.0
 in-the-middle P (x ∷ xs) p ys all = in-the-middle P xs p ys all.1
 
@@ -244,16 +244,16 @@ tail-is : (x y : Lead) (xs ys : List Lead) → x ∷ xs ≡ y ∷ ys → xs ≡ 
 tail-is x y xs ys h = ap tail_of h
 
 pub underway-step : (s : Model) → IsLegal s → (f : FirstLeads) → ((k : Key) → index_at f k ≡ first_index (leads (reading s)) k) → (x : Lead) (left : List Lead) (g h : Progress)
-    → IsUnderway (reading s) (x ∷ left) g → Resolves g h x.place (target_by (reading s) g f x) → IsUnderway (reading s) left h
+    → IsUnderway (reading s) (x ∷ left) g → Resolves g h x.site (target_by (reading s) g f x) → IsUnderway (reading s) left h
 underway-step s legal f table x left g h on resolves = by on.rest on.all on.next
   where
-    by : (rest : List Place) → on.past ++ rest ≡ places (reading s) → map (lead (reading s)) rest ≡ x ∷ left → IsUnderway (reading s) left h
+    by : (rest : List ProxySite) → on.past ++ rest ≡ sites (reading s) → map (lead (reading s)) rest ≡ x ∷ left → IsUnderway (reading s) left h
     by [] all next = absurd (empty-apart x left next)
     by (p ∷ rest) all next =
         let r = reading s in
         let here = head-is (lead r p) x (map (lead r) rest) left next in
-        let proxy = in-the-middle (λ (y : Place). is_proxy_place r y ≡ true) on.past p rest (subst (AllByRecursion (λ (y : Place). is_proxy_place r y ≡ true)) (sym all) (all-proxies r)) in
-        let mine = subst (λ (y : Lead). Resolves g h y.place (target_by r g f y)) (sym here) resolves in
+        let proxy = in-the-middle (λ (y : ProxySite). is_proxy_site r y ≡ true) on.past p rest (subst (AllByRecursion (λ (y : ProxySite). is_proxy_site r y ≡ true)) (sym all) (all-proxies r)) in
+        let mine = subst (λ (y : Lead). Resolves g h y.site (target_by r g f y)) (sym here) resolves in
         record {
           past = on.past ++ p ∷ [];
           rest = rest;
@@ -265,8 +265,8 @@ underway-step s legal f table x left g h on resolves = by on.rest on.all on.next
 pub underway-end : (r : Reading) (g : Progress) → IsUnderway r [] g → IsDone r g
 underway-end r g on = by on.rest on.all on.next
   where
-    by : (rest : List Place) → on.past ++ rest ≡ places r → map (lead r) rest ≡ [] → IsDone r g
-    by [] all next = subst (λ (ps : List Place). IsProgress r ps g) (sym (append-nil on.past) ∙ all) on.known
+    by : (rest : List ProxySite) → on.past ++ rest ≡ sites r → map (lead r) rest ≡ [] → IsDone r g
+    by [] all next = subst (λ (ps : List ProxySite). IsProgress r ps g) (sym (append-nil on.past) ∙ all) on.known
     by (p ∷ rest) all next = absurd (empty-apart (lead r p) (map (lead r) rest) (sym next))
 
 ---------------------------------------------------------------- the loop
@@ -275,7 +275,7 @@ pub loop-init : (r : Reading) (g : Progress) (ls : List Lead) → ls ≡ leads r
 loop-init r g ls all nothing = subst (λ (xs : List Lead). IsUnderway r xs g) (sym all) (underway-from r g nothing)
 
 pub loop-step : (s : Model) → IsLegal s → (f : FirstLeads) → (ls : List Lead) → ((k : Key) → index_at f k ≡ first_index ls k) → ls ≡ leads (reading s) → (i : ℕ) (d : Lead) (g h : Progress)
-    → i < length ls → IsUnderway (reading s) (drop i ls) g → Resolves g h (get_or ls i d).place (target_by (reading s) g f (get_or ls i d)) → IsUnderway (reading s) (drop (i + 1) ls) h
+    → i < length ls → IsUnderway (reading s) (drop i ls) g → Resolves g h (get_or ls i d).site (target_by (reading s) g f (get_or ls i d)) → IsUnderway (reading s) (drop (i + 1) ls) h
 loop-step s legal f ls table all i d g h low on resolves =
     underway-step s legal f (λ k. table k ∙ ap (λ (xs : List Lead). first_index xs k) all) (get_or ls i d) (drop (i + 1) ls) g h
     (subst (λ (xs : List Lead). IsUnderway (reading s) xs g) (drop_more ls i d low) on) resolves

@@ -8,15 +8,15 @@ use Rattle.links.specs.declared.plan.Edit.{Edit}
 use Rattle.links.specs.declared.plan.Edit.TheVariants as edit
 use Rattle.models.specs.Legal.{IsLegal}
 use Rattle.models.specs.Model.{Model, reading}
-use Rattle.models.specs.Reading.{Reading, at_end, first_at, is_repeat, place_for}
+use Rattle.models.specs.Reading.{Reading, at_end, first_at, is_repeat, position_for}
 use Rattle.handshake.specs.declared.change.Change.{Change}
 use Rattle.handshake.specs.declared.change.Change.TheVariants.{Create, Set, Unset, Add, Remove, RemoveValue, Move}
-use Rattle.handshake.specs.Displaced.{cut_by_new, cut_by_set, has_already, tie_in, ties_backwards}
+use Rattle.handshake.specs.Displaced.{cut_by_new, cut_by_set, has_already, link_end_in, link_ends_backwards}
 use Rattle.handshake.specs.Edits.{cut_of, link_edits, new_put}
 use Rattle.handshake.specs.Effects.{value_edits}
 use Rattle.handshake.specs.Plans.{HasReadDocument, IsPlanOf, edits_values_alone, of_values}
 use Rattle.handshake.specs.Refusals.{early_refusal, late_refusal}
-use Rattle.handshake.specs.Tellings.{destroyed_by, resolved_by, resolves_all, target_of}
+use Rattle.handshake.specs.FeatureChanges.{destroyed_by, resolved_by, resolves_all, target_of}
 use Rattle.handshake.proofs.PlanLemmas.{planned}
 
 turned : (b : Bool) → not b ≡ true → b ≡ false
@@ -46,14 +46,14 @@ no-links r (Create k) h = refl
 no-links r (Set n f v) h =
     let e = at_end n f in
     sym (ap (λ (b : Bool). let c = b || has_already r e v in map cut_of (if c then [] else cut_by_set r e v) ++ option_to_list (if c then None else new_put r e 0 v)) h)
-no-links r (Unset n f) h = let e = at_end n f in sym (ap (λ (b : Bool). map cut_of (if b then ties_backwards e (r.values e) else []) ++ []) (turned (shape r.metamodel f).is_reference h))
+no-links r (Unset n f) h = let e = at_end n f in sym (ap (λ (b : Bool). map cut_of (if b then link_ends_backwards e (r.values e) else []) ++ []) (turned (shape r.metamodel f).is_reference h))
 no-links r (Add n f v i) h =
     let e = at_end n f in
-    sym (ap (λ (b : Bool). let c = b || is_repeat r e v in map cut_of (if c then [] else cut_by_new r e v) ++ option_to_list (if c then None else new_put r e (place_for r e i) v)) h)
-no-links r (Remove n f i) h = let e = at_end n f in sym (ap (λ (b : Bool). map cut_of (if b then tie_in r e i else []) ++ []) (turned (shape r.metamodel f).is_reference h))
+    sym (ap (λ (b : Bool). let c = b || is_repeat r e v in map cut_of (if c then [] else cut_by_new r e v) ++ option_to_list (if c then None else new_put r e (position_for r e i) v)) h)
+no-links r (Remove n f i) h = let e = at_end n f in sym (ap (λ (b : Bool). map cut_of (if b then link_end_in r e i else []) ++ []) (turned (shape r.metamodel f).is_reference h))
 no-links r (RemoveValue n f v) h =
     let e = at_end n f in
-    sym (ap (λ (b : Bool). map cut_of (if b then option_map_or (tie_in r e) (first_at r e v) [] else []) ++ []) (turned (shape r.metamodel f).is_reference h))
+    sym (ap (λ (b : Bool). map cut_of (if b then option_map_or (link_end_in r e) (first_at r e v) [] else []) ++ []) (turned (shape r.metamodel f).is_reference h))
 no-links r (Move n f to from) h = sym (ap (λ (b : Bool). option_to_list (if b then Some (edit.Shift (at_end n f) to from) else None)) (turned (shape r.metamodel f).is_reference h))
 no-links r _ h = absurd (false≢true h)
 

@@ -21,7 +21,7 @@ use Rattle.mm_types.specs.declared.value.Value.{Value}
 use Rattle.mm_types.specs.declared.value.Value.TheVariants as value
 use Rattle.links.proofs.CutNamedLemmas.{end-without_all}
 use Rattle.links.proofs.FilterLemmas.{filter_all}
-use Rattle.links.proofs.HolderLemmas.{holder-some, place_held}
+use Rattle.links.proofs.HolderLemmas.{holder-some, indexed_held}
 use Rattle.mm_types.specs.SameValues.{same_value-true}
 use Rattle.links.specs.Holders.{contained, holder}
 use Rattle.links.specs.Laws.{is_named, without_all}
@@ -31,62 +31,62 @@ use Rattle.models.specs.Legal.{IsLegal, kinds_of}
 use Rattle.models.specs.Model.{Model, reading}
 use Rattle.models.specs.Reading.{has_feature}
 use Rattle.containment.proofs.HolderLemmas.{container_at, holding-feature}
-use Rattle.handshake.proofs.CutTieLemmas.{all_append, all_once, all_weaker, is_named-same_link}
+use Rattle.handshake.proofs.CutLinkEndLemmas.{all_append, all_once, all_weaker, is_named-same_link}
 use Rattle.removal.specs.Laws.{names_of}
 use Rattle.handshake.proofs.KnownLemmas.{kinds-are}
-use Rattle.handshake.specs.Displaced.{holding_tie, in_the_way, other_side, same_link, same_tie, ties_at, ties_if_single, yields}
+use Rattle.handshake.specs.Displaced.{holding_link_end, in_the_way, other_side, same_link, same_link_end, link_ends_at, link_ends_if_single, yields}
 use Rattle.handshake.specs.Resolving.{opposite_end}
-use Rattle.removal.specs.TreeTies.{tie}
-use Rattle.removal.specs.declared.tie.Tie.{Tie}
+use Rattle.removal.specs.TreeLinkEnds.{link_end}
+use Rattle.removal.specs.declared.link_end.LinkEnd.{LinkEnd}
 
 ---------------------------------------------------------------- where they come from
 
 -- a link of a single near end, of a single far end, or the one that contains what becomes contained
-abbrev pub AtNear : Model → End → Tie → Type 0
+abbrev pub AtNear : Model → End → LinkEnd → Type 0
 AtNear s e t = (t.end ≡ e) × ((shape s.metamodel e.feature).is_single ≡ true)
 
-pub record AtFar (s : Model) (e : End) (o : ObjectNo) (t : Tie) : Type 0 where
+pub record AtFar (s : Model) (e : End) (o : ObjectNo) (t : LinkEnd) : Type 0 where
   pub feature : FeatureNo
   pub opposite : (shape s.metamodel e.feature).opposite ≡ Some feature
   pub single : (shape s.metamodel feature).is_single ≡ true
   pub here : t.end ≡ far_end o feature
 
-pub record AtHolder (s : Model) (e : End) (o : ObjectNo) (t : Tie) : Type 0 where
+pub record AtHolder (s : Model) (e : End) (o : ObjectNo) (t : LinkEnd) : Type 0 where
   pub part : Node
   pub becomes : contained e o (shape s.metamodel e.feature).containing ≡ Some part
   pub held : holder s.links part ≡ Some t.end
   pub value : t.value ≡ node_value part
 
-abbrev pub Origin : Model → End → ObjectNo → Tie → Type 0
+abbrev pub Origin : Model → End → ObjectNo → LinkEnd → Type 0
 Origin s e o t = AtNear s e t ⊎ (AtFar s e o t ⊎ AtHolder s e o t)
 
-ends_at : (e : End) (vs : List Value) → AllByRecursion (λ (t : Tie). t.end ≡ e) (map (tie e) vs)
+ends_at : (e : End) (vs : List Value) → AllByRecursion (λ (t : LinkEnd). t.end ≡ e) (map (link_end e) vs)
 ends_at e [] = tt
 ends_at e (v ∷ vs) = (refl, ends_at e vs)
 
-if_single : (s : Model) (d : End) (P : Tie → Type 0) → ((t : Tie) → (shape s.metamodel d.feature).is_single ≡ true → t.end ≡ d → P t) → AllByRecursion P (ties_if_single (reading s) d)
+if_single : (s : Model) (d : End) (P : LinkEnd → Type 0) → ((t : LinkEnd) → (shape s.metamodel d.feature).is_single ≡ true → t.end ≡ d → P t) → AllByRecursion P (link_ends_if_single (reading s) d)
 if_single s d P each =
-    elim (shape s.metamodel d.feature).is_single as (λ b. (shape s.metamodel d.feature).is_single ≡ b → AllByRecursion P (if b then ties_at (reading s) d else [])) [
-      | true ↦ λ single. all_weaker (λ (t : Tie). t.end ≡ d) P (ties_at (reading s) d) (λ t. each t single) (ends_at d ((reading s).values d))
+    elim (shape s.metamodel d.feature).is_single as (λ b. (shape s.metamodel d.feature).is_single ≡ b → AllByRecursion P (if b then link_ends_at (reading s) d else [])) [
+      | true ↦ λ single. all_weaker (λ (t : LinkEnd). t.end ≡ d) P (link_ends_at (reading s) d) (λ t. each t single) (ends_at d ((reading s).values d))
       | false ↦ λ _. tt
     ] refl
 
 module _ (s : Model) (e : End) (o : ObjectNo) where
-  near-origin : AllByRecursion (Origin s e o) (ties_if_single (reading s) e)
+  near-origin : AllByRecursion (Origin s e o) (link_ends_if_single (reading s) e)
   near-origin = if_single s e (Origin s e o) (λ t single here. inl (here, single))
 
-  far-origin : AllByRecursion (Origin s e o) (option_map_or (ties_if_single (reading s)) (opposite_end (reading s) e o) [])
+  far-origin : AllByRecursion (Origin s e o) (option_map_or (link_ends_if_single (reading s)) (opposite_end (reading s) e o) [])
   far-origin =
-      elim (shape s.metamodel e.feature).opposite as (λ q. (shape s.metamodel e.feature).opposite ≡ q → AllByRecursion (Origin s e o) (option_map_or (ties_if_single (reading s)) (option_map (far_end o) q) [])) [
+      elim (shape s.metamodel e.feature).opposite as (λ q. (shape s.metamodel e.feature).opposite ≡ q → AllByRecursion (Origin s e o) (option_map_or (link_ends_if_single (reading s)) (option_map (far_end o) q) [])) [
         | None ↦ λ _. tt
         | Some g ↦ λ opposite. if_single s (far_end o g) (Origin s e o) (λ t single here. inr (inl (record { feature = g; opposite = opposite; single = single; here = here })))
       ] refl
 
-  holder-origin : AllByRecursion (Origin s e o) (option_map_or (λ n. option_to_list (holding_tie (reading s) n)) (contained e o (shape s.metamodel e.feature).containing) [])
+  holder-origin : AllByRecursion (Origin s e o) (option_map_or (λ n. option_to_list (holding_link_end (reading s) n)) (contained e o (shape s.metamodel e.feature).containing) [])
   holder-origin =
-      elim (contained e o (shape s.metamodel e.feature).containing) as (λ q. contained e o (shape s.metamodel e.feature).containing ≡ q → AllByRecursion (Origin s e o) (option_map_or (λ n. option_to_list (holding_tie (reading s) n)) q [])) [
+      elim (contained e o (shape s.metamodel e.feature).containing) as (λ q. contained e o (shape s.metamodel e.feature).containing ≡ q → AllByRecursion (Origin s e o) (option_map_or (λ n. option_to_list (holding_link_end (reading s) n)) q [])) [
         | None ↦ λ _. tt
-        | Some p ↦ λ becomes. elim (holder s.links p) as (λ h. holder s.links p ≡ h → AllByRecursion (Origin s e o) (option_to_list (option_map (λ (d : End). tie d (node_value p)) h))) [
+        | Some p ↦ λ becomes. elim (holder s.links p) as (λ h. holder s.links p ≡ h → AllByRecursion (Origin s e o) (option_to_list (option_map (λ (d : End). link_end d (node_value p)) h))) [
           | None ↦ λ _. tt
           | Some d ↦ λ held. (inr (inr (record { part = p; becomes = becomes; held = held; value = refl })), tt)
         ] refl
@@ -126,7 +126,7 @@ pub holder-contains : (s : Model) (n : Node) (d : End) → IsLegal s → holder 
 holder-contains s n d legal h =
     let m = s.metamodel in
     let l = holder-some s.links n d h in
-    let at = place_held l.0 n d (legal.links.set.placed.sides l.0 l.1) l.2 in
+    let at = indexed_held l.0 n d (legal.links.set.placed.sides l.0 l.1) l.2 in
     let by = holding-feature l.0 n d l.2 in
     let whose : (shape m d.feature).containing ≡ Some by.0 = sym (container_at (kinds_of m) (kinds-are m legal.metamodel) l.0 d (at.0, node_value n) (legal.links.kinds l.0 l.1) at.1) ∙ by.1 in
     whose ∙ ap (λ (k : ℕ). Some (record { 0 = k })) (sym by.2)
@@ -149,20 +149,20 @@ module _ (s : Model) (legal : IsLegal s) (e : End) (o : ObjectNo) (has : has_fea
     other-value : same_value w (value.Object o) ≡ true → ⊥
     other-value h = other (same_value-true w (value.Object o) h)
 
-    turned-not : (n : Node) (v : Value) (q : Option FeatureNo) → n ≡ node.Object o → option_map_or (same_tie (tie e w)) (other_side n v q) false ≡ false
+    turned-not : (n : Node) (v : Value) (q : Option FeatureNo) → n ≡ node.Object o → option_map_or (same_link_end (link_end e w)) (other_side n v q) false ≡ false
     turned-not n (value.Object x) (Some f) is =
-        subst (λ (y : Node). same_tie (tie e w) (tie (far_end x f) (node_value y)) ≡ false) (sym is) (and_second (same_end e (far_end x f)) (same_value w (value.Object o)) other-value)
+        subst (λ (y : Node). same_link_end (link_end e w) (link_end (far_end x f) (node_value y)) ≡ false) (sym is) (and_second (same_end e (far_end x f)) (same_value w (value.Object o)) other-value)
     turned-not n (value.Object x) None is = refl
     turned-not n v q is = refl
 
-    not-far : (t : Tie) → AtFar s e o t → same_link (reading s) (tie e w) t ≡ false
+    not-far : (t : LinkEnd) → AtFar s e o t → same_link (reading s) (link_end e w) t ≡ false
     not-far t at =
         let apart : same_end e t.end ≡ true → ⊥ = λ same. (opposites_are_pairs s.metamodel legal.metamodel e.feature at.feature at.opposite).apart (ap (λ (x : End). x.feature.0) (sym (same_end-true e t.end same ∙ at.here))) in
-        neither (same_tie (tie e w) t) _ (and_first (same_end e t.end) (same_value w t.value) apart) (turned-not t.end.node t.value (shape s.metamodel t.end.feature).opposite (ap (λ (x : End). x.node) at.here))
+        neither (same_link_end (link_end e w) t) _ (and_first (same_end e t.end) (same_value w t.value) apart) (turned-not t.end.node t.value (shape s.metamodel t.end.feature).opposite (ap (λ (x : End). x.node) at.here))
 
     -- the end of an object whose opposite contains it is single, so it is no list
     not-container : (d : End) (q : Option FeatureNo) → (shape s.metamodel d.feature).opposite ≡ q → (shape s.metamodel d.feature).containing ≡ Some d.feature → (shape s.metamodel e.feature).containing ≡ Some e.feature
-        → option_map_or (same_tie (tie e w)) (other_side d.node (value.Object o) q) false ≡ false
+        → option_map_or (same_link_end (link_end e w)) (other_side d.node (value.Object o) q) false ≡ false
     not-container d None opposite contains own = refl
     not-container d (Some g) opposite contains own =
         let pair = opposites_are_pairs s.metamodel legal.metamodel d.feature g opposite in
@@ -171,19 +171,19 @@ module _ (s : Model) (legal : IsLegal s) (e : End) (o : ObjectNo) (has : has_fea
         let twice : Some d.feature ≡ Some e.feature = sym contains ∙ pair.one_containing ∙ ap (λ (f : FeatureNo). (shape s.metamodel f).containing) is ∙ own in
         pair.apart (ap (λ (f : FeatureNo). f.0) (is ∙ sym (same_Some d.feature e.feature twice))))
 
-    not-held : (t : Tie) → (shape s.metamodel e.feature).containing ≡ Some e.feature → holder s.links (node.Object o) ≡ Some t.end → t.value ≡ value.Object o → same_link (reading s) (tie e w) t ≡ false
+    not-held : (t : LinkEnd) → (shape s.metamodel e.feature).containing ≡ Some e.feature → holder s.links (node.Object o) ≡ Some t.end → t.value ≡ value.Object o → same_link (reading s) (link_end e w) t ≡ false
     not-held t own held is =
-        neither (same_tie (tie e w) t) _ (and_second (same_end e t.end) (same_value w t.value) (λ same. other-value (subst (λ (v : Value). same_value w v ≡ true) is same)))
-        (subst (λ (v : Value). option_map_or (same_tie (tie e w)) (other_side t.end.node v (shape s.metamodel t.end.feature).opposite) false ≡ false) (sym is)
+        neither (same_link_end (link_end e w) t) _ (and_second (same_end e t.end) (same_value w t.value) (λ same. other-value (subst (λ (v : Value). same_value w v ≡ true) is same)))
+        (subst (λ (v : Value). option_map_or (same_link_end (link_end e w)) (other_side t.end.node v (shape s.metamodel t.end.feature).opposite) false ≡ false) (sym is)
         (not-container t.end (shape s.metamodel t.end.feature).opposite refl (holder-contains s (node.Object o) t.end legal held) own))
 
-    not-holder : (t : Tie) → AtHolder s e o t → same_link (reading s) (tie e w) t ≡ false
+    not-holder : (t : LinkEnd) → AtHolder s e o t → same_link (reading s) (link_end e w) t ≡ false
     not-holder t at = by (shape s.metamodel e.feature).containing refl at.becomes
       where
         self : (f : FeatureNo) → same_feature f f ≡ true
         self f = eq-eqb f.0 f.0 refl
 
-        by : (q : Option FeatureNo) → (shape s.metamodel e.feature).containing ≡ q → contained e o q ≡ Some at.part → same_link (reading s) (tie e w) t ≡ false
+        by : (q : Option FeatureNo) → (shape s.metamodel e.feature).containing ≡ q → contained e o q ≡ Some at.part → same_link (reading s) (link_end e w) t ≡ false
         by None is becomes = absurd (none-some at.part becomes)
         by (Some h) is becomes = elim (containing_is_known s.metamodel legal.metamodel e.feature h (feature-in_range s e legal has) is) [
           | inl same ↦
@@ -192,12 +192,12 @@ module _ (s : Model) (legal : IsLegal s) (e : End) (o : ObjectNo) (has : has_fea
           | inr container ↦ absurd (false≢true (sym many ∙ container.single))
         ]
 
-    pub not-displaced : (t : Tie) → Origin s e o t → same_link (reading s) (tie e w) t ≡ false
+    pub not-displaced : (t : LinkEnd) → Origin s e o t → same_link (reading s) (link_end e w) t ≡ false
     not-displaced t (inl near) = absurd (false≢true (sym many ∙ near.1))
     not-displaced t (inr (inl far)) = not-far t far
     not-displaced t (inr (inr at)) = not-holder t at
 
-  none-any : (p : Tie → Bool) (ts : List Tie) → AllByRecursion (λ (t : Tie). p t ≡ false) ts → list_any p ts ≡ false
+  none-any : (p : LinkEnd → Bool) (ts : List LinkEnd) → AllByRecursion (λ (t : LinkEnd). p t ≡ false) ts → list_any p ts ≡ false
   none-any p [] all = refl
   none-any p (t ∷ ts) all = rw all.0 (none-any p ts all.1)
 
@@ -208,5 +208,5 @@ module _ (s : Model) (legal : IsLegal s) (e : End) (o : ObjectNo) (has : has_fea
       let ts = yields (reading s) e o in
       end-without_all m (kinds-are s.metamodel legal.metamodel) s.links (names_of ts) legal.links.set legal.links.kinds e
       ∙ filter_all (is_named m (names_of ts) e) (end s.links e) (λ k w at.
-      is_named-same_link (reading s) ts (tie e w)
-      ∙ none-any (same_link (reading s) (tie e w)) ts (all_weaker _ _ ts (not-displaced w (λ same. lacks k (subst (λ (x : Value). slice_get (end s.links e) k ≡ Some x) same at))) (yields-origin s e o)))
+      is_named-same_link (reading s) ts (link_end e w)
+      ∙ none-any (same_link (reading s) (link_end e w)) ts (all_weaker _ _ ts (not-displaced w (λ same. lacks k (subst (λ (x : Value). slice_get (end s.links e) k ≡ Some x) same at))) (yields-origin s e o)))

@@ -11,64 +11,64 @@ use Rattle.mm_types.specs.declared.numbers.Node.TheVariants as node
 use Rattle.mm_types.specs.declared.end.End.{End}
 use Rattle.mm_types.specs.declared.value.Value.{Value}
 use Rattle.mm_types.specs.declared.value.Value.TheVariants as value
-use Rattle.removal.specs.declared.tie.Tie.{Tie}
+use Rattle.removal.specs.declared.link_end.LinkEnd.{LinkEnd}
 use Rattle.links.specs.Links.{far_end}
 use Rattle.links.specs.Holders.{contained}
 use Rattle.models.specs.Reading.{Reading, at_end, is_repeat, shape_at, first_at, value_at}
-use Rattle.removal.specs.TreeTies.{tie, tree_ties}
+use Rattle.removal.specs.TreeLinkEnds.{link_end, tree_link_ends}
 use Rattle.handshake.specs.declared.change.Change.{Change}
 use Rattle.handshake.specs.declared.target.Target.{Target}
 use Rattle.handshake.specs.Resolving.{opposite_end, target_at}
 use Rattle.handshake.specs.declared.change.Change.TheVariants.{Create, Set, Unset, Add, Remove, RemoveValue, Move, Delete, NewResource, Resolve, ResolveAll, Load}
 
 -- the same link by its other end, if it has one
-abbrev pub other_side : Node → Value → Option FeatureNo → Option Tie
-other_side n (value.Object o) (Some g) = Some (tie (far_end o g) (node_value n))
+abbrev pub other_side : Node → Value → Option FeatureNo → Option LinkEnd
+other_side n (value.Object o) (Some g) = Some (link_end (far_end o g) (node_value n))
 other_side n _ _ = None
 
-abbrev pub turned : Reading → Tie → Option Tie
+abbrev pub turned : Reading → LinkEnd → Option LinkEnd
 turned r t = other_side t.end.node t.value (shape_at r t.end).opposite
 
-abbrev pub same_tie : Tie → Tie → Bool
-same_tie t u = same_end t.end u.end && same_value t.value u.value
+abbrev pub same_link_end : LinkEnd → LinkEnd → Bool
+same_link_end t u = same_end t.end u.end && same_value t.value u.value
 
-abbrev pub same_link : Reading → Tie → Tie → Bool
-same_link r t u = same_tie t u || option_map_or (same_tie t) (turned r u) false
+abbrev pub same_link : Reading → LinkEnd → LinkEnd → Bool
+same_link r t u = same_link_end t u || option_map_or (same_link_end t) (turned r u) false
 
 -- those that stand in an end
-abbrev pub ties_at : Reading → End → List Tie
-ties_at r e = map (tie e) (r.values e)
+abbrev pub link_ends_at : Reading → End → List LinkEnd
+link_ends_at r e = map (link_end e) (r.values e)
 
 -- those of values of an end, the last value's first
-abbrev pub ties_backwards : End → List Value → List Tie
-ties_backwards e [] = []
-ties_backwards e (v ∷ vs) = ties_backwards e vs ++ tie e v ∷ []
+abbrev pub link_ends_backwards : End → List Value → List LinkEnd
+link_ends_backwards e [] = []
+link_ends_backwards e (v ∷ vs) = link_ends_backwards e vs ++ link_end e v ∷ []
 
--- the one of the value at a place of an end
-abbrev pub tie_in : Reading → End → ℕ → List Tie
-tie_in r e i = option_to_list (option_map (tie e) (slice_get (r.values e) i))
+-- the one of the value at a position of an end
+abbrev pub link_end_in : Reading → End → ℕ → List LinkEnd
+link_end_in r e i = option_to_list (option_map (link_end e) (slice_get (r.values e) i))
 
-abbrev pub ties_if_single : Reading → End → List Tie
-ties_if_single r e = if (shape_at r e).is_single then ties_at r e else []
+abbrev pub link_ends_if_single : Reading → End → List LinkEnd
+link_ends_if_single r e = if (shape_at r e).is_single then link_ends_at r e else []
 
 -- the link that contains a node
-abbrev pub holding_tie : Reading → Node → Option Tie
-holding_tie r n = option_map (λ d. tie d (node_value n)) (r.holder n)
+abbrev pub holding_link_end : Reading → Node → Option LinkEnd
+holding_link_end r n = option_map (λ d. link_end d (node_value n)) (r.holder n)
 
 -- a link and those before it, unless one of these is the same
-abbrev pub with_tie : Reading → List Tie → Tie → List Tie
-with_tie r ts t = if list_any (same_link r t) ts then ts else ts ++ t ∷ []
+abbrev pub with_link_end : Reading → List LinkEnd → LinkEnd → List LinkEnd
+with_link_end r ts t = if list_any (same_link r t) ts then ts else ts ++ t ∷ []
 
 -- each link once, by the first of its names
-abbrev pub once : Reading → List Tie → List Tie
-once r ts = fold (with_tie r) [] ts
+abbrev pub once : Reading → List LinkEnd → List LinkEnd
+once r ts = fold (with_link_end r) [] ts
 
 -- the link of what a single end has, the link of what the opposite end has, and the one that contains what becomes contained
-abbrev pub in_the_way : Reading → End → ObjectNo → List Tie
+abbrev pub in_the_way : Reading → End → ObjectNo → List LinkEnd
 in_the_way r e o =
-    ties_if_single r e
-    ++ (option_map_or (ties_if_single r) (opposite_end r e o) []
-    ++ option_map_or (λ n. option_to_list (holding_tie r n)) (contained e o (shape_at r e).containing) [])
+    link_ends_if_single r e
+    ++ (option_map_or (link_ends_if_single r) (opposite_end r e o) []
+    ++ option_map_or (λ n. option_to_list (holding_link_end r n)) (contained e o (shape_at r e).containing) [])
 
 -- a single end has a link
 abbrev pub is_taken : Reading → End → Bool
@@ -82,7 +82,7 @@ displaces r e o =
     || option_map_or (λ n. is_some (r.holder n)) (contained e o (shape_at r e).containing) false)
 
 -- what a new link of an object at e displaces
-abbrev pub yields : Reading → End → ObjectNo → List Tie
+abbrev pub yields : Reading → End → ObjectNo → List LinkEnd
 yields r e o = once r (in_the_way r e o)
 
 ---------------------------------------------------------------- changes
@@ -99,37 +99,37 @@ is_plain_set r e v = not (shape_at r e).is_reference || has_already r e v
 abbrev pub is_plain_add : Reading → End → Value → Bool
 is_plain_add r e v = not (shape_at r e).is_reference || is_repeat r e v
 
-abbrev pub cut_by_new : Reading → End → Value → List Tie
+abbrev pub cut_by_new : Reading → End → Value → List LinkEnd
 cut_by_new r e (value.Object o) = yields r e o
 cut_by_new r e v = []
 
 -- the links of the proxies at both ends of a link that is resolved
-abbrev pub counter_tie : Reading → Target → List Tie
-counter_tie r x = option_map_or (λ c. tie_in r c.end c.index) x.counterpart []
+abbrev pub counter_link_end : Reading → Target → List LinkEnd
+counter_link_end r x = option_map_or (λ c. link_end_in r c.end c.index) x.counterpart []
 
 -- of a proxy at an index, and of its counterpart
-abbrev pub ties_joined : Reading → End → ℕ → Target → List Tie
-ties_joined r e i x = tie_in r e i ++ counter_tie r x
+abbrev pub link_ends_joined : Reading → End → ℕ → Target → List LinkEnd
+link_ends_joined r e i x = link_end_in r e i ++ counter_link_end r x
 
-abbrev pub ties_resolved : Reading → End → ℕ → List Tie
-ties_resolved r e i = tie_in r e i ++ option_map_or (counter_tie r) (target_at r e i) []
+abbrev pub link_ends_resolved : Reading → End → ℕ → List LinkEnd
+link_ends_resolved r e i = link_end_in r e i ++ option_map_or (counter_link_end r) (target_at r e i) []
 
-abbrev pub cut_by_set : Reading → End → Value → List Tie
+abbrev pub cut_by_set : Reading → End → Value → List LinkEnd
 cut_by_set r e (value.Object o) = yields r e o
-cut_by_set r e v = ties_at r e
+cut_by_set r e v = link_ends_at r e
 
 -- the links that a change cuts, in order
-abbrev pub cut_ties : Reading → Change → List Tie
-cut_ties r (Create c) = []
-cut_ties r (Set n f v) = let e = at_end n f in if is_plain_set r e v then [] else cut_by_set r e v
-cut_ties r (Unset n f) = let e = at_end n f in if (shape_at r e).is_reference then ties_backwards e (r.values e) else []
-cut_ties r (Add n f v i) = let e = at_end n f in if is_plain_add r e v then [] else cut_by_new r e v
-cut_ties r (Remove n f i) = let e = at_end n f in if (shape_at r e).is_reference then tie_in r e i else []
-cut_ties r (RemoveValue n f v) = let e = at_end n f in if (shape_at r e).is_reference then option_map_or (tie_in r e) (first_at r e v) [] else []
-cut_ties r (Move n f to from) = []
-cut_ties r (Delete o) = tree_ties r o
-cut_ties r (NewResource u) = []
-cut_ties r (Resolve o f i) = let e = at_end (node.Object o) f in if (shape_at r e).is_reference then ties_resolved r e i else []
--- each proxy is cut where its object is put in its place
-cut_ties r ResolveAll = []
-cut_ties r (Load k doc) = []
+abbrev pub cut_link_ends : Reading → Change → List LinkEnd
+cut_link_ends r (Create c) = []
+cut_link_ends r (Set n f v) = let e = at_end n f in if is_plain_set r e v then [] else cut_by_set r e v
+cut_link_ends r (Unset n f) = let e = at_end n f in if (shape_at r e).is_reference then link_ends_backwards e (r.values e) else []
+cut_link_ends r (Add n f v i) = let e = at_end n f in if is_plain_add r e v then [] else cut_by_new r e v
+cut_link_ends r (Remove n f i) = let e = at_end n f in if (shape_at r e).is_reference then link_end_in r e i else []
+cut_link_ends r (RemoveValue n f v) = let e = at_end n f in if (shape_at r e).is_reference then option_map_or (link_end_in r e) (first_at r e v) [] else []
+cut_link_ends r (Move n f to from) = []
+cut_link_ends r (Delete o) = tree_link_ends r o
+cut_link_ends r (NewResource u) = []
+cut_link_ends r (Resolve o f i) = let e = at_end (node.Object o) f in if (shape_at r e).is_reference then link_ends_resolved r e i else []
+-- each proxy is cut where its object replaces it
+cut_link_ends r ResolveAll = []
+cut_link_ends r (Load k doc) = []

@@ -8,22 +8,22 @@ use Rattle.mm_types.specs.declared.value.Value.TheVariants as value
 use Rattle.links.specs.declared.plan.Edit.{Edit}
 use Rattle.links.specs.declared.plan.Edit.TheVariants.{Put, Shift}
 use Rattle.links.specs.Laws.{cut_edit}
-use Rattle.models.specs.Reading.{Reading, at_end, place_for, shape_at}
+use Rattle.models.specs.Reading.{Reading, at_end, position_for, shape_at}
 use Rattle.handshake.specs.declared.change.Change.{Change}
 use Rattle.handshake.specs.declared.change.Change.TheVariants.{Create, Set, Unset, Add, Remove, RemoveValue, Move, Delete, NewResource, Resolve, ResolveAll, Load}
 use Rattle.handshake.specs.declared.target.Counterpart.{Counterpart}
 use Rattle.handshake.specs.declared.target.Target.{Target}
-use Rattle.removal.specs.declared.tie.Tie.{Tie}
-use Rattle.loading.specs.LoadEdits.{load_edits}
-use Rattle.handshake.specs.Displaced.{cut_ties, is_plain_add, is_plain_set, ties_joined}
-use Rattle.handshake.specs.Proxies.{end_of, places}
+use Rattle.removal.specs.declared.link_end.LinkEnd.{LinkEnd}
+use Rattle.doc_loader.specs.LoadEdits.{load_edits}
+use Rattle.handshake.specs.Displaced.{cut_link_ends, is_plain_add, is_plain_set, link_ends_joined}
+use Rattle.handshake.specs.Proxies.{end_of, sites}
 use Rattle.handshake.specs.ResolvingAll.{Resolution, resolutions}
 use Rattle.handshake.specs.Resolving.{target_at}
 
-abbrev pub cut_of : Tie → Edit
+abbrev pub cut_of : LinkEnd → Edit
 cut_of t = cut_edit t.end t.value
 
--- the edit that puts an object at a place of an end; no other value is put
+-- the edit that puts an object at a position of an end; no other value is put
 abbrev pub new_put : Reading → End → ℕ → Value → Option Edit
 new_put r e i (value.Object o) = Some (Put e i o (shape_at r e).opposite (shape_at r e).containing)
 new_put r e i v = None
@@ -33,7 +33,7 @@ abbrev pub made_edit : Reading → Change → Option Edit
 made_edit r (Create c) = None
 made_edit r (Set n f v) = let e = at_end n f in if is_plain_set r e v then None else new_put r e 0 v
 made_edit r (Unset n f) = None
-made_edit r (Add n f v i) = let e = at_end n f in if is_plain_add r e v then None else new_put r e (place_for r e i) v
+made_edit r (Add n f v i) = let e = at_end n f in if is_plain_add r e v then None else new_put r e (position_for r e i) v
 made_edit r (Remove n f i) = None
 made_edit r (RemoveValue n f v) = None
 made_edit r (Move n f to from) = let e = at_end n f in if (shape_at r e).is_reference then Some (Shift e to from) else None
@@ -47,22 +47,22 @@ made_edit r (Load k doc) = None
 abbrev pub back_edit : Reading → Counterpart → Edit
 back_edit r c = Shift c.end c.index (length (r.values c.end) - 1)
 
--- the edits that put a link in the place of its proxies
+-- the edits that put a link instead of its proxies
 abbrev pub joining : Reading → End → ℕ → Target → List Edit
 joining r e i x = option_to_list (new_put r e i (value.Object x.object)) ++ option_to_list (option_map (back_edit r) x.counterpart)
 
 -- the edits that resolve a proxy, one of several: they cut its link and that of its counterpart, and put the new one there
 abbrev pub edits_of : Resolution → List Edit
 edits_of x =
-    let e = end_of x.place in
-    map cut_of (ties_joined x.reads e x.place.index x.target) ++ joining x.reads e x.place.index x.target
+    let e = end_of x.site in
+    map cut_of (link_ends_joined x.reads e x.site.index x.target) ++ joining x.reads e x.site.index x.target
 
 -- a load makes all links of its document; all proxies are resolved one after another
 abbrev pub made_edits : Reading → Change → List Edit
 made_edits r (Load k doc) = load_edits r.metamodel r.next k doc
 made_edits r (Resolve o f i) = let e = at_end (node.Object o) f in option_map_or (joining r e i) (target_at r e i) []
-made_edits r ResolveAll = flat_map edits_of (resolutions r (places r))
+made_edits r ResolveAll = flat_map edits_of (resolutions r (sites r))
 made_edits r c = option_to_list (made_edit r c)
 
 abbrev pub link_edits : Reading → Change → List Edit
-link_edits r c = map cut_of (cut_ties r c) ++ made_edits r c
+link_edits r c = map cut_of (cut_link_ends r c) ++ made_edits r c

@@ -12,7 +12,7 @@ use Rattle.mm_values.specs.Values.{applied}
 use Rattle.mm_values.specs.declared.edit.ValueEdit.{ValueEdit}
 use Rattle.mm_values.specs.declared.edit.ValueEdit.TheVariants.{NewObject, DropObject, PutList, InsertValue, RemoveValue as TakeValue, MoveValue, NewUri}
 use Rattle.links.specs.Links.{Links, cut_value, end, put, shift, without_nodes}
-use Rattle.models.specs.Reading.{Reading, at_end, first_at, is_repeat, place_for, shape_at}
+use Rattle.models.specs.Reading.{Reading, at_end, first_at, is_repeat, position_for, shape_at}
 use Rattle.models.specs.Model.{Model, reading}
 use Rattle.containment.specs.Forest.{subtree}
 use Rattle.removal.specs.Outer.{gone}
@@ -20,10 +20,10 @@ use Rattle.handshake.specs.declared.change.Change.{Change}
 use Rattle.handshake.specs.declared.change.Change.TheVariants.{Create, Set, Unset, Add, Remove, RemoveValue, Move, Delete, NewResource, Resolve, ResolveAll, Load}
 use Rattle.handshake.specs.declared.target.Counterpart.{Counterpart}
 use Rattle.handshake.specs.declared.target.Target.{Target}
-use Rattle.removal.specs.declared.tie.Tie.{Tie}
-use Rattle.loading.specs.Loading.{loaded_links, loaded_values, with_links}
-use Rattle.handshake.specs.Displaced.{cut_ties, is_plain_add, is_plain_set, ties_joined}
-use Rattle.handshake.specs.Proxies.{end_of, places}
+use Rattle.removal.specs.declared.link_end.LinkEnd.{LinkEnd}
+use Rattle.doc_loader.specs.Loading.{loaded_links, loaded_values, with_links}
+use Rattle.handshake.specs.Displaced.{cut_link_ends, is_plain_add, is_plain_set, link_ends_joined}
+use Rattle.handshake.specs.Proxies.{end_of, sites}
 use Rattle.handshake.specs.ResolvingAll.{Resolution, resolutions}
 use Rattle.handshake.specs.Resolving.{target_at}
 
@@ -48,7 +48,7 @@ of_object (node.Resource k) edit = []
 
 abbrev pub add_value : Reading → End → Value → Option ℕ → List ValueEdit
 add_value r e v i =
-    if is_repeat r e v then [] else of_object e.node (λ o. InsertValue o e.feature (place_for r e i) v (shape_at r e).is_unique)
+    if is_repeat r e v then [] else of_object e.node (λ o. InsertValue o e.feature (position_for r e i) v (shape_at r e).is_unique)
 
 abbrev pub take_value : End → ℕ → List ValueEdit
 take_value e i = of_object e.node (λ o. TakeValue o e.feature i)
@@ -72,10 +72,10 @@ value_edits r (Load k doc) = loaded_values r.metamodel r.next doc
 
 ---------------------------------------------------------------- links
 
-abbrev pub without_ties : Links → List Tie → Links
-without_ties s ts = fold (λ t x. cut_value t x.end x.value) s ts
+abbrev pub without_link_ends : Links → List LinkEnd → Links
+without_link_ends s ts = fold (λ t x. cut_value t x.end x.value) s ts
 
--- an object is put at a place of an end, or last; no other value is put
+-- an object is put at a position of an end, or last; no other value is put
 abbrev pub with_value : Links → Reading → End → Option ℕ → Value → Links
 with_value s r e i (value.Object o) = put s e (unwrap_or i (length (end s e))) o (shape_at r e).opposite (shape_at r e).containing
 with_value s r e i v = s
@@ -84,7 +84,7 @@ with_value s r e i v = s
 abbrev pub put_back : Links → ℕ → Counterpart → Links
 put_back s n c = shift s c.end c.index n
 
--- a link takes the place of its proxies, here and at the opposite end
+-- a link replaces its proxies, here and at the opposite end
 abbrev pub joined : Links → Reading → End → ℕ → Target → Links
 joined s r e i x =
     let t = with_value s r e (Some i) (value.Object x.object) in
@@ -93,8 +93,8 @@ joined s r e i x =
 -- a proxy is resolved, one of several
 abbrev pub with_resolution : Links → Resolution → Links
 with_resolution s x =
-    let e = end_of x.place in
-    joined (without_ties s (ties_joined x.reads e x.place.index x.target)) x.reads e x.place.index x.target
+    let e = end_of x.site in
+    joined (without_link_ends s (link_ends_joined x.reads e x.site.index x.target)) x.reads e x.site.index x.target
 
 -- the link that a change makes, or what it moves
 abbrev pub put_by : Links → Reading → Change → Links
@@ -108,13 +108,13 @@ put_by s r (Move n f to from) = let e = at_end n f in if (shape_at r e).is_refer
 put_by s r (Delete o) = s
 put_by s r (NewResource u) = s
 put_by s r (Resolve o f i) = let e = at_end (node.Object o) f in option_map_or (joined s r e i) (target_at r e i) s
-put_by s r ResolveAll = fold with_resolution s (resolutions r (places r))
+put_by s r ResolveAll = fold with_resolution s (resolutions r (sites r))
 put_by s r (Load k doc) = with_links s (loaded_links r.metamodel r.next k doc)
 
 -- the links that a change leaves: all but those that name an object that is destroyed, or but those that it cuts
 abbrev pub links_left : Links → Reading → Change → Links
 links_left s r (Delete o) = without_nodes s (gone r o)
-links_left s r c = without_ties s (cut_ties r c)
+links_left s r c = without_link_ends s (cut_link_ends r c)
 
 abbrev pub links_after : Links → Reading → Change → Links
 links_after s r c = put_by (links_left s r c) r c

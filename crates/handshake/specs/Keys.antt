@@ -5,12 +5,12 @@ use Rattle.mm_types.specs.declared.numbers.FeatureNo.{FeatureNo}
 use Rattle.mm_types.specs.declared.numbers.ObjectNo.{ObjectNo}
 use Rattle.handshake.specs.declared.keys.Key.{Key}
 use Rattle.handshake.specs.declared.keys.Keys.{Keys}
-use Rattle.handshake.specs.declared.place.Place.{Place}
+use Rattle.handshake.specs.declared.site.ProxySite.{ProxySite}
 
 abbrev pub key : ObjectNo → FeatureNo → ℕ → Key
 key o f n = record { object = o.0; feature = f.0; number = n }
 
-abbrev pub key_of : Place → Key
+abbrev pub key_of : ProxySite → Key
 key_of p = key p.object p.feature p.index
 
 abbrev pub same_key : Key → Key → Bool

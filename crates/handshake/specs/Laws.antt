@@ -15,15 +15,15 @@ use Rattle.removal.specs.Outer.{gone}
 use Rattle.notice_chain.specs.Replay.{replayed_all}
 use Rattle.handshake.specs.declared.change.Change.{Change}
 use Rattle.handshake.specs.declared.change.Change.TheVariants.{Delete, Load, NewResource, ResolveAll, Unset}
-use Rattle.handshake.specs.declared.happening.Happening.TheVariants.{Unsets}
-use Rattle.handshake.specs.declared.happening.Telling.{Telling}
-use Rattle.removal.specs.declared.tie.Tie.{Tie}
-use Rattle.handshake.specs.Displaced.{cut_ties, same_link}
+use Rattle.handshake.specs.declared.change_kind.ChangeKind.TheVariants.{Unsets}
+use Rattle.handshake.specs.declared.change_kind.FeatureChange.{FeatureChange}
+use Rattle.removal.specs.declared.link_end.LinkEnd.{LinkEnd}
+use Rattle.handshake.specs.Displaced.{cut_link_ends, same_link}
 use Rattle.handshake.specs.Effects.{after}
 use Rattle.handshake.specs.Plans.{HasReadDocument}
 use Rattle.handshake.specs.Refusals.{early_refusal, late_refusal}
-use Rattle.handshake.specs.Telling.{has_flag, telling}
-use Rattle.handshake.specs.Tellings.{chain, far_losses, tellings}
+use Rattle.handshake.specs.FeatureChange.{has_flag, feature_change}
+use Rattle.handshake.specs.FeatureChanges.{chain, far_losses, feature_changes}
 
 -- something holds of a change of a model, where the model is legal and nothing refuses the change
 abbrev pub OfAllowed : (Model → Change → Type 0) → Model → Change → Type 0
@@ -71,26 +71,26 @@ takes_many r (Load k doc) = true
 takes_many r _ = false
 
 -- no end is told twice
-abbrev pub AreApart : List Telling → Type 0
+abbrev pub AreApart : List FeatureChange → Type 0
 AreApart [] = Unit {0}
-AreApart (t ∷ ts) = AllByRecursion (λ (u : Telling). t.at ≡ u.at → ⊥) ts × AreApart ts
+AreApart (t ∷ ts) = AllByRecursion (λ (u : FeatureChange). t.at ≡ u.at → ⊥) ts × AreApart ts
 
 -- but a list that is unset, which is told last, value by value, the lists that hold what is destroyed, and that of the roots of a load
 abbrev pub TellsNoEndTwice : Model → Change → Type 0
-TellsNoEndTwice = OfAllowed (λ s c. IsFalse (takes_many (reading s) c) → AreApart (tellings (reading s) c))
+TellsNoEndTwice = OfAllowed (λ s c. IsFalse (takes_many (reading s) c) → AreApart (feature_changes (reading s) c))
 
 -- where a list is unset, no far end is told twice, and none of them is the list
 abbrev pub FarEndsAreApart : Model → Node → FeatureNo → Type 0
 FarEndsAreApart s n f =
     let e = at_end n f in
-    let far = far_losses (reading s) (cut_ties (reading s) (Unset n f)) in
-    OfAllowed (λ s c. AreApart (far ++ telling e Unsets ∷ [])) s (Unset n f)
+    let far = far_losses (reading s) (cut_link_ends (reading s) (Unset n f)) in
+    OfAllowed (λ s c. AreApart (far ++ feature_change e Unsets ∷ [])) s (Unset n f)
 
 -- no two of the names are of one link
-abbrev pub AreDifferent : Reading → List Tie → Type 0
+abbrev pub AreDifferent : Reading → List LinkEnd → Type 0
 AreDifferent r [] = Unit {0}
-AreDifferent r (t ∷ ts) = AllByRecursion (λ (u : Tie). same_link r u t ≡ false) ts × AreDifferent r ts
+AreDifferent r (t ∷ ts) = AllByRecursion (λ (u : LinkEnd). same_link r u t ≡ false) ts × AreDifferent r ts
 
 -- it cuts no link twice
 abbrev pub CutsNoLinkTwice : Model → Change → Type 0
-CutsNoLinkTwice = OfAllowed (λ s c. AreDifferent (reading s) (cut_ties (reading s) c))
+CutsNoLinkTwice = OfAllowed (λ s c. AreDifferent (reading s) (cut_link_ends (reading s) c))

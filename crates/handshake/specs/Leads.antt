@@ -6,27 +6,27 @@ use Rattle.models.specs.Reading.{Reading}
 use Rattle.fragment_paths.specs.Finding.{at}
 use Rattle.handshake.specs.Keys.{key}
 pub use Rattle.handshake.specs.Keys.{same_key}
-use Rattle.handshake.specs.Proxies.{end_of, places}
+use Rattle.handshake.specs.Proxies.{end_of, sites}
 use Rattle.handshake.specs.Resolving.{proxy_at}
 use Rattle.handshake.specs.declared.keys.Key.{Key}
 use Rattle.handshake.specs.declared.leads.FirstLeads.{FirstLeads}
 use Rattle.handshake.specs.declared.leads.Lead.{Lead}
-use Rattle.handshake.specs.declared.place.Place.{Place}
+use Rattle.handshake.specs.declared.site.ProxySite.{ProxySite}
 
-abbrev pub lead : Reading → Place → Lead
-lead r p = record { place = p; object = option_and_then (at r) (proxy_at r (end_of p) p.index) }
+abbrev pub lead : Reading → ProxySite → Lead
+lead r p = record { site = p; object = option_and_then (at r) (proxy_at r (end_of p) p.index) }
 
 abbrev pub leads : Reading → List Lead
-leads r = map (lead r) (places r)
+leads r = map (lead r) (sites r)
 
 -- a proxy at the reference of the key leads to the object of its number
 abbrev pub is_by : Key → Lead → Bool
-is_by k x = option_map_or (λ o. same_key (key x.place.object x.place.feature o.0) k) x.object false
+is_by k x = option_map_or (λ o. same_key (key x.site.object x.site.feature o.0) k) x.object false
 
 -- the index of the first of them
 abbrev pub first_index : List Lead → Key → Option ℕ
 first_index [] k = None
-first_index (x ∷ xs) k = if is_by k x then Some x.place.index else first_index xs k
+first_index (x ∷ xs) k = if is_by k x then Some x.site.index else first_index xs k
 
 abbrev pub index_at : FirstLeads → Key → Option ℕ
 index_at t k = get same_key t.indices k

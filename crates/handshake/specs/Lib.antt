@@ -1,9 +1,9 @@
 pub mod Named
 pub mod Resolving
 pub mod Displaced
-pub mod Telling
+pub mod FeatureChange
 pub mod Reports
-pub mod Tellings
+pub mod FeatureChanges
 pub mod Effects
 pub mod Edits
 pub mod Refusals

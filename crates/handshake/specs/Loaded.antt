@@ -16,8 +16,8 @@ use Rattle.models.specs.Model.{Model, attribute_values, reading}
 use Rattle.models.specs.Reading.{Reading}
 use Rattle.resource_docs.specs.Read.{values_in}
 use Rattle.resource_docs.specs.declared.doc.Doc.{Doc}
-use Rattle.loading.specs.Loading.{contents_end, loaded, loaded_value, object_end, roots_loaded}
-use Rattle.loading.specs.Typed.{class_in}
+use Rattle.doc_loader.specs.Loading.{contents_end, loaded, loaded_value, object_end, roots_loaded}
+use Rattle.doc_loader.specs.Typed.{class_in}
 use Rattle.handshake.specs.declared.change.Change.TheVariants.{Load}
 use Rattle.handshake.specs.Effects.{after}
 use Rattle.handshake.specs.Laws.{OfAllowed, comes_with}

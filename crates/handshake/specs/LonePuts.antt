@@ -6,14 +6,14 @@ use Rattle.mm_types.specs.declared.value.Value.{Value}
 use Rattle.mm_types.specs.declared.value.Value.TheVariants as value
 use Rattle.links.specs.Plans.{put_edit}
 use Rattle.links.specs.declared.link.NewLink.{NewLink}
-use Rattle.models.specs.Reading.{Reading, at_end, place_for, shape_at}
+use Rattle.models.specs.Reading.{Reading, at_end, position_for, shape_at}
 use Rattle.handshake.specs.declared.change.Change.{Change}
 use Rattle.handshake.specs.declared.change.Change.TheVariants.{Set, Add}
 use Rattle.handshake.specs.declared.planned.Planned.{Planned}
 use Rattle.handshake.specs.Displaced.{displaces, is_plain_add, is_plain_set}
 use Rattle.handshake.specs.Refusals.{late_refusal}
 
--- the put of an object at a place of an end
+-- the put of an object at a position of an end
 abbrev pub put_at : Reading → End → ℕ → ObjectNo → NewLink
 put_at r e i o = record { end = e; index = i; object = o; opposite = (shape_at r e).opposite; container = (shape_at r e).containing }
 
@@ -30,7 +30,7 @@ lone_add r c e (value.Object o) i =
     if displaces r e o then None else
     if is_plain_add r e (value.Object o) then None else
     if is_some (late_refusal r c) then None else
-    Some (put_at r e (place_for r e i) o)
+    Some (put_at r e (position_for r e i) o)
 lone_add r c e v i = None
 
 -- the put of a set or an addition of an object that nothing refuses, and that displaces nothing

@@ -4,38 +4,38 @@ use Rattle.mm_types.specs.Conditions.{◌else_by◌}
 use Rattle.notice_chain.specs.declared.notice.Notice.{Notice}
 use Rattle.models.specs.Model.{Model, reading}
 use Rattle.handshake.specs.Effects.{after}
-use Rattle.handshake.specs.Proxies.{places}
+use Rattle.handshake.specs.Proxies.{sites}
 use Rattle.handshake.specs.Refusals.{early_refusal, late_refusal}
 use Rattle.handshake.specs.ResolvingAll.{done, left}
-use Rattle.handshake.specs.Tellings.{chain}
+use Rattle.handshake.specs.FeatureChanges.{chain}
 use Rattle.handshake.specs.declared.change.Change.{Change}
 use Rattle.handshake.specs.declared.change.Change.TheVariants.{Resolve, ResolveAll}
-use Rattle.handshake.specs.declared.place.Place.{Place}
+use Rattle.handshake.specs.declared.site.ProxySite.{ProxySite}
 
-abbrev pub resolve : Place → Change
+abbrev pub resolve : ProxySite → Change
 resolve p = Resolve p.object p.feature p.index
 
 abbrev pub is_refused : Model → Change → Bool
 is_refused s c = is_some (early_refusal (reading s) c else_by late_refusal (reading s) c)
 
 -- the model afterwards
-abbrev pub after_each : Model → List Place → Model
+abbrev pub after_each : Model → List ProxySite → Model
 after_each s [] = s
 after_each s (p ∷ ps) = if is_refused s (resolve p) then after_each s ps else after_each (after s (resolve p)) ps
 
 -- the notices of each
-abbrev pub told_by_each : Model → List Place → List Notice
+abbrev pub told_by_each : Model → List ProxySite → List Notice
 told_by_each s [] = []
 told_by_each s (p ∷ ps) =
     if is_refused s (resolve p) then told_by_each s ps else chain (reading s) (resolve p) ++ told_by_each (after s (resolve p)) ps
 
 -- how many are resolved
-abbrev pub count_of_each : Model → List Place → ℕ
+abbrev pub count_of_each : Model → List ProxySite → ℕ
 count_of_each s [] = zero
 count_of_each s (p ∷ ps) = if is_refused s (resolve p) then count_of_each s ps else suc (count_of_each (after s (resolve p)) ps)
 
 pub record ResolvesEach (s : Model) : Type 0 where
-  pub leaves : after s ResolveAll ≡ after_each s (places (reading s))
-  pub tells : chain (reading s) ResolveAll ≡ told_by_each s (places (reading s))
-  pub counts : done (reading s) ≡ count_of_each s (places (reading s))
-  pub rest : left (reading s) ≡ length (places (reading (after s ResolveAll)))
+  pub leaves : after s ResolveAll ≡ after_each s (sites (reading s))
+  pub tells : chain (reading s) ResolveAll ≡ told_by_each s (sites (reading s))
+  pub counts : done (reading s) ≡ count_of_each s (sites (reading s))
+  pub rest : left (reading s) ≡ length (sites (reading (after s ResolveAll)))

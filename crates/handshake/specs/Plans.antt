@@ -12,7 +12,7 @@ use Rattle.models.specs.Model.{Model, reading}
 use Rattle.models.specs.Reading.{Reading}
 use Rattle.removal.specs.Removals.{IsRemoval}
 use Rattle.removal.specs.declared.gone.Removal.{Removal}
-use Rattle.loading.specs.Fits.{IsFitting}
+use Rattle.doc_loader.specs.Fits.{IsFitting}
 use Rattle.resource_docs.specs.Causes.{IsRead}
 use Rattle.resource_docs.specs.declared.doc.Doc.{Doc}
 use Rattle.handshake.specs.declared.change.Change.{Change}
@@ -20,7 +20,7 @@ use Rattle.handshake.specs.declared.change.Change.TheVariants.{Create, Set, Unse
 use Rattle.handshake.specs.declared.planned.Planned.{Planned}
 use Rattle.handshake.specs.Effects.{after}
 use Rattle.handshake.specs.Refusals.{late_refusal}
-use Rattle.handshake.specs.Tellings.{chain, destroyed_by, resolved_by, target_of}
+use Rattle.handshake.specs.FeatureChanges.{chain, destroyed_by, resolved_by, target_of}
 
 -- a document as reading gives it, in a resource of some URI
 pub record IsDocument (m : Metamodel) (doc : Doc) : Type 0 where

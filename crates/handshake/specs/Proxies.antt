@@ -7,27 +7,27 @@ use Rattle.mm_types.specs.declared.numbers.ObjectNo.{ObjectNo}
 use Rattle.mm_types.specs.declared.numbers.Node.TheVariants as node
 use Rattle.models.specs.Reading.{Reading, all_features_of, at_end}
 use Rattle.handshake.specs.Resolving.{proxy_at}
-use Rattle.handshake.specs.declared.place.Place.{Place}
+use Rattle.handshake.specs.declared.site.ProxySite.{ProxySite}
 
-abbrev pub place : ObjectNo → FeatureNo → ℕ → Place
-place o f i = record { object = o; feature = f; index = i }
+abbrev pub site : ObjectNo → FeatureNo → ℕ → ProxySite
+site o f i = record { object = o; feature = f; index = i }
 
 -- the end of which it is an index
-abbrev pub end_of : Place → End
+abbrev pub end_of : ProxySite → End
 end_of p = at_end (node.Object p.object) p.feature
 
 -- a proxy stands there
-abbrev pub is_proxy_place : Reading → Place → Bool
-is_proxy_place r p = is_some (proxy_at r (end_of p) p.index)
+abbrev pub is_proxy_site : Reading → ProxySite → Bool
+is_proxy_site r p = is_some (proxy_at r (end_of p) p.index)
 
 -- the places of a feature of an object where proxies stand
-abbrev pub places_under : Reading → ObjectNo → FeatureNo → List Place
-places_under r o f = filter (is_proxy_place r) (map (place o f) (range_with_len 0 (length (r.values (at_end (node.Object o) f)))))
+abbrev pub sites_under : Reading → ObjectNo → FeatureNo → List ProxySite
+sites_under r o f = filter (is_proxy_site r) (map (site o f) (range_with_len 0 (length (r.values (at_end (node.Object o) f)))))
 
 -- those of an object, in the order of all its features
-abbrev pub places_of : Reading → ObjectNo → List Place
-places_of r o = flat_map (places_under r o) (all_features_of r (node.Object o))
+abbrev pub sites_of : Reading → ObjectNo → List ProxySite
+sites_of r o = flat_map (sites_under r o) (all_features_of r (node.Object o))
 
 -- those of all objects, by number
-abbrev pub places : Reading → List Place
-places r = flat_map (λ n. places_of r (record { 0 = n })) (range_with_len 0 r.next)
+abbrev pub sites : Reading → List ProxySite
+sites r = flat_map (λ n. sites_of r (record { 0 = n })) (range_with_len 0 r.next)

@@ -17,9 +17,9 @@ use Rattle.mm_types.specs.declared.refused.Refused.TheVariants.{WrongType, TextL
 use Rattle.mm_types.specs.declared.value.Value.{Value}
 use Rattle.mm_types.specs.declared.value.Value.TheVariants as value
 use Rattle.web_uris.specs.Addresses.{uri_part}
-use Rattle.models.specs.Reading.{Reading, at_end, has_uri, is_repeat, is_within, place_for, shape_at, takes}
+use Rattle.models.specs.Reading.{Reading, at_end, has_uri, is_repeat, is_within, position_for, shape_at, takes}
 use Rattle.models.specs.Legal.{is_short, is_short_text}
-use Rattle.loading.specs.Loading.{is_empty_resource}
+use Rattle.doc_loader.specs.Loading.{is_empty_resource}
 use Rattle.resource_docs.specs.declared.doc.Doc.{Doc}
 use Rattle.handshake.specs.Named.{class_refusal, feature_refusal, many_refusal, node_refusal, single_refusal, value_refusal}
 use Rattle.handshake.specs.Displaced.{has_already}
@@ -139,7 +139,7 @@ late_refusal r (Set n f v) =
 late_refusal r (Unset n f) = None
 late_refusal r (Add n f v i) =
     type_refusal r f v else_by
-    Index unless nat_le (place_for r (at_end n f) i) (count_at r (at_end n f)) else_by
+    Index unless nat_le (position_for r (at_end n f) i) (count_at r (at_end n f)) else_by
     add_refusal r (at_end n f) v i
 late_refusal r (Remove n f i) = Index unless nat_lt i (count_at r (at_end n f))
 late_refusal r (RemoveValue n f v) = type_refusal r f v

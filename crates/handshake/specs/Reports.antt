@@ -8,9 +8,9 @@ use Rattle.notice_chain.specs.declared.kind.NoticeKind.TheVariants as kind
 use Rattle.notice_chain.specs.declared.notice.Notice.{Notice}
 use Rattle.models.specs.Reading.{Reading, held_at, shape_at}
 use Rattle.removal.specs.declared.loss.Loss.{Loss}
-use Rattle.loading.specs.Loading.{loaded}
+use Rattle.doc_loader.specs.Loading.{loaded}
 use Rattle.handshake.specs.declared.chain.Report.{Report}
-use Rattle.handshake.specs.Telling.{notice}
+use Rattle.handshake.specs.FeatureChange.{notice}
 
 -- the notice of a report that is read in a model
 abbrev pub reported : Reading → End → Report → Notice

@@ -6,10 +6,10 @@ ghost use Rattle.models.specs.Model.{reading};
 ghost use Rattle.removal.specs.Losses.{losses as losses_of};
 ghost use Rattle.removal.specs.Removals.{IsRemoval};
 ghost use Rattle.handshake.specs.Reports.{lost_notice as lost_notice_of, reported};
-ghost use Rattle.handshake.specs.Telling.{notice_at, telling};
-ghost use Rattle.handshake.specs.declared.happening.Happening.TheVariants.{Gains, Loses, Resolves, Unsets};
+ghost use Rattle.handshake.specs.FeatureChange.{notice_at, feature_change};
+ghost use Rattle.handshake.specs.declared.change_kind.ChangeKind.TheVariants.{Gains, Loses, Resolves, Unsets};
 
-use crate::happening::{Happening, Telling};
+use crate::change_kind::{ChangeKind, FeatureChange};
 use links::LinkStore;
 use mm_meta::Meta;
 use mm_types::{End, FeatureNo, Value};
@@ -22,13 +22,13 @@ use std::alloc::{AllocError, Global};
 pub(crate) fn notices<L: LinkStore>(
     alloc: Global,
     model: &ModelRef<L>,
-    tellings: Vec<Telling>,
+    feature_changes: Vec<FeatureChange>,
 ) -> Result<Chain, AllocError>
-    ensures { IfOk result (λ c. c ≡ map (notice_at (reading model.now)) tellings.items) }
+    ensures { IfOk result (λ c. c ≡ map (notice_at (reading model.now)) feature_changes.items) }
 {
     let mut chain = Chain::new(alloc);
-    for telling in tellings {
-        push_notice(alloc, model, telling, &mut chain)?;
+    for feature_change in feature_changes {
+        push_notice(alloc, model, feature_change, &mut chain)?;
     }
     Ok(chain)
 }
@@ -37,12 +37,12 @@ pub(crate) fn notices<L: LinkStore>(
 fn push_notice<L: LinkStore>(
     alloc: Global,
     model: &ModelRef<L>,
-    telling: Telling,
+    feature_change: FeatureChange,
     chain: &mut Chain,
 ) -> Result<(), AllocError>
-    ensures { OnOk result (chain.new ≡ chain.old ++ notice_at (reading model.now) telling ∷ []) }
+    ensures { OnOk result (chain.new ≡ chain.old ++ notice_at (reading model.now) feature_change ∷ []) }
 {
-    chain.push(notice(alloc, model, telling)?)?;
+    chain.push(notice(alloc, model, feature_change)?)?;
     Ok(())
 }
 
@@ -110,11 +110,11 @@ pub(crate) struct Report {
 fn notice<L: LinkStore>(
     alloc: Global,
     model: &ModelRef<L>,
-    telling: Telling,
+    feature_change: FeatureChange,
 ) -> Result<Notice, AllocError>
-    ensures { IfOk result (λ n. n ≡ notice_at (reading model.now) telling) }
+    ensures { IfOk result (λ n. n ≡ notice_at (reading model.now) feature_change) }
 {
-    let Telling { at, does } = telling;
+    let FeatureChange { at, does } = feature_change;
     let was_set = model.is_set(at);
     let report = report_of(alloc, model, at, does)?;
     Ok(Notice {
@@ -133,33 +133,33 @@ fn report_of<L: LinkStore>(
     alloc: Global,
     model: &ModelRef<L>,
     at: End,
-    does: Happening,
+    does: ChangeKind,
 ) -> Result<Report, AllocError>
-    ensures { IfOk result (λ p. reported (reading model.now) at p ≡ notice_at (reading model.now) (telling at does)) }
+    ensures { IfOk result (λ p. reported (reading model.now) at p ≡ notice_at (reading model.now) (feature_change at does)) }
 {
     match does {
-        Happening::Gains(value) => gain(alloc, model, at, value),
-        Happening::GainsAt(index, value) => Ok(Report {
+        ChangeKind::Gains(value) => gain(alloc, model, at, value),
+        ChangeKind::GainsAt(index, value) => Ok(Report {
             kind: NoticeKind::Add,
             old_value: Value::Null,
             new_value: value,
             position: i64::from(index),
         }),
-        Happening::Loses(value) => Ok(loss(model, at, value)),
-        Happening::LosesAt(index) => Ok(Report {
+        ChangeKind::Loses(value) => Ok(loss(model, at, value)),
+        ChangeKind::LosesAt(index) => Ok(Report {
             kind: NoticeKind::Remove,
             old_value: copied(alloc, model.value_in(at, index))?,
             new_value: Value::Null,
             position: i64::from(index),
         }),
-        Happening::Unsets => unset(alloc, model, at),
-        Happening::Moves(to, from) => Ok(Report {
+        ChangeKind::Unsets => unset(alloc, model, at),
+        ChangeKind::Moves(to, from) => Ok(Report {
             kind: NoticeKind::Move,
             old_value: Value::Int(i64::from(from)),
             new_value: copied(alloc, model.value_in(at, from))?,
             position: i64::from(to),
         }),
-        Happening::Resolves(index, value) => resolved(alloc, model, at, index, value),
+        ChangeKind::Resolves(index, value) => resolved(alloc, model, at, index, value),
     }
 }
 
@@ -171,7 +171,7 @@ fn resolved<L: LinkStore>(
     index: u32,
     value: Value,
 ) -> Result<Report, AllocError>
-    ensures { IfOk result (λ p. reported (reading model.now) at p ≡ notice_at (reading model.now) (telling at (Resolves index value))) }
+    ensures { IfOk result (λ p. reported (reading model.now) at p ≡ notice_at (reading model.now) (feature_change at (Resolves index value))) }
 {
     let position = if model.meta().is_single(at.feature) {
         NO_INDEX
@@ -193,7 +193,7 @@ fn gain<L: LinkStore>(
     at: End,
     value: Value,
 ) -> Result<Report, AllocError>
-    ensures { IfOk result (λ p. reported (reading model.now) at p ≡ notice_at (reading model.now) (telling at (Gains value))) }
+    ensures { IfOk result (λ p. reported (reading model.now) at p ≡ notice_at (reading model.now) (feature_change at (Gains value))) }
 {
     if !model.meta().is_single(at.feature) {
         return Ok(Report {
@@ -211,9 +211,9 @@ fn gain<L: LinkStore>(
     })
 }
 
-/// A loss: SET to null at a single end, and else REMOVE at the place of the value.
+/// A loss: SET to null at a single end, and else REMOVE at the position of the value.
 fn loss<L: LinkStore>(model: &ModelRef<L>, at: End, value: Value) -> Report
-    ensures { reported (reading model.now) at result ≡ notice_at (reading model.now) (telling at (Loses value)) }
+    ensures { reported (reading model.now) at result ≡ notice_at (reading model.now) (feature_change at (Loses value)) }
 {
     if model.meta().is_single(at.feature) {
         return Report {
@@ -223,7 +223,7 @@ fn loss<L: LinkStore>(model: &ModelRef<L>, at: End, value: Value) -> Report
             position: NO_INDEX,
         };
     }
-    let position = i64::from(place_of(model, at, &value));
+    let position = i64::from(index_of(model, at, &value));
     Report {
         kind: NoticeKind::Remove,
         old_value: value,
@@ -232,8 +232,8 @@ fn loss<L: LinkStore>(model: &ModelRef<L>, at: End, value: Value) -> Report
     }
 }
 
-/// The place of a value in a list; past its end, if it is not there.
-fn place_of<L: LinkStore>(model: &ModelRef<L>, at: End, value: &Value) -> u32
+/// The position of a value in a list; past its end, if it is not there.
+fn index_of<L: LinkStore>(model: &ModelRef<L>, at: End, value: &Value) -> u32
     ensures { result ≡ index_in ((reading model.now).values at) value.now }
 {
     match model.position(at, value) {
@@ -244,7 +244,7 @@ fn place_of<L: LinkStore>(model: &ModelRef<L>, at: End, value: &Value) -> u32
 
 /// UNSET, from what a single end has to its default.
 fn unset<L: LinkStore>(alloc: Global, model: &ModelRef<L>, at: End) -> Result<Report, AllocError>
-    ensures { IfOk result (λ p. reported (reading model.now) at p ≡ notice_at (reading model.now) (telling at Unsets)) }
+    ensures { IfOk result (λ p. reported (reading model.now) at p ≡ notice_at (reading model.now) (feature_change at Unsets)) }
 {
     Ok(Report {
         kind: NoticeKind::Unset,

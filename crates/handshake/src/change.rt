@@ -52,8 +52,8 @@ pub enum Change {
     Delete(ObjectNo),
     /// Makes a resource of a URI, which is as joining gives it (EMF: ResourceSet.createResource).
     NewResource(Text),
-    /// Puts the object at the address of a proxy in the proxy's place, at an index of a reference (EMF: EcoreUtil.resolve). In a
-    /// reference with an opposite the object that refers takes the place of the proxy at the other end.
+    /// Puts the object at the address of a proxy instead of the proxy, at an index of a reference (EMF: EcoreUtil.resolve). In a
+    /// reference with an opposite the object that refers replaces the proxy at the other end.
     Resolve {
         object: ObjectNo,
         feature: FeatureNo,

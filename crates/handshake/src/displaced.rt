@@ -6,22 +6,22 @@ ghost use Rattle.links.specs.Holders as h;
 ghost use Rattle.models.specs.Found.{found_value};
 ghost use Rattle.models.specs.Model.{reading};
 ghost use Rattle.removal.specs.Removals.{IsRemoval};
-ghost use Rattle.removal.specs.TreeTies as t;
-ghost use Rattle.removal.specs.TreeTies.{tie};
+ghost use Rattle.removal.specs.TreeLinkEnds as t;
+ghost use Rattle.removal.specs.TreeLinkEnds.{link_end};
 ghost use Rattle.handshake.specs.Displaced as d;
 ghost use Rattle.handshake.specs.Plans.{IsRemovalOf};
 ghost use Rattle.handshake.specs.Resolving.{target_at};
 ghost use Rattle.handshake.specs.Refusals as refusals;
-ghost use Rattle.handshake.specs.Tellings.{target_of};
+ghost use Rattle.handshake.specs.FeatureChanges.{target_of};
 
 use crate::change::Change;
+use crate::link_end::{far_end, is_among, node_value, opposite_end};
 use crate::target::Target;
-use crate::tie::{far_end, is_among, node_value, opposite_end};
 use links::LinkStore;
 use mm_meta::Meta;
 use mm_types::{End, Node, ObjectNo, Value};
 use models::{Found, ModelRef, at_end};
-use removal::{Removal, Tie, tree_ties};
+use removal::{LinkEnd, Removal, tree_link_ends};
 use std::alloc::{AllocError, Global};
 
 /// Whether a new link of an object at an end displaces a link. Takes no memory.
@@ -55,20 +55,20 @@ pub(crate) fn yields<L: LinkStore>(
     model: &ModelRef<L>,
     end: End,
     object: ObjectNo,
-) -> Result<Vec<Tie>, AllocError>
+) -> Result<Vec<LinkEnd>, AllocError>
     requires reference { (shape model.now.metamodel end.feature).is_reference ≡ true }
     ensures { IfOk result (λ ts. ts.items ≡ d.yields (reading model.now) end object) }
 {
-    model.is_legal();
-    let mut ties = Vec::new(alloc);
-    add_held(alloc, model, end, &mut ties)?;
+    model.lemma_is_legal();
+    let mut link_ends = Vec::new(alloc);
+    add_held(alloc, model, end, &mut link_ends)?;
     if let Some(far) = opposite_end(model, end, object) {
-        add_held(alloc, model, far, &mut ties)?;
+        add_held(alloc, model, far, &mut link_ends)?;
     }
     if let Some(part) = contained(model.meta(), end, object) {
-        add_holding(model, part, &mut ties)?;
+        add_holding(model, part, &mut link_ends)?;
     }
-    Ok(ties)
+    Ok(link_ends)
 }
 
 /// Adds the link of what a single end has.
@@ -76,19 +76,19 @@ fn add_held<L: LinkStore>(
     alloc: Global,
     model: &ModelRef<L>,
     end: End,
-    ties: &mut Vec<Tie>,
+    link_ends: &mut Vec<LinkEnd>,
 ) -> Result<(), AllocError>
     requires reference { (shape model.now.metamodel end.feature).is_reference ≡ true }
-    ensures { OnOk result (ties.new.items ≡ fold (d.with_tie (reading model.now)) ties.old.items (d.ties_if_single (reading model.now) end)) }
+    ensures { OnOk result (link_ends.new.items ≡ fold (d.with_link_end (reading model.now)) link_ends.old.items (d.link_ends_if_single (reading model.now) end)) }
 {
-    model.is_legal();
+    model.lemma_is_legal();
     if !model.meta().is_single(end.feature) {
         return Ok(());
     }
     match model.value_in(end, 0) {
         Some(held) => {
             let value = held.to_value(alloc)?;
-            add(model, Tie { end, value }, ties)
+            add(model, LinkEnd { end, value }, link_ends)
         }
         None => Ok(()),
     }
@@ -98,31 +98,35 @@ fn add_held<L: LinkStore>(
 fn add_holding<L: LinkStore>(
     model: &ModelRef<L>,
     node: Node,
-    ties: &mut Vec<Tie>,
+    link_ends: &mut Vec<LinkEnd>,
 ) -> Result<(), AllocError>
-    ensures { OnOk result (ties.new.items ≡ fold (d.with_tie (reading model.now)) ties.old.items (option_to_list (d.holding_tie (reading model.now) node))) }
+    ensures { OnOk result (link_ends.new.items ≡ fold (d.with_link_end (reading model.now)) link_ends.old.items (option_to_list (d.holding_link_end (reading model.now) node))) }
 {
     match model.holder(node) {
         Some(end) => add(
             model,
-            Tie {
+            LinkEnd {
                 end,
                 value: node_value(node),
             },
-            ties,
+            link_ends,
         ),
         None => Ok(()),
     }
 }
 
 /// Adds a link, unless it is there.
-fn add<L: LinkStore>(model: &ModelRef<L>, tie: Tie, ties: &mut Vec<Tie>) -> Result<(), AllocError>
-    ensures { OnOk result (ties.new.items ≡ d.with_tie (reading model.now) ties.old.items tie) }
+fn add<L: LinkStore>(
+    model: &ModelRef<L>,
+    link_end: LinkEnd,
+    link_ends: &mut Vec<LinkEnd>,
+) -> Result<(), AllocError>
+    ensures { OnOk result (link_ends.new.items ≡ d.with_link_end (reading model.now) link_ends.old.items link_end) }
 {
-    if is_among(model, ties, &tie) {
+    if is_among(model, link_ends, &link_end) {
         return Ok(());
     }
-    ties.push(tie)?;
+    link_ends.push(link_end)?;
     Ok(())
 }
 
@@ -138,17 +142,17 @@ fn contained(meta: &Meta, end: End, object: ObjectNo) -> Option<Node>
 }
 
 /// The links that a change cuts, in order.
-pub(crate) fn cut_ties<L: LinkStore>(
+pub(crate) fn cut_link_ends<L: LinkStore>(
     alloc: Global,
     model: &ModelRef<L>,
     change: &Change,
     removal: &Option<Removal>,
     target: Option<Target>,
-) -> Result<Vec<Tie>, AllocError>
+) -> Result<Vec<LinkEnd>, AllocError>
     requires removal { IsRemovalOf (reading model.now) change.now removal.now }
     requires found { target ≡ target_of (reading model.now) change.now }
     requires asked { refusals.early_refusal (reading model.now) change.now ≡ None }
-    ensures { IfOk result (λ ts. ts.items ≡ d.cut_ties (reading model.now) change.now) }
+    ensures { IfOk result (λ ts. ts.items ≡ d.cut_link_ends (reading model.now) change.now) }
 {
     match change {
         Change::Create(_)
@@ -161,7 +165,7 @@ pub(crate) fn cut_ties<L: LinkStore>(
             feature,
             value,
         } => cut_by_set(alloc, model, at_end(node, feature), value),
-        Change::Unset { node, feature } => ties_backwards(alloc, model, at_end(node, feature)),
+        Change::Unset { node, feature } => link_ends_backwards(alloc, model, at_end(node, feature)),
         Change::Add {
             node,
             feature,
@@ -172,40 +176,40 @@ pub(crate) fn cut_ties<L: LinkStore>(
             node,
             feature,
             index,
-        } => tie_in(alloc, model, at_end(node, feature), Some(*index)),
+        } => link_end_in(alloc, model, at_end(node, feature), Some(*index)),
         Change::RemoveValue {
             node,
             feature,
             value,
         } => {
             let end = at_end(node, feature);
-            tie_in(alloc, model, end, model.position(end, value))
+            link_end_in(alloc, model, end, model.position(end, value))
         }
-        Change::Delete(_) => gone_ties(alloc, model, removal),
+        Change::Delete(_) => gone_link_ends(alloc, model, removal),
         Change::Resolve {
             object,
             feature,
             index,
-        } => ties_resolved(alloc, model, far_end(*object, *feature), *index, target),
+        } => link_ends_resolved(alloc, model, far_end(*object, *feature), *index, target),
     }
 }
 
 /// The links of the proxies at both ends of a link that is resolved; none of an attribute.
-fn ties_resolved<L: LinkStore>(
+fn link_ends_resolved<L: LinkStore>(
     alloc: Global,
     model: &ModelRef<L>,
     end: End,
     index: u32,
     target: Option<Target>,
-) -> Result<Vec<Tie>, AllocError>
+) -> Result<Vec<LinkEnd>, AllocError>
     requires found { target ≡ target_at (reading model.now) end index }
-    ensures { IfOk result (λ ts. ts.items ≡ (if (shape model.now.metamodel end.feature).is_reference then d.ties_resolved (reading model.now) end index else [])) }
+    ensures { IfOk result (λ ts. ts.items ≡ (if (shape model.now.metamodel end.feature).is_reference then d.link_ends_resolved (reading model.now) end index else [])) }
 {
-    let mut ties = tie_in(alloc, model, end, Some(index))?;
+    let mut link_ends = link_end_in(alloc, model, end, Some(index))?;
     if model.meta().is_reference(end.feature) {
-        add_counterpart(alloc, model, target, &mut ties)?;
+        add_counterpart(alloc, model, target, &mut link_ends)?;
     }
-    Ok(ties)
+    Ok(link_ends)
 }
 
 /// Adds the link of the proxy at the opposite end.
@@ -213,9 +217,9 @@ pub(crate) fn add_counterpart<L: LinkStore>(
     alloc: Global,
     model: &ModelRef<L>,
     target: Option<Target>,
-    ties: &mut Vec<Tie>,
+    link_ends: &mut Vec<LinkEnd>,
 ) -> Result<(), AllocError>
-    ensures { OnOk result (ties.new.items ≡ ties.old.items ++ option_map_or (d.counter_tie (reading model.now)) target []) }
+    ensures { OnOk result (link_ends.new.items ≡ link_ends.old.items ++ option_map_or (d.counter_link_end (reading model.now)) target []) }
 {
     match target {
         Some(
@@ -223,27 +227,27 @@ pub(crate) fn add_counterpart<L: LinkStore>(
                 counterpart: Some(other),
                 ..
             },
-        ) => push_tie(
+        ) => push_link_end(
             alloc,
             other.end,
             model.value_in(other.end, other.index),
-            ties,
+            link_ends,
         ),
         _ => Ok(()),
     }
 }
 
 /// The links that go; none if nothing goes.
-fn gone_ties<L: LinkStore>(
+fn gone_link_ends<L: LinkStore>(
     alloc: Global,
     model: &ModelRef<L>,
     removal: &Option<Removal>,
-) -> Result<Vec<Tie>, AllocError>
+) -> Result<Vec<LinkEnd>, AllocError>
     requires found { IfSome removal.now (IsRemoval (reading model.now)) }
-    ensures { IfOk result (λ ts. ts.items ≡ option_map_or (λ x. t.tree_ties (reading model.now) x.object) removal.now []) }
+    ensures { IfOk result (λ ts. ts.items ≡ option_map_or (λ x. t.tree_link_ends (reading model.now) x.object) removal.now []) }
 {
     match removal {
-        Some(removal) => tree_ties(alloc, model, removal),
+        Some(removal) => tree_link_ends(alloc, model, removal),
         None => Ok(Vec::new(alloc)),
     }
 }
@@ -253,7 +257,7 @@ fn cut_by_set<L: LinkStore>(
     model: &ModelRef<L>,
     end: End,
     value: &Value,
-) -> Result<Vec<Tie>, AllocError>
+) -> Result<Vec<LinkEnd>, AllocError>
     ensures { IfOk result (λ ts. ts.items ≡ (if d.is_plain_set (reading model.now) end value.now then [] else d.cut_by_set (reading model.now) end value.now)) }
 {
     if is_plain_set(model, end, value) {
@@ -261,7 +265,7 @@ fn cut_by_set<L: LinkStore>(
     }
     match value {
         Value::Object(object) => yields(alloc, model, end, *object),
-        _ => ties_at(alloc, model, end),
+        _ => link_ends_at(alloc, model, end),
     }
 }
 
@@ -270,7 +274,7 @@ fn cut_by_add<L: LinkStore>(
     model: &ModelRef<L>,
     end: End,
     value: &Value,
-) -> Result<Vec<Tie>, AllocError>
+) -> Result<Vec<LinkEnd>, AllocError>
     ensures { IfOk result (λ ts. ts.items ≡ (if d.is_plain_add (reading model.now) end value.now then [] else d.cut_by_new (reading model.now) end value.now)) }
 {
     if is_plain_add(model, end, value) {
@@ -283,70 +287,70 @@ fn cut_by_add<L: LinkStore>(
 }
 
 /// The links of a reference.
-fn ties_at<L: LinkStore>(
+fn link_ends_at<L: LinkStore>(
     alloc: Global,
     model: &ModelRef<L>,
     end: End,
-) -> Result<Vec<Tie>, AllocError>
+) -> Result<Vec<LinkEnd>, AllocError>
     requires reference { (shape model.now.metamodel end.feature).is_reference ≡ true }
-    ensures { IfOk result (λ ts. ts.items ≡ d.ties_at (reading model.now) end) }
+    ensures { IfOk result (λ ts. ts.items ≡ d.link_ends_at (reading model.now) end) }
 {
-    let mut ties = Vec::new(alloc);
+    let mut link_ends = Vec::new(alloc);
     for index in 0..model.len(end) {
-        push_tie(alloc, end, model.value_in(end, index), &mut ties)?;
+        push_link_end(alloc, end, model.value_in(end, index), &mut link_ends)?;
     }
-    Ok(ties)
+    Ok(link_ends)
 }
 
 /// The links of an end, the last one first; none of an attribute.
-fn ties_backwards<L: LinkStore>(
+fn link_ends_backwards<L: LinkStore>(
     alloc: Global,
     model: &ModelRef<L>,
     end: End,
-) -> Result<Vec<Tie>, AllocError>
-    ensures { IfOk result (λ ts. ts.items ≡ (if (shape model.now.metamodel end.feature).is_reference then d.ties_backwards end ((reading model.now).values end) else [])) }
+) -> Result<Vec<LinkEnd>, AllocError>
+    ensures { IfOk result (λ ts. ts.items ≡ (if (shape model.now.metamodel end.feature).is_reference then d.link_ends_backwards end ((reading model.now).values end) else [])) }
 {
-    let mut ties = Vec::new(alloc);
+    let mut link_ends = Vec::new(alloc);
     if !model.meta().is_reference(end.feature) {
-        return Ok(ties);
+        return Ok(link_ends);
     }
     for index in (0..model.len(end)).rev() {
-        push_tie(alloc, end, model.value_in(end, index), &mut ties)?;
+        push_link_end(alloc, end, model.value_in(end, index), &mut link_ends)?;
     }
-    Ok(ties)
+    Ok(link_ends)
 }
 
-/// The link that is at a place of an end, if one is named; none of an attribute.
-fn tie_in<L: LinkStore>(
+/// The link that is at a position of an end, if one is named; none of an attribute.
+fn link_end_in<L: LinkStore>(
     alloc: Global,
     model: &ModelRef<L>,
     end: End,
     index: Option<u32>,
-) -> Result<Vec<Tie>, AllocError>
-    ensures { IfOk result (λ ts. ts.items ≡ (if (shape model.now.metamodel end.feature).is_reference then option_map_or (d.tie_in (reading model.now) end) index [] else [])) }
+) -> Result<Vec<LinkEnd>, AllocError>
+    ensures { IfOk result (λ ts. ts.items ≡ (if (shape model.now.metamodel end.feature).is_reference then option_map_or (d.link_end_in (reading model.now) end) index [] else [])) }
 {
-    let mut ties = Vec::new(alloc);
+    let mut link_ends = Vec::new(alloc);
     if !model.meta().is_reference(end.feature) {
-        return Ok(ties);
+        return Ok(link_ends);
     }
     if let Some(index) = index {
-        push_tie(alloc, end, model.value_in(end, index), &mut ties)?;
+        push_link_end(alloc, end, model.value_in(end, index), &mut link_ends)?;
     }
-    Ok(ties)
+    Ok(link_ends)
 }
 
 /// Adds the link of what was found at an end.
-pub(crate) fn push_tie(
+pub(crate) fn push_link_end(
     alloc: Global,
     end: End,
     found: Option<Found>,
-    ties: &mut Vec<Tie>,
+    link_ends: &mut Vec<LinkEnd>,
 ) -> Result<(), AllocError>
-    ensures { OnOk result (ties.new.items ≡ ties.old.items ++ option_to_list (option_map (tie end) (option_map found_value found.entry))) }
+    ensures { OnOk result (link_ends.new.items ≡ link_ends.old.items ++ option_to_list (option_map (link_end end) (option_map found_value found.entry))) }
 {
     if let Some(found) = found {
         let value = found.to_value(alloc)?;
-        ties.push(Tie { end, value })?;
+        link_ends.push(LinkEnd { end, value })?;
     }
     Ok(())
 }

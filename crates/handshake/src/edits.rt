@@ -10,21 +10,21 @@ ghost use Rattle.mm_values.specs.declared.edit.ValueEdit.TheVariants.{DropObject
 ghost use Rattle.handshake.specs.Displaced as d;
 ghost use Rattle.handshake.specs.Effects as effects;
 ghost use Rattle.handshake.specs.Plans.{HasFittingDocument, IsRemovalOf};
-ghost use Rattle.loading.specs.Fits.{IsFitting};
-ghost use Rattle.loading.specs.Loading.{loaded_values};
+ghost use Rattle.doc_loader.specs.Fits.{IsFitting};
+ghost use Rattle.doc_loader.specs.Loading.{loaded_values};
 ghost use Rattle.handshake.specs.Effects.{put_values, value_edits as value_edits_of};
-ghost use Rattle.handshake.specs.Tellings.{destroyed_by, loaded_by, resolves_all, target_of};
+ghost use Rattle.handshake.specs.FeatureChanges.{destroyed_by, loaded_by, resolves_all, target_of};
 
 use crate::change::Change;
 use crate::cuts::push_cuts;
 use crate::displaced::{is_plain_add, is_plain_set};
+use crate::link_end::far_end;
 use crate::target::{Counterpart, Target};
-use crate::tie::far_end;
 use links::{Edit, LinkStore, Plan};
 use mm_types::{End, FeatureNo, Node, ObjectNo, Seq, Value};
 use mm_values::{NewValues, ValueEdit, ValuePlan};
 use models::{ModelRef, at_end};
-use removal::{Removal, Tie};
+use removal::{LinkEnd, Removal};
 use resource_docs::Doc;
 use std::alloc::{AllocError, Global};
 
@@ -33,22 +33,22 @@ use std::alloc::{AllocError, Global};
 pub(crate) fn link_edits<L: LinkStore>(
     alloc: Global,
     model: &ModelRef<L>,
-    ties: Vec<Tie>,
+    link_ends: Vec<LinkEnd>,
     change: &Change,
     target: Option<Target>,
 ) -> Result<Plan, AllocError>
-    requires cut { ties.items ≡ d.cut_ties (reading model.now) change.now }
+    requires cut { link_ends.items ≡ d.cut_link_ends (reading model.now) change.now }
     requires found { target ≡ target_of (reading model.now) change.now }
     requires fits { HasFittingDocument (reading model.now).next change.now }
     requires one { resolves_all change.now ≡ false }
     ensures { IfOk result (λ p. p ≡ e.link_edits (reading model.now) change.now) }
 {
     if let Change::Load(resource, doc) = change {
-        let edits = loading::link_edits(alloc, model.meta(), model.next(), *resource, doc)?;
+        let edits = doc_loader::link_edits(alloc, model.meta(), model.next(), *resource, doc)?;
         return Ok(Seq::from_vec(edits));
     }
     let mut edits = Vec::new(alloc);
-    push_cuts(alloc, ties, &mut edits)?;
+    push_cuts(alloc, link_ends, &mut edits)?;
     push_made(model, change, target, &mut edits)?;
     Ok(Seq::from_vec(edits))
 }
@@ -79,7 +79,7 @@ fn push_made<L: LinkStore>(
     Ok(())
 }
 
-/// Adds the edits that put a link in the place of its proxies; none if nothing is at their address.
+/// Adds the edits that put a link instead of its proxies; none if nothing is at their address.
 pub(crate) fn push_joining<L: LinkStore>(
     model: &ModelRef<L>,
     end: End,
@@ -135,7 +135,7 @@ fn made_edit<L: LinkStore>(model: &ModelRef<L>, change: &Change) -> Option<Edit>
             let end = at_end(node, feature);
             match is_plain_add(model, end, value) {
                 true => None,
-                false => new_put(model, end, model.place_for(end, *index), value),
+                false => new_put(model, end, model.position_for(end, *index), value),
             }
         }
         Change::Move {
@@ -152,7 +152,7 @@ fn made_edit<L: LinkStore>(model: &ModelRef<L>, change: &Change) -> Option<Edit>
     }
 }
 
-/// The edit that puts an object at a place of an end; no other value is put.
+/// The edit that puts an object at a position of an end; no other value is put.
 fn new_put<L: LinkStore>(model: &ModelRef<L>, end: End, index: u32, value: &Value) -> Option<Edit>
     ensures { result ≡ e.new_put (reading model.now) end index value.now }
 {
@@ -259,7 +259,7 @@ fn load_edits<L: LinkStore>(
     requires fits { IsFitting (reading model.now).next doc }
     ensures { IfOk result (λ p. p ≡ loaded_values model.now.metamodel (reading model.now).next doc) }
 {
-    let edits = loading::value_edits(alloc, model.meta(), model.next(), doc)?;
+    let edits = doc_loader::value_edits(alloc, model.meta(), model.next(), doc)?;
     Ok(ValuePlan::from_seq(Seq::from_vec(edits)))
 }
 
@@ -298,7 +298,7 @@ fn add_value<L: LinkStore>(
         Node::Object(object) => ValuePlan::one(ValueEdit::InsertValue {
             object,
             feature: end.feature,
-            index: model.place_for(end, index),
+            index: model.position_for(end, index),
             value,
             is_unique: model.meta().is_unique(end.feature),
         }),

@@ -6,19 +6,19 @@ ghost use Rattle.handshake.specs.Leads.{leads as leads_of};
 
 use crate::keys::{Key, Keys};
 use crate::leads::{FirstLeads, Lead};
-use crate::place::Place;
+use crate::link_end::{far_end, opposite_end};
 use crate::resolving::{is_mistyped, is_there_already, is_unmatched};
+use crate::site::ProxySite;
 use crate::target::{Counterpart, Target};
-use crate::tie::{far_end, opposite_end};
 use links::LinkStore;
 use mm_types::ObjectNo;
 use models::ModelRef;
 use std::alloc::{AllocError, Global};
 
-/// A proxy that is resolved: its place, and what it finds.
+/// A proxy that is resolved: its site, and what it finds.
 #[derive(Clone, Copy)]
 pub(crate) struct Joint {
-    pub place: Place,
+    pub site: ProxySite,
     pub target: Target,
 }
 
@@ -39,7 +39,7 @@ pub(crate) fn resolve_all<L: LinkStore>(
     requires all { leads.now ≡ leads_of (reading model.now) }
     ensures { IfOk result (spec.IsDone (reading model.now)) }
 {
-    model.is_legal();
+    model.lemma_is_legal();
     let first = FirstLeads::of(alloc, leads)?;
     let mut progress = Progress::new(alloc);
     'leads: for lead in leads {
@@ -71,10 +71,10 @@ impl Progress {
         first: &FirstLeads,
         lead: Lead,
     ) -> Result<(), AllocError>
-        ensures { OnOk result (spec.Resolves self.old self.new lead.place (spec.target_by (reading model.now) self.old first.now lead)) }
+        ensures { OnOk result (spec.Resolves self.old self.new lead.site (spec.target_by (reading model.now) self.old first.now lead)) }
     {
         match self.target(model, first, lead) {
-            Some(target) => self.add(lead.place, target),
+            Some(target) => self.add(lead.site, target),
             None => Ok(()),
         }
     }
@@ -91,9 +91,9 @@ impl Progress {
         let object = lead.object?;
         let target = Target {
             object,
-            counterpart: counterpart(model, first, lead.place, object),
+            counterpart: counterpart(model, first, lead.site, object),
         };
-        if self.is_refused(model, lead.place, target) {
+        if self.is_refused(model, lead.site, target) {
             None
         } else {
             Some(target)
@@ -101,29 +101,29 @@ impl Progress {
     }
 
     /// Whether a proxy can't be resolved to what it finds. Takes no memory.
-    fn is_refused<L: LinkStore>(&self, model: &ModelRef<L>, place: Place, target: Target) -> bool
-        ensures { result ≡ spec.is_refused (reading model.now) self.now place target }
+    fn is_refused<L: LinkStore>(&self, model: &ModelRef<L>, site: ProxySite, target: Target) -> bool
+        ensures { result ≡ spec.is_refused (reading model.now) self.now site target }
     {
-        let end = far_end(place.object, place.feature);
-        self.gone.contains(Key::of_place(place))
+        let end = far_end(site.object, site.feature);
+        self.gone.contains(Key::of_site(site))
             || is_mistyped(model, end, Some(target))
             || is_there_already(model, end, Some(target))
             || self
                 .linked
-                .contains(Key::of(place.object, place.feature, target.object.0))
+                .contains(Key::of(site.object, site.feature, target.object.0))
             || is_unmatched(model, end, target)
     }
 
     /// Adds a proxy that is resolved.
-    fn add(&mut self, place: Place, target: Target) -> Result<(), AllocError>
-        ensures { OnOk result (spec.Adds self.old self.new place target) }
+    fn add(&mut self, site: ProxySite, target: Target) -> Result<(), AllocError>
+        ensures { OnOk result (spec.Adds self.old self.new site target) }
     {
-        self.joints.push(Joint { place, target })?;
-        self.gone.insert(Key::of_place(place))?;
+        self.joints.push(Joint { site, target })?;
+        self.gone.insert(Key::of_site(site))?;
         self.linked
-            .insert(Key::of(place.object, place.feature, target.object.0))?;
+            .insert(Key::of(site.object, site.feature, target.object.0))?;
         match target.counterpart {
-            Some(other) => self.add_far(place, target, other),
+            Some(other) => self.add_far(site, target, other),
             None => Ok(()),
         }
     }
@@ -131,19 +131,19 @@ impl Progress {
     /// Adds its counterpart.
     fn add_far(
         &mut self,
-        place: Place,
+        site: ProxySite,
         target: Target,
         other: Counterpart,
     ) -> Result<(), AllocError>
         ensures joints { OnOk result (self.new.joints.items ≡ self.old.joints.items) }
-        ensures gone { OnOk result ((k : Key) → has self.new.gone k ≡ has self.old.gone k || spec.is_far_place target other k) }
-        ensures linked { OnOk result ((k : Key) → has self.new.linked k ≡ has self.old.linked k || spec.is_far_link place target other k) }
+        ensures gone { OnOk result ((k : Key) → has self.new.gone k ≡ has self.old.gone k || spec.is_far_site target other k) }
+        ensures linked { OnOk result ((k : Key) → has self.new.linked k ≡ has self.old.linked k || spec.is_far_link site target other k) }
     {
         let feature = other.end.feature;
         self.gone
             .insert(Key::of(target.object, feature, other.index))?;
         self.linked
-            .insert(Key::of(target.object, feature, place.object.0))
+            .insert(Key::of(target.object, feature, site.object.0))
     }
 }
 
@@ -151,12 +151,12 @@ impl Progress {
 fn counterpart<L: LinkStore>(
     model: &ModelRef<L>,
     first: &FirstLeads,
-    place: Place,
+    site: ProxySite,
     object: ObjectNo,
 ) -> Option<Counterpart>
-    ensures { result ≡ spec.counterpart_by (reading model.now) first.now place object }
+    ensures { result ≡ spec.counterpart_by (reading model.now) first.now site object }
 {
-    let end = opposite_end(model, far_end(place.object, place.feature), object)?;
-    let index = first.index(Key::of(object, end.feature, place.object.0))?;
+    let end = opposite_end(model, far_end(site.object, site.feature), object)?;
+    let index = first.index(Key::of(object, end.feature, site.object.0))?;
     Some(Counterpart { end, index })
 }

@@ -2,7 +2,7 @@
 ghost use Rattle.std.specs.Prelude.{◌≡◌};
 ghost use Rattle.handshake.specs.Keys as spec;
 
-use crate::place::Place;
+use crate::site::ProxySite;
 use indexmap::IndexSet;
 use mm_types::{FeatureNo, ObjectNo};
 use std::alloc::{AllocError, Global};
@@ -16,6 +16,7 @@ pub(crate) struct Key {
 }
 
 impl Key {
+    /// The key of a number under a feature of an object.
     pub fn of(object: ObjectNo, feature: FeatureNo, number: u32) -> Self
         ensures { result ≡ spec.key object feature number }
     {
@@ -26,10 +27,11 @@ impl Key {
         }
     }
 
-    pub fn of_place(place: Place) -> Self
-        ensures { result ≡ spec.key_of place }
+    /// The key of the site of a proxy.
+    pub fn of_site(site: ProxySite) -> Self
+        ensures { result ≡ spec.key_of site }
     {
-        Key::of(place.object, place.feature, place.index)
+        Key::of(site.object, site.feature, site.index)
     }
 }
 
@@ -53,6 +55,7 @@ impl Keys {
         }
     }
 
+    /// Adds a key. Errs only if memory is refused.
     pub fn insert(&mut self, key: Key) -> Result<(), AllocError>
         ensures { OnOk result ((k : Key) → has self.new k ≡ has self.old k || same_key k key) }
     {

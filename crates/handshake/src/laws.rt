@@ -12,9 +12,9 @@ ghost use Rattle.notice_chain.specs.Replay.{replayed_all};
 ghost use Rattle.handshake.specs.Laws.{ChainReplays, CutsNoLinkTwice, FarEndsAreApart, KeepsLegal, KeepsSteady, TellsNoEndTwice};
 ghost use Rattle.handshake.specs.Loaded.{LoadsEnds};
 ghost use Rattle.handshake.specs.OneByOne.{ResolvesEach};
-ghost use Rattle.handshake.specs.Telling.{happened_all, has_flag, told};
+ghost use Rattle.handshake.specs.FeatureChange.{happened_all, has_flag, told};
 ghost use Rattle.handshake.specs.declared.change.Change.{Change};
-ghost use Rattle.handshake.specs.declared.happening.Telling.{Telling};
+ghost use Rattle.handshake.specs.declared.change_kind.FeatureChange.{FeatureChange};
 
 /// A change of a legal model, if nothing refuses it, leaves a legal model, if what it brings is as it has to be: the URI of a new resource
 /// as joining gives it, and a document that is loaded one that reading gives.
@@ -27,10 +27,10 @@ pub fn keeps_steady_texts()
     ensures { (s : Model) (c : Change) → KeepsSteady s c }
 {}
 
-/// To replay the notices of tellings is to do what they tell, one after another, at every end.
+/// To replay the notices of feature changes is to do what they tell, one after another, at every end.
 #[tactic(auto, using(crate::proofs::ReplayLemmas::replaying))]
-pub fn the_notices_of_tellings_replay_them()
-    ensures { (m : Metamodel) (e : Ends) (ts : List Telling) → replayed_all (has_flag m) e (told m e ts) ≡ happened_all m e ts }
+pub fn the_notices_of_feature_changes_replay_them()
+    ensures { (m : Metamodel) (e : Ends) (ts : List FeatureChange) → replayed_all (has_flag m) e (told m e ts) ≡ happened_all m e ts }
 {}
 
 /// The chain of a change of a legal model, if nothing refuses it, replays it, if a document that it loads is one that reading gives: from

@@ -5,9 +5,9 @@ ghost use Rattle.handshake.specs.Leads as spec;
 ghost use Rattle.handshake.specs.Proxies as proxies;
 
 use crate::keys::Key;
-use crate::place::Place;
+use crate::link_end::far_end;
 use crate::resolving::proxy_at;
-use crate::tie::far_end;
+use crate::site::ProxySite;
 use fragment_paths::object_at;
 use indexmap::IndexMap;
 use links::LinkStore;
@@ -15,10 +15,10 @@ use mm_types::{FeatureNo, Node, ObjectNo};
 use models::ModelRef;
 use std::alloc::{AllocError, Global};
 
-/// The place of a proxy, and the object at its address, if there is one.
+/// The site of a proxy, and the object at its address, if there is one.
 #[derive(Clone, Copy)]
 pub(crate) struct Lead {
-    pub place: Place,
+    pub site: ProxySite,
     pub object: Option<ObjectNo>,
 }
 
@@ -29,7 +29,7 @@ pub(crate) fn leads<L: LinkStore>(
 ) -> Result<Vec<Lead>, AllocError>
     ensures { IfOk result (λ ls. ls.items ≡ spec.leads (reading model.now)) }
 {
-    model.is_legal();
+    model.lemma_is_legal();
     let mut leads = Vec::new(alloc);
     'objects: for object in 0..model.next() {
         push_of_object(alloc, model, ObjectNo(object as u32), &mut leads)?;
@@ -44,7 +44,7 @@ fn push_of_object<L: LinkStore>(
     object: ObjectNo,
     leads: &mut Vec<Lead>,
 ) -> Result<(), AllocError>
-    ensures { OnOk result (leads.new.items ≡ leads.old.items ++ map (spec.lead (reading model.now)) (proxies.places_of (reading model.now) object)) }
+    ensures { OnOk result (leads.new.items ≡ leads.old.items ++ map (spec.lead (reading model.now)) (proxies.sites_of (reading model.now) object)) }
 {
     let features = model.all_features(Node::Object(object));
     'features: for feature in features {
@@ -61,34 +61,34 @@ fn push_under<L: LinkStore>(
     feature: FeatureNo,
     leads: &mut Vec<Lead>,
 ) -> Result<(), AllocError>
-    ensures { OnOk result (leads.new.items ≡ leads.old.items ++ map (spec.lead (reading model.now)) (proxies.places_under (reading model.now) object feature)) }
+    ensures { OnOk result (leads.new.items ≡ leads.old.items ++ map (spec.lead (reading model.now)) (proxies.sites_under (reading model.now) object feature)) }
 {
     'indices: for index in 0..model.len(far_end(object, feature)) {
-        let place = Place {
+        let site = ProxySite {
             object,
             feature,
             index,
         };
-        push_lead(alloc, model, place, leads)?;
+        push_lead(alloc, model, site, leads)?;
     }
     Ok(())
 }
 
-/// Adds the lead of a place, if a proxy is there.
+/// Adds the lead of a site, if a proxy is there.
 fn push_lead<L: LinkStore>(
     alloc: Global,
     model: &ModelRef<L>,
-    place: Place,
+    site: ProxySite,
     leads: &mut Vec<Lead>,
 ) -> Result<(), AllocError>
-    ensures { OnOk result (leads.new.items ≡ leads.old.items ++ (if proxies.is_proxy_place (reading model.now) place then spec.lead (reading model.now) place ∷ [] else [])) }
+    ensures { OnOk result (leads.new.items ≡ leads.old.items ++ (if proxies.is_proxy_site (reading model.now) site then spec.lead (reading model.now) site ∷ [] else [])) }
 {
-    let end = far_end(place.object, place.feature);
-    let Some(address) = proxy_at(model, end, place.index) else {
+    let end = far_end(site.object, site.feature);
+    let Some(address) = proxy_at(model, end, site.index) else {
         return Ok(());
     };
     let object = object_at(alloc, model, address)?;
-    leads.push(Lead { place, object })?;
+    leads.push(Lead { site, object })?;
     Ok(())
 }
 
@@ -128,8 +128,8 @@ impl FirstLeads {
     {
         match lead.object {
             Some(object) => {
-                let key = Key::of(lead.place.object, lead.place.feature, object.0);
-                self.add_first(key, lead.place.index)
+                let key = Key::of(lead.site.object, lead.site.feature, object.0);
+                self.add_first(key, lead.site.index)
             }
             None => Ok(()),
         }

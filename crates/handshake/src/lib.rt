@@ -1,42 +1,42 @@
 //! Changes of a model: why a change is refused, the edits that make it, and the notices that it tells.
 //!
-//! `specs/Refusals.antt` says when a change is refused, `specs/Effects.antt` what it makes of a model, `specs/Tellings.antt` what it
+//! `specs/Refusals.antt` says when a change is refused, `specs/Effects.antt` what it makes of a model, `specs/FeatureChanges.antt` what it
 //! tells, and `specs/Displaced.antt` which links a new link displaces.
 #![tactic(auto)]
 
 mod chain;
 mod change;
+mod change_kind;
 mod cuts;
 mod destroyed;
 mod displaced;
 mod edits;
-mod happening;
+mod feature_change;
 mod joining;
 mod keys;
 pub mod laws;
 mod leads;
+mod link_end;
 mod link_planning;
 mod loads;
 mod named;
-mod place;
 mod planned;
 mod planning;
 mod recursion;
 mod resolving;
 mod resolving_all;
+mod site;
 mod target;
-mod telling;
-mod tie;
 mod value_planning;
 
 pub use change::Change;
-pub use happening::{Happening, Telling};
+pub use change_kind::{ChangeKind, FeatureChange};
 pub use link_planning::{lone_add, lone_set};
 pub use named::{
     early_refusal, feature_refusal, list_early_refusal, node_refusal, set_early_refusal,
 };
-pub use place::Place;
 pub use planned::{Planned, Resolved};
 pub use planning::plan;
+pub use site::ProxySite;
 pub use target::{Counterpart, Target};
 pub use value_planning::{create_refusal, plan_set, plan_values};

@@ -23,7 +23,7 @@ pub fn lone_set<L: LinkStore>(
     ensures put { result ≡ lone.lone_put (reading model.now) (Set node feature value.now) }
     ensures plan { IfSome result (λ p. IsPlanOf false model.now (Set node feature value.now) (lone.of_put p)) }
 {
-    model.is_legal();
+    model.lemma_is_legal();
     put_of_set(model, at_end(&node, &feature), value)
 }
 
@@ -39,7 +39,7 @@ pub fn lone_add<L: LinkStore>(
     ensures put { result ≡ lone.lone_put (reading model.now) (Add node feature value.now index) }
     ensures plan { IfSome result (λ p. IsPlanOf false model.now (Add node feature value.now index) (lone.of_put p)) }
 {
-    model.is_legal();
+    model.lemma_is_legal();
     put_of_add(model, at_end(&node, &feature), value, index)
 }
 
@@ -81,7 +81,7 @@ fn put_of_add<L: LinkStore>(
     if add_late_refusal(model, end, value, index, false).is_some() {
         return None;
     }
-    Some(put_at(model, end, model.place_for(end, index), *object))
+    Some(put_at(model, end, model.position_for(end, index), *object))
 }
 
 fn put_at<L: LinkStore>(model: &ModelRef<L>, end: End, index: u32, object: ObjectNo) -> NewLink

@@ -3,12 +3,12 @@ ghost use Rattle.std.specs.Prelude.{◌≡◌, ◌≤◌, length, map, IfOk};
 ghost use Rattle.std.specs.List.{All, enumerate_from};
 ghost use Rattle.mm_types.specs.declared.limits.TheConstants.{LIST_VALUES};
 ghost use Rattle.models.specs.Model.{reading};
-ghost use Rattle.loading.specs.Fits.{IsNumbered};
+ghost use Rattle.doc_loader.specs.Fits.{IsNumbered};
 ghost use Rattle.handshake.specs.Refusals as refusals;
 ghost use Rattle.handshake.specs.Reports.{root_notice as root_notice_of};
 
+use doc_loader::{contents_end, loaded};
 use links::LinkStore;
-use loading::{contents_end, loaded};
 use mm_types::{End, ObjectNo, Refused, ResourceNo, Value, limits};
 use models::ModelRef;
 use notice_chain::{Chain, Notice, NoticeKind};

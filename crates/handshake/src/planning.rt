@@ -4,35 +4,35 @@ ghost use Rattle.mm_types.specs.Conditions.{◌unless◌, ◌else_by◌};
 ghost use Rattle.mm_types.specs.declared.limits.TheConstants.{OBJECTS};
 ghost use Rattle.mm_types.specs.declared.refused.Refused.TheVariants.{Index, Limit};
 ghost use Rattle.models.specs.Model.{reading};
-ghost use Rattle.models.specs.Reading.{is_repeat, place_for, takes};
+ghost use Rattle.models.specs.Reading.{is_repeat, position_for, takes};
 ghost use Rattle.handshake.specs.Displaced as d;
 ghost use Rattle.handshake.specs.Edits as e;
 ghost use Rattle.handshake.specs.Effects.{value_edits as value_edits_of};
 ghost use Rattle.handshake.specs.Plans.{HasFittingDocument, HasReadDocument, IsPlanOf, IsRemovalOf, Plans};
 ghost use Rattle.handshake.specs.Refusals as refusals;
-ghost use Rattle.handshake.specs.Tellings as t;
+ghost use Rattle.handshake.specs.FeatureChanges as t;
 ghost use Rattle.handshake.specs.declared.change.Change.TheVariants.{Add};
 
 use crate::chain::{lost_notices, notices};
 use crate::change::Change;
 use crate::destroyed::removal_of;
-use crate::displaced::{cut_ties, has_already};
+use crate::displaced::{cut_link_ends, has_already};
 use crate::edits::{link_edits, value_edits};
+use crate::feature_change::feature_changes;
+use crate::link_end::{far_end, opposite_end};
 use crate::loads::{load_refusal, root_notices};
 use crate::planned::Planned;
 use crate::recursion::is_recursive;
 use crate::resolving::{resolve_refusal, target_of};
 use crate::resolving_all::all_resolved;
 use crate::target::Target;
-use crate::telling::tellings;
-use crate::tie::{far_end, opposite_end};
+use doc_loader::contents_end;
 use links::{LinkStore, Plan};
-use loading::contents_end;
 use mm_types::{End, FeatureNo, ObjectNo, Refused, Text, Value, limits};
 use mm_values::ValuePlan;
 use models::{ModelRef, at_end, is_short, is_short_text};
 use notice_chain::Chain;
-use removal::{Removal, Tie};
+use removal::{LinkEnd, Removal};
 use std::alloc::{AllocError, Global};
 
 /// The plan of a change whose class, nodes and features are there, or the first refusal that planning finds. The notices are made only
@@ -77,7 +77,7 @@ fn made<L: LinkStore>(
     requires read { HasReadDocument model.now.metamodel change }
     ensures { IfOk result (IsPlanOf is_heard model.now change) }
 {
-    model.is_legal();
+    model.lemma_is_legal();
     if let Change::ResolveAll = &change {
         return all_resolved(alloc, model, is_heard);
     }
@@ -115,7 +115,7 @@ fn edits_and_notices<L: LinkStore>(
     ensures values { IfOk result (λ p. p.1 ≡ value_edits_of (reading model.now) change) }
     ensures chain { IfOk result (λ p. p.2 ≡ (if is_heard then t.chain (reading model.now) change else [])) }
 {
-    model.is_legal();
+    model.lemma_is_legal();
     let (edits, chain) = links_and_notices(alloc, model, &change, removal, target, is_heard)?;
     let values = value_edits(alloc, model, change, removal)?;
     Ok((edits, values, chain))
@@ -139,9 +139,9 @@ fn links_and_notices<L: LinkStore>(
     ensures edits { IfOk result (λ p. p.0 ≡ e.link_edits (reading model.now) change.now) }
     ensures chain { IfOk result (λ p. p.1 ≡ (if is_heard then t.chain (reading model.now) change.now else [])) }
 {
-    let ties = cut_ties(alloc, model, change, removal, target)?;
-    let chain = heard_chain(alloc, model, change, removal, target, &ties, is_heard)?;
-    let edits = link_edits(alloc, model, ties, change, target)?;
+    let link_ends = cut_link_ends(alloc, model, change, removal, target)?;
+    let chain = heard_chain(alloc, model, change, removal, target, &link_ends, is_heard)?;
+    let edits = link_edits(alloc, model, link_ends, change, target)?;
     Ok((edits, chain))
 }
 
@@ -245,9 +245,9 @@ pub(crate) fn add_late_refusal<L: LinkStore>(
     }
 }
 
-/// Whether an index is past the place after the last value of an end; none is, if none is named.
+/// Whether an index is past the position after the last value of an end; none is, if none is named.
 fn is_past<L: LinkStore>(model: &ModelRef<L>, end: End, index: Option<u32>) -> bool
-    ensures { result ≡ not (nat_le (place_for (reading model.now) end index) (refusals.count_at (reading model.now) end)) }
+    ensures { result ≡ not (nat_le (position_for (reading model.now) end index) (refusals.count_at (reading model.now) end)) }
 {
     match index {
         Some(index) => index > model.len(end),
@@ -382,14 +382,14 @@ fn heard_chain<L: LinkStore>(
     change: &Change,
     removal: &Option<Removal>,
     target: Option<Target>,
-    ties: &[Tie],
+    link_ends: &[LinkEnd],
     is_heard: bool,
 ) -> Result<Chain, AllocError>
     requires asked { refusals.early_refusal (reading model.now) change.now ≡ None }
     requires allowed { refusals.late_refusal (reading model.now) change.now ≡ None }
     requires removal { IsRemovalOf (reading model.now) change.now removal.now }
     requires found { target ≡ t.target_of (reading model.now) change.now }
-    requires cut { ties.now ≡ d.cut_ties (reading model.now) change.now }
+    requires cut { link_ends.now ≡ d.cut_link_ends (reading model.now) change.now }
     requires fits { HasFittingDocument (reading model.now).next change.now }
     requires one { t.resolves_all change.now ≡ false }
     ensures { IfOk result (λ c. c ≡ (if is_heard then t.chain (reading model.now) change.now else [])) }
@@ -397,7 +397,7 @@ fn heard_chain<L: LinkStore>(
     if !is_heard {
         return Ok(Chain::new(alloc));
     }
-    model.is_legal();
+    model.lemma_is_legal();
     if let Some(removal) = removal {
         return lost_notices(alloc, model, removal);
     }
@@ -405,6 +405,6 @@ fn heard_chain<L: LinkStore>(
         let roots = contents_end(model.meta(), *resource);
         return root_notices(alloc, model.next(), roots, doc.roots.as_slice());
     }
-    let tellings = tellings(alloc, model, change, ties, target)?;
-    notices(alloc, model, tellings)
+    let feature_changes = feature_changes(alloc, model, change, link_ends, target)?;
+    notices(alloc, model, feature_changes)
 }

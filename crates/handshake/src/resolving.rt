@@ -12,11 +12,11 @@ ghost use Rattle.web_uris.specs.Addresses.{uri_part};
 ghost use Rattle.handshake.specs.Plans.{looks_first};
 ghost use Rattle.handshake.specs.Refusals as refusals;
 ghost use Rattle.handshake.specs.Resolving as resolving;
-ghost use Rattle.handshake.specs.Tellings as t;
+ghost use Rattle.handshake.specs.FeatureChanges as t;
 
 use crate::change::Change;
+use crate::link_end::{far_end, opposite_end};
 use crate::target::{Counterpart, Target};
-use crate::tie::{far_end, opposite_end};
 use fragment_paths::object_at;
 use links::LinkStore;
 use mm_types::{End, Node, ObjectNo, Refused, Value};

@@ -5,20 +5,20 @@ ghost use Rattle.handshake.specs.Joining as spec;
 ghost use Rattle.handshake.specs.Keys.{has, key_of};
 ghost use Rattle.handshake.specs.Leads.{leads as leads_of};
 ghost use Rattle.handshake.specs.Plans.{IsPlanOf};
-ghost use Rattle.handshake.specs.Telling.{notice_at};
+ghost use Rattle.handshake.specs.FeatureChange.{notice_at};
 ghost use Rattle.handshake.specs.declared.change.Change.TheVariants.{ResolveAll};
 
 use crate::chain::notices;
+use crate::change_kind::FeatureChange;
 use crate::cuts::push_cuts;
-use crate::displaced::{add_counterpart, push_tie};
+use crate::displaced::{add_counterpart, push_link_end};
 use crate::edits::push_joining;
-use crate::happening::Telling;
+use crate::feature_change::push_resolved;
 use crate::joining::{Joint, Progress, resolve_all};
 use crate::keys::{Key, Keys};
 use crate::leads::{Lead, leads};
+use crate::link_end::far_end;
 use crate::planned::{Planned, Resolved};
-use crate::telling::push_resolved;
-use crate::tie::far_end;
 use links::{Edit, LinkStore};
 use mm_types::Seq;
 use mm_values::ValuePlan;
@@ -51,7 +51,7 @@ fn planned<L: LinkStore>(
     requires done { spec.IsDone (reading model.now) progress.now }
     ensures { IfOk result (IsPlanOf is_heard model.now ResolveAll) }
 {
-    model.is_legal();
+    model.lemma_is_legal();
     let joints = progress.joints.as_slice();
     let edits = edits(alloc, model, joints)?;
     let chain = if is_heard {
@@ -96,13 +96,13 @@ fn push_edits<L: LinkStore>(
 ) -> Result<(), AllocError>
     ensures { OnOk result (edits.new.items ≡ edits.old.items ++ spec.edits_by (reading model.now) joint) }
 {
-    let Joint { place, target } = joint;
-    let end = far_end(place.object, place.feature);
-    let mut ties = Vec::new(alloc);
-    push_tie(alloc, end, model.value_in(end, place.index), &mut ties)?;
-    add_counterpart(alloc, model, Some(target), &mut ties)?;
-    push_cuts(alloc, ties, edits)?;
-    push_joining(model, end, place.index, Some(target), edits)
+    let Joint { site, target } = joint;
+    let end = far_end(site.object, site.feature);
+    let mut link_ends = Vec::new(alloc);
+    push_link_end(alloc, end, model.value_in(end, site.index), &mut link_ends)?;
+    add_counterpart(alloc, model, Some(target), &mut link_ends)?;
+    push_cuts(alloc, link_ends, edits)?;
+    push_joining(model, end, site.index, Some(target), edits)
 }
 
 /// The notices that proxies are resolved, each read in the model as it is.
@@ -113,12 +113,12 @@ fn joint_notices<L: LinkStore>(
 ) -> Result<Chain, AllocError>
     ensures { IfOk result (λ c. c ≡ map (notice_at (reading model.now)) (flat_map spec.told_by joints.now)) }
 {
-    let tellings = tellings(alloc, joints)?;
-    notices(alloc, model, tellings)
+    let feature_changes = feature_changes(alloc, joints)?;
+    notices(alloc, model, feature_changes)
 }
 
 /// What happens when proxies are resolved.
-fn tellings(alloc: Global, joints: &[Joint]) -> Result<Vec<Telling>, AllocError>
+fn feature_changes(alloc: Global, joints: &[Joint]) -> Result<Vec<FeatureChange>, AllocError>
     ensures { IfOk result (λ ts. ts.items ≡ flat_map spec.told_by joints.now) }
 {
     let mut out = Vec::new(alloc);
@@ -129,20 +129,20 @@ fn tellings(alloc: Global, joints: &[Joint]) -> Result<Vec<Telling>, AllocError>
 }
 
 /// Adds what happens when a proxy is resolved.
-fn push_told(joint: Joint, out: &mut Vec<Telling>) -> Result<(), AllocError>
+fn push_told(joint: Joint, out: &mut Vec<FeatureChange>) -> Result<(), AllocError>
     ensures { OnOk result (out.new.items ≡ out.old.items ++ spec.told_by joint) }
 {
-    let end = far_end(joint.place.object, joint.place.feature);
-    push_resolved(end, joint.place.index, Some(joint.target), out)
+    let end = far_end(joint.site.object, joint.site.feature);
+    push_resolved(end, joint.site.index, Some(joint.target), out)
 }
 
 /// How many proxies are not gone.
 fn left(leads: &[Lead], gone: &Keys) -> usize
-    ensures { result ≡ length (filter (λ x. not (has gone.now (key_of x.place))) leads.now) }
+    ensures { result ≡ length (filter (λ x. not (has gone.now (key_of x.site))) leads.now) }
 {
     let mut left = 0;
     'leads: for lead in leads {
-        if !gone.contains(Key::of_place(lead.place)) {
+        if !gone.contains(Key::of_site(lead.site)) {
             left += 1;
         }
     }

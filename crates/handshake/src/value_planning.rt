@@ -33,7 +33,7 @@ pub fn plan_values<L: LinkStore>(
     ensures allowed { OnOk result (refusals.late_refusal (reading model.now) change ≡ None) }
     ensures refused { IfErr result (λ r. IsFalse (is_memory_refusal r && looks_first change) → refusals.late_refusal (reading model.now) change ≡ (if is_memory_refusal r then None else Some r)) }
 {
-    model.is_legal();
+    model.lemma_is_legal();
     let target = target_of(alloc, model, &change)?;
     if let Some(refused) = late_refusal(model, &change, target) {
         return Err(refused);

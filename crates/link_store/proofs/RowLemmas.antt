@@ -9,18 +9,18 @@ use Rattle.std.proofs.lemmas.Option.{slice_get_within, none-some, same_Some}
 use Rattle.links.proofs.AmongLemmas.{Among-filter, Among_filter}
 use Rattle.links.proofs.EditLemmas.{Among-map, Among_map, In-remove, In-renumbered, In_remove, In_renumbered}
 use Rattle.links.proofs.EndLemmas.{Among, Among_cases, Among_head, Among_tail, from_list_HasLinks, items_HasLinks}
-use Rattle.links.proofs.ScanLemmas.{find-some, is_value_at-place, is_value_at-true, one_with, same_find, same_links}
+use Rattle.links.proofs.ScanLemmas.{find-some, is_value_at-indexed, is_value_at-true, one_with, same_find, same_links}
 use Rattle.links.specs.LegalSets.{IsPlaced}
 use Rattle.links.specs.Links.{In, Links, cut, cut_some, cut_value, end, lower, lowered_far, new_link, new_proxy, put, put_proxy, raise, renumbered, shift, shifted_index}
 use Rattle.links.specs.Order.{link_cmp_exact, link_cmp_total}
-use Rattle.links.specs.Places.{has_value, is_value_at, moved, place}
-use Rattle.link_store.specs.Rows.{CanChange, CanMove, far_spot, spot}
+use Rattle.links.specs.Indexed.{has_value, is_value_at, moved, indexed}
+use Rattle.link_store.specs.Rows.{CanChange, CanMove, far_position, positions}
 use Rattle.links.specs.declared.link.Far.TheVariants.{At, Alone, Proxy}
 use Rattle.links.specs.declared.link.Far.{Far}
 use Rattle.links.specs.declared.link.Link.{Link}
 use Rattle.link_store.specs.declared.renumbering.Renumbering.TheVariants.{Raise, Lower, Shift}
 use Rattle.link_store.specs.declared.renumbering.Renumbering.{Renumbering}
-use Rattle.link_store.specs.declared.rows.Spot.{Spot}
+use Rattle.link_store.specs.declared.rows.LinkPositions.{LinkPositions}
 use Rattle.mm_types.specs.declared.end.End.{End}
 use Rattle.mm_types.specs.declared.numbers.FeatureNo.{FeatureNo}
 use Rattle.mm_types.specs.declared.numbers.ObjectNo.{ObjectNo}
@@ -44,22 +44,22 @@ unfolding cut_value
 cut_value-rows rows e v placed = ap (cut_some (of_rows rows)) (same_find (of_rows rows) (set.items (of_rows rows)) rows e v placed (items_HasLinks (of_rows rows)) (from_list_HasLinks rows))
 
 -- without the rows that have v in e, the link that had it is gone
-pub of_rows-filter : (rows : List Link) (e : End) (v : Value) (l : Link) → IsPlaced (of_rows rows) → find (has_value e v) rows ≡ Some l → of_rows (filter (λ x. not (is_value_at v (place x e))) rows) ≡ set.remove (of_rows rows) l
+pub of_rows-filter : (rows : List Link) (e : End) (v : Value) (l : Link) → IsPlaced (of_rows rows) → find (has_value e v) rows ≡ Some l → of_rows (filter (λ x. not (is_value_at v (indexed x e))) rows) ≡ set.remove (of_rows rows) l
 of_rows-filter rows e v l placed h =
-    let p : Link → Bool = λ x. not (is_value_at v (place x e)) in
+    let p : Link → Bool = λ x. not (is_value_at v (indexed x e)) in
     let at = find-some rows e v l h in
     let old = from_list_HasLinks rows in
     let new = from_list_HasLinks (filter p rows) in
     same_links _ _
     (λ m q.
     let kept = Among-filter p rows m (new.has m q) in
-    In_remove (of_rows rows) l m (λ same. true≢false (sym (is_value_at-place (place m e) at.1.0 v (subst (λ (x : Link). place x e ≡ Some (at.1.0, v)) (sym same) at.1.1)) ∙ not-true _ kept.1)) (old.only m kept.0))
+    In_remove (of_rows rows) l m (λ same. true≢false (sym (is_value_at-indexed (indexed m e) at.1.0 v (subst (λ (x : Link). indexed x e ≡ Some (at.1.0, v)) (sym same) at.1.1)) ∙ not-true _ kept.1)) (old.only m kept.0))
     (λ m q.
     let left = In-remove (of_rows rows) l m q in
-    new.only m (Among_filter p rows m (old.has m left.1) (not_from_false _ (elim (cases_Bool (is_value_at v (place m e))) [
+    new.only m (Among_filter p rows m (old.has m left.1) (not_from_false _ (elim (cases_Bool (is_value_at v (indexed m e))) [
       | inr is_not ↦ is_not
       | inl is_there ↦
-          let here = is_value_at-true (place m e) v is_there in
+          let here = is_value_at-true (indexed m e) v is_there in
           absurd (left.0 (one_with (of_rows rows) m l e v here.0 at.1.0 placed left.1 (old.only l at.0) here.1 at.1.1))
     ]))))
 
@@ -81,18 +81,18 @@ can_move r (Some p) h = can_change r p.0 (h p.0 p.1 refl)
 pub rows_can_move : (rows : List Link) (r : Renumbering) (e : End) → IsPlaced (of_rows rows) → All (CanMove r e) rows
 rows_can_move rows r e placed i d h =
     let l = get_or rows i d in
-    can_move r (place l e) (λ k v at.
+    can_move r (indexed l e) (λ k v at.
     let within = (from_list_HasLinks rows).only l (Among_get_or rows i d h) in
     let below = slice_get_within (end (of_rows rows) e) k v ((placed.ends e).has k v (l, within, at)) in
     omega (arith, below, placed.few e))
 
 ---------------------------------------------------------------- what the edits of rows leave
 
-pub rows_put : (rows rs ns : List Link) (row : Link) (e : End) (i : ℕ) (n : ObjectNo) (g c : Option FeatureNo) → rs ≡ map (λ l. moved l e (raise i)) rows → row ≡ new_link (of_rows rows) e i n g c → ns ≡ rs ++ row ∷ [] → of_rows ns ≡ put (of_rows rows) e i n g c
+pub rows_put : (rows rs ns : List Link) (link : Link) (e : End) (i : ℕ) (n : ObjectNo) (g c : Option FeatureNo) → rs ≡ map (λ l. moved l e (raise i)) rows → link ≡ new_link (of_rows rows) e i n g c → ns ≡ rs ++ link ∷ [] → of_rows ns ≡ put (of_rows rows) e i n g c
 unfolding put
-rows_put rows rs ns row e i n g c is new push =
+rows_put rows rs ns link e i n g c is new push =
     ap (λ (ls : List Link). of_rows ls) push
-    ∙ set.from_list_push link_cmp_total link_cmp_exact rs row
+    ∙ set.from_list_push link_cmp_total link_cmp_exact rs link
     ∙ (λ j. set.insert ((ap (λ (ls : List Link). of_rows ls) is ∙ of_rows-map rows e (raise i)) j) (new j))
 
 pub rows_shift : (rows rs : List Link) (e : End) (to from : ℕ) → rs ≡ map (λ l. moved l e (shifted_index to from)) rows → of_rows rs ≡ shift (of_rows rows) e to from
@@ -107,13 +107,13 @@ rows_put_proxy rows rs ns e i t is push =
     ∙ ap (λ (s : Links). set.insert s (new_proxy e i t)) (ap (λ (ls : List Link). of_rows ls) is ∙ of_rows-map rows e (raise i))
 
 -- the near end closed up
-near_rows : (rows os rs : List Link) (e : End) (v : Value) (l : Link) → IsPlaced (of_rows rows) → find (has_value e v) rows ≡ Some l → os ≡ filter (λ x. not (is_value_at v (place x e))) rows → rs ≡ map (λ x. moved x l.end (lower l.index)) os → of_rows rs ≡ renumbered (set.remove (of_rows rows) l) l.end (lower l.index)
+near_rows : (rows os rs : List Link) (e : End) (v : Value) (l : Link) → IsPlaced (of_rows rows) → find (has_value e v) rows ≡ Some l → os ≡ filter (λ x. not (is_value_at v (indexed x e))) rows → rs ≡ map (λ x. moved x l.end (lower l.index)) os → of_rows rs ≡ renumbered (set.remove (of_rows rows) l) l.end (lower l.index)
 near_rows rows os rs e v l placed at out is =
     ap (λ (ls : List Link). of_rows ls) is
     ∙ of_rows-map os l.end (lower l.index)
     ∙ ap (λ (s : Links). renumbered s l.end (lower l.index)) (ap (λ (ls : List Link). of_rows ls) out ∙ of_rows-filter rows e v l placed at)
 
-pub rows_cut_far : (rows os rs fs : List Link) (e : End) (v : Value) (l : Link) (d : End) (j : ℕ) → IsPlaced (of_rows rows) → find (has_value e v) rows ≡ Some l → os ≡ filter (λ x. not (is_value_at v (place x e))) rows → rs ≡ map (λ x. moved x l.end (lower l.index)) os → l.far ≡ At d j → fs ≡ map (λ x. moved x d (lower j)) rs → of_rows fs ≡ cut_value (of_rows rows) e v
+pub rows_cut_far : (rows os rs fs : List Link) (e : End) (v : Value) (l : Link) (d : End) (j : ℕ) → IsPlaced (of_rows rows) → find (has_value e v) rows ≡ Some l → os ≡ filter (λ x. not (is_value_at v (indexed x e))) rows → rs ≡ map (λ x. moved x l.end (lower l.index)) os → l.far ≡ At d j → fs ≡ map (λ x. moved x d (lower j)) rs → of_rows fs ≡ cut_value (of_rows rows) e v
 unfolding cut
 rows_cut_far rows os rs fs e v l d j placed at out is far is_far =
     ap (λ (ls : List Link). of_rows ls) is_far
@@ -127,7 +127,7 @@ not_far s (At d j) h = absurd (h d j refl)
 not_far s (Alone n) h = refl
 not_far s (Proxy t) h = refl
 
-pub rows_cut_near : (rows os rs : List Link) (e : End) (v : Value) (l : Link) → IsPlaced (of_rows rows) → find (has_value e v) rows ≡ Some l → os ≡ filter (λ x. not (is_value_at v (place x e))) rows → rs ≡ map (λ x. moved x l.end (lower l.index)) os → ((d : End) (j : ℕ) → l.far ≡ At d j → ⊥) → of_rows rs ≡ cut_value (of_rows rows) e v
+pub rows_cut_near : (rows os rs : List Link) (e : End) (v : Value) (l : Link) → IsPlaced (of_rows rows) → find (has_value e v) rows ≡ Some l → os ≡ filter (λ x. not (is_value_at v (indexed x e))) rows → rs ≡ map (λ x. moved x l.end (lower l.index)) os → ((d : End) (j : ℕ) → l.far ≡ At d j → ⊥) → of_rows rs ≡ cut_value (of_rows rows) e v
 unfolding cut
 rows_cut_near rows os rs e v l placed at out is none_far =
     near_rows rows os rs e v l placed at out is
@@ -139,35 +139,35 @@ rows_cut_none rows e v placed at = sym (cut_value-rows rows e v placed ∙ ap (�
 
 ---------------------------------------------------------------- a cut by the places of its link
 
-found_spot : (o : Option Link) (x : Spot) → option_map spot o ≡ Some x → (l : Link) × (o ≡ Some l) × (spot l ≡ x)
+found_spot : (o : Option Link) (x : LinkPositions) → option_map positions o ≡ Some x → (l : Link) × (o ≡ Some l) × (positions l ≡ x)
 found_spot None x h = absurd (none-some x h)
-found_spot (Some l) x h = (l, refl, same_Some (spot l) x h)
+found_spot (Some l) x h = (l, refl, same_Some (positions l) x h)
 
-no_spot : (o : Option Link) → option_map spot o ≡ None → o ≡ None
+no_spot : (o : Option Link) → option_map positions o ≡ None → o ≡ None
 no_spot None h = refl
-no_spot (Some l) h = absurd (none-some (spot l) (sym h))
+no_spot (Some l) h = absurd (none-some (positions l) (sym h))
 
-far_spot-some : (x : Far) (d : End) (j : ℕ) → far_spot x ≡ Some (d, j) → x ≡ At d j
-far_spot-some (At c i) d j h = let p = same_Some (c, i) (d, j) h in λ t. At (p t).0 (p t).1
-far_spot-some (Alone o) d j h = absurd (none-some _ h)
-far_spot-some (Proxy t) d j h = absurd (none-some _ h)
+far_position-some : (x : Far) (d : End) (j : ℕ) → far_position x ≡ Some (d, j) → x ≡ At d j
+far_position-some (At c i) d j h = let p = same_Some (c, i) (d, j) h in λ t. At (p t).0 (p t).1
+far_position-some (Alone o) d j h = absurd (none-some _ h)
+far_position-some (Proxy t) d j h = absurd (none-some _ h)
 
-far_spot-none : (x : Far) → far_spot x ≡ None → (d : End) (j : ℕ) → x ≡ At d j → ⊥
-far_spot-none x h d j is = none-some (d, j) (sym h ∙ ap far_spot is)
+far_position-none : (x : Far) → far_position x ≡ None → (d : End) (j : ℕ) → x ≡ At d j → ⊥
+far_position-none x h d j is = none-some (d, j) (sym h ∙ ap far_position is)
 
-module _ (rows os rs : List Link) (e : End) (v : Value) (x : Spot) (placed : IsPlaced (of_rows rows)) (at : option_map spot (find (has_value e v) rows) ≡ Some x) (out : os ≡ filter (λ l. not (has_value e v l)) rows) (is : rs ≡ map (λ l. moved l x.end (lower x.index)) os) where
-  near_is : (l : Link) → spot l ≡ x → rs ≡ map (λ k. moved k l.end (lower l.index)) os
-  near_is l same = subst (λ (y : Spot). rs ≡ map (λ k. moved k y.end (lower y.index)) os) (sym same) is
+module _ (rows os rs : List Link) (e : End) (v : Value) (x : LinkPositions) (placed : IsPlaced (of_rows rows)) (at : option_map positions (find (has_value e v) rows) ≡ Some x) (out : os ≡ filter (λ l. not (has_value e v l)) rows) (is : rs ≡ map (λ l. moved l x.end (lower x.index)) os) where
+  near_is : (l : Link) → positions l ≡ x → rs ≡ map (λ k. moved k l.end (lower l.index)) os
+  near_is l same = subst (λ (y : LinkPositions). rs ≡ map (λ k. moved k y.end (lower y.index)) os) (sym same) is
 
   pub spot_cut_far : (fs : List Link) (d : End) (j : ℕ) → x.far ≡ Some (d, j) → fs ≡ map (λ l. moved l d (lower j)) rs → of_rows fs ≡ cut_value (of_rows rows) e v
   spot_cut_far fs d j far is_far =
       let found = found_spot (find (has_value e v) rows) x at in
-      rows_cut_far rows os rs fs e v found.0 d j placed found.1 out (near_is found.0 found.2) (far_spot-some found.0.far d j (ap (λ (y : Spot). y.far) found.2 ∙ far)) is_far
+      rows_cut_far rows os rs fs e v found.0 d j placed found.1 out (near_is found.0 found.2) (far_position-some found.0.far d j (ap (λ (y : LinkPositions). y.far) found.2 ∙ far)) is_far
 
   pub spot_cut_near : x.far ≡ None → of_rows rs ≡ cut_value (of_rows rows) e v
   spot_cut_near far =
       let found = found_spot (find (has_value e v) rows) x at in
-      rows_cut_near rows os rs e v found.0 placed found.1 out (near_is found.0 found.2) (far_spot-none found.0.far (ap (λ (y : Spot). y.far) found.2 ∙ far))
+      rows_cut_near rows os rs e v found.0 placed found.1 out (near_is found.0 found.2) (far_position-none found.0.far (ap (λ (y : LinkPositions). y.far) found.2 ∙ far))
 
-pub spot_cut_none : (rows : List Link) (e : End) (v : Value) → IsPlaced (of_rows rows) → option_map spot (find (has_value e v) rows) ≡ None → of_rows rows ≡ cut_value (of_rows rows) e v
+pub spot_cut_none : (rows : List Link) (e : End) (v : Value) → IsPlaced (of_rows rows) → option_map positions (find (has_value e v) rows) ≡ None → of_rows rows ≡ cut_value (of_rows rows) e v
 spot_cut_none rows e v placed at = rows_cut_none rows e v placed (no_spot (find (has_value e v) rows) at)

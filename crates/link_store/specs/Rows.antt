@@ -1,4 +1,4 @@
--- Rows of links, as a plain store keeps them: what a scan finds, and how a row is renumbered.
+-- Rows of links, as a plain store keeps them: what a scan finds, and how a link is renumbered.
 use Rattle.std.specs.Prelude.{ℕ, ◌+◌, ◌<◌, ◌^◌, ⊤, ◌++◌, ◌==◌, Bool, true, false, List, [], ◌∷◌, fold, insert, Option, Some, None, MatchOption, option_and_then, if◌then◌else◌}
 use Rattle.std.specs.Option.{option_map, option_map_or}
 use Rattle.std.specs.List.{prefix_len}
@@ -13,11 +13,11 @@ use Rattle.links.specs.declared.link.Far.TheVariants.{At, Alone, Proxy}
 use Rattle.links.specs.declared.link.Link.{Link}
 use Rattle.link_store.specs.declared.renumbering.Renumbering.{Renumbering}
 use Rattle.link_store.specs.declared.renumbering.Renumbering.TheVariants.{Raise, Lower, Shift}
-use Rattle.link_store.specs.declared.rows.Spot.{Spot}
+use Rattle.link_store.specs.declared.rows.LinkPositions.{LinkPositions}
 use Rattle.links.specs.Holders.{is_far_node}
-use Rattle.links.specs.Found.{places_by}
+use Rattle.links.specs.Found.{entries_by}
 use Rattle.links.specs.Links.{lower, object_of, raise, shifted_index, text_of}
-use Rattle.links.specs.Places.{has_value, place}
+use Rattle.links.specs.Indexed.{has_value, indexed}
 
 abbrev pub changed_index : Renumbering → ℕ → ℕ
 changed_index (Raise i) k = raise i k
@@ -32,7 +32,7 @@ CanChange (Shift to from) k = k + 1 < 2 ^ 32
 
 -- the link's position in e can change so
 abbrev pub CanMove : Renumbering → End → Link → Type 0
-CanMove r e l = MatchOption (place l e) ⊤ (λ p. CanChange r p.0)
+CanMove r e l = MatchOption (indexed l e) ⊤ (λ p. CanChange r p.0)
 
 abbrev pub index_of : Option (ℕ × Value) → Option ℕ
 index_of p = option_map (λ q. q.0) p
@@ -40,38 +40,38 @@ index_of p = option_map (λ q. q.0) p
 -- the position of the first of the links that has v in e
 abbrev pub position_in : List Link → End → Value → Option ℕ
 position_in [] e v = None
-position_in (l ∷ ls) e v = if has_value e v l then index_of (place l e) else position_in ls e v
+position_in (l ∷ ls) e v = if has_value e v l then index_of (indexed l e) else position_in ls e v
 
--- k is the position of a place
+-- k is the position of a position
 abbrev pub is_index : ℕ → Option (ℕ × Value) → Bool
 is_index k p = option_map_or (λ q. q.0 == k) p false
 
--- the object at a place
+-- the object at a position
 abbrev pub object_on : Option (ℕ × Value) → Option ObjectNo
 object_on p = option_and_then (λ (q : ℕ × Value). object_of q.1) p
 
 -- the object of the first of the links that stands at position k of e
 abbrev pub first_object : List Link → End → ℕ → Option ObjectNo
 first_object [] e k = None
-first_object (l ∷ ls) e k = if is_index k (place l e) then object_on (place l e) else first_object ls e k
+first_object (l ∷ ls) e k = if is_index k (indexed l e) then object_on (indexed l e) else first_object ls e k
 
--- the text of the proxy at a place
+-- the text of the proxy at a position
 abbrev pub text_on : Option (ℕ × Value) → Option (List ℕ)
 text_on p = option_and_then (λ (q : ℕ × Value). text_of q.1) p
 
 -- the text of the first of the links that stands at position k of e
 abbrev pub first_text : List Link → End → ℕ → Option (List ℕ)
 first_text [] e k = None
-first_text (l ∷ ls) e k = if is_index k (place l e) then text_on (place l e) else first_text ls e k
+first_text (l ∷ ls) e k = if is_index k (indexed l e) then text_on (indexed l e) else first_text ls e k
 
-abbrev pub far_spot : Far → Option (End × ℕ)
-far_spot (At d j) = Some (d, j)
-far_spot (Alone o) = None
-far_spot (Proxy t) = None
+abbrev pub far_position : Far → Option (End × ℕ)
+far_position (At d j) = Some (d, j)
+far_position (Alone o) = None
+far_position (Proxy t) = None
 
--- the places of a link
-abbrev pub spot : Link → Spot
-spot l = record { end = l.end; index = l.index; far = far_spot l.far }
+-- the positions of a link
+abbrev pub positions : Link → LinkPositions
+positions l = record { end = l.end; index = l.index; far = far_position l.far }
 
 ---------------------------------------------------------------- what has a node
 
@@ -94,4 +94,4 @@ ends_with (l ∷ ls) n = ends_to l n ++ ends_with ls n
 
 -- where each of the ends has v first
 abbrev pub places_in : List Link → List End → Value → List Incoming
-places_in ls es v = places_by (λ e. position_in ls e v) es
+places_in ls es v = entries_by (λ e. position_in ls e v) es

@@ -1,7 +1,7 @@
 //! The places of an object.
 ghost use Rattle.std.specs.Prelude.{◌≡◌, ◌++◌, IfOk, OnOk};
 ghost use Rattle.link_store.specs.Rows.{places_in};
-ghost use Rattle.links.specs.Found.{place_if};
+ghost use Rattle.links.specs.Found.{entry_if};
 
 use crate::rows::position_of;
 use links::{Incoming, Link};
@@ -9,7 +9,7 @@ use mm_types::{End, Value};
 use std::alloc::{AllocError, Global};
 
 fn push_place(position: Option<u32>, end: End, out: &mut Vec<Incoming>) -> Result<(), AllocError>
-    ensures { OnOk result (out.new.items ≡ out.old.items ++ place_if end position) }
+    ensures { OnOk result (out.new.items ≡ out.old.items ++ entry_if end position) }
 {
     if let Some(position) = position {
         out.push(Incoming {

@@ -4,25 +4,25 @@ ghost use Rattle.std.specs.List.{All};
 ghost use Rattle.std.specs.Prelude.{◌≡◌, ◌+◌, ◌<◌, ◌≤◌, not, map, filter, vec_len, vec_capacity};
 ghost use Rattle.links.specs.LegalSets.{IsPlaced};
 ghost use Rattle.links.specs.Links.{cut_value, joined, new_link, put_proxy, shift};
-ghost use Rattle.links.specs.Places.{has_value, moved};
+ghost use Rattle.links.specs.Indexed.{has_value, moved};
 ghost use Rattle.links.specs.Plans.{edited, put_edit};
 ghost use Rattle.link_store.specs.Rows.{CanMove, changed_index};
 
 use crate::renumbering::Renumbering;
-use crate::rows::{has, len_of, spot_of};
+use crate::rows::{has, len_of, positions_of};
 use links::{Edit, Far, Link, NewLink};
 use mm_types::{End, FeatureNo, Node, ObjectNo, Text, Value};
 
-/// Changes the row's position in an end.
-fn move_row(row: &mut Link, end: End, by: Renumbering)
-    requires { CanMove by end row.old }
-    ensures { row.new ≡ moved row.old end (changed_index by) }
+/// Changes the link's position in an end.
+fn move_row(link: &mut Link, end: End, by: Renumbering)
+    requires { CanMove by end link.old }
+    ensures { link.new ≡ moved link.old end (changed_index by) }
 {
-    if row.end == end {
-        row.index = by.changed(row.index);
-    } else if let Far::At(d, j) = row.far {
+    if link.end == end {
+        link.index = by.changed(link.index);
+    } else if let Far::At(d, j) = link.far {
         if d == end {
-            row.far = Far::At(d, by.changed(j));
+            link.far = Far::At(d, by.changed(j));
         }
     }
 }
@@ -34,8 +34,8 @@ fn renumber(rows: &mut Vec<Link>, end: End, by: Renumbering)
     ensures len { vec_len rows.new ≡ vec_len rows.old }
     ensures capacity { vec_capacity rows.new ≡ vec_capacity rows.old }
 {
-    for row in rows.iter_mut() {
-        move_row(row, end, by);
+    for link in rows.iter_mut() {
+        move_row(link, end, by);
     }
 }
 
@@ -62,10 +62,10 @@ fn cut_row(rows: &mut Vec<Link>, end: End, value: &Value)
     ensures len { vec_len rows.new ≤ vec_len rows.old }
     ensures capacity { vec_capacity rows.new ≡ vec_capacity rows.old }
 {
-    if let Some(spot) = spot_of(rows, end, value) {
+    if let Some(positions) = positions_of(rows, end, value) {
         take_out(rows, end, value);
-        renumber(rows, spot.end, Renumbering::Lower(spot.index));
-        if let Some((d, j)) = spot.far {
+        renumber(rows, positions.end, Renumbering::Lower(positions.index));
+        if let Some((d, j)) = positions.far {
             renumber(rows, d, Renumbering::Lower(j));
         }
     }
@@ -142,14 +142,14 @@ fn put_proxy_row(rows: &mut Vec<Link>, end: End, index: u32, text: Text)
     ensures len { vec_len rows.new ≡ vec_len rows.old + 1 }
     ensures capacity { vec_capacity rows.new ≡ vec_capacity rows.old }
 {
-    let row = Link {
+    let link = Link {
         end,
         index,
         far: Far::Proxy(text),
         container: None,
     };
     renumber(rows, end, Renumbering::Raise(index));
-    rows.push_reserved(row);
+    rows.push_reserved(link);
 }
 
 /// Moves what is at a position of an end.

@@ -9,7 +9,7 @@ use links::{Incoming, Link, LinkStore, NewLink, Plan, put_in_order};
 use mm_types::{End, Node, ObjectNo, Value};
 use std::alloc::{AllocError, Global};
 
-/// Links in a row, each found by a scan of all.
+/// Links in a list, each found by a scan of all.
 #[derive(Debug, Drop)]
 pub struct RowStore {
     rows: Vec<Link>,

@@ -5,7 +5,7 @@ use Rattle.links.proofs.EditLemmas.{In-remove, In-renumbered}
 use Rattle.links.proofs.PlaceLemmas.{bare-moved, far_value-bare}
 use Rattle.links.specs.Holders.{held_through, holding}
 use Rattle.links.specs.Links.{In, Links, cut, lower, lowered_far, renumbered}
-use Rattle.links.specs.Places.{bare, bare_far, far_place, far_value, is_value_at, place}
+use Rattle.links.specs.Indexed.{bare, bare_far, far_indexed, far_value, is_value_at, indexed}
 use Rattle.links.specs.declared.link.Far.TheVariants.{At, Alone, Proxy}
 use Rattle.links.specs.declared.link.Far.{Far}
 use Rattle.links.specs.declared.link.Link.{Link}
@@ -15,20 +15,20 @@ use Rattle.mm_types.specs.declared.numbers.FeatureNo.{FeatureNo}
 use Rattle.mm_types.specs.declared.numbers.Node.{Node}
 use Rattle.mm_types.specs.declared.value.Value.{Value}
 
-far_has-bare : (x : Far) (w : Value) (d : End) (v : Value) → is_value_at v (far_place (bare_far x) w d) ≡ is_value_at v (far_place x w d)
+far_has-bare : (x : Far) (w : Value) (d : End) (v : Value) → is_value_at v (far_indexed (bare_far x) w d) ≡ is_value_at v (far_indexed x w d)
 far_has-bare (At c j) w d v = elim (same_end c d) as (λ b. is_value_at v (if b then Some (0, w) else None) ≡ is_value_at v (if b then Some (j, w) else None)) [ true ↦ refl | false ↦ refl ]
 far_has-bare (Alone n) w d v = refl
 far_has-bare (Proxy t) w d v = refl
 
-has-bare : (l : Link) (d : End) (v : Value) → is_value_at v (place (bare l) d) ≡ is_value_at v (place l d)
+has-bare : (l : Link) (d : End) (v : Value) → is_value_at v (indexed (bare l) d) ≡ is_value_at v (indexed l d)
 has-bare l d v =
-    elim (same_end l.end d) as (λ b. is_value_at v (if b then Some (0, far_value (bare_far l.far)) else far_place (bare_far l.far) (node_value l.end.node) d) ≡ is_value_at v (if b then Some (l.index, far_value l.far) else far_place l.far (node_value l.end.node) d)) [
+    elim (same_end l.end d) as (λ b. is_value_at v (if b then Some (0, far_value (bare_far l.far)) else far_indexed (bare_far l.far) (node_value l.end.node) d) ≡ is_value_at v (if b then Some (l.index, far_value l.far) else far_indexed l.far (node_value l.end.node) d)) [
       | true ↦ ap (λ (w : Value). same_value w v) (far_value-bare l.far)
       | false ↦ far_has-bare l.far (node_value l.end.node) d v
     ]
 
-pub same_has : (k l : Link) (d : End) (v : Value) → bare k ≡ bare l → is_value_at v (place k d) ≡ is_value_at v (place l d)
-same_has k l d v same = sym (has-bare k d v) ∙ ap (λ (x : Link). is_value_at v (place x d)) same ∙ has-bare l d v
+pub same_has : (k l : Link) (d : End) (v : Value) → bare k ≡ bare l → is_value_at v (indexed k d) ≡ is_value_at v (indexed l d)
+same_has k l d v same = sym (has-bare k d v) ∙ ap (λ (x : Link). is_value_at v (indexed x d)) same ∙ has-bare l d v
 
 holding-bare : (l : Link) (n : Node) → holding (bare l) n ≡ holding l n
 holding-bare l n = through l.container

@@ -13,7 +13,7 @@ use Rattle.links.specs.LegalSets.{HasTwoSides, IsDistinct, IsEnd, IsPlaced, most
 use Rattle.links.specs.Links.{In, Links, cut, end, lower, lowered_far, renumbered, shift, shifted_index, without}
 use Rattle.mm_types.specs.Lists.{shifted}
 use Rattle.links.specs.Order.{link_cmp}
-use Rattle.links.specs.Places.{far_value, place}
+use Rattle.links.specs.Indexed.{far_value, indexed}
 use Rattle.links.specs.declared.link.Far.TheVariants.{At, Alone, Proxy}
 use Rattle.links.specs.declared.link.Far.{Far}
 use Rattle.links.specs.declared.link.Link.{Link}
@@ -26,20 +26,20 @@ use Rattle.mm_types.specs.declared.value.Value.{Value}
 ---------------------------------------------------------------- cut
 
 -- where a link stands, by its two sides
-pub place_near : (l : Link) → place l l.end ≡ Some (l.index, far_value l.far)
-place_near l = rw (same_end-self l.end) refl
+pub indexed_near : (l : Link) → indexed l l.end ≡ Some (l.index, far_value l.far)
+indexed_near l = rw (same_end-self l.end) refl
 
-pub place_at : (l : Link) (c : End) (j : ℕ) → l.far ≡ At c j → l.end ≢ c → place l c ≡ Some (j, node_value l.end.node)
-place_at l c j h ne = let other = ne-same_end l.end c ne in rw (other, h, same_end-self c) refl
+pub indexed_at : (l : Link) (c : End) (j : ℕ) → l.far ≡ At c j → l.end ≢ c → indexed l c ≡ Some (j, node_value l.end.node)
+indexed_at l c j h ne = let other = ne-same_end l.end c ne in rw (other, h, same_end-self c) refl
 
-pub place_out : (l : Link) (c d : End) (j : ℕ) → l.far ≡ At c j → l.end ≢ d → c ≢ d → place l d ≡ None
-place_out l c d j h ne_e ne_c = let oe = ne-same_end l.end d ne_e in let oc = ne-same_end c d ne_c in rw (oe, h, oc) refl
+pub indexed_out : (l : Link) (c d : End) (j : ℕ) → l.far ≡ At c j → l.end ≢ d → c ≢ d → indexed l d ≡ None
+indexed_out l c d j h ne_e ne_c = let oe = ne-same_end l.end d ne_e in let oc = ne-same_end c d ne_c in rw (oe, h, oc) refl
 
-pub place_alone : (l : Link) (d : End) (n : ObjectNo) → l.far ≡ Alone n → l.end ≢ d → place l d ≡ None
-place_alone l d n h ne = let other = ne-same_end l.end d ne in rw (other, h) refl
+pub indexed_alone : (l : Link) (d : End) (n : ObjectNo) → l.far ≡ Alone n → l.end ≢ d → indexed l d ≡ None
+indexed_alone l d n h ne = let other = ne-same_end l.end d ne in rw (other, h) refl
 
-pub place_proxy : (l : Link) (d : End) (t : List ℕ) → l.far ≡ Proxy t → l.end ≢ d → place l d ≡ None
-place_proxy l d t h ne = let other = ne-same_end l.end d ne in rw (other, h) refl
+pub indexed_proxy : (l : Link) (d : End) (t : List ℕ) → l.far ≡ Proxy t → l.end ≢ d → indexed l d ≡ None
+indexed_proxy l d t h ne = let other = ne-same_end l.end d ne in rw (other, h) refl
 
 module _ (s : Links) (placed : IsPlaced s) (l : Link) (within : In l s) where
   -- the set without the link, and then with the near end closed up
@@ -50,53 +50,53 @@ module _ (s : Links) (placed : IsPlaced s) (l : Link) (within : In l s) where
   near = renumbered less l.end (lower l.index)
 
   near_end : IsEnd near l.end (remove (end s l.end) l.index)
-  near_end = IsEnd-lower less l.end (end s l.end) l.index (IsGapped-remove s l l.end (end s l.end) l.index (far_value l.far) placed within (place_near l) (placed.ends l.end))
+  near_end = IsEnd-lower less l.end (end s l.end) l.index (IsGapped-remove s l l.end (end s l.end) l.index (far_value l.far) placed within (indexed_near l) (placed.ends l.end))
 
-  other_end : (d : End) → l.end ≢ d → place l d ≡ None → IsEnd near d (end s d)
+  other_end : (d : End) → l.end ≢ d → indexed l d ≡ None → IsEnd near d (end s d)
   other_end d ne out = IsEnd-renumbered_other less d l.end (lower l.index) (end s d) (λ h. ne (sym h)) (IsEnd-remove_none s l d (end s d) out (placed.ends d))
 
   far_gap : (c : End) (j : ℕ) → l.far ≡ At c j → l.end ≢ c → IsGapped near c (end s c) j
-  far_gap c j h ne = IsGapped-renumbered_other less c l.end (lower l.index) (end s c) j (λ e. ne (sym e)) (IsGapped-remove s l c (end s c) j (node_value l.end.node) placed within (place_at l c j h ne) (placed.ends c))
+  far_gap c j h ne = IsGapped-renumbered_other less c l.end (lower l.index) (end s c) j (λ e. ne (sym e)) (IsGapped-remove s l c (end s c) j (node_value l.end.node) placed within (indexed_at l c j h ne) (placed.ends c))
 
   apart_at : (c : End) (j : ℕ) → l.far ≡ At c j → l.end ≢ c
   apart_at c j h same = (subst (λ (x : Far). HasTwoSides l.end x) h (placed.sides l within)).0 (λ i. (sym same i).feature.0)
 
   -- where the far side stands nowhere
-  one_end : (d : End) → (l.end ≢ d → place l d ≡ None) → IsEnd near d (without (end s d) (place l d))
+  one_end : (d : End) → (l.end ≢ d → indexed l d ≡ None) → IsEnd near d (without (end s d) (indexed l d))
   one_end d out = elim (cases_end l.end d) [
-    | inl same ↦ subst (λ (y : End). IsEnd near y (without (end s y) (place l y))) same (subst (λ (o : Option (ℕ × Value)). IsEnd near l.end (without (end s l.end) o)) (sym (place_near l)) near_end)
+    | inl same ↦ subst (λ (y : End). IsEnd near y (without (end s y) (indexed l y))) same (subst (λ (o : Option (ℕ × Value)). IsEnd near l.end (without (end s l.end) o)) (sym (indexed_near l)) near_end)
     | inr ne ↦ subst (λ (o : Option (ℕ × Value)). IsEnd near d (without (end s d) o)) (sym (out ne)) (other_end d ne (out ne))
   ]
 
-  cut_end : (x : Far) → l.far ≡ x → (d : End) → IsEnd (lowered_far near x) d (without (end s d) (place l d))
+  cut_end : (x : Far) → l.far ≡ x → (d : End) → IsEnd (lowered_far near x) d (without (end s d) (indexed l d))
   cut_end (At c j) h d = elim (cases_end l.end d) [
-    | inl same ↦ subst (λ (y : End). IsEnd (renumbered near c (lower j)) y (without (end s y) (place l y))) same
-        (subst (λ (o : Option (ℕ × Value)). IsEnd (renumbered near c (lower j)) l.end (without (end s l.end) o)) (sym (place_near l))
+    | inl same ↦ subst (λ (y : End). IsEnd (renumbered near c (lower j)) y (without (end s y) (indexed l y))) same
+        (subst (λ (o : Option (ℕ × Value)). IsEnd (renumbered near c (lower j)) l.end (without (end s l.end) o)) (sym (indexed_near l))
         (IsEnd-renumbered_other near l.end c (lower j) (remove (end s l.end) l.index) (apart_at c j h) near_end))
     | inr ne ↦ elim (cases_end c d) [
-      | inl same ↦ subst (λ (y : End). IsEnd (renumbered near c (lower j)) y (without (end s y) (place l y))) same
-          (subst (λ (o : Option (ℕ × Value)). IsEnd (renumbered near c (lower j)) c (without (end s c) o)) (sym (place_at l c j h (apart_at c j h)))
+      | inl same ↦ subst (λ (y : End). IsEnd (renumbered near c (lower j)) y (without (end s y) (indexed l y))) same
+          (subst (λ (o : Option (ℕ × Value)). IsEnd (renumbered near c (lower j)) c (without (end s c) o)) (sym (indexed_at l c j h (apart_at c j h)))
           (IsEnd-lower near c (end s c) j (far_gap c j h (apart_at c j h))))
       | inr ne_c ↦
-          let out = place_out l c d j h ne ne_c in
+          let out = indexed_out l c d j h ne ne_c in
           subst (λ (o : Option (ℕ × Value)). IsEnd (renumbered near c (lower j)) d (without (end s d) o)) (sym out)
           (IsEnd-renumbered_other near d c (lower j) (end s d) (λ e. ne_c (sym e)) (other_end d ne out))
     ]
   ]
-  cut_end (Alone n) h d = one_end d (λ ne. place_alone l d n h ne)
-  cut_end (Proxy t) h d = one_end d (λ ne. place_proxy l d t h ne)
+  cut_end (Alone n) h d = one_end d (λ ne. indexed_alone l d n h ne)
+  cut_end (Proxy t) h d = one_end d (λ ne. indexed_proxy l d t h ne)
 
-  IsEnd-cut : (d : End) → IsEnd (cut s l) d (without (end s d) (place l d))
+  IsEnd-cut : (d : End) → IsEnd (cut s l) d (without (end s d) (indexed l d))
   unfolding cut
   IsEnd-cut d = cut_end l.far refl d
 
   -- each end loses what stood there
-  pub end-cut : (d : End) → end (cut s l) d ≡ without (end s d) (place l d)
-  end-cut d = end_is (cut s l) d (without (end s d) (place l d)) (IsEnd-cut d)
+  pub end-cut : (d : End) → end (cut s l) d ≡ without (end s d) (indexed l d)
+  end-cut d = end_is (cut s l) d (without (end s d) (indexed l d)) (IsEnd-cut d)
 
   near_apart : KeepsApart less l.end (lower l.index)
   near_apart j k v w a b h =
-      let gap = IsGapped-remove s l l.end (end s l.end) l.index (far_value l.far) placed within (place_near l) (placed.ends l.end) in
+      let gap = IsGapped-remove s l l.end (end s l.end) l.index (far_value l.far) placed within (indexed_near l) (placed.ends l.end) in
       lists.lower_injective l.index j k (gap.has j v a).1 (gap.has k w b).1 h
 
   near_once : IsOnce near
@@ -127,7 +127,7 @@ module _ (s : Links) (placed : IsPlaced s) (l : Link) (within : In l s) where
 
   pub cut_placed : IsPlaced (cut s l)
   unfolding cut
-  cut_placed = placed_from (cut s l) (λ d. (without (end s d) (place l d), IsEnd-cut d, without_distinct (end s d) (place l d) (placed.distinct d), without_few (end s d) (place l d) (placed.few d))) (cut_once l.far refl) (cut_apart l.far)
+  cut_placed = placed_from (cut s l) (λ d. (without (end s d) (indexed l d), IsEnd-cut d, without_distinct (end s d) (indexed l d) (placed.distinct d), without_few (end s d) (indexed l d) (placed.few d))) (cut_once l.far refl) (cut_apart l.far)
 
 ---------------------------------------------------------------- shift
 

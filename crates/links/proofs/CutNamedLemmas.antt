@@ -11,16 +11,16 @@ use Rattle.links.proofs.CycleLemmas.{cut_less, cut_value_no_cycle}
 use Rattle.links.proofs.EndLemmas.{items_HasLinks}
 use Rattle.links.proofs.FilterLemmas.{filter_all, filter_from, filter_keeps, filter_twice, length-filter_le, remove-filter}
 use Rattle.links.proofs.ForestLemmas.{HoldsLess, under_less}
-use Rattle.links.proofs.HolderLemmas.{holder-cut, holder-some, place_held, test_some, unheld}
+use Rattle.links.proofs.HolderLemmas.{holder-cut, holder-some, indexed_held, test_some, unheld}
 use Rattle.links.proofs.KindLemmas.{kinds_cut_value}
 use Rattle.links.proofs.LegalLemmas.{cut_value_legal}
-use Rattle.links.proofs.NamedLemmas.{named-value, names_nothing, place-named, value-named}
-use Rattle.links.proofs.ScanLemmas.{cut_value_is, find-none, find-some, is_value_at-place, is_value_at-true, one_with}
+use Rattle.links.proofs.NamedLemmas.{named-value, names_nothing, indexed-named, value-named}
+use Rattle.links.proofs.ScanLemmas.{cut_value_is, find-none, find-some, is_value_at-indexed, is_value_at-true, one_with}
 use Rattle.links.specs.Holders.{HasNoCycle, above, holder, holding}
 use Rattle.links.specs.Laws.{AreOnce, AreThere, cut_edit, cut_edits, is_named, kept_holder, names, without_all}
 use Rattle.links.specs.LegalSets.{AreKinds, AreOfKind, HasTwoSides, IsLegalSet, IsObject, IsPlaced, Kinds}
 use Rattle.links.specs.Links.{In, Links, cut, cut_some, cut_value, end, without}
-use Rattle.links.specs.Places.{far_place, far_value, has_value, is_value_at, place}
+use Rattle.links.specs.Indexed.{far_indexed, far_value, has_value, is_value_at, indexed}
 use Rattle.links.specs.Plans.{EditFits, Has, IsEditOfKind, IsPlanOfKind, Lacks, MakesNoCycle, PlanFits, PlanMakesNoCycle, applied, edited}
 use Rattle.links.specs.declared.link.Far.TheVariants.{At, Alone, Proxy}
 use Rattle.links.specs.declared.link.Far.{Far}
@@ -33,19 +33,19 @@ use Rattle.mm_types.specs.declared.value.Value.TheVariants as value
 use Rattle.mm_types.specs.declared.value.Value.{Value}
 
 -- a name is that of a link, which is cut, or of none
-pub cut_value-cases : (s : Links) → IsPlaced s → (e : End) (v : Value) → ((l : Link) × (k : ℕ) × In l s × (place l e ≡ Some (k, v)) × (cut_value s e v ≡ cut s l)) ⊎ ((cut_value s e v ≡ s) × Lacks s e v)
+pub cut_value-cases : (s : Links) → IsPlaced s → (e : End) (v : Value) → ((l : Link) × (k : ℕ) × In l s × (indexed l e ≡ Some (k, v)) × (cut_value s e v ≡ cut s l)) ⊎ ((cut_value s e v ≡ s) × Lacks s e v)
 unfolding cut_value
 cut_value-cases s placed e v =
-    elim (find (has_value e v) (set.items s)) as (λ o. find (has_value e v) (set.items s) ≡ o → ((l : Link) × (k : ℕ) × In l s × (place l e ≡ Some (k, v)) × (cut_some s o ≡ cut s l)) ⊎ ((cut_some s o ≡ s) × Lacks s e v)) [
+    elim (find (has_value e v) (set.items s)) as (λ o. find (has_value e v) (set.items s) ≡ o → ((l : Link) × (k : ℕ) × In l s × (indexed l e ≡ Some (k, v)) × (cut_some s o ≡ cut s l)) ⊎ ((cut_some s o ≡ s) × Lacks s e v)) [
       | None ↦ λ h. inr (refl, λ k at. let st = (placed.ends e).only k v at in find-none (set.items s) e v st.0 k h ((items_HasLinks s).has st.0 st.1) st.2)
       | Some l ↦ λ h. let found = find-some (set.items s) e v l h in inl (l, found.1.0, (items_HasLinks s).only l found.0, found.1.1, refl)
     ] refl
 
 -- without one link, an end keeps what that link does not have in it
-pub end-cut_filter : (s : Links) → IsPlaced s → (l : Link) → In l s → (d : End) → end (cut s l) d ≡ filter (λ w. not (is_value_at w (place l d))) (end s d)
+pub end-cut_filter : (s : Links) → IsPlaced s → (l : Link) → In l s → (d : End) → end (cut s l) d ≡ filter (λ w. not (is_value_at w (indexed l d))) (end s d)
 end-cut_filter s placed l within d =
     end-cut s placed l within d
-    ∙ elim (place l d) as (λ o. place l d ≡ o → without (end s d) o ≡ filter (λ w. not (is_value_at w o)) (end s d)) [
+    ∙ elim (indexed l d) as (λ o. indexed l d ≡ o → without (end s d) o ≡ filter (λ w. not (is_value_at w o)) (end s d)) [
       | None ↦ λ h. sym (filter_all (λ w. false) (end s d) (λ k w at. refl))
       | Some p ↦ λ h. remove-filter (end s d) p.0 p.1 (placed.distinct d) ((placed.ends d).has p.0 p.1 (l, within, h))
     ] refl
@@ -54,7 +54,7 @@ end-cut_filter s placed l within d =
 held_stands : (s : Links) → IsPlaced s → (n : Node) (d : End) → holder s n ≡ Some d → Has s d (node_value n)
 held_stands s placed n d h =
     let l = holder-some s n d h in
-    let at = place_held l.0 n d (placed.sides l.0 l.1) l.2 in
+    let at = indexed_held l.0 n d (placed.sides l.0 l.1) l.2 in
     (at.0, (placed.ends d).has at.0 (node_value n) (l.0, l.1, at.1))
 
 -- one link less: fewer holders
@@ -68,7 +68,7 @@ cut_value_less s legal e v n d h = elim (cut_value-cases s legal.placed e v) [
 pub cut_free : (s : Links) → IsLegalSet s → (n : Node) (e : End) → holder s n ≡ Some e → holder (cut_value s e (node_value n)) n ≡ None
 cut_free s legal n e h =
     let l = holder-some s n e h in
-    let at = place_held l.0 n e (legal.placed.sides l.0 l.1) l.2 in
+    let at = indexed_held l.0 n e (legal.placed.sides l.0 l.1) l.2 in
     ap (λ (t : Links). holder t n) (cut_value_is s e (node_value n) l.0 at.0 legal.placed l.1 at.1)
     ∙ holder-cut s legal.placed legal.held l.0 l.1 n
     ∙ ap (λ (o : Option End). unheld o (holder s n)) l.2
@@ -81,7 +81,7 @@ module _ (m : Kinds) (ok : AreKinds m) (s : Links) (legal : IsLegalSet s) (kinds
   end-cut_value d = elim (cut_value-cases s legal.placed e v) [
     | inl (l, k, within, at, is) ↦
         ap (λ (t : Links). end t d) is ∙ end-cut_filter s legal.placed l within d
-        ∙ ap (λ (p : Value → Bool). filter (λ w. not (p w)) (end s d)) (λ i w. place-named m l (kinds l within) (legal.placed.sides l within) e k v at d w i)
+        ∙ ap (λ (p : Value → Bool). filter (λ w. not (p w)) (end s d)) (λ i w. indexed-named m l (kinds l within) (legal.placed.sides l within) e k v at d w i)
     | inr (is, lacks) ↦ ap (λ (t : Links). end t d) is ∙ sym (filter_all (names m e v d) (end s d) (λ j w at. names_nothing m ok s legal kinds e v lacks d w (j, at)))
   ]
 
@@ -90,26 +90,26 @@ module _ (m : Kinds) (ok : AreKinds m) (s : Links) (legal : IsLegalSet s) (kinds
     abbrev kept : Option End → Option End
     kept o = option_and_then (λ (d : End). if names m e v d (node_value n) then None else Some d) o
 
-    unnamed : (l : Link) (k : ℕ) (within : In l s) → place l e ≡ Some (k, v) → (d : End) → holder s n ≡ Some d → names m e v d (node_value n) ≡ false → unheld (holding l n) (Some d) ≡ Some d
+    unnamed : (l : Link) (k : ℕ) (within : In l s) → indexed l e ≡ Some (k, v) → (d : End) → holder s n ≡ Some d → names m e v d (node_value n) ≡ false → unheld (holding l n) (Some d) ≡ Some d
     unnamed l k within at d h q = elim (holding l n) as (λ o. holding l n ≡ o → unheld o (Some d) ≡ Some d) [
       | None ↦ λ _. refl
       | Some x ↦ λ g.
           let j = holder-some s n d h in
           let same = legal.held l j.0 n x d within j.1 g j.2 in
-          let p = place_held l n x (legal.placed.sides l within) g in
-          let stands = is_value_at-place (place l d) p.0 (node_value n) (subst (λ (y : End). place l y ≡ Some (p.0, node_value n)) same p.1) in
+          let p = indexed_held l n x (legal.placed.sides l within) g in
+          let stands = is_value_at-indexed (indexed l d) p.0 (node_value n) (subst (λ (y : End). indexed l y ≡ Some (p.0, node_value n)) same p.1) in
           absurd (true≢false (sym (value-named m l (kinds l within) (legal.placed.sides l within) e k v at d (node_value n) stands) ∙ q))
     ] refl
 
-    named : (l : Link) (k : ℕ) (within : In l s) → place l e ≡ Some (k, v) → (d : End) → holder s n ≡ Some d → names m e v d (node_value n) ≡ true → unheld (holding l n) (Some d) ≡ None
+    named : (l : Link) (k : ℕ) (within : In l s) → indexed l e ≡ Some (k, v) → (d : End) → holder s n ≡ Some d → names m e v d (node_value n) ≡ true → unheld (holding l n) (Some d) ≡ None
     named l k within at d h q =
         let j = holder-some s n d h in
-        let held = place_held j.0 n d (legal.placed.sides j.0 j.1) j.2 in
-        let there = is_value_at-true (place l d) (node_value n) (named-value m l (kinds l within) (legal.placed.sides l within) e k v at d (node_value n) q) in
+        let held = indexed_held j.0 n d (legal.placed.sides j.0 j.1) j.2 in
+        let there = is_value_at-true (indexed l d) (node_value n) (named-value m l (kinds l within) (legal.placed.sides l within) e k v at d (node_value n) q) in
         let same = one_with s l j.0 d (node_value n) there.0 held.0 legal.placed within j.1 there.1 held.1 in
         ap (λ (o : Option End). unheld o (Some d)) (ap (λ (x : Link). holding x n) same ∙ j.2)
 
-    after_cut : (l : Link) (k : ℕ) → In l s → place l e ≡ Some (k, v) → unheld (holding l n) (holder s n) ≡ kept (holder s n)
+    after_cut : (l : Link) (k : ℕ) → In l s → indexed l e ≡ Some (k, v) → unheld (holding l n) (holder s n) ≡ kept (holder s n)
     after_cut l k within at = elim (holder s n) as (λ o. holder s n ≡ o → unheld (holding l n) o ≡ kept o) [
       | None ↦ λ h. elim (holding l n) as (λ o. unheld o None ≡ None) [ None ↦ refl | Some x ↦ refl ]
       | Some d ↦ λ h. elim (names m e v d (node_value n)) as (λ b. names m e v d (node_value n) ≡ b → unheld (holding l n) (Some d) ≡ (if b then None else Some d)) [
@@ -201,20 +201,20 @@ near_linked e (At d j) two = node_linked d.node two.2
 near_linked e (Alone o) two = tt
 near_linked e (Proxy t) two = tt
 
-far_linked : (e d : End) (x : Far) (k : ℕ) (v : Value) → HasTwoSides e x → far_place x (node_value e.node) d ≡ Some (k, v) → IsLinked v
+far_linked : (e d : End) (x : Far) (k : ℕ) (v : Value) → HasTwoSides e x → far_indexed x (node_value e.node) d ≡ Some (k, v) → IsLinked v
 far_linked e d (At c j) k v two at = subst (λ (w : Value). IsLinked w) (λ i. ((test_some (same_end c d) (j, node_value e.node) (k, v) at).1 i).1) (node_linked e.node two.1)
 far_linked e d (Alone o) k v two at = absurd (none-some _ at)
 far_linked e d (Proxy t) k v two at = absurd (none-some _ at)
 
-place_linked : (l : Link) (d : End) (k : ℕ) (v : Value) → HasTwoSides l.end l.far → place l d ≡ Some (k, v) → IsLinked v
-place_linked l d k v two at =
-    elim (same_end l.end d) as (λ b. (if b then Some (l.index, far_value l.far) else far_place l.far (node_value l.end.node) d) ≡ Some (k, v) → IsLinked v) [
+indexed_linked : (l : Link) (d : End) (k : ℕ) (v : Value) → HasTwoSides l.end l.far → indexed l d ≡ Some (k, v) → IsLinked v
+indexed_linked l d k v two at =
+    elim (same_end l.end d) as (λ b. (if b then Some (l.index, far_value l.far) else far_indexed l.far (node_value l.end.node) d) ≡ Some (k, v) → IsLinked v) [
       | true ↦ λ q. subst (λ (w : Value). IsLinked w) (some_pair_parts l.index k (far_value l.far) v q).1 (near_linked l.end l.far two)
       | false ↦ λ q. far_linked l.end d l.far k v two q
     ] at
 
 has_linked : (s : Links) → IsPlaced s → (e : End) (v : Value) → Has s e v → IsLinked v
-has_linked s placed e v has = let st = (placed.ends e).only has.0 v has.1 in place_linked st.0 e has.0 v (placed.sides st.0 st.1) st.2
+has_linked s placed e v has = let st = (placed.ends e).only has.0 v has.1 in indexed_linked st.0 e has.0 v (placed.sides st.0 st.1) st.2
 
 cut_fits : (s : Links) (e : End) (v : Value) → IsLinked v → Has s e v → EditFits s (cut_edit e v)
 cut_fits s e (value.Object o) is has = has

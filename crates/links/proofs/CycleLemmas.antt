@@ -18,7 +18,7 @@ use Rattle.links.specs.Holders.{HasNoCycle, far_holding, held_through, holder, h
 use Rattle.links.specs.LegalSets.{IsHeldOnce, IsLegalSet, IsPlaced}
 use Rattle.links.specs.Links.{In, Links, cut, cut_some, cut_value, new_link, no_links, put, put_proxy, shift}
 use Rattle.links.specs.Order.{link_cmp}
-use Rattle.links.specs.Places.{has_value}
+use Rattle.links.specs.Indexed.{has_value}
 use Rattle.links.specs.Plans.{EditFits, IsOutside, MakesNoCycle, PlanFits, PlanMakesNoCycle, applied, edited}
 use Rattle.links.specs.declared.link.Far.TheVariants.{At, Alone, Proxy}
 use Rattle.links.specs.declared.link.Far.{Far}

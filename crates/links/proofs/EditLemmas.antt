@@ -11,12 +11,12 @@ use Rattle.std.specs.List.{insert, remove}
 use Rattle.std.proofs.lemmas.Bool.{cases_lt, cases_order, cases_eq}
 use Rattle.links.proofs.EndLemmas.{Among, Among_cases, Among_head, Among_tail, from_list_HasLinks, items_HasLinks, not_within, same_itself, same_link}
 use Rattle.links.proofs.ListLemmas as lists
-use Rattle.links.proofs.PlaceLemmas.{Decides-same_end, place-moved, place-moved_other, renumbered_place}
+use Rattle.links.proofs.PlaceLemmas.{Decides-same_end, indexed-moved, indexed-moved_other, renumbered_indexed}
 use Rattle.links.specs.LegalSets.{HasTwoSides, IsEnd, IsPlaced, Stands}
 use Rattle.links.specs.Links.{In, Links, lower, raise, renumbered, shifted_index}
 use Rattle.mm_types.specs.Lists.{put_back, shifted}
 use Rattle.links.specs.Order.{link_cmp, link_cmp_total}
-use Rattle.links.specs.Places.{far_moved, moved, place}
+use Rattle.links.specs.Indexed.{far_moved, moved, indexed}
 use Rattle.links.specs.declared.link.Far.TheVariants.{At, Alone, Proxy}
 use Rattle.links.specs.declared.link.Far.{Far}
 use Rattle.links.specs.declared.link.Link.{Link}
@@ -81,7 +81,7 @@ In_remove s k l ne h =
 ---------------------------------------------------------------- places
 
 -- a renumbered place was one before
-renumbered-some : (r : ℕ → ℕ) (o : Option (ℕ × Value)) (k : ℕ) (v : Value) → option_map (renumbered_place r) o ≡ Some (k, v) → (j : ℕ) × (o ≡ Some (j, v)) × (r j ≡ k)
+renumbered-some : (r : ℕ → ℕ) (o : Option (ℕ × Value)) (k : ℕ) (v : Value) → option_map (renumbered_indexed r) o ≡ Some (k, v) → (j : ℕ) × (o ≡ Some (j, v)) × (r j ≡ k)
 renumbered-some r None k v h = absurd (none-some _ h)
 renumbered-some r (Some p) k v h = let parts = some_pair_parts (r p.0) k p.1 v h in (p.0, (λ i. Some (p.0, parts.1 i)), parts.0)
 
@@ -90,22 +90,22 @@ module _ (s : Links) (e : End) (r : ℕ → ℕ) where
   pub Stands-renumbered : (k : ℕ) (v : Value) → Stands (renumbered s e r) e k v → (j : ℕ) × Stands s e j v × (r j ≡ k)
   Stands-renumbered k v (m, within, at) =
       let from = In-renumbered s e r m within in
-      let before = renumbered-some r (place from.0 e) k v (sym (place-moved from.0 e r) ∙ ap (λ (l : Link). place l e) from.2 ∙ at) in
+      let before = renumbered-some r (indexed from.0 e) k v (sym (indexed-moved from.0 e r) ∙ ap (λ (l : Link). indexed l e) from.2 ∙ at) in
       (before.0, (from.0, from.1, before.1), before.2)
 
   pub Stands_renumbered : (j : ℕ) (v : Value) → Stands s e j v → Stands (renumbered s e r) e (r j) v
   Stands_renumbered j v (l, within, at) =
-      (moved l e r, In_renumbered s e r l within, place-moved l e r ∙ ap (option_map (renumbered_place r)) at)
+      (moved l e r, In_renumbered s e r l within, indexed-moved l e r ∙ ap (option_map (renumbered_indexed r)) at)
 
   -- in any other end each place stays
   pub Stands-renumbered_other : (d : End) (k : ℕ) (v : Value) → d ≢ e → Stands (renumbered s e r) d k v → Stands s d k v
   Stands-renumbered_other d k v ne (m, within, at) =
       let from = In-renumbered s e r m within in
-      (from.0, from.1, sym (place-moved_other from.0 d e r ne) ∙ ap (λ (l : Link). place l d) from.2 ∙ at)
+      (from.0, from.1, sym (indexed-moved_other from.0 d e r ne) ∙ ap (λ (l : Link). indexed l d) from.2 ∙ at)
 
   pub Stands_renumbered_other : (d : End) (k : ℕ) (v : Value) → d ≢ e → Stands s d k v → Stands (renumbered s e r) d k v
   Stands_renumbered_other d k v ne (l, within, at) =
-      (moved l e r, In_renumbered s e r l within, place-moved_other l d e r ne ∙ at)
+      (moved l e r, In_renumbered s e r l within, indexed-moved_other l d e r ne ∙ at)
 
 ---------------------------------------------------------------- ends
 
@@ -115,20 +115,20 @@ IsEnd-renumbered_other s d e r xs ne is = record {
   only = λ k v h. Stands_renumbered_other s e r d k v ne (is.only k v h);
 }
 
-pub IsEnd-insert_none : (s : Links) (l : Link) (d : End) (xs : List Value) → place l d ≡ None → IsEnd s d xs → IsEnd (set.insert s l) d xs
+pub IsEnd-insert_none : (s : Links) (l : Link) (d : End) (xs : List Value) → indexed l d ≡ None → IsEnd s d xs → IsEnd (set.insert s l) d xs
 IsEnd-insert_none s l d xs out is = record {
   has = λ k v (m, within, at). elim (In-insert s l m within) [
-    | inl same ↦ absurd (none-some _ (sym out ∙ subst (λ (x : Link). place x d ≡ Some (k, v)) same at))
+    | inl same ↦ absurd (none-some _ (sym out ∙ subst (λ (x : Link). indexed x d ≡ Some (k, v)) same at))
     | inr old ↦ is.has k v (m, old, at)
   ];
   only = λ k v h. let old = is.only k v h in (old.0, In_insert_old s l old.0 old.1, old.2);
 }
 
-pub IsEnd-insert_last : (s : Links) (l : Link) (d : End) (xs : List Value) (x : Value) → place l d ≡ Some (length xs, x) → IsEnd s d xs → IsEnd (set.insert s l) d (xs ++ x ∷ [])
+pub IsEnd-insert_last : (s : Links) (l : Link) (d : End) (xs : List Value) (x : Value) → indexed l d ≡ Some (length xs, x) → IsEnd s d xs → IsEnd (set.insert s l) d (xs ++ x ∷ [])
 IsEnd-insert_last s l d xs x here is = record {
   has = λ k v (m, within, at). elim (In-insert s l m within) [
     | inl same ↦
-        let parts = some_pair_parts (length xs) k x v (sym here ∙ subst (λ (y : Link). place y d ≡ Some (k, v)) same at) in
+        let parts = some_pair_parts (length xs) k x v (sym here ∙ subst (λ (y : Link). indexed y d ≡ Some (k, v)) same at) in
         subst (λ n. slice_get (xs ++ x ∷ []) n ≡ Some v) parts.0 (lists.slice_get-push xs x ∙ ap Some parts.1)
     | inr old ↦ let was = is.has k v (m, old, at) in lists.slice_get-push_below xs x k (slice_get_within xs k v was) ∙ was
   ];
@@ -144,11 +144,11 @@ IsEnd-insert_last s l d xs x here is = record {
 
 module _ (s : Links) (e : End) (xs : List Value) (is : IsEnd s e xs) where
   -- a link put in at i
-  pub IsEnd-raise_insert : (l : Link) (i : ℕ) (x : Value) → i ≤ length xs → place l e ≡ Some (i, x) → IsEnd (set.insert (renumbered s e (raise i)) l) e (insert xs i x)
+  pub IsEnd-raise_insert : (l : Link) (i : ℕ) (x : Value) → i ≤ length xs → indexed l e ≡ Some (i, x) → IsEnd (set.insert (renumbered s e (raise i)) l) e (insert xs i x)
   IsEnd-raise_insert l i x fits here = record {
     has = λ k v (m, within, at). elim (In-insert (renumbered s e (raise i)) l m within) [
       | inl same ↦
-          let parts = some_pair_parts i k x v (sym here ∙ subst (λ (y : Link). place y e ≡ Some (k, v)) same at) in
+          let parts = some_pair_parts i k x v (sym here ∙ subst (λ (y : Link). indexed y e ≡ Some (k, v)) same at) in
           subst (λ n. slice_get (insert xs i x) n ≡ Some v) parts.0 (lists.slice_get-insert_at xs i x fits ∙ ap Some parts.1)
       | inr old ↦
           let before = Stands-renumbered s e (raise i) k v (m, old, at) in
@@ -182,14 +182,14 @@ pub record IsGapped (s : Links) (e : End) (xs : List Value) (i : ℕ) : Type 0 w
   pub has : (k : ℕ) (v : Value) → Stands s e k v → (slice_get xs k ≡ Some v) × (k ≢ i)
   pub only : (k : ℕ) (v : Value) → slice_get xs k ≡ Some v → k ≢ i → Stands s e k v
 
-pub IsGapped-remove : (s : Links) (l : Link) (e : End) (xs : List Value) (i : ℕ) (x : Value) → IsPlaced s → In l s → place l e ≡ Some (i, x) → IsEnd s e xs → IsGapped (set.remove s l) e xs i
+pub IsGapped-remove : (s : Links) (l : Link) (e : End) (xs : List Value) (i : ℕ) (x : Value) → IsPlaced s → In l s → indexed l e ≡ Some (i, x) → IsEnd s e xs → IsGapped (set.remove s l) e xs i
 IsGapped-remove s l e xs i x placed within here is = record {
   has = λ k v (m, left, at).
       let parts = In-remove s l m left in
-      (is.has k v (m, parts.1, at), λ same. parts.0 (placed.once m l e i v x parts.1 within (subst (λ n. place m e ≡ Some (n, v)) same at) here));
+      (is.has k v (m, parts.1, at), λ same. parts.0 (placed.once m l e i v x parts.1 within (subst (λ n. indexed m e ≡ Some (n, v)) same at) here));
   only = λ k v h ne.
       let was = is.only k v h in
-      (was.0, In_remove s l was.0 (λ same. ne (sym (some_pair_parts i k x v (sym here ∙ subst (λ (y : Link). place y e ≡ Some (k, v)) same was.2)).0)) was.1, was.2);
+      (was.0, In_remove s l was.0 (λ same. ne (sym (some_pair_parts i k x v (sym here ∙ subst (λ (y : Link). indexed y e ≡ Some (k, v)) same was.2)).0)) was.1, was.2);
 }
 
 pub IsGapped-renumbered_other : (s : Links) (d e : End) (r : ℕ → ℕ) (xs : List Value) (i : ℕ) → d ≢ e → IsGapped s d xs i → IsGapped (renumbered s e r) d xs i
@@ -226,12 +226,12 @@ IsEnd-lower s e xs i is = record {
       | inr (inr gt) ↦ above j v gt h
     ]
 
-pub IsEnd-remove_none : (s : Links) (l : Link) (d : End) (xs : List Value) → place l d ≡ None → IsEnd s d xs → IsEnd (set.remove s l) d xs
+pub IsEnd-remove_none : (s : Links) (l : Link) (d : End) (xs : List Value) → indexed l d ≡ None → IsEnd s d xs → IsEnd (set.remove s l) d xs
 IsEnd-remove_none s l d xs out is = record {
   has = λ k v (m, left, at). is.has k v (m, (In-remove s l m left).1, at);
   only = λ k v h.
       let was = is.only k v h in
-      (was.0, In_remove s l was.0 (λ same. none-some _ (sym out ∙ subst (λ (y : Link). place y d ≡ Some (k, v)) same was.2)) was.1, was.2);
+      (was.0, In_remove s l was.0 (λ same. none-some _ (sym out ∙ subst (λ (y : Link). indexed y d ≡ Some (k, v)) same was.2)) was.1, was.2);
 }
 
 ---------------------------------------------------------------- a shift
@@ -264,7 +264,7 @@ IsEnd-shift s e xs to from f t is = record {
 
 -- no two links stand at one place
 abbrev pub IsOnce : Links → Type 0
-IsOnce s = (l m : Link) (e : End) (k : ℕ) (v w : Value) → In l s → In m s → place l e ≡ Some (k, v) → place m e ≡ Some (k, w) → l ≡ m
+IsOnce s = (l m : Link) (e : End) (k : ℕ) (v w : Value) → In l s → In m s → indexed l e ≡ Some (k, v) → indexed m e ≡ Some (k, w) → l ≡ m
 
 -- r keeps apart the positions of e
 abbrev pub KeepsApart : Links → End → (ℕ → ℕ) → Type 0
@@ -277,15 +277,15 @@ IsOnce-renumbered s e r once apart l m d k v w in_l in_m at_l at_m =
     elim (same_end d e) as (λ t. same_end d e ≡ t → l ≡ m) [
       | true ↦ λ h.
           let same = same_end-true d e h in
-          let pa = renumbered-some r (place a.0 e) k v (sym (place-moved a.0 e r) ∙ subst (λ (x : Link). place x e ≡ Some (k, v)) (sym a.2) (subst (λ (c : End). place l c ≡ Some (k, v)) same at_l)) in
-          let pb = renumbered-some r (place b.0 e) k w (sym (place-moved b.0 e r) ∙ subst (λ (x : Link). place x e ≡ Some (k, w)) (sym b.2) (subst (λ (c : End). place m c ≡ Some (k, w)) same at_m)) in
+          let pa = renumbered-some r (indexed a.0 e) k v (sym (indexed-moved a.0 e r) ∙ subst (λ (x : Link). indexed x e ≡ Some (k, v)) (sym a.2) (subst (λ (c : End). indexed l c ≡ Some (k, v)) same at_l)) in
+          let pb = renumbered-some r (indexed b.0 e) k w (sym (indexed-moved b.0 e r) ∙ subst (λ (x : Link). indexed x e ≡ Some (k, w)) (sym b.2) (subst (λ (c : End). indexed m c ≡ Some (k, w)) same at_m)) in
           let j = apart pa.0 pb.0 v w (a.0, a.1, pa.1) (b.0, b.1, pb.1) (pa.2 ∙ sym pb.2) in
-          let one = once a.0 b.0 e pb.0 v w a.1 b.1 (subst (λ n. place a.0 e ≡ Some (n, v)) j pa.1) pb.1 in
+          let one = once a.0 b.0 e pb.0 v w a.1 b.1 (subst (λ n. indexed a.0 e ≡ Some (n, v)) j pa.1) pb.1 in
           sym a.2 ∙ ap (λ (x : Link). moved x e r) one ∙ b.2
       | false ↦ λ h.
           let ne : d ≢ e = λ same. true≢false (sym ((Decides-same_end d e).1 same) ∙ h) in
-          let pa = sym (place-moved_other a.0 d e r ne) ∙ subst (λ (x : Link). place x d ≡ Some (k, v)) (sym a.2) at_l in
-          let pb = sym (place-moved_other b.0 d e r ne) ∙ subst (λ (x : Link). place x d ≡ Some (k, w)) (sym b.2) at_m in
+          let pa = sym (indexed-moved_other a.0 d e r ne) ∙ subst (λ (x : Link). indexed x d ≡ Some (k, v)) (sym a.2) at_l in
+          let pb = sym (indexed-moved_other b.0 d e r ne) ∙ subst (λ (x : Link). indexed x d ≡ Some (k, w)) (sym b.2) at_m in
           sym a.2 ∙ ap (λ (x : Link). moved x e r) (once a.0 b.0 d k v w a.1 b.1 pa pb) ∙ b.2
     ] refl
 
@@ -294,17 +294,17 @@ IsOnce-remove s k once l m e i v w in_l in_m at_l at_m = once l m e i v w (In-re
 
 -- a link at places where none stands
 abbrev pub IsVacant : Links → Link → Type 0
-IsVacant s l = (e : End) (k : ℕ) (v w : Value) → place l e ≡ Some (k, v) → Stands s e k w → ⊥
+IsVacant s l = (e : End) (k : ℕ) (v w : Value) → indexed l e ≡ Some (k, v) → Stands s e k w → ⊥
 
 pub IsOnce-insert : (s : Links) (n : Link) → IsOnce s → IsVacant s n → IsOnce (set.insert s n)
 IsOnce-insert s n once free l m e i v w in_l in_m at_l at_m =
     elim (In-insert s n l in_l) [
       | inl a ↦ elim (In-insert s n m in_m) [
         | inl b ↦ a ∙ sym b
-        | inr b ↦ absurd (free e i v w (subst (λ (x : Link). place x e ≡ Some (i, v)) a at_l) (m, b, at_m))
+        | inr b ↦ absurd (free e i v w (subst (λ (x : Link). indexed x e ≡ Some (i, v)) a at_l) (m, b, at_m))
       ]
       | inr a ↦ elim (In-insert s n m in_m) [
-        | inl b ↦ absurd (free e i w v (subst (λ (x : Link). place x e ≡ Some (i, w)) b at_m) (l, a, at_l))
+        | inl b ↦ absurd (free e i w v (subst (λ (x : Link). indexed x e ≡ Some (i, w)) b at_m) (l, a, at_l))
         | inr b ↦ once l m e i v w a b at_l at_m
       ]
     ]

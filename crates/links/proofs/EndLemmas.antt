@@ -9,9 +9,9 @@ use Rattle.std.proofs.lemmas.Option.{slice_get_within, same_Some, none-some}
 use Rattle.std.specs.Cmp.{tied_itself, Equal-is}
 use Rattle.std.specs.Ordering.{is_eq}
 use Rattle.links.specs.LegalSets.{IsEnd}
-use Rattle.links.specs.Links.{In, Links, at_place, end, length_at, past, value_at, values_from}
+use Rattle.links.specs.Links.{In, Links, at_indexed, end, length_at, past, value_at, values_from}
 use Rattle.links.specs.Order.{link_cmp, link_cmp_exact, link_cmp_total}
-use Rattle.links.specs.Places.{place}
+use Rattle.links.specs.Indexed.{indexed}
 use Rattle.links.specs.declared.link.Link.{Link}
 use Rattle.mm_types.specs.declared.end.End.{End}
 use Rattle.mm_types.specs.declared.value.Value.{Value}
@@ -49,54 +49,54 @@ Among_cases l m ls h = elim (or_cases (eq_by_cmp link_cmp l m) (list_any (eq_by_
 ---------------------------------------------------------------- a scan of a list of links
 
 -- the value p where it stands at k
-at_place-some : (o : Option (ℕ × Value)) (k : ℕ) (other : Option Value) (v : Value) → at_place o k other ≡ Some v → (o ≡ Some (k, v)) ⊎ (other ≡ Some v)
-at_place-some None k other v h = inr h
-at_place-some (Some p) k other v h =
+at_indexed-some : (o : Option (ℕ × Value)) (k : ℕ) (other : Option Value) (v : Value) → at_indexed o k other ≡ Some v → (o ≡ Some (k, v)) ⊎ (other ≡ Some v)
+at_indexed-some None k other v h = inr h
+at_indexed-some (Some p) k other v h =
     elim (eqb p.0 k) as (λ b. eqb p.0 k ≡ b → (if b then Some p.1 else other) ≡ Some v → (◌≡◌ {A = Option (ℕ × Value)} (Some p) (Some (k, v))) ⊎ (other ≡ Some v)) [
       | true ↦ λ e q. let at = eqb-true p.0 k e in let is = same_Some p.1 v q in inl (λ i. Some (at i, is i))
       | false ↦ λ e q. inr q
     ] refl h
 
-at_place-none : (o : Option (ℕ × Value)) (k : ℕ) (other : Option Value) → at_place o k other ≡ None → ((v : Value) → o ≡ Some (k, v) → ⊥) × (other ≡ None)
-at_place-none None k other h = (λ v e. none-some _ e, h)
-at_place-none (Some p) k other h =
+at_indexed-none : (o : Option (ℕ × Value)) (k : ℕ) (other : Option Value) → at_indexed o k other ≡ None → ((v : Value) → o ≡ Some (k, v) → ⊥) × (other ≡ None)
+at_indexed-none None k other h = (λ v e. none-some _ e, h)
+at_indexed-none (Some p) k other h =
     elim (eqb p.0 k) as (λ b. eqb p.0 k ≡ b → (if b then Some p.1 else other) ≡ None → ((v : Value) → ◌≡◌ {A = Option (ℕ × Value)} (Some p) (Some (k, v)) → ⊥) × (other ≡ None)) [
       | true ↦ λ e q. absurd (none-some p.1 (sym q))
       | false ↦ λ e q. (λ v is. eqb-false p.0 k e (ap (λ (x : ℕ × Value). x.0) (same_Some p (k, v) is)), q)
     ] refl h
 
-pub value_at-some : (ls : List Link) (e : End) (k : ℕ) (v : Value) → value_at ls e k ≡ Some v → (l : Link) × Among l ls × (place l e ≡ Some (k, v))
+pub value_at-some : (ls : List Link) (e : End) (k : ℕ) (v : Value) → value_at ls e k ≡ Some v → (l : Link) × Among l ls × (indexed l e ≡ Some (k, v))
 value_at-some [] e k v h = absurd (none-some v h)
-value_at-some (l ∷ ls) e k v h = elim (at_place-some (place l e) k (value_at ls e k) v h) [
+value_at-some (l ∷ ls) e k v h = elim (at_indexed-some (indexed l e) k (value_at ls e k) v h) [
   | inl here ↦ (l, Among_head l ls, here)
   | inr later ↦ let found = value_at-some ls e k v later in (found.0, Among_tail found.0 l ls found.1, found.2)
 ]
 
-pub value_at-none : (ls : List Link) (e : End) (k : ℕ) → value_at ls e k ≡ None → (m : Link) (v : Value) → Among m ls → place m e ≡ Some (k, v) → ⊥
+pub value_at-none : (ls : List Link) (e : End) (k : ℕ) → value_at ls e k ≡ None → (m : Link) (v : Value) → Among m ls → indexed m e ≡ Some (k, v) → ⊥
 value_at-none [] e k h m v among at = false≢true among
 value_at-none (l ∷ ls) e k h m v among at =
-    let parts = at_place-none (place l e) k (value_at ls e k) h in
+    let parts = at_indexed-none (indexed l e) k (value_at ls e k) h in
     elim (Among_cases m l ls among) [
-      | inl same ↦ parts.0 v (subst (λ (x : Link). place x e ≡ Some (k, v)) same at)
+      | inl same ↦ parts.0 v (subst (λ (x : Link). indexed x e ≡ Some (k, v)) same at)
       | inr later ↦ value_at-none ls e k parts.1 m v later at
     ]
 
 -- each position is below the length
-pub length_at-above : (ls : List Link) (e : End) (m : Link) (k : ℕ) (v : Value) → Among m ls → place m e ≡ Some (k, v) → k < length_at ls e
+pub length_at-above : (ls : List Link) (e : End) (m : Link) (k : ℕ) (v : Value) → Among m ls → indexed m e ≡ Some (k, v) → k < length_at ls e
 length_at-above [] e m k v among at = absurd (false≢true among)
 length_at-above (l ∷ ls) e m k v among at = elim (Among_cases m l ls among) [
   | inl same ↦
-      let here : past (place l e) ≡ suc k = ap past (subst (λ (x : Link). place x e ≡ Some (k, v)) same at) in
+      let here : past (indexed l e) ≡ suc k = ap past (subst (λ (x : Link). indexed x e ≡ Some (k, v)) same at) in
       omega (arith, here)
   | inr later ↦ omega (arith, length_at-above ls e m k v later at)
 ]
 
 -- and the length is the least such number
-pub length_at-below : (ls : List Link) (e : End) (n : ℕ) → ((m : Link) (k : ℕ) (v : Value) → Among m ls → place m e ≡ Some (k, v) → k < n) → length_at ls e ≤ n
+pub length_at-below : (ls : List Link) (e : End) (n : ℕ) → ((m : Link) (k : ℕ) (v : Value) → Among m ls → indexed m e ≡ Some (k, v) → k < n) → length_at ls e ≤ n
 length_at-below [] e n h = omega arith
 length_at-below (l ∷ ls) e n h =
     let later = length_at-below ls e n (λ m k v among at. h m k v (Among_tail m l ls among) at) in
-    let here : past (place l e) ≤ n = elim (place l e) as (λ o. place l e ≡ o → past o ≤ n) [ None ↦ λ _. omega arith | Some p ↦ λ at. omega (arith, h l p.0 p.1 (Among_head l ls) at) ] refl in
+    let here : past (indexed l e) ≤ n = elim (indexed l e) as (λ o. indexed l e ≡ o → past o ≤ n) [ None ↦ λ _. omega arith | Some p ↦ λ at. omega (arith, h l p.0 p.1 (Among_head l ls) at) ] refl in
     omega (arith, later, here)
 
 -- a place with nothing is past the end

@@ -5,14 +5,14 @@ use Rattle.std.proofs.lemmas.Option.{none-some, same_Some}
 use Rattle.std.specs.Prelude.{◌&&◌, List}
 use Rattle.std.specs.Option.{option_map_or, option_or}
 use Rattle.std.proofs.lemmas.Bool.{and_parts, false≢true}
-use Rattle.links.proofs.CutLemmas.{place_at, place_near}
+use Rattle.links.proofs.CutLemmas.{indexed_at, indexed_near}
 use Rattle.links.proofs.EditLemmas.{In-insert, In-remove, In-renumbered, In_insert_new, In_insert_old, In_remove, In_renumbered}
 use Rattle.links.proofs.EndLemmas.{items_HasLinks}
 use Rattle.links.proofs.ScanLemmas.{first_holding-none, first_holding-some, one_with}
 use Rattle.links.specs.Holders.{far_holding, held_through, holder, holding, is_far_node}
 use Rattle.links.specs.LegalSets.{HasTwoSides, IsHeldOnce, IsPlaced}
 use Rattle.links.specs.Links.{In, Links, cut, lower, lowered_far, new_link, new_proxy, put, put_proxy, raise, renumbered, shift, shifted_index}
-use Rattle.links.specs.Places.{far_moved, far_value, moved, place}
+use Rattle.links.specs.Indexed.{far_moved, far_value, moved, indexed}
 use Rattle.links.specs.declared.link.Far.TheVariants.{At, Alone, Proxy}
 use Rattle.links.specs.declared.link.Far.{Far}
 use Rattle.links.specs.declared.link.Link.{Link}
@@ -148,25 +148,25 @@ module _ (s : Links) (once : IsHeldOnce s) where
       ] refl
 
 -- the node that a link holds stands in the end that holds it
-pub place_held : (l : Link) (n : Node) (x : End) → HasTwoSides l.end l.far → holding l n ≡ Some x → (k : ℕ) × (place l x ≡ Some (k, node_value n))
-place_held l n x two h = through l.container h
+pub indexed_held : (l : Link) (n : Node) (x : End) → HasTwoSides l.end l.far → holding l n ≡ Some x → (k : ℕ) × (indexed l x ≡ Some (k, node_value n))
+indexed_held l n x two h = through l.container h
   where
-    near : is_far_node l.far n ≡ true → l.end ≡ x → (k : ℕ) × (place l x ≡ Some (k, node_value n))
-    near v is = let same = is_far_node-true l.far n v in (l.index, subst (λ (e : End). place l e ≡ Some (l.index, node_value n)) is (place_near l ∙ (λ i. Some (l.index, same i))))
+    near : is_far_node l.far n ≡ true → l.end ≡ x → (k : ℕ) × (indexed l x ≡ Some (k, node_value n))
+    near v is = let same = is_far_node-true l.far n v in (l.index, subst (λ (e : End). indexed l e ≡ Some (l.index, node_value n)) is (indexed_near l ∙ (λ i. Some (l.index, same i))))
 
-    far : (c : Far) (h : FeatureNo) → l.far ≡ c → far_holding c h l.end.node n ≡ Some x → (k : ℕ) × (place l x ≡ Some (k, node_value n))
+    far : (c : Far) (h : FeatureNo) → l.far ≡ c → far_holding c h l.end.node n ≡ Some x → (k : ℕ) × (indexed l x ≡ Some (k, node_value n))
     far (At d j) h is at =
         let t = test_some (same_feature d.feature h && same_node l.end.node n) d x at in
         let node = same_node-true l.end.node n (and_parts (same_feature d.feature h) (same_node l.end.node n) t.0).1 in
         let ne : l.end ≢ d = λ same. (subst (λ (o : Far). HasTwoSides l.end o) is two).0 (λ i. (sym same i).feature.0) in
-        (j, subst (λ (e : End). place l e ≡ Some (j, node_value n)) t.1 (place_at l d j is ne ∙ (λ i. Some (j, node_value (node i)))))
+        (j, subst (λ (e : End). indexed l e ≡ Some (j, node_value n)) t.1 (indexed_at l d j is ne ∙ (λ i. Some (j, node_value (node i)))))
     far (Alone k) h is at = absurd (none-some x at)
     far (Proxy t) h is at = absurd (none-some x at)
 
-    through : (c : Option FeatureNo) → held_through c l n ≡ Some x → (k : ℕ) × (place l x ≡ Some (k, node_value n))
+    through : (c : Option FeatureNo) → held_through c l n ≡ Some x → (k : ℕ) × (indexed l x ≡ Some (k, node_value n))
     through None at = absurd (none-some x at)
     through (Some h) at =
-        elim (same_feature l.end.feature h) as (λ b. (if b then (if is_far_node l.far n then Some l.end else None) else far_holding l.far h l.end.node n) ≡ Some x → (k : ℕ) × (place l x ≡ Some (k, node_value n))) [
+        elim (same_feature l.end.feature h) as (λ b. (if b then (if is_far_node l.far n then Some l.end else None) else far_holding l.far h l.end.node n) ≡ Some x → (k : ℕ) × (indexed l x ≡ Some (k, node_value n))) [
           | true ↦ λ q. let t = test_some (is_far_node l.far n) l.end x q in near t.0 t.1
           | false ↦ λ q. far l.far h refl q
         ] at
@@ -185,9 +185,9 @@ module _ (s : Links) (placed : IsPlaced s) (once : IsHeldOnce s) (l : Link) (wit
               let k = holder-some (set.remove s l) n d g in
               let left = In-remove s l k.0 k.1 in
               let same = once k.0 l n d x left.1 within k.2 h in
-              let a = place_held k.0 n d (placed.sides k.0 left.1) k.2 in
-              let b = place_held l n x (placed.sides l within) h in
-              absurd (left.0 (one_with s k.0 l x (node_value n) a.0 b.0 placed left.1 within (subst (λ (e : End). place k.0 e ≡ Some (a.0, node_value n)) same a.1) b.1))
+              let a = indexed_held k.0 n d (placed.sides k.0 left.1) k.2 in
+              let b = indexed_held l n x (placed.sides l within) h in
+              absurd (left.0 (one_with s k.0 l x (node_value n) a.0 b.0 placed left.1 within (subst (λ (e : End). indexed k.0 e ≡ Some (a.0, node_value n)) same a.1) b.1))
         ] refl
         | None ↦ λ h. elim (holder s n) as (λ o. holder s n ≡ o → holder (set.remove s l) n ≡ o) [
           | None ↦ λ g. elim (holder (set.remove s l) n) as (λ o. holder (set.remove s l) n ≡ o → o ≡ None) [

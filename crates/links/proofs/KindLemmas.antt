@@ -6,7 +6,7 @@ use Rattle.std.proofs.lemmas.Bool.{ltb-true, ltb-false}
 use Rattle.links.proofs.EditLemmas.{In-insert, In-remove, In-renumbered}
 use Rattle.links.specs.LegalSets.{AreKinds, AreOfKind, FarOfKind, IsOfKind, Kinds}
 use Rattle.links.specs.Links.{Links, cut, cut_some, cut_value, joined, lower, lowered_far, new_link, new_proxy, put, put_proxy, raise, renumbered, shift, shifted_index}
-use Rattle.links.specs.Places.{far_moved, has_value, moved}
+use Rattle.links.specs.Indexed.{far_moved, has_value, moved}
 use Rattle.links.specs.Plans.{IsEditOfKind, IsPlanOfKind, applied, edited}
 use Rattle.links.specs.declared.link.Far.TheVariants.{At, Alone, Proxy}
 use Rattle.links.specs.declared.link.Far.{Far}

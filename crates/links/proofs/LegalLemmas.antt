@@ -12,7 +12,7 @@ use Rattle.links.proofs.ScanLemmas.{find-some}
 use Rattle.links.specs.LegalSets.{AreOfKind, IsLegalSet, Kinds}
 use Rattle.links.specs.Links.{In, Links, cut_some, cut_value, end, no_links, put, put_proxy, shift}
 use Rattle.links.specs.Order.{link_cmp}
-use Rattle.links.specs.Places.{has_value}
+use Rattle.links.specs.Indexed.{has_value}
 use Rattle.links.specs.Plans.{EditFits, IsPlanOfKind, PlanFits, PlanMakesNoCycle, PutFits, applied, edited}
 use Rattle.links.specs.declared.link.Link.{Link}
 use Rattle.links.specs.declared.plan.Edit.TheVariants as edit

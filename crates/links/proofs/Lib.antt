@@ -26,6 +26,6 @@ pub mod BareLemmas
 pub mod GoneLemmas
 pub mod RankLemmas
 pub mod OrderLemmas
-pub mod PlacesLemmas
+pub mod EntriesLemmas
 pub mod TouchLemmas
 mod Examples

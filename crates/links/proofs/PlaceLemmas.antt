@@ -3,7 +3,7 @@ use Rattle.std.proofs.Common.{◌≡◌, ◌≢◌, ℕ, true, false, List, Some
 use Rattle.std.specs.Option.{option_map}
 use Rattle.std.specs.Bool.{Decides}
 use Rattle.links.specs.LegalSets.{IsObject}
-use Rattle.links.specs.Places.{bare, bare_far, far_moved, far_place, far_value, moved, place}
+use Rattle.links.specs.Indexed.{bare, bare_far, far_moved, far_indexed, far_value, moved, indexed}
 use Rattle.links.specs.declared.link.Far.TheVariants.{At, Alone, Proxy}
 use Rattle.links.specs.declared.link.Far.{Far}
 use Rattle.links.specs.declared.link.Link.{Link}
@@ -41,46 +41,46 @@ pub ne-same_end : (d e : End) → d ≢ e → same_end d e ≡ false
 ne-same_end d e h = elim (same_end d e) as (λ b. same_end d e ≡ b → b ≡ false) [ true ↦ λ p. absurd (h (same_end-true d e p)) | false ↦ λ _. refl ] refl
 
 -- a position changed by r
-abbrev pub renumbered_place : (ℕ → ℕ) → ℕ × Value → ℕ × Value
-renumbered_place r p = (r p.0, p.1)
+abbrev pub renumbered_indexed : (ℕ → ℕ) → ℕ × Value → ℕ × Value
+renumbered_indexed r p = (r p.0, p.1)
 
 far_value-moved : (x : Far) (e : End) (r : ℕ → ℕ) → far_value (far_moved x e r) ≡ far_value x
 far_value-moved (At d j) e r = elim (same_end d e) as (λ b. far_value (if b then At d (r j) else At d j) ≡ node_value d.node) [ true ↦ refl | false ↦ refl ]
 far_value-moved (Alone n) e r = refl
 far_value-moved (Proxy t) e r = refl
 
-far_place-moved : (x : Far) (v : Value) (e : End) (r : ℕ → ℕ) → far_place (far_moved x e r) v e ≡ option_map (renumbered_place r) (far_place x v e)
-far_place-moved (At d j) v e r =
-    elim (same_end d e) as (λ b. same_end d e ≡ b → far_place (if b then At d (r j) else At d j) v e ≡ option_map (renumbered_place r) (if b then Some (j, v) else None)) [
+far_indexed-moved : (x : Far) (v : Value) (e : End) (r : ℕ → ℕ) → far_indexed (far_moved x e r) v e ≡ option_map (renumbered_indexed r) (far_indexed x v e)
+far_indexed-moved (At d j) v e r =
+    elim (same_end d e) as (λ b. same_end d e ≡ b → far_indexed (if b then At d (r j) else At d j) v e ≡ option_map (renumbered_indexed r) (if b then Some (j, v) else None)) [
       | true ↦ λ h. rw h refl
       | false ↦ λ h. rw h refl
     ] refl
-far_place-moved (Alone n) v e r = refl
-far_place-moved (Proxy t) v e r = refl
+far_indexed-moved (Alone n) v e r = refl
+far_indexed-moved (Proxy t) v e r = refl
 
 -- its place in that end is renumbered
-pub place-moved : (l : Link) (e : End) (r : ℕ → ℕ) → place (moved l e r) e ≡ option_map (renumbered_place r) (place l e)
-place-moved l e r =
-    elim (same_end l.end e) as (λ b. same_end l.end e ≡ b → place (if b then record l { index = r l.index } else record l { far = far_moved l.far e r }) e ≡ option_map (renumbered_place r) (if b then Some (l.index, far_value l.far) else far_place l.far (node_value l.end.node) e)) [
+pub indexed-moved : (l : Link) (e : End) (r : ℕ → ℕ) → indexed (moved l e r) e ≡ option_map (renumbered_indexed r) (indexed l e)
+indexed-moved l e r =
+    elim (same_end l.end e) as (λ b. same_end l.end e ≡ b → indexed (if b then record l { index = r l.index } else record l { far = far_moved l.far e r }) e ≡ option_map (renumbered_indexed r) (if b then Some (l.index, far_value l.far) else far_indexed l.far (node_value l.end.node) e)) [
       | true ↦ λ h. rw h refl
-      | false ↦ λ h. rw h (far_place-moved l.far (node_value l.end.node) e r)
+      | false ↦ λ h. rw h (far_indexed-moved l.far (node_value l.end.node) e r)
     ] refl
 
-far_place-moved_other : (x : Far) (v : Value) (d e : End) (r : ℕ → ℕ) → d ≢ e → far_place (far_moved x e r) v d ≡ far_place x v d
-far_place-moved_other (At c j) v d e r ne =
-    elim (same_end c e) as (λ b. same_end c e ≡ b → far_place (if b then At c (r j) else At c j) v d ≡ far_place (At c j) v d) [
+far_indexed-moved_other : (x : Far) (v : Value) (d e : End) (r : ℕ → ℕ) → d ≢ e → far_indexed (far_moved x e r) v d ≡ far_indexed x v d
+far_indexed-moved_other (At c j) v d e r ne =
+    elim (same_end c e) as (λ b. same_end c e ≡ b → far_indexed (if b then At c (r j) else At c j) v d ≡ far_indexed (At c j) v d) [
       | true ↦ λ h. let other = ne-same_end c d (λ (same : c ≡ d). ne (sym same ∙ same_end-true c e h)) in rw other refl
       | false ↦ λ h. refl
     ] refl
-far_place-moved_other (Alone n) v d e r ne = refl
-far_place-moved_other (Proxy t) v d e r ne = refl
+far_indexed-moved_other (Alone n) v d e r ne = refl
+far_indexed-moved_other (Proxy t) v d e r ne = refl
 
 -- in another end it stands as it did
-pub place-moved_other : (l : Link) (d e : End) (r : ℕ → ℕ) → d ≢ e → place (moved l e r) d ≡ place l d
-place-moved_other l d e r ne =
-    elim (same_end l.end e) as (λ b. same_end l.end e ≡ b → place (if b then record l { index = r l.index } else record l { far = far_moved l.far e r }) d ≡ place l d) [
+pub indexed-moved_other : (l : Link) (d e : End) (r : ℕ → ℕ) → d ≢ e → indexed (moved l e r) d ≡ indexed l d
+indexed-moved_other l d e r ne =
+    elim (same_end l.end e) as (λ b. same_end l.end e ≡ b → indexed (if b then record l { index = r l.index } else record l { far = far_moved l.far e r }) d ≡ indexed l d) [
       | true ↦ λ h. let other = ne-same_end l.end d (λ (same : l.end ≡ d). ne (sym same ∙ same_end-true l.end e h)) in rw other refl
-      | false ↦ λ h. rw (far_value-moved l.far e r, far_place-moved_other l.far (node_value l.end.node) d e r ne) refl
+      | false ↦ λ h. rw (far_value-moved l.far e r, far_indexed-moved_other l.far (node_value l.end.node) d e r ne) refl
     ] refl
 
 bare_far-moved : (x : Far) (e : End) (r : ℕ → ℕ) → bare_far (far_moved x e r) ≡ bare_far x

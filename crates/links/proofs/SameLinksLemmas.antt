@@ -1,12 +1,12 @@
 -- A placed set of links of known kinds is determined by its ends.
 use Rattle.std.proofs.Common.{◌≡◌, ◌≢◌, ℕ, List, Some, sym, ap, ◌∙◌, subst, arith}
 use Rattle.std.specs.List.{slice_get}
-use Rattle.links.proofs.CutLemmas.{place_at, place_near}
+use Rattle.links.proofs.CutLemmas.{indexed_at, indexed_near}
 use Rattle.links.proofs.ScanLemmas.{same_links}
 use Rattle.links.proofs.ShownLemmas.{shown_in}
 use Rattle.links.specs.LegalSets.{AreOfKind, FarOfKind, IsPlaced, Kinds}
 use Rattle.links.specs.Links.{In, Links, end}
-use Rattle.links.specs.Places.{far_value, place}
+use Rattle.links.specs.Indexed.{far_value, indexed}
 use Rattle.links.specs.declared.link.Far.TheVariants.{At}
 use Rattle.links.specs.declared.link.Far.{Far}
 use Rattle.links.specs.declared.link.Link.{Link}
@@ -16,7 +16,7 @@ use Rattle.mm_types.specs.declared.value.Value.{Value}
 
 module _ (kinds : Kinds) (s t : Links) (ls : IsPlaced s) (lt : IsPlaced t) (ks : AreOfKind kinds s) (kt : AreOfKind kinds t) (same : (e : End) → end s e ≡ end t e) where
   -- t has at a place what a link of s has there
-  there : (l : Link) → In l s → (e : End) (k : ℕ) (v : Value) → place l e ≡ Some (k, v) → slice_get (end t e) k ≡ Some v
+  there : (l : Link) → In l s → (e : End) (k : ℕ) (v : Value) → indexed l e ≡ Some (k, v) → slice_get (end t e) k ≡ Some v
   there l h e k v at = sym (ap (λ (xs : List Value). slice_get xs k) (same e)) ∙ (ls.ends e).has k v (l, h, at)
 
   apart : (l : Link) (d : End) (j : ℕ) → In l s → l.far ≡ At d j → l.end ≢ d
@@ -28,8 +28,8 @@ module _ (kinds : Kinds) (s t : Links) (ls : IsPlaced s) (lt : IsPlaced t) (ks :
   below l h = shown_in kinds t lt kt l (record {
     kind = ks l h;
     sides = ls.sides l h;
-    near = there l h l.end l.index (far_value l.far) (place_near l);
-    far = λ d j far. there l h d j (node_value l.end.node) (place_at l d j far (apart l d j h far));
+    near = there l h l.end l.index (far_value l.far) (indexed_near l);
+    far = λ d j far. there l h d j (node_value l.end.node) (indexed_at l d j far (apart l d j h far));
   })
 
 -- so a store that has the ends of an edited set has the edited set

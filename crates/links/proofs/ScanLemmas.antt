@@ -11,7 +11,7 @@ use Rattle.links.specs.Holders.{first_holding, holding}
 use Rattle.links.specs.LegalSets.{IsPlaced}
 use Rattle.links.specs.Links.{In, Links, cut, cut_some, cut_value}
 use Rattle.links.specs.Order.{link_cmp_exact, link_cmp_total}
-use Rattle.links.specs.Places.{has_value, is_value_at, place}
+use Rattle.links.specs.Indexed.{has_value, is_value_at, indexed}
 use Rattle.links.specs.declared.link.Link.{Link}
 use Rattle.mm_types.specs.declared.end.End.{End}
 use Rattle.mm_types.specs.declared.numbers.Node.{Node}
@@ -29,38 +29,38 @@ pub is_value_at-true : (o : Option (ℕ × Value)) (v : Value) → is_value_at v
 is_value_at-true None v h = absurd (false≢true h)
 is_value_at-true (Some p) v h = let same = same_value-true p.1 v h in (p.0, λ i. Some (p.0, same i))
 
-pub is_value_at-place : (o : Option (ℕ × Value)) (k : ℕ) (v : Value) → o ≡ Some (k, v) → is_value_at v o ≡ true
-is_value_at-place o k v h = ap (λ (p : Option (ℕ × Value)). is_value_at v p) h ∙ same_value-self v
+pub is_value_at-indexed : (o : Option (ℕ × Value)) (k : ℕ) (v : Value) → o ≡ Some (k, v) → is_value_at v o ≡ true
+is_value_at-indexed o k v h = ap (λ (p : Option (ℕ × Value)). is_value_at v p) h ∙ same_value-self v
 
 -- in a placed set one link has v in e
-pub one_with : (s : Links) (l m : Link) (e : End) (v : Value) (j k : ℕ) → IsPlaced s → In l s → In m s → place l e ≡ Some (j, v) → place m e ≡ Some (k, v) → l ≡ m
+pub one_with : (s : Links) (l m : Link) (e : End) (v : Value) (j k : ℕ) → IsPlaced s → In l s → In m s → indexed l e ≡ Some (j, v) → indexed m e ≡ Some (k, v) → l ≡ m
 one_with s l m e v j k placed hl hm at_l at_m =
     let same = placed.distinct e j k v ((placed.ends e).has j v (l, hl, at_l)) ((placed.ends e).has k v (m, hm, at_m)) in
-    placed.once l m e k v v hl hm (subst (λ n. place l e ≡ Some (n, v)) same at_l) at_m
+    placed.once l m e k v v hl hm (subst (λ n. indexed l e ≡ Some (n, v)) same at_l) at_m
 
-pub find-some : (ls : List Link) (e : End) (v : Value) (l : Link) → find (has_value e v) ls ≡ Some l → Among l ls × ((k : ℕ) × (place l e ≡ Some (k, v)))
+pub find-some : (ls : List Link) (e : End) (v : Value) (l : Link) → find (has_value e v) ls ≡ Some l → Among l ls × ((k : ℕ) × (indexed l e ≡ Some (k, v)))
 find-some [] e v l h = absurd (none-some l h)
 find-some (m ∷ ls) e v l h =
-    elim (is_value_at v (place m e)) as (λ b. is_value_at v (place m e) ≡ b → (if b then Some m else find (has_value e v) ls) ≡ Some l → Among l (m ∷ ls) × ((k : ℕ) × (place l e ≡ Some (k, v)))) [
+    elim (is_value_at v (indexed m e)) as (λ b. is_value_at v (indexed m e) ≡ b → (if b then Some m else find (has_value e v) ls) ≡ Some l → Among l (m ∷ ls) × ((k : ℕ) × (indexed l e ≡ Some (k, v)))) [
       | true ↦ λ q s.
           let same = same_Some m l s in
-          subst (λ (x : Link). Among x (m ∷ ls) × ((k : ℕ) × (place x e ≡ Some (k, v)))) same (Among_head m ls, is_value_at-true (place m e) v q)
+          subst (λ (x : Link). Among x (m ∷ ls) × ((k : ℕ) × (indexed x e ≡ Some (k, v)))) same (Among_head m ls, is_value_at-true (indexed m e) v q)
       | false ↦ λ q s. let rest = find-some ls e v l s in (Among_tail l m ls rest.0, rest.1)
     ] refl h
 
-pub find-none : (ls : List Link) (e : End) (v : Value) (l : Link) (k : ℕ) → find (has_value e v) ls ≡ None → Among l ls → place l e ≡ Some (k, v) → ⊥
+pub find-none : (ls : List Link) (e : End) (v : Value) (l : Link) (k : ℕ) → find (has_value e v) ls ≡ None → Among l ls → indexed l e ≡ Some (k, v) → ⊥
 find-none [] e v l k h among at = false≢true among
 find-none (m ∷ ls) e v l k h among at =
-    elim (is_value_at v (place m e)) as (λ b. is_value_at v (place m e) ≡ b → (if b then Some m else find (has_value e v) ls) ≡ None → ⊥) [
+    elim (is_value_at v (indexed m e)) as (λ b. is_value_at v (indexed m e) ≡ b → (if b then Some m else find (has_value e v) ls) ≡ None → ⊥) [
       | true ↦ λ q s. none-some m (sym s)
       | false ↦ λ q s. elim (Among_cases l m ls among) [
-        | inl same ↦ true≢false (sym (is_value_at-place (place m e) k v (subst (λ (x : Link). place x e ≡ Some (k, v)) same at)) ∙ q)
+        | inl same ↦ true≢false (sym (is_value_at-indexed (indexed m e) k v (subst (λ (x : Link). indexed x e ≡ Some (k, v)) same at)) ∙ q)
         | inr later ↦ find-none ls e v l k s later at
       ]
     ] refl h
 
 -- a scan of any list of the links of a placed set finds the link
-pub find_is : (s : Links) (ls : List Link) (e : End) (v : Value) (l : Link) (k : ℕ) → IsPlaced s → HasLinks ls s → In l s → place l e ≡ Some (k, v) → find (has_value e v) ls ≡ Some l
+pub find_is : (s : Links) (ls : List Link) (e : End) (v : Value) (l : Link) (k : ℕ) → IsPlaced s → HasLinks ls s → In l s → indexed l e ≡ Some (k, v) → find (has_value e v) ls ≡ Some l
 find_is s ls e v l k placed of within at =
     elim (find (has_value e v) ls) as (λ o. find (has_value e v) ls ≡ o → o ≡ Some l) [
       | None ↦ λ h. absurd (find-none ls e v l k h (of.has l within) at)
@@ -78,7 +78,7 @@ same_find s ls ms e v placed of_l of_m =
     ] refl
 
 -- a cut by name is the cut of the link that has the name
-pub cut_value_is : (s : Links) (e : End) (v : Value) (l : Link) (k : ℕ) → IsPlaced s → In l s → place l e ≡ Some (k, v) → cut_value s e v ≡ cut s l
+pub cut_value_is : (s : Links) (e : End) (v : Value) (l : Link) (k : ℕ) → IsPlaced s → In l s → indexed l e ≡ Some (k, v) → cut_value s e v ≡ cut s l
 unfolding cut_value
 cut_value_is s e v l k placed within at = ap (cut_some s) (find_is s (set.items s) e v l k placed (items_HasLinks s) within at)
 

@@ -2,12 +2,12 @@
 use Rattle.std.proofs.Common.{◌≡◌, ◌≢◌, ℕ, ◌<◌, List, Option, Some, None, refl, sym, ap, ◌∙◌, subst, inl, inr, arith}
 use Rattle.std.specs.List.{slice_get}
 use Rattle.std.proofs.lemmas.Option.{none-some, same_Some, some_pair_parts}
-use Rattle.links.proofs.CutLemmas.{place_alone, place_at, place_near, place_out, place_proxy}
+use Rattle.links.proofs.CutLemmas.{indexed_alone, indexed_at, indexed_near, indexed_out, indexed_proxy}
 use Rattle.links.proofs.PlaceLemmas.{not_proxy, same_node_value}
 use Rattle.links.proofs.PutLemmas.{cases_end}
 use Rattle.links.specs.LegalSets.{AreOfKind, FarOfKind, HasTwoSides, IsOfKind, IsPlaced, Kinds}
 use Rattle.links.specs.Links.{In, Links, end}
-use Rattle.links.specs.Places.{far_value, place}
+use Rattle.links.specs.Indexed.{far_value, indexed}
 use Rattle.links.specs.declared.link.Far.TheVariants.{At, Alone, Proxy}
 use Rattle.links.specs.declared.link.Far.{Far}
 use Rattle.links.specs.declared.link.Link.{Link}
@@ -37,10 +37,10 @@ object_value x y h = cc
 no_feature : (o : Option FeatureNo) (f : FeatureNo) → o ≡ None → o ≡ Some f → ⊥
 no_feature o f a b = none-some f (sym a ∙ b)
 
-module _ (kinds : Kinds) (t : Links) (lt : IsPlaced t) (kt : AreOfKind kinds t) (l : Link) (s : IsShown kinds t l) (m : Link) (g : In m t) (at : place m l.end ≡ Some (l.index, far_value l.far)) where
+module _ (kinds : Kinds) (t : Links) (lt : IsPlaced t) (kt : AreOfKind kinds t) (l : Link) (s : IsShown kinds t l) (m : Link) (g : In m t) (at : indexed m l.end ≡ Some (l.index, far_value l.far)) where
   same_side : l.end ≡ m.end → (l.index ≡ m.index) × (far_value l.far ≡ far_value m.far)
   same_side e =
-      let here = subst (λ (x : End). place m x ≡ Some (m.index, far_value m.far)) (sym e) (place_near m) in
+      let here = subst (λ (x : End). indexed m x ≡ Some (m.index, far_value m.far)) (sym e) (indexed_near m) in
       let parts = some_pair_parts m.index l.index (far_value m.far) (far_value l.far) (sym here ∙ at) in
       (sym parts.0, sym parts.1)
 
@@ -57,7 +57,7 @@ module _ (kinds : Kinds) (t : Links) (lt : IsPlaced t) (kt : AreOfKind kinds t) 
       let is : d ≡ c = λ i. record { node = node i; feature = feature i } in
       let nm : m.end ≢ c = λ q. omega (arith, km.2, ap (λ (x : End). x.feature.0) q) in
       let a = s.far d j fl in
-      let b = (lt.ends c).has k (node_value m.end.node) (m, g, place_at m c k fm nm) in
+      let b = (lt.ends c).has k (node_value m.end.node) (m, g, indexed_at m c k fm nm) in
       let a' : slice_get (end t c) j ≡ Some (node_value m.end.node) =
       subst (λ (x : End). slice_get (end t c) j ≡ Some (node_value x.node)) e (subst (λ (x : End). slice_get (end t x) j ≡ Some (node_value l.end.node)) is a) in
       let n = lt.distinct c j k (node_value m.end.node) a' b in
@@ -83,7 +83,7 @@ module _ (kinds : Kinds) (t : Links) (lt : IsPlaced t) (kt : AreOfKind kinds t) 
   crossed_text c k fm e n fl =
       let km = subst (λ (x : Far). FarOfKind kinds m.end.feature x) fm (kt m g).far in
       let nm : m.end ≢ c = λ q. omega (arith, km.2, ap (λ (x : End). x.feature.0) q) in
-      let here = subst (λ (x : End). place m x ≡ Some (k, node_value m.end.node)) e (place_at m c k fm nm) in
+      let here = subst (λ (x : End). indexed m x ≡ Some (k, node_value m.end.node)) e (indexed_at m c k fm nm) in
       not_proxy n m.end.node (sym (ap far_value fl) ∙ sym (some_pair_parts k l.index (node_value m.end.node) (far_value l.far) (sym here ∙ at)).1)
 
   crossed_far : ((n : List ℕ) → l.far ≡ Proxy n → ⊥) → (f : Far) → l.far ≡ f → kinds.opposite l.end.feature ≡ Some m.end.feature → m.end.feature.0 < l.end.feature.0 → ⊥
@@ -97,10 +97,10 @@ module _ (kinds : Kinds) (t : Links) (lt : IsPlaced t) (kt : AreOfKind kinds t) 
   not_crossed : (f x : Far) → l.far ≡ f → m.far ≡ x → m.end ≢ l.end → ⊥
   not_crossed f (At c k) fl fm ne = elim (cases_end c l.end) [
     | inl e ↦ let kind = crossed_kind c k fm e in crossed_far (crossed_text c k fm e) f fl kind.0 kind.1
-    | inr out ↦ none-some _ (sym (place_out m c l.end k fm ne out) ∙ at)
+    | inr out ↦ none-some _ (sym (indexed_out m c l.end k fm ne out) ∙ at)
   ]
-  not_crossed f (Alone n) fl fm ne = none-some _ (sym (place_alone m l.end n fm ne) ∙ at)
-  not_crossed f (Proxy n) fl fm ne = none-some _ (sym (place_proxy m l.end n fm ne) ∙ at)
+  not_crossed f (Alone n) fl fm ne = none-some _ (sym (indexed_alone m l.end n fm ne) ∙ at)
+  not_crossed f (Proxy n) fl fm ne = none-some _ (sym (indexed_proxy m l.end n fm ne) ∙ at)
 
   is_found : (f x : Far) → l.far ≡ f → m.far ≡ x → l ≡ m
   is_found f x fl fm = elim (cases_end l.end m.end) [

@@ -17,7 +17,7 @@ use Rattle.links.specs.Holders.{above, contained, containing, holder, holding}
 use Rattle.links.specs.LegalSets.{Kinds}
 use Rattle.links.specs.Links.{In, Links, cut, cut_value, end, far_end, new_link, put, put_proxy, shift, touches, without, without_nodes}
 use Rattle.mm_types.specs.Lists.{shifted}
-use Rattle.links.specs.Places.{place}
+use Rattle.links.specs.Indexed.{indexed}
 use Rattle.links.specs.Plans.{Has, Lacks}
 
 -- d is the end of the opposite, which gains too
@@ -75,8 +75,8 @@ pub record PutProxyMakes (s : Links) (e : End) (i : ℕ) (t : List ℕ) : Type 0
 
 -- each end loses what the link had there, and what it contained has no holder; a value at a position of an end names the link
 pub record CutMakes (s : Links) (l : Link) : Type 0 where
-  pub named : (e : End) (k : ℕ) (v : Value) → place l e ≡ Some (k, v) → cut_value s e v ≡ cut s l
-  pub ends : (d : End) → end (cut s l) d ≡ without (end s d) (place l d)
+  pub named : (e : End) (k : ℕ) (v : Value) → indexed l e ≡ Some (k, v) → cut_value s e v ≡ cut s l
+  pub ends : (d : End) → end (cut s l) d ≡ without (end s d) (indexed l d)
   pub holders : (n : Node) → holder (cut s l) n ≡ option_map_or (λ x. None) (holding l n) (holder s n)
 
 -- one value of one end moves, and all else is as it was

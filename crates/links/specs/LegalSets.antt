@@ -11,11 +11,11 @@ use Rattle.links.specs.declared.link.Far.TheVariants.{At, Alone, Proxy}
 use Rattle.links.specs.declared.link.Link.{Link}
 use Rattle.links.specs.Holders.{holding}
 use Rattle.links.specs.Links.{In, Links, end}
-use Rattle.links.specs.Places.{place}
+use Rattle.links.specs.Indexed.{indexed}
 
 -- some link stands at position k of e, with the value v
 abbrev pub Stands : Links → End → ℕ → Value → Type 0
-Stands s e k v = (l : Link) × In l s × (place l e ≡ Some (k, v))
+Stands s e k v = (l : Link) × In l s × (indexed l e ≡ Some (k, v))
 
 -- the list has each value that stands in e at its position, and nothing else
 pub record IsEnd (s : Links) (e : End) (xs : List Value) : Type 0 where
@@ -43,7 +43,7 @@ most = 1000000
 -- the positions of each end are 0 to its length - 1, each once, and no end repeats a value
 pub record IsPlaced (s : Links) : Type 0 where
   pub ends : (e : End) → IsEnd s e (end s e)
-  pub once : (l k : Link) (e : End) (i : ℕ) (v w : Value) → In l s → In k s → place l e ≡ Some (i, v) → place k e ≡ Some (i, w) → l ≡ k
+  pub once : (l k : Link) (e : End) (i : ℕ) (v w : Value) → In l s → In k s → indexed l e ≡ Some (i, v) → indexed k e ≡ Some (i, w) → l ≡ k
   pub distinct : (e : End) → IsDistinct (end s e)
   pub sides : (l : Link) → In l s → HasTwoSides l.end l.far
   pub few : (e : End) → length (end s e) ≤ most

@@ -1,5 +1,5 @@
 pub mod Order
-pub mod Places
+pub mod Indexed
 pub mod Links
 pub mod Holders
 pub mod LegalSets

@@ -16,7 +16,7 @@ use Rattle.links.specs.declared.link.Far.{Far}
 use Rattle.links.specs.declared.link.Far.TheVariants.{At, Alone, Proxy}
 use Rattle.links.specs.declared.link.Link.{Link}
 use Rattle.links.specs.Order.{link_cmp, coded_link}
-use Rattle.links.specs.Places.{far_value, has_value, moved, place}
+use Rattle.links.specs.Indexed.{far_value, has_value, moved, indexed}
 
 abbrev pub Links : Type 0
 Links = FinSet link_cmp
@@ -33,14 +33,14 @@ In l s = set.contains s l ≡ true
 ---------------------------------------------------------------- ends
 
 -- the value p, if it stands at k, and else the other
-abbrev pub at_place : Option (ℕ × Value) → ℕ → Option Value → Option Value
-at_place None k other = other
-at_place (Some p) k other = if p.0 == k then Some p.1 else other
+abbrev pub at_indexed : Option (ℕ × Value) → ℕ → Option Value → Option Value
+at_indexed None k other = other
+at_indexed (Some p) k other = if p.0 == k then Some p.1 else other
 
 -- what stands at position k of e
 abbrev pub value_at : List Link → End → ℕ → Option Value
 value_at [] e k = None
-value_at (l ∷ ls) e k = at_place (place l e) k (value_at ls e k)
+value_at (l ∷ ls) e k = at_indexed (indexed l e) k (value_at ls e k)
 
 abbrev pub past : Option (ℕ × Value) → ℕ
 past p = option_map_or (λ q. suc q.0) p 0
@@ -48,7 +48,7 @@ past p = option_map_or (λ q. suc q.0) p 0
 -- one more than the last position of e
 abbrev pub length_at : List Link → End → ℕ
 length_at [] e = 0
-length_at (l ∷ ls) e = max (past (place l e)) (length_at ls e)
+length_at (l ∷ ls) e = max (past (indexed l e)) (length_at ls e)
 
 -- what stands at n positions of e, from k on
 abbrev pub values_from : List Link → End → ℕ → ℕ → List Value
@@ -141,7 +141,7 @@ put_proxy s e i t = set.insert (renumbered s e (raise i)) (new_proxy e i t)
 unfoldable pub shift : Links → End → ℕ → ℕ → Links
 shift s e to from = renumbered s e (shifted_index to from)
 
--- a list without what stood at a place: what a cut makes of an end
+-- a list without what stood at a position: what a cut makes of an end
 abbrev pub without : List Value → Option (ℕ × Value) → List Value
 without vs p = option_map_or (λ q. remove vs q.0) p vs
 

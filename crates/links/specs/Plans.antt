@@ -125,8 +125,8 @@ abbrev pub incoming_end : Incoming → End
 incoming_end i = record { node = i.node; feature = i.feature }
 
 -- the places are those where the object stands, and no others
-abbrev pub ArePlacesOf : Links → ObjectNo → List Incoming → Type 0
-ArePlacesOf s o is = (i : Incoming) → Contains is i ↔ (slice_get (end s (incoming_end i)) i.position ≡ Some (value.Object o))
+abbrev pub AreEntriesOf : Links → ObjectNo → List Incoming → Type 0
+AreEntriesOf s o is = (i : Incoming) → Contains is i ↔ (slice_get (end s (incoming_end i)) i.position ≡ Some (value.Object o))
 
 -- objects come before resources, each by number
 abbrev pub node_before : Node → Node → Bool

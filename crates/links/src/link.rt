@@ -12,7 +12,7 @@ pub enum Far {
     Proxy(Text),
 }
 
-/// A link or a proxy: its place in one end, and its other side (MOF 2.5.1: Link).
+/// A link or a proxy: its index in one end, and its other side (MOF 2.5.1: Link).
 #[derive(Debug, Drop)]
 pub struct Link {
     pub end: End,

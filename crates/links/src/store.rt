@@ -7,7 +7,7 @@ ghost use Rattle.links.specs.declared.plan.Edit.{Edit};
 ghost use Rattle.links.specs.Holders.{holder as holder_of};
 ghost use Rattle.links.specs.LegalSets.{AreKinds, IsLegalSet, Kinds};
 ghost use Rattle.links.specs.Links.{Links, end as end_of, no_links, object_at, proxy_at as proxy_of};
-ghost use Rattle.links.specs.Plans.{AreIncoming, AreInOrder, ArePlacesOf, EditFits, HasPlanOfKind, IsEditOfKind, IsPlanOfKind, Lacks, PlanFits, applied, edited, incoming_end, put_edit};
+ghost use Rattle.links.specs.Plans.{AreIncoming, AreInOrder, AreEntriesOf, EditFits, HasPlanOfKind, IsEditOfKind, IsPlanOfKind, Lacks, PlanFits, applied, edited, incoming_end, put_edit};
 
 use crate::incoming::Incoming;
 use crate::link::NewLink;
@@ -49,7 +49,7 @@ pub trait LinkStore: Drop {
         requires legal { IsLegalSet (links self.now) }
         ensures { option_copied result ≡ proxy_of (links self.now) end index };
 
-    /// The place of an object in an end; `None` if it has none there.
+    /// The position of an object in an end; `None` if it has none there.
     fn position(&self, end: End, object: ObjectNo) -> Option<u32>
         requires legal { IsLegalSet (links self.now) }
         ensures { MatchOption result (Lacks (links self.now) end (value.Object object)) (λ k. slice_get (end_of (links self.now) end) k ≡ Some (value.Object object)) };
@@ -63,7 +63,7 @@ pub trait LinkStore: Drop {
     /// objects before resources, each by number. An end has an object once. Errs only if memory is refused.
     fn incoming(&self, alloc: Global, object: ObjectNo) -> Result<Vec<Incoming>, AllocError>
         requires legal { IsLegalSet (links self.now) }
-        ensures places { IfOk result (λ r. ArePlacesOf (links self.now) object r.items) }
+        ensures entries { IfOk result (λ r. AreEntriesOf (links self.now) object r.items) }
         ensures order { IfOk result (λ r. AreInOrder (map incoming_end r.items)) };
 
     /// The ends that an object is in, in no order; one end may come twice. Errs only if memory is refused.

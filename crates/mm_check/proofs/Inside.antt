@@ -6,7 +6,7 @@ use Rattle.std.specs.Option.{option_map_or}
 use Rattle.std.proofs.lemmas.List.{length-map}
 use Rattle.std.proofs.lemmas.Option.{option_and_then_some, slice_get_within}
 use Rattle.mm_types.specs.Clashes.{Clash}
-use Rattle.mm_types.specs.Graph.{Walk, row}
+use Rattle.mm_types.specs.Graph.{Walk, by_class}
 use Rattle.mm_types.specs.Raw.{RawMetamodel}
 use Rattle.mm_types.specs.Resolved.{class_named, graph_of}
 use Rattle.std.specs.List.{filter_map}
@@ -38,7 +38,7 @@ test_feature_inside t raw c i h = by (feature_at raw c i) refl h
     by None at h = cc
     by (Some f) at h = some_inside raw c i f at
 
-row_inside : (g : List (List ℕ)) (c e : ℕ) → Contains (row g c) e → c < length g
+row_inside : (g : List (List ℕ)) (c e : ℕ) → Contains (by_class g c) e → c < length g
 row_inside [] c e h = let bad = h.1 in absurd (omega arith)
 row_inside (r ∷ g) zero e h = omega arith
 row_inside (r ∷ g) (suc c) e h = let low = row_inside g c e h in omega arith

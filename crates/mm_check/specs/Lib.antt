@@ -2,4 +2,4 @@ pub mod Checks
 pub mod Checker
 pub mod Search
 pub mod Literals
-pub mod Found
+pub mod Outcome

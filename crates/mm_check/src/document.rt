@@ -2,7 +2,7 @@
 ghost use Rattle.std.specs.Prelude.{◌≡◌, IfOk};
 ghost use Rattle.mm_types.specs.WellFormed.{IsFault};
 ghost use Rattle.mm_check.specs.Checks.{Checks};
-ghost use Rattle.mm_check.specs.Found.{Finds};
+ghost use Rattle.mm_check.specs.Outcome.{Finds};
 
 use crate::checker::Checker;
 use mm_meta::{Meta, Resolution};
@@ -24,7 +24,7 @@ const CONDITIONS: [Condition; 9] = [
 
 /// What the check of a document finds.
 #[derive(Drop)]
-enum Found {
+enum Outcome {
     /// The first condition, in the order of their numbers, that applies somewhere, and the first place at which it does.
     Fault(Condition, Place),
     /// The document is well-formed, and resolves to this.
@@ -48,36 +48,36 @@ fn first_fault(
 }
 
 /// What a checker finds. Errs only if memory is refused.
-fn found_by(alloc: Global, checker: &Checker<'_>) -> Result<Found, AllocError>
+fn found_by(alloc: Global, checker: &Checker<'_>) -> Result<Outcome, AllocError>
     ensures { IfOk result (Finds checker.now) }
 {
     match first_fault(alloc, checker)? {
-        Some((condition, place)) => Ok(Found::Fault(condition, place)),
-        None => Ok(Found::Resolution(checker.resolution(alloc)?)),
+        Some((condition, place)) => Ok(Outcome::Fault(condition, place)),
+        None => Ok(Outcome::Resolution(checker.resolution(alloc)?)),
     }
 }
 
 /// What the check of a document finds. Errs only if memory is refused.
-fn found_in(alloc: Global, raw: &RawMeta) -> Result<Found, AllocError>
+fn found_in(alloc: Global, raw: &RawMeta) -> Result<Outcome, AllocError>
     ensures { IfOk result (Finds raw.now) }
 {
     let checker = Checker::new(alloc, raw)?;
     found_by(alloc, &checker)
 }
 
-/// The metamodel that a document gives, if it is well-formed; else its first fault. Errs besides only if memory is
+/// The metamodel that a document gives, if it is well-formed; else errs with its first fault, and with `Memory` if memory is
 /// refused.
 pub fn check(alloc: Global, raw: RawMeta) -> Result<Meta, MetaFault>
     ensures { Checks raw result }
 {
     match found_in(alloc, &raw) {
-        Ok(Found::Resolution(resolution)) => {
+        Ok(Outcome::Resolution(resolution)) => {
             match Meta::new(alloc, raw, resolution) {
                 Ok(meta) => Ok(meta),
                 Err(_) => Err(MetaFault::Memory),
             }
         }
-        Ok(Found::Fault(condition, place)) => Err(MetaFault::IllFormed(condition, place)),
+        Ok(Outcome::Fault(condition, place)) => Err(MetaFault::IllFormed(condition, place)),
         Err(_) => Err(MetaFault::Memory),
     }
 }

@@ -8,7 +8,7 @@ use Rattle.std.proofs.lemmas.List.Elements.{All-cons, All-contains, All-nil, All
 use Rattle.std.proofs.lemmas.List.Sums.{count_by-le-length}
 use Rattle.std.proofs.lemmas.Map.Views.{Contains-from_any, list_any-from_Contains}
 use Rattle.mm_types.specs.Features.{all_features, first_occurrences, listed}
-use Rattle.mm_types.specs.Graph.{Conforms, Reaches, Walk, row}
+use Rattle.mm_types.specs.Graph.{Conforms, Reaches, Walk, by_class}
 use Rattle.mm_graph.specs.Order.{HasCycle, InRange}
 use Rattle.mm_graph.specs.Sets.{is_in}
 use Rattle.mm_graph.proofs.Merging.{any-with_new}
@@ -20,9 +20,9 @@ abbrev AllReach : List (List ℕ) → List Bool → ℕ → Type 0
 AllReach g s c = (k : ℕ) → is_in s k ≡ true → Reaches g k c
 
 -- and, with c put into it, each supertype of c
-all_reach_super : (g : List (List ℕ)) (s : List Bool) (c e : ℕ) → AllReach g s c → Contains (row g c) e → AllReach g (set s c true) e
+all_reach_super : (g : List (List ℕ)) (s : List Bool) (c e : ℕ) → AllReach g s c → Contains (by_class g c) e → AllReach g (set s c true) e
 all_reach_super g s c e all step k is = ⊎_elim
-    (λ (h : k ≡ c). (0, (e, subst (λ (x : ℕ). Contains (row g x) e) (sym h) step, refl)))
+    (λ (h : k ≡ c). (0, (e, subst (λ (x : ℕ). Contains (by_class g x) e) (sym h) step, refl)))
     (λ (n : k ≢ c).
     let r : Reaches g k c = all k (sym (other_test s c k true n) ∙ is) in
     (suc r.0, walk_more g (suc r.0) k c e r.1 step))
@@ -36,7 +36,7 @@ steps_left g range acyclic s zero c d long low all w =
     omega arith
 steps_left g range acyclic s (suc n) c d long low all w =
     let fewer = one_fewer s c (omega arith) (false_from_ne_true (is_in s c) (λ h. acyclic (c, all c h))) in
-    let super : w.0 < length g = All-contains (λ (e : ℕ). e < length g) (row g c) w.0 (range c [] low) w.1 in
+    let super : w.0 < length g = All-contains (λ (e : ℕ). e < length g) (by_class g c) w.0 (range c [] low) w.1 in
     let rest : n < count_by not (set s c true) = steps_left g range acyclic (set s c true) n w.0 d (length-set s c true ∙ long) super (all_reach_super g s c w.0 all w.1) w.2 in
     omega arith
 
@@ -68,27 +68,27 @@ flat_cases f x (e ∷ es) h = ⊎_elim
 
 -- a class that c conforms to declares f
 abbrev pub HasDeclarer : List (List ℕ) → List (List ℕ) → ℕ → ℕ → Type 0
-HasDeclarer g own c f = (d : ℕ) × Conforms g c d × Contains (row own d) f
+HasDeclarer g own c f = (d : ℕ) × Conforms g c d × Contains (by_class own d) f
 
-listed_from : (g own : List (List ℕ)) (f depth n c d : ℕ) → n < depth → Walk g n c d → Contains (row own d) f → Contains (listed g own depth c) f
+listed_from : (g own : List (List ℕ)) (f depth n c d : ℕ) → n < depth → Walk g n c d → Contains (by_class own d) f → Contains (listed g own depth c) f
 listed_from g own f zero n c d below w h = absurd (omega arith)
 listed_from g own f (suc depth) zero c d below w h =
-    Contains-append_right (flat_map (listed g own depth) (row g c)) (row own c) f (subst (λ (x : ℕ). Contains (row own x) f) (sym w) h)
+    Contains-append_right (flat_map (listed g own depth) (by_class g c)) (by_class own c) f (subst (λ (x : ℕ). Contains (by_class own x) f) (sym w) h)
 listed_from g own f (suc depth) (suc n) c d below w h =
-    let inherited : Contains (flat_map (listed g own depth) (row g c)) f =
-    All-contains (λ (e : ℕ). Contains (listed g own depth e) f → Contains (flat_map (listed g own depth) (row g c)) f) (row g c) w.0
-    (all_flat (listed g own depth) f (row g c)) w.1 (listed_from g own f depth n w.0 d (omega arith) w.2 h) in
-    Contains-append_left (flat_map (listed g own depth) (row g c)) (row own c) f inherited
+    let inherited : Contains (flat_map (listed g own depth) (by_class g c)) f =
+    All-contains (λ (e : ℕ). Contains (listed g own depth e) f → Contains (flat_map (listed g own depth) (by_class g c)) f) (by_class g c) w.0
+    (all_flat (listed g own depth) f (by_class g c)) w.1 (listed_from g own f depth n w.0 d (omega arith) w.2 h) in
+    Contains-append_left (flat_map (listed g own depth) (by_class g c)) (by_class own c) f inherited
 
 listed_cases : (g own : List (List ℕ)) (f depth c : ℕ) → Contains (listed g own depth c) f → HasDeclarer g own c f
 listed_cases g own f zero c h = absurd (omega (arith, h.1))
 listed_cases g own f (suc depth) c h = ⊎_elim
-    (λ (a : Contains (flat_map (listed g own depth) (row g c)) f).
-    let p = flat_cases (listed g own depth) f (row g c) a in
+    (λ (a : Contains (flat_map (listed g own depth) (by_class g c)) f).
+    let p = flat_cases (listed g own depth) f (by_class g c) a in
     let r : HasDeclarer g own p.0 f = listed_cases g own f depth p.0 p.2 in
     (r.0, (suc r.1.0, (p.0, p.1, r.1.1)), r.2))
-    (λ (b : Contains (row own c) f). (c, (0, refl), b))
-    (Contains-append_cases (flat_map (listed g own depth) (row g c)) (row own c) f h)
+    (λ (b : Contains (by_class own c) f). (c, (0, refl), b))
+    (Contains-append_cases (flat_map (listed g own depth) (by_class g c)) (by_class own c) f h)
 
 -- the first occurrences of a list are of what stands in it
 in_firsts : (xs : List ℕ) (x : ℕ) → Contains (first_occurrences xs) x ↔ Contains xs x

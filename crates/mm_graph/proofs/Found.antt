@@ -3,7 +3,7 @@ use Rattle.std.proofs.Common.{◌≡◌, ◌↔◌, ◌<◌, ◌≤◌, Bool, tr
 use Rattle.std.specs.List.{Contains, list_any}
 use Rattle.std.proofs.lemmas.Bool.{eq-eqb, eqb-true, or_cases, or_left, or_right}
 use Rattle.std.proofs.lemmas.List.Folds.{list_any_at}
-use Rattle.mm_types.specs.Graph.{Conforms, Walk, row}
+use Rattle.mm_types.specs.Graph.{Conforms, Walk, by_class}
 use Rattle.mm_types.specs.Lookups.{conforms_within}
 use Rattle.mm_graph.specs.Order.{HasCycle, InRange}
 use Rattle.mm_graph.proofs.Belonging.{walk_is_short}
@@ -22,22 +22,22 @@ found_conforms : (g : List (List ℕ)) (n c d : ℕ) → conforms_within g n c d
 found_conforms g zero c d h = (0, eqb-true c d h)
 found_conforms g (suc n) c d h = ⊎_elim
     (λ (same : nat_eq c d ≡ true). (0, eqb-true c d same))
-    (λ (step : list_any (λ e. conforms_within g n e d) (row g c) ≡ true).
-    let e = one_passes (λ e. conforms_within g n e d) (row g c) step in
+    (λ (step : list_any (λ e. conforms_within g n e d) (by_class g c) ≡ true).
+    let e = one_passes (λ e. conforms_within g n e d) (by_class g c) step in
     let rest : Conforms g e.0 d = found_conforms g n e.0 d e.2 in
     (suc rest.0, (e.0, e.1, rest.1)))
-    (or_cases (nat_eq c d) (list_any (λ e. conforms_within g n e d) (row g c)) h)
+    (or_cases (nat_eq c d) (list_any (λ e. conforms_within g n e d) (by_class g c)) h)
 
 -- what is reached by few steps is found
 reached_found : (g : List (List ℕ)) (n k c d : ℕ) → k ≤ n → Walk g k c d → conforms_within g n c d ≡ true
 reached_found g zero zero c d few w = eq-eqb c d w
 reached_found g zero (suc k) c d few w = absurd (omega arith)
-reached_found g (suc n) zero c d few w = or_left (nat_eq c d) (list_any (λ e. conforms_within g n e d) (row g c)) (eq-eqb c d w)
+reached_found g (suc n) zero c d few w = or_left (nat_eq c d) (list_any (λ e. conforms_within g n e d) (by_class g c)) (eq-eqb c d w)
 reached_found g (suc n) (suc k) c d few w =
     let rest : conforms_within g n w.0 d ≡ true = reached_found g n k w.0 d (omega arith) w.2 in
     let at = w.1 in
-    or_right (nat_eq c d) (list_any (λ e. conforms_within g n e d) (row g c))
-    (list_any_at (λ e. conforms_within g n e d) (row g c) at.0 w.0 at.1 (subst (λ (e : ℕ). conforms_within g n e d ≡ true) (sym at.2) rest))
+    or_right (nat_eq c d) (list_any (λ e. conforms_within g n e d) (by_class g c))
+    (list_any_at (λ e. conforms_within g n e d) (by_class g c) at.0 w.0 at.1 (subst (λ (e : ℕ). conforms_within g n e d ≡ true) (sym at.2) rest))
 
 -- Without cycles a class conforms to what is found within as many steps as there are classes, and to nothing else.
 pub conforms_found : (g : List (List ℕ)) → InRange g → (HasCycle g → ⊥) → (c d : ℕ) → c < length g

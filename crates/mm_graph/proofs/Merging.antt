@@ -3,7 +3,7 @@ use Rattle.std.proofs.Common.{◌≢◌, ⊎_elim, set, get_or-set_same, get_or-
 use Rattle.std.specs.List.{All, flat_map, list_any}
 use Rattle.std.proofs.lemmas.Bool.{eqb-true, cases_eq}
 use Rattle.std.proofs.lemmas.List.Folds.{list_any-append}
-use Rattle.mm_types.specs.Graph.{row}
+use Rattle.mm_types.specs.Graph.{by_class}
 use Rattle.mm_types.specs.Features.{all_features, first_occurrences, listed, with_new}
 use Rattle.mm_graph.specs.Rows.{with_rows}
 use Rattle.mm_graph.specs.Order.{IsOrder}
@@ -64,7 +64,7 @@ with_new_firsts acc xs = with_new_twice acc [] xs
 
 -- each listed row is the first occurrences of what its class lists
 pub with_rows_listed : (rows : List (List ℕ)) (f : ℕ → List ℕ) (seen es : List ℕ)
-    → All (λ (e : ℕ). row rows e ≡ first_occurrences (f e)) es → with_rows rows seen es ≡ with_new seen (flat_map f es)
+    → All (λ (e : ℕ). by_class rows e ≡ first_occurrences (f e)) es → with_rows rows seen es ≡ with_new seen (flat_map f es)
 with_rows_listed rows f seen [] h = refl
 with_rows_listed rows f seen (e ∷ es) h =
     ap (λ s. with_rows rows s es) (ap (with_new seen) (h 0 0 (omega arith)) ∙ with_new_firsts seen (f e))
@@ -82,36 +82,36 @@ pub same_listed : (g own : List (List ℕ)) (order : List ℕ) → IsOrder g ord
 same_listed g own order o zero m j low below within = absurd (omega arith)
 same_listed g own order o (suc k) zero j low below within = absurd (omega arith)
 same_listed g own order o (suc k) (suc m) j low below within =
-    ap (λ s. s ++ row own (get_or order j 0)) (same_flat (listed g own k) (listed g own m) (row g (get_or order j 0))
+    ap (λ s. s ++ by_class own (get_or order j 0)) (same_flat (listed g own k) (listed g own m) (by_class g (get_or order j 0))
     (λ i d less.
     let p = o.behind j within i d less in
     rw (← p.2) (same_listed g own order o k m p.0 (omega arith) (omega arith) (omega arith))))
 
 -- The rows before it make the next class's row.
 pub made_next : (g own rows : List (List ℕ)) (order : List ℕ) (i : ℕ) → IsOrder g order → i < length order
-    → ((j : ℕ) → j < i → row rows (get_or order j 0) ≡ all_features g own (get_or order j 0))
-    → with_new (with_rows rows [] (row g (get_or order i 0))) (row own (get_or order i 0)) ≡ all_features g own (get_or order i 0)
+    → ((j : ℕ) → j < i → by_class rows (get_or order j 0) ≡ all_features g own (get_or order j 0))
+    → with_new (with_rows rows [] (by_class g (get_or order i 0))) (by_class own (get_or order i 0)) ≡ all_features g own (get_or order i 0)
 unfolding all_features
 made_next g own rows order i o within made =
     let c = get_or order i 0 in
     let n = length g in
-    let known : All (λ (e : ℕ). row rows e ≡ first_occurrences (listed g own n e)) (row g c) =
+    let known : All (λ (e : ℕ). by_class rows e ≡ first_occurrences (listed g own n e)) (by_class g c) =
     λ k d low. (let p = o.behind i within k d low in rw (← p.2) (made p.0 p.1)) in
-    ap (λ s. with_new s (row own c)) (with_rows_listed rows (listed g own n) [] (row g c) known)
-    ∙ (sym (with_new-append [] (flat_map (listed g own n) (row g c)) (row own c))
+    ap (λ s. with_new s (by_class own c)) (with_rows_listed rows (listed g own n) [] (by_class g c) known)
+    ∙ (sym (with_new-append [] (flat_map (listed g own n) (by_class g c)) (by_class own c))
     ∙ ap first_occurrences (same_listed g own order o (suc n) n i (omega (arith, o.long)) (omega (arith, o.long)) within))
 
 pub row_set : (rows : List (List ℕ)) (c : ℕ) (made : List ℕ) (f : ℕ → List ℕ) (d : ℕ) → c < length rows → made ≡ f c
-    → (d ≢ c → row rows d ≡ f d) → row (set rows c made) d ≡ f d
+    → (d ≢ c → by_class rows d ≡ f d) → by_class (set rows c made) d ≡ f d
 row_set rows c made f d within is other = ⊎_elim
     (λ (e : d ≡ c). rw e (get_or-set_same rows c made [] within ∙ is))
     (λ (n : d ≢ c). get_or-set_other rows c d made [] n ∙ other n) (cases_eq d c)
 
 -- one more class's row is made
 pub rows_next : (g own rows : List (List ℕ)) (order supers features made : List ℕ) (i : ℕ) → IsOrder g order → i < length order → length rows ≡ length g
-    → ((j : ℕ) → j < i → row rows (get_or order j 0) ≡ all_features g own (get_or order j 0))
-    → supers ≡ row g (get_or order i 0) → features ≡ row own (get_or order i 0) → made ≡ with_new (with_rows rows [] supers) features
-    → (j : ℕ) → j < i + 1 → row (set rows (get_or order i 0) made) (get_or order j 0) ≡ all_features g own (get_or order j 0)
+    → ((j : ℕ) → j < i → by_class rows (get_or order j 0) ≡ all_features g own (get_or order j 0))
+    → supers ≡ by_class g (get_or order i 0) → features ≡ by_class own (get_or order i 0) → made ≡ with_new (with_rows rows [] supers) features
+    → (j : ℕ) → j < i + 1 → by_class (set rows (get_or order i 0) made) (get_or order j 0) ≡ all_features g own (get_or order j 0)
 rows_next g own rows order supers features made i o within long known supers_are features_are made_is j below =
     let low : get_or order i 0 < length g = o.within i 0 within in
     let is = rw (supers_are, features_are) at made_is in

@@ -5,7 +5,7 @@ use Rattle.std.proofs.lemmas.Bool.{cases_eq}
 use Rattle.std.proofs.lemmas.List.{get_or_default, length-replicate}
 use Rattle.std.proofs.lemmas.List.Elements.{All-contains, Contains-get_or}
 use Rattle.std.proofs.lemmas.List.Sums.{sum_by-set}
-use Rattle.mm_types.specs.Graph.{Conforms, Reaches, Walk, row}
+use Rattle.mm_types.specs.Graph.{Conforms, Reaches, Walk, by_class}
 use Rattle.mm_graph.specs.Sets.{HasSupers, IsAdded, IsSetOf, is_in}
 use Rattle.mm_graph.specs.Order.{IsBefore, IsOrder}
 
@@ -16,7 +16,7 @@ pub record IsAdding (g : List (List ℕ)) (c : ℕ) (old s : List Bool) (i : ℕ
   pub keeps : (k : ℕ) → is_in (set old c true) k ≡ true → is_in s k ≡ true
   pub sound : (k : ℕ) → is_in s k ≡ true → (is_in old k ≡ true) ⊎ Conforms g c k
   pub closed : (k : ℕ) → is_in s k ≡ true → (is_in (set old c true) k ≡ true) ⊎ HasSupers g s k
-  pub visited : (j : ℕ) → j < i → is_in s (get_or (row g c) j 0) ≡ true
+  pub visited : (j : ℕ) → j < i → is_in s (get_or (by_class g c) j 0) ≡ true
   pub fewer : count_by not s + 1 ≤ count_by not old
 
 same_test : (s : List Bool) (c k : ℕ) (b : Bool) → c < length s → k ≡ c → is_in (set s c b) k ≡ b
@@ -45,17 +45,17 @@ adding_none g c old within is = record {
   fewer = let e = one_fewer old c within is in omega arith;
 }
 
-pub conforms_more : (g : List (List ℕ)) (c e k : ℕ) → Contains (row g c) e → Conforms g e k → Conforms g c k
+pub conforms_more : (g : List (List ℕ)) (c e k : ℕ) → Contains (by_class g c) e → Conforms g e k → Conforms g c k
 conforms_more g c e k step h = (suc h.0, (e, step, h.1))
 
-pub adding_more : (g : List (List ℕ)) (c e : ℕ) (old s more : List Bool) (i : ℕ) → IsAdding g c old s i → i < length (row g c) → e ≡ get_or (row g c) i 0
+pub adding_more : (g : List (List ℕ)) (c e : ℕ) (old s more : List Bool) (i : ℕ) → IsAdding g c old s i → i < length (by_class g c) → e ≡ get_or (by_class g c) i 0
     → IsAdded g e s more → IsAdding g c old more (i + 1)
 adding_more g c e old s more i a low is b = record {
   new = a.new;
   long = b.long ∙ a.long;
   keeps = λ k h. b.keeps k (a.keeps k h);
   sound = λ k h. ⊎_elim (λ (x : is_in s k ≡ true). a.sound k x)
-      (λ (x : Conforms g e k). inr (conforms_more g c e k (rw is (Contains-get_or (row g c) i 0 low)) x)) (b.sound k h);
+      (λ (x : Conforms g e k). inr (conforms_more g c e k (rw is (Contains-get_or (by_class g c) i 0 low)) x)) (b.sound k h);
   closed = λ k h. ⊎_elim (λ (x : is_in s k ≡ true). ⊎_elim (λ (y : is_in (set old c true) k ≡ true). inl y)
       (λ (y : HasSupers g s k). inr (λ j d less. b.keeps _ (y j d less))) (a.closed k x))
       (λ (x : HasSupers g more k). inr x) (b.closed k h);
@@ -64,7 +64,7 @@ adding_more g c e old s more i a low is b = record {
   fewer = let x = a.fewer in let y = b.fewer in omega arith;
 }
 
-pub added : (g : List (List ℕ)) (c : ℕ) (old s : List Bool) (i : ℕ) → IsAdding g c old s i → c < length old → length (row g c) ≤ i → IsAdded g c old s
+pub added : (g : List (List ℕ)) (c : ℕ) (old s : List Bool) (i : ℕ) → IsAdding g c old s i → c < length old → length (by_class g c) ≤ i → IsAdded g c old s
 added g c old s i a within all = record {
   long = a.long;
   here = a.keeps c (same_test old c c true within refl);
@@ -72,7 +72,7 @@ added g c old s i a within all = record {
   sound = a.sound;
   closed = λ k h. ⊎_elim (λ (x : is_in (set old c true) k ≡ true). ⊎_elim
       (λ (y : k ≡ c). inr (subst (λ (n : ℕ). HasSupers g s n) (sym y)
-      (λ j d low. ap (is_in s) (get_or_default (row g c) j d 0 low) ∙ a.visited j (omega arith))))
+      (λ j d low. ap (is_in s) (get_or_default (by_class g c) j d 0 low) ∙ a.visited j (omega arith))))
       (λ (y : k ≢ c). inl (sym (other_test old c k true y) ∙ x)) (cases_eq k c))
       (λ (x : HasSupers g s k). inr x) (a.closed k h);
   fewer = let x = a.fewer in omega arith;
@@ -82,7 +82,7 @@ added g c old s i a within all = record {
 pub closed_reaches : (g : List (List ℕ)) (s : List Bool) → ((k : ℕ) → is_in s k ≡ true → HasSupers g s k)
     → (n c d : ℕ) → is_in s c ≡ true → Walk g n c d → is_in s d ≡ true
 closed_reaches g s closed zero c d h w = ap (is_in s) (sym w) ∙ h
-closed_reaches g s closed (suc n) c d h w = closed_reaches g s closed n w.0 d (All-contains (λ (e : ℕ). is_in s e ≡ true) (row g c) w.0 (closed c h) w.1) w.2
+closed_reaches g s closed (suc n) c d h w = closed_reaches g s closed n w.0 d (All-contains (λ (e : ℕ). is_in s e ≡ true) (by_class g c) w.0 (closed c h) w.1) w.2
 
 none_in : (n k : ℕ) → get_or (replicate n false) k false ≡ false
 none_in zero k = refl
@@ -105,7 +105,7 @@ pub record IsReaching (g : List (List ℕ)) (c : ℕ) (s : List Bool) (i : ℕ) 
   pub long : length s ≡ length g
   pub sound : (k : ℕ) → is_in s k ≡ true → Reaches g c k
   pub closed : (k : ℕ) → is_in s k ≡ true → HasSupers g s k
-  pub visited : (j : ℕ) → j < i → is_in s (get_or (row g c) j 0) ≡ true
+  pub visited : (j : ℕ) → j < i → is_in s (get_or (by_class g c) j 0) ≡ true
 
 pub reaching_none : (g : List (List ℕ)) (c : ℕ) (s : List Bool) → s ≡ replicate (length g) false → IsReaching g c s 0
 reaching_none g c s e = record {
@@ -115,31 +115,31 @@ reaching_none g c s e = record {
   visited = λ j h. absurd (omega arith);
 }
 
-pub reaching_more : (g : List (List ℕ)) (c e : ℕ) (s more : List Bool) (i : ℕ) → IsReaching g c s i → i < length (row g c) → e ≡ get_or (row g c) i 0
+pub reaching_more : (g : List (List ℕ)) (c e : ℕ) (s more : List Bool) (i : ℕ) → IsReaching g c s i → i < length (by_class g c) → e ≡ get_or (by_class g c) i 0
     → IsAdded g e s more → IsReaching g c more (i + 1)
 reaching_more g c e s more i a low is b = record {
   long = b.long ∙ a.long;
   sound = λ k h. ⊎_elim (λ (x : is_in s k ≡ true). a.sound k x)
-      (λ (x : Conforms g e k). let r : Reaches g c k = (x.0, (e, rw is (Contains-get_or (row g c) i 0 low), x.1)) in r) (b.sound k h);
+      (λ (x : Conforms g e k). let r : Reaches g c k = (x.0, (e, rw is (Contains-get_or (by_class g c) i 0 low), x.1)) in r) (b.sound k h);
   closed = λ k h. ⊎_elim (λ (x : is_in s k ≡ true). λ j d less. b.keeps _ (a.closed k x j d less))
       (λ (x : HasSupers g more k). x) (b.closed k h);
   visited = λ j h. ⊎_elim (λ (x : j ≡ i). rw (x, ← is) b.here)
       (λ (x : j ≢ i). b.keeps _ (a.visited j (omega arith))) (cases_eq j i);
 }
 
-pub reaching_all : (g : List (List ℕ)) (c : ℕ) (s : List Bool) (i : ℕ) → IsReaching g c s i → length (row g c) ≤ i → IsSetOf (Reaches g c) s
+pub reaching_all : (g : List (List ℕ)) (c : ℕ) (s : List Bool) (i : ℕ) → IsReaching g c s i → length (by_class g c) ≤ i → IsSetOf (Reaches g c) s
 reaching_all g c s i a all k =
-    let supers : HasSupers g s c = λ j d low. ap (is_in s) (get_or_default (row g c) j d 0 low) ∙ a.visited j (omega arith) in
-    (a.sound k, (λ h. closed_reaches g s a.closed h.0 h.1.0 k (All-contains (λ (e : ℕ). is_in s e ≡ true) (row g c) h.1.0 supers h.1.1) h.1.2))
+    let supers : HasSupers g s c = λ j d low. ap (is_in s) (get_or_default (by_class g c) j d 0 low) ∙ a.visited j (omega arith) in
+    (a.sound k, (λ h. closed_reaches g s a.closed h.0 h.1.0 k (All-contains (λ (e : ℕ). is_in s e ≡ true) (by_class g c) h.1.0 supers h.1.1) h.1.2))
 
 -- What a class of an order reaches stands before it.
 pub order_falls : (g : List (List ℕ)) (order : List ℕ) → IsOrder g order → (n j c d : ℕ) → j < length order → get_or order j 0 ≡ c → Walk g (suc n) c d
     → (i : ℕ) × (i < j) × (get_or order i 0 ≡ d)
 order_falls g order o zero j c d low at w =
-    let p = All-contains (IsBefore order j) (row g (get_or order j 0)) w.0 (o.behind j low) (rw at w.1) in
+    let p = All-contains (IsBefore order j) (by_class g (get_or order j 0)) w.0 (o.behind j low) (rw at w.1) in
     (p.0, p.1, p.2 ∙ w.2)
 order_falls g order o (suc n) j c d low at w =
-    let p = All-contains (IsBefore order j) (row g (get_or order j 0)) w.0 (o.behind j low) (rw at w.1) in
+    let p = All-contains (IsBefore order j) (by_class g (get_or order j 0)) w.0 (o.behind j low) (rw at w.1) in
     let q = order_falls g order o n p.0 w.0 d (omega (arith, p.1)) p.2 w.2 in
     (q.0, omega (arith, p.1, q.1), q.2)
 
@@ -150,7 +150,7 @@ never_falls g order o (suc bound) j c below low at r =
     never_falls g order o bound p.0 c (omega (arith, p.1)) (omega (arith, p.1)) p.2 r
 
 -- what has a supertype is a class
-has_row : (g : List (List ℕ)) (c e : ℕ) → Contains (row g c) e → c < length g
+has_row : (g : List (List ℕ)) (c e : ℕ) → Contains (by_class g c) e → c < length g
 has_row [] c e h = absurd (omega (arith, h.1))
 has_row (x ∷ g) zero e h = omega arith
 has_row (x ∷ g) (suc c) e h = let p = has_row g c e h in omega arith

@@ -5,15 +5,15 @@ use Rattle.std.proofs.lemmas.Bool.{cases_eq}
 use Rattle.std.proofs.lemmas.List.{get_or_append_left, get_or_default, get_or_push, length_push}
 use Rattle.std.proofs.lemmas.List.Elements.{All-push, Contains-append_left, Contains-push}
 use Rattle.std.proofs.lemmas.List.Sums.{sum_by-set}
-use Rattle.mm_types.specs.Graph.{Reaches, Walk, row}
+use Rattle.mm_types.specs.Graph.{Reaches, Walk, by_class}
 use Rattle.mm_graph.specs.Order.{IsBefore}
 use Rattle.mm_graph.specs.Visits.{Goes, IsBegun, IsVisited, OpenReach, is_done, is_unseen, mark}
 use Rattle.mm_graph.specs.declared.order.Mark.{Mark}
 use Rattle.mm_graph.specs.declared.order.Mark.TheVariants.{Unseen, Open, Done}
 
 -- one step more
-pub walk_more : (g : List (List ℕ)) (n a c e : ℕ) → Walk g n a c → Contains (row g c) e → Walk g (suc n) a e
-walk_more g zero a c e w step = (e, subst (λ (x : ℕ). Contains (row g x) e) (sym w) step, refl)
+pub walk_more : (g : List (List ℕ)) (n a c e : ℕ) → Walk g n a c → Contains (by_class g c) e → Walk g (suc n) a e
+walk_more g zero a c e w step = (e, subst (λ (x : ℕ). Contains (by_class g x) e) (sym w) step, refl)
 walk_more g (suc n) a c e w step = (w.0, w.1, walk_more g n w.0 c e w.2 step)
 
 same_mark : (ms : List Mark) (c k : ℕ) (m : Mark) → c < length ms → k ≡ c → mark (set ms c m) k ≡ m
@@ -56,24 +56,24 @@ begun_open g ms order c b low is =
     }
 
 behind_push : (g : List (List ℕ)) (order : List ℕ) (c : ℕ)
-    → ((j : ℕ) → j < length order → All (IsBefore order j) (row g (get_or order j 0)))
-    → All (λ (e : ℕ). Contains order e) (row g c)
-    → (j : ℕ) → j < length (order ++ c ∷ []) → All (IsBefore (order ++ c ∷ []) j) (row g (get_or (order ++ c ∷ []) j 0))
+    → ((j : ℕ) → j < length order → All (IsBefore order j) (by_class g (get_or order j 0)))
+    → All (λ (e : ℕ). Contains order e) (by_class g c)
+    → (j : ℕ) → j < length (order ++ c ∷ []) → All (IsBefore (order ++ c ∷ []) j) (by_class g (get_or (order ++ c ∷ []) j 0))
 behind_push g order c behind supers j less = ⊎_elim
     (λ (s : j ≡ length order).
     let at : get_or (order ++ c ∷ []) j 0 ≡ c = get_or_push order c 0 j (sym s) in
-    subst (λ (x : ℕ). All (IsBefore (order ++ c ∷ []) j) (row g x)) (sym at)
-    (λ k d low. (let p = supers k d low in (p.0, omega (arith, p.1), get_or_append_left order (c ∷ []) 0 p.0 p.1 ∙ (get_or_default order p.0 0 (get_or (row g c) k d) p.1 ∙ p.2)))))
+    subst (λ (x : ℕ). All (IsBefore (order ++ c ∷ []) j) (by_class g x)) (sym at)
+    (λ k d low. (let p = supers k d low in (p.0, omega (arith, p.1), get_or_append_left order (c ∷ []) 0 p.0 p.1 ∙ (get_or_default order p.0 0 (get_or (by_class g c) k d) p.1 ∙ p.2)))))
     (λ (n : j ≢ length order).
     let low : j < length order = let e = length_push order c in omega arith in
     let at : get_or (order ++ c ∷ []) j 0 ≡ get_or order j 0 = get_or_append_left order (c ∷ []) 0 j low in
-    subst (λ (x : ℕ). All (IsBefore (order ++ c ∷ []) j) (row g x)) (sym at)
+    subst (λ (x : ℕ). All (IsBefore (order ++ c ∷ []) j) (by_class g x)) (sym at)
     (λ k d less. (let p = behind j low k d less in (p.0, p.1, get_or_append_left order (c ∷ []) 0 p.0 (omega (arith, p.1)) ∙ p.2))))
     (cases_eq j (length order))
 
 -- and closed, once its supertypes are done
 pub begun_done : (g : List (List ℕ)) (ms : List Mark) (order : List ℕ) (c : ℕ) → IsBegun g ms order → c < length g → mark ms c ≡ Open
-    → ((j : ℕ) → j < length (row g c) → mark ms (get_or (row g c) j 0) ≡ Done) → IsBegun g (set ms c Done) (order ++ c ∷ [])
+    → ((j : ℕ) → j < length (by_class g c) → mark ms (get_or (by_class g c) j 0) ≡ Done) → IsBegun g (set ms c Done) (order ++ c ∷ [])
 begun_done g ms order c b low is supers =
     let within : c < length ms = omega (arith, b.long) in
     record {
@@ -82,7 +82,7 @@ begun_done g ms order c b low is supers =
       done = λ k e. ⊎_elim
           (λ (s : k ≡ c). subst (λ (x : ℕ). Contains (order ++ c ∷ []) x) (sym s) (Contains-push order c))
           (λ (n : k ≢ c). Contains-append_left order (c ∷ []) k (b.done k (sym (other_mark ms c k Done n) ∙ e))) (cases_eq k c);
-      behind = behind_push g order c b.behind (λ k d less. b.done _ (ap (mark ms) (get_or_default (row g c) k d 0 less) ∙ supers k less));
+      behind = behind_push g order c b.behind (λ k d less. b.done _ (ap (mark ms) (get_or_default (by_class g c) k d 0 less) ∙ supers k less));
       counted = let e = counted_set is_done ms c Done Open within is in let f = b.counted in length_push order c ∙ omega arith;
     }
 
@@ -105,7 +105,7 @@ goes_closed old ms c within is go =
     }
 
 pub visited : (g : List (List ℕ)) (c : ℕ) (old ms : List Mark) (order grown : List ℕ) → c < length g → length old ≡ length g → mark old c ≡ Unseen
-    → Goes (set old c Open) ms → IsBegun g ms order → ((j : ℕ) → j < length (row g c) → mark ms (get_or (row g c) j 0) ≡ Done)
+    → Goes (set old c Open) ms → IsBegun g ms order → ((j : ℕ) → j < length (by_class g c) → mark ms (get_or (by_class g c) j 0) ≡ Done)
     → grown ≡ order ++ c ∷ [] → IsVisited g c old (set ms c Done) grown
 visited g c old ms order grown low long is go b supers grown_is =
     let within : c < length old = omega (arith, long) in
@@ -119,9 +119,9 @@ visited g c old ms order grown low long is go b supers grown_is =
 
 -- the open classes reach a supertype of the one that was opened last
 pub reach_super : (g : List (List ℕ)) (old ms : List Mark) (c e k : ℕ) → OpenReach g old c → Goes (set old c Open) ms
-    → Contains (row g c) e → mark ms k ≡ Open → Reaches g k e
+    → Contains (by_class g c) e → mark ms k ≡ Open → Reaches g k e
 reach_super g old ms c e k reach go step is = ⊎_elim
-    (λ (s : k ≡ c). (0, (e, subst (λ (x : ℕ). Contains (row g x) e) (sym s) step, refl)))
+    (λ (s : k ≡ c). (0, (e, subst (λ (x : ℕ). Contains (by_class g x) e) (sym s) step, refl)))
     (λ (n : k ≢ c).
     let r : Reaches g k c = reach k (sym (other_mark old c k Open n) ∙ go.opened k is) in
     (suc r.0, walk_more g (suc r.0) k c e r.1 step))

@@ -1,4 +1,4 @@
--- A row for each class: the set of the classes that it conforms to.
+-- A list for each class: the set of the classes that it conforms to.
 use Rattle.std.specs.Prelude.{ℕ, ◌≡◌, ◌<◌, Bool, List, [], length}
 use Rattle.std.specs.List.{slice_index_or}
 use Rattle.mm_types.specs.Graph.{Conforms}

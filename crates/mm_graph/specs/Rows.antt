@@ -1,14 +1,14 @@
--- Rows of features, and how the row of a class comes from those of its direct supertypes.
+-- Lists of features, and how the list of a class comes from those of its direct supertypes.
 use Rattle.std.specs.Prelude.{ℕ, List, [], ◌∷◌, ◌++◌}
 use Rattle.std.specs.List.{flat_map}
-use Rattle.mm_types.specs.Graph.{row}
+use Rattle.mm_types.specs.Graph.{by_class}
 use Rattle.mm_types.specs.Features.{all_features, first_occurrences, with_new}
 
--- what is seen, and behind it what is new in the rows of some classes, one row after another
+-- what is seen, and behind it what is new in the lists of some classes, one list after another
 abbrev pub with_rows : List (List ℕ) → List ℕ → List ℕ → List ℕ
 with_rows rows seen [] = seen
-with_rows rows seen (e ∷ es) = with_rows rows (with_new seen (row rows e)) es
+with_rows rows seen (e ∷ es) = with_rows rows (with_new seen (by_class rows e)) es
 
 -- all features of the direct supertypes in declared order, then the own ones; the first occurrence of each
 abbrev pub from_supers : List (List ℕ) → List (List ℕ) → ℕ → List ℕ
-from_supers g own c = first_occurrences (flat_map (all_features g own) (row g c) ++ row own c)
+from_supers g own c = first_occurrences (flat_map (all_features g own) (by_class g c) ++ by_class own c)

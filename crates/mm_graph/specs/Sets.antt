@@ -1,7 +1,7 @@
 -- A set of classes, as a truth value at each class's number.
 use Rattle.std.specs.Prelude.{ℕ, ◌≡◌, ◌≤◌, ◌⊎◌, ◌↔◌, Bool, true, false, not, List, length}
 use Rattle.std.specs.List.{All, count_by, slice_index_or}
-use Rattle.mm_types.specs.Graph.{Conforms, row}
+use Rattle.mm_types.specs.Graph.{Conforms, by_class}
 
 abbrev pub is_in : List Bool → ℕ → Bool
 is_in s k = slice_index_or s k false
@@ -12,7 +12,7 @@ IsSetOf P s = (k : ℕ) → (is_in s k ≡ true) ↔ P k
 
 -- every supertype of a class is in the set
 abbrev pub HasSupers : List (List ℕ) → List Bool → ℕ → Type 0
-HasSupers g s k = All (λ (e : ℕ). is_in s e ≡ true) (row g k)
+HasSupers g s k = All (λ (e : ℕ). is_in s e ≡ true) (by_class g k)
 
 -- c and what it conforms to were added to a set; what is new in it has its supertypes there
 pub record IsAdded (g : List (List ℕ)) (c : ℕ) (old new : List Bool) : Type 0 where

@@ -1,7 +1,7 @@
 -- How far the search for an order has come.
 use Rattle.std.specs.Prelude.{ℕ, ◌≡◌, ◌<◌, ◌≤◌, Bool, true, false, List, length}
 use Rattle.std.specs.List.{All, Contains, count_by, slice_index_or}
-use Rattle.mm_types.specs.Graph.{Reaches, row}
+use Rattle.mm_types.specs.Graph.{Reaches, by_class}
 use Rattle.mm_graph.specs.Order.{HasCycle, IsBefore}
 use Rattle.mm_graph.specs.declared.order.Mark.{Mark}
 use Rattle.mm_graph.specs.declared.order.Mark.TheVariants.{Unseen, Open, Done}
@@ -24,7 +24,7 @@ pub record IsBegun (g : List (List ℕ)) (ms : List Mark) (order : List ℕ) : T
   pub long : length ms ≡ length g
   pub within : All (λ (c : ℕ). c < length g) order
   pub done : (c : ℕ) → mark ms c ≡ Done → Contains order c
-  pub behind : (j : ℕ) → j < length order → All (IsBefore order j) (row g (slice_index_or order j 0))
+  pub behind : (j : ℕ) → j < length order → All (IsBefore order j) (by_class g (slice_index_or order j 0))
   pub counted : length order ≡ count_by is_done ms
 
 -- c is reached from every class that is open

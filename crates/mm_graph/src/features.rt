@@ -1,7 +1,7 @@
 //! All features of every class.
 ghost use Rattle.std.specs.Prelude.{◌≡◌, ◌<◌, ℕ, [], IfOk, OnOk, length};
 ghost use Rattle.std.specs.List.{All};
-ghost use Rattle.mm_types.specs.Graph.{row};
+ghost use Rattle.mm_types.specs.Graph.{by_class};
 ghost use Rattle.mm_types.specs.Features.{all_features, with_new};
 ghost use Rattle.mm_graph.specs.Order.{InRange, IsOrder};
 ghost use Rattle.mm_graph.specs.Rows.{with_rows};
@@ -10,7 +10,7 @@ use indexmap::IndexSet;
 use mm_types::Seq;
 use std::alloc::{AllocError, AllocFailed, Global};
 
-/// Adds those features of a row that are new, after the features found.
+/// Adds those features of a list that are new, after the features found.
 fn add_new(found: &mut IndexSet<u32>, features: &[u32]) -> Result<(), AllocFailed<u32>>
     ensures { OnOk result (found.new.keys ≡ with_new found.old.keys features.now) }
 {
@@ -20,7 +20,7 @@ fn add_new(found: &mut IndexSet<u32>, features: &[u32]) -> Result<(), AllocFaile
     Ok(())
 }
 
-/// What the rows of the supertypes hold, in order, and then the own features; each once.
+/// What the lists of the supertypes hold, in order, and then the own features; each once.
 fn merged(
     alloc: Global,
     supers: &[usize],
@@ -43,8 +43,8 @@ fn merged(
 /// that each class declares, and `order` is one that `order_of` returns. Errs only if memory is
 /// refused.
 ///
-/// Each class's row is made once, from the rows of its supertypes, so many paths to one supertype
-/// cost no more than one. A row takes four bytes a feature and no more: all rows together are the
+/// Each class's list is made once, from the lists of its supertypes, so many paths to one supertype
+/// cost no more than one. A list takes four bytes a feature and no more: all lists together are the
 /// largest part of a metamodel.
 pub fn features_table(
     alloc: Global,
@@ -56,13 +56,13 @@ pub fn features_table(
     requires own { length own.now ≡ length graph.now }
     requires order { IsOrder graph.now order.now }
     ensures len { IfOk result (λ t. length t.items ≡ length graph.now) }
-    ensures rows { IfOk result (λ t. (c : ℕ) → c < length graph.now → row t.items c ≡ all_features graph.now own.now c) }
+    ensures rows { IfOk result (λ t. (c : ℕ) → c < length graph.now → by_class t.items c ≡ all_features graph.now own.now c) }
 {
     let mut rows = Vec::with_capacity(alloc, graph.len())?;
     'empty: for _class in 0..graph.len() {
         rows.push(Seq::new(alloc))?;
     }
-    // The rows of a class's supertypes are made by now: they come before it in the order.
+    // The lists of a class's supertypes are made by now: they come before it in the order.
     'classes: for c in order {
         let made = merged(
             alloc,

@@ -5,10 +5,10 @@ use Rattle.std.specs.Prelude.{Result, Ok, Err, codes, is_some, option_and_then}
 use Rattle.std.specs.Option.{option_or}
 use Rattle.serde_json.specs.Data.{Data, null, boolean, number, string, array, object}
 use Rattle.serde_json.specs.Find.{get}
-use Rattle.mm_load.specs.Layout.{attribute, attribute_rows, feature_rows, new_feature, reference, reference_rows, unsets_one}
-use Rattle.json_rows.specs.Rows.{Gives, Rows, ◌also◌, ◌such_that◌, has_only, makes, object_of, required_at, word}
-use Rattle.json_rows.specs.declared.read_fault.ReadFault.{ReadFault}
-use Rattle.json_rows.specs.declared.read_fault.ReadFault.TheVariants.{Layout, Memory}
+use Rattle.mm_load.specs.Layout.{attribute, attribute_fields, feature_fields, new_feature, reference, reference_fields, unsets_one}
+use Rattle.json_fields.specs.Fields.{Gives, Fields, ◌also◌, ◌such_that◌, has_only, makes, object_of, required_at, word}
+use Rattle.json_fields.specs.declared.read_fault.ReadFault.{ReadFault}
+use Rattle.json_fields.specs.declared.read_fault.ReadFault.TheVariants.{Layout, Memory}
 
 abbrev none : (B : Type 0) → Option B
 none B = None
@@ -19,8 +19,8 @@ nothing true (Some f) = refl
 nothing false o = refl
 
 -- where one of the rows says nothing, the object does not
-object_lacks : {A B : Type 0} (rows : Rows (A → B)) (row : Rows A) (d : Data) → row.reading d ≡ None → object_of (rows also row) d ≡ None
-object_lacks rows row d h = rw h (nothing (has_only (rows also row).keys d) (rows.reading d))
+object_lacks : {A B : Type 0} (fields : Fields (A → B)) (field : Fields A) (d : Data) → field.reading d ≡ None → object_of (fields also field) d ≡ None
+object_lacks fields field d h = rw h (nothing (has_only (fields also field).keys d) (fields.reading d))
 
 none_if_not : {X : Type 0} (o : Option X) → is_some o ≡ false → o ≡ None
 none_if_not None h = refl
@@ -31,8 +31,8 @@ pub no_attribute : (d : Data) → is_some (required_at (codes "kind") (word (cod
 unfolding attribute
 no_attribute d h =
     let e = none_if_not _ h in
-    let r : attribute_rows.reading d ≡ None = rw e refl in
-    ap (λ o. o such_that unsets_one) (object_lacks (makes new_feature also feature_rows) attribute_rows d r)
+    let r : attribute_fields.reading d ≡ None = rw e refl in
+    ap (λ o. o such_that unsets_one) (object_lacks (makes new_feature also feature_fields) attribute_fields d r)
 
 chosen_one : (w v s : List ℕ) (b : Bool) → bytes_eq s w ≡ b → bytes_eq w v ≡ false → is_some {T = Unit {0}} (cond b (Some tt) None) ≡ true → word v (string s) ≡ None
 chosen_one w v s true is apart h = rw ((bytes_eq-Decides s w).0 is, apart) refl
@@ -55,8 +55,8 @@ pub no_reference : (d : Data) → is_some (required_at (codes "kind") (word (cod
 unfolding reference
 no_reference d h =
     let e = one_word_at (codes "attribute") (codes "reference") (get (codes "kind") d) refl h in
-    let r : reference_rows.reading d ≡ None = rw e refl in
-    object_lacks (makes new_feature also feature_rows) reference_rows d r
+    let r : reference_fields.reading d ≡ None = rw e refl in
+    object_lacks (makes new_feature also feature_fields) reference_fields d r
 
 pub gives_first : {X : Type 0} (r : Result X ReadFault) (p q : Option X) → Gives r p → q ≡ None → Gives r (option_or p q)
 gives_first (Ok x) p q h e = rw h refl

@@ -1,4 +1,4 @@
--- The layout of a metamodel document: the rows of each kind of object. Any other key is refused.
+-- The layout of a metamodel document: the fields of each kind of object. Any other key is refused.
 use Rattle.std.specs.Prelude.{ℕ, ℤ, pos, ◌||◌, Bool, true, false, not, List, [], Option, None, codes}
 use Rattle.std.specs.Option.{option_or}
 use Rattle.std.specs.Ordering.{int_eq}
@@ -10,7 +10,7 @@ use Rattle.mm_types.specs.declared.raw.RawFeature.{RawFeature}
 use Rattle.mm_types.specs.declared.raw.RawKind.{RawKind}
 use Rattle.mm_types.specs.declared.raw.RawKind.TheVariants.{Attribute, Reference}
 use Rattle.mm_load.specs.declared.head.Head.{Head}
-use Rattle.json_rows.specs.Rows.{Rows, ◌also◌, ◌such_that◌, array_of, array_of_some, flag, given, makes, object_of, optional, required, text, whole_number, word}
+use Rattle.json_fields.specs.Fields.{Fields, ◌also◌, ◌such_that◌, array_of, array_of_some, flag, given, makes, object_of, optional, required, text, whole_number, word}
 
 -- ---- features
 
@@ -18,8 +18,8 @@ abbrev pub new_head : List ℕ → List ℕ → ℤ → ℤ → Head
 new_head name type_name lower upper = record { name = name; type_name = type_name; lower = lower; upper = upper }
 
 -- what every feature says
-abbrev pub feature_rows : Rows Head
-feature_rows = makes new_head
+abbrev pub feature_fields : Fields Head
+feature_fields = makes new_head
     -- its name
     also required (codes "name") text
     -- the name of its type
@@ -33,8 +33,8 @@ abbrev pub new_attribute : Unit {0} → Bool → Bool → Option (List ℕ) → 
 new_attribute kind unique unsettable default = Attribute unique unsettable default
 
 -- what an attribute says beside
-abbrev pub attribute_rows : Rows RawKind
-attribute_rows = makes new_attribute
+abbrev pub attribute_fields : Fields RawKind
+attribute_fields = makes new_attribute
     -- that it is one
     also required (codes "kind") (word (codes "attribute"))
     -- whether it repeats no value, or true
@@ -48,8 +48,8 @@ abbrev pub new_reference : Unit {0} → Bool → Option (List ℕ) → RawKind
 new_reference kind containment opposite = Reference containment opposite
 
 -- what a reference says beside
-abbrev pub reference_rows : Rows RawKind
-reference_rows = makes new_reference
+abbrev pub reference_fields : Fields RawKind
+reference_fields = makes new_reference
     -- that it is one
     also required (codes "kind") (word (codes "reference"))
     -- whether it holds its objects as parts, or false
@@ -69,13 +69,13 @@ is_unsettable (Reference containment opposite) = false
 abbrev pub unsets_one : RawFeature → Bool
 unsets_one f = not (is_unsettable f.kind) || int_eq f.upper (pos 1)
 
--- an object of the rows of features and attributes, which is single where it is unsettable
+-- an object of the fields of features and attributes, which is single where it is unsettable
 unfoldable pub attribute : Data → Option RawFeature
-attribute d = object_of (makes new_feature also feature_rows also attribute_rows) d such_that unsets_one
+attribute d = object_of (makes new_feature also feature_fields also attribute_fields) d such_that unsets_one
 
--- an object of the rows of features and references
+-- an object of the fields of features and references
 unfoldable pub reference : Data → Option RawFeature
-reference = object_of (makes new_feature also feature_rows also reference_rows)
+reference = object_of (makes new_feature also feature_fields also reference_fields)
 
 -- an attribute or a reference
 unfoldable pub feature : Data → Option RawFeature
@@ -88,8 +88,8 @@ new_class name is_abstract supers features =
     record { name = name; is_abstract = is_abstract; supers = supers; features = features }
 
 -- what a class says
-abbrev pub class_rows : Rows RawClass
-class_rows = makes new_class
+abbrev pub class_fields : Fields RawClass
+class_fields = makes new_class
     -- its name
     also required (codes "name") text
     -- whether it has no objects of its own, or false
@@ -99,9 +99,9 @@ class_rows = makes new_class
     -- the features that it declares, in order, or none
     also optional (codes "features") (array_of feature) []
 
--- an object of those rows
+-- an object of those fields
 unfoldable pub class : Data → Option RawClass
-class = object_of class_rows
+class = object_of class_fields
 
 -- ---- enumerations
 
@@ -109,16 +109,16 @@ abbrev pub new_enumeration : List ℕ → List (List ℕ) → Enumeration
 new_enumeration name literals = record { name = name; literals = literals }
 
 -- what an enumeration says
-abbrev pub enumeration_rows : Rows Enumeration
-enumeration_rows = makes new_enumeration
+abbrev pub enumeration_fields : Fields Enumeration
+enumeration_fields = makes new_enumeration
     -- its name
     also required (codes "name") text
     -- its literals, in order, and one at least
     also required (codes "literals") (array_of_some text)
 
--- an object of those rows
+-- an object of those fields
 unfoldable pub enumeration : Data → Option Enumeration
-enumeration = object_of enumeration_rows
+enumeration = object_of enumeration_fields
 
 -- ---- documents
 
@@ -126,13 +126,13 @@ abbrev pub new_document : List Enumeration → List RawClass → RawMetamodel
 new_document enums classes = record { enums = enums; classes = classes }
 
 -- what the document says
-abbrev pub document_rows : Rows RawMetamodel
-document_rows = makes new_document
+abbrev pub document_fields : Fields RawMetamodel
+document_fields = makes new_document
     -- the enumerations, in order, or none
     also optional (codes "enums") (array_of enumeration) []
     -- the classes, in order
     also required (codes "classes") (array_of class)
 
--- an object of those rows
+-- an object of those fields
 unfoldable pub document : Data → Option RawMetamodel
-document = object_of document_rows
+document = object_of document_fields

@@ -2,18 +2,18 @@
 ghost use Rattle.std.specs.Prelude.{◌≡◌};
 ghost use Rattle.serde_json.specs.Data.{object};
 ghost use Rattle.serde_json.specs.View.{members_view};
-ghost use Rattle.json_rows.specs.Rows.{Gives, Rows};
-ghost use Rattle.mm_load.specs.Layout.{class_rows};
+ghost use Rattle.json_fields.specs.Fields.{Gives, Fields};
+ghost use Rattle.mm_load.specs.Layout.{class_fields};
 
 use crate::from_json::FromJson;
 use crate::keys::{optional, required};
-use json_rows::{ReadFault, only_members_of};
+use json_fields::{ReadFault, only_members_of};
 use mm_types::{RawClass, Seq};
 use serde_json::{Map, Value};
 use std::alloc::Global;
 
 fn class_of(alloc: Global, mut members: Map<String, Value>) -> Result<RawClass, ReadFault>
-    ensures { Gives result (class_rows.reading (object (members_view members.entries))) }
+    ensures { Gives result (class_fields.reading (object (members_view members.entries))) }
 {
     let name = required(alloc, &mut members, "name")?;
     let is_abstract = optional(alloc, &mut members, "abstract", false)?;

@@ -2,13 +2,13 @@
 ghost use Rattle.std.specs.Prelude.{◌≡◌};
 ghost use Rattle.serde_json.specs.Data.{object};
 ghost use Rattle.serde_json.specs.View.{members_view};
-ghost use Rattle.json_rows.specs.Rows.{Gives, Rows};
-ghost use Rattle.mm_load.specs.Layout.{document_rows};
+ghost use Rattle.json_fields.specs.Fields.{Gives, Fields};
+ghost use Rattle.mm_load.specs.Layout.{document_fields};
 ghost use Rattle.mm_load.specs.Loaded.{limited};
 
 use crate::from_json::FromJson;
 use crate::keys::{optional, required};
-use json_rows::{ReadFault, only_members_of};
+use json_fields::{ReadFault, only_members_of};
 use mm_types::{Enumeration, MetaFault, RawClass, RawMeta, Seq};
 use serde_json::{Map, Value};
 use std::alloc::Global;
@@ -38,7 +38,7 @@ impl Document {
     }
 
     /// The metamodel itself, or `Limit` if a count or a length passes its limit. Takes no memory.
-    pub fn into_meta(self) -> Result<RawMeta, MetaFault>
+    pub fn into_raw(self) -> Result<RawMeta, MetaFault>
         ensures { result ≡ limited self }
     {
         if !RawMeta::is_within_limits(self.enums.as_slice(), self.classes.as_slice()) {
@@ -49,7 +49,7 @@ impl Document {
 }
 
 fn document_of(alloc: Global, mut members: Map<String, Value>) -> Result<Document, ReadFault>
-    ensures { Gives result (document_rows.reading (object (members_view members.entries))) }
+    ensures { Gives result (document_fields.reading (object (members_view members.entries))) }
 {
     let enums = optional(alloc, &mut members, "enums", Seq::new(alloc))?;
     let classes = required(alloc, &mut members, "classes")?;

@@ -2,12 +2,12 @@
 ghost use Rattle.std.specs.Prelude.{◌≡◌, codes};
 ghost use Rattle.serde_json.specs.Data.{object};
 ghost use Rattle.serde_json.specs.View.{members_view};
-ghost use Rattle.json_rows.specs.Rows.{Gives, Rows, array_of_some, required_at, text};
-ghost use Rattle.mm_load.specs.Layout.{enumeration_rows};
+ghost use Rattle.json_fields.specs.Fields.{Gives, Fields, array_of_some, required_at, text};
+ghost use Rattle.mm_load.specs.Layout.{enumeration_fields};
 
 use crate::from_json::FromJson;
 use crate::keys::required;
-use json_rows::{ReadFault, only_members_of};
+use json_fields::{ReadFault, only_members_of};
 use mm_types::{Enumeration, Seq, Text};
 use serde_json::{Map, Value};
 use std::alloc::Global;
@@ -24,7 +24,7 @@ fn take_literals(alloc: Global, members: &mut Map<String, Value>) -> Result<Seq<
 }
 
 fn enumeration_of(alloc: Global, mut members: Map<String, Value>) -> Result<Enumeration, ReadFault>
-    ensures { Gives result (enumeration_rows.reading (object (members_view members.entries))) }
+    ensures { Gives result (enumeration_fields.reading (object (members_view members.entries))) }
 {
     let name = required(alloc, &mut members, "name")?;
     let literals = take_literals(alloc, &mut members)?;

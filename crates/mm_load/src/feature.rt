@@ -2,13 +2,13 @@
 ghost use Rattle.std.specs.Prelude.{◌≡◌};
 ghost use Rattle.serde_json.specs.Data.{object};
 ghost use Rattle.serde_json.specs.View.{members_view};
-ghost use Rattle.json_rows.specs.Rows.{Gives, KeepsOthers, Rows};
-ghost use Rattle.mm_load.specs.Layout.{attribute, attribute_rows, feature, feature_rows, reference, reference_rows, unsets_one};
+ghost use Rattle.json_fields.specs.Fields.{Gives, KeepsOthers, Fields};
+ghost use Rattle.mm_load.specs.Layout.{attribute, attribute_fields, feature, feature_fields, reference, reference_fields, unsets_one};
 
 use crate::from_json::FromJson;
 use crate::head::Head;
 use crate::keys::{optional, required};
-use json_rows::{ReadFault, has_only_keys_of, is_word, members_of};
+use json_fields::{ReadFault, has_only_keys_of, is_word, members_of};
 use mm_types::{RawFeature, RawKind};
 use serde_json::{Map, Value};
 use std::alloc::Global;
@@ -18,8 +18,8 @@ const HEAD: [&str; 4] = ["name", "type", "lower", "upper"];
 
 /// What every feature says, which is taken out.
 fn take_head(alloc: Global, members: &mut Map<String, Value>) -> Result<Head, ReadFault>
-    ensures read { Gives result (feature_rows.reading (object (members_view members.old.entries))) }
-    ensures others { KeepsOthers feature_rows.keys (members_view members.old.entries) (members_view members.new.entries) }
+    ensures read { Gives result (feature_fields.reading (object (members_view members.old.entries))) }
+    ensures others { KeepsOthers feature_fields.keys (members_view members.old.entries) (members_view members.new.entries) }
 {
     let name = required(alloc, members, "name")?;
     let type_name = required(alloc, members, "type")?;
@@ -35,7 +35,7 @@ fn take_head(alloc: Global, members: &mut Map<String, Value>) -> Result<Head, Re
 
 /// What an attribute says beside, which is taken out.
 fn take_attribute(alloc: Global, members: &mut Map<String, Value>) -> Result<RawKind, ReadFault>
-    ensures { Gives result (attribute_rows.reading (object (members_view members.old.entries))) }
+    ensures { Gives result (attribute_fields.reading (object (members_view members.old.entries))) }
 {
     if !is_word(members, "kind", "attribute") {
         return Err(ReadFault::Layout);
@@ -52,7 +52,7 @@ fn take_attribute(alloc: Global, members: &mut Map<String, Value>) -> Result<Raw
 
 /// What a reference says beside, which is taken out.
 fn take_reference(alloc: Global, members: &mut Map<String, Value>) -> Result<RawKind, ReadFault>
-    ensures { Gives result (reference_rows.reading (object (members_view members.old.entries))) }
+    ensures { Gives result (reference_fields.reading (object (members_view members.old.entries))) }
 {
     if !is_word(members, "kind", "reference") {
         return Err(ReadFault::Layout);

@@ -2,9 +2,9 @@
 ghost use Rattle.std.specs.Prelude.{◌≡◌, Option};
 ghost use Rattle.serde_json.specs.Data.{Data};
 ghost use Rattle.serde_json.specs.View.{items_view, view};
-ghost use Rattle.json_rows.specs.Rows.{Gives, array_of, each, flag, given, text, whole_number};
+ghost use Rattle.json_fields.specs.Fields.{Gives, array_of, each, flag, given, text, whole_number};
 
-use json_rows::ReadFault;
+use json_fields::ReadFault;
 use mm_types::{Seq, Text, limits};
 use serde_json::Value;
 use std::alloc::Global;

@@ -2,10 +2,10 @@
 ghost use Rattle.std.specs.Prelude.{[], ◌∷◌};
 ghost use Rattle.serde_json.specs.Data.{object};
 ghost use Rattle.serde_json.specs.View.{members_view};
-ghost use Rattle.json_rows.specs.Rows.{Gives, KeepsOthers, optional_at, required_at};
+ghost use Rattle.json_fields.specs.Fields.{Gives, KeepsOthers, optional_at, required_at};
 
 use crate::from_json::FromJson;
-use json_rows::{ReadFault, take};
+use json_fields::{ReadFault, take};
 use serde_json::{Map, Value};
 use std::alloc::Global;
 

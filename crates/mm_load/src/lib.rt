@@ -1,6 +1,6 @@
 //! A metamodel document is read: JSON to enumerations and classes whose names are unresolved.
 //!
-//! `specs/Layout.antt` is the layout of a document, row by row, and `specs/Loaded.antt` says which of
+//! `specs/Layout.antt` is the layout of a document, key by key, and `specs/Loaded.antt` says which of
 //! the first three faults a document has.
 #![tactic(auto)]
 

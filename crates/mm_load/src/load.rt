@@ -3,7 +3,7 @@ ghost use Rattle.mm_load.specs.Loaded.{Loads, loaded};
 
 use crate::document::Document;
 use crate::from_json::FromJson;
-use json_rows::ReadFault;
+use json_fields::ReadFault;
 use mm_types::{MetaFault, RawMeta};
 use serde_json::Value;
 use std::alloc::Global;
@@ -14,7 +14,7 @@ use std::alloc::Global;
 /// - `Layout` if the value does not have the shape of a metamodel, or has a key that is not listed;
 /// - `Limit` if a count or a length passes its limit.
 ///
-/// `Memory` only if memory was refused, whatever else applies. Of equal keys of an object the last counts. The
+/// `Memory` only if memory is refused, whatever else applies. Of equal keys of an object the last counts. The
 /// time is linear in the document, but for the logarithm that the keys of a large object cost. The texts are
 /// moved out of the parsed JSON, which is freed part by part as it is read.
 pub fn load_meta(alloc: Global, bytes: &[u8]) -> Result<RawMeta, MetaFault>
@@ -26,7 +26,7 @@ pub fn load_meta(alloc: Global, bytes: &[u8]) -> Result<RawMeta, MetaFault>
         Err(_) => return Err(MetaFault::Syntax),
     };
     match Document::from_json(alloc, value) {
-        Ok(document) => document.into_meta(),
+        Ok(document) => document.into_raw(),
         Err(ReadFault::Memory) => Err(MetaFault::Memory),
         Err(ReadFault::Layout) => Err(MetaFault::Layout),
     }

@@ -8,7 +8,7 @@ use Rattle.std.proofs.lemmas.Bool.{cases_eq, cases_lt, eq-eqb, eqb-true}
 use Rattle.std.proofs.lemmas.List.{length-append, length-map}
 use Rattle.std.proofs.lemmas.List.Quantifiers.{position-Some}
 use Rattle.std.proofs.lemmas.Option.{slice_get-map, slice_get_cases, slice_get_past}
-use Rattle.mm_types.specs.Graph.{Conforms, row}
+use Rattle.mm_types.specs.Graph.{Conforms, by_class}
 use Rattle.mm_types.specs.Lookups.{ConformsTo, feature, feature_by_name, feature_name, features, has_feature, name_in}
 use Rattle.mm_types.specs.OfDocument.{IsOfDocument}
 use Rattle.mm_types.specs.Raw.{RawMetamodel}
@@ -43,7 +43,7 @@ record IsInherited (raw : RawMetamodel) (c : ClassNo) (f : FeatureNo) (name : Li
   pub index : ℕ
   pub reached : Conforms (graph_of raw.classes) c.0 class
   pub here : slice_get (get_or (own_names raw) class []) index ≡ Some name
-  pub number : slice_get (row (own_of raw.classes) class) index ≡ Some f.0
+  pub number : slice_get (by_class (own_of raw.classes) class) index ≡ Some f.0
 
 inherited : (raw : RawMetamodel) → WellFormed raw → (c : ClassNo) (f : FeatureNo) (x : Feature) → feature (resolved raw) f ≡ Some x → has_feature (resolved raw) c f ≡ true
     → IsInherited raw c f x.name
@@ -61,9 +61,9 @@ inherited raw well c f x is has =
       number = declared.number;
     }
 
-same_number : (raw : RawMetamodel) (c d i j f g : ℕ) → slice_get (row (own_of raw.classes) c) i ≡ Some f → slice_get (row (own_of raw.classes) d) j ≡ Some g → c ≡ d → i ≡ j → f ≡ g
+same_number : (raw : RawMetamodel) (c d i j f g : ℕ) → slice_get (by_class (own_of raw.classes) c) i ≡ Some f → slice_get (by_class (own_of raw.classes) d) j ≡ Some g → c ≡ d → i ≡ j → f ≡ g
 same_number raw c d i j f g one other class index =
-    let moved : slice_get (row (own_of raw.classes) d) j ≡ Some f = subst (λ (k : ℕ). slice_get (row (own_of raw.classes) d) k ≡ Some f) index (subst (λ (k : ℕ). slice_get (row (own_of raw.classes) k) i ≡ Some f) class one) in
+    let moved : slice_get (by_class (own_of raw.classes) d) j ≡ Some f = subst (λ (k : ℕ). slice_get (by_class (own_of raw.classes) d) k ≡ Some f) index (subst (λ (k : ℕ). slice_get (by_class (own_of raw.classes) k) i ≡ Some f) class one) in
     cc
 
 -- the names of all features of a class differ
@@ -225,10 +225,10 @@ low_named m name i is =
     omega arith
 
 -- what a row holds of a class
-pub kept_is : (m : Metamodel) (name : List ℕ) (row : List (Option FeatureNo)) (c : ℕ) (o : Option (Option FeatureNo)) → o ≡ slice_get row c → IsRow m name row
+pub kept_is : (m : Metamodel) (name : List ℕ) (by_class : List (Option FeatureNo)) (c : ℕ) (o : Option (Option FeatureNo)) → o ≡ slice_get by_class c → IsRow m name by_class
     → IfSome o (λ found. found ≡ feature_by_name m (class_no c) name)
-kept_is m name row c None is known = tt
-kept_is m name row c (Some found) is known = known c found (sym is)
+kept_is m name by_class c None is known = tt
+kept_is m name by_class c (Some found) is known = known c found (sym is)
 
 pushed : {X : Type 0} (xs : List X) (x y : X) (k : ℕ) → slice_get (xs ++ x ∷ []) k ≡ Some y → (slice_get xs k ≡ Some y) ⊎ ((k ≡ length xs) × (x ≡ y))
 pushed [] x y zero is = let e : x ≡ y = cc in inr (refl, e)
@@ -239,12 +239,12 @@ pushed (z ∷ xs) x y (suc k) is = ⊎_elim (λ h. inl h) (λ h. inr (ap suc h.0
 pub row_none : (m : Metamodel) (name : List ℕ) → IsRow m name []
 row_none m name c found is = cc
 
-pub row_more : (m : Metamodel) (name : List ℕ) (row : List (Option FeatureNo)) (c : ℕ) (found : Option FeatureNo) → length row ≡ c → found ≡ feature_by_name m (class_no c) name
-    → IsRow m name row → IsRow m name (row ++ found ∷ [])
-row_more m name row c found long is known k other at = ⊎_elim
+pub row_more : (m : Metamodel) (name : List ℕ) (by_class : List (Option FeatureNo)) (c : ℕ) (found : Option FeatureNo) → length by_class ≡ c → found ≡ feature_by_name m (class_no c) name
+    → IsRow m name by_class → IsRow m name (by_class ++ found ∷ [])
+row_more m name by_class c found long is known k other at = ⊎_elim
     (λ h. known k other h)
     (λ h. sym h.1 ∙ (is ∙ ap (λ (n : ℕ). feature_by_name m (class_no n) name) (sym (h.0 ∙ long))))
-    (pushed row found other k at)
+    (pushed by_class found other k at)
 
 push_left : {X : Type 0} (xs : List X) (x d : X) (k : ℕ) → k < length xs → get_or (xs ++ x ∷ []) k d ≡ get_or xs k d
 push_left [] x d k low = absurd (omega arith)
@@ -255,15 +255,15 @@ push_last : {X : Type 0} (xs : List X) (x d : X) → get_or (xs ++ x ∷ []) (le
 push_last [] x d = refl
 push_last (y ∷ xs) x d = push_last xs x d
 
-pub rows_more : (m : Metamodel) (rows : List (List (Option FeatureNo))) (f : ℕ) (row : List (Option FeatureNo)) → length rows ≡ f → IsRow m (feature_name m (feature_no f)) row
-    → AreRows m rows → AreRows m (rows ++ row ∷ [])
-rows_more m rows f row long here known k low = ⊎_elim
-    (λ (before : k < length rows). subst (λ (r : List (Option FeatureNo)). IsRow m (feature_name m (feature_no k)) r) (sym (push_left rows row [] k before)) (known k before))
+pub rows_more : (m : Metamodel) (rows : List (List (Option FeatureNo))) (f : ℕ) (by_class : List (Option FeatureNo)) → length rows ≡ f → IsRow m (feature_name m (feature_no f)) by_class
+    → AreRows m rows → AreRows m (rows ++ by_class ∷ [])
+rows_more m rows f by_class long here known k low = ⊎_elim
+    (λ (before : k < length rows). subst (λ (r : List (Option FeatureNo)). IsRow m (feature_name m (feature_no k)) r) (sym (push_left rows by_class [] k before)) (known k before))
     (λ (from : length rows ≤ k).
-    let last : k ≡ length rows = let longer = length-append rows (row ∷ []) in omega arith in
-    let is : get_or (rows ++ row ∷ []) k [] ≡ row = ap (λ (n : ℕ). get_or (rows ++ row ∷ []) n []) last ∙ push_last rows row [] in
+    let last : k ≡ length rows = let longer = length-append rows (by_class ∷ []) in omega arith in
+    let is : get_or (rows ++ by_class ∷ []) k [] ≡ by_class = ap (λ (n : ℕ). get_or (rows ++ by_class ∷ []) n []) last ∙ push_last rows by_class [] in
     subst (λ (r : List (Option FeatureNo)). IsRow m (feature_name m (feature_no k)) r) (sym is)
-    (subst (λ (n : ℕ). IsRow m (feature_name m (feature_no n)) row) (sym (last ∙ long)) here))
+    (subst (λ (n : ℕ). IsRow m (feature_name m (feature_no n)) by_class) (sym (last ∙ long)) here))
     (cases_lt k (length rows))
 
 ---------------------------------------------------------------- a metamodel's own table

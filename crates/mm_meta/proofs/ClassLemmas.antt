@@ -7,7 +7,7 @@ use Rattle.std.proofs.lemmas.Bool.Decides.{nat_tests}
 use Rattle.std.proofs.lemmas.List.{length-map}
 use Rattle.std.proofs.lemmas.List.Elements.{All-cons, All-map, All-nil}
 use Rattle.std.proofs.lemmas.List.Quantifiers.{position-Some}
-use Rattle.mm_types.specs.Graph.{row}
+use Rattle.mm_types.specs.Graph.{by_class}
 use Rattle.mm_types.specs.Raw.{RawMetamodel, is_within_limits}
 use Rattle.mm_types.specs.Resolved.{class_named, graph_of, own_from}
 use Rattle.mm_types.specs.declared.raw.RawClass.{RawClass}
@@ -44,12 +44,12 @@ IsSmall n = n < 2 ^ 32
 pub few_classes : (raw : RawMetamodel) → IsTrue (is_within_limits raw) → length raw.classes ≤ 1000
 few_classes raw within = grind (arith, nat_tests)
 
-pub small_supers : (raw : RawMetamodel) (c : ℕ) → IsTrue (is_within_limits raw) → c < length raw.classes → All IsSmall (row (graph_of raw.classes) c)
+pub small_supers : (raw : RawMetamodel) (c : ℕ) → IsTrue (is_within_limits raw) → c < length raw.classes → All IsSmall (by_class (graph_of raw.classes) c)
 small_supers raw c within inside k d low =
     let supers : RawClass → List ℕ = λ (c : RawClass). filter_map (class_named raw.classes) c.supers in
     let long : length (graph_of raw.classes) ≡ length raw.classes = length-map raw.classes supers in
     let few : length raw.classes ≤ 1000 = few_classes raw within in
-    let below : get_or (row (graph_of raw.classes) c) k d < length (graph_of raw.classes) = graph_in_range raw.classes c [] (omega arith) k d low in
+    let below : get_or (by_class (graph_of raw.classes) c) k d < length (graph_of raw.classes) = graph_in_range raw.classes c [] (omega arith) k d low in
     omega arith
 
 pub long_graph : (cs : List RawClass) (g : List (List ℕ)) → g ≡ graph_of cs → length g ≡ length cs

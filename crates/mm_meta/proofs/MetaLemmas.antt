@@ -6,7 +6,7 @@ use Rattle.std.specs.Str.{bytes_eq}
 use Rattle.std.proofs.lemmas.Bool.Decides.{nat_tests}
 use Rattle.std.proofs.lemmas.List.{length-append, length-map}
 use Rattle.std.proofs.lemmas.List.Quantifiers.{position-Some}
-use Rattle.mm_types.specs.Graph.{row}
+use Rattle.mm_types.specs.Graph.{by_class}
 use Rattle.mm_types.specs.Raw.{RawMetamodel, class_fits, is_within_limits}
 use Rattle.mm_types.specs.Resolved.{Metamodel, class_no, classes_from, features_from, graph_of, resolved, resolved_feature}
 use Rattle.mm_types.specs.declared.class.Class.{Class}
@@ -60,14 +60,14 @@ low_literal m d e name i found =
     literal_low d.raw e name i d.fits
     (subst (λ (es : List Enumeration). option_and_then (λ en. position (λ n. bytes_eq n name) en.literals) (slice_get es e) ≡ Some i) (ap (λ (x : Metamodel). x.enums) d.is) found)
 
-shift_rows : (x : List ℕ) (table : List (List ℕ)) (a n : ℕ) → map (row (x ∷ table)) (range_with_len (a + 1) n) ≡ map (row table) (range_with_len a n)
+shift_rows : (x : List ℕ) (table : List (List ℕ)) (a n : ℕ) → map (by_class (x ∷ table)) (range_with_len (a + 1) n) ≡ map (by_class table) (range_with_len a n)
 shift_rows x table a zero = refl
 shift_rows x table a (suc n) =
     let next : a + 1 ≡ suc a = omega arith in
-    let here : row (x ∷ table) (a + 1) ≡ row table a = rw next refl in
+    let here : by_class (x ∷ table) (a + 1) ≡ by_class table a = rw next refl in
     λ i. here i ∷ shift_rows x table (a + 1) n i
 
-rows_all : (table : List (List ℕ)) → map (row table) (range_with_len 0 (length table)) ≡ table
+rows_all : (table : List (List ℕ)) → map (by_class table) (range_with_len 0 (length table)) ≡ table
 rows_all [] = refl
 rows_all (x ∷ table) = ap (λ (rest : List (List ℕ)). x ∷ rest) (shift_rows x table 0 (length table) ∙ rows_all table)
 
@@ -76,19 +76,19 @@ numbers_back [] = refl
 numbers_back (n ∷ ns) = ap (λ (rest : List ℕ). n ∷ rest) (numbers_back ns)
 
 supers_from : (all : List RawClass) (c : ℕ) (ks : List RawClass)
-    → map (λ (k : Class). map (λ (s : ClassNo). s.0) k.supers) (classes_from all c ks) ≡ map (row (graph_of all)) (range_with_len c (length ks))
+    → map (λ (k : Class). map (λ (s : ClassNo). s.0) k.supers) (classes_from all c ks) ≡ map (by_class (graph_of all)) (range_with_len c (length ks))
 supers_from all c [] = refl
 supers_from all c (k ∷ ks) =
     let next : c + 1 ≡ suc c = omega arith in
-    let rest : map (λ (k : Class). map (λ (s : ClassNo). s.0) k.supers) (classes_from all (suc c) ks) ≡ map (row (graph_of all)) (range_with_len (c + 1) (length ks)) =
+    let rest : map (λ (k : Class). map (λ (s : ClassNo). s.0) k.supers) (classes_from all (suc c) ks) ≡ map (by_class (graph_of all)) (range_with_len (c + 1) (length ks)) =
     rw next (supers_from all (suc c) ks) in
-    λ i. numbers_back (row (graph_of all) c) i ∷ rest i
+    λ i. numbers_back (by_class (graph_of all) c) i ∷ rest i
 
 -- the supertypes of the resolved classes are those of the document
 pub supertypes_resolved : (classes : List RawClass) → map (λ (k : Class). map (λ (s : ClassNo). s.0) k.supers) (classes_from classes 0 classes) ≡ graph_of classes
 supertypes_resolved classes =
     let long : length (graph_of classes) ≡ length classes = long_graph classes (graph_of classes) refl in
-    supers_from classes 0 classes ∙ (ap (λ (n : ℕ). map (row (graph_of classes)) (range_with_len 0 n)) (sym long) ∙ rows_all (graph_of classes))
+    supers_from classes 0 classes ∙ (ap (λ (n : ℕ). map (by_class (graph_of classes)) (range_with_len 0 n)) (sym long) ∙ rows_all (graph_of classes))
 
 pub resolved_is : (raw : RawMetamodel) (m : Metamodel) → m.enums ≡ raw.enums → m.classes ≡ classes_from raw.classes 0 raw.classes → m.features ≡ features_from raw 0 raw.classes → m ≡ resolved raw
 unfolding resolved

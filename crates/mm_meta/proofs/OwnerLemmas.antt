@@ -10,7 +10,7 @@ use Rattle.std.proofs.lemmas.List.FromFn.{get_or-range_with_len, length-range_wi
 use Rattle.std.proofs.lemmas.Map.Views.{Contains-from_any, list_any-from_Contains}
 use Rattle.std.proofs.lemmas.Option.{slice_get-map, slice_get_cases, slice_get_past}
 use Rattle.mm_types.specs.Features.{all_features}
-use Rattle.mm_types.specs.Graph.{Conforms, row}
+use Rattle.mm_types.specs.Graph.{Conforms, by_class}
 use Rattle.mm_types.specs.Lookups.{ConformsTo, feature, has_feature}
 use Rattle.mm_types.specs.Raw.{RawMetamodel}
 use Rattle.mm_types.specs.Resolved.{Metamodel, classes_from, feature_no, features_from, graph_of, own_from, own_of, resolved, resolved_feature}
@@ -63,7 +63,7 @@ own_here raw c k ks i low = ⊎_elim
     (slice_get_cases k.features i).1
 
 -- a class owns the features that it declares
-declared_is_owned : (raw : RawMetamodel) (c n : ℕ) (ks : List RawClass) (f j : ℕ) → Contains (row (own_from n ks) j) f → (i : ℕ) × (f ≡ n + i) × IsOwnedAt raw c ks i j
+declared_is_owned : (raw : RawMetamodel) (c n : ℕ) (ks : List RawClass) (f j : ℕ) → Contains (by_class (own_from n ks) j) f → (i : ℕ) × (f ≡ n + i) × IsOwnedAt raw c ks i j
 declared_is_owned raw c n [] f j h = absurd (omega (arith, h.1))
 declared_is_owned raw c n (k ∷ ks) f zero h =
     let p = from_range n (length k.features) f h in
@@ -84,7 +84,7 @@ declared_is_owned raw c n (k ∷ ks) f (suc j) h =
 
 -- a feature's owner declares it
 owned_is_declared : (raw : RawMetamodel) (c n : ℕ) (ks : List RawClass) (i : ℕ) (x : Feature) → slice_get (features_from raw c ks) i ≡ Some x
-    → (j : ℕ) × (x.owner.0 ≡ c + j) × Contains (row (own_from n ks) j) (n + i)
+    → (j : ℕ) × (x.owner.0 ≡ c + j) × Contains (by_class (own_from n ks) j) (n + i)
 owned_is_declared raw c n [] i x is = cc
 owned_is_declared raw c n (k ∷ ks) i x is = ⊎_elim
     (λ (low : i < length k.features).
@@ -98,7 +98,7 @@ owned_is_declared raw c n (k ∷ ks) i x is = ⊎_elim
     let p = owned_is_declared raw (suc c) (n + length k.features) ks (i - length k.features) x rest in
     let number : n + length k.features + (i - length k.features) ≡ n + i = omega arith in
     let owner = p.1 in
-    (suc p.0, omega arith, subst (λ (f : ℕ). Contains (row (own_from (n + length k.features) ks) p.0) f) number p.2))
+    (suc p.0, omega arith, subst (λ (f : ℕ). Contains (by_class (own_from (n + length k.features) ks) p.0) f) number p.2))
     (cases_lt i (length k.features))
 
 -- all features of the class at place i
@@ -175,7 +175,7 @@ has_of_owner raw well c f x is =
             (
               o.0,
               subst (λ (d : ℕ). Conforms (graph_of cs) c.0 d) owner (subst (λ (g : List (List ℕ)). Conforms g c.0 x.owner.0) supers h.1),
-              subst (λ (n : ℕ). Contains (row (own_of cs) o.0) n) number o.2,
+              subst (λ (n : ℕ). Contains (by_class (own_of cs) o.0) n) number o.2,
             ),
           )),
     )

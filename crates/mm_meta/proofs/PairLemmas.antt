@@ -3,7 +3,7 @@ use Rattle.std.proofs.Common.{◌≡◌, ◌∙◌, ℕ, List, Bool, true, false
 use Rattle.std.specs.Prelude.{is_some, option_and_then, option_map, slice_get, unwrap_or}
 use Rattle.std.specs.Option.{option_map_or}
 use Rattle.std.proofs.lemmas.Option.{option_and_then_some}
-use Rattle.mm_types.specs.Graph.{row}
+use Rattle.mm_types.specs.Graph.{by_class}
 use Rattle.mm_types.specs.Lookups.{feature, is_single, kind_opposite, opposite}
 use Rattle.mm_types.specs.OfDocument.{IsOfDocument}
 use Rattle.mm_types.specs.Raw.{RawMetamodel}
@@ -38,14 +38,14 @@ pub record AreOpposites (m : Metamodel) (f g : FeatureNo) : Type 0 where
 
 -- a reference whose type is class d, and whose opposite is the feature at index j there
 resolved_reference : (raw : RawMetamodel) (type_name name : List ℕ) (k : RawKind) (d j : ℕ) (g : FeatureNo) → class_named raw.classes type_name ≡ Some d → opposite_name k ≡ Some name
-    → own_position raw.classes d name ≡ Some j → slice_get (row (own_of raw.classes) d) j ≡ Some g.0
+    → own_position raw.classes d name ≡ Some j → slice_get (by_class (own_of raw.classes) d) j ≡ Some g.0
     → resolved_kind raw type_name k ≡ Reference (class_no d) (is_containment k) (Some g)
 resolved_reference raw t name (written.Attribute unique unsettable default) d j g type names at number = cc
 resolved_reference raw t name (written.Reference containment opposite) d j g type names at number =
     let target : target_named raw.classes t ≡ d = ap (λ (o : Option ℕ). unwrap_or o (length raw.classes)) type in
     ap (λ (e : ℕ). Reference (class_no e) containment (option_map feature_no (option_and_then (own_named raw.classes e) opposite))) target
     ∙ (ap (λ (o : Option (List ℕ)). Reference (class_no d) containment (option_map feature_no (option_and_then (own_named raw.classes d) o))) names
-    ∙ (ap (λ (o : Option ℕ). Reference (class_no d) containment (option_map feature_no (option_and_then (slice_get (row (own_of raw.classes) d)) o))) at
+    ∙ (ap (λ (o : Option ℕ). Reference (class_no d) containment (option_map feature_no (option_and_then (slice_get (by_class (own_of raw.classes) d)) o))) at
     ∙ ap (λ (o : Option ℕ). Reference (class_no d) containment (option_map feature_no o)) number))
 
 -- of two references that name each other, how the one is resolved

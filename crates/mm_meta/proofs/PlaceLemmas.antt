@@ -6,7 +6,7 @@ use Rattle.std.proofs.lemmas.Bool.{cases_lt}
 use Rattle.std.proofs.lemmas.List.{length-map}
 use Rattle.std.proofs.lemmas.List.FromFn.{get_or-range_with_len, length-range_with_len}
 use Rattle.std.proofs.lemmas.Option.{slice_get-map, slice_get_cases, slice_get_read, slice_get_within}
-use Rattle.mm_types.specs.Graph.{row}
+use Rattle.mm_types.specs.Graph.{by_class}
 use Rattle.mm_types.specs.Lookups.{feature}
 use Rattle.mm_types.specs.Raw.{RawMetamodel}
 use Rattle.mm_types.specs.Resolved.{features_from, own_from, own_of, resolved, resolved_feature}
@@ -28,7 +28,7 @@ record IsPlaced (raw : RawMetamodel) (c n : ℕ) (ks : List RawClass) (f : ℕ) 
   pub written : RawFeature
   pub here : option_and_then (λ k. slice_get k.features index) (slice_get ks class) ≡ Some written
   pub is : x ≡ resolved_feature raw (c + class) written
-  pub number : slice_get (row (own_from n ks) class) index ≡ Some (n + f)
+  pub number : slice_get (by_class (own_from n ks) class) index ≡ Some (n + f)
 
 -- past the features of a first class
 later : (raw : RawMetamodel) (c n : ℕ) (k : RawClass) (ks : List RawClass) (f : ℕ) (x : Feature) → length k.features ≤ f
@@ -75,7 +75,7 @@ placed raw c n (k ∷ ks) f x is = ⊎_elim
 record IsNumbered (raw : RawMetamodel) (c n : ℕ) (ks : List RawClass) (j i : ℕ) (r : RawFeature) : Type 0 where
   pub place : ℕ
   pub here : slice_get (features_from raw c ks) place ≡ Some (resolved_feature raw (c + j) r)
-  pub number : slice_get (row (own_from n ks) j) i ≡ Some (n + place)
+  pub number : slice_get (by_class (own_from n ks) j) i ≡ Some (n + place)
 
 -- what is declared at a place has a number
 numbered : (raw : RawMetamodel) (c n : ℕ) (ks : List RawClass) (j i : ℕ) (r : RawFeature) → option_and_then (λ k. slice_get k.features i) (slice_get ks j) ≡ Some r
@@ -108,7 +108,7 @@ numbered raw c n (k ∷ ks) (suc j) i r at =
 pub record IsDeclared (raw : RawMetamodel) (c i : ℕ) (r : RawFeature) (f : FeatureNo) : Type 0 where
   pub here : feature_at raw c i ≡ Some r
   pub resolves : feature (resolved raw) f ≡ Some (resolved_feature raw c r)
-  pub number : slice_get (row (own_of raw.classes) c) i ≡ Some f.0
+  pub number : slice_get (by_class (own_of raw.classes) c) i ≡ Some f.0
 
 pub declared_at : (raw : RawMetamodel) (f : FeatureNo) (x : Feature) → feature (resolved raw) f ≡ Some x → (c : ℕ) × (i : ℕ) × (r : RawFeature) × IsDeclared raw c i r f
 unfolding resolved

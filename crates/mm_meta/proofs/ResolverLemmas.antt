@@ -9,7 +9,7 @@ use Rattle.std.proofs.lemmas.List.{get_or_default}
 use Rattle.std.proofs.lemmas.List.Quantifiers.{position-Some}
 use Rattle.std.proofs.lemmas.Option.{slice_get-map, slice_get_past, slice_get_read}
 use Rattle.mm_types.specs.Raw.{RawMetamodel, class_fits, enum_fits, is_within_limits}
-use Rattle.mm_types.specs.Graph.{row}
+use Rattle.mm_types.specs.Graph.{by_class}
 use Rattle.mm_types.specs.Resolved.{data_type_named, enum_named, own_position}
 use Rattle.mm_types.specs.declared.class.Enumeration.{Enumeration}
 use Rattle.mm_types.specs.declared.feature.DataType.TheVariants.{Enum}
@@ -72,5 +72,5 @@ literal_low raw e name i within is = few (slice_get raw.enums e) refl is
         omega arith
 
 -- the row that was read
-pub row_read : (table rows : List (List ℕ)) (c : ℕ) (r : List ℕ) → rows ≡ table → c < length rows → r ≡ get_or rows c r → row table c ≡ r
+pub row_read : (table rows : List (List ℕ)) (c : ℕ) (r : List ℕ) → rows ≡ table → c < length rows → r ≡ get_or rows c r → by_class table c ≡ r
 row_read table rows c r same low is = rw (← same) (get_or_default rows c [] r low ∙ sym is)

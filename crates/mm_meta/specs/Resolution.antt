@@ -1,16 +1,16 @@
 -- What a document resolves to.
 use Rattle.std.specs.Prelude.{◌≡◌, ◌<◌, ℕ, List, length}
 use Rattle.mm_types.specs.Features.{all_features}
-use Rattle.mm_types.specs.Graph.{row}
+use Rattle.mm_types.specs.Graph.{by_class}
 use Rattle.mm_types.specs.Raw.{RawMetamodel}
 use Rattle.mm_types.specs.declared.raw.RawClass.{RawClass}
 use Rattle.mm_types.specs.Resolved.{classes_from, features_from, graph_of, own_of}
 use Rattle.mm_graph.specs.ConformTable.{IsConformTable}
 use Rattle.mm_meta.specs.declared.resolution.Resolution.{Resolution}
 
--- a row for each class: the numbers of all its features
+-- a list for each class: the numbers of all its features
 abbrev pub AreFeaturesOf : List RawClass → List (List ℕ) → Type 0
-AreFeaturesOf classes rows = (c : ℕ) → c < length classes → row rows c ≡ all_features (graph_of classes) (own_of classes) c
+AreFeaturesOf classes rows = (c : ℕ) → c < length classes → by_class rows c ≡ all_features (graph_of classes) (own_of classes) c
 
 -- the classes and features of a document by number, and which classes conform to which
 pub record IsResolutionOf (raw : RawMetamodel) (r : Resolution) : Type 0 where

@@ -2,7 +2,7 @@
 ghost use Rattle.std.specs.Prelude.{◌≡◌, ◌<◌, ◌^◌, ℕ, IfOk, length, map};
 ghost use Rattle.std.specs.List.{All, filter_map};
 ghost use Rattle.mm_types.specs.Features.{all_features};
-ghost use Rattle.mm_types.specs.Graph.{row};
+ghost use Rattle.mm_types.specs.Graph.{by_class};
 ghost use Rattle.mm_types.specs.Resolved.{class_named, class_no, classes_from, feature_no, graph_of, own_of, resolved_class as class_resolved};
 ghost use Rattle.mm_graph.specs.Order.{InRange};
 
@@ -22,12 +22,12 @@ fn class_numbers(alloc: Global, numbers: &[usize]) -> Result<Seq<ClassNo>, Alloc
     Ok(found)
 }
 
-/// The features of a row, in a list that holds no more places than features.
-fn feature_numbers(alloc: Global, row: &[u32]) -> Result<Seq<FeatureNo>, AllocError>
-    ensures { IfOk result (λ s. s ≡ map feature_no row.now) }
+/// The features of a class, in a list that holds no more places than features.
+fn feature_numbers(alloc: Global, numbers: &[u32]) -> Result<Seq<FeatureNo>, AllocError>
+    ensures { IfOk result (λ s. s ≡ map feature_no numbers.now) }
 {
-    let mut found = Vec::with_capacity(alloc, row.len())?;
-    'row: for n in row {
+    let mut found = Vec::with_capacity(alloc, numbers.len())?;
+    'numbers: for n in numbers {
         found.push(FeatureNo(*n))?;
     }
     Ok(Seq::from_vec(found))
@@ -94,7 +94,7 @@ impl<'a> Resolver<'a> {
         })
     }
 
-    /// The classes with their names resolved, given their supertypes and all features of each. The rows are given back one by one as
+    /// The classes with their names resolved, given their supertypes and all features of each. The lists are given back one by one as
     /// their classes are made, so that they and the classes take no more memory together than one of them.
     pub fn resolved_classes(
         &self,
@@ -104,14 +104,14 @@ impl<'a> Resolver<'a> {
     ) -> Result<Seq<Class>, AllocError>
         requires graph { graph.now ≡ graph_of self.now.classes }
         requires long { length all.items ≡ length self.now.classes }
-        requires all { (c : ℕ) → c < length self.now.classes → row all.items c ≡ all_features (graph_of self.now.classes) (own_of self.now.classes) c }
+        requires all { (c : ℕ) → c < length self.now.classes → by_class all.items c ≡ all_features (graph_of self.now.classes) (own_of self.now.classes) c }
         ensures { IfOk result (λ s. s ≡ classes_from self.now.classes 0 self.now.classes) }
     {
         let raw = self.classes();
         let mut classes = Seq::new(alloc);
         'classes: for (c, class) in raw.iter().enumerate() {
-            let row = mem::replace(&mut all[c], Seq::new(alloc));
-            classes.push(self.resolved_class(alloc, c, class, graph, row.as_slice())?)?;
+            let numbers = mem::replace(&mut all[c], Seq::new(alloc));
+            classes.push(self.resolved_class(alloc, c, class, graph, numbers.as_slice())?)?;
         }
         Ok(classes)
     }

@@ -33,7 +33,7 @@ pub struct Meta {
     literal_tables: Vec<NameTable>,
     /// The names of all features, and for each the features that have it.
     names: FeatureNames,
-    /// At the first feature of each name that many features have: what each class has under the name. Else no row, or an empty one.
+    /// At the first feature of each name that many features have: what each class has under the name. Else no list, or an empty one.
     common: Vec<Seq<Option<FeatureNo>>>,
     /// The default of a reference.
     null: Value,
@@ -89,7 +89,7 @@ impl Meta {
     }
 
     /// What holds of every metamodel, for proofs that know it by its view: it is that of a well-formed document.
-    pub fn is_of_document(&self)
+    pub fn lemma_is_of_document(&self)
         ensures { IsOfDocument self.now }
     {
         let _ = &self.null;
@@ -129,8 +129,8 @@ impl Meta {
     fn kept(&self, class: ClassNo, first: usize) -> Option<Option<FeatureNo>>
         ensures { IfSome result (λ found. found ≡ m.feature_by_name self.now class (m.feature_name self.now (feature_no first))) }
     {
-        let row = self.common.get(first)?;
-        row.as_slice().get(class.0 as usize).copied()
+        let by_class = self.common.get(first)?;
+        by_class.as_slice().get(class.0 as usize).copied()
     }
 
     /// The feature of a name that a class has, from the feature of a number on, by looking at each feature of the name.
@@ -173,19 +173,19 @@ impl Meta {
     }
 
     /// What each class has under the name of a feature, if it is the first of many that have the name. Else nothing.
-    fn row(&self, alloc: Global, feature: usize) -> Result<Seq<Option<FeatureNo>>, AllocError>
+    fn by_class(&self, alloc: Global, feature: usize) -> Result<Seq<Option<FeatureNo>>, AllocError>
         requires { feature < length self.now.features }
         ensures { IfOk result (IsRow self.now (m.feature_name self.now (feature_no feature))) }
     {
         if !self.begins_common(feature) {
             return Ok(Seq::new(alloc));
         }
-        let mut row = Vec::with_capacity(alloc, self.classes.len())?;
+        let mut by_class = Vec::with_capacity(alloc, self.classes.len())?;
         let name = self.feature_name(FeatureNo(feature as u32));
         'classes: for c in 0..self.classes.len() {
-            row.push(self.feature_by_name(ClassNo(c as u32), name))?;
+            by_class.push(self.feature_by_name(ClassNo(c as u32), name))?;
         }
-        Ok(Seq::from_vec(row))
+        Ok(Seq::from_vec(by_class))
     }
 
     fn rows(&self, alloc: Global) -> Result<Vec<Seq<Option<FeatureNo>>>, AllocError>
@@ -193,7 +193,7 @@ impl Meta {
     {
         let mut rows = Vec::with_capacity(alloc, self.features.len())?;
         'features: for f in 0..self.features.len() {
-            rows.push(self.row(alloc, f)?)?;
+            rows.push(self.by_class(alloc, f)?)?;
         }
         Ok(rows)
     }
@@ -227,7 +227,7 @@ impl Meta {
         ensures { result ≡ m.conforms self.now sub sup }
     {
         match self.conformance.as_slice().get(sub.0 as usize) {
-            Some(row) => row.as_slice().get(sup.0 as usize).copied() == Some(true),
+            Some(by_class) => by_class.as_slice().get(sup.0 as usize).copied() == Some(true),
             None => false,
         }
     }

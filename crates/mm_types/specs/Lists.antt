@@ -2,7 +2,7 @@
 use Rattle.std.specs.Prelude.{ℕ, List, insert, remove, slice_get, Option, Some, None}
 use Rattle.mm_types.specs.declared.value.Value.{Value}
 
--- a value that stood at a place put in to stand at another
+-- a value that stood at an index put in to stand at another
 abbrev pub put_back : Option Value → List Value → ℕ → ℕ → List Value
 put_back None vs to from = vs
 put_back (Some v) vs to from = insert (remove vs from) to v

@@ -4,7 +4,7 @@ use Rattle.std.specs.List.{find, list_any}
 use Rattle.std.specs.Option.{option_map_or}
 use Rattle.std.specs.Ordering.{int_eq}
 use Rattle.std.specs.Str.{bytes_eq}
-use Rattle.mm_types.specs.Graph.{Conforms, row}
+use Rattle.mm_types.specs.Graph.{Conforms, by_class}
 use Rattle.mm_types.specs.Integers.{is_of_bits}
 use Rattle.mm_types.specs.Resolved.{Metamodel, class_no, feature_no, literal_named}
 use Rattle.mm_types.specs.declared.class.Class.{Class}
@@ -66,7 +66,7 @@ ConformsTo m sub sup = (sub.0 < length m.classes) × Conforms (supertypes m) sub
 -- d is c, or is reached from it by so many steps at most
 abbrev pub conforms_within : List (List ℕ) → ℕ → ℕ → ℕ → Bool
 conforms_within g zero c d = nat_eq c d
-conforms_within g (suc n) c d = nat_eq c d || list_any (λ e. conforms_within g n e d) (row g c)
+conforms_within g (suc n) c d = nat_eq c d || list_any (λ e. conforms_within g n e d) (by_class g c)
 
 -- the same, computed: no way up is longer than there are classes
 abbrev pub conforms : Metamodel → ClassNo → ClassNo → Bool

@@ -81,19 +81,19 @@ module _ (l : List Entry) (rising : IsRising l) (f at : ℕ) (is_at : IsAt l f a
   stored_in-changed x e g read is items flag = stored_in-put e (g x.list.items) x.flag is items flag ∙ ap (λ h. with_stored (stored_in l) f (list_changed g h)) (sym (stored_read x read))
 
   -- its places stay but for those that are taken, and those of the others all
-  pub place-set : (x e : Entry) (k : ℕ) → x ≡ get_or l at x → e.feature.0 ≡ f → x.list.spare ≤ e.list.spare + k → (q n : ℕ) → HasPlace l q n → HasPlace (set l at e) q (n - taken_of f k q)
-  place-set x e k read is spare q n has = record {
-    place = has.place;
-    is_at = record { in_range = grind (arith, common_steps, has.is_at.in_range); has_feature = feature_at-set e is has.place ∙ has.is_at.has_feature };
-    spare = elim (cases_eq has.place at) [
+  pub index-set : (x e : Entry) (k : ℕ) → x ≡ get_or l at x → e.feature.0 ≡ f → x.list.spare ≤ e.list.spare + k → (q n : ℕ) → HasPlace l q n → HasPlace (set l at e) q (n - taken_of f k q)
+  index-set x e k read is spare q n has = record {
+    index = has.index;
+    is_at = record { in_range = grind (arith, common_steps, has.is_at.in_range); has_feature = feature_at-set e is has.index ∙ has.is_at.has_feature };
+    spare = elim (cases_eq has.index at) [
       | inl here ↦
           let same : q ≡ f = sym has.is_at.has_feature ∙ ap (feature_at l) here ∙ is_at.has_feature in
-          let was : spare_at l has.place ≡ x.list.spare = ap (spare_at l) here ∙ ap (λ (y : Entry). y.list.spare) (read_is x read) in
-          let now : spare_at (set l at e) has.place ≡ e.list.spare = ap (spare_at (set l at e)) here ∙ ap (λ (y : Entry). y.list.spare) (get_or-set_same l at e (place_for 0) is_at.in_range) in
+          let was : spare_at l has.index ≡ x.list.spare = ap (spare_at l) here ∙ ap (λ (y : Entry). y.list.spare) (read_is x read) in
+          let now : spare_at (set l at e) has.index ≡ e.list.spare = ap (spare_at (set l at e)) here ∙ ap (λ (y : Entry). y.list.spare) (get_or-set_same l at e (place_for 0) is_at.in_range) in
           let took : taken_of f k q ≡ k = ap (λ b. cond b k 0) (eq-eqb q f same) in
           omega (arith, has.spare, was, now, took)
       | inr apart ↦
-          let same : spare_at (set l at e) has.place ≡ spare_at l has.place = ap (λ (y : Entry). y.list.spare) (get_or-set_other l at has.place e (place_for 0) apart) in
+          let same : spare_at (set l at e) has.index ≡ spare_at l has.index = ap (λ (y : Entry). y.list.spare) (get_or-set_other l at has.index e (place_for 0) apart) in
           omega (arith, has.spare, same)
     ];
   }
@@ -101,19 +101,19 @@ module _ (l : List Entry) (rising : IsRising l) (f at : ℕ) (is_at : IsAt l f a
   -- it has as many places as its list
   pub place_here : (e : Entry) (n : ℕ) → e.feature.0 ≡ f → n ≤ e.list.spare → HasPlace (set l at e) f n
   place_here e n is many = record {
-    place = at;
+    index = at;
     is_at = record { in_range = grind (arith, common_steps, is_at.in_range); has_feature = feature_at-set e is at ∙ is_at.has_feature };
     spare = subst (λ s. n ≤ s) (sym (ap (λ (y : Entry). y.list.spare) (get_or-set_same l at e (place_for 0) is_at.in_range))) many;
   }
 
   -- of one attribute there is one entry
   pub spare_here : (x : Entry) (n : ℕ) → x ≡ get_or l at x → HasPlace l f n → n ≤ x.list.spare
-  spare_here x n read has = elim (cases_order has.place at) [
+  spare_here x n read has = elim (cases_order has.index at) [
     | inl same ↦
-        let was : spare_at l has.place ≡ x.list.spare = ap (spare_at l) same ∙ ap (λ (y : Entry). y.list.spare) (read_is x read) in
+        let was : spare_at l has.index ≡ x.list.spare = ap (spare_at l) same ∙ ap (λ (y : Entry). y.list.spare) (read_is x read) in
         omega (arith, has.spare, was)
-    | inr (inl less) ↦ absurd (omega (arith, rising has.place at less is_at.in_range, has.is_at.has_feature, is_at.has_feature))
-    | inr (inr more) ↦ absurd (omega (arith, rising at has.place more has.is_at.in_range, has.is_at.has_feature, is_at.has_feature))
+    | inr (inl less) ↦ absurd (omega (arith, rising has.index at less is_at.in_range, has.is_at.has_feature, is_at.has_feature))
+    | inr (inr more) ↦ absurd (omega (arith, rising at has.index more has.is_at.in_range, has.is_at.has_feature, is_at.has_feature))
   ]
 
 pub holds_nothing : (e : Entry) → e.list.items ≡ [] → e.flag ≡ false → stored_of e ≡ nothing_stored
@@ -128,7 +128,7 @@ none_of f q = elim (eqb q f) as (λ b. ◌≡◌ {A = ℕ} (cond b 0 0) 0) [
 
 -- a place for many is one for fewer
 pub fewer : (l : List Entry) (f n m : ℕ) → m ≤ n → HasPlace l f n → HasPlace l f m
-fewer l f n m le has = record { place = has.place; is_at = has.is_at; spare = omega (arith, has.spare) }
+fewer l f n m le has = record { index = has.index; is_at = has.is_at; spare = omega (arith, has.spare) }
 
 module _ (l : List Entry) (f at : ℕ) (gap : IsGapFor l f at) where
   none : NoneBefore l f (length l)
@@ -140,7 +140,7 @@ module _ (l : List Entry) (f at : ℕ) (gap : IsGapFor l f at) where
 
   -- it has no place
   pub no_place : (n : ℕ) → HasPlace l f n → ⊥
-  no_place n has = none has.place has.is_at.in_range has.is_at.has_feature
+  no_place n has = none has.index has.is_at.in_range has.is_at.has_feature
 
   -- a change that makes nothing of an empty list changes nothing
   pub unchanged_gap : (g : List Value → List Value) → g [] ≡ [] → stored_in l ≡ change_stored (stored_in l) f g
@@ -177,16 +177,16 @@ module _ (l : List Entry) (f at : ℕ) (gap : IsGapFor l f at) (e : Entry) (is :
   is_at_made = record { in_range = omega (arith, length-insert l at e gap.in_range, gap.in_range); has_feature = feature_here at refl }
 
   -- and each earlier place stays, or has moved up by one
-  pub place-insert : (q n : ℕ) → HasPlace l q n → HasPlace (insert l at e) q n
-  place-insert q n has = elim (cases_lt has.place at) [
+  pub index-insert : (q n : ℕ) → HasPlace l q n → HasPlace (insert l at e) q n
+  index-insert q n has = elim (cases_lt has.index at) [
     | inl below ↦ record {
-      place = has.place;
-      is_at = record { in_range = omega (arith, length-insert l at e gap.in_range, has.is_at.in_range); has_feature = feature_below has.place below ∙ has.is_at.has_feature };
-      spare = subst (λ s. n ≤ s) (sym (ap (λ (y : Entry). y.list.spare) (get_or-insert_below l at e (place_for 0) has.place below gap.in_range))) has.spare;
+      index = has.index;
+      is_at = record { in_range = omega (arith, length-insert l at e gap.in_range, has.is_at.in_range); has_feature = feature_below has.index below ∙ has.is_at.has_feature };
+      spare = subst (λ s. n ≤ s) (sym (ap (λ (y : Entry). y.list.spare) (get_or-insert_below l at e (place_for 0) has.index below gap.in_range))) has.spare;
     }
     | inr above ↦ record {
-      place = has.place + 1;
-      is_at = record { in_range = omega (arith, length-insert l at e gap.in_range, has.is_at.in_range); has_feature = ap (λ (y : Entry). y.feature.0) (entry_above has.place above) ∙ has.is_at.has_feature };
-      spare = subst (λ s. n ≤ s) (sym (ap (λ (y : Entry). y.list.spare) (entry_above has.place above))) has.spare;
+      index = has.index + 1;
+      is_at = record { in_range = omega (arith, length-insert l at e gap.in_range, has.is_at.in_range); has_feature = ap (λ (y : Entry). y.feature.0) (entry_above has.index above) ∙ has.is_at.has_feature };
+      spare = subst (λ s. n ≤ s) (sym (ap (λ (y : Entry). y.list.spare) (entry_above has.index above))) has.spare;
     }
   ]

@@ -18,7 +18,7 @@ use Rattle.mm_values.proofs.Place.{fewer}
 pub fewer_at : (r : Slots) (o f n m : ℕ) → m ≤ n → HasPlaceAt r o f n → HasPlaceAt r o f m
 fewer_at r o f n m le has d lt = elim (has d lt) [
   | inl dead ↦ inl dead
-  | inr place ↦ inr (fewer _ f n m le place)
+  | inr index ↦ inr (fewer _ f n m le index)
 ]
 
 -- what the edits behind the first need is what is left of what all need

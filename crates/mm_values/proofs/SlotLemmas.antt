@@ -134,13 +134,13 @@ module _ (cs : List (Option ClassNo)) (ls : List (List Entry)) (n i : ℕ) where
       others : (o f m : ℕ) → (o ≡ i → ⊥) → HasPlaceAt (columns cs ls n) o f m → HasPlaceAt (columns cs (set ls i l) n) o f (m - taken o f)
       others o f m apart has d lt = rw (get_or-set_other ls i o l d apart) (elim (has d (omega (arith, length-set ls i l))) [
         | inl dead ↦ inl dead
-        | inr place ↦ inr (fewer _ f m (m - taken o f) (omega arith) place)
+        | inr index ↦ inr (fewer _ f m (m - taken o f) (omega arith) index)
       ])
 
       here : (f m : ℕ) → HasPlaceAt (columns cs ls n) i f m → HasPlaceAt (columns cs (set ls i l) n) i f (m - taken i f)
       here f m has d lt = rw (get_or-set_same ls i l d within) (elim (has x within) [
         | inl dead ↦ inl dead
-        | inr place ↦ inr (more f m (subst (λ y. HasPlace y f m) (sym read) place))
+        | inr index ↦ inr (more f m (subst (λ y. HasPlace y f m) (sym read) index))
       ])
 
       places : (o f m : ℕ) → HasPlaceAt (columns cs ls n) o f m → HasPlaceAt (columns cs (set ls i l) n) o f (m - taken o f)
@@ -152,7 +152,7 @@ module _ (cs : List (Option ClassNo)) (ls : List (List Entry)) (n i : ℕ) where
 
   -- with no place less
   pub kept_all : (x l : List Entry) → i < length ls → x ≡ get_or ls i x → ((f m : ℕ) → HasPlace x f m → HasPlace l f m) → KeepsPlaces none_taken (columns cs ls n) (columns cs (set ls i l) n)
-  kept_all x l within read more = kept_set x l none_taken within read (λ f m place. fewer l f m (m - 0) (omega arith) (more f m place))
+  kept_all x l within read more = kept_set x l none_taken within read (λ f m index. fewer l f m (m - 0) (omega arith) (more f m index))
 
   -- an object that is ended needs no place
   pub kept_ended : (l : List Entry) → length cs ≡ length ls → i < n → n ≤ length ls → KeepsPlaces none_taken (columns cs ls n) (columns (set cs i None) (set ls i l) n)
@@ -161,7 +161,7 @@ module _ (cs : List (Option ClassNo)) (ls : List (List Entry)) (n i : ℕ) where
       others : (o f m : ℕ) → (o ≡ i → ⊥) → HasPlaceAt (columns cs ls n) o f m → HasPlaceAt (columns (set cs i None) (set ls i l) n) o f (m - 0)
       others o f m apart has d lt = rw (get_or-set_other ls i o l d apart) (elim (has d (omega (arith, length-set ls i l))) [
         | inl dead ↦ inl (dead.0, get_or-set_other cs i o None None apart ∙ dead.1)
-        | inr place ↦ inr (fewer _ f m (m - 0) (omega arith) place)
+        | inr index ↦ inr (fewer _ f m (m - 0) (omega arith) index)
       ])
 
       places : (o f m : ℕ) → HasPlaceAt (columns cs ls n) o f m → HasPlaceAt (columns (set cs i None) (set ls i l) n) o f (m - 0)
@@ -173,8 +173,8 @@ module _ (cs : List (Option ClassNo)) (ls : List (List Entry)) (n i : ℕ) where
 
 -- with some places of one attribute less
 pub kept_taken : (cs : List (Option ClassNo)) (ls : List (List Entry)) (n : ℕ) (o : ObjectNo) (g : FeatureNo) (k : ℕ) (x l : List Entry) → o.0 < length ls → x ≡ get_or ls o.0 x → ((f m : ℕ) → HasPlace x f m → HasPlace l f (m - taken_of g.0 k f)) → KeepsPlaces (taken_at o g k) (columns cs ls n) (columns cs (set ls o.0 l) n)
-kept_taken cs ls n o g k x l within read more = kept_set cs ls n o.0 x l (taken_at o g k) within read (λ f m place.
-    subst (λ t. HasPlace l f (m - t)) (sym (ap (λ b. cond b (taken_of g.0 k f) 0) (eq-eqb o.0 o.0 refl))) (more f m place))
+kept_taken cs ls n o g k x l within read more = kept_set cs ls n o.0 x l (taken_at o g k) within read (λ f m index.
+    subst (λ t. HasPlace l f (m - t)) (sym (ap (λ b. cond b (taken_of g.0 k f) 0) (eq-eqb o.0 o.0 refl))) (more f m index))
 
 -- where nothing is written, no place is less
 pub kept_same : (r : Slots) (taken : ℕ → ℕ → ℕ) → KeepsPlaces taken r r
@@ -182,7 +182,7 @@ kept_same r taken = record {
   slots = refl;
   places = λ o f m has d lt. elim (has d lt) [
     | inl dead ↦ inl dead
-    | inr place ↦ inr (fewer _ f m (m - taken o f) (omega arith) place)
+    | inr index ↦ inr (fewer _ f m (m - taken o f) (omega arith) index)
   ];
 }
 

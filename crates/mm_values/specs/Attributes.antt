@@ -1,4 +1,4 @@
--- What a row of entries holds, and at which attributes it has places.
+-- What a list of entries holds, and at which attributes it has places.
 use Rattle.std.specs.Prelude.{◌≡◌, ℕ, ◌<◌, ◌≤◌, false, List, [], ◌∷◌, length, nat_eq, slice_index_or, unwrap_or, if◌then◌else◌}
 use Rattle.std.specs.FinMap as map
 use Rattle.mm_types.specs.declared.numbers.FeatureNo.{FeatureNo}
@@ -21,7 +21,7 @@ stored_under l f = unwrap_or (map.get (stored_in l) f.0) nothing_stored
 abbrev pub change_stored : StoredMap → ℕ → (List Value → List Value) → StoredMap
 change_stored m f g = with_stored m f (list_changed g (unwrap_or (map.get m f) nothing_stored))
 
--- an entry that is only a place
+-- an entry that is only made ahead
 abbrev pub place_for : ℕ → Entry
 place_for f = record { feature = record { 0 = f }; list = record { items = []; spare = 0 }; flag = false }
 
@@ -32,26 +32,26 @@ feature_at l i = let e = slice_index_or l i (place_for 0) in e.feature.0
 abbrev pub IsRising : List Entry → Type 0
 IsRising l = (i j : ℕ) → i < j → j < length l → feature_at l i < feature_at l j
 
--- the entry at place i is the attribute's
+-- the entry at index i is the attribute's
 pub record IsAt (l : List Entry) (f i : ℕ) : Type 0 where
   pub in_range : i < length l
   pub has_feature : feature_at l i ≡ f
 
--- the attribute's entry would go at place i: smaller numbers before it, and greater from it on
+-- the attribute's entry would go at index i: smaller numbers before it, and greater from it on
 pub record IsGapFor (l : List Entry) (f i : ℕ) : Type 0 where
   pub in_range : i ≤ length l
   pub smaller_before : (j : ℕ) → j < i → feature_at l j < f
   pub greater_after : (j : ℕ) → i ≤ j → j < length l → f < feature_at l j
 
--- how many values may come at place i with no memory taken
+-- how many values may come at index i with no memory taken
 abbrev pub spare_at : List Entry → ℕ → ℕ
 spare_at l i = let e = slice_index_or l i (place_for 0) in e.list.spare
 
--- there is a place for what the attribute will hold, where n values may come with no memory taken
+-- there is room for what the attribute will hold, where n values may come with no memory taken
 pub record HasPlace (l : List Entry) (f n : ℕ) : Type 0 where
-  pub place : ℕ
-  pub is_at : IsAt l f place
-  pub spare : n ≤ spare_at l place
+  pub index : ℕ
+  pub is_at : IsAt l f index
+  pub spare : n ≤ spare_at l index
 
 -- of the places for the f-th attribute's values, k are taken
 abbrev pub taken_of : ℕ → ℕ → ℕ → ℕ

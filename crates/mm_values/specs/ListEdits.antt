@@ -18,7 +18,7 @@ taken (Insert i v) = 1
 taken (Remove i) = 0
 taken (Move to from) = 0
 
--- its list has a place where the edit needs one
+-- its list has room where the edit needs one
 abbrev pub IsReadyFor : List Entry → ℕ → ListEdit → Type 0
 IsReadyFor l f (Insert i v) = HasPlace l f 1
 IsReadyFor l f (Remove i) = Unit {0}

@@ -48,7 +48,7 @@ places_taken _ = none_taken
 abbrev pub needed : List ValueEdit → ℕ → ℕ → ℕ
 needed plan o f = if list_any (is_insert_at o f) plan then sum_by (λ e. places_taken e o f) plan else 0
 
--- a list that is put, or that a value is put into, has its place and the places that the plan needs
+-- a list that is put, or that a value is put into, has its entry and the places that the plan needs
 abbrev pub HasPlaceFor : Slots → List ValueEdit → ValueEdit → Type 0
 HasPlaceFor r plan (PutList x g list flag) = HasPlaceAt r x.0 g.0 (needed plan x.0 g.0)
 HasPlaceFor r plan (InsertValue x g i w u) = HasPlaceAt r x.0 g.0 (needed plan x.0 g.0)

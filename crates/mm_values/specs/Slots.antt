@@ -1,4 +1,4 @@
--- How objects stand in two columns of slots: those that were made, and from `next` on slots that are ready for more.
+-- How objects stand in two columns of entries: those that were made, and from `next` on entries that are ready for more.
 use Rattle.std.specs.Prelude.{◌≡◌, ℕ, ◌-◌, ◌<◌, ◌≤◌, ◌⊎◌, List, [], ◌∷◌, Option, None, length, nat_eq, take, slice_index_or, if◌then◌else◌}
 use Rattle.std.specs.Option.{option_map}
 use Rattle.std.specs.FinMap as map
@@ -29,7 +29,7 @@ states_of (c ∷ cs) (l ∷ ls) = state_of c l ∷ states_of cs ls
 abbrev pub objects_of : Slots → Objects
 objects_of r = take r.next (states_of r.classes r.lists)
 
--- the columns are of one length, and the slots from `next` on are ready: they hold nothing
+-- the columns are of one length, and the entries from `next` on are ready: they hold nothing
 pub record IsReady (r : Slots) : Type 0 where
   pub same_length : length r.classes ≡ length r.lists
   pub in_range : r.next ≤ length r.lists
@@ -38,7 +38,7 @@ pub record IsReady (r : Slots) : Type 0 where
 abbrev pub IsDead : Slots → ℕ → Type 0
 IsDead r o = (o < r.next) × (slice_index_or r.classes o None ≡ None)
 
--- the object has a place for what the attribute will hold, and for n values more, or needs none: it is dead, or never made
+-- the object has room for what the attribute will hold, and for n values more, or needs none: it is dead, or never made
 abbrev pub HasPlaceAt : Slots → ℕ → ℕ → ℕ → Type 0
 HasPlaceAt r o f n = (d : List Entry) → o < length r.lists → IsDead r o ⊎ HasPlace (slice_index_or r.lists o d) f n
 
@@ -53,7 +53,7 @@ none_taken o f = 0
 abbrev pub taken_at : ObjectNo → FeatureNo → ℕ → ℕ → ℕ → ℕ
 taken_at x g k o f = if nat_eq o x.0 then taken_of g.0 k f else 0
 
--- as many slots as before, and their places but for those that are taken
+-- as many entries as before, and their places but for those that are taken
 pub record KeepsPlaces (taken : ℕ → ℕ → ℕ) (old new : Slots) : Type 0 where
   pub slots : length new.lists ≡ length old.lists
   pub places : (o f n : ℕ) → HasPlaceAt old o f n → HasPlaceAt new o f (n - taken o f)

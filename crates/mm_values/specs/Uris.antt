@@ -1,4 +1,4 @@
--- A row of URIs.
+-- A list of URIs.
 use Rattle.std.specs.Prelude.{ℕ, List}
 
 -- the URIs in the order of their resources, and how many more may come with no memory taken

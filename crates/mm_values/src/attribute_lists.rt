@@ -11,7 +11,7 @@ use std::alloc::{AllocError, Global};
 use std::marker::Model;
 use value_lists::ValueList;
 
-/// What is stored under one attribute. If the list is empty and the flag off, it is only a place, made ahead for a list to
+/// What is stored under one attribute. If the list is empty and the flag off, the entry is only made ahead, for a list to
 /// come.
 #[derive(Drop)]
 pub(crate) struct Entry {
@@ -40,7 +40,7 @@ impl Model for AttributeLists {
 }
 
 impl AttributeLists {
-    /// Nothing stored, and no place. Takes no memory.
+    /// Nothing stored, and no entry. Takes no memory.
     pub fn new(alloc: Global) -> Self
         ensures { result ≡ [] }
     {
@@ -49,7 +49,7 @@ impl AttributeLists {
         }
     }
 
-    /// The list under an attribute; `None` if it has no place, and so no values.
+    /// The list under an attribute; `None` if it has no entry, and so no values.
     pub fn list(&self, feature: FeatureNo) -> Option<&ValueList>
         ensures { items_of (option_copied result) ≡ (stored_under self.now feature).list }
     {
@@ -69,7 +69,7 @@ impl AttributeLists {
         }
     }
 
-    /// Makes a place for what an attribute will hold, and places for more values of a list. The list may be one that is looked
+    /// Makes room for what an attribute will hold, and places for more values of a list. The list may be one that is looked
     /// up by value, or not. Errs only if memory is refused.
     pub fn make_place(
         &mut self,
@@ -99,7 +99,7 @@ impl AttributeLists {
         }
     }
 
-    /// Makes an entry for an attribute, if it has none, and returns its place.
+    /// Makes an entry for an attribute, if it has none, and returns its index.
     fn make_entry(&mut self, feature: FeatureNo) -> Result<usize, AllocError>
         ensures stored { stored_in self.new ≡ stored_in self.old }
         ensures kept { (f n : ℕ) → HasPlace self.old f n → HasPlace self.new f n }
@@ -147,7 +147,7 @@ impl AttributeLists {
         self.entries.reserve_exact(self.entries.len() / 4 + 1)
     }
 
-    /// Replaces what is stored under an attribute, in its place. Takes no memory.
+    /// Replaces what is stored under an attribute, where it is. Takes no memory.
     pub fn put(&mut self, feature: FeatureNo, list: NewValues, flag: bool)
         requires { HasPlace self.old feature.0 0 }
         ensures stored { stored_in self.new ≡ with_stored (stored_in self.old) feature.0 (record { list = list; flag = flag }) }
@@ -159,7 +159,7 @@ impl AttributeLists {
         }
     }
 
-    /// Replaces what is stored under an attribute, and makes a place for it if it has none. Errs only if memory is refused, and then
+    /// Replaces what is stored under an attribute, and makes room for it if it has none. Errs only if memory is refused, and then
     /// nothing that is seen has changed.
     pub fn set(&mut self, feature: FeatureNo, list: NewValues, flag: bool) -> Result<(), AllocError>
         ensures ok { OnOk result (stored_in self.new ≡ with_stored (stored_in self.old) feature.0 (record { list = list; flag = flag })) }
@@ -194,7 +194,7 @@ impl AttributeLists {
         }
     }
 
-    /// The place of the attribute's entry, or the one at which it would go.
+    /// The index of the attribute's entry, or the one at which it would go.
     fn find(&self, feature: FeatureNo) -> Result<usize, usize>
         ensures found { IfOk result (IsAt self.now feature.0) }
         ensures absent { IfErr result (IsGapFor self.now feature.0) }

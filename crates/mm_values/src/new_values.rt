@@ -14,7 +14,7 @@ enum Layout {
     Many(Seq<Value>),
 }
 
-/// Values that an edit puts in place of others. Contracts see them as the list.
+/// Values that an edit puts instead of others. Contracts see them as the list.
 #[derive(Debug, Drop)]
 pub struct NewValues {
     layout: Layout,

@@ -15,8 +15,8 @@ use std::alloc::{AllocError, Global};
 use std::marker::Model;
 use value_lists::ValueList;
 
-/// The objects by number: `next` of them were made. The slots after them are ready for objects to come. A slot is a class, if an
-/// object is live, and a row of attribute lists, in two columns, so that a look at the class reads no lists.
+/// The objects by number: `next` of them were made. The entries after them are ready for objects to come. An entry is a class, if an
+/// object is live, and its attribute lists, in two columns, so that a look at the class reads no lists.
 #[derive(Drop)]
 pub(crate) struct Objects {
     classes: Vec<Option<ClassNo>>,
@@ -75,7 +75,7 @@ impl Objects {
         Some(class)
     }
 
-    /// The list that a live object has under an attribute, if that has a place.
+    /// The list that a live object has under an attribute, if that has an entry.
     pub fn list(&self, object: ObjectNo, feature: FeatureNo) -> Option<Option<&ValueList>>
         ensures { option_map (λ l. items_of (option_copied l)) result ≡ option_map (λ s. (stored_under s feature).list) (object_at (objects_of self.now) object) }
     {
@@ -91,7 +91,7 @@ impl Objects {
         Some(lists.flag(feature))
     }
 
-    /// Makes one more slot ready. If memory is refused, nothing has changed.
+    /// Makes one more entry ready. If memory is refused, nothing has changed.
     fn add_slot(&mut self) -> Result<(), AllocError>
         ensures objects { objects_of self.new ≡ objects_of self.old }
         ensures next { self.new.next ≡ self.old.next }
@@ -112,7 +112,7 @@ impl Objects {
         self.lists.len() - self.next
     }
 
-    /// Makes slots ready for more objects. Errs only if memory is refused.
+    /// Makes entries ready for more objects. Errs only if memory is refused.
     pub fn reserve(&mut self, additional: usize) -> Result<(), AllocError>
         ensures objects { objects_of self.new ≡ objects_of self.old }
         ensures ok { OnOk result (self.new.next + additional ≤ length self.new.lists) }
@@ -123,7 +123,7 @@ impl Objects {
         Ok(())
     }
 
-    /// Makes a place for what an attribute of an object will hold, even of one that is still to be made, and places for more values
+    /// Makes room for what an attribute of an object will hold, even of one that is still to be made, and places for more values
     /// of a list. The list may be one that is looked up by value, or not. Errs only if memory is refused.
     pub fn make_place(
         &mut self,
@@ -160,7 +160,7 @@ impl Objects {
         self.lists[index].make_pieces(feature)
     }
 
-    /// Makes an object of a class, in a slot that is ready. Takes no memory.
+    /// Makes an object of a class, in an entry that is ready. Takes no memory.
     pub fn add(&mut self, class: ClassNo)
         requires { self.old.next < length self.old.lists }
         ensures objects { objects_of self.new ≡ with_object (objects_of self.old) class }
@@ -185,7 +185,7 @@ impl Objects {
         }
     }
 
-    /// Replaces what a live object holds under an attribute, in its place. Takes no memory.
+    /// Replaces what a live object holds under an attribute, where it is. Takes no memory.
     pub fn put(&mut self, object: ObjectNo, feature: FeatureNo, list: NewValues, flag: bool)
         requires { HasPlaceAt self.old object.0 feature.0 0 }
         ensures objects { objects_of self.new ≡ with_list (objects_of self.old) object feature (record { list = list; flag = flag }) }

@@ -256,7 +256,7 @@ impl Values {
         }
     }
 
-    /// Makes a place for each list that is put or changed.
+    /// Makes room for each list that is put or changed.
     fn make_places(&mut self, edits: &[ValueEdit]) -> Result<(), AllocError>
         ensures unchanged { values_of self.new ≡ values_of self.old }
         ensures next { self.new.objects.next ≡ self.old.objects.next }
@@ -266,7 +266,7 @@ impl Values {
         let plan = counted(edits);
         let mut made = None;
         for edit in edits {
-            // Of inserts in a row into one list, the first makes the places for all.
+            // Of consecutive inserts into one list, the first makes the places for all.
             if edit.is_insert_in(made) {
                 continue;
             }
@@ -276,7 +276,7 @@ impl Values {
         Ok(())
     }
 
-    /// Makes a place for a list that an edit of a plan puts or changes.
+    /// Makes room for a list that an edit of a plan puts or changes.
     fn make_place_for(&mut self, edit: &ValueEdit, plan: &[ValueEdit]) -> Result<(), AllocError>
         ensures unchanged { values_of self.new ≡ values_of self.old }
         ensures next { self.new.objects.next ≡ self.old.objects.next }
@@ -309,7 +309,7 @@ impl Values {
         }
     }
 
-    /// Makes a place for a list, and the places for values that a plan needs in it.
+    /// Makes room for a list, and the places for values that a plan needs in it.
     fn make_list(
         &mut self,
         object: ObjectNo,

@@ -1,3 +1,3 @@
 mod CallLemmas
 mod LooseValues
-mod SlotValues
+mod PointerValues

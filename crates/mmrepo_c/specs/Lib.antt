@@ -1,5 +1,5 @@
 pub mod Calls
 pub mod Filled
 pub mod Sessions
-pub mod Slots
+pub mod Pointers
 pub mod Statuses

@@ -1,8 +1,8 @@
 //! A session as C holds it.
 ghost use Rattle.std.specs.Prelude.{◌≡◌, None, Some, is_some, option_map};
 
+use crate::pointer::SessionPointer;
 use crate::session::Session;
-use crate::slot::Slot;
 use std::alloc::Global;
 use std::mem;
 
@@ -10,47 +10,47 @@ use std::mem;
 #[repr(C)]
 #[derive(Drop)]
 pub struct Handle {
-    pub(crate) slot: Slot,
+    pub(crate) pointer: SessionPointer,
     is_open: bool,
-    ghost known: { is_open ≡ is_some slot.held },
+    ghost known: { is_open ≡ is_some pointer.held },
 }
 
 impl Handle {
     /// A handle that is closed.
     fn closed(alloc: Global) -> Handle
-        ensures { result.slot.held ≡ None }
+        ensures { result.pointer.held ≡ None }
     {
         Handle {
-            slot: Slot::empty(alloc),
+            pointer: SessionPointer::empty(alloc),
             is_open: false,
         }
     }
 
     /// The handle of a session.
     pub(crate) fn of(session: Box<Session>) -> Handle
-        ensures { result.slot.held ≡ Some session.value }
+        ensures { result.pointer.held ≡ Some session.value }
     {
         Handle {
-            slot: Slot::of(session),
+            pointer: SessionPointer::of(session),
             is_open: true,
         }
     }
 
     /// Whether it has a session.
     pub(crate) fn is_open(&self) -> bool
-        ensures { result ≡ is_some self.now.slot.held }
+        ensures { result ≡ is_some self.now.pointer.held }
     {
         self.is_open
     }
 
     /// Takes the session, and closes the handle; None if it is closed.
     pub(crate) fn take(&mut self, alloc: Global) -> Option<Box<Session>>
-        ensures taken { option_map (λ b. b.value) result ≡ self.old.slot.held }
-        ensures closed { self.new.slot.held ≡ None }
+        ensures taken { option_map (λ b. b.value) result ≡ self.old.pointer.held }
+        ensures closed { self.new.pointer.held ≡ None }
     {
         let before = mem::replace(self, Handle::closed(alloc));
         if before.is_open {
-            Some(before.slot.into_box())
+            Some(before.pointer.into_box())
         } else {
             None
         }

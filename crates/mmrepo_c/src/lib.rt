@@ -1,8 +1,8 @@
 //! mmrepo for C: a static library, whose functions `include/mmrepo.h` declares. A session over a metamodel answers the lines of a
 //! script, each in a call. docs/C.md begins with a program.
 //!
-//! A call takes a session out of its handle and puts it back. So all of them but `Slot` and `Loose` is safe code, which is proved from
-//! the contracts of those two.
+//! A call takes a session out of its handle and puts it back. So all of them but `SessionPointer` and `Loose` is safe code, which is proved
+//! from the contracts of those two.
 #![tactic(auto)]
 
 ghost use Rattle.std.specs.Prelude.{◌≡◌, None};
@@ -12,8 +12,8 @@ mod fill;
 mod handle;
 mod loose;
 mod opening;
+mod pointer;
 mod session;
-mod slot;
 mod status;
 
 use crate::fill::fill;
@@ -21,8 +21,8 @@ use crate::opening::begun;
 use crate::status::{CLOSED, MEMORY, OK, TOO_LONG, fault_status, line_status};
 pub use handle::Handle;
 use mm_types::limits::INPUT_BYTES;
+pub use pointer::SessionPointer;
 pub use session::Session;
-pub use slot::Slot;
 use std::alloc::Global;
 
 /// Opens a session: an empty repository over the metamodel of a document. What the handle had before is closed. Its adapters, A1 to
@@ -32,7 +32,7 @@ use std::alloc::Global;
 /// is refused. The handle is closed if the status is not `OK`.
 #[unsafe(no_mangle)]
 pub extern "C" fn mmrepo_open(alloc: Global, handle: &mut Handle, document: &[u8]) -> u32
-    ensures { c.Opens document.now result handle.new.slot.held }
+    ensures { c.Opens document.now result handle.new.pointer.held }
 {
     drop(handle.take(alloc));
     if document.len() > INPUT_BYTES {
@@ -54,7 +54,7 @@ pub extern "C" fn mmrepo_open(alloc: Global, handle: &mut Handle, document: &[u8
 /// bytes: the session is as it was. `MEMORY` if memory is refused to the run itself: the session is closed.
 #[unsafe(no_mangle)]
 pub extern "C" fn mmrepo_line(alloc: Global, handle: &mut Handle, line: &[u8]) -> u32
-    ensures { c.Answers handle.old.slot.held line.now result handle.new.slot.held }
+    ensures { c.Answers handle.old.pointer.held line.now result handle.new.pointer.held }
 {
     if handle.is_open() && line.len() > INPUT_BYTES {
         return TOO_LONG;
@@ -75,7 +75,7 @@ pub extern "C" fn mmrepo_line(alloc: Global, handle: &mut Handle, line: &[u8]) -
 /// run, and if the handle is closed.
 #[unsafe(no_mangle)]
 pub extern "C" fn mmrepo_text(alloc: Global, handle: &mut Handle, out: &mut [u8]) -> usize
-    ensures { c.Copies handle.old.slot.held out.old result out.new handle.new.slot.held }
+    ensures { c.Copies handle.old.pointer.held out.old result out.new handle.new.pointer.held }
 {
     let Some(session) = handle.take(alloc) else {
         return 0;
@@ -88,7 +88,7 @@ pub extern "C" fn mmrepo_text(alloc: Global, handle: &mut Handle, out: &mut [u8]
 /// Closes a session, and frees all that it has. A handle that is closed stays closed.
 #[unsafe(no_mangle)]
 pub extern "C" fn mmrepo_close(alloc: Global, handle: &mut Handle)
-    ensures { handle.new.slot.held ≡ None }
+    ensures { handle.new.pointer.held ≡ None }
 {
     drop(handle.take(alloc));
 }

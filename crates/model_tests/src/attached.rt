@@ -79,7 +79,7 @@ fn counters(alloc: Global) -> Result<Box<AdapterList<Counter>>, Fail> {
     )
 }
 
-/// The number and the first target of the adapter at each place, and at the place past the last.
+/// The number and the first target of the adapter at each ordinal, and at the ordinal past the last.
 const PLACES: [Option<(AdapterNo, Node)>; 4] = [
     Some((AdapterNo(5), Node::Object(ObjectNo(1)))),
     Some((AdapterNo(6), Node::Object(ObjectNo(2)))),
@@ -87,7 +87,7 @@ const PLACES: [Option<(AdapterNo, Node)>; 4] = [
     None,
 ];
 
-/// The number and the first target of the adapter at a place.
+/// The number and the first target of the adapter at an ordinal.
 fn first_at<A: Adapter>(list: &AdapterList<A>, i: usize) -> Option<(AdapterNo, Node)> {
     let (no, targets) = list.at(i)?;
     let target = targets.front()?;

@@ -138,7 +138,7 @@ fn check_refused<L: LinkStore>(
     Ok(())
 }
 
-/// Six notices are of the first resource, and another place is for the last notice: with less room all is refused.
+/// Six notices are of the first resource, and one more is for the last notice: with less room all is refused.
 fn check_rooms<L: LinkStore>(alloc: Global, repository: &mut Network<L>) -> Result<(), Fail> {
     let texts = documents(alloc)?;
     reload(alloc, repository, texts.as_slice(), IN_ORDER)?;

@@ -45,7 +45,7 @@ fn put_in<L: LinkStore>(repository: &mut Network<L>, item: u32, seed: u32) -> Re
     })
 }
 
-/// Makes some items, every fifth one in the same resource; returns the last number of the row that gave them.
+/// Makes some items, every fifth one in the same resource; returns the last number of the sequence that gave them.
 fn add_items<L: LinkStore>(
     alloc: Global,
     repository: &mut Network<L>,

@@ -12,9 +12,9 @@ use snapshots::{FeatureState, NodeState};
 use std::alloc::{AllocError, Global};
 use std::test::Fail;
 
-/// The place of a proxy.
+/// The site of a proxy.
 #[derive(Clone, Copy)]
-struct Place {
+struct Site {
     resource: u32,
     object: ObjectNo,
     feature: FeatureNo,
@@ -22,8 +22,8 @@ struct Place {
 }
 
 /// Adds the places of the proxies of a feature.
-fn push_places(
-    places: &mut Vec<Place>,
+fn push_sites(
+    sites: &mut Vec<Site>,
     resource: u32,
     object: ObjectNo,
     state: &FeatureState,
@@ -31,7 +31,7 @@ fn push_places(
     let (feature, mut index) = (state.feature, 0u32);
     for value in state.values.as_slice() {
         if matches!(value, Value::Proxy(_)) {
-            places.push(Place {
+            sites.push(Site {
                 resource,
                 object,
                 feature,
@@ -44,8 +44,8 @@ fn push_places(
 }
 
 /// Adds the places of an object's proxies.
-fn push_places_of(
-    places: &mut Vec<Place>,
+fn push_sites_of(
+    sites: &mut Vec<Site>,
     resource: u32,
     state: &NodeState,
 ) -> Result<(), AllocError> {
@@ -53,46 +53,46 @@ fn push_places_of(
         return Ok(());
     };
     for feature in state.features.as_slice() {
-        push_places(places, resource, object, feature)?;
+        push_sites(sites, resource, object, feature)?;
     }
     Ok(())
 }
 
 /// Adds the places of a resource's proxies.
-fn push_places_in<L: LinkStore>(
+fn push_sites_in<L: LinkStore>(
     alloc: Global,
-    places: &mut Vec<Place>,
+    sites: &mut Vec<Site>,
     repository: &Network<L>,
     number: u32,
 ) -> Result<(), Fail> {
     let snapshot = Box::new(alloc, repository.snapshot(resource(number))?)?;
     for state in snapshot.nodes() {
-        push_places_of(places, number, state)?;
+        push_sites_of(sites, number, state)?;
     }
     Ok(())
 }
 
 /// The places of all proxies.
-fn places<L: LinkStore>(alloc: Global, repository: &Network<L>) -> Result<Vec<Place>, Fail> {
-    let mut places = Vec::new(alloc);
+fn sites<L: LinkStore>(alloc: Global, repository: &Network<L>) -> Result<Vec<Site>, Fail> {
+    let mut sites = Vec::new(alloc);
     for number in 0..RESOURCES {
-        push_places_in(alloc, &mut places, repository, number)?;
+        push_sites_in(alloc, &mut sites, repository, number)?;
     }
-    Ok(places)
+    Ok(sites)
 }
 
 /// How many links some proxies stand for: one of a reference with an opposite has a proxy at each end.
-fn count_links(places: &[Place]) -> u64 {
-    let ends = places
+fn count_links(sites: &[Site]) -> u64 {
+    let ends = sites
         .iter()
-        .filter(|place| place.feature != SEES && place.feature != TOP)
+        .filter(|site| site.feature != SEES && site.feature != TOP)
         .count();
-    places.len().wrapping_sub(ends / 2) as u64
+    sites.len().wrapping_sub(ends / 2) as u64
 }
 
 /// How many of the places are in a resource.
-fn count_in(places: &[Place], number: u32) -> u64 {
-    let count = places.iter().filter(|place| place.resource == number);
+fn count_in(sites: &[Site], number: u32) -> u64 {
+    let count = sites.iter().filter(|site| site.resource == number);
     count.count() as u64
 }
 
@@ -106,10 +106,10 @@ fn attach_to_resources<L: LinkStore>(repository: &mut Network<L>) -> Result<(), 
 }
 
 /// Fails unless the adapter of each resource was told once of each proxy there.
-fn check_told<L: LinkStore>(repository: &Network<L>, places: &[Place]) -> Result<(), Fail> {
+fn check_told<L: LinkStore>(repository: &Network<L>, sites: &[Site]) -> Result<(), Fail> {
     for number in 0..RESOURCES {
         let told = repository.adapter_told(AdapterNo(number))?;
-        if told != count_in(places, number) {
+        if told != count_in(sites, number) {
             return Err(Fail::new(format_args!("{told} told of resource {number}")));
         }
     }
@@ -124,16 +124,16 @@ fn check_at_once<L: LinkStore>(
     order: Order<'_>,
 ) -> Result<(), Fail> {
     reload(alloc, repository, texts, order)?;
-    let places = places(alloc, repository)?;
+    let sites = sites(alloc, repository)?;
     attach_to_resources(repository)?;
-    check_resolved(repository, (count_links(places.as_slice()), 0))?;
-    check_told(repository, places.as_slice())?;
+    check_resolved(repository, (count_links(sites.as_slice()), 0))?;
+    check_told(repository, sites.as_slice())?;
     check_saved(repository, texts, order)
 }
 
-/// Whether the proxy at a place is resolved: it's gone already if it was the other end of an earlier one.
-fn is_resolved<L: LinkStore>(repository: &mut Network<L>, place: Place) -> Result<bool, Refused> {
-    match made(repository.resolve(place.object, place.feature, place.index)) {
+/// Whether the proxy at a site is resolved: it's gone already if it was the other end of an earlier one.
+fn is_resolved<L: LinkStore>(repository: &mut Network<L>, site: Site) -> Result<bool, Refused> {
+    match made(repository.resolve(site.object, site.feature, site.index)) {
         Ok(()) => Ok(true),
         Err(Refused::NotProxy) => Ok(false),
         Err(refused) => Err(refused),
@@ -143,13 +143,13 @@ fn is_resolved<L: LinkStore>(repository: &mut Network<L>, place: Place) -> Resul
 /// Resolves proxies one by one, in an order of their places; returns how many were resolved.
 fn resolve_each<L: LinkStore>(
     repository: &mut Network<L>,
-    places: &[Place],
+    sites: &[Site],
     order: &[u32],
 ) -> Result<u64, Fail> {
     let mut done: u64 = 0;
     for i in order {
-        let place = places.get(*i as usize).ok_or("no such place")?;
-        done = done.wrapping_add(u64::from(is_resolved(repository, *place)?));
+        let site = sites.get(*i as usize).ok_or("no such site")?;
+        done = done.wrapping_add(u64::from(is_resolved(repository, *site)?));
     }
     Ok(done)
 }
@@ -163,10 +163,10 @@ fn check_one_by_one<L: LinkStore>(
     seed: u32,
 ) -> Result<(), Fail> {
     reload(alloc, repository, texts, order)?;
-    let places = places(alloc, repository)?;
-    let turns = shuffled(alloc, u32::try_from(places.len())?, seed)?;
-    let done = resolve_each(repository, places.as_slice(), turns.as_slice())?;
-    if done != count_links(places.as_slice()) {
+    let sites = sites(alloc, repository)?;
+    let turns = shuffled(alloc, u32::try_from(sites.len())?, seed)?;
+    let done = resolve_each(repository, sites.as_slice(), turns.as_slice())?;
+    if done != count_links(sites.as_slice()) {
         return Err(Fail::new(format_args!("{done} resolved")));
     }
     check_resolved(repository, (0, 0))?;

@@ -20,7 +20,7 @@ const REFERENCES: [(u32, u32, u32, u32, u32); 11] = [
     (PARENT, 12, 4, 12, 4),
 ];
 
-/// The next of a row of numbers that look random (the constants are those of Numerical Recipes).
+/// The next of a sequence of numbers that look random (the constants are those of Numerical Recipes).
 pub(crate) fn next(seed: u32) -> u32 {
     seed.wrapping_mul(1664525).wrapping_add(1013904223)
 }

@@ -99,9 +99,9 @@ first_at r e v = first_in (r.values e) v
 abbrev pub is_repeat : Reading → End → Value → Bool
 is_repeat r e v = (shape_at r e).is_unique && has_value (r.values e) v
 
--- the place that is named at an end, and else the one behind the last value
-abbrev pub place_for : Reading → End → Option ℕ → ℕ
-place_for r e i = unwrap_or i (length (r.values e))
+-- the position that is named at an end, and else the one behind the last value
+abbrev pub position_for : Reading → End → Option ℕ → ℕ
+position_for r e i = unwrap_or i (length (r.values e))
 
 -- the objects among values
 abbrev pub object_of : Value → Option ObjectNo

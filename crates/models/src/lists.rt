@@ -1,4 +1,4 @@
-//! What is at the places of ends.
+//! What is at the positions of ends.
 ghost use Rattle.std.specs.Prelude.{◌≡◌, ◌&&◌, false, true, Some, length, option_and_then, option_map, option_copied, slice_get, unwrap_or, IfOk};
 ghost use Rattle.mm_types.specs.Ends.{first_in, has_value};
 ghost use Rattle.std.specs.Option.{option_map_or};
@@ -24,14 +24,14 @@ impl<'a, L: LinkStore> ModelRef<'a, L> {
     pub fn len(&self, end: End) -> u32
         ensures { result ≡ length ((reading self.now).values end) }
     {
-        self.is_legal();
+        self.lemma_is_legal();
         if self.meta().is_reference(end.feature) {
             return self.store().len(end) as u32;
         }
         attribute_len(self.meta(), self.values(), end) as u32
     }
 
-    /// What is at a place of an end; `None` past the last.
+    /// What is at a position of an end; `None` past the last.
     pub fn value_in(&self, end: End, index: u32) -> Option<Found<'a>>
         ensures { option_map found_value result ≡ slice_get ((reading self.now).values end) index }
     {
@@ -42,29 +42,29 @@ impl<'a, L: LinkStore> ModelRef<'a, L> {
         found_kept(attribute_value_in(meta, values, end, index as usize))
     }
 
-    /// What is at a place of a reference: an object, or a proxy by its text.
+    /// What is at a position of a reference: an object, or a proxy by its text.
     pub(crate) fn target_in(&self, end: End, index: u32) -> Option<Found<'a>>
         requires reference { (shape self.now.metamodel end.feature).is_reference ≡ true }
         ensures { option_map found_value result ≡ slice_get ((reading self.now).values end) index }
     {
-        self.is_legal();
+        self.lemma_is_legal();
         match self.store().at(end, index) {
             Some(object) => Some(Found::Object(object)),
             None => found_proxy(self.store().proxy_at(end, index)),
         }
     }
 
-    /// The object at a place of a reference; `None` past the last, and if a proxy is there.
+    /// The object at a position of a reference; `None` past the last, and if a proxy is there.
     pub fn object_in(&self, end: End, index: u32) -> Option<ObjectNo>
         requires reference { (shape self.now.metamodel end.feature).is_reference ≡ true }
         ensures object { result ≡ option_and_then r.object_of (slice_get ((reading self.now).values end) index) }
         ensures objects { takes_proxies (shape self.now.metamodel end.feature) ≡ false → option_map value.Object result ≡ slice_get ((reading self.now).values end) index }
     {
-        self.is_legal();
+        self.lemma_is_legal();
         self.store().at(end, index)
     }
 
-    /// Whether a value is at a place of a reference.
+    /// Whether a value is at a position of a reference.
     fn has_target(&self, end: End, index: u32, value: &Value) -> bool
         requires reference { (shape self.now.metamodel end.feature).is_reference ≡ true }
         ensures { result ≡ option_map_or (same_value value.now) (slice_get ((reading self.now).values end) index) false }
@@ -75,14 +75,14 @@ impl<'a, L: LinkStore> ModelRef<'a, L> {
         }
     }
 
-    /// The place of a value in a reference, looked for at one place after another; `None` if it is not
+    /// The position of a value in a reference, looked for at one position after another; `None` if it is not
     /// there.
     fn target_position(&self, end: End, value: &Value) -> Option<u32>
         requires reference { (shape self.now.metamodel end.feature).is_reference ≡ true }
         ensures { result ≡ first_in ((reading self.now).values end) value.now }
     {
-        self.is_legal();
-        'places: for index in 0..self.len(end) {
+        self.lemma_is_legal();
+        'positions: for index in 0..self.len(end) {
             if self.has_target(end, index, value) {
                 return Some(index);
             }
@@ -90,11 +90,11 @@ impl<'a, L: LinkStore> ModelRef<'a, L> {
         None
     }
 
-    /// The first place of a value at an end; `None` if it is not there.
+    /// The first position of a value at an end; `None` if it is not there.
     pub fn position(&self, end: End, value: &Value) -> Option<u32>
         ensures { result ≡ first_in ((reading self.now).values end) value.now }
     {
-        self.is_legal();
+        self.lemma_is_legal();
         if self.meta().is_reference(end.feature) {
             return match value {
                 Value::Object(object) => self.store().position(end, *object),
@@ -123,9 +123,9 @@ impl<'a, L: LinkStore> ModelRef<'a, L> {
         self.meta().is_unique(end.feature) && self.has(end, value)
     }
 
-    /// The place that is named at an end, and else the one after the last value.
-    pub fn place_for(&self, end: End, index: Option<u32>) -> u32
-        ensures { result ≡ r.place_for (reading self.now) end index }
+    /// The position that is named at an end, and else the one after the last value.
+    pub fn position_for(&self, end: End, index: Option<u32>) -> u32
+        ensures { result ≡ r.position_for (reading self.now) end index }
     {
         match index {
             Some(index) => index,
@@ -176,7 +176,7 @@ fn attribute_len(meta: &Meta, values: &Values, end: End) -> usize
     kept_len(values, end)
 }
 
-/// What an attribute has at a place.
+/// What an attribute has at a position.
 #[tactic(auto, using(crate::proofs::ReadLemmas::attribute_values_by))]
 fn attribute_value_in<'a>(
     meta: &'a Meta,
@@ -196,7 +196,7 @@ fn attribute_value_in<'a>(
     kept_at(values, end, index)
 }
 
-/// The first place at which an attribute has a value.
+/// The first position at which an attribute has a value.
 #[tactic(auto, using(crate::proofs::ReadLemmas::attribute_values_by))]
 fn attribute_position(meta: &Meta, values: &Values, end: End, value: &Value) -> Option<usize>
     requires attribute { (shape meta.now end.feature).is_reference ≡ false }
@@ -226,7 +226,7 @@ fn attribute_has(meta: &Meta, values: &Values, end: End, value: &Value) -> bool
     kept_has(values, end, value)
 }
 
-/// The first place at which a node keeps a value under an attribute.
+/// The first position at which a node keeps a value under an attribute.
 #[tactic(auto, using(crate::proofs::PlaceLemmas::first_in_position))]
 fn kept_position(values: &Values, end: End, value: &Value) -> Option<usize>
     ensures { result ≡ first_in (kept_values (values_of values.now) end.node end.feature) value.now }

@@ -53,7 +53,7 @@ impl<'a, L: LinkStore> ModelRef<'a, L> {
     }
 
     /// What holds of every model, for proofs that know it by its view: it is legal.
-    pub fn is_legal(&self)
+    pub fn lemma_is_legal(&self)
         ensures { IsLegal self.now }
     {
         let _ = &self.meta;

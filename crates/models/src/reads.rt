@@ -21,7 +21,7 @@ use mm_types::{ClassNo, End, FeatureNo, Kind, Node, ObjectNo, Text, Value};
 use mm_values::Values;
 use std::alloc::{AllocError, Global};
 
-/// What is at a single end, borrowed from its place.
+/// What is at a single end, borrowed from where it is kept.
 #[derive(Clone, Copy, Debug)]
 pub enum Found<'a> {
     /// The value of an attribute.

@@ -26,10 +26,10 @@ use Rattle.fragment_paths.proofs.HeldLemmas.{held, held-root}
 use Rattle.fragment_paths.proofs.ImageLemmas.{address-image}
 use Rattle.fragment_paths.proofs.InsideLemmas.{each-inside}
 use Rattle.fragment_paths.proofs.StayLemmas.{address-finds, one-address}
-use Rattle.fragment_paths.specs.Fragments.{address, fragment, place_in}
+use Rattle.fragment_paths.specs.Fragments.{address, fragment, position_in}
 use Rattle.resource_docs.specs.declared.doc.Doc.{Doc}
 use Rattle.round_trip.proofs.ShapeLemmas.{live-inside}
-use Rattle.loading.specs.Loading.{contents_end, is_empty_resource}
+use Rattle.doc_loader.specs.Loading.{contents_end, is_empty_resource}
 use Rattle.handshake.specs.Effects.{after}
 use Rattle.handshake.specs.Laws.{comes_with}
 use Rattle.handshake.specs.Loaded.{IsLoaded}
@@ -80,7 +80,7 @@ module _ (s : Model) (k : ResourceNo) (doc : Doc) (legal : IsLegal s) (early : e
       top x e h is =
           let there = held s legal x e h in
           let root = (held-root s legal x e k there is).0 in
-          none-some (value.Object x) (ap (λ (vs : List Value). slice_get vs (place_in (reading s) e x)) (sym (ap (values_at s) root ∙ was-empty)) ∙ there.here)
+          none-some (value.Object x) (ap (λ (vs : List Value). slice_get vs (position_in (reading s) e x)) (sym (ap (values_at s) root ∙ was-empty)) ∙ there.here)
 
   -- an object that was there is none of the new ones
   pub old-object : (o : ObjectNo) → o.0 < length s.values.objects → comes_with (reading s) (Load k doc) (node.Object o) ≡ false

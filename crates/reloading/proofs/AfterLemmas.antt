@@ -317,12 +317,12 @@ module _ (s : Model) (w : ValuesState) (c : Links) (legal : IsLegal s) (other : 
   near-fewer : proxies_len (reading t) ≡ suc (proxies_len (with_values (reading t) near_values))
   near-fewer =
       let at = of-features t other p f i (value.Proxy text) refers here in
-      one-fewer (reading t) p f i text (value.Object aim) near_values here refl (λ d. refl) at.low at.place at.own (features-distinct t other (node.Object p))
+      one-fewer (reading t) p f i text (value.Object aim) near_values here refl (λ d. refl) at.low at.index at.own (features-distinct t other (node.Object p))
 
   alone-fewer : (shape s.metamodel f).opposite ≡ None → proxies_len (reading t) ≡ suc (proxies_len (reading u))
   alone-fewer alone =
       let at = of-features t other p f i (value.Proxy text) refers here in
-      one-fewer (reading t) p f i text (value.Object aim) (values_at u) here refl now at.low at.place at.own (features-distinct t other (node.Object p))
+      one-fewer (reading t) p f i text (value.Object aim) (values_at u) here refl now at.low at.index at.own (features-distinct t other (node.Object p))
     where
       now : (d : End) → values_at u d ≡ near_values d
       now d = elim (same_end e d) as (λ b. same_end e d ≡ b → values_at u d ≡ (if b then slice_set (values_at t e) i (value.Object aim) else values_at t d)) [
@@ -354,7 +354,7 @@ module _ (s : Model) (w : ValuesState) (c : Links) (legal : IsLegal s) (other : 
     far-fewer =
         let there = (mate g pair).proxy in
         let at = of-features t other aim g index (value.Proxy own_text) (reference-of t other d index (value.Proxy own_text) there refl) there in
-        one-fewer (with_values (reading t) near_values) aim g index own_text (value.Object p) (values_at u) (ap (λ (vs : List Value). slice_get vs index) d-near ∙ there) refl far-now at.low at.place at.own (features-distinct t other (node.Object aim))
+        one-fewer (with_values (reading t) near_values) aim g index own_text (value.Object p) (values_at u) (ap (λ (vs : List Value). slice_get vs index) d-near ∙ there) refl far-now at.low at.index at.own (features-distinct t other (node.Object aim))
 
   pub fewer-left : proxies_len (reading t) ≡ (if is_some (shape s.metamodel f).opposite then 2 else 1) + proxies_len (reading u)
   fewer-left = by (shape s.metamodel f).opposite refl

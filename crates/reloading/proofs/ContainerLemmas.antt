@@ -27,8 +27,8 @@ use Rattle.models.specs.Reading.{at_end}
 use Rattle.models.proofs.EndLemmas.{values-single}
 use Rattle.containment.proofs.PartLemmas.{contains-itself, holder-at, kinds-are, legal-at, values-linked}
 use Rattle.fragment_paths.proofs.HeldLemmas.{held}
-use Rattle.fragment_paths.specs.Fragments.{place_in}
-use Rattle.loading.proofs.SideLemmas.{opposite-reference}
+use Rattle.fragment_paths.specs.Fragments.{position_in}
+use Rattle.doc_loader.proofs.SideLemmas.{opposite-reference}
 
 -- a single reference whose opposite contains
 pub record IsContainerReference (m : Metamodel) (g : FeatureNo) : Type 0 where
@@ -86,7 +86,7 @@ module _ (s : Model) (legal : IsLegal s) (g : FeatureNo) (is : IsContainerRefere
       let x = at_end (node.Object o) g in
       let y = at_end (node.Object h) f in
       let at = held s legal o y up in
-      let p = place_in (reading s) y o in
+      let p = position_in (reading s) y o in
       let there = both_ends_agree (kinds_of s.metamodel) s.links legal.links.set legal.links.kinds y x back (p, ap (λ (vs : List Value). slice_get vs p) (sym (values-linked s y far-reference)) ∙ at.here) in
       let shown = values-single s x legal near-reference is.single in
       let here = ap (λ (vs : List Value). slice_get vs there.0) (sym shown ∙ values-linked s x near-reference) ∙ there.1 in

@@ -24,12 +24,12 @@ use Rattle.models.specs.Model.{Model, attribute_values, kept_flag, kept_values, 
 use Rattle.models.specs.Reading.{Reading, all_features_of, at_end, has_feature, is_set}
 use Rattle.containment.proofs.DistinctLemmas.{distinct-filter, features-distinct}
 use Rattle.containment.proofs.PartLemmas.{legal-at, values-linked}
-use Rattle.saved_docs.specs.Written.{is_written, objects_in, written_features}
+use Rattle.doc_writer.specs.Written.{is_written, objects_in, written_features}
 use Rattle.resource_docs.specs.Read.{values_in, values_under}
 use Rattle.resource_docs.specs.declared.doc.Content.{Content}
 use Rattle.resource_docs.specs.declared.doc.DocObject.{DocObject}
-use Rattle.loading.proofs.SideLemmas.{opposite-reference}
-use Rattle.loading.proofs.SoundLemmas.{at-map}
+use Rattle.doc_loader.proofs.SideLemmas.{opposite-reference}
+use Rattle.doc_loader.proofs.SoundLemmas.{at-map}
 use Rattle.round_trip.specs.Copied.{copied, object_copied, renamed}
 use Rattle.round_trip.proofs.ContainLemmas.{reference-plain}
 use Rattle.round_trip.proofs.EndLemmas.{written-of}

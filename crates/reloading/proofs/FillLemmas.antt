@@ -24,7 +24,7 @@ use Rattle.models.specs.Steady.{HasSteadyTexts}
 use Rattle.containment.proofs.PartLemmas.{live-made}
 use Rattle.containment.specs.Above.{resource_node, resource_of}
 use Rattle.fragment_paths.specs.Fragments.{roots_end}
-use Rattle.saved_docs.specs.Written.{objects_in}
+use Rattle.doc_writer.specs.Written.{objects_in}
 use Rattle.resource_docs.specs.declared.doc.Doc.{Doc}
 use Rattle.round_trip.specs.Copied.{copied, object_copied}
 use Rattle.round_trip.proofs.ShapeLemmas.{live-inside}

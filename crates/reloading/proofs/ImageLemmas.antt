@@ -32,13 +32,13 @@ use Rattle.fragment_paths.proofs.InsideLemmas.{contents-contains}
 use Rattle.fragment_paths.proofs.ObjectLemmas.{all-objects}
 use Rattle.fragment_paths.proofs.UpLemmas.{resource-part, resource-root}
 use Rattle.fragment_paths.specs.Finding.{roots}
-use Rattle.fragment_paths.specs.Fragments.{address, place_in}
-use Rattle.saved_docs.specs.Written.{objects_in}
+use Rattle.fragment_paths.specs.Fragments.{address, position_in}
+use Rattle.doc_writer.specs.Written.{objects_in}
 use Rattle.resource_docs.specs.Read.{values_in, values_under}
 use Rattle.resource_docs.specs.declared.doc.Doc.{Doc}
 use Rattle.resource_docs.specs.declared.doc.DocObject.{DocObject}
-use Rattle.loading.specs.Loading.{contents_end, loaded, loaded_value}
-use Rattle.loading.proofs.SoundLemmas.{at-map}
+use Rattle.doc_loader.specs.Loading.{contents_end, loaded, loaded_value}
+use Rattle.doc_loader.proofs.SoundLemmas.{at-map}
 use Rattle.round_trip.specs.Copied.{copied, object_copied, renamed, root_copied}
 use Rattle.round_trip.proofs.ContainLemmas.{reference-plain}
 use Rattle.round_trip.proofs.InsideLemmas.{written-inside}
@@ -216,7 +216,7 @@ module _ (s : Model) (w : ValuesState) (c : Links) (legal : IsLegal s) (other : 
     by-holder h up =
         let e = at_end (node.Object h) f in
         let there = held s legal o e up in
-        let q = place_in (reading s) e o in
+        let q = position_in (reading s) e o in
         let above = place h (up-inside o h f inside up) in
         let written : IsWrittenWith doc (record { 0 = above.number }) f number =
         (q, ap (λ (vs : List Value). slice_get vs q) (reference-values s legal k h above.number f above.there refers (part-out m legal.metamodel f is.contains)) ∙ at-map (renamed r os) (values_at s e) q (value.Object o) there.here ∙ ap (λ (x : Value). Some x) (renamed-is o at)) in
@@ -319,7 +319,7 @@ module _ (s : Model) (w : ValuesState) (c : Links) (legal : IsLegal s) (other : 
   image-holder o b f inside up =
       let e = at_end (node.Object b) f in
       let there = held s legal o e up in
-      let q = place_in (reading s) e o in
+      let q = position_in (reading s) e o in
       holder-at u u-legal (node.Object (new b)) f there.contains q (new o) (parts-over b f q o (up-inside o b f inside up) there.contains there.here)
 
   as-many-roots : length (values_at u (contents_end m j)) ≡ length (values_at s (contents_end m k))

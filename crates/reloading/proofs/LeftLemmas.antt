@@ -26,13 +26,13 @@ use Rattle.containment.proofs.DistinctLemmas.{features-distinct}
 use Rattle.containment.proofs.PartLemmas.{end-made, legal-at, values-linked}
 use Rattle.fragment_paths.proofs.InsideLemmas.{contents-contains}
 use Rattle.fragment_paths.proofs.ObjectLemmas.{all-objects}
-use Rattle.loading.proofs.SoundLemmas.{at-map, map-at}
+use Rattle.doc_loader.proofs.SoundLemmas.{at-map, map-at}
 use Rattle.round_trip.proofs.ListLemmas.{of-each}
 use Rattle.round_trip.proofs.PartsListLemmas.{all-passing}
 use Rattle.round_trip.proofs.SideLemmas.{among-class}
 use Rattle.round_trip.proofs.ValuesListLemmas.{place-of, stands}
-use Rattle.handshake.specs.Proxies.{is_proxy_place, place, places_of, places_under}
-use Rattle.handshake.specs.declared.place.Place.{Place}
+use Rattle.handshake.specs.Proxies.{is_proxy_site, site, sites_of, sites_under}
+use Rattle.handshake.specs.declared.site.ProxySite.{ProxySite}
 use Rattle.handshake.proofs.FollowLemmas.{get-set}
 use Rattle.reloading.specs.Proxies.{HasNoProxy, proxies_len}
 use Rattle.reloading.proofs.PlainLemmas.{reference-of}
@@ -148,40 +148,40 @@ abbrev is_proxy : Option Value → Bool
 is_proxy x = is_some (option_and_then text_of x)
 
 -- the places of an end
-abbrev slots : ObjectNo → FeatureNo → ℕ → List Place
-slots o f n = map (place o f) (range_with_len 0 n)
+abbrev slots : ObjectNo → FeatureNo → ℕ → List ProxySite
+slots o f n = map (site o f) (range_with_len 0 n)
 
-at-slot : (o : ObjectNo) (f : FeatureNo) (n j : ℕ) (p : Place) → slice_get (slots o f n) j ≡ Some p → place o f j ≡ p
+at-slot : (o : ObjectNo) (f : FeatureNo) (n j : ℕ) (p : ProxySite) → slice_get (slots o f n) j ≡ Some p → site o f j ≡ p
 at-slot o f n j p at =
-    let x = map-at (place o f) (range_with_len 0 n) j p at in
-    ap (place o f) (sym (range-at n j x.0 x.1)) ∙ x.2
+    let x = map-at (site o f) (range_with_len 0 n) j p at in
+    ap (site o f) (sym (range-at n j x.0 x.1)) ∙ x.2
 
 module _ (r : Reading) (values : End → List Value) (o : ObjectNo) (f : FeatureNo) where
   abbrev d : End
   d = at_end (node.Object o) f
 
-  alike-at : (j : ℕ) (p : Place) → slice_get (slots o f (length (r.values d))) j ≡ Some p → is_proxy (slice_get (r.values d) j) ≡ is_proxy (slice_get (values d) j)
-      → is_proxy_place r p ≡ is_proxy_place (with_values r values) p
-  alike-at j p at same = subst (λ (x : Place). is_proxy_place r x ≡ is_proxy_place (with_values r values) x) (at-slot o f (length (r.values d)) j p at) same
+  alike-at : (j : ℕ) (p : ProxySite) → slice_get (slots o f (length (r.values d))) j ≡ Some p → is_proxy (slice_get (r.values d) j) ≡ is_proxy (slice_get (values d) j)
+      → is_proxy_site r p ≡ is_proxy_site (with_values r values) p
+  alike-at j p at same = subst (λ (x : ProxySite). is_proxy_site r x ≡ is_proxy_site (with_values r values) x) (at-slot o f (length (r.values d)) j p at) same
 
   -- of as many values
-  of-length : length (values d) ≡ length (r.values d) → length (places_under (with_values r values) o f) ≡ length (filter (is_proxy_place (with_values r values)) (slots o f (length (r.values d))))
-  of-length long = ap (λ (n : ℕ). length (filter (is_proxy_place (with_values r values)) (slots o f n))) long
+  of-length : length (values d) ≡ length (r.values d) → length (sites_under (with_values r values) o f) ≡ length (filter (is_proxy_site (with_values r values)) (slots o f (length (r.values d))))
+  of-length long = ap (λ (n : ℕ). length (filter (is_proxy_site (with_values r values)) (slots o f n))) long
 
-  as-before : values d ≡ r.values d → length (places_under r o f) ≡ length (places_under (with_values r values) o f)
+  as-before : values d ≡ r.values d → length (sites_under r o f) ≡ length (sites_under (with_values r values) o f)
   as-before same =
-      pass-alike (is_proxy_place r) (is_proxy_place (with_values r values)) (slots o f (length (r.values d)))
+      pass-alike (is_proxy_site r) (is_proxy_site (with_values r values)) (slots o f (length (r.values d)))
       (λ j p at. alike-at j p at (ap (λ (vs : List Value). is_proxy (slice_get vs j)) (sym same)))
       ∙ sym (of-length (ap (λ (vs : List Value). length vs) same))
 
   -- a plain value takes the place of a proxy
   one-at : (i : ℕ) (t : List ℕ) (v : Value) → slice_get (r.values d) i ≡ Some (value.Proxy t) → text_of v ≡ None → values d ≡ slice_set (r.values d) i v
-      → length (places_under r o f) ≡ suc (length (places_under (with_values r values) o f))
+      → length (sites_under r o f) ≡ suc (length (sites_under (with_values r values) o f))
   one-at i t v here plain now =
       let vs = r.values d in
-      let own : slice_get (slots o f (length vs)) i ≡ Some (place o f i) = at-map (place o f) (range_with_len 0 (length vs)) i i (at-range (length vs) i (slice_get_within vs i (value.Proxy t) here)) in
+      let own : slice_get (slots o f (length vs)) i ≡ Some (site o f i) = at-map (site o f) (range_with_len 0 (length vs)) i i (at-range (length vs) i (slice_get_within vs i (value.Proxy t) here)) in
       let gone = ap (λ (ws : List Value). is_proxy (slice_get ws i)) now ∙ ap is_proxy (set-own vs i v (value.Proxy t) here) ∙ ap (λ (y : Option (List ℕ)). is_some y) plain in
-      one-passes-less (is_proxy_place r) (is_proxy_place (with_values r values)) (slots o f (length vs)) i (place o f i) own (ap is_proxy here) gone
+      one-passes-less (is_proxy_site r) (is_proxy_site (with_values r values)) (slots o f (length vs)) i (site o f i) own (ap is_proxy here) gone
       (λ j p at other. alike-at j p at (sym (ap (λ (ws : List Value). is_proxy (slice_get ws j)) now ∙ ap is_proxy (set-other vs i v (value.Proxy t) here j other))))
       ∙ ap suc (sym (of-length (ap (λ (ws : List Value). length ws) now ∙ length-set vs i v)))
 
@@ -196,32 +196,32 @@ module _ (r : Reading) (o : ObjectNo) (f : FeatureNo) (i : ℕ) (t : List ℕ) (
   abbrev q : Reading
   q = with_values r values
 
-  other-end : (b : ObjectNo) (g : FeatureNo) → same_end e (at_end (node.Object b) g) ≡ false → length (places_under r b g) ≡ length (places_under q b g)
+  other-end : (b : ObjectNo) (g : FeatureNo) → same_end e (at_end (node.Object b) g) ≡ false → length (sites_under r b g) ≡ length (sites_under q b g)
   other-end b g other = let d = at_end (node.Object b) g in as-before r values b g (now d ∙ ap (λ (c : Bool). if c then slice_set (r.values e) i v else r.values d) other)
 
-  own-end : same_end e e ≡ true → length (places_under r o f) ≡ suc (length (places_under q o f))
+  own-end : same_end e e ≡ true → length (sites_under r o f) ≡ suc (length (sites_under q o f))
   own-end self = one-at r values o f i t v here plain (now e ∙ ap (λ (c : Bool). if c then slice_set (r.values e) i v else r.values e) self)
 
   self-end : same_end e e ≡ true
   self-end = grind (arith, nat_tests)
 
-  own-object : length (places_of r o) ≡ suc (length (places_of q o))
+  own-object : length (sites_of r o) ≡ suc (length (sites_of q o))
   own-object =
-      one-fewer-in (places_under r o) (places_under q o) (all_features_of r (node.Object o)) k f own
+      one-fewer-in (sites_under r o) (sites_under q o) (all_features_of r (node.Object o)) k f own
       (λ j g at other. other-end o g (ap (λ (b : Bool). same_node (node.Object o) (node.Object o) && b) (distinct-at (all_features_of r (node.Object o)) j k f g distinct at own other) ∙ and-false (same_node (node.Object o) (node.Object o))))
       (own-end self-end)
 
-  other-object : (j : ℕ) → (j ≡ o.0 → ⊥) → length (places_of r (record { 0 = j })) ≡ length (places_of q (record { 0 = j }))
+  other-object : (j : ℕ) → (j ≡ o.0 → ⊥) → length (sites_of r (record { 0 = j })) ≡ length (sites_of q (record { 0 = j }))
   other-object j other =
       let apart : nat_eq o.0 j ≡ false =
       elim (nat_eq o.0 j) as (λ b. nat_eq o.0 j ≡ b → b ≡ false) [ true ↦ λ h. absurd (other (sym (eqb-true o.0 j h))) | false ↦ λ _. refl ] refl in
-      as-many (places_under r (record { 0 = j })) (places_under q (record { 0 = j })) (all_features_of r (node.Object (record { 0 = j })))
+      as-many (sites_under r (record { 0 = j })) (sites_under q (record { 0 = j })) (all_features_of r (node.Object (record { 0 = j })))
       (λ l g at. other-end (record { 0 = j }) g (ap (λ (b : Bool). b && same_feature f g) apart))
 
   -- one proxy fewer is left
   pub one-fewer : proxies_len r ≡ suc (proxies_len (with_values r values))
   one-fewer =
-      one-fewer-in (λ j. places_of r (record { 0 = j })) (λ j. places_of q (record { 0 = j })) (range_with_len 0 r.next) o.0 o.0 (at-range r.next o.0 low)
+      one-fewer-in (λ j. sites_of r (record { 0 = j })) (λ j. sites_of q (record { 0 = j })) (range_with_len 0 r.next) o.0 o.0 (at-range r.next o.0 low)
       (λ j x at other. other-object x (λ same. other (sym (range-at r.next j x at) ∙ same))) own-object
 
 ---------------------------------------------------------------- none left
@@ -230,8 +230,8 @@ module _ (s : Model) (legal : IsLegal s) where
   -- where a proxy stands: at an object that was made, under one of its features
   pub record IsOfFeatures (o : ObjectNo) (f : FeatureNo) : Type 0 where
     pub low : o.0 < length s.values.objects
-    pub place : ℕ
-    pub own : slice_get (all_features_of (reading s) (node.Object o)) place ≡ Some f
+    pub index : ℕ
+    pub own : slice_get (all_features_of (reading s) (node.Object o)) index ≡ Some f
 
   pub of-features : (o : ObjectNo) (f : FeatureNo) (i : ℕ) (v : Value) → (shape s.metamodel f).is_reference ≡ true → slice_get (values_at s (at_end (node.Object o) f)) i ≡ Some v → IsOfFeatures o f
   of-features o f i v reference here =
@@ -239,7 +239,7 @@ module _ (s : Model) (legal : IsLegal s) where
       let linked = ap (λ (vs : List Value). slice_get vs i) (sym (values-linked s e reference)) ∙ here in
       let has = (legal-at (reading s) e (end s.links e) i v (legal.links.ends e) linked).0 in
       let p = place-of (all_features_of (reading s) (node.Object o)) f (among-class (reading s) o f has) in
-      record { low = end-made s e i v legal linked; place = p.0; own = p.1 }
+      record { low = end-made s e i v legal linked; index = p.0; own = p.1 }
 
   no-zero : (n : ℕ) → 0 ≡ suc n → ⊥
   no-zero n h = omega (arith, h)
@@ -250,7 +250,7 @@ module _ (s : Model) (legal : IsLegal s) where
       let of = of-features o f i (value.Proxy t) (reference-of s legal e i (value.Proxy t) here refl) here in
       let values = λ (d : End). if same_end e d then slice_set (values_at s e) i value.Null else values_at s d in
       no-zero (proxies_len (with_values (reading s) values))
-      (sym zero_left ∙ one-fewer (reading s) o f i t value.Null values here refl (λ d. refl) of.low of.place of.own (features-distinct s legal (node.Object o)))
+      (sym zero_left ∙ one-fewer (reading s) o f i t value.Null values here refl (λ d. refl) of.low of.index of.own (features-distinct s legal (node.Object o)))
 
   at-resource : (k : ResourceNo) (f : FeatureNo) (i : ℕ) (t : List ℕ) → slice_get (values_at s (at_end (node.Resource k) f)) i ≡ Some (value.Proxy t) → ⊥
   at-resource k f i t here =

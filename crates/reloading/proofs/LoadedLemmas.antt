@@ -33,10 +33,10 @@ use Rattle.fragment_paths.proofs.StayLemmas.{one-address}
 use Rattle.fragment_paths.proofs.UpLemmas.{resource-part, resource-root}
 use Rattle.fragment_paths.specs.Finding.{at}
 use Rattle.fragment_paths.specs.Fragments.{address, roots_end}
-use Rattle.saved_docs.specs.Written.{objects_in, written_features}
-use Rattle.loading.specs.Loading.{loaded_value}
-use Rattle.loading.proofs.SideLemmas.{opposite-reference}
-use Rattle.loading.proofs.SoundLemmas.{any-at, at-map, map-at}
+use Rattle.doc_writer.specs.Written.{objects_in, written_features}
+use Rattle.doc_loader.specs.Loading.{loaded_value}
+use Rattle.doc_loader.proofs.SideLemmas.{opposite-reference}
+use Rattle.doc_loader.proofs.SoundLemmas.{any-at, at-map, map-at}
 use Rattle.round_trip.specs.Readable.{IsReadable}
 use Rattle.round_trip.proofs.DocumentLemmas.{parts-saved}
 use Rattle.round_trip.proofs.InsideLemmas.{inside-written, written-inside}

@@ -31,7 +31,7 @@ use Rattle.fragment_paths.proofs.FoundLemmas.{located-object}
 use Rattle.fragment_paths.proofs.ImageLemmas.{address-image}
 use Rattle.fragment_paths.proofs.InsideLemmas.{contents-contains}
 use Rattle.fragment_paths.specs.Fragments.{address, roots_end}
-use Rattle.loading.proofs.SoundLemmas.{any-at, map-at}
+use Rattle.doc_loader.proofs.SoundLemmas.{any-at, map-at}
 use Rattle.round_trip.proofs.ValuesListLemmas.{stands}
 use Rattle.handshake.specs.Effects.{after}
 use Rattle.handshake.specs.declared.change.Change.TheVariants.{NewResource}

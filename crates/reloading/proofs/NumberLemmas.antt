@@ -9,8 +9,8 @@ use Rattle.models.specs.Legal.{IsLegal}
 use Rattle.models.specs.Model.{Model, reading}
 use Rattle.containment.specs.Above.{resource_of}
 use Rattle.fragment_paths.specs.Fragments.{address}
-use Rattle.saved_docs.specs.Written.{objects_in}
-use Rattle.loading.specs.Loading.{loaded, loaded_value}
+use Rattle.doc_writer.specs.Written.{objects_in}
+use Rattle.doc_loader.specs.Loading.{loaded, loaded_value}
 use Rattle.round_trip.specs.Copied.{renamed}
 use Rattle.round_trip.proofs.InsideLemmas.{inside-written}
 use Rattle.round_trip.proofs.ValuesListLemmas.{IsAt, found-among, object-at}

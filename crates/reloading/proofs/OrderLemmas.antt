@@ -16,7 +16,7 @@ use Rattle.models.specs.Model.{Model, reading}
 use Rattle.models.specs.Reading.{has_resource}
 use Rattle.containment.proofs.DistinctLemmas.{distinct-++}
 use Rattle.containment.proofs.PartLemmas.{all-append, live-made}
-use Rattle.saved_docs.specs.Written.{objects_in}
+use Rattle.doc_writer.specs.Written.{objects_in}
 use Rattle.doc_parts.proofs.WayLemmas.{position_cons}
 use Rattle.round_trip.proofs.InsideLemmas.{written-inside}
 use Rattle.round_trip.proofs.OrderLemmas.{objects-apart}

@@ -10,13 +10,13 @@ use Rattle.links.specs.Links.{Links}
 use Rattle.models.specs.Legal.{IsLegal}
 use Rattle.models.specs.Model.{Model, model_of, reading, values_at}
 use Rattle.models.specs.Reading.{Reading, all_features_of, at_end}
-use Rattle.loading.proofs.SoundLemmas.{flat_map-at}
+use Rattle.doc_loader.proofs.SoundLemmas.{flat_map-at}
 use Rattle.round_trip.proofs.ValuesListLemmas.{passes-kept, stands}
 use Rattle.handshake.specs.Effects.{after}
-use Rattle.handshake.specs.Proxies.{is_proxy_place, place, places, places_of, places_under}
+use Rattle.handshake.specs.Proxies.{is_proxy_site, site, sites, sites_of, sites_under}
 use Rattle.handshake.specs.declared.change.Change.{Change}
 use Rattle.handshake.specs.declared.change.Change.TheVariants.{Resolve}
-use Rattle.handshake.specs.declared.place.Place.{Place}
+use Rattle.handshake.specs.declared.site.ProxySite.{ProxySite}
 use Rattle.reloading.specs.Alike.{Alike}
 use Rattle.reloading.specs.Between.{Between}
 use Rattle.reloading.specs.Orders.{AreAllowed, after_all}
@@ -29,21 +29,21 @@ use Rattle.reloading.proofs.ResolveLemmas.{resolves-between, text-at}
 
 ---------------------------------------------------------------- a proxy that is left
 
-pub some-proxy : (r : Reading) → 0 < proxies_len r → (p : Place) × (is_proxy_place r p ≡ true)
-some-proxy r more = by (slice_get (places r) 0) refl
+pub some-proxy : (r : Reading) → 0 < proxies_len r → (p : ProxySite) × (is_proxy_site r p ≡ true)
+some-proxy r more = by (slice_get (sites r) 0) refl
   where
-    first : (ps : List Place) → 0 < length ps → slice_get ps 0 ≡ None → ⊥
+    first : (ps : List ProxySite) → 0 < length ps → slice_get ps 0 ≡ None → ⊥
     first [] low none = omega (arith, low)
     first (p ∷ ps) low none = none-some p (sym none)
 
-    by : (q : Option Place) → slice_get (places r) 0 ≡ q → (p : Place) × (is_proxy_place r p ≡ true)
-    by None none = absurd (first (places r) more none)
+    by : (q : Option ProxySite) → slice_get (sites r) 0 ≡ q → (p : ProxySite) × (is_proxy_site r p ≡ true)
+    by None none = absurd (first (sites r) more none)
     by (Some p) at =
-        let a = flat_map-at (λ n. places_of r (record { 0 = n })) (range_with_len 0 r.next) 0 p at in
+        let a = flat_map-at (λ n. sites_of r (record { 0 = n })) (range_with_len 0 r.next) 0 p at in
         let o : ObjectNo = record { 0 = a.1 } in
-        let b = flat_map-at (places_under r o) (all_features_of r (node.Object o)) a.2 p a.4 in
-        let slots = map (place o b.1) (range_with_len 0 (length (r.values (at_end (node.Object o) b.1)))) in
-        (p, passes-kept (is_proxy_place r) slots p (stands (places_under r o b.1) b.2 p b.4))
+        let b = flat_map-at (sites_under r o) (all_features_of r (node.Object o)) a.2 p a.4 in
+        let slots = map (site o b.1) (range_with_len 0 (length (r.values (at_end (node.Object o) b.1)))) in
+        (p, passes-kept (is_proxy_site r) slots p (stands (sites_under r o b.1) b.2 p b.4))
 
 ---------------------------------------------------------------- resolves
 

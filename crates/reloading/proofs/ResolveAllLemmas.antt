@@ -16,14 +16,14 @@ use Rattle.links.specs.Links.{Links, text_of}
 use Rattle.models.specs.Legal.{IsLegal}
 use Rattle.models.specs.Model.{Model, model_of, reading, values_at}
 use Rattle.models.specs.Reading.{Reading, all_features_of, at_end}
-use Rattle.loading.proofs.SoundLemmas.{at-map}
+use Rattle.doc_loader.proofs.SoundLemmas.{at-map}
 use Rattle.round_trip.proofs.ValuesListLemmas.{in-all, is-kept, stands}
 use Rattle.handshake.specs.Effects.{after}
 use Rattle.handshake.specs.OneByOne.{after_each, is_refused, resolve}
-use Rattle.handshake.specs.Proxies.{end_of, is_proxy_place, place, places, places_of, places_under}
+use Rattle.handshake.specs.Proxies.{end_of, is_proxy_site, site, sites, sites_of, sites_under}
 use Rattle.handshake.specs.Refusals.{early_refusal, late_refusal}
 use Rattle.handshake.specs.declared.change.Change.TheVariants.{ResolveAll}
-use Rattle.handshake.specs.declared.place.Place.{Place}
+use Rattle.handshake.specs.declared.site.ProxySite.{ProxySite}
 use Rattle.handshake.proofs.EachLemmas.{resolves-each}
 use Rattle.handshake.proofs.KnownLemmas.{none-else_by, resolvable}
 use Rattle.reloading.specs.Between.{Between}
@@ -40,38 +40,38 @@ use Rattle.reloading.proofs.ResolvedLemmas.{target-is}
 ---------------------------------------------------------------- places
 
 -- a proxy of an object of a legal model stands at one of its places
-all-places : (t : Model) → IsLegal t → (o : ObjectNo) (f : FeatureNo) (i : ℕ) (z : List ℕ) → slice_get (values_at t (at_end (node.Object o) f)) i ≡ Some (value.Proxy z) → Contains (places (reading t)) (place o f i)
+all-places : (t : Model) → IsLegal t → (o : ObjectNo) (f : FeatureNo) (i : ℕ) (z : List ℕ) → slice_get (values_at t (at_end (node.Object o) f)) i ≡ Some (value.Proxy z) → Contains (sites (reading t)) (site o f i)
 all-places t legal o f i z at =
     let r = reading t in
     let vs = values_at t (at_end (node.Object o) f) in
     let of = of-features t legal o f i (value.Proxy z) (reference-of t legal (at_end (node.Object o) f) i (value.Proxy z) at refl) at in
-    let slot = stands (map (place o f) (range_with_len 0 (length vs))) i (place o f i) (at-map (place o f) (range_with_len 0 (length vs)) i i (at-range (length vs) i (slice_get_within vs i (value.Proxy z) at))) in
-    let here = is-kept (is_proxy_place r) (map (place o f) (range_with_len 0 (length vs))) (place o f i) slot (ap (λ (x : Option Value). is_some (option_and_then text_of x)) at) in
-    let own = in-all (places_under r o) (all_features_of r (node.Object o)) of.place f (place o f i) of.own here in
-    in-all (λ k. places_of r (record { 0 = k })) (range_with_len 0 r.next) o.0 o.0 (place o f i) (at-range r.next o.0 of.low) own
+    let slot = stands (map (site o f) (range_with_len 0 (length vs))) i (site o f i) (at-map (site o f) (range_with_len 0 (length vs)) i i (at-range (length vs) i (slice_get_within vs i (value.Proxy z) at))) in
+    let here = is-kept (is_proxy_site r) (map (site o f) (range_with_len 0 (length vs))) (site o f i) slot (ap (λ (x : Option Value). is_some (option_and_then text_of x)) at) in
+    let own = in-all (sites_under r o) (all_features_of r (node.Object o)) of.index f (site o f i) of.own here in
+    in-all (λ k. sites_of r (record { 0 = k })) (range_with_len 0 r.next) o.0 o.0 (site o f i) (at-range r.next o.0 of.low) own
 
 -- each is the first, or one of the rest
-data IsFirstOr (p : Place) (ps : List Place) (q : Place) : Type 0 where
+data IsFirstOr (p : ProxySite) (ps : List ProxySite) (q : ProxySite) : Type 0 where
   First : q ≡ p → IsFirstOr p ps q
   Rest : Contains ps q → IsFirstOr p ps q
 
-first-or : (p : Place) (ps : List Place) (q : Place) → Contains (p ∷ ps) q → IsFirstOr p ps q
+first-or : (p : ProxySite) (ps : List ProxySite) (q : ProxySite) → Contains (p ∷ ps) q → IsFirstOr p ps q
 first-or p ps q (zero, low, at) = First (sym at)
 first-or p ps q (suc k, low, at) = Rest (k, omega (arith, low), at)
 
 ---------------------------------------------------------------- one after another
 
 -- all proxies of objects stand at some places
-abbrev AreAt : Model → List Place → Type 0
-AreAt t ps = (o : ObjectNo) (f : FeatureNo) (i : ℕ) (z : List ℕ) → slice_get (values_at t (at_end (node.Object o) f)) i ≡ Some (value.Proxy z) → Contains ps (place o f i)
+abbrev AreAt : Model → List ProxySite → Type 0
+AreAt t ps = (o : ObjectNo) (f : FeatureNo) (i : ℕ) (z : List ℕ) → slice_get (values_at t (at_end (node.Object o) f)) i ≡ Some (value.Proxy z) → Contains ps (site o f i)
 
 module _ (s : Model) (legal : IsLegal s) (none : HasNoProxy (reading s)) where
   -- what stands once these places are gone through
-  record IsSolved (t : Model) (ps : List Place) : Type 0 where
+  record IsSolved (t : Model) (ps : List ProxySite) : Type 0 where
     no_proxy : HasNoProxy (reading (after_each t ps))
     between : Between (reading s) (reading (after_each t ps))
 
-  none-at : (t : Model) (p : Place) → is_proxy_place (reading t) p ≡ false → is_refused t (resolve p) ≡ true
+  none-at : (t : Model) (p : ProxySite) → is_proxy_site (reading t) p ≡ false → is_refused t (resolve p) ≡ true
   none-at t p no_proxy = by (early_refusal (reading t) (resolve p) else_by late_refusal (reading t) (resolve p)) refl
     where
       by : (q : Option Refused) → (early_refusal (reading t) (resolve p) else_by late_refusal (reading t) (resolve p)) ≡ q → is_some q ≡ true
@@ -81,7 +81,7 @@ module _ (s : Model) (legal : IsLegal s) (none : HasNoProxy (reading s)) where
           let proxy = (target-is (reading t) (end_of p) p.index found.target found.is).proxy in
           absurd (true≢false (sym (ap (λ (v : Option Value). is_some (option_and_then text_of v)) proxy) ∙ no_proxy))
 
-  module _ (p : Place) (ps : List Place) (w : ValuesState) (b : Links) (other : IsLegal (model_of s.metamodel w b)) (between : Between (reading s) (reading (model_of s.metamodel w b)))
+  module _ (p : ProxySite) (ps : List ProxySite) (w : ValuesState) (b : Links) (other : IsLegal (model_of s.metamodel w b)) (between : Between (reading s) (reading (model_of s.metamodel w b)))
       (rest : (w : ValuesState) (b : Links) → IsLegal (model_of s.metamodel w b) → Between (reading s) (reading (model_of s.metamodel w b)) → AreAt (model_of s.metamodel w b) ps → IsSolved (model_of s.metamodel w b) ps)
       (at : AreAt (model_of s.metamodel w b) (p ∷ ps)) where
     abbrev t : Model
@@ -101,29 +101,29 @@ module _ (s : Model) (legal : IsLegal s) (none : HasNoProxy (reading s)) where
     }
 
     -- a proxy is resolved, and those that are left stand at the other places
-    solved : is_proxy_place (reading t) p ≡ true → IsSolved t (p ∷ ps)
+    solved : is_proxy_site (reading t) p ≡ true → IsSolved t (p ∷ ps)
     solved there =
         let one = resolves-between s w b legal other none between p.object p.feature p.index there in
         let x = text-at (slice_get (values_at t (end_of p)) p.index) there in
         moved-on false (λ j. is_some (one.early j else_by one.late j))
         (rest u.values u.links (now-legal s w b legal other none between p.object p.feature p.index x.0 x.1) one.between
-        (λ q g k z here. let was = proxy-was s w b legal other none between p.object p.feature p.index x.0 x.1 (at_end (node.Object q) g) k z here in by q g k was.1 (first-or p ps (place q g k) (at q g k z was.0))))
+        (λ q g k z here. let was = proxy-was s w b legal other none between p.object p.feature p.index x.0 x.1 (at_end (node.Object q) g) k z here in by q g k was.1 (first-or p ps (site q g k) (at q g k z was.0))))
       where
-        by : (q : ObjectNo) (g : FeatureNo) (k : ℕ) → (at_end (node.Object q) g ≡ end_of p → k ≡ p.index → ⊥) → IsFirstOr p ps (place q g k) → Contains ps (place q g k)
-        by q g k apart (First same) = absurd (apart (ap end_of same) (ap (λ (y : Place). y.index) same))
+        by : (q : ObjectNo) (g : FeatureNo) (k : ℕ) → (at_end (node.Object q) g ≡ end_of p → k ≡ p.index → ⊥) → IsFirstOr p ps (site q g k) → Contains ps (site q g k)
+        by q g k apart (First same) = absurd (apart (ap end_of same) (ap (λ (y : ProxySite). y.index) same))
         by q g k apart (Rest later) = later
 
     -- where none stands any more, nothing happens
-    passed : is_proxy_place (reading t) p ≡ false → IsSolved t (p ∷ ps)
-    passed away = moved-on true (none-at t p away) (rest w b other between (λ q g k z here. by q g k z here (first-or p ps (place q g k) (at q g k z here))))
+    passed : is_proxy_site (reading t) p ≡ false → IsSolved t (p ∷ ps)
+    passed away = moved-on true (none-at t p away) (rest w b other between (λ q g k z here. by q g k z here (first-or p ps (site q g k) (at q g k z here))))
       where
-        by : (q : ObjectNo) (g : FeatureNo) (k : ℕ) (z : List ℕ) → slice_get (values_at t (at_end (node.Object q) g)) k ≡ Some (value.Proxy z) → IsFirstOr p ps (place q g k) → Contains ps (place q g k)
+        by : (q : ObjectNo) (g : FeatureNo) (k : ℕ) (z : List ℕ) → slice_get (values_at t (at_end (node.Object q) g)) k ≡ Some (value.Proxy z) → IsFirstOr p ps (site q g k) → Contains ps (site q g k)
         by q g k z here (First same) =
-            absurd (true≢false (sym (ap (is_proxy_place (reading t)) (sym same) ∙ ap (λ (v : Option Value). is_some (option_and_then text_of v)) here) ∙ away))
+            absurd (true≢false (sym (ap (is_proxy_site (reading t)) (sym same) ∙ ap (λ (v : Option Value). is_some (option_and_then text_of v)) here) ∙ away))
         by q g k z here (Rest later) = later
 
     at-place : IsSolved t (p ∷ ps)
-    at-place = elim (is_proxy_place (reading t) p) as (λ c. is_proxy_place (reading t) p ≡ c → IsSolved t (p ∷ ps)) [ true ↦ solved | false ↦ passed ] refl
+    at-place = elim (is_proxy_site (reading t) p) as (λ c. is_proxy_site (reading t) p ≡ c → IsSolved t (p ∷ ps)) [ true ↦ solved | false ↦ passed ] refl
 
   none-there : (t : Model) → IsLegal t → AreAt t [] → HasNoProxy (reading t)
   none-there t other at = by (proxies_len (reading t)) refl
@@ -138,7 +138,7 @@ module _ (s : Model) (legal : IsLegal s) (none : HasNoProxy (reading s)) where
           let low = c.1 in
           absurd (omega (arith, low))
 
-  all-solved : (ps : List Place) (w : ValuesState) (b : Links) → IsLegal (model_of s.metamodel w b) → Between (reading s) (reading (model_of s.metamodel w b)) → AreAt (model_of s.metamodel w b) ps → IsSolved (model_of s.metamodel w b) ps
+  all-solved : (ps : List ProxySite) (w : ValuesState) (b : Links) → IsLegal (model_of s.metamodel w b) → Between (reading s) (reading (model_of s.metamodel w b)) → AreAt (model_of s.metamodel w b) ps → IsSolved (model_of s.metamodel w b) ps
   all-solved [] w b other between at = record { no_proxy = none-there (model_of s.metamodel w b) other at; between = between }
   all-solved (p ∷ ps) w b other between at = at-place p ps w b other between (λ v a o m h. all-solved ps v a o m h) at
 
@@ -159,7 +159,7 @@ resolves-all s w b legal other none between =
     let t = model_of s.metamodel w b in
     let u = after t ResolveAll in
     let each = resolves-each t other in
-    let x = all-solved s legal none (places (reading t)) w b other between (all-places t other) in
+    let x = all-solved s legal none (sites (reading t)) w b other between (all-places t other) in
     let no_proxy = subst (λ (y : Model). HasNoProxy (reading y)) (sym each.leaves) x.no_proxy in
     let now = subst (λ (y : Model). Between (reading s) (reading y)) (sym each.leaves) x.between in
     record { none = no_proxy; left = each.rest ∙ none-counted (reading u) no_proxy; alike = alike-of (reading s) (reading u) none no_proxy now }

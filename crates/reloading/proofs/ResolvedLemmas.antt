@@ -30,11 +30,11 @@ use Rattle.fragment_paths.specs.Fragments.{address}
 use Rattle.handshake.specs.Effects.{after}
 use Rattle.handshake.specs.Refusals.{early_refusal, late_refusal}
 use Rattle.handshake.specs.Resolving.{counterpart, first_to, leads_to, target, target_at}
-use Rattle.handshake.specs.Telling.{changed, happened_all, telling}
-use Rattle.handshake.specs.Tellings.{resolved, tellings}
+use Rattle.handshake.specs.FeatureChange.{changed, happened_all, feature_change}
+use Rattle.handshake.specs.FeatureChanges.{resolved, feature_changes}
 use Rattle.handshake.specs.declared.change.Change.TheVariants.{Resolve}
-use Rattle.handshake.specs.declared.happening.Happening.TheVariants.{Resolves}
-use Rattle.handshake.specs.declared.happening.Telling.{Telling}
+use Rattle.handshake.specs.declared.change_kind.ChangeKind.TheVariants.{Resolves}
+use Rattle.handshake.specs.declared.change_kind.FeatureChange.{FeatureChange}
 use Rattle.handshake.specs.declared.target.Counterpart.{Counterpart}
 use Rattle.handshake.specs.declared.target.Target.{Target}
 use Rattle.handshake.proofs.AllLemmas.{chain-replays}
@@ -167,7 +167,7 @@ module _ (s : Model) (legal : IsLegal s) (o : ObjectNo) (f : FeatureNo) (i : ℕ
     now-held : (d : End) → held_at (reading t) d ≡ happened_at s.metamodel (resolved e i x) d (held_at (reading s) d)
     now-held d =
         sym (chain-replays s (Resolve o f i) legal early late tt d refl refl)
-        ∙ ap (λ (q : Ends). q d) (replayed_all-told s.metamodel (held_at (reading s)) (tellings (reading s) (Resolve o f i)))
+        ∙ ap (λ (q : Ends). q d) (replayed_all-told s.metamodel (held_at (reading s)) (feature_changes (reading s) (Resolve o f i)))
         ∙ ap (λ (q : Option Target). happened_all s.metamodel (held_at (reading s)) (option_map_or (resolved e i) q []) d) is
         ∙ happened_all-at s.metamodel (held_at (reading s)) (resolved e i x) d
 
@@ -175,16 +175,16 @@ module _ (s : Model) (legal : IsLegal s) (o : ObjectNo) (f : FeatureNo) (i : ℕ
     abbrev pub is_far : End → Bool
     is_far d = option_map_or (λ (c : Counterpart). same_end c.end d) x.counterpart false
 
-    abbrev far_tellings : Option Counterpart → List Telling
-    far_tellings q = option_map_or (λ c. telling c.end (Resolves c.index (value.Object o)) ∷ []) q []
+    abbrev far_feature_changes : Option Counterpart → List FeatureChange
+    far_feature_changes q = option_map_or (λ c. feature_change c.end (Resolves c.index (value.Object o)) ∷ []) q []
 
-    abbrev own_telling : Telling
-    own_telling = telling (at_end (node.Object o) f) (Resolves i (value.Object x.object))
+    abbrev own_feature_change : FeatureChange
+    own_feature_change = feature_change (at_end (node.Object o) f) (Resolves i (value.Object x.object))
 
     far-silent : (q : Option Counterpart) (d : End) (h : Held) → option_map_or (λ (c : Counterpart). same_end c.end d) q false ≡ false
-        → happened_at s.metamodel (far_tellings q ++ own_telling ∷ []) d h ≡ done_at s.metamodel d own_telling h
+        → happened_at s.metamodel (far_feature_changes q ++ own_feature_change ∷ []) d h ≡ done_at s.metamodel d own_feature_change h
     far-silent None d h other = refl
-    far-silent (Some c) d h other = ap (done_at s.metamodel d own_telling) (done-other s.metamodel d (telling c.end (Resolves c.index (value.Object o))) h other)
+    far-silent (Some c) d h other = ap (done_at s.metamodel d own_feature_change) (done-other s.metamodel d (feature_change c.end (Resolves c.index (value.Object o))) h other)
 
     -- all other ends are as they were
     pub other-values : (d : End) → same_end e d ≡ false → is_far d ≡ false → values_at t d ≡ values_at s d
@@ -192,7 +192,7 @@ module _ (s : Model) (legal : IsLegal s) (o : ObjectNo) (f : FeatureNo) (i : ℕ
         let kept : List Value = attribute_values (shape s.metamodel d.feature) (kept_values s.values d.node d.feature) in
         elim (shape s.metamodel d.feature).is_reference as (λ b. (shape s.metamodel d.feature).is_reference ≡ b → values_at t d ≡ values_at s d) [
           | true ↦ λ reference.
-              let same = now-held d ∙ far-silent x.counterpart d (held_at (reading s) d) far ∙ done-other s.metamodel d own_telling (held_at (reading s) d) own in
+              let same = now-held d ∙ far-silent x.counterpart d (held_at (reading s) d) far ∙ done-other s.metamodel d own_feature_change (held_at (reading s) d) own in
               from-shown t resolved-legal d reference (held_at (reading s) d).values (ap (λ (h : Held). h.values) same)
               ∙ sym (from-shown s legal d reference (held_at (reading s) d).values refl)
           | false ↦ λ attribute. ap (λ (b : Bool). if b then end t.links d else kept) attribute ∙ sym (ap (λ (b : Bool). if b then end s.links d else kept) attribute)
@@ -210,19 +210,19 @@ module _ (s : Model) (legal : IsLegal s) (o : ObjectNo) (f : FeatureNo) (i : ℕ
     own-values far =
         let found = target-is (reading s) e i x is in
         written e i x.object (value.Proxy found.text) (reference-of s legal e i (value.Proxy found.text) found.proxy refl) found.proxy
-        (now-held e ∙ far-silent x.counterpart e (held_at (reading s) e) far ∙ done-here s.metamodel e own_telling (held_at (reading s) e) (same_end-self e))
+        (now-held e ∙ far-silent x.counterpart e (held_at (reading s) e) far ∙ done-here s.metamodel e own_feature_change (held_at (reading s) e) (same_end-self e))
 
     -- and the owner where its counterpart stood
     pub far-values : (c : Counterpart) (p : List ℕ) → x.counterpart ≡ Some c → slice_get (values_at s c.end) c.index ≡ Some (value.Proxy p) → same_end e c.end ≡ false
         → values_at t c.end ≡ slice_set (values_at s c.end) c.index (value.Object o)
     far-values c p there here apart =
         let d = c.end in
-        let told = telling c.end (Resolves c.index (value.Object o)) in
+        let told = feature_change c.end (Resolves c.index (value.Object o)) in
         let h = held_at (reading s) d in
         written d c.index o (value.Proxy p) (reference-of s legal d c.index (value.Proxy p) here refl) here
         (now-held d
-        ∙ ap (λ (q : Option Counterpart). happened_at s.metamodel (far_tellings q ++ own_telling ∷ []) d h) there
-        ∙ done-other s.metamodel d own_telling (done_at s.metamodel d told h) apart
+        ∙ ap (λ (q : Option Counterpart). happened_at s.metamodel (far_feature_changes q ++ own_feature_change ∷ []) d h) there
+        ∙ done-other s.metamodel d own_feature_change (done_at s.metamodel d told h) apart
         ∙ done-here s.metamodel d told h (same_end-self d))
 
     ---------------------------------------------------------------- what contains

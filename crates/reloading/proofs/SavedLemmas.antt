@@ -6,7 +6,7 @@ use Rattle.links.specs.Links.{Links}
 use Rattle.models.specs.Legal.{IsLegal}
 use Rattle.models.specs.Model.{Model, reading}
 use Rattle.models.specs.Steady.{HasSteadyTexts}
-use Rattle.saved_docs.specs.Document.{document}
+use Rattle.doc_writer.specs.Document.{document}
 use Rattle.round_trip.specs.Copied.{copied}
 use Rattle.round_trip.specs.Readable.{IsReadable}
 use Rattle.round_trip.proofs.BackLemmas.{value-back}

@@ -15,7 +15,7 @@ use Rattle.models.specs.Model.{Model, model_of, reading}
 use Rattle.models.specs.Reading.{Reading, at_end, has_resource}
 use Rattle.containment.specs.Above.{resource_of}
 use Rattle.fragment_paths.specs.Fragments.{address, roots_end}
-use Rattle.saved_docs.specs.Written.{objects_in}
+use Rattle.doc_writer.specs.Written.{objects_in}
 use Rattle.doc_parts.proofs.WayLemmas.{position_cons}
 use Rattle.reloading.specs.Images.{image, value_image}
 use Rattle.reloading.specs.Orders.{has, is_same, number_of, uri_of}

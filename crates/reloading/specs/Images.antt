@@ -9,8 +9,8 @@ use Rattle.mm_types.specs.declared.value.Value.{Value}
 use Rattle.models.specs.Reading.{Reading, at_end}
 use Rattle.containment.specs.Above.{resource_of}
 use Rattle.fragment_paths.specs.Fragments.{address, roots_end}
-use Rattle.saved_docs.specs.Written.{objects_in}
-use Rattle.loading.specs.Loading.{loaded, loaded_value}
+use Rattle.doc_writer.specs.Written.{objects_in}
+use Rattle.doc_loader.specs.Loading.{loaded, loaded_value}
 use Rattle.round_trip.specs.Copied.{renamed, root_copied}
 
 -- the object that an object of resource k becomes, where the first one gets n

@@ -8,8 +8,8 @@ use Rattle.models.specs.Legal.{IsLegal}
 use Rattle.models.specs.Model.{Model, empty_model, reading}
 use Rattle.models.specs.Reading.{Reading, has_resource}
 use Rattle.models.specs.Steady.{HasSteadyTexts}
-use Rattle.saved_docs.specs.Document.{reference_text}
-use Rattle.saved_docs.specs.Saved.{save_refusal}
+use Rattle.doc_writer.specs.Document.{reference_text}
+use Rattle.doc_writer.specs.Saved.{save_refusal}
 use Rattle.round_trip.specs.Copied.{copied}
 use Rattle.round_trip.specs.Readable.{Refers}
 use Rattle.handshake.specs.Effects.{after}

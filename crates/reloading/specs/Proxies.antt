@@ -3,11 +3,11 @@ use Rattle.std.specs.Prelude.{ℕ, List, Contains, length}
 use Rattle.mm_types.specs.declared.end.End.{End}
 use Rattle.mm_types.specs.declared.value.Value.TheVariants as value
 use Rattle.models.specs.Reading.{Reading}
-use Rattle.handshake.specs.Proxies.{places}
+use Rattle.handshake.specs.Proxies.{sites}
 
 -- how many stand at its objects
 abbrev pub proxies_len : Reading → ℕ
-proxies_len r = length (places r)
+proxies_len r = length (sites r)
 
 -- none stands anywhere
 abbrev pub HasNoProxy : Reading → Type 0

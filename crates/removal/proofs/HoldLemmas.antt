@@ -128,15 +128,15 @@ any-end : (es : List End) (q : End) → list_any (λ (k : End). eq_by_cmp rank_c
 any-end [] q = refl
 any-end (e ∷ es) q = λ i. ((eq_by_cmp_equiv rank_cmp-total).symm q e ∙ ties-same e q) i || any-end es q i
 
-tie-same : (d e : End) → rank_cmp d e ≡ Equal → d ≡ e
-tie-same d e h = same_end-true d e (sym (ties-same d e) ∙ ap is_eq h)
+link_end-same : (d e : End) → rank_cmp d e ≡ Equal → d ≡ e
+link_end-same d e h = same_end-true d e (sym (ties-same d e) ∙ ap is_eq h)
 
 -- ends in order are told by what is among them
 same-ends : (xs ys : List End) → IsStrictlySortedBy rank_cmp xs → IsStrictlySortedBy rank_cmp ys → ((e : End) → has_end xs e ≡ has_end ys e) → xs ≡ ys
 same-ends xs ys a b same =
     let s : BTreeSet End = record { keys = xs } in
     let t : BTreeSet End = record { keys = ys } in
-    btree_set_from_contains rank_cmp-total s t a b (λ q. any-end xs q ∙ same q ∙ sym (any-end ys q)) tie-same
+    btree_set_from_contains rank_cmp-total s t a b (λ q. any-end xs q ∙ same q ∙ sym (any-end ys q)) link_end-same
 
 -- the ends that are found, in order, are the touched ones
 pub touched-found : (s : Model) → IsLegal s → (o : ObjectNo) → is_live (reading s) o ≡ true → (os : List ObjectNo) (numbers : Numbers) (found es : List End)

@@ -4,6 +4,6 @@ pub mod HoldLemmas
 pub mod LossLemmas
 pub mod PushLemmas
 pub mod EndLemmas
-pub mod TieLemmas
+pub mod LinkEndLemmas
 pub mod NameLemmas
 pub mod TreeLemmas

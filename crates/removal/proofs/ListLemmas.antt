@@ -91,7 +91,7 @@ any-at p [] k x at h = absurd (none-some x at)
 any-at p (y ∷ ys) zero x at h = or_left _ _ (ap p (same_Some y x at) ∙ h)
 any-at p (y ∷ ys) (suc k) x at h = or_right (p y) _ (any-at p ys k x at h)
 
--- the first that passes, and its place
+-- the first that passes, and its position
 pub passes-at : {X : Type 0} (p : X → Bool) (xs : List X) → list_any p xs ≡ true → (k : ℕ) × (x : X) × (slice_get xs k ≡ Some x) × (p x ≡ true)
 passes-at p [] h = absurd (false≢true h)
 passes-at p (x ∷ xs) h = elim (or_cases (p x) (list_any p xs) h) [

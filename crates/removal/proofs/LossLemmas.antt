@@ -1,4 +1,4 @@
--- What an end loses, place by place, and where the object itself stands then.
+-- What an end loses, position by position, and where the object itself stands then.
 use Rattle.std.proofs.Common.{◌≡◌, ℕ, zero, suc, ◌+◌, ◌<◌, ◌≤◌, length, drop, slice_get, slice_index_or, eq-eqb, Bool, true, false, not, ◌&&◌, cond, List, [], ◌∷◌, ◌++◌, filter, Option, Some, option_and_then, option_map, option_to_list, append_assoc, add-one, refl, sym, ap, ◌∙◌, arith, subst}
 use Rattle.std.specs.Option.{option_map_or}
 use Rattle.std.proofs.lemmas.Bool.{false≢true}
@@ -13,7 +13,7 @@ use Rattle.mm_types.specs.declared.numbers.Node.TheVariants as node
 use Rattle.mm_types.specs.declared.numbers.ObjectNo.{ObjectNo}
 use Rattle.mm_types.specs.declared.value.Value.{Value}
 use Rattle.mm_types.specs.declared.value.Value.TheVariants as value
-use Rattle.links.proofs.HolderLemmas.{holder-some, place_held}
+use Rattle.links.proofs.HolderLemmas.{holder-some, indexed_held}
 use Rattle.links.specs.Laws.{goes}
 use Rattle.links.specs.Links.{end}
 use Rattle.models.specs.Legal.{IsLegal}
@@ -35,11 +35,11 @@ get-at [] i v at = absurd (none-some v at)
 get-at (w ∷ ws) zero v at = (omega arith, same_Some w v at)
 get-at (w ∷ ws) (suc i) v at = let r = get-at ws i v at in ((let low = r.0 in omega (arith, low)), r.1)
 
--- from a place on, the value there comes first
+-- from a position on, the value there comes first
 drop-at : (vs : List Value) (i : ℕ) (v : Value) → slice_get vs i ≡ Some v → drop i vs ≡ v ∷ drop (i + 1) vs
 drop-at vs i v at = let r = get-at vs i v at in drop_more vs i v r.0 ∙ ap (λ (w : Value). w ∷ drop (i + 1) vs) r.1
 
--- a place of the list has a value
+-- a position of the list has a value
 pub some-below : (vs : List Value) (i : ℕ) → i < length vs → (v : Value) × (slice_get vs i ≡ Some v)
 some-below vs i low = (slice_index_or vs i value.Null, get-within vs i value.Null low)
 
@@ -59,7 +59,7 @@ lost-is r o e v q numbers held answer has holds read told =
     by (value.Object x) = λ i. has (node.Object x) i && not (holds i && same_value (value.Object x) (value.Object o))
     by _ = refl
 
--- what stands at a place of an end, and whether it is lost
+-- what stands at a position of an end, and whether it is lost
 pub record IsAt (r : Reading) (o : ObjectNo) (e : End) (i : ℕ) (q : Option ObjectNo) (answer : Bool) : Type 0 where
   pub value : Value
   pub at : slice_get (r.values e) i ≡ Some value
@@ -90,7 +90,7 @@ module _ (e : End) (p : Value → Bool) where
   lost-no : (v : Value) (vs : List Value) (k : ℕ) → p v ≡ false → lost_from p e (v ∷ vs) k ≡ lost_from p e vs (suc k)
   lost-no v vs k h = ap (λ (b : Bool). cond b (loss e v k ∷ lost_from p e vs k) (lost_from p e vs (suc k))) h
 
-  -- one place further, where the value is lost
+  -- one position further, where the value is lost
   pub lost-step : (vs : List Value) (i k : ℕ) (v : Value) (out new all : List Loss) → slice_get vs i ≡ Some v → p v ≡ true
       → new ≡ out ++ loss e v k ∷ [] → out ++ lost_from p e (drop i vs) k ≡ all → new ++ lost_from p e (drop (i + 1) vs) k ≡ all
   lost-step vs i k v out new all at h made whole =
@@ -100,7 +100,7 @@ module _ (e : End) (p : Value → Bool) where
       ∙ ap (λ (ls : List Loss). out ++ ls) (sym (lost-yes v rest k h) ∙ ap (λ (ws : List Value). lost_from p e ws k) (sym (drop-at vs i v at)))
       ∙ whole
 
-  -- one place further, where it stays
+  -- one position further, where it stays
   pub kept-step : (vs : List Value) (i k : ℕ) (v : Value) (out all : List Loss) → slice_get vs i ≡ Some v → p v ≡ false
       → out ++ lost_from p e (drop i vs) k ≡ all → out ++ lost_from p e (drop (i + 1) vs) (k + 1) ≡ all
   kept-step vs i k v out all at h whole =
@@ -112,7 +112,7 @@ module _ (e : End) (p : Value → Bool) where
   lost-done : (ws : List Value) (k : ℕ) (out all : List Loss) → ws ≡ [] → out ++ lost_from p e ws k ≡ all → out ≡ all
   lost-done ws k out all none whole = sym (ap (λ (vs : List Value). out ++ lost_from p e vs k) none ∙ append-nil out) ∙ whole
 
-  -- past the last place
+  -- past the last position
   pub lost-end : (vs : List Value) (i k : ℕ) (out all : List Loss) → length vs ≤ i → out ++ lost_from p e (drop i vs) k ≡ all → out ≡ all
   lost-end vs i k out all past = lost-done (drop i vs) k out all (drop_all i vs past)
 
@@ -135,7 +135,7 @@ module _ (p : Value → Bool) (o : ObjectNo) where
   left-here : (vs : List Value) (i : ℕ) (v : Value) → slice_get vs i ≡ Some v → place_left (drop i vs) ≡ place_left (v ∷ drop (i + 1) vs)
   left-here vs i v at = ap place_left (drop-at vs i v at)
 
-  -- one place further
+  -- one position further
   pub left-lost_step : (vs : List Value) (i k all : ℕ) (v : Value) → slice_get vs i ≡ Some v → p v ≡ true → k + place_left (drop i vs) ≡ all → k + place_left (drop (i + 1) vs) ≡ all
   left-lost_step vs i k all v at h whole = ap (λ (n : ℕ). k + n) (sym (left-here vs i v at ∙ left-lost v (drop (i + 1) vs) h)) ∙ whole
 
@@ -178,6 +178,6 @@ pub holder-reference : (s : Model) → IsLegal s → (o : ObjectNo) (e : End) �
 holder-reference s legal o e held =
     let n = node.Object o in
     let l = holder-some s.links n e held in
-    let at = place_held l.0 n e (legal.links.set.placed.sides l.0 l.1) l.2 in
+    let at = indexed_held l.0 n e (legal.links.set.placed.sides l.0 l.1) l.2 in
     let there = (legal.links.set.placed.ends e).has at.0 (node_value n) (l.0, l.1, at.1) in
     legal-reference (reading s) e.feature (value.Object o) (legal-at (reading s) e (end s.links e) at.0 (value.Object o) (legal.links.ends e) there).1

@@ -34,10 +34,10 @@ use Rattle.removal.specs.Outer.{gone, holds_some, touched_ends}
 use Rattle.removal.proofs.EndLemmas.{object-node, open-end}
 use Rattle.removal.proofs.ListLemmas.{any-all, any-at, any-filter, any-flat_map, any-left, any-map, any-right}
 use Rattle.links.proofs.OrderLemmas.{has_end-any}
-use Rattle.removal.proofs.TieLemmas.{AreTouched, IsTie, all-ties, goes-node, lower-named, names_tie, ties-once, ties-there}
+use Rattle.removal.proofs.LinkEndLemmas.{AreTouched, IsLinkEnd, all-link_ends, goes-node, lower-named, names_link_end, link_ends-once, link_ends-there}
 use Rattle.removal.specs.Laws.{NameTreeLinks, names_of}
-use Rattle.removal.specs.TreeTies.{end_ties, is_named_here, node_ties, outer_ties, references_of, tie, tree_ties}
-use Rattle.removal.specs.declared.tie.Tie.{Tie}
+use Rattle.removal.specs.TreeLinkEnds.{end_link_ends, is_named_here, node_link_ends, outer_link_ends, references_of, link_end, tree_link_ends}
+use Rattle.removal.specs.declared.link_end.LinkEnd.{LinkEnd}
 
 -- a name names its own link, and that link from its far end
 names-own : (m : Kinds) (e : End) (v : Value) → names m e v e v ≡ true
@@ -49,19 +49,19 @@ names-back m e x g opposite =
     (ap (λ (q : Option FeatureNo). names_far e (value.Object x) q (far_end x g) (node_value e.node)) opposite
     ∙ and_from (same_end (far_end x g) (far_end x g)) (same_value (node_value e.node) (node_value e.node)) (same_end-self (far_end x g)) (same_value-self (node_value e.node)))
 
-is_named-any : (s : Model) (ts : List Tie) (u : Tie) → is_named (kinds_of s.metamodel) (names_of ts) u.end u.value ≡ list_any (λ t. names_tie s t u) ts
-is_named-any s ts u = any-map (λ (x : End × Value). names (kinds_of s.metamodel) x.0 x.1 u.end u.value) (λ (t : Tie). (t.end, t.value)) ts
+is_named-any : (s : Model) (ts : List LinkEnd) (u : LinkEnd) → is_named (kinds_of s.metamodel) (names_of ts) u.end u.value ≡ list_any (λ t. names_link_end s t u) ts
+is_named-any s ts u = any-map (λ (x : End × Value). names (kinds_of s.metamodel) x.0 x.1 u.end u.value) (λ (t : LinkEnd). (t.end, t.value)) ts
 
 -- what passes a test at an end is among the links there
-any-values : (q : Tie → Bool) (e : End) (p : Value → Bool) (vs : List Value) (k : ℕ) (v : Value) → slice_get vs k ≡ Some v → p v ≡ true → q (tie e v) ≡ true → list_any q (map (tie e) (filter p vs)) ≡ true
+any-values : (q : LinkEnd → Bool) (e : End) (p : Value → Bool) (vs : List Value) (k : ℕ) (v : Value) → slice_get vs k ≡ Some v → p v ≡ true → q (link_end e v) ≡ true → list_any q (map (link_end e) (filter p vs)) ≡ true
 any-values q e p vs k v at passes h =
     let kept = filter_keeps p vs k v at passes in
-    any-map q (tie e) (filter p vs) ∙ any-at (λ w. q (tie e w)) (filter p vs) kept.0 v kept.1 h
+    any-map q (link_end e) (filter p vs) ∙ any-at (λ w. q (link_end e w)) (filter p vs) kept.0 v kept.1 h
 
-module _ (s : Model) (legal : IsLegal s) (o : ObjectNo) (touched : AreTouched s o) (q : Tie → Bool) where
+module _ (s : Model) (legal : IsLegal s) (o : ObjectNo) (touched : AreTouched s o) (q : LinkEnd → Bool) where
   -- a link of a node that goes, where its end names it
   named-inner : (x : ObjectNo) (f : FeatureNo) (v : Value) → list_any (same_object x) (subtree (reading s) o) ≡ true → Has s.links (far_end x f) v → is_named_here (reading s) (gone (reading s) o) f v ≡ true
-      → q (tie (far_end x f) v) ≡ true → list_any q (tree_ties (reading s) o) ≡ true
+      → q (link_end (far_end x f) v) ≡ true → list_any q (tree_link_ends (reading s) o) ≡ true
   named-inner x f v among at here h =
       let r = reading s in
       let is_gone : Node → Bool = gone r o in
@@ -71,12 +71,12 @@ module _ (s : Model) (legal : IsLegal s) (o : ObjectNo) (touched : AreTouched s 
       let there : slice_get (r.values e) at.0 ≡ Some v = ap (λ (vs : List Value). slice_get vs at.0) (values-linked s e known.reference) ∙ at.1 in
       let of_end = any-values q e (is_named_here r is_gone f) (r.values e) at.0 v there here h in
       let listed = any-filter (same_feature f) (λ (g : FeatureNo). (shape s.metamodel g).is_reference) f (same-feature f) known.reference (all_features_of r n) known.own in
-      let of_node = any-flat_map (same_feature f) q (λ (g : FeatureNo). end_ties r is_gone (at_end n g)) f (same-feature f) of_end (references_of r n) listed in
-      any-left q (flat_map (node_ties r is_gone) (subtree r o)) (flat_map (outer_ties r is_gone) (touched_ends r o)) (any-flat_map (same_object x) q (node_ties r is_gone) x (same-object x) of_node (subtree r o) among)
+      let of_node = any-flat_map (same_feature f) q (λ (g : FeatureNo). end_link_ends r is_gone (at_end n g)) f (same-feature f) of_end (references_of r n) listed in
+      any-left q (flat_map (node_link_ends r is_gone) (subtree r o)) (flat_map (outer_link_ends r is_gone) (touched_ends r o)) (any-flat_map (same_object x) q (node_link_ends r is_gone) x (same-object x) of_node (subtree r o) among)
 
   -- a link of a node that stays, where no other end can name it
   named-outer : (e : End) (v : Value) → gone (reading s) o e.node ≡ false → Has s.links e v → goes (gone (reading s) o) v ≡ true → (shape s.metamodel e.feature).opposite ≡ None
-      → q (tie e v) ≡ true → list_any q (tree_ties (reading s) o) ≡ true
+      → q (link_end e v) ≡ true → list_any q (tree_link_ends (reading s) o) ≡ true
   named-outer e v stays at lost alone h =
       let r = reading s in
       let is_gone : Node → Bool = gone r o in
@@ -85,10 +85,10 @@ module _ (s : Model) (legal : IsLegal s) (o : ObjectNo) (touched : AreTouched s 
       let some : holds_some r is_gone e ≡ true = and_from (shape s.metamodel e.feature).is_reference (list_any (goes is_gone) (r.values e)) reference (any-at (goes is_gone) (r.values e) at.0 v there lost) in
       let listed : has_end (touched_ends r o) e ≡ true = touched.all e ∙ and_from (not (is_gone e.node)) (holds_some r is_gone e) (ap not stays) some in
       let among = sym (has_end-any (touched_ends r o) e) ∙ listed in
-      let of_end : list_any q (outer_ties r is_gone e) ≡ true =
-      ap (λ (g : Option FeatureNo). list_any q (if is_some g then [] else map (tie e) (filter (goes is_gone) (r.values e)))) alone ∙ any-values q e (goes is_gone) (r.values e) at.0 v there lost h in
-      any-right q (flat_map (node_ties r is_gone) (subtree r o)) (flat_map (outer_ties r is_gone) (touched_ends r o))
-      (any-flat_map (λ (d : End). same_end d e) q (outer_ties r is_gone) e (λ d same. sym (same_end-true d e same)) of_end (touched_ends r o) among)
+      let of_end : list_any q (outer_link_ends r is_gone e) ≡ true =
+      ap (λ (g : Option FeatureNo). list_any q (if is_some g then [] else map (link_end e) (filter (goes is_gone) (r.values e)))) alone ∙ any-values q e (goes is_gone) (r.values e) at.0 v there lost h in
+      any-right q (flat_map (node_link_ends r is_gone) (subtree r o)) (flat_map (outer_link_ends r is_gone) (touched_ends r o))
+      (any-flat_map (λ (d : End). same_end d e) q (outer_link_ends r is_gone) e (λ d same. sym (same_end-true d e same)) of_end (touched_ends r o) among)
 
 module _ (s : Model) (legal : IsLegal s) (o : ObjectNo) (touched : AreTouched s o) where
   abbrev is_gone : Node → Bool
@@ -96,7 +96,7 @@ module _ (s : Model) (legal : IsLegal s) (o : ObjectNo) (touched : AreTouched s 
 
   -- the names name the link
   abbrev IsNamed : End → Value → Type 0
-  IsNamed d w = list_any (λ t. names_tie s t (tie d w)) (tree_ties (reading s) o) ≡ true
+  IsNamed d w = list_any (λ t. names_link_end s t (link_end d w)) (tree_link_ends (reading s) o) ≡ true
 
   -- the link is named by the far end, which names it where that is for it to do
   named-far : (x y : ObjectNo) (f g : FeatureNo) → (shape s.metamodel f).opposite ≡ Some g → list_any (same_object y) (subtree (reading s) o) ≡ true → Has s.links (far_end x f) (value.Object y)
@@ -105,7 +105,7 @@ module _ (s : Model) (legal : IsLegal s) (o : ObjectNo) (touched : AreTouched s 
       let m = kinds_of s.metamodel in
       let back = (kinds-are s.metamodel legal.metamodel).inverse f g opposite in
       let there = both_ends_agree m s.links legal.links.set legal.links.kinds (far_end x f) (far_end y g) opposite at in
-      named-inner s legal o touched (λ t. names_tie s t (tie (far_end x f) (value.Object y))) y g (value.Object x) among there here (names-back m (far_end y g) x f back)
+      named-inner s legal o touched (λ t. names_link_end s t (link_end (far_end x f) (value.Object y))) y g (value.Object x) among there here (names-back m (far_end y g) x f back)
 
   -- of a link of two nodes that go, the far end names what this one does not
   named-higher : (x y : ObjectNo) (f g : FeatureNo) → (shape s.metamodel f).opposite ≡ Some g → is_gone (node.Object x) ≡ true → is_gone (node.Object y) ≡ true → Has s.links (far_end x f) (value.Object y)
@@ -126,7 +126,7 @@ module _ (s : Model) (legal : IsLegal s) (o : ObjectNo) (touched : AreTouched s 
   near-named : (x : ObjectNo) (f : FeatureNo) (w : Value) → is_gone (node.Object x) ≡ true → Has s.links (far_end x f) w → IsNamed (far_end x f) w
   near-named x f w gone_x at =
       elim (is_named_here (reading s) is_gone f w) as (λ b. is_named_here (reading s) is_gone f w ≡ b → IsNamed (far_end x f) w) [
-        | true ↦ λ here. named-inner s legal o touched (λ t. names_tie s t (tie (far_end x f) w)) x f w gone_x at here (names-own (kinds_of s.metamodel) (far_end x f) w)
+        | true ↦ λ here. named-inner s legal o touched (λ t. names_link_end s t (link_end (far_end x f) w)) x f w gone_x at here (names-own (kinds_of s.metamodel) (far_end x f) w)
         | false ↦ λ not_here.
             let both = not-here-cases f (goes is_gone w) (shape s.metamodel f).opposite not_here in
             by w both.1.0 both.1.1 both.0 at not_here
@@ -140,7 +140,7 @@ module _ (s : Model) (legal : IsLegal s) (o : ObjectNo) (touched : AreTouched s 
   far-named : (d : End) (y : ObjectNo) → is_gone d.node ≡ false → is_gone (node.Object y) ≡ true → Has s.links d (value.Object y) → IsNamed d (value.Object y)
   far-named d y stays gone_y at =
       elim (shape s.metamodel d.feature).opposite as (λ h. (shape s.metamodel d.feature).opposite ≡ h → IsNamed d (value.Object y)) [
-        | None ↦ λ alone. named-outer s legal o touched (λ t. names_tie s t (tie d (value.Object y))) d (value.Object y) stays at gone_y alone (names-own (kinds_of s.metamodel) d (value.Object y))
+        | None ↦ λ alone. named-outer s legal o touched (λ t. names_link_end s t (link_end d (value.Object y))) d (value.Object y) stays at gone_y alone (names-own (kinds_of s.metamodel) d (value.Object y))
         | Some g ↦ λ opposite. by d.node d.feature g opposite stays at
       ] refl
     where
@@ -166,7 +166,7 @@ module _ (s : Model) (legal : IsLegal s) (o : ObjectNo) (touched : AreTouched s 
       far _ lost stays there = absurd (false≢true lost)
 
   -- a link that is named is of a node that goes
-  named-gone : (t u : Tie) → IsTie s o t → names_tie s t u ≡ true → (is_gone u.end.node || goes is_gone u.value) ≡ true
+  named-gone : (t u : LinkEnd) → IsLinkEnd s o t → names_link_end s t u ≡ true → (is_gone u.end.node || goes is_gone u.value) ≡ true
   named-gone t u (at, inl inner) h = elim (names-true (kinds_of s.metamodel) t.end t.value u.end u.value h) [
     | inl near ↦ or_left _ _ (ap (λ (d : End). is_gone d.node) (sym near.0) ∙ inner.node)
     | inr (x, g, is_v, opposite, is_d, is_w) ↦ or_right (is_gone u.end.node) _ (ap (goes is_gone) (sym is_w) ∙ goes-node s o t.end.node inner.node)
@@ -176,10 +176,10 @@ module _ (s : Model) (legal : IsLegal s) (o : ObjectNo) (touched : AreTouched s 
     | inr (x, g, is_v, opposite, is_d, is_w) ↦ absurd (none-some g (sym outer.alone ∙ opposite))
   ]
 
-  names-all : NameLinksOf (kinds_of s.metamodel) s.links is_gone (names_of (tree_ties (reading s) o))
+  names-all : NameLinksOf (kinds_of s.metamodel) s.links is_gone (names_of (tree_link_ends (reading s) o))
   names-all d w at =
-      is_named-any s (tree_ties (reading s) o) (tie d w)
-      ∙ same_bool _ _ (any-all (IsTie s o) (λ t. names_tie s t (tie d w)) (λ t known h. named-gone t (tie d w) known h) (tree_ties (reading s) o) (all-ties s legal o touched)) (links-named d w at)
+      is_named-any s (tree_link_ends (reading s) o) (link_end d w)
+      ∙ same_bool _ _ (any-all (IsLinkEnd s o) (λ t. names_link_end s t (link_end d w)) (λ t known h. named-gone t (link_end d w) known h) (tree_link_ends (reading s) o) (all-link_ends s legal o touched)) (links-named d w at)
 
   pub tree-links : NameTreeLinks s o
-  tree-links = record { there = ties-there s legal o touched; once = ties-once s legal o touched; all = names-all }
+  tree-links = record { there = link_ends-there s legal o touched; once = link_ends-once s legal o touched; all = names-all }

@@ -15,8 +15,8 @@ use Rattle.containment.proofs.ForestLemmas.{get-within}
 use Rattle.containment.specs.Forest.{subtree}
 use Rattle.removal.specs.Outer.{gone, touched_ends}
 use Rattle.removal.specs.Ranks.{HasGone, is_in}
-use Rattle.removal.specs.TreeTies.{end_ties, node_ties, outer_ties, tie, tree_ties}
-use Rattle.removal.specs.declared.tie.Tie.{Tie}
+use Rattle.removal.specs.TreeLinkEnds.{end_link_ends, node_link_ends, outer_link_ends, link_end, tree_link_ends}
+use Rattle.removal.specs.declared.link_end.LinkEnd.{LinkEnd}
 use Rattle.removal.specs.declared.numbers.Numbers.{Numbers}
 
 module _ {X Y : Type 0} (f : X → List Y) where
@@ -40,12 +40,12 @@ flat-filter f p (x ∷ xs) = elim (p x) as (λ b. cond b (f x) [] ++ flat_map (�
 ]
 
 -- all of a node are added
-pub node-end : (r : Reading) (is_gone : Node → Bool) (x : ObjectNo) (fs : List FeatureNo) (i : ℕ) (out old : List Tie) → fs ≡ all_features_of r (node.Object x) → length fs ≤ i
-    → (let of_feature = λ (f : FeatureNo). if (shape r.metamodel f).is_reference then end_ties r is_gone (at_end (node.Object x) f) else [] in out ++ flat_map of_feature (drop i fs) ≡ old ++ flat_map of_feature fs)
-    → out ≡ old ++ node_ties r is_gone x
+pub node-end : (r : Reading) (is_gone : Node → Bool) (x : ObjectNo) (fs : List FeatureNo) (i : ℕ) (out old : List LinkEnd) → fs ≡ all_features_of r (node.Object x) → length fs ≤ i
+    → (let of_feature = λ (f : FeatureNo). if (shape r.metamodel f).is_reference then end_link_ends r is_gone (at_end (node.Object x) f) else [] in out ++ flat_map of_feature (drop i fs) ≡ old ++ flat_map of_feature fs)
+    → out ≡ old ++ node_link_ends r is_gone x
 node-end r is_gone x fs i out old is past whole =
     let refers = λ (f : FeatureNo). (shape r.metamodel f).is_reference in
-    let at_feature = λ (f : FeatureNo). end_ties r is_gone (at_end (node.Object x) f) in
+    let at_feature = λ (f : FeatureNo). end_link_ends r is_gone (at_end (node.Object x) f) in
     let of_feature = λ (f : FeatureNo). if refers f then at_feature f else [] in
     flat-end of_feature fs i out (old ++ flat_map of_feature fs) past whole
     ∙ ap (λ ts. old ++ ts) (flat-filter at_feature refers fs ∙ ap (λ (gs : List FeatureNo). flat_map at_feature (filter refers gs)) is)
@@ -53,21 +53,21 @@ node-end r is_gone x fs i out old is past whole =
 ---------------------------------------------------------------- the links of one end
 
 module _ (e : End) (p : Value → Bool) where
-  -- what passes at one place
-  named-first : (v : Value) (vs : List Value) → map (tie e) (filter p (v ∷ [])) ++ map (tie e) (filter p vs) ≡ map (tie e) (filter p (v ∷ vs))
-  named-first v vs = elim (p v) as (λ b. map (tie e) (cond b (v ∷ []) []) ++ map (tie e) (filter p vs) ≡ map (tie e) (cond b (v ∷ filter p vs) (filter p vs))) [ true ↦ refl | false ↦ refl ]
+  -- what passes at one position
+  named-first : (v : Value) (vs : List Value) → map (link_end e) (filter p (v ∷ [])) ++ map (link_end e) (filter p vs) ≡ map (link_end e) (filter p (v ∷ vs))
+  named-first v vs = elim (p v) as (λ b. map (link_end e) (cond b (v ∷ []) []) ++ map (link_end e) (filter p vs) ≡ map (link_end e) (cond b (v ∷ filter p vs) (filter p vs))) [ true ↦ refl | false ↦ refl ]
 
-  pub named-step : (vs : List Value) (k : ℕ) (out new all : List Tie) (o : Option Value) → k < length vs → new ≡ out ++ map (tie e) (filter p (option_to_list o)) → o ≡ slice_get vs k
-      → out ++ map (tie e) (filter p (drop k vs)) ≡ all → new ++ map (tie e) (filter p (drop (k + 1) vs)) ≡ all
+  pub named-step : (vs : List Value) (k : ℕ) (out new all : List LinkEnd) (o : Option Value) → k < length vs → new ≡ out ++ map (link_end e) (filter p (option_to_list o)) → o ≡ slice_get vs k
+      → out ++ map (link_end e) (filter p (drop k vs)) ≡ all → new ++ map (link_end e) (filter p (drop (k + 1) vs)) ≡ all
   named-step vs k out new all o low made is whole =
       let v = slice_index_or vs k value.Null in
-      ap (λ ts. ts ++ map (tie e) (filter p (drop (k + 1) vs))) (made ∙ ap (λ (x : Option Value). out ++ map (tie e) (filter p (option_to_list x))) (is ∙ get-within vs k value.Null low))
-      ∙ append_assoc out (map (tie e) (filter p (v ∷ []))) (map (tie e) (filter p (drop (k + 1) vs)))
-      ∙ ap (λ ts. out ++ ts) (named-first v (drop (k + 1) vs) ∙ ap (λ (ws : List Value). map (tie e) (filter p ws)) (sym (drop_more vs k value.Null low)))
+      ap (λ ts. ts ++ map (link_end e) (filter p (drop (k + 1) vs))) (made ∙ ap (λ (x : Option Value). out ++ map (link_end e) (filter p (option_to_list x))) (is ∙ get-within vs k value.Null low))
+      ∙ append_assoc out (map (link_end e) (filter p (v ∷ []))) (map (link_end e) (filter p (drop (k + 1) vs)))
+      ∙ ap (λ ts. out ++ ts) (named-first v (drop (k + 1) vs) ∙ ap (λ (ws : List Value). map (link_end e) (filter p ws)) (sym (drop_more vs k value.Null low)))
       ∙ whole
 
-  pub named-end : (vs : List Value) (k : ℕ) (out all : List Tie) → length vs ≤ k → out ++ map (tie e) (filter p (drop k vs)) ≡ all → out ≡ all
-  named-end vs k out all past whole = sym (ap (λ (ws : List Value). out ++ map (tie e) (filter p ws)) (drop_all k vs past) ∙ append-nil out) ∙ whole
+  pub named-end : (vs : List Value) (k : ℕ) (out all : List LinkEnd) → length vs ≤ k → out ++ map (link_end e) (filter p (drop k vs)) ≡ all → out ≡ all
+  named-end vs k out all past whole = sym (ap (λ (ws : List Value). out ++ map (link_end e) (filter p ws)) (drop_all k vs past) ∙ append-nil out) ∙ whole
 
 -- what goes of the objects that are read is what goes of the values
 pub goes-read : (g : Node → Bool) (x : Option Value) (q : Option ObjectNo) → q ≡ option_and_then object_of x → filter (goes g) (option_to_list (option_map value.Object q)) ≡ filter (goes g) (option_to_list x)
@@ -83,9 +83,9 @@ goes-read g x q read = ap (λ (o : Option ObjectNo). filter (goes g) (option_to_
 
 -- what goes is told by its numbers
 pub tree-gone : (r : Reading) (o : ObjectNo) (s : Numbers) (os : List ObjectNo) (es : List End) → HasGone r o s → os ≡ subtree r o → es ≡ touched_ends r o
-    → flat_map (node_ties r (is_in s)) os ++ flat_map (outer_ties r (is_in s)) es ≡ tree_ties r o
+    → flat_map (node_link_ends r (is_in s)) os ++ flat_map (outer_link_ends r (is_in s)) es ≡ tree_link_ends r o
 tree-gone r o s os es has objects ends =
     let same : is_in s ≡ gone r o = λ i n. has n i in
-    ap (λ (xs : List ObjectNo). flat_map (node_ties r (is_in s)) xs ++ flat_map (outer_ties r (is_in s)) es) objects
-    ∙ ap (λ (ds : List End). flat_map (node_ties r (is_in s)) (subtree r o) ++ flat_map (outer_ties r (is_in s)) ds) ends
-    ∙ ap (λ (p : Node → Bool). flat_map (node_ties r p) (subtree r o) ++ flat_map (outer_ties r p) (touched_ends r o)) same
+    ap (λ (xs : List ObjectNo). flat_map (node_link_ends r (is_in s)) xs ++ flat_map (outer_link_ends r (is_in s)) es) objects
+    ∙ ap (λ (ds : List End). flat_map (node_link_ends r (is_in s)) (subtree r o) ++ flat_map (outer_link_ends r (is_in s)) ds) ends
+    ∙ ap (λ (p : Node → Bool). flat_map (node_link_ends r p) (subtree r o) ++ flat_map (outer_link_ends r p) (touched_ends r o)) same

@@ -7,15 +7,15 @@ use Rattle.links.specs.Laws.{AreOnce, AreThere, NameLinksOf}
 use Rattle.models.specs.Legal.{kinds_of}
 use Rattle.models.specs.Model.{Model, reading}
 use Rattle.removal.specs.Outer.{gone}
-use Rattle.removal.specs.TreeTies.{tree_ties}
-use Rattle.removal.specs.declared.tie.Tie.{Tie}
+use Rattle.removal.specs.TreeLinkEnds.{tree_link_ends}
+use Rattle.removal.specs.declared.link_end.LinkEnd.{LinkEnd}
 
 -- the names as pairs
-abbrev pub names_of : List Tie → List (End × Value)
+abbrev pub names_of : List LinkEnd → List (End × Value)
 names_of ts = map (λ t. (t.end, t.value)) ts
 
 -- each is the name of a link, no link is named twice, and the links named are those that name something that goes
 pub record NameTreeLinks (s : Model) (o : ObjectNo) : Type 0 where
-  pub there : AreThere s.links (names_of (tree_ties (reading s) o))
-  pub once : AreOnce (kinds_of s.metamodel) (names_of (tree_ties (reading s) o))
-  pub all : NameLinksOf (kinds_of s.metamodel) s.links (gone (reading s) o) (names_of (tree_ties (reading s) o))
+  pub there : AreThere s.links (names_of (tree_link_ends (reading s) o))
+  pub once : AreOnce (kinds_of s.metamodel) (names_of (tree_link_ends (reading s) o))
+  pub all : NameLinksOf (kinds_of s.metamodel) s.links (gone (reading s) o) (names_of (tree_link_ends (reading s) o))

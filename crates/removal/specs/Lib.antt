@@ -2,5 +2,5 @@ pub mod Outer
 pub mod Ranks
 pub mod Removals
 pub mod Losses
-pub mod TreeTies
+pub mod TreeLinkEnds
 pub mod Laws

@@ -110,7 +110,7 @@ fn last_position<L: LinkStore>(model: &ModelRef<L>, removal: &Removal, end: End)
     requires removal { IsRemoval (reading model.now) removal.now }
     ensures { result ≡ index_in (l.kept_at (reading model.now) removal.now.object end) (value.Object removal.now.object) }
 {
-    model.is_legal();
+    model.lemma_is_legal();
     let mut kept = 0;
     for index in 0..model.len(end) {
         let found = model.object_in(end, index);

@@ -13,8 +13,8 @@ use Rattle.web_uris.specs.Addresses.{has_mark}
 use Rattle.fragment_paths.specs.Finding.{at}
 use Rattle.fragment_paths.specs.Fragments.{fragment}
 use Rattle.models.specs.Legal.{is_short_text}
-use Rattle.saved_docs.specs.Document.{saved}
-use Rattle.saved_docs.specs.Saved.{save_refusal}
+use Rattle.doc_writer.specs.Document.{saved}
+use Rattle.doc_writer.specs.Saved.{save_refusal}
 use Rattle.handshake.specs.Named.{node_refusal, object_refusal}
 use Rattle.repository.specs.State.{State, reads}
 use Rattle.repository.specs.Step.{Stepped, step, step_unless}

@@ -15,7 +15,7 @@ use Rattle.notice_chain.specs.Listed.{Listed, is_at, is_target}
 use Rattle.notice_chain.specs.Released.{Spot, is_gone_at, last_notice, released, spots, spots_of, told_of_all, told_of_leaving, without}
 use Rattle.notice_chain.specs.declared.notice.Notice.{Notice}
 use Rattle.notice_chain.specs.declared.target.Target.{Target}
-use Rattle.adapter_list.specs.Hearing.{is_touched, places_from, touched}
+use Rattle.adapter_list.specs.Hearing.{is_touched, ordinals_from, touched}
 use Rattle.adapter_list.specs.Rounds.{delivered_from}
 use Rattle.containment.specs.Forest.{is_node_among}
 use Rattle.models.specs.Reading.{Reading, at_end}
@@ -25,7 +25,7 @@ use Rattle.removal.specs.Removals.{IsRemoval}
 use Rattle.removal.specs.declared.gone.Removal.{Removal}
 use Rattle.handshake.specs.Plans.{IsRemovalOf}
 use Rattle.handshake.specs.Refusals.{late_refusal}
-use Rattle.handshake.specs.Tellings.{destroyed_by, resolved_by, target_of}
+use Rattle.handshake.specs.FeatureChanges.{destroyed_by, resolved_by, target_of}
 use Rattle.handshake.specs.declared.change.Change.{Change}
 use Rattle.handshake.specs.declared.change.Change.TheVariants.{Create, Set, Unset, Add, Remove, RemoveValue, Move, Delete, NewResource, Resolve, Load, ResolveAll}
 use Rattle.handshake.specs.declared.planned.Resolved.{Resolved}
@@ -89,13 +89,13 @@ module _ (os : List ObjectNo) (all : List Listed) where
   abbrev at_place : ℕ → List Spot
   at_place k = option_map_or (spots_of (λ j n. is_node_among os n)) (slice_get all k) []
 
-  by-places : (k : ℕ) (rs : List Listed) → ((i : ℕ) → slice_get all (k + i) ≡ slice_get rs i) → flat_map at_place (places_from (is_touched os) k rs) ≡ spots (λ j n. is_node_among os n) rs
+  by-places : (k : ℕ) (rs : List Listed) → ((i : ℕ) → slice_get all (k + i) ≡ slice_get rs i) → flat_map at_place (ordinals_from (is_touched os) k rs) ≡ spots (λ j n. is_node_among os n) rs
   by-places k [] here = refl
   by-places k (r ∷ rs) here =
       let first : slice_get all k ≡ Some r = subst (λ (j : ℕ). slice_get all j ≡ Some r) (let e : k + 0 ≡ k = omega arith in e) (here 0) in
       let rest = by-places (suc k) rs (λ i. subst (λ (j : ℕ). slice_get all j ≡ slice_get rs i) (let e : k + suc i ≡ suc k + i = omega arith in e) (here (suc i))) in
-      elim (is_touched os r) as (λ b. is_touched os r ≡ b → flat_map at_place (cond b (k ∷ places_from (is_touched os) (suc k) rs) (places_from (is_touched os) (suc k) rs)) ≡ spots_of (λ j n. is_node_among os n) r ++ spots (λ j n. is_node_among os n) rs) [
-        | true ↦ λ _. ap (λ (o : Option Listed). option_map_or (spots_of (λ j n. is_node_among os n)) o [] ++ flat_map at_place (places_from (is_touched os) (suc k) rs)) first ∙ ap (λ (ss : List Spot). spots_of (λ j n. is_node_among os n) r ++ ss) rest
+      elim (is_touched os r) as (λ b. is_touched os r ≡ b → flat_map at_place (cond b (k ∷ ordinals_from (is_touched os) (suc k) rs) (ordinals_from (is_touched os) (suc k) rs)) ≡ spots_of (λ j n. is_node_among os n) r ++ spots (λ j n. is_node_among os n) rs) [
+        | true ↦ λ _. ap (λ (o : Option Listed). option_map_or (spots_of (λ j n. is_node_among os n)) o [] ++ flat_map at_place (ordinals_from (is_touched os) (suc k) rs)) first ∙ ap (λ (ss : List Spot). spots_of (λ j n. is_node_among os n) r ++ ss) rest
         | false ↦ λ none. rest ∙ sym (ap (λ (ss : List Spot). ss ++ spots (λ j n. is_node_among os n) rs) (untouched os r.no r.targets none))
       ] refl
 

@@ -8,6 +8,7 @@ pub mod LiveLemmas
 pub mod LoadLemmas
 pub mod PlanLemmas
 pub mod ValueLemmas
+pub mod LegalAdapterLemmas
 pub mod LegalLemmas
 pub mod ResourceLemmas
 pub mod DocumentLemmas

@@ -11,8 +11,8 @@ use Rattle.mm_values.specs.declared.edit.ValueEdit.TheVariants.{NewObject, PutLi
 use Rattle.resource_docs.specs.declared.doc.Content.{Content}
 use Rattle.resource_docs.specs.declared.doc.Doc.{Doc}
 use Rattle.resource_docs.specs.declared.doc.DocObject.{DocObject}
-use Rattle.loading.specs.Loading.{attribute_edits, loaded, loaded_values, of_contents, of_object}
-use Rattle.loading.proofs.PairLemmas.{all-append, all-every, all-flat_map_every, all-map}
+use Rattle.doc_loader.specs.Loading.{attribute_edits, loaded, loaded_values, of_contents, of_object}
+use Rattle.doc_loader.proofs.PairLemmas.{all-append, all-every, all-flat_map_every, all-map}
 
 abbrev pub is_object : Option ObjectState → Bool
 is_object o = is_some (option_map (λ (s : ObjectState). s.class) o)

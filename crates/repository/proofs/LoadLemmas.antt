@@ -15,7 +15,7 @@ use Rattle.models.specs.Reading.{Reading}
 use Rattle.resource_docs.specs.Causes.{IsRead, parsed, reads_bytes, reads_if}
 use Rattle.resource_docs.specs.Texts.{base_of}
 use Rattle.resource_docs.specs.declared.doc.Doc.{Doc}
-use Rattle.loading.specs.Loading.{is_empty_resource}
+use Rattle.doc_loader.specs.Loading.{is_empty_resource}
 use Rattle.handshake.specs.Named.{node_refusal}
 use Rattle.handshake.specs.Laws.{BringsSteadyTexts}
 use Rattle.handshake.specs.Plans.{HasReadDocument, IsDocument, is_memory_refusal}

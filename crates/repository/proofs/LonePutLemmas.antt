@@ -10,7 +10,7 @@ use Rattle.links.specs.Laws.{touches_containment}
 use Rattle.links.specs.LegalSets.{Kinds}
 use Rattle.links.specs.Plans.{IsEditOfKind, put_edit}
 use Rattle.models.specs.Model.{Model, reading}
-use Rattle.models.specs.Reading.{Reading, at_end, is_repeat, place_for, shape_at}
+use Rattle.models.specs.Reading.{Reading, at_end, is_repeat, position_for, shape_at}
 use Rattle.notice_chain.specs.Listed.{Above, Listed}
 use Rattle.adapter_list.specs.Hearing.{AreKnown}
 use Rattle.adapter_list.specs.declared.hearers.Hearers.{Hearers}
@@ -21,7 +21,7 @@ use Rattle.handshake.specs.Refusals.{early_refusal, late_refusal}
 use Rattle.handshake.specs.declared.change.Change.{Change}
 use Rattle.handshake.specs.declared.change.Change.TheVariants.{Add, Set}
 use Rattle.links.specs.declared.link.NewLink.{NewLink}
-use Rattle.handshake.proofs.CutTieLemmas.{plain-not}
+use Rattle.handshake.proofs.CutLinkEndLemmas.{plain-not}
 use Rattle.repository.specs.Answers.{answer_of}
 use Rattle.repository.specs.Puts.{IsPutAlone}
 use Rattle.repository.specs.State.{State, reads}
@@ -38,7 +38,7 @@ new-added : (r : Reading) (n : Node) (f : FeatureNo) (v : Value) (i : Option ℕ
 new-added r n f (value.Object o) i p h =
     let e = at_end n f in
     let v = value.Object o in
-    (plain-not (shape_at r e).is_reference (is_repeat r e v) (not-plain (displaces r e o) (is_plain_add r e v) (is_some (late_refusal r (Add n f v i))) (put_at r e (place_for r e i) o) p h)).1
+    (plain-not (shape_at r e).is_reference (is_repeat r e v) (not-plain (displaces r e o) (is_plain_add r e v) (is_some (late_refusal r (Add n f v i))) (put_at r e (position_for r e i) o) p h)).1
 new-added r n f _ i p h = absurd (none-some p h)
 
 pub add-answered : (r : Reading) (rs : List Listed) (n : Node) (f : FeatureNo) (v : Value) (i : Option ℕ) (p : NewLink) → lone_put r (Add n f v i) ≡ Some p → answer.Flag true ≡ answer_of r rs (command_of [] (Add n f v i))

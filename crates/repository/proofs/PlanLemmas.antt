@@ -25,7 +25,7 @@ use Rattle.handshake.specs.Named.{feature_refusal, many_refusal, node_refusal, v
 use Rattle.handshake.specs.Effects as effects
 use Rattle.handshake.specs.Plans.{is_memory_refusal, looks_first}
 use Rattle.handshake.specs.Refusals.{early_refusal, late_refusal, uri_refusal}
-use Rattle.handshake.specs.Tellings.{chain}
+use Rattle.handshake.specs.FeatureChanges.{chain}
 use Rattle.mm_types.specs.declared.document_fault.DocFault.{DocFault}
 use Rattle.resource_docs.specs.declared.doc.Doc.{Doc}
 use Rattle.handshake.specs.declared.change.Change.{Change}

@@ -17,7 +17,7 @@ use Rattle.models.specs.Reading.{Reading, at_end, has_resource}
 use Rattle.models.specs.Steady.{HasSteadyTexts}
 use Rattle.notice_chain.specs.View.{View}
 use Rattle.resource_docs.specs.Causes.{reads_bytes}
-use Rattle.loading.proofs.SoundLemmas.{at-map}
+use Rattle.doc_loader.proofs.SoundLemmas.{at-map}
 use Rattle.round_trip.specs.Copied.{copied}
 use Rattle.round_trip.proofs.BackLemmas.{text-back}
 use Rattle.round_trip.proofs.ValuesListLemmas.{stands}

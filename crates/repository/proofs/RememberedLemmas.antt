@@ -29,7 +29,7 @@ use Rattle.fragment_paths.specs.Laws.{HaveSameParts}
 use Rattle.links.specs.Holders.{above}
 use Rattle.notice_chain.specs.Listed.{Above, Listed}
 use Rattle.notice_chain.specs.declared.notice.Notice.{Notice}
-use Rattle.adapter_list.specs.Hearing.{AreKnown, hearers, hears_node, places_from}
+use Rattle.adapter_list.specs.Hearing.{AreKnown, hearers, hears_node, ordinals_from}
 use Rattle.adapter_list.specs.Rounds.{delivered, delivered_from}
 use Rattle.adapter_list.specs.declared.hearers.Hearers.{Hearers}
 use Rattle.repository.specs.Repository.{KeepsFragments}
@@ -72,17 +72,17 @@ module _ (m : Metamodel) (v w : ValuesState) (a : Links) (plan : List Edit) (leg
   hearers-after rs h known out = subst (λ (up : Above). AreKnown up rs h) (λ i n. sym (above-stays m v w a (applied a plan) legal after (parts-stay out) n) i) known
 
 -- who was notified hears the same as before
-places-told : (up : Above) (x : Node) (k j : ℕ) (cs : List (ℕ × Notice)) (rs : List Listed) → places_from (hears_node up x) k (delivered_from j cs rs) ≡ places_from (hears_node up x) k rs
+places-told : (up : Above) (x : Node) (k j : ℕ) (cs : List (ℕ × Notice)) (rs : List Listed) → ordinals_from (hears_node up x) k (delivered_from j cs rs) ≡ ordinals_from (hears_node up x) k rs
 places-told up x k j cs [] = refl
 places-told up x k j cs (r ∷ rs) =
-    elim (hears_node up x r) as (λ b. (if b then k ∷ places_from (hears_node up x) (suc k) (delivered_from (suc j) cs rs) else places_from (hears_node up x) (suc k) (delivered_from (suc j) cs rs)) ≡ (if b then k ∷ places_from (hears_node up x) (suc k) rs else places_from (hears_node up x) (suc k) rs)) [
+    elim (hears_node up x r) as (λ b. (if b then k ∷ ordinals_from (hears_node up x) (suc k) (delivered_from (suc j) cs rs) else ordinals_from (hears_node up x) (suc k) (delivered_from (suc j) cs rs)) ≡ (if b then k ∷ ordinals_from (hears_node up x) (suc k) rs else ordinals_from (hears_node up x) (suc k) rs)) [
       | true ↦ ap (λ (ks : List ℕ). k ∷ ks) (places-told up x (suc k) (suc j) cs rs)
       | false ↦ places-told up x (suc k) (suc j) cs rs
     ]
 
 pub known-delivered : (up : Above) (cs : List (ℕ × Notice)) (rs : List Listed) (h : Hearers) → AreKnown up rs h → AreKnown up (delivered cs rs) h
 known-delivered up cs rs h known =
-    elim h.node as (λ o. IfSome o (λ x. h.places.items ≡ hearers up x rs) → IfSome o (λ x. h.places.items ≡ hearers up x (delivered cs rs))) [
+    elim h.node as (λ o. IfSome o (λ x. h.ordinals.items ≡ hearers up x rs) → IfSome o (λ x. h.ordinals.items ≡ hearers up x (delivered cs rs))) [
       | None ↦ λ _. tt
       | Some x ↦ λ is. is ∙ sym (places-told up x 0 0 cs rs)
     ] known

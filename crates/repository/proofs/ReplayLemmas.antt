@@ -27,8 +27,8 @@ use Rattle.models.specs.Legal as models
 use Rattle.models.specs.Model.{Model, reading}
 use Rattle.models.specs.Reading.{Reading, all_features_of, at_end, held_at, is_within}
 use Rattle.handshake.specs.Named.{node_refusal}
-use Rattle.handshake.specs.Telling.{has_flag}
-use Rattle.handshake.specs.Tellings as planned_chain
+use Rattle.handshake.specs.FeatureChange.{has_flag}
+use Rattle.handshake.specs.FeatureChanges as planned_chain
 use Rattle.handshake.specs.declared.change.Change.{Change}
 use Rattle.handshake.specs.declared.change.Change.TheVariants as change
 use Rattle.handshake.proofs.AllLemmas.{chain-replays}

@@ -14,7 +14,7 @@ use Rattle.models.specs.Legal.{is_short_text}
 use Rattle.models.specs.Reading.{has_uri}
 use Rattle.handshake.specs.Effects as effects
 use Rattle.handshake.specs.Plans.{is_memory_refusal}
-use Rattle.handshake.specs.Tellings.{chain}
+use Rattle.handshake.specs.FeatureChanges.{chain}
 use Rattle.handshake.specs.declared.change.Change.TheVariants.{NewResource}
 use Rattle.repository.specs.Answers.{answer_of}
 use Rattle.repository.specs.Run.{Executed, IsWanting, is_memory, is_plain, may_want_memory}

@@ -13,7 +13,7 @@ use Rattle.mm_types.specs.declared.numbers.Node.TheVariants as node
 use Rattle.mm_types.specs.declared.value.Value.TheVariants as value
 use Rattle.links.specs.Holders.{above, holder}
 use Rattle.links.specs.Links.{end}
-use Rattle.links.proofs.HolderLemmas.{holder-some, place_held}
+use Rattle.links.proofs.HolderLemmas.{holder-some, indexed_held}
 use Rattle.models.specs.Legal as models
 use Rattle.models.specs.Model.{Model, reading}
 use Rattle.models.specs.Reading.{is_within}
@@ -30,7 +30,7 @@ contained-live : (s : Model) → models.IsLegal s → (o : ObjectNo) (e : End) �
 contained-live s legal o e held =
     let n = node.Object o in
     let l = holder-some s.links n e held in
-    let at = place_held l.0 n e (legal.links.set.placed.sides l.0 l.1) l.2 in
+    let at = indexed_held l.0 n e (legal.links.set.placed.sides l.0 l.1) l.2 in
     let there = (legal.links.set.placed.ends e).has at.0 (node_value n) (l.0, l.1, at.1) in
     let taken = (legal-at (reading s) e (end s.links e) at.0 (value.Object o) (legal.links.ends e) there).1 in
     let live = taken-live s.metamodel (reading s).class e.feature o taken in

@@ -11,7 +11,7 @@ use Rattle.notice_chain.specs.declared.notice.Notice.{Notice}
 use Rattle.handshake.specs.Effects.{after}
 use Rattle.handshake.specs.Plans.{edits_values_alone}
 use Rattle.handshake.specs.Refusals.{early_refusal, late_refusal}
-use Rattle.handshake.specs.Tellings.{chain}
+use Rattle.handshake.specs.FeatureChanges.{chain}
 use Rattle.handshake.specs.declared.change.Change.{Change}
 use Rattle.handshake.specs.declared.change.Change.TheVariants.{Create, Set, Unset, Add, Remove, RemoveValue, Move, Delete}
 use Rattle.repository.specs.Answers.{IsEarlyAnswer, answer_of, is_answered_late}

@@ -22,7 +22,7 @@ use Rattle.mm_types.specs.declared.numbers.FeatureNo.{FeatureNo}
 use Rattle.mm_types.specs.declared.numbers.ObjectNo.{ObjectNo}
 use Rattle.fragment_paths.specs.Fragments.{fragment}
 use Rattle.fragment_paths.specs.Finding.{at}
-use Rattle.saved_docs.specs.Document.{saved}
+use Rattle.doc_writer.specs.Document.{saved}
 use Rattle.snapshots.specs.Snapshots.{snapshot_of}
 use Rattle.repository.specs.Loads.{objects_of, reads_into}
 use Rattle.handshake.specs.Resolving.{target_at}

@@ -13,7 +13,7 @@ use Rattle.models.specs.Reading.{held_at, is_within}
 use Rattle.notice_chain.specs.Listed.{Listed, adapter}
 use Rattle.notice_chain.specs.Replay.{replayed_all}
 use Rattle.notice_chain.specs.View.{View}
-use Rattle.handshake.specs.Telling.{has_flag}
+use Rattle.handshake.specs.FeatureChange.{has_flag}
 use Rattle.repository.specs.Refusals.{chain}
 use Rattle.repository.specs.Run.{run}
 use Rattle.repository.specs.State.{State, IsLegal, is_there, reads}

@@ -15,7 +15,7 @@ use Rattle.models.specs.Reading.{Reading, has_uri}
 use Rattle.handshake.specs.Named.{feature_refusal, node_refusal, object_refusal}
 use Rattle.handshake.specs.Plans.{is_memory_refusal}
 use Rattle.handshake.specs.Refusals as planned
-use Rattle.handshake.specs.Tellings as planned_chain
+use Rattle.handshake.specs.FeatureChanges as planned_chain
 use Rattle.handshake.specs.declared.change.Change.{Change}
 use Rattle.handshake.specs.declared.change.Change.TheVariants as change
 use Rattle.repository.specs.Loads.{load_of, load_refusal, reads_into}
@@ -26,7 +26,7 @@ use Rattle.web_uris.specs.Joined.{joined}
 use Rattle.models.specs.Legal.{is_short_text}
 use Rattle.web_uris.specs.Addresses.{has_mark}
 use Rattle.fragment_paths.specs.Fragments.{fragment}
-use Rattle.saved_docs.specs.Saved.{save_refusal}
+use Rattle.doc_writer.specs.Saved.{save_refusal}
 
 -- the change that a command makes of the model, if it makes one; a text is loaded as what it is read as
 abbrev pub change_of : Reading → Command View → Option Change

@@ -14,7 +14,7 @@ use Rattle.models.specs.Model.{Model, model_of}
 use Rattle.models.specs.Reading.{Reading, at_end, has_resource}
 use Rattle.models.specs.Steady.{HasSteadyTexts}
 use Rattle.notice_chain.specs.View.{View}
-use Rattle.saved_docs.specs.Saved.{IsReadAs}
+use Rattle.doc_writer.specs.Saved.{IsReadAs}
 use Rattle.handshake.specs.Resolving.{proxy_at}
 use Rattle.reloading.specs.Alike.{Alike}
 use Rattle.reloading.specs.Between.{Between}

@@ -49,7 +49,7 @@ pub enum Command<A = Box<dyn Adapter>> {
     Delete(ObjectNo),
     /// Makes a resource of the URI that a text gives (EMF: ResourceSet.createResource).
     CreateResource(Text),
-    /// Puts the object at the address of the proxy at an index of a reference in its place (EMF: EcoreUtil.resolve).
+    /// Puts the object at the address of the proxy at an index of a reference instead of it (EMF: EcoreUtil.resolve).
     Resolve {
         object: ObjectNo,
         feature: FeatureNo,

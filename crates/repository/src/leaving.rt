@@ -71,8 +71,8 @@ fn spots_with<A: Adapter>(
 {
     let places = adapters.touched(&removal.objects)?;
     let mut spots = Vec::new(alloc);
-    for place in &places {
-        if let Some((no, targets)) = adapters.at(*place) {
+    for ordinal in &places {
+        if let Some((no, targets)) = adapters.at(*ordinal) {
             add_gone(&mut spots, removal, no, targets)?;
         }
     }

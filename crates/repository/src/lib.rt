@@ -8,8 +8,8 @@ pub mod laws;
 mod leaving;
 mod lone_puts;
 mod preparing;
-mod reads;
 mod remembered;
+mod replies;
 mod reply;
 mod repository;
 

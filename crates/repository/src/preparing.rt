@@ -81,7 +81,7 @@ pub(crate) fn prepare_values<L: LinkStore>(
     ensures planned { IfOk result (λ p. IsPlanOf false model.now change (of_values p.1)) }
     ensures refused { IfErr result (λ r. IsPlanRefusal model.now change r) }
 {
-    model.is_legal();
+    model.lemma_is_legal();
     let answer = early_answer(alloc, model, &change)?;
     let values = plan_values(alloc, model, change)?;
     Ok((answer.unwrap_or(Answer::Done), values))
@@ -132,7 +132,7 @@ fn early_answer<L: LinkStore>(
     requires proper { (text : List ℕ) × IsProper (reading model.now) text change.now }
     ensures { IfOk result (λ q. (rs : List Listed) (text : List ℕ) → IsProper (reading model.now) text change.now → IsEarlyAnswer (is_answered_late change.now) (answer_of (reading model.now) rs (command_of text change.now)) q) }
 {
-    model.is_legal();
+    model.lemma_is_legal();
     match change {
         Change::Delete(_) | Change::Resolve { .. } | Change::ResolveAll => Ok(None),
         Change::Create(_) => Ok(Some(Answer::Object(next_object(model)))),
@@ -168,7 +168,7 @@ fn early_answer<L: LinkStore>(
 pub(crate) fn next_object<L: LinkStore>(model: &ModelRef<L>) -> ObjectNo
     ensures { result ≡ record { 0 = (reading model.now).next } }
 {
-    model.is_legal();
+    model.lemma_is_legal();
     ObjectNo(model.next() as u32)
 }
 
@@ -191,7 +191,7 @@ fn planned_answer(
     }
 }
 
-/// The value at a place of a list, as an answer. Errs only if memory is refused.
+/// The value at a position of a list, as an answer. Errs only if memory is refused.
 fn value_answer<L: LinkStore>(
     alloc: Global,
     model: &ModelRef<L>,

@@ -64,7 +64,7 @@ impl<L: LinkStore, A: Adapter> Repository<L, A> {
     pub fn new(alloc: Global, meta: Meta) -> Self
         ensures { result ≡ s.empty_state meta }
     {
-        meta.is_of_document();
+        meta.lemma_is_of_document();
         Repository {
             alloc,
             meta,
@@ -91,7 +91,7 @@ impl<L: LinkStore, A: Adapter> Repository<L, A> {
     }
 
     /// What holds of every repository, for proofs that know it by its view: its state is legal.
-    pub fn is_legal(&self)
+    pub fn lemma_is_legal(&self)
         ensures { s.IsLegal self.now }
     {
         let _ = &self.alloc;

@@ -16,10 +16,10 @@ use Rattle.mm_types.specs.declared.document_fault.DocFault.{DocFault}
 use Rattle.mm_types.specs.declared.document_fault.DocFault.TheVariants as cause
 use Rattle.mm_types.specs.declared.numbers.ObjectNo.{ObjectNo}
 use Rattle.web_uris.specs.Paths.{new_path}
-use Rattle.doc_parts.specs.Found.{Knows, roots_from}
+use Rattle.doc_parts.specs.FoundParts.{Knows, roots_from}
 use Rattle.doc_parts.specs.Layout.{Top, new_top, top}
 use Rattle.doc_parts.specs.Parts.{Part, list_of, parts, parts_from, root_parts}
-use Rattle.doc_parts.specs.declared.found.Found.{Found}
+use Rattle.doc_parts.specs.declared.found.FoundParts.{FoundParts}
 use Rattle.doc_parts.proofs.DataLemmas.{list_of-items_of}
 use Rattle.doc_parts.proofs.DepthLemmas.{parts_within}
 use Rattle.resource_docs.specs.Causes.{cause_of, reads, reads_bytes, reads_if, sense_cause, shape_cause, unless_faulty}
@@ -82,7 +82,7 @@ count_roots vs rs are =
     omega (arith, a, b, c, d)
 
 -- enough levels find the parts of a document
-pub found_parts : (m : Metamodel) (f : Found) (n : ℕ) (d : Data) (format : ℤ) (vs : List json.Value) → depth d ≤ n → top d ≡ Some (new_top format (items_view vs))
+pub found_parts : (m : Metamodel) (f : FoundParts) (n : ℕ) (d : Data) (format : ℤ) (vs : List json.Value) → depth d ≤ n → top d ≡ Some (new_top format (items_view vs))
     → Knows m f (flat_map (parts_from m n) (roots_from (map view vs))) → Knows m f (parts m d)
 found_parts m f n d format vs deep here known =
     subst (Knows m f) (sym (parts_within m n d deep ∙ ap (flat_map (parts_from m n)) (roots_are d format vs here))) known

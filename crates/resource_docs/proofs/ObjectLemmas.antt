@@ -7,10 +7,10 @@ use Rattle.serde_json.specs.Data.{Members, null}
 use Rattle.mm_types.specs.Resolved.{Metamodel}
 use Rattle.mm_types.specs.declared.numbers.FeatureNo.{FeatureNo}
 use Rattle.web_uris.specs.Paths.{new_path}
-use Rattle.doc_parts.specs.Found.{Knows, row_seen, seen}
+use Rattle.doc_parts.specs.FoundParts.{Knows, part_seen, seen}
 use Rattle.doc_parts.specs.Parts.{Part, entry_at}
-use Rattle.doc_parts.specs.declared.found.Found.{Found}
-use Rattle.doc_parts.specs.declared.found.Row.{Row}
+use Rattle.doc_parts.specs.declared.found.FoundParts.{FoundParts}
+use Rattle.doc_parts.specs.declared.found.FoundPart.{FoundPart}
 use Rattle.doc_parts.proofs.KnowLemmas.{count_known}
 use Rattle.resource_docs.proofs.ReadingLemmas.{filter_map-push}
 
@@ -33,14 +33,14 @@ no_part = record { path = new_path 0 []; json = null }
 pub part_at : List Part → ℕ → Part
 part_at ps i = get_or ps i no_part
 
-pub parts_more : (m : Metamodel) (f : Found) (ps : List Part) (i : ℕ) → Knows m f ps → i < length f.rows.items → take i ps ++ part_at ps i ∷ [] ≡ take (i + 1) ps
+pub parts_more : (m : Metamodel) (f : FoundParts) (ps : List Part) (i : ℕ) → Knows m f ps → i < length f.parts.items → take i ps ++ part_at ps i ∷ [] ≡ take (i + 1) ps
 unfolding part_at
-parts_more m f ps i known below = let e = count_known m ps f.rows.items known.rows in sym (take_more ps i no_part (omega (arith, below, e)))
+parts_more m f ps i known below = let e = count_known m ps f.parts.items known.parts in sym (take_more ps i no_part (omega (arith, below, e)))
 
-pub row_of_part : (m : Metamodel) (f : Found) (ps : List Part) (i : ℕ) (r : Row) → Knows m f ps → i < length f.rows.items → r ≡ get_or f.rows.items i r → row_seen r ≡ seen m ps (part_at ps i)
+pub row_of_part : (m : Metamodel) (f : FoundParts) (ps : List Part) (i : ℕ) (r : FoundPart) → Knows m f ps → i < length f.parts.items → r ≡ get_or f.parts.items i r → part_seen r ≡ seen m ps (part_at ps i)
 unfolding part_at
 row_of_part m f ps i r known below is =
-    ap row_seen is
-    ∙ sym (get_or-map row_seen f.rows.items i r (row_seen r) below)
-    ∙ ap (λ ss. get_or ss i (row_seen r)) known.rows
-    ∙ (let e = count_known m ps f.rows.items known.rows in get_or-map (seen m ps) ps i no_part (row_seen r) (omega (arith, below, e)))
+    ap part_seen is
+    ∙ sym (get_or-map part_seen f.parts.items i r (part_seen r) below)
+    ∙ ap (λ ss. get_or ss i (part_seen r)) known.parts
+    ∙ (let e = count_known m ps f.parts.items known.parts in get_or-map (seen m ps) ps i no_part (part_seen r) (omega (arith, below, e)))

@@ -9,9 +9,9 @@ use Rattle.mm_types.specs.declared.numbers.FeatureNo.{FeatureNo}
 use Rattle.mm_types.specs.declared.value.Value.{Value}
 use Rattle.web_uris.specs.declared.path.Path.{Path}
 use Rattle.doc_parts.specs.Faults.{of_entry}
-use Rattle.doc_parts.specs.Found.{Knows}
+use Rattle.doc_parts.specs.FoundParts.{Knows}
 use Rattle.doc_parts.specs.Parts.{Entry, Part, number_of}
-use Rattle.doc_parts.specs.declared.found.Found.{Found}
+use Rattle.doc_parts.specs.declared.found.FoundParts.{FoundParts}
 use Rattle.resource_docs.specs.Read.{contents_read, object_read, values_read}
 use Rattle.resource_docs.specs.Texts.{Base}
 use Rattle.resource_docs.specs.Values.{IsProxyValue, has_lost, is_lost, value_of}
@@ -22,7 +22,7 @@ use Rattle.resource_docs.specs.declared.objects.ReadObjects.{ReadObjects}
 use Rattle.resource_docs.specs.declared.values.ReadValues.{ReadValues}
 
 -- something holds of the path whose first part has a number, whatever the parts that were found
-abbrev pub Numbered : Metamodel → Found → ℕ → (List Part → Path → Type 0) → Type 0
+abbrev pub Numbered : Metamodel → FoundParts → ℕ → (List Part → Path → Type 0) → Type 0
 Numbered m f n says = (ps : List Part) (path : Path) → Knows m f ps → number_of ps path ≡ Some n → says ps path
 
 ---------------------------------------------------------------- values under a feature

@@ -1,7 +1,7 @@
 -- What the text of a reference leads to: an object of the document itself, or one of another resource.
 use Rattle.std.specs.Prelude.{◌≡◌, ℕ, List, [], ◌∷◌, Option, Some, option_map, if◌then◌else◌}
 use Rattle.std.specs.Str.{bytes_eq}
-use Rattle.json_rows.specs.Rows.{◌>>=◌}
+use Rattle.json_fields.specs.Fields.{◌>>=◌}
 use Rattle.web_uris.specs.Addresses.{IsSteadyProxy, address_text, fragment_part, has_mark, uri_part}
 use Rattle.web_uris.specs.Joined.{IsWebUri, joined}
 use Rattle.web_uris.specs.Paths.{parse}

@@ -4,7 +4,7 @@ use Rattle.std.specs.List.{list_any}
 use Rattle.std.specs.Option.{option_map_or}
 use Rattle.serde_json.specs.Data.{Data}
 use Rattle.serde_json.specs.Find.{as_str}
-use Rattle.json_rows.specs.Rows.{◌>>=◌}
+use Rattle.json_fields.specs.Fields.{◌>>=◌}
 use Rattle.mm_types.specs.Lookups as lookups
 use Rattle.mm_types.specs.Resolved.{Metamodel}
 use Rattle.mm_types.specs.Shapes.{shape}

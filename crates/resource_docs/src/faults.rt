@@ -5,7 +5,7 @@ ghost use Rattle.mm_types.specs.Shapes.{contents_shape, is_bounded};
 ghost use Rattle.serde_json.specs.Data.{Data};
 ghost use Rattle.serde_json.specs.View.{items_view};
 ghost use Rattle.doc_parts.specs.Faults.{of_entry};
-ghost use Rattle.doc_parts.specs.Found.{Knows};
+ghost use Rattle.doc_parts.specs.FoundParts.{Knows};
 ghost use Rattle.doc_parts.specs.Layout.{new_top, top as top_meant};
 ghost use Rattle.doc_parts.specs.Parts.{Part, root_parts};
 ghost use Rattle.resource_docs.specs.Causes.{has_first_format as first_meant, sense_cause as sense_meant, shape_cause as shape_meant};
@@ -18,8 +18,8 @@ use crate::ends::has_one_sided;
 use crate::repeats::has_repeats;
 use crate::source::Source;
 use doc_parts::{
-    Found, TopMembers, has_deep, has_long_list, has_misshapen, has_other_value, has_unknown_class,
-    has_unknown_feature,
+    FoundParts, TopMembers, has_deep, has_long_list, has_misshapen, has_other_value,
+    has_unknown_class, has_unknown_feature,
 };
 use mm_meta::Meta;
 use mm_types::{DocFault, limits};
@@ -33,7 +33,7 @@ pub(crate) fn has_first_format(top: TopMembers) -> bool
 }
 
 /// What is wrong with the shape of what is written, or with its names and types. Takes no memory.
-pub(crate) fn shape_cause(meta: &Meta, top: TopMembers, found: &Found) -> Option<DocFault>
+pub(crate) fn shape_cause(meta: &Meta, top: TopMembers, found: &FoundParts) -> Option<DocFault>
     ensures { (ps : List Part) → Knows meta.now found.now ps → result ≡ shape_meant meta.now (Some (new_top top.entry.format (items_view top.entry.roots.now.items))) ps }
 {
     if has_misshapen(found) {

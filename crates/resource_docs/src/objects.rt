@@ -2,7 +2,7 @@
 ghost use Rattle.std.specs.Prelude.{◌≡◌, ◌++◌, ◌∷◌, [], IfOk, List, OnOk, false, filter_map, option_to_list};
 ghost use Rattle.std.specs.List.{All};
 ghost use Rattle.serde_json.specs.View.{members_view};
-ghost use Rattle.doc_parts.specs.Found.{Knows, row_seen, seen};
+ghost use Rattle.doc_parts.specs.FoundParts.{Knows, part_seen, seen};
 ghost use Rattle.doc_parts.specs.Parts.{Entry, Part, entries, entry_at};
 ghost use Rattle.resource_docs.specs.Reading.{IsProxyContent, IsProxyObject, Numbered, contents_so_far, objects_so_far, with_values};
 ghost use Rattle.resource_docs.specs.Texts.{base_of};
@@ -11,7 +11,7 @@ ghost use Rattle.resource_docs.specs.Values.{IsProxyValue};
 use crate::doc::{Content, DocObject};
 use crate::source::Source;
 use crate::values::{ReadValues, read_content};
-use doc_parts::{Row, content_at};
+use doc_parts::{FoundPart, content_at};
 use mm_types::{ClassNo, FeatureNo, Seq};
 use serde_json::{Map, Value as JsonValue};
 use std::alloc::{AllocError, Global};
@@ -95,14 +95,14 @@ fn read_features(
 }
 
 /// Reads what is written in the object of a part.
-fn read_contents(source: &Source, row: &Row) -> Result<ReadContents, AllocError>
-    ensures value { IfOk result (λ r. (ps : List Part) (p : Part) → Knows source.now.meta.now source.now.found.now ps → row_seen row.now ≡ seen source.now.meta.now ps p
+fn read_contents(source: &Source, part: &FoundPart) -> Result<ReadContents, AllocError>
+    ensures value { IfOk result (λ r. (ps : List Part) (p : Part) → Knows source.now.meta.now source.now.found.now ps → part_seen part.now ≡ seen source.now.meta.now ps p
         → r ≡ contents_so_far source.now.meta.now (base_of source.now.uri.now) ps p.path (entries source.now.meta.now p.json)) }
     ensures proxy { IfOk result (λ r. All IsProxyContent r.contents) }
 {
-    match row.known {
+    match part.known {
         Some((class, members)) => match source.meta.features(class) {
-            Some(features) => read_features(source, row.number, members, features),
+            Some(features) => read_features(source, part.number, members, features),
             None => Ok(no_contents(source.alloc)),
         },
         None => Ok(no_contents(source.alloc)),
@@ -110,14 +110,14 @@ fn read_contents(source: &Source, row: &Row) -> Result<ReadContents, AllocError>
 }
 
 /// Reads the object of one more part.
-fn add_object(read: &mut ReadObjects, source: &Source, row: &Row) -> Result<(), AllocError>
-    ensures value { OnOk result ((ps qs : List Part) (p : Part) → Knows source.now.meta.now source.now.found.now ps → row_seen row.now ≡ seen source.now.meta.now ps p
+fn add_object(read: &mut ReadObjects, source: &Source, part: &FoundPart) -> Result<(), AllocError>
+    ensures value { OnOk result ((ps qs : List Part) (p : Part) → Knows source.now.meta.now source.now.found.now ps → part_seen part.now ≡ seen source.now.meta.now ps p
         → read.old ≡ objects_so_far source.now.meta.now (base_of source.now.uri.now) ps qs
         → read.new ≡ objects_so_far source.now.meta.now (base_of source.now.uri.now) ps (qs ++ p ∷ [])) }
     ensures proxy { OnOk result (All IsProxyObject read.old.objects → All IsProxyObject read.new.objects) }
 {
-    let ReadContents { contents, is_lost } = read_contents(source, row)?;
-    let class = match row.known {
+    let ReadContents { contents, is_lost } = read_contents(source, part)?;
+    let class = match part.known {
         Some((class, _)) => class,
         None => ClassNo(0),
     };
@@ -136,8 +136,8 @@ pub(crate) fn read_objects(source: &Source) -> Result<ReadObjects, AllocError>
         objects: Seq::new(source.alloc),
         is_lost: false,
     };
-    'rows: for row in source.found.rows.as_slice() {
-        add_object(&mut read, source, row)?;
+    'parts: for part in source.found.parts.as_slice() {
+        add_object(&mut read, source, part)?;
     }
     Ok(read)
 }

@@ -3,7 +3,7 @@ ghost use Rattle.std.specs.Prelude.{◌≡◌, ◌≤◌, Some, false, map};
 ghost use Rattle.std.specs.Option.{option_map_or};
 ghost use Rattle.serde_json.specs.Data.{Data, depth};
 ghost use Rattle.serde_json.specs.View.{items_view, view};
-ghost use Rattle.doc_parts.specs.Found.{Knows, roots_from};
+ghost use Rattle.doc_parts.specs.FoundParts.{Knows, roots_from};
 ghost use Rattle.doc_parts.specs.Layout.{new_top, top as top_meant};
 ghost use Rattle.doc_parts.specs.Parts.{parts, root_parts};
 ghost use Rattle.resource_docs.specs.Causes.{Answers, Reads, has_first_format as first_meant, reads, sense_cause as sense_meant, unless_faulty};
@@ -109,7 +109,7 @@ fn read_value(alloc: Global, meta: &Meta, uri: &str, json: &JsonValue) -> Result
 /// - `Cross` if its format is 1, and a reference with an opposite leads to a different resource;
 /// - `Depth` if an object is below level 40.
 ///
-/// `Memory` if memory was refused, or if there are more than 2^32 objects or values, whatever else applies; no other
+/// `Memory` if memory is refused, or if there are more than 2^32 objects or values, whatever else applies; no other
 /// refusal. References into other resources become proxies, by their joined URIs. The time is linear in the document,
 /// but for the logarithm that the keys of a large object cost.
 pub fn read_doc(alloc: Global, meta: &Meta, uri: &str, bytes: &[u8]) -> Result<Doc, Refused>

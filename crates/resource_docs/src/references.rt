@@ -1,16 +1,16 @@
 //! What the text of a reference is read as, among the parts that were found.
 ghost use Rattle.std.specs.Prelude.{◌≡◌, IfOk, IfSome, List, None, Some, if◌then◌else◌, slice_get};
 ghost use Rattle.serde_json.specs.View.{view};
-ghost use Rattle.doc_parts.specs.Found.{Knows, conforms_seen, row_seen};
+ghost use Rattle.doc_parts.specs.FoundParts.{Knows, conforms_seen, part_seen};
 ghost use Rattle.doc_parts.specs.Parts.{Part};
-ghost use Rattle.doc_parts.specs.declared.found.Row.{Row};
+ghost use Rattle.doc_parts.specs.declared.found.FoundPart.{FoundPart};
 ghost use Rattle.resource_docs.specs.Texts.{IsProxyTarget, base_of};
 ghost use Rattle.resource_docs.specs.Values.{IsProxyValue, led_to as led_meant, object_of, reference_value as value_meant};
 ghost use Rattle.resource_docs.specs.declared.target.Target.TheVariants.{Here};
 
 use crate::source::Source;
 use crate::target::{Target, target_of};
-use doc_parts::{Found, Row};
+use doc_parts::{FoundPart, FoundParts};
 use mm_meta::Meta;
 use mm_types::{ClassNo, ObjectNo, Value};
 use serde_json::Value as JsonValue;
@@ -18,28 +18,28 @@ use std::alloc::AllocError;
 use web_uris::Path;
 
 /// Whether the object of a part conforms to a class.
-fn conforms_to(meta: &Meta, class: ClassNo, row: Row) -> bool
-    ensures { result ≡ conforms_seen meta.now class (row_seen row.entry) }
+fn conforms_to(meta: &Meta, class: ClassNo, part: FoundPart) -> bool
+    ensures { result ≡ conforms_seen meta.now class (part_seen part.entry) }
 {
-    match row.known {
+    match part.known {
         Some((own, _)) => meta.conforms(own, class),
         None => false,
     }
 }
 
 /// The object of a number, if it conforms to a class.
-fn object_of_number(meta: &Meta, found: &Found, class: ClassNo, number: u32) -> Option<Value>
-    ensures value { (r : Row) → slice_get found.now.rows.items number ≡ Some r → result ≡ (if conforms_seen meta.now class (row_seen r) then Some (object_of number) else None) }
+fn object_of_number(meta: &Meta, found: &FoundParts, class: ClassNo, number: u32) -> Option<Value>
+    ensures value { (r : FoundPart) → slice_get found.now.parts.items number ≡ Some r → result ≡ (if conforms_seen meta.now class (part_seen r) then Some (object_of number) else None) }
     ensures proxy { IfSome result IsProxyValue }
 {
-    match found.rows.as_slice().get(number as usize).copied() {
-        Some(row) if conforms_to(meta, class, row) => Some(Value::Object(ObjectNo(number))),
+    match found.parts.as_slice().get(number as usize).copied() {
+        Some(part) if conforms_to(meta, class, part) => Some(Value::Object(ObjectNo(number))),
         _ => None,
     }
 }
 
 /// The object that a path leads to, if it conforms to a class.
-fn object_at(meta: &Meta, found: &Found, class: ClassNo, path: &Path) -> Option<Value>
+fn object_at(meta: &Meta, found: &FoundParts, class: ClassNo, path: &Path) -> Option<Value>
     ensures value { (ps : List Part) → Knows meta.now found.now ps → result ≡ led_meant meta.now ps class (Here path.now) }
     ensures proxy { IfSome result IsProxyValue }
 {
@@ -49,7 +49,7 @@ fn object_at(meta: &Meta, found: &Found, class: ClassNo, path: &Path) -> Option<
     }
 }
 
-fn led_to(meta: &Meta, found: &Found, class: ClassNo, target: Target) -> Option<Value>
+fn led_to(meta: &Meta, found: &FoundParts, class: ClassNo, target: Target) -> Option<Value>
     ensures value { (ps : List Part) → Knows meta.now found.now ps → result ≡ led_meant meta.now ps class target }
     ensures proxy { IsProxyTarget target → IfSome result IsProxyValue }
 {

@@ -3,23 +3,27 @@ ghost use Rattle.std.specs.Prelude.{◌≡◌, ◌++◌, [], IfOk, List, OnOk, f
 ghost use Rattle.mm_types.specs.Resolved.{Metamodel};
 ghost use Rattle.serde_json.specs.View.{view};
 ghost use Rattle.web_uris.specs.Paths.{new_path};
-ghost use Rattle.doc_parts.specs.Found.{Knows, roots_from};
+ghost use Rattle.doc_parts.specs.FoundParts.{Knows, roots_from};
 ghost use Rattle.doc_parts.specs.Parts.{Part};
 ghost use Rattle.resource_docs.specs.Read.{root_number};
 
-use doc_parts::{Found, Place};
+use doc_parts::{FoundParts, PartKey};
 use mm_types::{ObjectNo, Seq};
 use serde_json::Value as JsonValue;
 use std::alloc::{AllocError, Global};
 
 /// Adds the number of the root at a position.
-fn add_root(roots: &mut Seq<ObjectNo>, found: &Found, position: usize) -> Result<(), AllocError>
+fn add_root(
+    roots: &mut Seq<ObjectNo>,
+    found: &FoundParts,
+    position: usize,
+) -> Result<(), AllocError>
     ensures { OnOk result ((m : Metamodel) (ps : List Part) → Knows m found.now ps → roots.new ≡ roots.old ++ option_to_list (root_number ps (new_path position []))) }
 {
     if position > u32::MAX as usize {
         return Err(AllocError);
     }
-    match found.numbers.at(Place::Root(position as u32)) {
+    match found.numbers.at(PartKey::Root(position as u32)) {
         Some(number) => roots.push(ObjectNo(number))?,
         None => {}
     }
@@ -29,7 +33,7 @@ fn add_root(roots: &mut Seq<ObjectNo>, found: &Found, position: usize) -> Result
 /// The numbers of the roots. Errs only if memory is refused, or if there are more than 2^32 of them.
 pub(crate) fn read_roots(
     alloc: Global,
-    found: &Found,
+    found: &FoundParts,
     roots: &[JsonValue],
 ) -> Result<Seq<ObjectNo>, AllocError>
     ensures { IfOk result (λ r. (m : Metamodel) (ps : List Part) → Knows m found.now ps → r ≡ filter_map (λ p. root_number ps p.path) (roots_from (map view roots.now))) }

@@ -1,5 +1,5 @@
 //! What a document is read with.
-use doc_parts::Found;
+use doc_parts::FoundParts;
 use mm_meta::Meta;
 use std::alloc::Global;
 
@@ -9,5 +9,5 @@ pub(crate) struct Source<'r, 'v, 'm> {
     pub alloc: Global,
     pub meta: &'r Meta,
     pub uri: &'r str,
-    pub found: &'r Found<'v, 'm>,
+    pub found: &'r FoundParts<'v, 'm>,
 }

@@ -11,7 +11,7 @@ ghost use Rattle.resource_docs.specs.Values.{IsProxyValue, is_link as link_meant
 
 use crate::references::reference_value;
 use crate::source::Source;
-use doc_parts::{Place, attribute_value, values_of};
+use doc_parts::{PartKey, attribute_value, values_of};
 use mm_types::{FeatureNo, Kind, ObjectNo, Seq, Value};
 use serde_json::Value as JsonValue;
 use std::alloc::AllocError;
@@ -28,7 +28,7 @@ fn part_at(source: &Source, number: u32, name: &str, index: Option<u32>) -> Opti
     ensures value { Numbered source.now.meta.now source.now.found.now number (λ ps path. result ≡ option_map object_of (number_of ps (with_step path (new_step name.now index)))) }
     ensures proxy { IfSome result IsProxyValue }
 {
-    match source.found.numbers.at(Place::Under {
+    match source.found.numbers.at(PartKey::Under {
         part: number,
         name,
         index,

@@ -5,7 +5,7 @@ use Rattle.std.proofs.lemmas.Bool.{and_parts, false≢true}
 use Rattle.std.proofs.lemmas.Bool.Decides.{nat_tests}
 use Rattle.serde_json.specs.Data.{Data, null, string}
 use Rattle.serde_json.specs.Find.{as_i64, of_integer}
-use Rattle.json_rows.specs.Rows.{◌such_that◌}
+use Rattle.json_fields.specs.Fields.{◌such_that◌}
 use Rattle.mm_types.specs.Integers.{is_of_bits}
 use Rattle.mm_types.specs.Lookups as lookups
 use Rattle.mm_types.specs.OfDocument.{IsOfDocument}
@@ -23,7 +23,7 @@ use Rattle.models.specs.Legal as legal
 use Rattle.models.specs.Reading.{Reading}
 use Rattle.doc_parts.specs.Contents.{attribute_value, is_short, text_value}
 use Rattle.mm_types.specs.Lookups.{literal_in}
-use Rattle.saved_docs.specs.Document.{value_data}
+use Rattle.doc_writer.specs.Document.{value_data}
 use Rattle.round_trip.proofs.LiteralLemmas.{literal-read}
 use Rattle.round_trip.specs.Copied.{renamed}
 

@@ -36,9 +36,9 @@ use Rattle.doc_parts.specs.Faults.{is_deep, is_long, of_entry}
 use Rattle.doc_parts.specs.Layout.{top}
 use Rattle.doc_parts.specs.Parts.{Part, parts, values_of}
 use Rattle.doc_parts.proofs.DataLemmas.{list_any-map}
-use Rattle.saved_docs.specs.Document.{document, value_data}
-use Rattle.saved_docs.specs.Saved.{IsReadAs, is_too_deep}
-use Rattle.saved_docs.specs.Written.{level, objects_in}
+use Rattle.doc_writer.specs.Document.{document, value_data}
+use Rattle.doc_writer.specs.Saved.{IsReadAs, is_too_deep}
+use Rattle.doc_writer.specs.Written.{level, objects_in}
 use Rattle.resource_docs.specs.Causes.{cause_of, has_cross, has_first_format, has_many_roots, has_repeat, of_content, reads, reads_bytes, reads_if, repeats_value, sense_cause, shape_cause, unless_faulty}
 use Rattle.resource_docs.specs.Read.{doc_read}
 use Rattle.resource_docs.specs.Texts.{Base, base_of}

@@ -32,11 +32,11 @@ use Rattle.web_uris.specs.declared.path.Path.{Path}
 use Rattle.fragment_paths.proofs.ObjectLemmas as ends
 use Rattle.fragment_paths.proofs.ObjectLemmas.{objects-get}
 use Rattle.fragment_paths.proofs.UpLemmas.{path-part}
-use Rattle.fragment_paths.specs.Fragments.{path_of, place_in, step_into}
+use Rattle.fragment_paths.specs.Fragments.{path_of, position_in, step_into}
 use Rattle.doc_parts.proofs.DataLemmas.{list_of-items_of}
 use Rattle.doc_parts.specs.Parts.{Part, entries, list_of, parts_in, step_to, values_of}
-use Rattle.saved_docs.specs.Document.{value_data}
-use Rattle.saved_docs.specs.Written.{is_written}
+use Rattle.doc_writer.specs.Document.{value_data}
+use Rattle.doc_writer.specs.Written.{is_written}
 use Rattle.round_trip.specs.Parts.{data_of, entry_of, part_of, path_in}
 use Rattle.round_trip.proofs.ContainLemmas.{one-value, plain-containment, reference-plain, set-by, values-are}
 use Rattle.round_trip.proofs.LevelLemmas.{live-under}
@@ -83,7 +83,7 @@ pub own-path : (x : Option Path) (p : Path) → x ≡ Some p → x ≡ Some (unw
 own-path x p is = is ∙ ap Some (sym (ap (λ (y : Option Path). unwrap_or y (new_path 0 [])) is))
 
 -- where an object stands at a reference is where it stands first
-pub stands-at : (s : Model) (e : End) (i : ℕ) (o : ObjectNo) → IsLegal s → (shape s.metamodel e.feature).is_reference ≡ true → slice_get (values_at s e) i ≡ Some (value.Object o) → place_in (reading s) e o ≡ i
+pub stands-at : (s : Model) (e : End) (i : ℕ) (o : ObjectNo) → IsLegal s → (shape s.metamodel e.feature).is_reference ≡ true → slice_get (values_at s e) i ≡ Some (value.Object o) → position_in (reading s) e o ≡ i
 stands-at s e i o legal reference there =
     ap (λ (x : Option ℕ). unwrap_or x 0) (sym (position-target s e (value.Object o) (Some i) legal reference (ap (λ (vs : List Value). slice_get vs i) (sym (values-linked s e reference)) ∙ there)))
 

@@ -23,7 +23,7 @@ use Rattle.mm_types.specs.declared.value.Value.{Value}
 use Rattle.mm_types.specs.declared.value.Value.TheVariants as value
 use Rattle.models.specs.Reading.{Reading, objects_of}
 use Rattle.containment.proofs.PartLemmas.{contains-itself}
-use Rattle.saved_docs.specs.Document.{reference_text, value_data}
+use Rattle.doc_writer.specs.Document.{reference_text, value_data}
 
 ---------------------------------------------------------------- references that contain
 

@@ -24,12 +24,12 @@ use Rattle.containment.proofs.PartLemmas.{holder-at, values-linked}
 use Rattle.web_uris.specs.Paths.{new_path, new_step, with_step}
 use Rattle.web_uris.specs.declared.path.Path.{Path}
 use Rattle.fragment_paths.proofs.UpLemmas.{path-part}
-use Rattle.fragment_paths.specs.Fragments.{address, place_in, step_into}
+use Rattle.fragment_paths.specs.Fragments.{address, position_in, step_into}
 use Rattle.doc_parts.specs.Contents.{may_stand}
 use Rattle.doc_parts.specs.Layout.{Written, written}
 use Rattle.doc_parts.specs.Parts.{number_of, step_to}
-use Rattle.saved_docs.specs.Document.{object_under, reference_text}
-use Rattle.saved_docs.specs.Written.{objects_in}
+use Rattle.doc_writer.specs.Document.{object_under, reference_text}
+use Rattle.doc_writer.specs.Written.{objects_in}
 use Rattle.resource_docs.specs.Values.{object_of}
 use Rattle.round_trip.specs.PartsLaws.{AreParts}
 use Rattle.round_trip.specs.Parts.{data_of, path_in}
@@ -84,7 +84,7 @@ module _ (s : Model) (legal : IsLegal s) (k : ResourceNo) (o : ObjectNo) (f : Fe
       let r = reading s in
       let e = at_end (node.Object o) f in
       let linked = ap (λ (vs : List Value). slice_get vs i) (sym (values-linked s e reference)) ∙ at in
-      let place : place_in r e c ≡ i = ap (λ (x : Option ℕ). unwrap_or x 0) (sym (position-target s e (value.Object c) (Some i) legal reference linked)) in
+      let place : position_in r e c ≡ i = ap (λ (x : Option ℕ). unwrap_or x 0) (sym (position-target s e (value.Object c) (Some i) legal reference linked)) in
       let h = holder-at s legal (node.Object o) f contains i c at in
       sym (ap (λ (x : Option Path). unwrap_or x (new_path 0 [])) (path-part s legal c e o h refl ∙ ap (option_map (λ q. with_step q (step_into r e c))) (has-path s legal k o (written-inside s legal k o inside)))
       ∙ ap (λ (n : ℕ). with_step (path_in r o) (new_step (lookups.feature_name s.metamodel f) (if (shape s.metamodel f).is_single then None else Some n))) place)

@@ -23,8 +23,8 @@ use Rattle.containment.specs.Forest.{subtree}
 use Rattle.fragment_paths.specs.Finding.{roots}
 use Rattle.doc_parts.specs.Parts.{Part, entries, list_of, root_parts, values_of}
 use Rattle.doc_parts.proofs.DataLemmas.{list_of-items_of}
-use Rattle.saved_docs.specs.Document.{document, value_data}
-use Rattle.saved_docs.specs.Written.{objects_in, written_features}
+use Rattle.doc_writer.specs.Document.{document, value_data}
+use Rattle.doc_writer.specs.Written.{objects_in, written_features}
 use Rattle.resource_docs.specs.Read.{content_read, contents_read, doc_read, object_read, root_number, values_read}
 use Rattle.resource_docs.specs.Texts.{Base, base_of}
 use Rattle.resource_docs.specs.Values.{value_of}

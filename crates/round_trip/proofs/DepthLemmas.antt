@@ -21,8 +21,8 @@ use Rattle.models.specs.Reading.{at_end}
 use Rattle.containment.proofs.PartLemmas.{holder-at}
 use Rattle.fragment_paths.specs.Finding.{roots}
 use Rattle.fragment_paths.proofs.UpLemmas.{above-node}
-use Rattle.saved_docs.specs.Document.{reference_text, class_name, content_data, document, feature_member, members_with, two, value_data}
-use Rattle.saved_docs.specs.Written.{level, objects_in, written_features}
+use Rattle.doc_writer.specs.Document.{reference_text, class_name, content_data, document, feature_member, members_with, two, value_data}
+use Rattle.doc_writer.specs.Written.{level, objects_in, written_features}
 use Rattle.round_trip.specs.Parts.{data_of, features_data}
 use Rattle.round_trip.proofs.LevelLemmas.{data-is}
 use Rattle.round_trip.specs.PartsLaws.{AreParts}

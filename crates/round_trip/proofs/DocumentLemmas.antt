@@ -34,8 +34,8 @@ use Rattle.doc_parts.proofs.DataLemmas.{list_of-items_of}
 use Rattle.doc_parts.proofs.DepthLemmas.{parts_within}
 use Rattle.doc_parts.specs.Layout.{Top, new_top, top}
 use Rattle.doc_parts.specs.Parts.{Part, list_of, parts, parts_from, root_parts}
-use Rattle.saved_docs.specs.Document.{document}
-use Rattle.saved_docs.specs.Written.{objects_in}
+use Rattle.doc_writer.specs.Document.{document}
+use Rattle.doc_writer.specs.Written.{objects_in}
 use Rattle.round_trip.specs.PartsLaws.{AreParts}
 use Rattle.round_trip.specs.Parts.{data_of, part_of}
 use Rattle.round_trip.proofs.ChildLemmas.{IsPlaced, all-placed, numbered, object-at, own-path, parts-read, stands-at}

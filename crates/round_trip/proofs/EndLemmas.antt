@@ -31,7 +31,7 @@ use Rattle.models.specs.Model.{Model, attribute_values, kept_values, reading, va
 use Rattle.models.specs.Reading.{at_end, is_set}
 use Rattle.models.proofs.EndLemmas.{upper-single, values-single}
 use Rattle.containment.proofs.PartLemmas.{values-linked}
-use Rattle.saved_docs.specs.Written.{is_written, written_features}
+use Rattle.doc_writer.specs.Written.{is_written, written_features}
 use Rattle.round_trip.proofs.ContainLemmas.{reference-plain}
 use Rattle.round_trip.proofs.ValuesListLemmas.{stands}
 use Rattle.round_trip.proofs.ListLemmas.{any-in, filtered-in, of-each}

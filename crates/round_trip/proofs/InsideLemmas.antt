@@ -25,8 +25,8 @@ use Rattle.fragment_paths.proofs.HeldLemmas.{held, root-found}
 use Rattle.fragment_paths.proofs.InsideLemmas.{contents-contains, each-inside}
 use Rattle.fragment_paths.proofs.UpLemmas.{resource-part, resource-root}
 use Rattle.fragment_paths.specs.Finding.{roots}
-use Rattle.fragment_paths.specs.Fragments.{place_in, roots_end}
-use Rattle.saved_docs.specs.Written.{objects_in}
+use Rattle.fragment_paths.specs.Fragments.{position_in, roots_end}
+use Rattle.doc_writer.specs.Written.{objects_in}
 use Rattle.round_trip.proofs.ValuesListLemmas.{among-found, found-among, in-all}
 
 -- a root of a resource, and an object in its tree
@@ -72,7 +72,7 @@ module _ (s : Model) (legal : IsLegal s) where
   root-under : (k : ResourceNo) (o : ObjectNo) (e : End) → holder s.links (node.Object o) ≡ Some e → e.node ≡ node.Resource k → IsUnderRoot s k o
   root-under k o e h is = record {
     root = o;
-    place = place_in (reading s) e o;
+    place = position_in (reading s) e o;
     there = root-found s legal o e k (held s legal o e h) is;
     below = or_left _ _ (eq-eqb o.0 o.0 refl);
   }

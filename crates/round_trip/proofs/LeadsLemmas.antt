@@ -19,7 +19,7 @@ use Rattle.fragment_paths.specs.Finding.{at}
 use Rattle.fragment_paths.specs.Fragments.{address, fragment, has_one_root, is_in, path_of}
 use Rattle.fragment_paths.proofs.AddressLemmas.{named-at, object-found}
 use Rattle.fragment_paths.proofs.FoundLemmas.{IsLocated, located-object}
-use Rattle.saved_docs.specs.Document.{reference_text}
+use Rattle.doc_writer.specs.Document.{reference_text}
 use Rattle.resource_docs.specs.Texts.{base_of, target}
 use Rattle.resource_docs.specs.declared.target.Target.TheVariants.{Here, Elsewhere}
 use Rattle.round_trip.specs.TextsLaws.{LeadsBack, target_of}

@@ -19,9 +19,9 @@ use Rattle.models.specs.Reading.{Reading, at_end, is_live, object_of, objects_of
 use Rattle.containment.proofs.PartLemmas.{IsPart, contains-itself, contains-reference, end-made, holder-at, live-made, values-linked}
 use Rattle.containment.proofs.TreeLemmas.{depth, part-deeper, part-shallow, some-made}
 use Rattle.fragment_paths.proofs.ObjectLemmas.{all-objects, objects-get}
-use Rattle.saved_docs.proofs.RootLemmas.{all-live}
-use Rattle.saved_docs.specs.Document.{class_name, content_data, feature_member, members, object_data, reference_text, two, value_data}
-use Rattle.saved_docs.specs.Written.{written_features}
+use Rattle.doc_writer.proofs.RootLemmas.{all-live}
+use Rattle.doc_writer.specs.Document.{class_name, content_data, feature_member, members, object_data, reference_text, two, value_data}
+use Rattle.doc_writer.specs.Written.{written_features}
 use Rattle.round_trip.specs.Parts.{data_of, features_data}
 use Rattle.round_trip.proofs.PartsListLemmas.{all-passing}
 

@@ -16,7 +16,7 @@ use Rattle.mm_types.specs.declared.numbers.ClassNo.{ClassNo}
 use Rattle.mm_types.specs.declared.numbers.FeatureNo.{FeatureNo}
 use Rattle.fragment_paths.proofs.NameLemmas.{own-name}
 use Rattle.doc_parts.specs.Parts.{Entry, content_at, entry_at, new_entry}
-use Rattle.saved_docs.specs.Document.{members_with}
+use Rattle.doc_writer.specs.Document.{members_with}
 use Rattle.round_trip.proofs.PartsListLemmas.{all-both, all-more}
 
 -- a name that is another than each feature's

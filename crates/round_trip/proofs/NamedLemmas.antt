@@ -33,11 +33,11 @@ use Rattle.containment.specs.Above.{resource_of}
 use Rattle.fragment_paths.specs.Finding.{at}
 use Rattle.fragment_paths.specs.Fragments.{address, is_in}
 use Rattle.fragment_paths.proofs.AddressLemmas.{object-found}
-use Rattle.saved_docs.specs.Saved.{has_dangling, is_dangling, is_too_deep, reference_features, save_refusal, targets_under}
-use Rattle.saved_docs.specs.Written.{objects_in, written_features}
+use Rattle.doc_writer.specs.Saved.{has_dangling, is_dangling, is_too_deep, reference_features, save_refusal, targets_under}
+use Rattle.doc_writer.specs.Written.{objects_in, written_features}
 use Rattle.web_uris.specs.Paths.{with_step}
 use Rattle.doc_parts.specs.Parts.{number_of, step_to}
-use Rattle.saved_docs.specs.Document.{value_data}
+use Rattle.doc_writer.specs.Document.{value_data}
 use Rattle.resource_docs.specs.Texts.{base_of}
 use Rattle.resource_docs.specs.Values.{object_of, value_of}
 use Rattle.round_trip.specs.Parts.{data_of, path_in}

@@ -20,12 +20,12 @@ use Rattle.models.specs.Model.{Model, reading}
 use Rattle.models.specs.Reading.{all_features_of, at_end, is_live, is_set}
 use Rattle.containment.proofs.DistinctLemmas.{features-distinct}
 use Rattle.containment.proofs.PartLemmas.{live-made}
-use Rattle.json_rows.specs.Rows.{◌>>=◌}
+use Rattle.json_fields.specs.Fields.{◌>>=◌}
 use Rattle.doc_parts.specs.Layout.{Written, new_written, written}
 use Rattle.doc_parts.specs.Parts as parts
 use Rattle.doc_parts.specs.Parts.{entries_in, entry_at}
-use Rattle.saved_docs.specs.Document.{class_name, content_data, two}
-use Rattle.saved_docs.specs.Written.{written_features}
+use Rattle.doc_writer.specs.Document.{class_name, content_data, two}
+use Rattle.doc_writer.specs.Written.{written_features}
 use Rattle.round_trip.specs.PartsLaws.{IsPart}
 use Rattle.round_trip.specs.Parts.{data_of, entry_of, features_data}
 use Rattle.round_trip.proofs.ClassLemmas.{own-class}

@@ -25,10 +25,10 @@ use Rattle.web_uris.specs.Paths.{with_step}
 use Rattle.web_uris.specs.declared.path.Path.{Path}
 use Rattle.web_uris.specs.declared.path.Step.{Step}
 use Rattle.fragment_paths.specs.Finding.{roots}
-use Rattle.fragment_paths.specs.Fragments.{path_of, place_in, roots_end, step_into}
+use Rattle.fragment_paths.specs.Fragments.{path_of, position_in, roots_end, step_into}
 use Rattle.fragment_paths.proofs.HeldLemmas.{held}
 use Rattle.fragment_paths.proofs.UpLemmas.{path-part, path-root}
-use Rattle.saved_docs.specs.Written.{objects_in}
+use Rattle.doc_writer.specs.Written.{objects_in}
 use Rattle.doc_parts.proofs.WayLemmas.{position_cons}
 use Rattle.fragment_paths.proofs.InsideLemmas.{contents-contains}
 use Rattle.round_trip.proofs.ValuesListLemmas.{among-found, behind, in-front, stands}
@@ -117,7 +117,7 @@ module _ (s : Model) (legal : IsLegal s) (k : ResourceNo) where
       of-each (λ x. holder s.links (node.Object x) ≡ Some end-of) (roots (reading s) k) o
       (all-objects (λ x. holder s.links (node.Object x) ≡ Some end-of) (values_at s end-of) (λ i c at. holder-at s legal (node.Resource k) (lookups.contents s.metamodel) (contents-contains s.metamodel) i c at)) there
 
-  root-path : (o : ObjectNo) → Contains (roots (reading s) k) o → option_map (λ (q : Path). q.root) (path_of (reading s) o) ≡ Some (place_in (reading s) end-of o)
+  root-path : (o : ObjectNo) → Contains (roots (reading s) k) o → option_map (λ (q : Path). q.root) (path_of (reading s) o) ≡ Some (position_in (reading s) end-of o)
   root-path o there = ap (option_map (λ (q : Path). q.root)) (path-root s legal o end-of k (root-held o there) refl)
 
   object-value : (x y : ObjectNo) → value.Object x ≡ value.Object y → x ≡ y
@@ -126,7 +126,7 @@ module _ (s : Model) (legal : IsLegal s) (k : ResourceNo) where
   one-root : (x y c : ObjectNo) → Contains (roots (reading s) k) x → Contains (roots (reading s) k) y → list_any (same_object c) (subtree (reading s) x) ≡ true → list_any (same_object c) (subtree (reading s) y) ≡ true → x ≡ y
   one-root x y c a b h q =
       let r = reading s in
-      let same = same_Some _ _ (sym (same-root (suc r.next) (place_in r end-of x) x c (root-path x a) h) ∙ same-root (suc r.next) (place_in r end-of y) y c (root-path y b) q) in
+      let same = same_Some _ _ (sym (same-root (suc r.next) (position_in r end-of x) x c (root-path x a) h) ∙ same-root (suc r.next) (position_in r end-of y) y c (root-path y b) q) in
       let there = held s legal x end-of (root-held x a) in
       let other = held s legal y end-of (root-held y b) in
       object-value x y (same_Some _ _ (sym there.here ∙ ap (slice_get (values_at s end-of)) same ∙ other.here))

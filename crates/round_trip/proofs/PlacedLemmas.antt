@@ -23,7 +23,7 @@ use Rattle.fragment_paths.specs.Finding.{find}
 use Rattle.fragment_paths.specs.Fragments.{path_of, step_into}
 use Rattle.doc_parts.proofs.WayLemmas.{same_path_self, same_path_tells}
 use Rattle.doc_parts.specs.Parts.{Part}
-use Rattle.saved_docs.specs.Written.{objects_in}
+use Rattle.doc_writer.specs.Written.{objects_in}
 use Rattle.fragment_paths.proofs.InsideLemmas.{each-inside}
 use Rattle.round_trip.specs.Parts.{part_of, path_in}
 use Rattle.round_trip.proofs.InsideLemmas.{written-inside}

@@ -21,8 +21,8 @@ use Rattle.models.specs.Model.{Model, reading}
 use Rattle.models.specs.Reading.{all_features_of, at_end, is_set}
 use Rattle.models.specs.Steady.{HasSteadyTexts}
 use Rattle.doc_parts.specs.Contents.{is_value}
-use Rattle.saved_docs.specs.Document.{reference_text, value_data}
-use Rattle.saved_docs.specs.Written.{is_written, objects_in, written_features}
+use Rattle.doc_writer.specs.Document.{reference_text, value_data}
+use Rattle.doc_writer.specs.Written.{is_written, objects_in, written_features}
 use Rattle.resource_docs.specs.Texts.{base_of}
 use Rattle.resource_docs.specs.Values.{reference_value, value_of}
 use Rattle.round_trip.specs.PartsLaws.{AreParts}

@@ -26,9 +26,9 @@ use Rattle.containment.specs.Above.{resource_of}
 use Rattle.fragment_paths.specs.Fragments.{address, is_in}
 use Rattle.doc_parts.specs.Contents.{conforms_to, is_short}
 use Rattle.doc_parts.specs.Parts.{Part}
-use Rattle.saved_docs.specs.Document.{reference_text}
-use Rattle.saved_docs.specs.Saved.{has_dangling, is_dangling, reference_features, targets_under}
-use Rattle.saved_docs.specs.Written.{objects_in, written_features}
+use Rattle.doc_writer.specs.Document.{reference_text}
+use Rattle.doc_writer.specs.Saved.{has_dangling, is_dangling, reference_features, targets_under}
+use Rattle.doc_writer.specs.Written.{objects_in, written_features}
 use Rattle.resource_docs.specs.Texts.{base_of}
 use Rattle.resource_docs.specs.Values.{led_to, object_of, reference_value}
 use Rattle.resource_docs.specs.declared.target.Target.TheVariants.{Here, Elsewhere}

@@ -11,7 +11,7 @@ use Rattle.std.proofs.lemmas.Option.{none-some, same_Some}
 use Rattle.serde_json.specs.Data.{Data, Members, no_members, member, array, put}
 use Rattle.serde_json.specs.Find.{as_array, as_object}
 use Rattle.serde_json.specs.View.{items_of}
-use Rattle.json_rows.specs.Rows.{◌>>=◌, keys_of}
+use Rattle.json_fields.specs.Fields.{◌>>=◌, keys_of}
 use Rattle.mm_types.specs.Conditions.{◌else_by◌, ◌where_so◌}
 use Rattle.mm_types.specs.Ends.{value_in}
 use Rattle.mm_types.specs.Lookups as lookups
@@ -39,9 +39,9 @@ use Rattle.doc_parts.specs.Faults.{has_no_class, has_other_key, is_misshapen, is
 use Rattle.doc_parts.specs.Layout.{Written, new_written, top, written}
 use Rattle.doc_parts.specs.Parts.{Entry, Part, entries, level_of, parts, values_of}
 use Rattle.doc_parts.proofs.DataLemmas.{list_all-map, list_any-map}
-use Rattle.saved_docs.specs.Document.{class_name, document, feature_member, members_with, value_data}
-use Rattle.saved_docs.specs.Written.{objects_in, written_features}
-use Rattle.saved_docs.proofs.RootLemmas.{all-live}
+use Rattle.doc_writer.specs.Document.{class_name, document, feature_member, members_with, value_data}
+use Rattle.doc_writer.specs.Written.{objects_in, written_features}
+use Rattle.doc_writer.proofs.RootLemmas.{all-live}
 use Rattle.resource_docs.specs.Causes.{has_other_format, shape_cause}
 use Rattle.round_trip.specs.PartsLaws.{AreParts}
 use Rattle.round_trip.specs.Parts.{data_of, entry_of, features_data, part_of}

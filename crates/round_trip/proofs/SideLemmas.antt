@@ -33,7 +33,7 @@ use Rattle.models.specs.Model.{Model, reading, values_at}
 use Rattle.models.specs.Reading.{Reading, all_features_of, at_end, has_feature, is_set}
 use Rattle.models.proofs.PlaceLemmas.{is_target}
 use Rattle.containment.proofs.PartLemmas.{legal-at, values-linked}
-use Rattle.saved_docs.specs.Written.{is_written, objects_in, written_features}
+use Rattle.doc_writer.specs.Written.{is_written, objects_in, written_features}
 use Rattle.doc_parts.proofs.DataLemmas.{list_any-map}
 use Rattle.resource_docs.specs.Causes.{is_one_sided, is_unanswered, of_content}
 use Rattle.resource_docs.specs.Read.{values_in, values_under}

@@ -9,7 +9,7 @@ use Rattle.std.proofs.lemmas.Option.{option_and_then_some, same_Some}
 use Rattle.std.proofs.lemmas.Slice.Eq.{bytes_eq-Decides}
 use Rattle.url.specs.Parser.{parse_url}
 use Rattle.url.specs.Parts.{serialize}
-use Rattle.json_rows.specs.Rows.{◌>>=◌}
+use Rattle.json_fields.specs.Fields.{◌>>=◌}
 use Rattle.web_uris.specs.Addresses.{IsSteadyProxy, address_text, fragment_part, has_mark, uri_part}
 use Rattle.web_uris.specs.Joined.{IsWebUri, if_parsed, is_mark, is_web, web_text}
 use Rattle.web_uris.specs.Paths.{parse}

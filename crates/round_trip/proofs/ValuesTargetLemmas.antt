@@ -19,7 +19,7 @@ use Rattle.mm_types.specs.Same.{is_feature, node_value, same_end}
 use Rattle.mm_types.specs.declared.end.End.{End}
 use Rattle.mm_types.specs.declared.numbers.Node.{Node}
 use Rattle.links.specs.Links.{end}
-use Rattle.links.specs.Places.{far_place, far_value, place}
+use Rattle.links.specs.Indexed.{far_indexed, far_value, indexed}
 use Rattle.links.specs.declared.link.Far.{Far}
 use Rattle.links.specs.declared.link.Far.TheVariants.{At, Alone, Proxy}
 use Rattle.links.specs.declared.link.Link.{Link}
@@ -58,7 +58,7 @@ far-of_value (Proxy u) t h = cc
 abbrev at_index : ℕ → Value → Option (ℕ × Value)
 at_index k v = Some (k, v)
 
-far-placed : (x : Far) (n : Node) (e : End) (k : ℕ) (t : List ℕ) → far_place x (node_value n) e ≡ Some (k, value.Proxy t) → ⊥
+far-placed : (x : Far) (n : Node) (e : End) (k : ℕ) (t : List ℕ) → far_indexed x (node_value n) e ≡ Some (k, value.Proxy t) → ⊥
 far-placed (At d j) n e k t = elim (same_end d e) as (λ b. (if b then at_index j (node_value n) else None) ≡ Some (k, value.Proxy t) → ⊥) [
   | true ↦ λ h. not_proxy t n (sym (some_pair_parts j k (node_value n) (value.Proxy t) h).1)
   | false ↦ λ h. none-some _ h
@@ -67,8 +67,8 @@ far-placed (Alone o) n e k t = λ h. none-some _ h
 far-placed (Proxy u) n e k t = λ h. none-some _ h
 
 -- a link that stands somewhere with a proxy is that proxy
-placed-far : (l : Link) (e : End) (k : ℕ) (t : List ℕ) → place l e ≡ Some (k, value.Proxy t) → l.far ≡ Proxy t
-placed-far l e k t = elim (same_end l.end e) as (λ b. (if b then at_index l.index (far_value l.far) else far_place l.far (node_value l.end.node) e) ≡ Some (k, value.Proxy t) → l.far ≡ Proxy t) [
+placed-far : (l : Link) (e : End) (k : ℕ) (t : List ℕ) → indexed l e ≡ Some (k, value.Proxy t) → l.far ≡ Proxy t
+placed-far l e k t = elim (same_end l.end e) as (λ b. (if b then at_index l.index (far_value l.far) else far_indexed l.far (node_value l.end.node) e) ≡ Some (k, value.Proxy t) → l.far ≡ Proxy t) [
   | true ↦ λ h. far-of_value l.far t (some_pair_parts l.index k (far_value l.far) (value.Proxy t) h).1
   | false ↦ λ h. absurd (far-placed l.far l.end.node e k t h)
 ]

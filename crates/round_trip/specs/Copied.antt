@@ -11,12 +11,12 @@ use Rattle.mm_types.specs.declared.value.Value.TheVariants as value
 use Rattle.models.specs.Reading.{Reading, at_end}
 use Rattle.fragment_paths.specs.Finding.{roots}
 use Rattle.fragment_paths.specs.Fragments.{address}
-use Rattle.saved_docs.specs.Written.{objects_in, written_features}
+use Rattle.doc_writer.specs.Written.{objects_in, written_features}
 use Rattle.resource_docs.specs.declared.doc.Content.{Content}
 use Rattle.resource_docs.specs.declared.doc.Doc.{Doc}
 use Rattle.resource_docs.specs.declared.doc.DocObject.{DocObject}
 
--- an object by its place among those of the resource; one of another resource by its address, as a proxy
+-- an object by its position among those of the resource; one of another resource by its address, as a proxy
 abbrev pub renamed : Reading → List ObjectNo → Value → Value
 renamed r os (value.Object o) =
     option_map_or (λ n. value.Object (record { 0 = n })) (position (same_object o) os) (value.Proxy (unwrap_or (address r o) []))

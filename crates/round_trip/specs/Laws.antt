@@ -5,8 +5,8 @@ use Rattle.mm_types.specs.declared.numbers.ResourceNo.{ResourceNo}
 use Rattle.models.specs.Legal.{IsLegal}
 use Rattle.models.specs.Model.{Model, reading}
 use Rattle.models.specs.Steady.{HasSteadyTexts}
-use Rattle.saved_docs.specs.Document.{document}
-use Rattle.saved_docs.specs.Saved.{IsReadAs}
+use Rattle.doc_writer.specs.Document.{document}
+use Rattle.doc_writer.specs.Saved.{IsReadAs}
 use Rattle.resource_docs.specs.Causes.{reads, reads_bytes}
 use Rattle.resource_docs.specs.Texts.{base_of}
 use Rattle.round_trip.specs.Copied.{copied}

@@ -9,8 +9,8 @@ use Rattle.web_uris.specs.Paths.{new_path}
 use Rattle.web_uris.specs.declared.path.Path.{Path}
 use Rattle.fragment_paths.specs.Fragments.{path_of}
 use Rattle.doc_parts.specs.Parts.{Entry, Part, new_entry}
-use Rattle.saved_docs.specs.Document.{content_data, feature_member, members, object_data}
-use Rattle.saved_docs.specs.Written.{written_features}
+use Rattle.doc_writer.specs.Document.{content_data, feature_member, members, object_data}
+use Rattle.doc_writer.specs.Written.{written_features}
 
 -- the path of an object in its resource
 abbrev pub path_in : Reading → ObjectNo → Path

@@ -8,8 +8,8 @@ use Rattle.models.specs.Reading.{Reading}
 use Rattle.fragment_paths.specs.Finding.{roots}
 use Rattle.doc_parts.specs.Layout.{new_top, new_written, top, written}
 use Rattle.doc_parts.specs.Parts.{class_of, entries, parts, root_parts}
-use Rattle.saved_docs.specs.Document.{class_name, document}
-use Rattle.saved_docs.specs.Written.{objects_in, written_features}
+use Rattle.doc_writer.specs.Document.{class_name, document}
+use Rattle.doc_writer.specs.Written.{objects_in, written_features}
 use Rattle.round_trip.specs.Parts.{data_of, entry_of, features_data, part_of}
 
 -- an object is read with its class and, in order, the features that are written of it

@@ -10,9 +10,9 @@ use Rattle.mm_types.specs.declared.value.Value.TheVariants as value
 use Rattle.models.specs.Reading.{Reading, at_end}
 use Rattle.fragment_paths.specs.Fragments.{address, is_in}
 use Rattle.web_uris.specs.Addresses.{uri_part}
-use Rattle.saved_docs.specs.Document.{reference_text}
-use Rattle.saved_docs.specs.Saved.{reference_features, save_refusal, targets_under}
-use Rattle.saved_docs.specs.Written.{objects_in}
+use Rattle.doc_writer.specs.Document.{reference_text}
+use Rattle.doc_writer.specs.Saved.{reference_features, save_refusal, targets_under}
+use Rattle.doc_writer.specs.Written.{objects_in}
 
 -- a value stands under a feature of an object of a resource
 pub record Holds (r : Reading) (k : ResourceNo) (v : Value) : Type 0 where

@@ -7,7 +7,7 @@ use Rattle.containment.specs.Above.{resource_of}
 use Rattle.web_uris.specs.Addresses.{IsSteadyProxy, uri_part}
 use Rattle.web_uris.specs.Paths.{new_path}
 use Rattle.fragment_paths.specs.Fragments.{address, is_in, path_of}
-use Rattle.saved_docs.specs.Document.{reference_text}
+use Rattle.doc_writer.specs.Document.{reference_text}
 use Rattle.resource_docs.specs.Texts.{base_of, target}
 use Rattle.resource_docs.specs.declared.target.Target.{Target}
 use Rattle.resource_docs.specs.declared.target.Target.TheVariants.{Here, Elsewhere}

@@ -14,8 +14,8 @@ use Rattle.containment.specs.Above.{resource_of}
 use Rattle.fragment_paths.specs.Fragments.{path_of}
 use Rattle.doc_parts.specs.Contents.{is_value}
 use Rattle.doc_parts.specs.Parts.{Part, level_of, number_of}
-use Rattle.saved_docs.specs.Document.{value_data}
-use Rattle.saved_docs.specs.Written.{level, objects_in, written_features}
+use Rattle.doc_writer.specs.Document.{value_data}
+use Rattle.doc_writer.specs.Written.{level, objects_in, written_features}
 use Rattle.resource_docs.specs.Texts.{base_of}
 use Rattle.resource_docs.specs.Values.{value_of}
 use Rattle.round_trip.specs.Parts.{data_of, part_of, path_in}

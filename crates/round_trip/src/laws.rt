@@ -22,7 +22,7 @@ pub fn a_reference_leads_to_its_object()
     ensures { (s : Model) → IsLegal s → HasSteadyTexts s → (k : ResourceNo) (uri : List ℕ) → slice_get (reading s).uris k.0 ≡ Some uri → LeadsBack (reading s) k uri }
 {}
 
-/// Each object that is written is read at its place, and each value as it was: an object of the resource by its number in loading
+/// Each object that is written is read at its position, and each value as it was: an object of the resource by its number in loading
 /// order, one of a different resource as a proxy of its address.
 pub fn each_value_is_read_as_it_was()
     ensures { (s : Model) → IsLegal s → HasSteadyTexts s → (k : ResourceNo) (uri : List ℕ) → AreParts (reading s) k → LeadsBack (reading s) k uri → IsReadable (reading s) k uri → AreReadAs (reading s) k uri }

@@ -80,9 +80,9 @@ unset_form n f = option_map (λ p. asks.Unset p.0 p.1) (feature_in n f)
 abbrev pub set_form : List ℕ → List ℕ → List ℕ → Option Form
 set_form n f v = option_map (λ p. asks.Set p.0.0 p.0.1 p.1) (feature_value_in n f v)
 
--- `add NODE NAME VALUE`, and a place if there is one
+-- `add NODE NAME VALUE`, and a position if there is one
 abbrev pub add_form : List ℕ → List ℕ → List ℕ → Option ℕ → Option Form
-add_form n f v place = option_map (λ p. asks.Add p.0.0 p.0.1 p.1 place) (feature_value_in n f v)
+add_form n f v index = option_map (λ p. asks.Add p.0.0 p.0.1 p.1 index) (feature_value_in n f v)
 
 -- `add NODE NAME VALUE N`
 abbrev pub add_at_form : List ℕ → List ℕ → List ℕ → List ℕ → Option Form

@@ -21,14 +21,14 @@ pub enum Form<'a> {
         node: Node,
         feature: Name<'a>,
     },
-    /// A value put into the list of a feature: at a place counted from 0, or at the end (EMF: EList.add).
+    /// A value put into the list of a feature: at a position counted from 0, or at the end (EMF: EList.add).
     Add {
         node: Node,
         feature: Name<'a>,
         value: WrittenValue<'a>,
         index: Option<u32>,
     },
-    /// The value at a place of a list, counted from 0, taken out (EMF: EList.remove of an index).
+    /// The value at a position of a list, counted from 0, taken out (EMF: EList.remove of an index).
     Remove {
         node: Node,
         feature: Name<'a>,
@@ -40,7 +40,7 @@ pub enum Form<'a> {
         feature: Name<'a>,
         value: WrittenValue<'a>,
     },
-    /// A value of a list moved to a place, from another; both are counted from 0 (EMF: EList.move).
+    /// A value of a list moved to a position, from another; both are counted from 0 (EMF: EList.move).
     Move {
         node: Node,
         feature: Name<'a>,
@@ -49,7 +49,7 @@ pub enum Form<'a> {
     },
     /// A new resource of the URI that a text gives (EMF: ResourceSet.createResource).
     Resource(Text),
-    /// The object at the address of the proxy at a place of a reference, counted from 0, put in its place (EMF: EcoreUtil.resolve).
+    /// The object at the address of the proxy at a position of a reference, counted from 0, put instead of it (EMF: EcoreUtil.resolve).
     Resolve {
         object: ObjectNo,
         feature: Name<'a>,

@@ -132,7 +132,7 @@ fn set_of<'a>(
     }))
 }
 
-/// `add NODE NAME VALUE`, and a place if there is one.
+/// `add NODE NAME VALUE`, and a position if there is one.
 fn add_of<'a>(
     alloc: Global,
     node: &str,

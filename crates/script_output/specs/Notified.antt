@@ -13,8 +13,8 @@ use Rattle.script_output.specs.Printed.{adapter_text, node_text, value_text}
 use Rattle.script_output.specs.declared.output.told.TheConstants.{FEATURE_MARK}
 
 -- where the change was made, as `#0.pages`; `#0` where the notice has no feature
-abbrev pub place_text : Metamodel → Notice → List ℕ
-place_text m n = node_text n.notifier ++ option_map_or (λ f. FEATURE_MARK ∷ feature_name m f) n.feature []
+abbrev pub end_text : Metamodel → Notice → List ℕ
+end_text m n = node_text n.notifier ++ option_map_or (λ f. FEATURE_MARK ∷ feature_name m f) n.feature []
 
 -- a value that a notice tells of; a literal has no name where the notice has no feature
 abbrev pub told_value_text : Metamodel → Notice → Value → List ℕ
@@ -26,7 +26,7 @@ values_text m n = told_value_text m n n.old_value ++ SPACE ∷ told_value_text m
 
 -- as `#0.pages 100 1 -1`
 abbrev pub change_text : Metamodel → Notice → List ℕ
-change_text m n = place_text m n ++ SPACE ∷ values_text m n
+change_text m n = end_text m n ++ SPACE ∷ values_text m n
 
 -- what a notice reports, as `SET #0.pages 100 1 -1`
 abbrev pub report_text : Metamodel → Notice → List ℕ

@@ -5,7 +5,7 @@ use Rattle.std.specs.Result.{result_ok}
 use Rattle.std.proofs.lemmas.Option.{none-some}
 use Rattle.mm_types.specs.declared.numbers.AdapterNo.{AdapterNo}
 use Rattle.notice_chain.specs.View.{View}
-use Rattle.script_program.specs.Pool.{Pool, box_in, box_of, place, with_box, with_slot, without}
+use Rattle.script_program.specs.Pool.{Pool, box_in, box_of, index, with_box, with_entry, without}
 
 -- what is put where it stands, or past the end, changes nothing
 set-there : {X : Type 0} (xs : List X) (i : ℕ) (x : X) → slice_get xs i ≡ Some x → slice_set xs i x ≡ xs
@@ -23,23 +23,23 @@ set-twice [] i x y = refl
 set-twice (z ∷ xs) zero x y = refl
 set-twice {X = X} (z ∷ xs) (suc i) x y = ap (λ (zs : List X). z ∷ zs) (set-twice xs i x y)
 
-map-slot : {A : Type 0} (heard : A → View) (xs : List (Option A)) (i : ℕ) (o : Option A) → map (λ o. option_map heard o) (slice_set xs i o) ≡ slice_set (map (λ o. option_map heard o) xs) i (option_map heard o)
-map-slot heard [] i o = refl
-map-slot heard (x ∷ xs) zero o = refl
-map-slot heard (x ∷ xs) (suc i) o = ap (λ (zs : Pool). option_map heard x ∷ zs) (map-slot heard xs i o)
+map-entry : {A : Type 0} (heard : A → View) (xs : List (Option A)) (i : ℕ) (o : Option A) → map (λ o. option_map heard o) (slice_set xs i o) ≡ slice_set (map (λ o. option_map heard o) xs) i (option_map heard o)
+map-entry heard [] i o = refl
+map-entry heard (x ∷ xs) zero o = refl
+map-entry heard (x ∷ xs) (suc i) o = ap (λ (zs : Pool). option_map heard x ∷ zs) (map-entry heard xs i o)
 
-pub with_slot-set : {A : Type 0} (heard : A → View) (xs : List (Option A)) (number : AdapterNo) (i : ℕ) (o : Option A) → place number ≡ Some i → map (λ o. option_map heard o) (slice_set xs i o) ≡ with_slot (option_map heard o) (map (λ o. option_map heard o) xs) number
-with_slot-set heard xs number i o e = map-slot heard xs i o ∙ ap (λ (p : Option ℕ). option_map_or (λ k. slice_set (map (λ o. option_map heard o) xs) k (option_map heard o)) p (map (λ o. option_map heard o) xs)) (sym e)
+pub with_entry-set : {A : Type 0} (heard : A → View) (xs : List (Option A)) (number : AdapterNo) (i : ℕ) (o : Option A) → index number ≡ Some i → map (λ o. option_map heard o) (slice_set xs i o) ≡ with_entry (option_map heard o) (map (λ o. option_map heard o) xs) number
+with_entry-set heard xs number i o e = map-entry heard xs i o ∙ ap (λ (p : Option ℕ). option_map_or (λ k. slice_set (map (λ o. option_map heard o) xs) k (option_map heard o)) p (map (λ o. option_map heard o) xs)) (sym e)
 
-pub nothing-taken : (pool : Pool) (number : AdapterNo) → option_and_then (slice_get pool) (place number) ≡ Some None → with_slot None pool number ≡ pool
-nothing-taken pool number = at (place number)
+pub nothing-taken : (pool : Pool) (number : AdapterNo) → option_and_then (slice_get pool) (index number) ≡ Some None → with_entry None pool number ≡ pool
+nothing-taken pool number = at (index number)
   where
     at : (p : Option ℕ) → option_and_then (slice_get pool) p ≡ Some None → option_map_or (λ i. slice_set pool i None) p pool ≡ pool
     at None h = refl
     at (Some i) h = set-there pool i None h
 
-pub nowhere-to-put : (o : Option View) (pool : Pool) (number : AdapterNo) → option_and_then (slice_get pool) (place number) ≡ None → with_slot o pool number ≡ pool
-nowhere-to-put o pool number = at (place number)
+pub nowhere-to-put : (o : Option View) (pool : Pool) (number : AdapterNo) → option_and_then (slice_get pool) (index number) ≡ None → with_entry o pool number ≡ pool
+nowhere-to-put o pool number = at (index number)
   where
     at : (p : Option ℕ) → option_and_then (slice_get pool) p ≡ None → option_map_or (λ i. slice_set pool i o) p pool ≡ pool
     at None h = refl
@@ -47,7 +47,7 @@ nowhere-to-put o pool number = at (place number)
 
 -- a box that is taken out and put back stands where it stood
 pub put-back : (pool : Pool) (number : AdapterNo) (v : View) → box_of pool number ≡ Ok v → with_box (without pool number) (number, v) ≡ pool
-put-back pool number v = at (place number)
+put-back pool number v = at (index number)
   where
     boxed : (o : Option (Option View)) → box_in o ≡ Ok v → o ≡ Some (Some v)
     boxed None h = cc

@@ -22,7 +22,7 @@ undone : (before : Pool) (c : Command View) → IsBrought before c → option_ma
 undone before (Create c) h = refl
 undone before (Set n f v) h = refl
 undone before (Unset n f) h = refl
-undone before (Add n f v place) h = refl
+undone before (Add n f v index) h = refl
 undone before (Remove n f i) h = refl
 undone before (RemoveValue n f v) h = refl
 undone before (Move n f to from) h = refl
@@ -59,7 +59,7 @@ pub bind-given : (s : Session) (f : Form) → IsGiven s.pool (bind s f)
 bind-given s (asks.New class) = All-nil (λ (a : Listed). box_of s.pool a.no ≡ Ok a.view)
 bind-given s (asks.Set n feature v) = All-nil (λ (a : Listed). box_of s.pool a.no ≡ Ok a.view)
 bind-given s (asks.Unset n feature) = All-nil (λ (a : Listed). box_of s.pool a.no ≡ Ok a.view)
-bind-given s (asks.Add n feature v place) = All-nil (λ (a : Listed). box_of s.pool a.no ≡ Ok a.view)
+bind-given s (asks.Add n feature v index) = All-nil (λ (a : Listed). box_of s.pool a.no ≡ Ok a.view)
 bind-given s (asks.Remove n feature i) = All-nil (λ (a : Listed). box_of s.pool a.no ≡ Ok a.view)
 bind-given s (asks.RemoveValue n feature v) = All-nil (λ (a : Listed). box_of s.pool a.no ≡ Ok a.view)
 bind-given s (asks.Move n feature to from) = All-nil (λ (a : Listed). box_of s.pool a.no ≡ Ok a.view)

@@ -25,7 +25,7 @@ use Rattle.script_program.specs.declared.bind.TheConstants.{NOTHING}
 abbrev pub feature_of : Command View → FeatureNo
 feature_of (command.Set n f v) = f
 feature_of (command.Unset n f) = f
-feature_of (command.Add n f v place) = f
+feature_of (command.Add n f v index) = f
 feature_of (command.Remove n f i) = f
 feature_of (command.RemoveValue n f v) = f
 feature_of (command.Move n f to from) = f

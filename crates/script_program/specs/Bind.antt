@@ -63,7 +63,7 @@ abbrev pub unset_command : {A : Type 0} → State → Node → List ℕ → Comm
 unset_command s n name = command.Unset n (feature_number s n name)
 
 abbrev pub add_command : {A : Type 0} → State → Node → List ℕ → WrittenValue → Option ℕ → Command A
-add_command s n name v place = command.Add n (feature_number s n name) (named_value s n name v) place
+add_command s n name v index = command.Add n (feature_number s n name) (named_value s n name v) index
 
 abbrev pub remove_command : {A : Type 0} → State → Node → List ℕ → ℕ → Command A
 remove_command s n name i = command.Remove n (feature_number s n name) i
@@ -92,7 +92,7 @@ abbrev pub bind : Session → Form → Request View
 bind s (asks.New class) = request.Execute (create_command s.state.model.metamodel class)
 bind s (asks.Set n feature v) = request.Execute (set_command s.state n feature v)
 bind s (asks.Unset n feature) = request.Execute (unset_command s.state n feature)
-bind s (asks.Add n feature v place) = request.Execute (add_command s.state n feature v place)
+bind s (asks.Add n feature v index) = request.Execute (add_command s.state n feature v index)
 bind s (asks.Remove n feature i) = request.Execute (remove_command s.state n feature i)
 bind s (asks.RemoveValue n feature v) = request.Execute (removevalue_command s.state n feature v)
 bind s (asks.Move n feature to from) = request.Execute (move_command s.state n feature to from)
@@ -129,7 +129,7 @@ IsGiven pool (request.Execute c) = IsBrought pool c
 IsGiven pool (request.Seen number) = Unit {0}
 IsGiven pool (request.Refuse r) = Unit {0}
 
--- a request with the views of adapters in their place
+-- a request with the views instead of adapters
 abbrev pub request_view : {A : Type 0} → (A → View) → Request A → Request View
 request_view heard (request.Execute c) = request.Execute (command_view heard c)
 request_view heard (request.Seen number) = request.Seen number

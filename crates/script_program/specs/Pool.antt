@@ -6,13 +6,13 @@ use Rattle.mm_types.specs.declared.refused.Refused.{Refused}
 use Rattle.mm_types.specs.declared.refused.Refused.TheVariants.{NoAdapter, AdapterTaken}
 use Rattle.notice_chain.specs.View.{View}
 
--- the n-th box, from 1 on, is An; None stands in the place of one that is out
+-- the n-th box, from 1 on, is An; None stands instead of one that is out
 abbrev pub Pool : Type 0
 Pool = List (Option View)
 
--- the place of the box of a number
-abbrev pub place : AdapterNo → Option ℕ
-place number = if nat_eq number.0 0 then None else Some (number.0 - 1)
+-- the position of the box of a number
+abbrev pub index : AdapterNo → Option ℕ
+index number = if nat_eq number.0 0 then None else Some (number.0 - 1)
 
 -- a box, or why it can't be attached: there is none, or it is out
 abbrev pub box_in : Option (Option View) → Result View Refused
@@ -21,15 +21,15 @@ box_in (Some None) = Err AdapterTaken
 box_in (Some (Some v)) = Ok v
 
 abbrev pub box_of : Pool → AdapterNo → Result View Refused
-box_of pool number = box_in (option_and_then (slice_get pool) (place number))
+box_of pool number = box_in (option_and_then (slice_get pool) (index number))
 
--- the pool with a box, or none, in the place of a number
-abbrev pub with_slot : Option View → Pool → AdapterNo → Pool
-with_slot o pool number = option_map_or (λ i. slice_set pool i o) (place number) pool
+-- the pool with a box, or none, instead of a number
+abbrev pub with_entry : Option View → Pool → AdapterNo → Pool
+with_entry o pool number = option_map_or (λ i. slice_set pool i o) (index number) pool
 
 -- the pool when the box of a number is out, and when it is back
 abbrev pub without : Pool → AdapterNo → Pool
-without pool number = with_slot None pool number
+without pool number = with_entry None pool number
 
 abbrev pub with_box : Pool → AdapterNo × View → Pool
-with_box pool b = with_slot (Some b.1) pool b.0
+with_box pool b = with_entry (Some b.1) pool b.0

@@ -47,7 +47,7 @@ fn script<'a>(alloc: Global) -> Arg<'a>
     Arg::new(alloc, "script")
         .long("script")
         .value_name("FILE")
-        .help("The script, in place of standard input")
+        .help("The script, instead of standard input")
         .action(ArgAction::Set)
 }
 

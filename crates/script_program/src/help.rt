@@ -37,10 +37,10 @@ The metamodel is a JSON document. What each line of the script answers is printe
   unset #0 name            takes a feature back to its default, and empties a list: ok
   isset #0 name            whether a feature is set: false
   add #0 tags \"a\"          puts a value at the end of a list: true, or false if it was not put in
-  add #0 tags \"b\" 0        puts a value at a place of a list, counted from 0: true
-  remove #0 tags 0         takes the value at a place out of a list: \"b\"
+  add #0 tags \"b\" 0        puts a value at an index of a list, counted from 0: true
+  remove #0 tags 0         takes the value at an index out of a list: \"b\"
   removevalue #0 tags \"a\"  takes a value out of a list: true, or false if it is not there
-  move #0 tags 0 2         moves the value at place 2 of a list to place 0: \"c\"
+  move #0 tags 0 2         moves the value at index 2 of a list to index 0: \"c\"
   class #0                 the class of an object: class Book
   container #0             the object that contains an object: #3, or null
   contents #0              the objects that an object directly contains: [#1 #2]
@@ -53,7 +53,7 @@ The metamodel is a JSON document. What each line of the script answers is printe
   at \"http://m.example/a#/\"  the object at an address: #0, or null
   save r0                  the document of a resource, in one line
   load r0 {\"format\":2,\"roots\":[]}  makes what a document says in an empty resource: loaded 0
-  resolve #2 likes 0       puts the object that a proxy finds in its place: #1
+  resolve #2 likes 0       puts the object that a proxy finds instead of it: #1
   resolveall               does so with every proxy that finds one: resolved 3 left 0
   attach A1 #0 flat        attaches an adapter, A1 to A8 (--live: A1000), to be told of changes: ok
   watch A1 r0 deep         gives it one target more, here with all that is below it: true
@@ -61,7 +61,7 @@ The metamodel is a JSON document. What each line of the script answers is printe
   detach A1                takes all its targets: ok, its last notices, and what it has heard
   seen A1                  how many notices an adapter was told and keeps: seen 3 kept 3
 
-In place of an object, contents, attach, watch, unwatch and the lines of a feature, but resolve,
+Instead of an object, contents, attach, watch, unwatch and the lines of a feature, but resolve,
 take a resource too, as r0, whose one feature is contents. A value is null, true, false, a number,
 a JSON string, :LITERAL or #N; a proxy, which a load leaves for an object of another resource, is
 printed as `proxy \"http://m.example/b#/\"`.

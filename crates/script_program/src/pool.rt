@@ -26,9 +26,9 @@ impl<A: Adapter> Model for Pool<A> {
     ghost view = { λ p. map (λ o. option_map A.heard o) p.boxes.items };
 }
 
-/// The place of the box of a number. A0 has none.
-fn place(no: AdapterNo) -> Option<usize>
-    ensures { result ≡ p.place no }
+/// The position of the box of a number. A0 has none.
+fn index(no: AdapterNo) -> Option<usize>
+    ensures { result ≡ p.index no }
 {
     if no.0 == 0 {
         None
@@ -49,16 +49,16 @@ impl<A: Adapter> Pool<A> {
         Ok(Pool { boxes: slots })
     }
 
-    /// Puts a box, or none, in the place of a number, and gives what was there; None if there is no such place.
-    fn replaced(&mut self, no: AdapterNo, slot: Option<A>) -> Option<Option<A>>
-        ensures before { option_map (λ o. option_map A.heard o) result ≡ option_and_then (slice_get self.old) (p.place no) }
-        ensures after { self.new ≡ p.with_slot (option_map A.heard slot) self.old no }
+    /// Puts a box, or none, where the box of a number is, and gives what was there; None if there is no such index.
+    fn replaced(&mut self, no: AdapterNo, entry: Option<A>) -> Option<Option<A>>
+        ensures before { option_map (λ o. option_map A.heard o) result ≡ option_and_then (slice_get self.old) (p.index no) }
+        ensures after { self.new ≡ p.with_entry (option_map A.heard entry) self.old no }
     {
-        let place = place(no)?;
-        if place >= self.boxes.len() {
+        let index = index(no)?;
+        if index >= self.boxes.len() {
             return None;
         }
-        Some(mem::replace(&mut self.boxes[place], slot))
+        Some(mem::replace(&mut self.boxes[index], entry))
     }
 
     /// Takes the box of a number out. Refused with `NoAdapter` if there is none, and with `AdapterTaken` if it is out.
@@ -75,7 +75,7 @@ impl<A: Adapter> Pool<A> {
         }
     }
 
-    /// Puts a box back in its place.
+    /// Puts a box back.
     fn put(&mut self, no: AdapterNo, adapter: A)
         ensures { self.new ≡ p.with_box self.old (no, A.heard adapter) }
     {

@@ -62,7 +62,7 @@ fn flush_before_read<R: Read, W: Write>(
     Ok(())
 }
 
-/// Reads a line, without its newline, in place of what the vector held, and returns what ends it. A line that is empty and that
+/// Reads a line, without its newline, into the vector, which loses what it held, and returns what ends it. A line that is empty and that
 /// the end of the input ends is none. Before each read that may wait, the writer is flushed.
 ///
 /// Errs with `Read` if a read errs, with `Write` if a flush errs, with `TooLong` if the line has more than `INPUT_BYTES` bytes,

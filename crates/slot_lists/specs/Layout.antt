@@ -1,4 +1,4 @@
--- Pieces in a row, and how many values lie in them.
+-- Pieces one after another, and how many values lie in them.
 use Rattle.std.specs.Prelude.{ℕ, ◌-◌, ◌*◌, ◌^◌, ◌≤◌, List, length}
 use Rattle.slot_lists.specs.Pieces.{joined, IsFilled}
 use Rattle.slot_lists.specs.Places.{Places}

@@ -27,7 +27,7 @@ impl<T> Model for Piece<T> {
 }
 
 impl<T: Drop> Piece<T> {
-    /// No values, and a place for each. Errs only if memory is refused.
+    /// No values, and room for each. Errs only if memory is refused.
     pub fn new(alloc: Global) -> Result<Self, AllocError>
         ensures { IfOk result (λ c. c ≡ []) }
     {

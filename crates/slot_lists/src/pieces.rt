@@ -33,7 +33,7 @@ impl<T> Model for Pieces<T> {
 }
 
 impl<T: Drop> Pieces<T> {
-    /// No values, and no place. Takes no memory.
+    /// No values, and no room. Takes no memory.
     pub fn new(alloc: Global) -> Self
         ensures { result.items ≡ [] }
     {
@@ -95,7 +95,7 @@ impl<T: Drop> Pieces<T> {
         }
     }
 
-    /// Puts a value before the one at an index, or last, in a place that there is. Takes no memory.
+    /// Puts a value before the one at an index, or last, for which there is room. Takes no memory.
     pub fn insert(&mut self, index: usize, value: T)
         requires room { 0 < self.old.spare }
         requires in_range { index ≤ length self.old.items }

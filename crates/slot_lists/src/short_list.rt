@@ -92,7 +92,7 @@ impl<T: Drop> ShortList<T> {
         }
     }
 
-    /// Makes places for more values. Errs only if memory is refused, and then the values stay and no place is lost.
+    /// Makes places for more values. Errs only if memory is refused, and then the values stay and no room is lost.
     pub fn reserve(&mut self, alloc: Global, additional: usize) -> Result<(), AllocError>
         ensures items { self.new.items ≡ self.old.items }
         ensures ok { OnOk result (additional ≤ self.new.spare) }
@@ -117,7 +117,7 @@ impl<T: Drop> ShortList<T> {
         }
     }
 
-    /// Inserts a value before the one at an index, or at the end, in a place that there is. Takes no memory.
+    /// Inserts a value before the one at an index, or at the end, for which there is room. Takes no memory.
     pub fn insert(&mut self, index: usize, value: T)
         requires room { 0 < self.old.spare }
         requires in_range { index ≤ length self.old.items }
@@ -156,7 +156,7 @@ impl<T: Drop> ShortList<T> {
         ensures spare { self.new.spare ≡ self.old.spare }
     {
         let Layout::Many(list) = &mut self.layout else {
-            // A value that is alone has no other place.
+            // A value that is alone has no other position.
             return;
         };
         list.move_to(to, from);

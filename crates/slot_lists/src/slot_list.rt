@@ -105,7 +105,7 @@ impl<T: Drop> SlotList<T> {
     }
 
     /// Makes places for more values, and puts a list into pieces that is longer than a piece. Errs only if memory is
-    /// refused, and then the values stay and no place is lost.
+    /// refused, and then the values stay and no room is lost.
     pub fn reserve(&mut self, additional: usize) -> Result<(), AllocError>
         ensures items { self.new.items ≡ self.old.items }
         ensures ok { OnOk result (additional ≤ self.new.spare) }

@@ -10,10 +10,10 @@ use Rattle.links.specs.Links.{Links, coded_links}
 use Rattle.links.specs.Plans.{EditFits, HasPlanOfKind, IsEditOfKind, IsPlanOfKind, PlanFits, applied, edited}
 use Rattle.links.specs.declared.plan.Edit.{Edit}
 use Rattle.links.proofs.KindLemmas.{plan_keeps_kinds}
-use Rattle.node_rows.specs.declared.node_rows.NodeRows.{NodeRows}
-use Rattle.node_rows.specs.Cells.{Cells, HasKeys, Room, cells, ends_of}
-use Rattle.node_rows.specs.Growth.{HasRoom, entries, entry, gain, gains}
-use Rattle.node_rows.proofs.KeyLemmas.{keys_of}
+use Rattle.node_slots.specs.declared.node_slots.NodeSlots.{NodeSlots}
+use Rattle.node_slots.specs.Cells.{Cells, HasKeys, Room, cells, ends_of}
+use Rattle.node_slots.specs.Growth.{HasRoom, entries, entry, gain, gains}
+use Rattle.node_slots.proofs.KeyLemmas.{keys_of}
 use Rattle.slot_store.specs.CellLinks.{IsKept, IsStore, IsStoreOfKind, cell_links, store_links}
 use Rattle.slot_store.specs.EditedCells.{TakesAtMost, cells_after}
 use Rattle.slot_store.proofs.KeptEditLemmas.{kept_edit}
@@ -42,7 +42,7 @@ room_rest r s x xs has takes = record {
 
 ---------------------------------------------------------------- an edit
 
-module _ (t u : NodeRows) (kept : ∥ IsStore t ∥₁) (x : Edit) (xs : List Edit) (fits : PlanFits (store_links t) (x ∷ xs)) (kind : HasPlanOfKind (IsStoreOfKind t) (x ∷ xs)) (now : cells u ≡ cells_after x (cells t)) where
+module _ (t u : NodeSlots) (kept : ∥ IsStore t ∥₁) (x : Edit) (xs : List Edit) (fits : PlanFits (store_links t) (x ∷ xs)) (kind : HasPlanOfKind (IsStoreOfKind t) (x ∷ xs)) (now : cells u ≡ cells_after x (cells t)) where
   after : IsStore t → IsStore u × (cell_links (cells u) (ends_of u) ≡ edited (store_links t) x)
   unfolding store_links
   after ok =
@@ -70,15 +70,15 @@ module _ (t u : NodeRows) (kept : ∥ IsStore t ∥₁) (x : Edit) (xs : List Ed
   edit_rest = ap (λ (s : Links). applied s xs) edit_links
 
 -- a plan of the kinds keeps the kinds
-pub kinds_applied : (t u : NodeRows) (plan : List Edit) → store_links u ≡ applied (store_links t) plan → (m : Kinds) → IsStoreOfKind t m → IsPlanOfKind m plan → IsStoreOfKind u m
+pub kinds_applied : (t u : NodeSlots) (plan : List Edit) → store_links u ≡ applied (store_links t) plan → (m : Kinds) → IsStoreOfKind t m → IsPlanOfKind m plan → IsStoreOfKind u m
 kinds_applied t u plan is m of kind = (of.0, subst (λ (s : Links). AreOfKind m s) (sym is) (plan_keeps_kinds m of.0 (store_links t) plan of.1 kind))
 
-pub kinds_same : (t u : NodeRows) → store_links u ≡ store_links t → (m : Kinds) → IsStoreOfKind t m → IsStoreOfKind u m
+pub kinds_same : (t u : NodeSlots) → store_links u ≡ store_links t → (m : Kinds) → IsStoreOfKind t m → IsStoreOfKind u m
 kinds_same t u is m of = (of.0, subst (λ (s : Links). AreOfKind m s) (sym is) of.1)
 
 ---------------------------------------------------------------- an edit that memory may refuse
 
-module _ (t u : NodeRows) (kept : ∥ IsStore t ∥₁) (x : Edit) (fits : EditFits (store_links t) x) (kind : HasPlanOfKind (IsStoreOfKind t) (x ∷ [])) where
+module _ (t u : NodeSlots) (kept : ∥ IsStore t ∥₁) (x : Edit) (fits : EditFits (store_links t) x) (kind : HasPlanOfKind (IsStoreOfKind t) (x ∷ [])) where
   pub tried_kept : (is_made : Bool) → cells u ≡ (if is_made then cells_after x (cells t) else cells t) → ∥ IsStore u ∥₁
   tried_kept true now = edit_kept t u kept x [] (fits, tt) kind now
   tried_kept false now = grown_kept t u now kept
@@ -87,6 +87,6 @@ module _ (t u : NodeRows) (kept : ∥ IsStore t ∥₁) (x : Edit) (fits : EditF
   tried_links true now = edit_links t u kept x [] (fits, tt) kind now
   tried_links false now = grown_links t u now
 
-pub tried_kinds : {A B : Type 0} (t u : NodeRows) (x : Edit) (r : Result A B) → store_links u ≡ (if is_ok r then edited (store_links t) x else store_links t) → (m : Kinds) → IsStoreOfKind t m → OnOk r (IsEditOfKind m x) → IsStoreOfKind u m
+pub tried_kinds : {A B : Type 0} (t u : NodeSlots) (x : Edit) (r : Result A B) → store_links u ≡ (if is_ok r then edited (store_links t) x else store_links t) → (m : Kinds) → IsStoreOfKind t m → OnOk r (IsEditOfKind m x) → IsStoreOfKind u m
 tried_kinds t u x (Ok _) is m of kind = kinds_applied t u (x ∷ []) is m of (kind, tt)
 tried_kinds t u x (Err _) is m of kind = kinds_same t u is m of

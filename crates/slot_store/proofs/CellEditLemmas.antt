@@ -11,8 +11,8 @@ use Rattle.mm_types.specs.declared.numbers.ObjectNo.{ObjectNo}
 use Rattle.mm_types.specs.declared.end.End.{End}
 use Rattle.mm_types.proofs.SameLemmas.{same_end-self, same_node-true}
 use Rattle.links.proofs.PlaceLemmas.{ne-same_end, same_node_if}
-use Rattle.node_rows.specs.declared.row.RowEdit.TheVariants.{Leave}
-use Rattle.node_rows.specs.Cells.{Cells, cell_edit}
+use Rattle.node_slots.specs.declared.row.RowEdit.TheVariants.{Leave}
+use Rattle.node_slots.specs.Cells.{Cells, cell_edit}
 pub use Rattle.node_rows.proofs.CellLemmas.{same_twice}
 use Rattle.slot_store.specs.EditedCells.{holds, released, without_entry}
 use Rattle.slot_store.proofs.OnceLemmas.{without_end}

@@ -17,15 +17,15 @@ use Rattle.mm_types.specs.declared.value.Value.{Value}
 use Rattle.mm_types.specs.declared.value.Value.TheVariants as value
 use Rattle.mm_types.proofs.SameLemmas.{same_end-self, same_end-true}
 use Rattle.links.specs.Links.{end, far_end}
-use Rattle.links.specs.Plans.{AreIncoming, AreInOrder, ArePlacesOf, Lacks, has_end, incoming_end}
+use Rattle.links.specs.Plans.{AreIncoming, AreInOrder, AreEntriesOf, Lacks, has_end, incoming_end}
 use Rattle.links.specs.LegalSets.{IsLegalSet}
-use Rattle.links.specs.Found.{places_by}
-use Rattle.links.proofs.PlacesLemmas.{has_end_cases, has_end_left, has_end_right, incoming-same, places_all}
-use Rattle.node_rows.specs.declared.node_rows.NodeRows.{NodeRows}
-use Rattle.node_rows.specs.declared.slot.Slot.{Slot}
-use Rattle.node_rows.specs.Slots.{slot_in, values_of}
-use Rattle.node_rows.specs.Rows.{row_slots}
-use Rattle.node_rows.specs.Cells.{Cells, cells, row_at}
+use Rattle.links.specs.Found.{entries_by}
+use Rattle.links.proofs.EntriesLemmas.{has_end_cases, has_end_left, has_end_right, incoming-same, entries_all}
+use Rattle.node_slots.specs.declared.node_slots.NodeSlots.{NodeSlots}
+use Rattle.node_slots.specs.declared.slot.Slot.{Slot}
+use Rattle.node_slots.specs.Slots.{slot_in, values_of}
+use Rattle.node_slots.specs.Rows.{row_slots}
+use Rattle.node_slots.specs.Cells.{Cells, cells, row_at}
 use Rattle.slot_store.specs.CellLinks.{IsStore, Stands, store_links}
 use Rattle.slot_store.specs.Entering.{ends_at, entering_ends, far_ends, far_ends_of, far_of, found_in, paired_ends}
 use Rattle.slot_store.proofs.PositionLemmas.{position_at, position_lacks}
@@ -120,7 +120,7 @@ module _ (c : Cells) (o : ObjectNo) where
 
 ---------------------------------------------------------------- of rows
 
-module _ (t : NodeRows) (kept : ∥ IsStore t ∥₁) (o : ObjectNo) where
+module _ (t : NodeSlots) (kept : ∥ IsStore t ∥₁) (o : ObjectNo) where
   abbrev slots : List Slot
   slots = row_slots (row_at t (node.Object o))
 
@@ -172,5 +172,5 @@ module _ (t : NodeRows) (kept : ∥ IsStore t ∥₁) (o : ObjectNo) where
       by (Some i) q = same i ∙ position_at ((cells t).vals e) (value.Object o) i q
 
   -- all places of the object, in the ends that have it in order
-  pub entering_places : IsLegalSet (store_links t) → (es : List End) → AreInOrder es → ((e : End) → has_end es e ≡ has_end all e) → (let is = places_by (found_in (cells t) (value.Object o)) es in ArePlacesOf (store_links t) o is × AreInOrder (map incoming_end is))
-  entering_places legal es order same = places_all (store_links t) legal.placed.distinct o (found_in (cells t) (value.Object o)) search_law es (incoming-same (store_links t) o all es same entering_is) order
+  pub entering_places : IsLegalSet (store_links t) → (es : List End) → AreInOrder es → ((e : End) → has_end es e ≡ has_end all e) → (let is = entries_by (found_in (cells t) (value.Object o)) es in AreEntriesOf (store_links t) o is × AreInOrder (map incoming_end is))
+  entering_places legal es order same = entries_all (store_links t) legal.placed.distinct o (found_in (cells t) (value.Object o)) search_law es (incoming-same (store_links t) o all es same entering_is) order

@@ -21,7 +21,7 @@ use Rattle.links.proofs.HolderLemmas.{holder-cut, holder-put, holder-put_proxy, 
 use Rattle.links.proofs.KindLemmas.{plan_keeps_kinds}
 use Rattle.links.proofs.LegalLemmas.{edited_legal}
 use Rattle.links.proofs.PutLemmas.{apart_of}
-use Rattle.node_rows.specs.Cells.{Cells, HasKeys}
+use Rattle.node_slots.specs.Cells.{Cells, HasKeys}
 use Rattle.slot_store.specs.CellLinks.{IsKept, Stands, StandsAlone, cell_links, link_from}
 use Rattle.slot_store.specs.EditedCells.{cells_after, held}
 use Rattle.slot_store.proofs.CellEditLemmas.{same_twice}

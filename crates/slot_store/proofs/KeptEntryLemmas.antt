@@ -17,13 +17,13 @@ use Rattle.links.specs.Laws.{IsFar}
 use Rattle.links.specs.LegalSets.{AreKinds, IsDistinct, Kinds}
 use Rattle.links.specs.Links.{far_end}
 use Rattle.links.specs.Plans.{has_end}
-use Rattle.links.proofs.PlacesLemmas.{has_end_left}
+use Rattle.links.proofs.EntriesLemmas.{has_end_left}
 use Rattle.links.proofs.ListLemmas.{distinct_remove, removed_absent}
 use Rattle.links.proofs.PlaceLemmas.{not_proxy, same_node_value}
 use Rattle.links.proofs.PutLemmas.{cases_end}
-use Rattle.node_rows.specs.declared.row.RowEdit.TheVariants.{Change}
-use Rattle.node_rows.specs.declared.slot.SlotEdit.TheVariants.{Move, Remove}
-use Rattle.node_rows.specs.Cells.{Cells, cell_edit}
+use Rattle.node_slots.specs.declared.row.RowEdit.TheVariants.{Change}
+use Rattle.node_slots.specs.declared.slot.SlotEdit.TheVariants.{Move, Remove}
+use Rattle.node_slots.specs.Cells.{Cells, cell_edit}
 use Rattle.slot_store.specs.CellLinks.{IsOnce, Stands}
 use Rattle.slot_store.specs.EditedCells.{cut_cells, cut_far, held, put_cells, put_far, put_near, without_value}
 use Rattle.slot_store.proofs.CellEditLemmas.{cases_node, else_node, entry_out-vals, entry_out_here, entry_out_there, here, holds-entered, holds-vals, if_node, released-entered, released-vals, same_twice, there}

@@ -16,9 +16,9 @@ use Rattle.links.specs.declared.link.Far.TheVariants.{At, Alone}
 use Rattle.links.specs.Holders.{holding}
 use Rattle.links.specs.Links.{Links, end, far_end, joined, new_link}
 use Rattle.links.proofs.HolderLemmas.{unheld}
-use Rattle.node_rows.specs.declared.row.RowEdit.TheVariants.{Change}
-use Rattle.node_rows.specs.declared.slot.SlotEdit.TheVariants.{Remove}
-use Rattle.node_rows.specs.Cells.{Cells, cell_edit}
+use Rattle.node_slots.specs.declared.row.RowEdit.TheVariants.{Change}
+use Rattle.node_slots.specs.declared.slot.SlotEdit.TheVariants.{Remove}
+use Rattle.node_slots.specs.Cells.{Cells, cell_edit}
 use Rattle.slot_store.specs.CellLinks.{link_to}
 use Rattle.slot_store.specs.EditedCells.{cut_cells, cut_far, held, held_far, holds, put_cells, put_far, put_near, released, without_value}
 use Rattle.slot_store.proofs.CellEditLemmas.{entry_out-hold, same_twice}

@@ -16,12 +16,12 @@ use Rattle.links.specs.declared.link.Far.TheVariants.{At, Alone, Proxy}
 use Rattle.links.specs.declared.link.Link.{Link}
 use Rattle.links.specs.LegalSets.{AreKinds, AreOfKind, HasTwoSides, IsDistinct, IsObject, IsOfKind, IsPlaced, Kinds, most}
 use Rattle.links.specs.Links.{Links, end, far_end, joined}
-use Rattle.links.specs.Places.{far_place, far_value, place}
+use Rattle.links.specs.Indexed.{far_indexed, far_value, indexed}
 use Rattle.links.proofs.EndLemmas.{from_list_HasLinks}
 use Rattle.links.proofs.KindLemmas.{kind_joined}
 use Rattle.links.proofs.SameLinksLemmas.{same_by_ends}
 use Rattle.links.proofs.SideLemmas.{both_ends, paired}
-use Rattle.node_rows.specs.Cells.{Cells, HasKeys}
+use Rattle.node_slots.specs.Cells.{Cells, HasKeys}
 use Rattle.slot_store.specs.CellLinks.{AreLists, IsMutual, IsReference, all_links, cell_links, link_from, link_to}
 use Rattle.slot_store.proofs.LinkLemmas.{all_back, end-lists, lists_placed}
 use Rattle.slot_store.proofs.TellingLemmas.{IsTold, kind_pairing}
@@ -41,7 +41,7 @@ far_reference e (At d j) two = node_reference d.node two.2
 far_reference e (Alone o) two = tt
 far_reference e (Proxy t) two = tt
 
-there_reference : (e : End) (x : Far) → HasTwoSides e x → (y : End) (k : ℕ) (v : Value) → far_place x (node_value e.node) y ≡ Some (k, v) → IsReference v
+there_reference : (e : End) (x : Far) → HasTwoSides e x → (y : End) (k : ℕ) (v : Value) → far_indexed x (node_value e.node) y ≡ Some (k, v) → IsReference v
 there_reference e (At d j) two y k v =
     elim (same_end d y) as (λ b. let p : Option (ℕ × Value) = (if b then Some (j, node_value e.node) else None) in p ≡ Some (k, v) → IsReference v) [
       | true ↦ λ at. subst IsReference (some_pair_parts j k (node_value e.node) v at).1 (node_reference e.node two.1)
@@ -51,9 +51,9 @@ there_reference e (Alone o) two y k v = λ at. absurd (let w : ℕ × Value = (k
 there_reference e (Proxy t) two y k v = λ at. absurd (let w : ℕ × Value = (k, v) in none-some w at)
 
 -- only objects and proxies stand at the places of a link
-place_reference : (l : Link) → HasTwoSides l.end l.far → (y : End) (k : ℕ) (v : Value) → place l y ≡ Some (k, v) → IsReference v
+place_reference : (l : Link) → HasTwoSides l.end l.far → (y : End) (k : ℕ) (v : Value) → indexed l y ≡ Some (k, v) → IsReference v
 place_reference l two y k v =
-    elim (same_end l.end y) as (λ b. let p : Option (ℕ × Value) = (if b then Some (l.index, far_value l.far) else far_place l.far (node_value l.end.node) y) in p ≡ Some (k, v) → IsReference v) [
+    elim (same_end l.end y) as (λ b. let p : Option (ℕ × Value) = (if b then Some (l.index, far_value l.far) else far_indexed l.far (node_value l.end.node) y) in p ≡ Some (k, v) → IsReference v) [
       | true ↦ λ at. subst IsReference (some_pair_parts l.index k (far_value l.far) v at).1 (far_reference l.end l.far two)
       | false ↦ λ at. there_reference l.end l.far two y k v at
     ]

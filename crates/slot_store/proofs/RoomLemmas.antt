@@ -10,27 +10,27 @@ use Rattle.mm_types.proofs.SameLemmas.{same_end-self, same_node-self}
 use Rattle.links.specs.declared.plan.Edit.{Edit}
 use Rattle.links.specs.declared.plan.Edit.TheVariants as edit
 use Rattle.links.specs.Links.{far_end}
-use Rattle.node_rows.specs.declared.node_rows.NodeRows.{NodeRows}
-use Rattle.node_rows.specs.declared.node_rows.growth.PutPlaces.{PutPlaces}
-use Rattle.node_rows.specs.Cells.{room, row_place}
-use Rattle.node_rows.specs.Growth.{HasRoom, far_gain, lone_entry, one_if}
-use Rattle.node_rows.proofs.KeyLemmas.{known_entries, known_places}
-use Rattle.slot_store.specs.EditedCells.{HasHeldRow, held, held_far, held_place}
+use Rattle.node_slots.specs.declared.node_slots.NodeSlots.{NodeSlots}
+use Rattle.node_slots.specs.declared.node_slots.growth.PutPlaces.{PutPlaces}
+use Rattle.node_slots.specs.Cells.{room, row_index_of}
+use Rattle.node_slots.specs.Growth.{HasRoom, far_gain, lone_entry, one_if}
+use Rattle.node_slots.proofs.KeyLemmas.{known_entries, known_places}
+use Rattle.slot_store.specs.EditedCells.{HasHeldRow, held, held_far, held_row_index}
 
 -- the end that is put into has a row
-pub near_row : (t : NodeRows) (e : End) (i : ℕ) (o : ObjectNo) (g h : Option FeatureNo) → HasRoom (room t) (edit.Put e i o g h ∷ []) → (room t).rows e.node ≡ true
+pub near_row : (t : NodeSlots) (e : End) (i : ℕ) (o : ObjectNo) (g h : Option FeatureNo) → HasRoom (room t) (edit.Put e i o g h ∷ []) → (room t).rows e.node ≡ true
 near_row t e i o g h has =
     let one : one_if (same_end e e) ≡ 1 = ap one_if (same_end-self e) in
     known_places t e (omega (arith, has.places e, one))
 
 -- so has an end that a proxy is put into
-pub proxy_row : (t : NodeRows) (e : End) (i : ℕ) (text : List ℕ) → HasRoom (room t) (edit.PutProxy e i text ∷ []) → (room t).rows e.node ≡ true
+pub proxy_row : (t : NodeSlots) (e : End) (i : ℕ) (text : List ℕ) → HasRoom (room t) (edit.PutProxy e i text ∷ []) → (room t).rows e.node ≡ true
 proxy_row t e i text has =
     let one : one_if (same_end e e) ≡ 1 = ap one_if (same_end-self e) in
     known_places t e (omega (arith, has.places e, one))
 
 -- and so has the object
-pub far_row : (t : NodeRows) (e : End) (i : ℕ) (o : ObjectNo) (g h : Option FeatureNo) → HasRoom (room t) (edit.Put e i o g h ∷ []) → (room t).rows (node.Object o) ≡ true
+pub far_row : (t : NodeSlots) (e : End) (i : ℕ) (o : ObjectNo) (g h : Option FeatureNo) → HasRoom (room t) (edit.Put e i o g h ∷ []) → (room t).rows (node.Object o) ≡ true
 far_row t e i o None h has =
     let one : lone_entry o None (node.Object o) ≡ 1 = ap one_if (same_node-self (node.Object o)) in
     known_entries t (node.Object o) (omega (arith, has.entries (node.Object o), one))
@@ -38,7 +38,7 @@ far_row t e i o (Some g) h has =
     let one : far_gain o (Some g) (far_end o g) ≡ 1 = ap one_if (same_end-self (far_end o g)) in
     known_places t (far_end o g) (omega (arith, has.places (far_end o g), one))
 
-pub held_row : (t : NodeRows) (x : Edit) (e : End) (i : ℕ) (o : ObjectNo) (g h : Option FeatureNo) → x ≡ edit.Put e i o g h → HasRoom (room t) (x ∷ []) → HasHeldRow (held e o g h) (room t)
+pub held_row : (t : NodeSlots) (x : Edit) (e : End) (i : ℕ) (o : ObjectNo) (g h : Option FeatureNo) → x ≡ edit.Put e i o g h → HasRoom (room t) (x ∷ []) → HasHeldRow (held e o g h) (room t)
 held_row t x e i o g h is has = row h (subst (λ (y : Edit). HasRoom (room t) (y ∷ [])) is has)
   where
     row_far : (k : Option FeatureNo) (f : FeatureNo) → HasRoom (room t) (edit.Put e i o g h ∷ []) → HasHeldRow (held_far e o k f) (room t)
@@ -56,13 +56,13 @@ held_row t x e i o g h is has = row h (subst (λ (y : Edit). HasRoom (room t) (y
     ]
 
 -- what is contained has its row at the place that is looked up
-pub held_at : (t : NodeRows) (p : PutPlaces) (e : End) (o : ObjectNo) (g h : Option FeatureNo) → row_place t e.node ≡ Some p.near → row_place t (node.Object o) ≡ Some p.far → IfSome {T = Node × End} (held e o g h) (λ q. row_place t q.0 ≡ Some (held_place p e h))
+pub held_at : (t : NodeSlots) (p : PutPlaces) (e : End) (o : ObjectNo) (g h : Option FeatureNo) → row_index_of t e.node ≡ Some p.near → row_index_of t (node.Object o) ≡ Some p.far → IfSome {T = Node × End} (held e o g h) (λ q. row_index_of t q.0 ≡ Some (held_row_index p e h))
 held_at t p e o g None near far = tt
-held_at t p e o g (Some f) near far = elim (same_feature e.feature f) as (λ b. IfSome {T = Node × End} (if b then Some (node.Object o, e) else held_far e o g f) (λ q. row_place t q.0 ≡ Some (if b then p.far else p.near))) [
+held_at t p e o g (Some f) near far = elim (same_feature e.feature f) as (λ b. IfSome {T = Node × End} (if b then Some (node.Object o, e) else held_far e o g f) (λ q. row_index_of t q.0 ≡ Some (if b then p.far else p.near))) [
   | true ↦ far
   | false ↦ by g
 ]
   where
-    by : (k : Option FeatureNo) → IfSome {T = Node × End} (held_far e o k f) (λ q. row_place t q.0 ≡ Some p.near)
+    by : (k : Option FeatureNo) → IfSome {T = Node × End} (held_far e o k f) (λ q. row_index_of t q.0 ≡ Some p.near)
     by None = tt
-    by (Some k) = elim (same_feature k f) as (λ b. IfSome {T = Node × End} (if b then Some (e.node, far_end o k) else None) (λ q. row_place t q.0 ≡ Some p.near)) [ true ↦ near | false ↦ tt ]
+    by (Some k) = elim (same_feature k f) as (λ b. IfSome {T = Node × End} (if b then Some (e.node, far_end o k) else None) (λ q. row_index_of t q.0 ≡ Some p.near)) [ true ↦ near | false ↦ tt ]

@@ -10,7 +10,7 @@ use Rattle.mm_types.specs.declared.end.End.{End}
 use Rattle.mm_types.specs.declared.value.Value.{Value}
 use Rattle.mm_types.proofs.SameLemmas.{same_end-true, same_end-self}
 use Rattle.links.specs.Plans.{has_end}
-use Rattle.links.proofs.PlacesLemmas.{has_end_right, has_end_cases}
+use Rattle.links.proofs.EntriesLemmas.{has_end_right, has_end_cases}
 use Rattle.links.proofs.ListLemmas.{insert_end_is, slice_get-insert_below, slice_get-insert_at, slice_get-insert_above, slice_get-remove_below, slice_get-remove_above, length_remove}
 use Rattle.slot_store.specs.CellLinks.{Stands}
 

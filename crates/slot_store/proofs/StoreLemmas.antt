@@ -24,9 +24,9 @@ use Rattle.links.specs.Links.{In, Links, end, far_end, no_links}
 use Rattle.links.specs.declared.link.Link.{Link}
 use Rattle.links.proofs.EndLemmas.{from_list_HasLinks}
 use Rattle.links.proofs.ScanLemmas.{same_links}
-use Rattle.node_rows.specs.declared.node_rows.NodeRows.{NodeRows}
-use Rattle.node_rows.specs.Cells.{Cells, HasKeys, cells, ends_of, no_cells}
-use Rattle.node_rows.proofs.KeyLemmas.{keys_of}
+use Rattle.node_slots.specs.declared.node_slots.NodeSlots.{NodeSlots}
+use Rattle.node_slots.specs.Cells.{Cells, HasKeys, cells, ends_of, no_cells}
+use Rattle.node_slots.proofs.KeyLemmas.{keys_of}
 use Rattle.slot_store.specs.CellLinks.{AreLists, IsKept, IsStore, RepeatNothing, Stands, all_links, cell_links, store_links}
 use Rattle.slot_store.proofs.LinkLemmas.{all_back, all_there, end-lists}
 
@@ -52,7 +52,7 @@ kept_ends c es fs keys ok =
       once = ok.once;
     }
 
-module _ (t u : NodeRows) (same : cells u ≡ cells t) where
+module _ (t u : NodeSlots) (same : cells u ≡ cells t) where
   keys_now : HasKeys (cells t) (ends_of u)
   keys_now = subst (λ (c : Cells). HasKeys c (ends_of u)) same (keys_of u)
 
@@ -71,7 +71,7 @@ coded_values = hlevel codes
 coded_holder : Coded (Option End)
 coded_holder = hlevel codes
 
-module _ (t : NodeRows) (kept : ∥ IsStore t ∥₁) where
+module _ (t : NodeSlots) (kept : ∥ IsStore t ∥₁) where
   -- the ends of the links are the lists
   pub ends_kept : (e : End) → end (store_links t) e ≡ (cells t).vals e
   unfolding store_links
@@ -125,7 +125,7 @@ none_kept = record {
   once = λ o j k d h i. absurd (none-some d h);
 }
 
-module _ (t : NodeRows) (none : cells t ≡ no_cells) (no_ends : ends_of t ≡ []) where
+module _ (t : NodeSlots) (none : cells t ≡ no_cells) (no_ends : ends_of t ≡ []) where
   pub empty_kept : IsStore t
   empty_kept = subst (λ (c : Cells). IsKept c (ends_of t)) (sym none) (subst (λ (es : List End). IsKept no_cells es) (sym no_ends) none_kept)
 

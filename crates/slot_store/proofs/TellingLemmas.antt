@@ -15,12 +15,12 @@ use Rattle.links.specs.LegalSets.{AreKinds, AreOfKind, IsOfKind, Kinds}
 use Rattle.links.specs.Links.{far_end, joined}
 use Rattle.links.specs.declared.link.Far.TheVariants.{At}
 use Rattle.links.proofs.PutLemmas.{cases_end}
-use Rattle.node_rows.specs.declared.slot.Pairing.{Pairing}
-use Rattle.node_rows.specs.declared.slot.SlotEdit.{SlotEdit}
-use Rattle.node_rows.specs.declared.slot.SlotEdit.TheVariants.{Insert, Push, Remove, Move}
-use Rattle.node_rows.specs.declared.row.RowEdit.TheVariants.{Change}
-use Rattle.node_rows.specs.Slots.{pairing_after, values_after}
-use Rattle.node_rows.specs.Cells.{Cells, cell_edit}
+use Rattle.node_slots.specs.declared.slot.Pairing.{Pairing}
+use Rattle.node_slots.specs.declared.slot.SlotEdit.{SlotEdit}
+use Rattle.node_slots.specs.declared.slot.SlotEdit.TheVariants.{Insert, Push, Remove, Move}
+use Rattle.node_slots.specs.declared.row.RowEdit.TheVariants.{Change}
+use Rattle.node_slots.specs.Slots.{pairing_after, values_after}
+use Rattle.node_slots.specs.Cells.{Cells, cell_edit}
 use Rattle.slot_store.specs.CellLinks.{AreLists, Stands, cell_links, link_from, link_to}
 use Rattle.slot_store.specs.EditedCells.{cut_cells, cut_far, held, put_cells, put_far, put_near, without_value}
 use Rattle.slot_store.proofs.CellEditLemmas.{entry_out-pairing, entry_out-vals, here, there, holds-pairing, holds-vals, released-pairing, released-vals, same_twice}

@@ -16,8 +16,8 @@ use Rattle.links.specs.Holders.{holder}
 use Rattle.links.specs.LegalSets.{AreKinds, AreOfKind, IsDistinct, IsHeldOnce, IsObject, Kinds, most}
 use Rattle.links.specs.Links.{Links, far_end, joined}
 use Rattle.links.specs.Plans.{has_end}
-use Rattle.node_rows.specs.declared.node_rows.NodeRows.{NodeRows}
-use Rattle.node_rows.specs.Cells.{Cells, HasKeys, cells, ends_of}
+use Rattle.node_slots.specs.declared.node_slots.NodeSlots.{NodeSlots}
+use Rattle.node_slots.specs.Cells.{Cells, HasKeys, cells, ends_of}
 
 ---------------------------------------------------------------- links
 
@@ -93,13 +93,13 @@ pub record IsKept (c : Cells) (es : List End) : Type 0 where
 
 ---------------------------------------------------------------- of rows
 
-abbrev pub IsStore : NodeRows → Type 0
+abbrev pub IsStore : NodeSlots → Type 0
 IsStore t = IsKept (cells t) (ends_of t)
 
 -- the set of links that the rows stand for
-unfoldable pub store_links : NodeRows → Links
+unfoldable pub store_links : NodeSlots → Links
 store_links t = cell_links (cells t) (ends_of t)
 
 -- the links are of the kinds that a metamodel's features have
-abbrev pub IsStoreOfKind : NodeRows → Kinds → Type 0
+abbrev pub IsStoreOfKind : NodeSlots → Kinds → Type 0
 IsStoreOfKind t m = AreKinds m × AreOfKind m (store_links t)

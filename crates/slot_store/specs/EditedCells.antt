@@ -12,11 +12,11 @@ use Rattle.mm_types.specs.declared.value.Value.TheVariants as value
 use Rattle.links.specs.declared.plan.Edit.{Edit}
 use Rattle.links.specs.declared.plan.Edit.TheVariants as edit
 use Rattle.links.specs.Links.{far_end}
-use Rattle.node_rows.specs.declared.node_rows.growth.PutPlaces.{PutPlaces}
-use Rattle.node_rows.specs.declared.slot.Pairing.{Pairing}
-use Rattle.node_rows.specs.declared.slot.SlotEdit.TheVariants.{Insert, Push, Remove, Move}
-use Rattle.node_rows.specs.declared.row.RowEdit.TheVariants.{Change, Hold, Enter, Leave}
-use Rattle.node_rows.specs.Cells.{Cells, Room, cell_edit}
+use Rattle.node_slots.specs.declared.node_slots.growth.PutPlaces.{PutPlaces}
+use Rattle.node_slots.specs.declared.slot.Pairing.{Pairing}
+use Rattle.node_slots.specs.declared.slot.SlotEdit.TheVariants.{Insert, Push, Remove, Move}
+use Rattle.node_slots.specs.declared.row.RowEdit.TheVariants.{Change, Hold, Enter, Leave}
+use Rattle.node_slots.specs.Cells.{Cells, Room, cell_edit}
 
 -- the far end of a link from e to an object, where its feature g is the containing one, h: it contains e's node
 abbrev pub held_far : End → ObjectNo → Option FeatureNo → FeatureNo → Option (Node × End)
@@ -28,10 +28,10 @@ abbrev pub held : End → ObjectNo → Option FeatureNo → Option FeatureNo →
 held e o g None = None
 held e o g (Some h) = if same_feature e.feature h then Some (node.Object o, e) else held_far e o g h
 
--- the place of the row of what a link contains, by the places of the rows of both nodes
-abbrev pub held_place : PutPlaces → End → Option FeatureNo → ℕ
-held_place p e None = p.near
-held_place p e (Some h) = if same_feature e.feature h then p.far else p.near
+-- the index of the row of what a link contains, by the indexes of the rows of both nodes
+abbrev pub held_row_index : PutPlaces → End → Option FeatureNo → ℕ
+held_row_index p e None = p.near
+held_row_index p e (Some h) = if same_feature e.feature h then p.far else p.near
 
 abbrev pub holds : Option (Node × End) → Cells → Cells
 holds None c = c
@@ -80,13 +80,13 @@ cells_after (edit.Shift e to from) c = cell_edit e.node (Change e.feature (Move 
 cells_after (edit.PutProxy e i t) c = put_near e i (value.Proxy t) None c
 cells_after (edit.CutProxy e t) c = without_value e (value.Proxy t) c
 
--- no place is lost but so many for values, and so many for ends that hold a node
+-- no room is lost but so many for values, and so many for ends that hold a node
 pub record TakesAtMost (values : End → ℕ) (ends : Node → ℕ) (old new : Room) : Type 0 where
   pub places : (e : End) → old.places e ≤ new.places e + values e
   pub entries : (n : Node) → old.entries n ≤ new.entries n + ends n
   pub rows : (n : Node) → new.rows n ≡ old.rows n
 
--- the far side has a place
+-- the far side has room
 abbrev pub FarHasRoom : ObjectNo → Option FeatureNo → Room → Type 0
 FarHasRoom o None r = 1 ≤ r.entries (node.Object o)
 FarHasRoom o (Some g) r = 1 ≤ r.places (far_end o g)

@@ -9,8 +9,8 @@ use Rattle.mm_types.specs.declared.value.Value.{Value}
 use Rattle.mm_types.specs.declared.value.Value.TheVariants as value
 use Rattle.links.specs.LegalSets.{most}
 use Rattle.links.specs.Links.{far_end}
-use Rattle.node_rows.specs.declared.slot.Slot.{Slot}
-use Rattle.node_rows.specs.Cells.{Cells}
+use Rattle.node_slots.specs.declared.slot.Slot.{Slot}
+use Rattle.node_slots.specs.Cells.{Cells}
 
 -- the end of a feature at an object's node; of no other value
 abbrev pub far_of : FeatureNo → Option Value → List End

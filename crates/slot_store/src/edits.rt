@@ -5,16 +5,16 @@ ghost use Rattle.mm_types.specs.declared.numbers.Node.{Node};
 ghost use Rattle.mm_types.specs.declared.numbers.Node.TheVariants as node;
 ghost use Rattle.links.specs.LegalSets.{IsDistinct};
 ghost use Rattle.links.specs.Plans.{put_edit};
-ghost use Rattle.node_rows.specs.Cells.{cells, room, row_place};
-ghost use Rattle.node_rows.specs.Growth.{HasRoom, entry, far_gain, gain, lone_entry, no_ends, no_values, one_if};
+ghost use Rattle.node_slots.specs.Cells.{cells, room, row_index_of};
+ghost use Rattle.node_slots.specs.Growth.{HasRoom, entry, far_gain, gain, lone_entry, no_ends, no_values, one_if};
 ghost use Rattle.links.specs.declared.plan.Edit.TheVariants as edit;
 ghost use Rattle.slot_store.specs.CellLinks.{IsOnce, RepeatNothing};
-ghost use Rattle.slot_store.specs.EditedCells.{FarHasRoom, HasHeldRow, TakesAtMost, cells_after, cut_far, held, held_far, held_place, holds, put_far, put_near, released, without_entry, without_value};
+ghost use Rattle.slot_store.specs.EditedCells.{FarHasRoom, HasHeldRow, TakesAtMost, cells_after, cut_far, held, held_far, held_row_index, holds, put_far, put_near, released, without_entry, without_value};
 
 use crate::search::{entry_from, found};
 use links::{Edit, NewLink};
 use mm_types::{End, FeatureNo, Node, ObjectNo, Value};
-use node_rows::{NodeRows, Pairing, PutPlaces, RowEdit, SlotEdit};
+use node_slots::{NodeSlots, Pairing, PutPlaces, RowEdit, SlotEdit};
 use std::alloc::AllocError;
 
 /// A node as a value: no end has a resource.
@@ -59,7 +59,7 @@ fn held_by(end: End, object: ObjectNo, pairing: Pairing) -> Option<(Node, End)>
 }
 
 /// Takes a value out of an end, if it is there.
-fn take_out(rows: &mut NodeRows, end: End, value: &Value)
+fn take_out(rows: &mut NodeSlots, end: End, value: &Value)
     requires { IsDistinct ((cells rows.old).vals end) }
     ensures cells { cells rows.new ≡ without_value end value.now (cells rows.old) }
     ensures room { TakesAtMost no_values no_ends (room rows.old) (room rows.new) }
@@ -73,7 +73,7 @@ fn take_out(rows: &mut NodeRows, end: End, value: &Value)
 }
 
 /// Takes an end out of those with no opposite that hold an object, if it is there.
-fn take_out_entry(rows: &mut NodeRows, end: End, object: ObjectNo, guess: usize)
+fn take_out_entry(rows: &mut NodeSlots, end: End, object: ObjectNo, guess: usize)
     requires { IsOnce ((cells rows.old).entered (node.Object object)) }
     ensures cells { cells rows.new ≡ without_entry end object (cells rows.old) }
     ensures room { TakesAtMost no_values no_ends (room rows.old) (room rows.new) }
@@ -85,7 +85,7 @@ fn take_out_entry(rows: &mut NodeRows, end: End, object: ObjectNo, guess: usize)
 
 /// Takes a link out of its far side.
 fn take_out_far(
-    rows: &mut NodeRows,
+    rows: &mut NodeSlots,
     end: End,
     object: ObjectNo,
     opposite: Option<FeatureNo>,
@@ -103,7 +103,7 @@ fn take_out_far(
 }
 
 /// Tells a node that nothing contains it.
-fn release(rows: &mut NodeRows, pair: Option<(Node, End)>)
+fn release(rows: &mut NodeSlots, pair: Option<(Node, End)>)
     ensures cells { cells rows.new ≡ released pair (cells rows.old) }
     ensures room { TakesAtMost no_values no_ends (room rows.old) (room rows.new) }
 {
@@ -113,7 +113,7 @@ fn release(rows: &mut NodeRows, pair: Option<(Node, End)>)
 }
 
 /// Cuts the link of an object in an end: what is at the far side goes first, since it is found by the end.
-fn cut(rows: &mut NodeRows, end: End, object: ObjectNo, guess: usize)
+fn cut(rows: &mut NodeSlots, end: End, object: ObjectNo, guess: usize)
     requires { RepeatNothing (cells rows.old) }
     ensures cells { cells rows.new ≡ cells_after (edit.Cut end object) (cells rows.old) }
     ensures room { TakesAtMost no_values no_ends (room rows.old) (room rows.new) }
@@ -124,9 +124,9 @@ fn cut(rows: &mut NodeRows, end: End, object: ObjectNo, guess: usize)
     release(rows, held_by(end, object, pairing));
 }
 
-/// The place of the row of what a link contains, by the places of the rows of both nodes.
-fn held_place(places: PutPlaces, end: End, container: Option<FeatureNo>) -> usize
-    ensures { result ≡ held_place places end container }
+/// The index of the row of what a link contains, by the indexes of the rows of both nodes.
+fn held_row_index(places: PutPlaces, end: End, container: Option<FeatureNo>) -> usize
+    ensures { result ≡ held_row_index places end container }
 {
     match container {
         Some(feature) if end.feature == feature => places.far,
@@ -134,25 +134,25 @@ fn held_place(places: PutPlaces, end: End, container: Option<FeatureNo>) -> usiz
     }
 }
 
-/// Tells a node, whose row is at a place, the end that contains it.
-fn hold(rows: &mut NodeRows, place: usize, pair: Option<(Node, End)>)
+/// Tells a node, whose row is at an index, the end that contains it.
+fn hold(rows: &mut NodeSlots, row_index: usize, pair: Option<(Node, End)>)
     requires row { HasHeldRow pair (room rows.old) }
-    requires at { IfSome pair (λ p. row_place rows.old p.0 ≡ Some place) }
+    requires at { IfSome pair (λ p. row_index_of rows.old p.0 ≡ Some row_index) }
     ensures cells { cells rows.new ≡ holds pair (cells rows.old) }
     ensures room { TakesAtMost no_values no_ends (room rows.old) (room rows.new) }
 {
     if let Some((node, end)) = pair {
-        rows.edit_at(node, place, RowEdit::Hold(Some(end)));
+        rows.edit_at(node, row_index, RowEdit::Hold(Some(end)));
     }
 }
 
-/// Puts a link in at its far side, whose row is at a place.
-fn put_in_far(rows: &mut NodeRows, place: usize, link: NewLink)
+/// Puts a link in at its far side, whose row is at an index.
+fn put_in_far(rows: &mut NodeSlots, row_index: usize, link: NewLink)
     requires room { FarHasRoom link.object link.opposite (room rows.old) }
-    requires at { row_place rows.old (node.Object link.object) ≡ Some place }
+    requires at { row_index_of rows.old (node.Object link.object) ≡ Some row_index }
     ensures cells { cells rows.new ≡ put_far link.end link.object link.opposite link.container (cells rows.old) }
     ensures room { TakesAtMost (far_gain link.object link.opposite) (lone_entry link.object link.opposite) (room rows.old) (room rows.new) }
-    ensures places { (n : Node) → row_place rows.new n ≡ row_place rows.old n }
+    ensures places { (n : Node) → row_index_of rows.new n ≡ row_index_of rows.old n }
 {
     let node = Node::Object(link.object);
     match link.opposite {
@@ -164,43 +164,43 @@ fn put_in_far(rows: &mut NodeRows, place: usize, link: NewLink)
             let value = value_of(link.end.node);
             rows.edit_at(
                 node,
-                place,
+                row_index,
                 RowEdit::Change(feature, SlotEdit::Push { value, pairing }),
             );
         }
-        None => rows.edit_at(node, place, RowEdit::Enter(link.end)),
+        None => rows.edit_at(node, row_index, RowEdit::Enter(link.end)),
     }
 }
 
-/// Puts a value in at an index of an end, whose row is at a place; a put of an object tells of the feature.
+/// Puts a value in at an index of an end, whose row is at an index; a put of an object tells of the feature.
 fn put_in(
-    rows: &mut NodeRows,
-    place: usize,
+    rows: &mut NodeSlots,
+    row_index: usize,
     end: End,
     index: u32,
     value: Value,
     pairing: Option<Pairing>,
 )
     requires room { 1 ≤ (room rows.old).places end }
-    requires at { row_place rows.old end.node ≡ Some place }
+    requires at { row_index_of rows.old end.node ≡ Some row_index }
     ensures cells { cells rows.new ≡ put_near end index value pairing (cells rows.old) }
     ensures room { TakesAtMost (λ e. one_if (same_end end e)) no_ends (room rows.old) (room rows.new) }
-    ensures places { (n : Node) → row_place rows.new n ≡ row_place rows.old n }
+    ensures places { (n : Node) → row_index_of rows.new n ≡ row_index_of rows.old n }
 {
     let edit = SlotEdit::Insert {
         index: index as usize,
         value,
         pairing,
     };
-    rows.edit_at(end.node, place, RowEdit::Change(end.feature, edit));
+    rows.edit_at(end.node, row_index, RowEdit::Change(end.feature, edit));
 }
 
-/// Puts a link in; the rows of its nodes are at these places.
-fn put(rows: &mut NodeRows, places: PutPlaces, link: NewLink)
+/// Puts a link in; the rows of its nodes are at these indexes.
+fn put(rows: &mut NodeSlots, places: PutPlaces, link: NewLink)
     requires room { HasRoom (room rows.old) (put_edit link ∷ []) }
     requires held { HasHeldRow (held link.end link.object link.opposite link.container) (room rows.old) }
-    requires near { row_place rows.old link.end.node ≡ Some places.near }
-    requires far { row_place rows.old (node.Object link.object) ≡ Some places.far }
+    requires near { row_index_of rows.old link.end.node ≡ Some places.near }
+    requires far { row_index_of rows.old (node.Object link.object) ≡ Some places.far }
     ensures cells { cells rows.new ≡ cells_after (put_edit link) (cells rows.old) }
     ensures room { TakesAtMost (λ e. gain e (put_edit link)) (λ n. entry n (put_edit link)) (room rows.old) (room rows.new) }
 {
@@ -219,26 +219,26 @@ fn put(rows: &mut NodeRows, places: PutPlaces, link: NewLink)
     put_in_far(rows, places.far, link);
     hold(
         rows,
-        held_place(places, link.end, link.container),
+        held_row_index(places, link.end, link.container),
         held_by(link.end, link.object, pairing),
     );
 }
 
-/// The places of the rows of the nodes of a put for which there is room.
-fn places_of(rows: &NodeRows, end: End, object: ObjectNo) -> PutPlaces
+/// The indexes of the rows of the nodes of a put for which there is room.
+fn places_of(rows: &NodeSlots, end: End, object: ObjectNo) -> PutPlaces
     requires near { (room rows.now).rows end.node ≡ true }
     requires far { (room rows.now).rows (node.Object object) ≡ true }
-    ensures near { row_place rows.now end.node ≡ Some result.near }
-    ensures far { row_place rows.now (node.Object object) ≡ Some result.far }
+    ensures near { row_index_of rows.now end.node ≡ Some result.near }
+    ensures far { row_index_of rows.now (node.Object object) ≡ Some result.far }
 {
     PutPlaces {
-        near: rows.place(end.node),
-        far: rows.place(Node::Object(object)),
+        near: rows.row_index(end.node),
+        far: rows.row_index(Node::Object(object)),
     }
 }
 
 /// Makes room for a link, and puts it in. Errs only if memory is refused; no value changes then.
-pub(crate) fn put_with_room(rows: &mut NodeRows, link: NewLink) -> Result<(), AllocError>
+pub(crate) fn put_with_room(rows: &mut NodeSlots, link: NewLink) -> Result<(), AllocError>
     ensures { cells rows.new ≡ (if is_ok result then cells_after (put_edit link) (cells rows.old) else cells rows.old) }
 {
     let places = rows.reserve_put(link)?;
@@ -247,7 +247,7 @@ pub(crate) fn put_with_room(rows: &mut NodeRows, link: NewLink) -> Result<(), Al
 }
 
 /// Moves what is at an index of an end.
-fn shift(rows: &mut NodeRows, end: End, to: u32, from: u32)
+fn shift(rows: &mut NodeSlots, end: End, to: u32, from: u32)
     ensures cells { cells rows.new ≡ cells_after (edit.Shift end to from) (cells rows.old) }
     ensures room { TakesAtMost no_values no_ends (room rows.old) (room rows.new) }
 {
@@ -260,7 +260,7 @@ fn shift(rows: &mut NodeRows, end: End, to: u32, from: u32)
 
 /// Makes one edit, for which there is room. An end that it takes out of those that hold an object is looked for at a guess first.
 /// Takes no memory.
-pub(crate) fn edit_rows(rows: &mut NodeRows, edit: Edit, guess: usize)
+pub(crate) fn edit_rows(rows: &mut NodeSlots, edit: Edit, guess: usize)
     requires room { HasRoom (room rows.old) (edit ∷ []) }
     requires distinct { RepeatNothing (cells rows.old) }
     ensures cells { cells rows.new ≡ cells_after edit (cells rows.old) }
@@ -287,8 +287,8 @@ pub(crate) fn edit_rows(rows: &mut NodeRows, edit: Edit, guess: usize)
         }
         Edit::Shift { end, to, from } => shift(rows, end, to, from),
         Edit::PutProxy { end, index, text } => {
-            let place = rows.place(end.node);
-            put_in(rows, place, end, index, Value::Proxy(text), None);
+            let row_index = rows.row_index(end.node);
+            put_in(rows, row_index, end, index, Value::Proxy(text), None);
         }
         Edit::CutProxy { end, text } => take_out(rows, end, &Value::Proxy(text)),
     }

@@ -1,18 +1,18 @@
-//! The places of an object, read off its own lists and the ends that are kept of it.
+//! The entries of an object, read off its own lists and the ends that are kept of it.
 ghost use Rattle.std.specs.Prelude.{◌≡◌, ◌++◌, IfOk, OnOk};
 ghost use Rattle.std.specs.Option.{option_copied, option_to_list};
 ghost use Rattle.mm_types.specs.declared.numbers.Node.TheVariants as node;
 ghost use Rattle.links.specs.LegalSets.{IsDistinct};
-ghost use Rattle.links.specs.Found.{place_if, places_by};
-ghost use Rattle.node_rows.specs.Cells.{cells, row_at};
-ghost use Rattle.node_rows.specs.Rows.{row_slots};
+ghost use Rattle.links.specs.Found.{entry_if, entries_by};
+ghost use Rattle.node_slots.specs.Cells.{cells, row_at};
+ghost use Rattle.node_slots.specs.Rows.{row_slots};
 ghost use Rattle.slot_store.specs.CellLinks.{RepeatNothing};
 ghost use Rattle.slot_store.specs.Entering.{AreFew, ends_at, entering_ends, far_ends, far_of, found_in, paired_ends};
 
 use crate::search::found;
 use links::Incoming;
 use mm_types::{End, FeatureNo, Node, ObjectNo, Value};
-use node_rows::{NodeRows, Slot};
+use node_slots::{NodeSlots, Slot};
 use std::alloc::{AllocError, Global};
 
 /// Adds the end of a feature at an object's node; of no other value.
@@ -30,7 +30,7 @@ fn push_far(value: Option<&Value>, feature: FeatureNo, out: &mut Vec<End>) -> Re
 
 /// Adds the ends of a feature at the objects of an end.
 fn push_far_ends(
-    rows: &NodeRows,
+    rows: &NodeSlots,
     end: End,
     feature: FeatureNo,
     out: &mut Vec<End>,
@@ -44,7 +44,7 @@ fn push_far_ends(
 }
 
 /// Adds the far ends of the links of an end, if its feature has an opposite.
-fn push_ends(rows: &NodeRows, end: End, out: &mut Vec<End>) -> Result<(), AllocError>
+fn push_ends(rows: &NodeSlots, end: End, out: &mut Vec<End>) -> Result<(), AllocError>
     ensures { OnOk result (out.new.items ≡ out.old.items ++ ends_at (cells rows.now) end) }
 {
     match rows.pairing(end).opposite {
@@ -55,7 +55,7 @@ fn push_ends(rows: &NodeRows, end: End, out: &mut Vec<End>) -> Result<(), AllocE
 
 /// Adds the far ends of the links of an object's features.
 fn push_paired(
-    rows: &NodeRows,
+    rows: &NodeSlots,
     object: ObjectNo,
     slots: &[Slot],
     out: &mut Vec<End>,
@@ -83,7 +83,7 @@ fn push_end(end: Option<&End>, out: &mut Vec<End>) -> Result<(), AllocError>
 }
 
 /// Adds the ends with no opposite that hold a node.
-fn push_entered(rows: &NodeRows, node: Node, out: &mut Vec<End>) -> Result<(), AllocError>
+fn push_entered(rows: &NodeSlots, node: Node, out: &mut Vec<End>) -> Result<(), AllocError>
     ensures { OnOk result (out.new.items ≡ out.old.items ++ (cells rows.now).entered node) }
 {
     for index in 0..rows.entered_len(node) {
@@ -95,7 +95,7 @@ fn push_entered(rows: &NodeRows, node: Node, out: &mut Vec<End>) -> Result<(), A
 /// The ends that have an object, in no order.
 pub(crate) fn entering(
     alloc: Global,
-    rows: &NodeRows,
+    rows: &NodeSlots,
     object: ObjectNo,
 ) -> Result<Vec<End>, AllocError>
     ensures { IfOk result (λ r. r.items ≡ entering_ends (cells rows.now) object (row_slots (row_at rows.now (node.Object object)))) }
@@ -109,14 +109,14 @@ pub(crate) fn entering(
 
 /// Adds the position of a value in an end, if it has it.
 fn push_place(
-    rows: &NodeRows,
+    rows: &NodeSlots,
     end: End,
     value: &Value,
     out: &mut Vec<Incoming>,
 ) -> Result<(), AllocError>
     requires few { AreFew (cells rows.now) }
     requires distinct { IsDistinct ((cells rows.now).vals end) }
-    ensures { OnOk result (out.new.items ≡ out.old.items ++ place_if end (found_in (cells rows.now) value.now end)) }
+    ensures { OnOk result (out.new.items ≡ out.old.items ++ entry_if end (found_in (cells rows.now) value.now end)) }
 {
     if let Some(index) = found(rows, end, value) {
         out.push(Incoming {
@@ -131,13 +131,13 @@ fn push_place(
 /// The position of a value in each of some ends that has it.
 pub(crate) fn places_of(
     alloc: Global,
-    rows: &NodeRows,
+    rows: &NodeSlots,
     ends: &[End],
     value: &Value,
 ) -> Result<Vec<Incoming>, AllocError>
     requires few { AreFew (cells rows.now) }
     requires distinct { RepeatNothing (cells rows.now) }
-    ensures { IfOk result (λ r. r.items ≡ places_by (found_in (cells rows.now) value.now) ends.now) }
+    ensures { IfOk result (λ r. r.items ≡ entries_by (found_in (cells rows.now) value.now) ends.now) }
 {
     let mut out = Vec::new(alloc);
     for end in ends {

@@ -1,4 +1,4 @@
-//! A store of links with a list of values for each end, so that what an end has is read in its place.
+//! A store of links with a list of values for each end, so that what an end has is read where it is.
 #![tactic(auto)]
 
 mod edits;

@@ -1,20 +1,20 @@
-//! The place of a value in an end, and of an end among those that hold an object.
+//! The position of a value in an end, and of an end among those that hold an object.
 //!
-//! Most lists are made in the order of the numbers of their objects. So a place is guessed as if the list were, the two ends
+//! Most lists are made in the order of the numbers of their objects. So a position is guessed as if the list were, the two ends
 //! before the middle, and only if it is elsewhere is the list gone through. The ends that hold an object may be in any order, so
 //! they are put in that of their ranks if an end that is cut is not at its guess: the next ones then are.
 ghost use Rattle.std.specs.Prelude.{◌≡◌, position};
 ghost use Rattle.mm_types.specs.Same.{same_end};
 ghost use Rattle.mm_types.specs.declared.numbers.Node.TheVariants as node;
 ghost use Rattle.links.specs.LegalSets.{IsDistinct};
-ghost use Rattle.node_rows.specs.Cells.{AreReordered, cells, room};
+ghost use Rattle.node_slots.specs.Cells.{AreReordered, cells, room};
 ghost use Rattle.slot_store.specs.CellLinks.{IsOnce};
 ghost use Rattle.slot_store.specs.Entering.{found_in};
 
 use mm_types::{End, Node, ObjectNo, Value};
-use node_rows::{NodeRows, entry_rank};
+use node_slots::{NodeSlots, entry_rank};
 
-/// The place of a rank among so many, if it is the first or the last, or they rise or fall. Among others it is any place.
+/// The position of a rank among so many, if it is the first or the last, or they rise or fall. Among others it is any position.
 fn guess<F: Fn(usize) -> Option<u64>>(len: usize, rank: u64, rank_at: F) -> usize
     requires { F.IsAlwaysCallable rank_at }
 {
@@ -55,7 +55,7 @@ pub(crate) fn is_same(a: End, b: End) -> bool
 }
 
 /// The index of the first text of an end, if its objects come before its texts. Else it is any index.
-fn first_text(rows: &NodeRows, end: End) -> usize {
+fn first_text(rows: &NodeSlots, end: End) -> usize {
     let mut low = 0;
     let mut high = rows.len(end);
     while low < high {
@@ -68,9 +68,9 @@ fn first_text(rows: &NodeRows, end: End) -> usize {
     low
 }
 
-/// The place that a value may have in an end. Proxies that are resolved in the order of their list leave a text after the
+/// The position that a value may have in an end. Proxies that are resolved in the order of their list leave a text after the
 /// objects.
-fn value_guess(rows: &NodeRows, end: End, value: &Value) -> usize {
+fn value_guess(rows: &NodeSlots, end: End, value: &Value) -> usize {
     match object_rank(Some(value)) {
         Some(rank) => guess(
             rows.len(end),
@@ -82,7 +82,7 @@ fn value_guess(rows: &NodeRows, end: End, value: &Value) -> usize {
 }
 
 /// The index of a value in an end that repeats nothing; `None` if it is not there. It is looked for at a guess first.
-pub(crate) fn found(rows: &NodeRows, end: End, value: &Value) -> Option<usize>
+pub(crate) fn found(rows: &NodeSlots, end: End, value: &Value) -> Option<usize>
     requires { IsDistinct ((cells rows.now).vals end) }
     ensures { result ≡ found_in (cells rows.now) value.now end }
 {
@@ -93,8 +93,8 @@ pub(crate) fn found(rows: &NodeRows, end: End, value: &Value) -> Option<usize>
     }
 }
 
-/// The place of an end among those with no opposite that hold an object, if they are in order.
-fn entry_guess(rows: &NodeRows, object: ObjectNo, end: End) -> usize {
+/// The position of an end among those with no opposite that hold an object, if they are in order.
+fn entry_guess(rows: &NodeSlots, object: ObjectNo, end: End) -> usize {
     let node = Node::Object(object);
     guess(rows.entered_len(node), entry_rank(end), |index| {
         rows.entered_at(node, index).map(|there| entry_rank(*there))
@@ -103,7 +103,12 @@ fn entry_guess(rows: &NodeRows, object: ObjectNo, end: End) -> usize {
 
 /// The index of an end among those with no opposite that hold an object, each of them once; `None` if it is not there. It is
 /// looked for at a guess first.
-pub(crate) fn entry_from(rows: &NodeRows, object: ObjectNo, end: End, guess: usize) -> Option<usize>
+pub(crate) fn entry_from(
+    rows: &NodeSlots,
+    object: ObjectNo,
+    end: End,
+    guess: usize,
+) -> Option<usize>
     requires { IsOnce ((cells rows.now).entered (node.Object object)) }
     ensures { result ≡ position (same_end end) ((cells rows.now).entered (node.Object object)) }
 {
@@ -115,16 +120,16 @@ pub(crate) fn entry_from(rows: &NodeRows, object: ObjectNo, end: End, guess: usi
 }
 
 /// The same, with no guess.
-pub(crate) fn entry_found(rows: &NodeRows, object: ObjectNo, end: End) -> Option<usize>
+pub(crate) fn entry_found(rows: &NodeSlots, object: ObjectNo, end: End) -> Option<usize>
     requires { IsOnce ((cells rows.now).entered (node.Object object)) }
     ensures { result ≡ position (same_end end) ((cells rows.now).entered (node.Object object)) }
 {
     entry_from(rows, object, end, entry_guess(rows, object, end))
 }
 
-/// A guess at the place of an end among those with no opposite that hold an object. If it is not there, they are put in order,
+/// A guess at the position of an end among those with no opposite that hold an object. If it is not there, they are put in order,
 /// and it is guessed again: each end is moved once, and so many cuts take no longer than sorting. Takes no memory.
-pub(crate) fn ordered_guess(rows: &mut NodeRows, object: ObjectNo, end: End) -> usize
+pub(crate) fn ordered_guess(rows: &mut NodeSlots, object: ObjectNo, end: End) -> usize
     ensures cells { AreReordered (cells rows.old) (cells rows.new) }
     ensures room { room rows.new ≡ room rows.old }
 {

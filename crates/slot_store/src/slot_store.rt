@@ -4,8 +4,8 @@ ghost use Rattle.std.specs.Option.{option_copied};
 ghost use Rattle.mm_types.specs.declared.value.Value.TheVariants as value;
 ghost use Rattle.links.specs.Links.{object_of, text_of};
 ghost use Rattle.links.specs.Plans.{HasPlanOfKind, PlanFits, applied};
-ghost use Rattle.node_rows.specs.Cells.{cells, room};
-ghost use Rattle.node_rows.specs.Growth.{HasRoom};
+ghost use Rattle.node_slots.specs.Cells.{cells, room};
+ghost use Rattle.node_slots.specs.Growth.{HasRoom};
 ghost use Rattle.slot_store.specs.CellLinks.{IsStore, IsStoreOfKind, Stands, store_links};
 
 use crate::edits::{edit_rows, put_with_room, value_of};
@@ -13,14 +13,14 @@ use crate::incoming::{entering, places_of};
 use crate::search::{entry_found, found, ordered_guess};
 use links::{Edit, Incoming, LinkStore, NewLink, Plan, put_in_order};
 use mm_types::{End, Node, ObjectNo, Value};
-use node_rows::NodeRows;
+use node_slots::NodeSlots;
 use std::alloc::{AllocError, Global};
 
 /// Links as lists at both their ends, with the end that contains each node. What an end has, and what contains a node, is read
-/// in its place, however many links there are.
+/// where it is, however many links there are.
 #[derive(Drop)]
 pub struct SlotStore {
-    rows: NodeRows,
+    rows: NodeSlots,
     ghost kept: { ∥ IsStore rows ∥₁ },
 }
 
@@ -33,7 +33,7 @@ impl LinkStore for SlotStore {
 
     fn empty(alloc: Global) -> Self {
         SlotStore {
-            rows: NodeRows::new(alloc),
+            rows: NodeSlots::new(alloc),
         }
     }
 
@@ -105,7 +105,7 @@ fn text_of(value: Option<&Value>) -> Option<&str>
 }
 
 /// Whether the far side, if it is the shorter list, tells that an object is not in an end.
-fn far_lacks(rows: &NodeRows, end: End, object: ObjectNo) -> bool
+fn far_lacks(rows: &NodeSlots, end: End, object: ObjectNo) -> bool
     requires { ∥ IsStore rows.now ∥₁ }
     ensures { result ≡ true → Stands ((cells rows.now).vals end) (value.Object object) → ⊥ }
 {
@@ -124,9 +124,9 @@ fn far_lacks(rows: &NodeRows, end: End, object: ObjectNo) -> bool
     }
 }
 
-/// A guess at the place of an end among those that hold an object, if an edit takes it out of them. They may be put in order for
+/// A guess at the position of an end among those that hold an object, if an edit takes it out of them. They may be put in order for
 /// it.
-fn make_guess(rows: &mut NodeRows, edit: &Edit) -> usize
+fn make_guess(rows: &mut NodeSlots, edit: &Edit) -> usize
     requires kept { ∥ IsStore rows.old ∥₁ }
     ensures kept { ∥ IsStore rows.new ∥₁ }
     ensures links { store_links rows.new ≡ store_links rows.old }
@@ -141,7 +141,7 @@ fn make_guess(rows: &mut NodeRows, edit: &Edit) -> usize
 }
 
 /// Makes the edits of a plan, in their order.
-fn apply_rows(rows: &mut NodeRows, plan: Plan)
+fn apply_rows(rows: &mut NodeSlots, plan: Plan)
     requires kept { ∥ IsStore rows.old ∥₁ }
     requires fits { PlanFits (store_links rows.old) plan }
     requires of_kind { HasPlanOfKind (IsStoreOfKind rows.old) plan }

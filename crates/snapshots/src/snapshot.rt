@@ -5,7 +5,7 @@ ghost use Rattle.std.specs.List.{find};
 ghost use Rattle.snapshots.specs.Replayed.{state_at};
 ghost use Rattle.snapshots.specs.Order.{AreInOrder};
 
-use crate::replaying::place_of;
+use crate::replaying::state_index;
 use mm_types::{ClassNo, FeatureNo, Node, Seq, Value};
 use std::marker::Model;
 
@@ -73,8 +73,8 @@ impl Snapshot {
     pub fn state(&self, node: Node) -> Option<&NodeState>
         ensures { option_copied result ≡ state_at node self.now }
     {
-        match place_of(&self.nodes, node) {
-            Some(place) => Some(&self.nodes[place]),
+        match state_index(&self.nodes, node) {
+            Some(index) => Some(&self.nodes[index]),
             None => None,
         }
     }

@@ -25,7 +25,7 @@ impl Snapshot {
     {
         let objects = objects_below(alloc, model, target)?;
         let nodes = states_of(alloc, model, target, objects.as_slice())?;
-        model.is_legal();
+        model.lemma_is_legal();
         Ok(Snapshot::from_vec(nodes))
     }
 }
@@ -38,7 +38,7 @@ fn objects_below<L: LinkStore>(
 ) -> Result<Vec<ObjectNo>, AllocError>
     ensures { IfOk result (λ os. AreBelow (reading model.now) target os.items) }
 {
-    model.is_legal();
+    model.lemma_is_legal();
     let mut objects = node_subtree(alloc, model, target)?;
     objects.sort_unstable_by_key(|object| object.0);
     Ok(objects)
@@ -174,7 +174,7 @@ fn shown_values<L: LinkStore>(
 fn flag_at<L: LinkStore>(model: &ModelRef<L>, end: End) -> Option<bool>
     ensures { result ≡ snapshots.flag_of (shape model.now.metamodel end.feature).is_unsettable ((reading model.now).flag end) }
 {
-    model.is_legal();
+    model.lemma_is_legal();
     if !model.meta().is_unsettable(end.feature) {
         return None;
     }

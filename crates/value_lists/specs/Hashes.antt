@@ -42,6 +42,6 @@ Counts t vs = (h : ℕ) → count_in t h ≡ count_by (has_hash h) vs
 abbrev pub ValuePlaces : Type 0
 ValuePlaces = Places Value
 
--- what a contract sees of a list and its table: each insert needs a place in both
+-- what a contract sees of a list and its table: each insert needs room in both
 abbrev pub places_in_both : ValuePlaces → HashCounts → ValuePlaces
 places_in_both p t = record { items = p.items; spare = min p.spare (spare t.counts) }

@@ -37,7 +37,7 @@ impl Model for CountedList {
 }
 
 impl CountedList {
-    /// No values, and no place. Takes no memory.
+    /// No values, and no room. Takes no memory.
     fn new(alloc: Global) -> Self
         ensures { result.items ≡ [] }
     {
@@ -121,7 +121,7 @@ impl CountedList {
         }
     }
 
-    /// Makes places for more values, in the list and in the table. Errs only if memory is refused, and then the values stay and no place is
+    /// Makes places for more values, in the list and in the table. Errs only if memory is refused, and then the values stay and no room is
     /// lost.
     pub fn reserve(&mut self, additional: usize) -> Result<(), AllocError>
         ensures items { self.new.items ≡ self.old.items }
@@ -132,7 +132,7 @@ impl CountedList {
         self.hashes.reserve(additional)
     }
 
-    /// Inserts a value before the one at an index, or at the end, in a place that there is. Takes no memory.
+    /// Inserts a value before the one at an index, or at the end, for which there is room. Takes no memory.
     pub fn insert(&mut self, index: usize, value: Value)
         requires room { 0 < self.old.spare }
         requires in_range { index ≤ length self.old.items }

@@ -9,7 +9,7 @@ use mm_types::Value;
 use std::alloc::{AllocError, Global};
 use std::hash::{DefaultHasher, Hash, Hasher};
 
-/// How many values have a hash, and the place of the one that was put in last, as it was then.
+/// How many values have a hash, and the index of the one that was put in last, as it was then.
 #[derive(Clone, Copy)]
 pub(crate) struct Counted {
     pub count: usize,

@@ -16,7 +16,7 @@ use std::{mem, slice};
 const SHORT: usize = 64;
 
 /// A list has a table of its hashes if it is long and is looked up by value. It then lies in a box with its table, so that a list without
-/// one keeps no place for it. Most lists are those of single features: one value is in the list itself, and takes no block of memory.
+/// one keeps no room for it. Most lists are those of single features: one value is in the list itself, and takes no block of memory.
 #[derive(Drop)]
 enum Layout {
     Empty,
@@ -107,7 +107,7 @@ impl ValueList {
     }
 
     /// Makes places for more values of a list. The list may be one that is looked up by value, or not. Errs only if memory is refused, and
-    /// then the values stay and no place is lost.
+    /// then the values stay and no room is lost.
     pub fn reserve(
         &mut self,
         alloc: Global,
@@ -148,7 +148,7 @@ impl ValueList {
         Ok(())
     }
 
-    /// Inserts a value before the one at an index, or at the end, in a place that there is. Takes no memory.
+    /// Inserts a value before the one at an index, or at the end, for which there is room. Takes no memory.
     pub fn insert(&mut self, index: usize, value: Value)
         requires room { 0 < self.old.spare }
         requires in_range { index ≤ length self.old.items }
@@ -245,7 +245,7 @@ fn layout_of(mut values: Vec<Value>) -> Layout
     }
 }
 
-/// One value in place of those of a list, which keeps its block if it has places for more.
+/// One value instead of those of a list, which keeps its block if it has places for more.
 fn layout_of_one(alloc: Global, mut list: SlotList<Value>, value: Value) -> Layout
     ensures items { (places_of result).items ≡ value ∷ [] }
     ensures spare { list.spare ≤ (places_of result).spare + 1 }

@@ -77,7 +77,7 @@ fn text_of(alloc: Global, url: &Url) -> Result<String, UriFault>
 /// The URI that a reference is by itself, as `url` writes it, or else joined with a base.
 ///
 /// `Bad` if it is no URI either way, if the URI's scheme is neither http nor https, or if it has a `#`. `Memory`
-/// if memory was refused, or the URI would be longer than URIs can be.
+/// if memory is refused, or the URI would be longer than URIs can be.
 pub fn joined(alloc: Global, base: &str, reference: &str) -> Result<String, UriFault>
     ensures joins { Joins result base.now reference.now }
     ensures web { IfOk result (λ t. IsWebUri (string_bytes t)) }

@@ -31,15 +31,15 @@ impl<A: Adapter> AdapterList<A> {
         requires no_cycle { HasNoCycle (L.links store.now) }
         ensures { IfOk result (λ v. v.items ≡ audience_numbers (above (L.links store.now)) notice.now self.now.0) }
     {
-        let places = self.hearers(store, notice.notifier)?;
+        let ordinals = self.hearers(store, notice.notifier)?;
         let mut numbers = Vec::new(self.alloc);
-        for place in &places {
-            numbers.push(self.attached[*place].no)?;
+        for ordinal in &ordinals {
+            numbers.push(self.attached[*ordinal].no)?;
         }
         Ok(numbers)
     }
 
-    /// Reserves all that a chain needs: for each adapter a place for each notice of it that it hears, and one more for each of its
+    /// Reserves all that a chain needs: for each adapter places for the notices of it that it hears, and one more for each of its
     /// targets; and the copies of the notices. Who hears them goes by the containers that `store` has now, so it is called before the
     /// change. Whatever it returns, the adapters have heard and keep what they did, and none has fewer places: a round that fitted
     /// them still does.
@@ -83,7 +83,7 @@ impl<A: Adapter> AdapterList<A> {
         ensures no_fewer { (k : ℕ) → slice_index self.old.1 k ≤ slice_index self.new.1 k }
         ensures still_fits { (r : RoundView) → RoundFits self.old.0 self.old.1 r → RoundFits self.new.0 self.new.1 r }
     {
-        self.keeps_its_rules();
+        self.lemma_keeps_rules();
         let Ok(round) = self.round(store, chain.as_slice(), hearers) else {
             return Err(Refused::Memory);
         };
@@ -105,20 +105,20 @@ impl<A: Adapter> AdapterList<A> {
         ensures by_number { result.items ≡ told_by round.copies self.old.0 }
     {
         let (copies, told) = round.into_parts();
-        for (place, notice) in copies {
-            self.tell_at(place, notice);
+        for (ordinal, notice) in copies {
+            self.tell_at(ordinal, notice);
         }
         told
     }
 
-    /// Notifies the adapter at `place`.
-    fn tell_at(&mut self, place: usize, notice: Notice)
-        requires within { place < length self.old.1 }
-        requires spare { targets_at self.old.0 place < slice_index self.old.1 place }
-        ensures heard { self.new.0 ≡ tell_at self.old.0 place notice }
-        ensures places { self.new.1 ≡ use_place self.old.1 place }
+    /// Notifies the adapter at `ordinal`.
+    fn tell_at(&mut self, ordinal: usize, notice: Notice)
+        requires within { ordinal < length self.old.1 }
+        requires spare { targets_at self.old.0 ordinal < slice_index self.old.1 ordinal }
+        ensures heard { self.new.0 ≡ tell_at self.old.0 ordinal notice }
+        ensures places { self.new.1 ≡ use_place self.old.1 ordinal }
     {
-        let one = &mut self.attached[place];
+        let one = &mut self.attached[ordinal];
         one.adapter.notify_changed(notice);
     }
 
@@ -138,24 +138,24 @@ impl<A: Adapter> AdapterList<A> {
         let mut round = Round::new(self.alloc);
         for notice in chain {
             self.find_hearers(store, notice.notifier, hearers)?;
-            self.add_copies(&hearers.places, notice, &mut round)?;
+            self.add_copies(&hearers.ordinals, notice, &mut round)?;
         }
         Ok(round)
     }
 
-    /// Adds the copies of a notice for the adapters at some places to a round.
+    /// Adds the copies of a notice for the adapters at some ordinals to a round.
     fn add_copies(
         &self,
-        places: &[usize],
+        ordinals: &[usize],
         notice: &Notice,
         round: &mut Round,
     ) -> Result<(), AllocError>
-        requires within { All (λ k. k < length self.now.0) places.now }
-        ensures copies { OnOk result (round.new.copies ≡ round.old.copies ++ copies_at places.now notice.now) }
-        ensures told { OnOk result (round.new.told ≡ round.old.told ++ told_by (copies_at places.now notice.now) self.now.0) }
+        requires within { All (λ k. k < length self.now.0) ordinals.now }
+        ensures copies { OnOk result (round.new.copies ≡ round.old.copies ++ copies_at ordinals.now notice.now) }
+        ensures told { OnOk result (round.new.told ≡ round.old.told ++ told_by (copies_at ordinals.now notice.now) self.now.0) }
     {
-        for place in places {
-            round.add(*place, self.attached[*place].no, notice)?;
+        for ordinal in ordinals {
+            round.add(*ordinal, self.attached[*ordinal].no, notice)?;
         }
         Ok(())
     }

@@ -15,27 +15,27 @@ use std::alloc::AllocError;
 use std::collections::BTreeSet;
 
 impl<A: Adapter> AdapterList<A> {
-    /// The places, in attach order, of the adapters that have one of some objects as a target. Only the adapters of those objects
+    /// The ordinals, in attach order, of the adapters that have one of some objects as a target. Only the adapters of those objects
     /// are looked at. Errs only if memory is refused.
     pub fn touched(&self, objects: &[ObjectNo]) -> Result<Vec<usize>, AllocError>
         ensures { IfOk result (λ v. v.items ≡ touched_by objects.now self.now.0) }
     {
-        let mut places = BTreeSet::new(self.alloc);
-        self.add_objects(objects, &mut places)?;
-        let found = in_order(self.alloc, &places)?;
+        let mut ordinals = BTreeSet::new(self.alloc);
+        self.add_objects(objects, &mut ordinals)?;
+        let found = in_order(self.alloc, &ordinals)?;
         Ok(found)
     }
 
-    /// Adds the places of the adapters that have one of some objects as a target.
+    /// Adds the ordinals of the adapters that have one of some objects as a target.
     fn add_objects(
         &self,
         objects: &[ObjectNo],
-        places: &mut BTreeSet<usize>,
+        ordinals: &mut BTreeSet<usize>,
     ) -> Result<(), AllocError>
-        ensures { OnOk result ((k : ℕ) → contains nat_cmp places.new k ≡ (contains nat_cmp places.old k || list_any (λ o. is_attached_at self.now.0 (node.Object o) false k) objects.now)) }
+        ensures { OnOk result ((k : ℕ) → contains nat_cmp ordinals.new k ≡ (contains nat_cmp ordinals.old k || list_any (λ o. is_attached_at self.now.0 (node.Object o) false k) objects.now)) }
     {
         for object in objects {
-            self.add_attached(Node::Object(*object), false, places)?;
+            self.add_attached(Node::Object(*object), false, ordinals)?;
         }
         Ok(())
     }

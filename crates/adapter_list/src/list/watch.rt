@@ -16,7 +16,7 @@ use notice_chain::Target;
 use std::alloc::AllocError;
 
 impl<A: Adapter> AdapterList<A> {
-    /// Gives an adapter a target, the last of its targets, and reserves a place for its last notice from it. False, and nothing
+    /// Gives an adapter a target, the last of its targets, and reserves one of its places for its last notice from it. False, and nothing
     /// changes, if the node is a target of it; whether that one is deep stays as it is.
     ///
     /// Refused, in this order, with Limit if there are 100,000 targets, NoAdapter if the number is not attached and AdapterFull
@@ -35,10 +35,10 @@ impl<A: Adapter> AdapterList<A> {
         if self.targets_len >= limits::TARGETS {
             return Err(Refused::Limit);
         }
-        let Some(place) = self.place_of(no) else {
+        let Some(ordinal) = self.ordinal_of(no) else {
             return Err(Refused::NoAdapter);
         };
-        self.add_target(place, no, node, deep)?;
+        self.add_target(ordinal, no, node, deep)?;
         Ok(true)
     }
 
@@ -49,16 +49,16 @@ impl<A: Adapter> AdapterList<A> {
         self.by_target.index_of(node, no).is_some()
     }
 
-    /// Gives the adapter at `place`, which has the number `no`, a target that it has not.
+    /// Gives the adapter at `ordinal`, which has the number `no`, a target that it has not.
     fn add_target(
         &mut self,
-        place: usize,
+        ordinal: usize,
         no: AdapterNo,
         node: Node,
         deep: bool,
     ) -> Result<(), Refused>
-        requires placed { Some place ≡ position (has_no no) self.old.0 }
-        requires within { place < length self.old.0 }
+        requires placed { Some ordinal ≡ position (has_no no) self.old.0 }
+        requires within { ordinal < length self.old.0 }
         requires apart { is_target no node self.old.0 ≡ false }
         requires few { targets_len self.old.0 < TARGETS }
         ensures ok { OnOk result (self.new.0 ≡ watched no (record { node = node; deep = deep }) self.old.0) }
@@ -66,35 +66,35 @@ impl<A: Adapter> AdapterList<A> {
         ensures reason { IfErr result (λ e. but_memory e ≡ target_refusal (adapter no self.old.0)) }
         ensures kept { OnErr result (self.new.0 ≡ self.old.0) }
     {
-        self.keeps_its_rules();
-        let count = self.targets_of(place);
-        if let Err(reason) = self.reserve_at(place, count as u64 + 1) {
+        self.lemma_keeps_rules();
+        let count = self.targets_of(ordinal);
+        if let Err(reason) = self.reserve_at(ordinal, count as u64 + 1) {
             return Err(refusal(reason));
         }
-        if self.put_target(place, no, node, deep).is_err() {
+        if self.put_target(ordinal, no, node, deep).is_err() {
             return Err(Refused::Memory);
         }
         Ok(())
     }
 
-    /// Gives the adapter at `place`, which has the number `no` and a place in reserve for it, a target that it has not.
+    /// Gives the adapter at `ordinal`, which has the number `no` and places in reserve for it, a target that it has not.
     fn put_target(
         &mut self,
-        place: usize,
+        ordinal: usize,
         no: AdapterNo,
         node: Node,
         deep: bool,
     ) -> Result<(), AllocError>
-        requires placed { Some place ≡ position (has_no no) self.old.0 }
-        requires within { place < length self.old.0 }
+        requires placed { Some ordinal ≡ position (has_no no) self.old.0 }
+        requires within { ordinal < length self.old.0 }
         requires apart { is_target no node self.old.0 ≡ false }
         requires few { targets_len self.old.0 < TARGETS }
-        requires spare { targets_at self.old.0 place < slice_index self.old.1 place }
+        requires spare { targets_at self.old.0 ordinal < slice_index self.old.1 ordinal }
         ensures ok { OnOk result (self.new.0 ≡ watched no (record { node = node; deep = deep }) self.old.0) }
         ensures kept { OnErr result (self.new.0 ≡ self.old.0) }
     {
-        let index = self.index_before(place, node);
-        let one = &mut self.attached[place];
+        let index = self.index_before(ordinal, node);
+        let one = &mut self.attached[ordinal];
         one.targets.reserve(1)?;
         reserve_mark(&mut self.marks, node)?;
         self.by_target.insert(node, index, Entry { no, deep })?;
@@ -104,25 +104,25 @@ impl<A: Adapter> AdapterList<A> {
         Ok(())
     }
 
-    /// How many of the adapters before `place` have a node as a target. Only those that have it are looked at.
-    fn index_before(&self, place: usize, node: Node) -> usize
-        ensures { result ≡ length (entries node (take place self.now.0)) }
+    /// How many of the adapters before `ordinal` have a node as a target. Only those that have it are looked at.
+    fn index_before(&self, ordinal: usize, node: Node) -> usize
+        ensures { result ≡ length (entries node (take ordinal self.now.0)) }
     {
         let mut index = 0;
         for entry in self.by_target.at(node) {
-            if self.is_before(entry.no, place) {
+            if self.is_before(entry.no, ordinal) {
                 index += 1;
             }
         }
         index
     }
 
-    /// Whether the adapter of a number comes before `place`.
-    fn is_before(&self, no: AdapterNo, place: usize) -> bool
-        ensures { result ≡ option_map_or (λ k. nat_lt k place) (position (has_no no) self.now.0) false }
+    /// Whether the adapter of a number comes before `ordinal`.
+    fn is_before(&self, no: AdapterNo, ordinal: usize) -> bool
+        ensures { result ≡ option_map_or (λ k. nat_lt k ordinal) (position (has_no no) self.now.0) false }
     {
-        match self.place_of(no) {
-            Some(other) => other < place,
+        match self.ordinal_of(no) {
+            Some(other) => other < ordinal,
             None => false,
         }
     }

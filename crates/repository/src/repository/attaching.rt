@@ -11,7 +11,7 @@ ghost use Rattle.repository.specs.declared.reply.Answer.TheVariants as answer;
 
 use super::Repository;
 use crate::leaving::{one_spot, own_spots};
-use crate::reads::reply;
+use crate::replies::reply;
 use crate::reply::{Answer, Failure, Reply};
 use adapter_list::{AttachRefused, Release};
 use adapters::Adapter;

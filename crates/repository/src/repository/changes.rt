@@ -18,9 +18,7 @@ use crate::preparing::{Prepared, next_object, prepare, prepare_values, reserve};
 use crate::remembered::forget_touched;
 use crate::reply::{Answer, Reply};
 use adapters::Adapter;
-use handshake::{
-    Change, create_refusal, early_refusal, lone_set, plan_set, set_early_refusal,
-};
+use handshake::{Change, create_refusal, early_refusal, lone_set, plan_set, set_early_refusal};
 use links::{LinkStore, NewLink};
 use mm_types::{ClassNo, FeatureNo, Node, ObjectNo, Refused, Seq, Value};
 use mm_values::{ValueEdit, ValuePlan};

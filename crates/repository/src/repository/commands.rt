@@ -5,7 +5,7 @@ ghost use Rattle.repository.specs.Views.{command_view, outcome_view};
 
 use super::Repository;
 use crate::command::Command;
-use crate::reads::{
+use crate::replies::{
     outcome, replied, replied_class, replied_container, replied_count, replied_document,
     replied_features, replied_flag, replied_found, replied_fragment, replied_objects,
     replied_resource, replied_snapshot,

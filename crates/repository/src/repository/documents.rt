@@ -8,12 +8,12 @@ ghost use Rattle.repository.specs.declared.reply.Answer.TheVariants as answer;
 
 use super::Repository;
 use adapters::Adapter;
+use doc_writer::write_doc;
 use fragment_paths::{object_at, write};
 use handshake::node_refusal;
 use links::LinkStore;
 use mm_types::{Node, ObjectNo, Refused, ResourceNo, Text};
 use models::is_short_text;
-use saved_docs::write_doc;
 use std::alloc::AllocError;
 use web_uris::split_address;
 

@@ -44,7 +44,7 @@ impl<L: LinkStore, A: Adapter> Repository<L, A> {
         Ok(FeatureValue::Many(values))
     }
 
-    /// The value that `e_get` returns of a feature of one value, borrowed from its place; `None` stands for null. Takes no memory.
+    /// The value that `e_get` returns of a feature of one value, borrowed from where it is kept; `None` stands for null. Takes no memory.
     ///
     /// Refused, the first that applies: `NoObject`, `NoResource`, `NoFeature`, `NotSingle` if the feature has a list.
     #[tactic(auto, using(crate::proofs::QuietLemmas::get_done))]

@@ -11,8 +11,8 @@ use links::LinkStore;
 use mm_types::{FeatureNo, ObjectNo, Refused};
 
 impl<L: LinkStore, A: Adapter> Repository<L, A> {
-    /// Puts an object in the place of the proxy at an index of a reference, 0 in a single one: the object at the proxy's address (EMF:
-    /// EcoreUtil.resolve). In a reference with an opposite the object that refers takes the place of the first proxy at the opposite end
+    /// Puts an object instead of the proxy at an index of a reference, 0 in a single one: the object at the proxy's address (EMF:
+    /// EcoreUtil.resolve). In a reference with an opposite the object that refers replaces the first proxy at the opposite end
     /// that has its address. Returns the object. Notifies the adapters with RESOLVE, at the opposite end first.
     ///
     /// Refused, the first that applies: `NoObject`, `NoFeature`, `WrongType` if the feature is an attribute or doesn't take the object at

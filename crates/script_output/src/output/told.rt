@@ -1,7 +1,7 @@
 //! What is printed of adapters: the notices that they are told, and how many.
 ghost use Rattle.std.specs.Prelude.{◌≡◌, ◌++◌, ◌∷◌, [], OnOk};
 ghost use Rattle.script_lines.specs.declared.grammar.TheConstants.{NEWLINE};
-ghost use Rattle.script_output.specs.Notified.{change_text, counts_text, notice_text, place_text, released_text, report_text, seen_text, told_value_text, values_text};
+ghost use Rattle.script_output.specs.Notified.{change_text, counts_text, notice_text, end_text, released_text, report_text, seen_text, told_value_text, values_text};
 
 use super::Output;
 use crate::names::{feature_name, literal_name};
@@ -15,8 +15,8 @@ use std::alloc::AllocError;
 const FEATURE_MARK: u8 = b'.';
 
 impl Output {
-    fn place(&mut self, meta: &Meta, notice: &Notice) -> Result<(), AllocError>
-        ensures ok { OnOk result (self.new ≡ self.old ++ place_text meta.now notice.now) }
+    fn notified_end(&mut self, meta: &Meta, notice: &Notice) -> Result<(), AllocError>
+        ensures ok { OnOk result (self.new ≡ self.old ++ end_text meta.now notice.now) }
     {
         self.node(notice.notifier)?;
         match notice.feature {
@@ -50,7 +50,7 @@ impl Output {
     fn change(&mut self, meta: &Meta, notice: &Notice) -> Result<(), AllocError>
         ensures ok { OnOk result (self.new ≡ self.old ++ change_text meta.now notice.now) }
     {
-        self.place(meta, notice)?;
+        self.notified_end(meta, notice)?;
         self.byte(SPACE)?;
         self.told_values(meta, notice)
     }

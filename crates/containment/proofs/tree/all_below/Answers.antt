@@ -7,12 +7,12 @@ loop-next-init g c = walk-starts c.args.model.now c.new-found.result.items c.arg
 
 pub loop-next-smaller : goal.loop-next-smaller
 loop-next-smaller g c =
-    walk-falls c.args.model.now c.is_legal.ensures c.loop-next.waiting.items c.pop.new.self.items c.in_ok-parts.parts.items c.reverse.new.self.items c.append.new.self.items c.in-Some.next c.in-Some.ensures.items
+    walk-falls c.args.model.now c.lemma_is_legal.ensures c.loop-next.waiting.items c.pop.new.self.items c.in_ok-parts.parts.items c.reverse.new.self.items c.append.new.self.items c.in-Some.next c.in-Some.ensures.items
     c.in_ok-append.ensures.items c.reverse.ensures.items c.in_ok-parts.ensures
 
 pub loop-next-preserved : goal.loop-next-preserved
 loop-next-preserved g c =
-    walk-on c.args.model.now c.is_legal.ensures c.loop-next.waiting.items c.pop.new.self.items c.in_ok-parts.parts.items c.reverse.new.self.items c.append.new.self.items c.loop-next.found.items c.push.new.self.items _
+    walk-on c.args.model.now c.lemma_is_legal.ensures c.loop-next.waiting.items c.pop.new.self.items c.in_ok-parts.parts.items c.reverse.new.self.items c.append.new.self.items c.loop-next.found.items c.push.new.self.items _
     c.in-Some.next c.in-Some.ensures.items c.in_ok-append.ensures.items c.reverse.ensures.items c.in_ok-parts.ensures c.in_ok-push.ensures.items c.loop-next.invariant
 
 pub returns : goal.returns

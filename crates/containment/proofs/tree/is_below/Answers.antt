@@ -12,4 +12,4 @@ returns-in-Object g c =
     let r = reading c.args.model.now in
     let is = c.in-Object.is in
     sym (subst (λ (a : Node). list_any (same_node a) (r.above c.args.node) ≡ false) (sym is)
-    (leaf-above c.args.model.now c.is_legal.ensures _ c.args.node (subst (λ (a : Node). same_node a c.args.node ≡ false) is c.requires.apart) (subst (λ (a : Node). has_parts r a ≡ false) is (sym c.if-not-has_parts.ensures))))
+    (leaf-above c.args.model.now c.lemma_is_legal.ensures _ c.args.node (subst (λ (a : Node). same_node a c.args.node ≡ false) is c.requires.apart) (subst (λ (a : Node). has_parts r a ≡ false) is (sym c.if-not-has_parts.ensures))))

@@ -1,30 +1,30 @@
 use Rattle.std.proofs.Common.{◌++◌, ◌-◌, ◌∙◌, ap, arith, flat_map, map, sym, take}
 use Rattle.std.specs.Prelude.{option_map}
 use Rattle.serde_json.specs.View.{members_view, view}
-use Rattle.doc_parts.specs.Found.{parts_at, parts_under}
+use Rattle.doc_parts.specs.FoundParts.{parts_at, parts_under}
 use Rattle.doc_parts.specs.Parts.{parts_from}
-use Rattle.doc_parts.specs.Places.{key_of}
+use Rattle.doc_parts.specs.Keys.{key_of}
 use Rattle.doc_parts.proofs.WalkLemmas.{added_known, child, features_next, finds_as, finds_nothing, finds_then, no_class_entries, no_feature_entries, no_parts_at, ok_more, parts_at_some, values_next, walked_known, walked_nothing, walks_below}
 use Rattle.doc_parts.proofs.walk.+walk.Goals as goal
 
 pub walk-returns-in-Some-features : goal.walk-returns-in-Some-features
 walk-returns-in-Some-features t c =
     ok_more c.walk_features.result
-    (walked_known c.args.meta.now c.args.levels (c.args.levels - 1) _ _ _ (key_of c.args.place) c.args.level c.in-Some.level (view c.args.json.now) c.in_ok-part.part _ (members_view c.in-Some-seen.members.now.entries) _
-    (omega (arith, c.if-levels-eq0.false)) (added_known c.args.meta.now _ _ (key_of c.args.place) c.args.level (view c.args.json.now) _ c.in_ok-part.part c.known-seen.ensures c.in_ok-part.ensures)
+    (walked_known c.args.meta.now c.args.levels (c.args.levels - 1) _ _ _ (key_of c.args.key) c.args.level c.in-Some.level (view c.args.json.now) c.in_ok-part.part _ (members_view c.in-Some-seen.members.now.entries) _
+    (omega (arith, c.if-levels-eq0.false)) (added_known c.args.meta.now _ _ (key_of c.args.key) c.args.level (view c.args.json.now) _ c.in_ok-part.part c.known-seen.ensures c.in_ok-part.ensures)
     (let e = c.in-Some.ensures.1 in omega (arith, e)) (ap (option_map (λ k. (k.0, members_view k.1.now.entries))) (sym c.in-Some-seen.is) ∙ c.known-seen.ensures) c.in-Some-features.ensures)
     c.walk_features.ensures
 
 pub walk-returns-in-None-features : goal.walk-returns-in-None-features
 walk-returns-in-None-features t c =
-    walked_nothing c.args.meta.now c.args.levels (c.args.levels - 1) _ _ (key_of c.args.place) c.args.level (view c.args.json.now) _ (omega (arith, c.if-levels-eq0.false))
-    (added_known c.args.meta.now _ _ (key_of c.args.place) c.args.level (view c.args.json.now) _ c.in_ok-part.part c.known-seen.ensures c.in_ok-part.ensures)
+    walked_nothing c.args.meta.now c.args.levels (c.args.levels - 1) _ _ (key_of c.args.key) c.args.level (view c.args.json.now) _ (omega (arith, c.if-levels-eq0.false))
+    (added_known c.args.meta.now _ _ (key_of c.args.key) c.args.level (view c.args.json.now) _ c.in_ok-part.part c.known-seen.ensures c.in_ok-part.ensures)
     (no_feature_entries c.args.meta.now (view c.args.json.now) _ (members_view c.in-Some-seen.members.now.entries) (ap (option_map (λ k. (k.0, members_view k.1.now.entries))) (sym c.in-Some-seen.is) ∙ c.known-seen.ensures) c.in-None-features.ensures)
 
 pub walk-returns-in-None : goal.walk-returns-in-None
 walk-returns-in-None t c =
-    walked_nothing c.args.meta.now c.args.levels (c.args.levels - 1) _ _ (key_of c.args.place) c.args.level (view c.args.json.now) _ (omega (arith, c.if-levels-eq0.false))
-    (added_known c.args.meta.now _ _ (key_of c.args.place) c.args.level (view c.args.json.now) _ c.in_ok-part.part c.known-seen.ensures c.in_ok-part.ensures)
+    walked_nothing c.args.meta.now c.args.levels (c.args.levels - 1) _ _ (key_of c.args.key) c.args.level (view c.args.json.now) _ (omega (arith, c.if-levels-eq0.false))
+    (added_known c.args.meta.now _ _ (key_of c.args.key) c.args.level (view c.args.json.now) _ c.in_ok-part.part c.known-seen.ensures c.in_ok-part.ensures)
     (no_class_entries c.args.meta.now (view c.args.json.now) (ap (option_map (λ k. (k.0, members_view k.1.now.entries))) (sym c.in-None.is) ∙ c.known-seen.ensures))
 
 pub walk_feature-returns-then-not-is_containment : goal.walk_feature-returns-then-not-is_containment

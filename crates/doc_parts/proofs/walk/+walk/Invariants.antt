@@ -1,6 +1,6 @@
 use Rattle.std.proofs.Common.{◌+◌, ◌*◌, flat_map, map, take}
 use Rattle.serde_json.specs.View.{members_view, view}
-use Rattle.doc_parts.specs.Found.{FindsBelow, parts_at, parts_under}
+use Rattle.doc_parts.specs.FoundParts.{FindsBelow, parts_at, parts_under}
 use Rattle.doc_parts.specs.Parts.{parts_from}
 use Rattle.doc_parts.proofs.walk.+walk.Given as goal
 

@@ -12,4 +12,4 @@ object_in-requires g c =
     record { reference = contains-reference m f f (contains-itself f (shape m f).containing c.requires.contains) }
 
 pub returns : goal.returns
-returns g c = c.object_in.ensures.object ∙ objects-get (values_at c.args.model.now c.args.end) c.args.index (all-objects c.args.model.now c.args.end c.is_legal.ensures c.requires.contains)
+returns g c = c.object_in.ensures.object ∙ objects-get (values_at c.args.model.now c.args.end) c.args.index (all-objects c.args.model.now c.args.end c.lemma_is_legal.ensures c.requires.contains)

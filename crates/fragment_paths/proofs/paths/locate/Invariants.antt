@@ -8,7 +8,7 @@ use Rattle.fragment_paths.proofs.paths.locate.Given as goal
 
 -- the way so far, from where the object now reached stands
 abbrev pub invariant-up : goal.invariant-up
-invariant-up g l = option_map (further l.steps.items) (located (reading l.places) l.at) ≡ located (reading l.places) l.fn.object
+invariant-up g l = option_map (further l.steps.items) (located (reading l.positions) l.at) ≡ located (reading l.positions) l.fn.object
 
 abbrev pub decreases-up : goal.decreases-up
-decreases-up g l = length (above l.places.links (node.Object l.at))
+decreases-up g l = length (above l.positions.links (node.Object l.at))

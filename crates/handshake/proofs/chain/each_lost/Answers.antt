@@ -2,7 +2,7 @@ use Rattle.std.proofs.Common.{◌∷◌, ◌++◌, [], ap, ◌∙◌}
 use Rattle.notice_chain.specs.declared.notice.Notice.{Notice}
 use Rattle.models.specs.Model.{reading}
 use Rattle.handshake.specs.Reports.{lost_notice}
-use Rattle.handshake.proofs.TellingLemmas.{made-step}
+use Rattle.handshake.proofs.FeatureChangeLemmas.{made-step}
 use Rattle.handshake.proofs.chain.each_lost.Goals as goal
 
 pub loop-loss-preserved : goal.loop-loss-preserved

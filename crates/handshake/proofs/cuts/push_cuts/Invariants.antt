@@ -3,9 +3,9 @@ use Rattle.std.specs.Vec.Iter.{into_iter_items}
 use Rattle.handshake.specs.Edits.{cut_of}
 use Rattle.handshake.proofs.cuts.push_cuts.Given as goal
 
-abbrev pub invariant-loop-tie : goal.invariant-loop-tie
-invariant-loop-tie l = record {
-  can : (goal.iterator-loop-tie).can_next l.tie-iterator;
-  ends : (goal.iterator-loop-tie).is_finite l.tie-iterator;
-  rest : l.edits.items ++ map cut_of (into_iter_items l.tie-iterator) ≡ l.fn.edits.items ++ map cut_of l.fn.ties.items;
+abbrev pub invariant-loop-link_end : goal.invariant-loop-link_end
+invariant-loop-link_end l = record {
+  can : (goal.iterator-loop-link_end).can_next l.link_end-iterator;
+  ends : (goal.iterator-loop-link_end).is_finite l.link_end-iterator;
+  rest : l.edits.items ++ map cut_of (into_iter_items l.link_end-iterator) ≡ l.fn.edits.items ++ map cut_of l.fn.link_ends.items;
 }

@@ -1,6 +1,6 @@
 use Rattle.std.proofs.Common.{ap, sym, ◌∙◌}
 use Rattle.models.specs.Model.{reading}
-use Rattle.loading.specs.LoadEdits.{load_edits}
+use Rattle.doc_loader.specs.LoadEdits.{load_edits}
 use Rattle.handshake.specs.Edits.{link_edits}
 use Rattle.handshake.proofs.edits.link_edits.Goals as goal
 

@@ -7,7 +7,7 @@ leads-init g c = loop-init (reading c.args.model.now) c.new-progress.result c.ar
 
 pub leads-preserved : goal.leads-preserved
 leads-preserved g c =
-    loop-step c.args.model.now c.is_legal.ensures c.in_ok-first.first c.args.leads.now c.in_ok-first.ensures c.requires.all c.leads.lead-index _ _ _ c.leads-test.true c.leads.invariant c.in_ok-resolve.ensures
+    loop-step c.args.model.now c.lemma_is_legal.ensures c.in_ok-first.first c.args.leads.now c.in_ok-first.ensures c.requires.all c.leads.lead-index _ _ _ c.leads-test.true c.leads.invariant c.in_ok-resolve.ensures
 
 pub returns : goal.returns
 returns g c = loop-end (reading c.args.model.now) c.args.leads.now c.leads.lead-index _ c.leads-test.false c.leads.invariant

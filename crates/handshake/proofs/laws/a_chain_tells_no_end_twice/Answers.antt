@@ -1,9 +1,9 @@
-use Rattle.handshake.proofs.ApartLemmas.{tellings-apart, unset-apart}
-use Rattle.handshake.specs.declared.happening.Happening.TheVariants.{Unsets}
+use Rattle.handshake.proofs.ApartLemmas.{feature_changes-apart, unset-apart}
+use Rattle.handshake.specs.declared.change_kind.ChangeKind.TheVariants.{Unsets}
 use Rattle.handshake.proofs.laws.a_chain_tells_no_end_twice.Goals as goal
 
 pub returns-clause-ends : goal.returns-clause-ends
-returns-clause-ends c = λ s change legal early late few. tellings-apart s change legal early late few
+returns-clause-ends c = λ s change legal early late few. feature_changes-apart s change legal early late few
 
 pub returns-clause-far_ends : goal.returns-clause-far_ends
 returns-clause-far_ends c = λ s n f legal early late. unset-apart s n f Unsets legal

@@ -1,4 +1,4 @@
-use Rattle.handshake.proofs.CutTieLemmas.{cuts-different}
+use Rattle.handshake.proofs.CutLinkEndLemmas.{cuts-different}
 use Rattle.handshake.proofs.laws.a_change_cuts_no_link_twice.Goals as goal
 
 pub returns : goal.returns

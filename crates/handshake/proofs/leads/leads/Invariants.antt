@@ -2,11 +2,11 @@ use Rattle.std.proofs.Common.{◌≡◌, flat_map, map}
 use Rattle.std.specs.List.{range_with_len}
 use Rattle.models.specs.Model.{reading}
 use Rattle.handshake.specs.Leads.{lead}
-use Rattle.handshake.specs.Proxies.{places_of}
+use Rattle.handshake.specs.Proxies.{sites_of}
 use Rattle.handshake.proofs.leads.leads.Given as goal
 
 -- those of the objects so far
 abbrev pub invariant-objects : goal.invariant-objects
 invariant-objects g l =
     let r = reading l.model in
-    l.leads.items ≡ map (lead r) (flat_map (λ n. places_of r (record { 0 = n })) (range_with_len 0 l.object))
+    l.leads.items ≡ map (lead r) (flat_map (λ n. sites_of r (record { 0 = n })) (range_with_len 0 l.object))

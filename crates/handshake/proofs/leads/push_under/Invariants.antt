@@ -2,11 +2,11 @@ use Rattle.std.proofs.Common.{◌≡◌, ◌++◌, filter, map}
 use Rattle.std.specs.List.{range_with_len}
 use Rattle.models.specs.Model.{reading}
 use Rattle.handshake.specs.Leads.{lead}
-use Rattle.handshake.specs.Proxies.{is_proxy_place, place}
+use Rattle.handshake.specs.Proxies.{is_proxy_site, site}
 use Rattle.handshake.proofs.leads.push_under.Given as goal
 
 -- and of the indices so far
 abbrev pub invariant-indices : goal.invariant-indices
 invariant-indices g l =
     let r = reading l.model in
-    l.leads.items ≡ l.fn.leads.items ++ map (lead r) (filter (is_proxy_place r) (map (place l.object l.feature) (range_with_len 0 l.index)))
+    l.leads.items ≡ l.fn.leads.items ++ map (lead r) (filter (is_proxy_site r) (map (site l.object l.feature) (range_with_len 0 l.index)))

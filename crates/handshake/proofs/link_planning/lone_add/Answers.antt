@@ -8,5 +8,5 @@ use Rattle.handshake.proofs.link_planning.lone_add.Goals as goal
 
 pub returns-clause-plan : goal.returns-clause-plan
 returns-clause-plan g c =
-    found-planned c.args.model.now (Add c.args.node c.args.feature c.args.value.now c.args.index) c.put_of_add.result c.is_legal.ensures c.requires.asked
+    found-planned c.args.model.now (Add c.args.node c.args.feature c.args.value.now c.args.index) c.put_of_add.result c.lemma_is_legal.ensures c.requires.asked
     (c.put_of_add.ensures ∙ ap (λ (e : End). lone_add (reading c.args.model.now) (Add e.node e.feature c.args.value.now c.args.index) e c.args.value.now c.args.index) c.at_end.ensures)

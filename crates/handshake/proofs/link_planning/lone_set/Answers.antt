@@ -8,5 +8,5 @@ use Rattle.handshake.proofs.link_planning.lone_set.Goals as goal
 
 pub returns-clause-plan : goal.returns-clause-plan
 returns-clause-plan g c =
-    found-planned c.args.model.now (Set c.args.node c.args.feature c.args.value.now) c.put_of_set.result c.is_legal.ensures c.requires.asked
+    found-planned c.args.model.now (Set c.args.node c.args.feature c.args.value.now) c.put_of_set.result c.lemma_is_legal.ensures c.requires.asked
     (c.put_of_set.ensures ∙ ap (λ (e : End). lone_set (reading c.args.model.now) (Set e.node e.feature c.args.value.now) e c.args.value.now) c.at_end.ensures)

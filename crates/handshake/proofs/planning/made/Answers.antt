@@ -15,7 +15,7 @@ edits_and_notices-requires-clause-one g c = not-all c.args.change c.in_default.n
 pub returns : goal.returns
 returns g c =
     let one = not-all c.args.change c.in_default.not-ResolveAll in
-    planned c.args.is_heard c.args.model.now c.args.change _ one c.is_legal.ensures c.requires.asked c.requires.allowed c.requires.read
+    planned c.args.is_heard c.args.model.now c.args.change _ one c.lemma_is_legal.ensures c.requires.asked c.requires.allowed c.requires.read
     c.in_ok-removal.ensures
     c.requires.found
     (none-counted (reading c.args.model.now) c.args.change one)

@@ -1,6 +1,6 @@
 use Rattle.std.proofs.Common.{◌≡◌, ◌≤◌, ◌-◌, ◌++◌, not, take, drop, vec_len, vec_capacity}
 use Rattle.std.specs.List.{filter}
-use Rattle.links.specs.Places.{has_value}
+use Rattle.links.specs.Indexed.{has_value}
 use Rattle.link_store.proofs.row_edits.take_out.Given as goal
 
 abbrev pub invariant-loop-i : goal.invariant-loop-i

@@ -1,6 +1,6 @@
 use Rattle.std.proofs.Common.{◌≡◌, ◌<◌, ℕ, get_or, set}
 use Rattle.std.specs.List.{count_by}
-use Rattle.mm_types.specs.Graph.{row}
+use Rattle.mm_types.specs.Graph.{by_class}
 use Rattle.mm_graph.specs.Visits.{Goes, IsBegun, is_unseen, mark}
 use Rattle.mm_graph.specs.declared.order.Mark.TheVariants.{Unseen, Open, Done}
 use Rattle.mm_graph.proofs.order.+visit.Given as goal
@@ -13,5 +13,5 @@ invariant-supers l = record {
   begun : IsBegun l.graph l.marks l.order.items;
   goes : Goes (set l.fn.marks l.c Open) l.marks;
   unseen : mark l.fn.marks l.c ≡ Unseen;
-  visited : (j : ℕ) → j < l.e-index → mark l.marks (get_or (row l.graph l.c) j 0) ≡ Done;
+  visited : (j : ℕ) → j < l.e-index → mark l.marks (get_or (by_class l.graph l.c) j 0) ≡ Done;
 }

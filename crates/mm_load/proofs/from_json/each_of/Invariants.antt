@@ -1,8 +1,8 @@
 use Rattle.std.proofs.Common.{◌≡◌, length}
 use Rattle.std.specs.Vec.Iter.{into_iter_items, into_iter_len}
 use Rattle.serde_json.specs.View.{items_view}
-use Rattle.json_rows.specs.Rows.{each}
-use Rattle.json_rows.proofs.RowLemmas.{with_front}
+use Rattle.json_fields.specs.Fields.{each}
+use Rattle.json_fields.proofs.FieldLemmas.{with_front}
 use Rattle.mm_load.proofs.from_json.each_of.Given as goal
 
 abbrev pub invariant-values : goal.invariant-values

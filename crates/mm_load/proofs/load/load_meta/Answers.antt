@@ -8,7 +8,7 @@ returns-in-Err-2 c = not_json c.args.bytes.now (c.in-Err.ensures.err (λ m. let 
 
 pub returns-in-Ok-from_json : goal.returns-in-Ok-from_json
 returns-in-Ok-from_json c =
-    loads_equal _ _ (json c.args.bytes.now _ c.in-Ok.ensures.ok.0 c.in-Ok.ensures.ok.1 ∙ (ap laid_out c.in-Ok-from_json.ensures ∙ sym c.into_meta.ensures))
+    loads_equal _ _ (json c.args.bytes.now _ c.in-Ok.ensures.ok.0 c.in-Ok.ensures.ok.1 ∙ (ap laid_out c.in-Ok-from_json.ensures ∙ sym c.into_raw.ensures))
 
 pub returns-in-Err-Layout : goal.returns-in-Err-Layout
 returns-in-Err-Layout c =

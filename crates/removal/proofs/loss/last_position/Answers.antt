@@ -9,7 +9,7 @@ use Rattle.removal.proofs.loss.last_position.Goals as goal
 use Rattle.removal.proofs.loss.last_position.Goals.{then-not-is_lost, else-not-is_lost}
 
 pub object_in-found-requires : goal.object_in-found-requires
-object_in-found-requires g c = record { reference = holder-reference c.args.model.now c.is_legal.ensures c.args.removal.now.object c.args.end c.requires.held }
+object_in-found-requires g c = record { reference = holder-reference c.args.model.now c.lemma_is_legal.ensures c.args.removal.now.object c.args.end c.requires.held }
 
 -- at the object itself
 pub returns-then-is_found : goal.returns-then-is_found

@@ -21,4 +21,4 @@ returns-clause-answer g c = λ rs text proper.
     c.unwrap_or.ensures ∙ early-whole (reading c.args.model.now) rs text c.args.change c.in_ok-answer.answer answer.Done c.requires.values (c.in_ok-answer.ensures rs text proper)
 
 pub returns-clause-planned : goal.returns-clause-planned
-returns-clause-planned g c = values-planned c.args.model.now c.args.change _ c.requires.values c.is_legal.ensures c.requires.asked c.in_ok-values.ensures.allowed c.in_ok-values.ensures.values
+returns-clause-planned g c = values-planned c.args.model.now c.args.change _ c.requires.values c.lemma_is_legal.ensures c.requires.asked c.in_ok-values.ensures.allowed c.in_ok-values.ensures.values

@@ -12,9 +12,9 @@ pub returns-in-Some-features-clause-value : goal.returns-in-Some-features-clause
 returns-in-Some-features-clause-value c =
     let m = c.args.source.now.meta.now in
     if_ok _ _ c.read_features.result
-    (λ r read ps p knows row.
-    read ps p.path knows (sym (ap (λ s. s.number) row))
+    (λ r read ps p knows part.
+    read ps p.path knows (sym (ap (λ s. s.number) part))
     ∙ ap (contents_so_far m (base_of c.args.source.now.uri.now) ps p.path)
     (entries_of_known m (known m p.json) c.in-Some.class (members_view c.in-Some.members.now.entries) c.in-Some-features.features.now
-    (ap (option_map (λ k. (k.0, members_view k.1.now.entries))) (sym c.in-Some.is) ∙ ap (λ s. s.known) row) c.in-Some-features.ensures))
+    (ap (option_map (λ k. (k.0, members_view k.1.now.entries))) (sym c.in-Some.is) ∙ ap (λ s. s.known) part) c.in-Some-features.ensures))
     c.read_features.ensures.value

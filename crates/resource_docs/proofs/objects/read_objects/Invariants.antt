@@ -1,14 +1,14 @@
 use Rattle.std.proofs.Common.{◌≡◌, List, take}
 use Rattle.std.specs.List.{All}
-use Rattle.doc_parts.specs.Found.{Knows}
+use Rattle.doc_parts.specs.FoundParts.{Knows}
 use Rattle.doc_parts.specs.Parts.{Part}
 use Rattle.resource_docs.specs.Reading.{IsProxyObject, objects_so_far}
 use Rattle.resource_docs.specs.Texts.{base_of}
 use Rattle.resource_docs.proofs.objects.read_objects.Given as goal
 
-abbrev pub invariant-rows : goal.invariant-rows
-invariant-rows l =
+abbrev pub invariant-parts : goal.invariant-parts
+invariant-parts l =
     record {
-      value : (ps : List Part) → Knows l.source.meta.now l.source.found.now ps → l.read ≡ objects_so_far l.source.meta.now (base_of l.source.uri.now) ps (take l.row-index ps);
+      value : (ps : List Part) → Knows l.source.meta.now l.source.found.now ps → l.read ≡ objects_so_far l.source.meta.now (base_of l.source.uri.now) ps (take l.part-index ps);
       proxy : All IsProxyObject l.read.objects;
     }

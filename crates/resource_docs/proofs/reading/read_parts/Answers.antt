@@ -3,7 +3,7 @@ use Rattle.std.specs.Option.{option_map_or}
 use Rattle.serde_json.specs.View.{items_view, view}
 use Rattle.doc_parts.specs.Layout.{Top, new_top}
 use Rattle.doc_parts.specs.Parts.{parts}
-use Rattle.doc_parts.specs.Found.{roots_from}
+use Rattle.doc_parts.specs.FoundParts.{roots_from}
 use Rattle.resource_docs.specs.Causes.{Answers, has_first_format}
 use Rattle.resource_docs.specs.Texts.{base_of}
 use Rattle.resource_docs.proofs.CauseLemmas.{roots_are, shape_faulty, shape_right}

@@ -3,7 +3,7 @@ use Rattle.std.specs.Prelude.{option_to_list}
 use Rattle.std.specs.List.{filter_map}
 use Rattle.serde_json.specs.View.{view}
 use Rattle.web_uris.specs.Paths.{new_path}
-use Rattle.doc_parts.specs.Found.{roots_from}
+use Rattle.doc_parts.specs.FoundParts.{roots_from}
 use Rattle.doc_parts.proofs.WalkLemmas.{root, roots_next}
 use Rattle.resource_docs.specs.Read.{root_number}
 use Rattle.resource_docs.proofs.ReadingLemmas.{filter_map-push}

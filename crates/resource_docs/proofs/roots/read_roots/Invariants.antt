@@ -2,7 +2,7 @@ use Rattle.std.proofs.Common.{◌≡◌, List, map, take}
 use Rattle.std.specs.List.{filter_map}
 use Rattle.serde_json.specs.View.{view}
 use Rattle.mm_types.specs.Resolved.{Metamodel}
-use Rattle.doc_parts.specs.Found.{Knows, roots_from}
+use Rattle.doc_parts.specs.FoundParts.{Knows, roots_from}
 use Rattle.doc_parts.specs.Parts.{Part}
 use Rattle.resource_docs.specs.Read.{root_number}
 use Rattle.resource_docs.proofs.roots.read_roots.Given as goal

@@ -1,6 +1,6 @@
 use Rattle.std.proofs.Common.{sym, subst}
 use Rattle.links.specs.LegalSets.{IsDistinct}
-use Rattle.node_rows.specs.Cells.{Cells, cells}
+use Rattle.node_slots.specs.Cells.{Cells, cells}
 use Rattle.slot_store.proofs.KeptEntryLemmas.{cut_far-distinct}
 use Rattle.slot_store.proofs.edits.cut.Goals as goal
 

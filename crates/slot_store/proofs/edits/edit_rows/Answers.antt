@@ -1,7 +1,7 @@
 use Rattle.std.proofs.Common.{[], ◌∷◌, subst}
 use Rattle.links.specs.declared.plan.Edit.{Edit}
-use Rattle.node_rows.specs.Cells.{room}
-use Rattle.node_rows.specs.Growth.{HasRoom}
+use Rattle.node_slots.specs.Cells.{room}
+use Rattle.node_slots.specs.Growth.{HasRoom}
 use Rattle.slot_store.proofs.RoomLemmas.{far_row, held_row, near_row, proxy_row}
 use Rattle.slot_store.proofs.edits.edit_rows.Goals as goal
 
@@ -14,5 +14,5 @@ places_of-places-requires-clause-far c = far_row c.args.rows.now c.in-Put.end c.
 pub put-requires-clause-held : goal.put-requires-clause-held
 put-requires-clause-held c = held_row c.args.rows.now c.args.edit c.in-Put.end c.in-Put.index c.in-Put.object c.in-Put.opposite c.in-Put.container c.in-Put.is c.requires.room
 
-pub place-place-requires : goal.place-place-requires
-place-place-requires c = proxy_row c.args.rows.now c.in-PutProxy.end c.in-PutProxy.index c.in-PutProxy.text (subst (λ (x : Edit). HasRoom (room c.args.rows.now) (x ∷ [])) c.in-PutProxy.is c.requires.room)
+pub row_index-row_index-requires : goal.row_index-row_index-requires
+row_index-row_index-requires c = proxy_row c.args.rows.now c.in-PutProxy.end c.in-PutProxy.index c.in-PutProxy.text (subst (λ (x : Edit). HasRoom (room c.args.rows.now) (x ∷ [])) c.in-PutProxy.is c.requires.room)

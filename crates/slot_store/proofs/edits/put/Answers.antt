@@ -2,8 +2,8 @@ use Rattle.std.proofs.Common.{◌≡◌, ◌∙◌, ℕ, IfSome, Option, Some, s
 use Rattle.mm_types.specs.declared.numbers.Node.{Node}
 use Rattle.mm_types.specs.declared.numbers.Node.TheVariants as node
 use Rattle.mm_types.specs.declared.end.End.{End}
-use Rattle.node_rows.specs.Cells.{row_place}
-use Rattle.slot_store.specs.EditedCells.{held_place}
+use Rattle.node_slots.specs.Cells.{row_index_of}
+use Rattle.slot_store.specs.EditedCells.{held_row_index}
 use Rattle.slot_store.proofs.RoomLemmas.{held_at}
 use Rattle.slot_store.proofs.edits.put.Goals as goal
 
@@ -17,5 +17,5 @@ hold-requires-clause-at c =
     let e = c.args.link.end in
     let h = c.args.link.container in
     let at = held_at u c.args.places e c.args.link.object c.args.link.opposite h (same e.node ∙ c.requires.near) (same (node.Object c.args.link.object) ∙ c.requires.far) in
-    subst (λ (k : ℕ). IfSome c.held_by.result (λ q. row_place u q.0 ≡ Some k)) (sym c.held_place.ensures)
-    (subst (λ (p : Option (Node × End)). IfSome p (λ q. row_place u q.0 ≡ Some (held_place c.args.places e h))) (sym c.held_by.ensures) at)
+    subst (λ (k : ℕ). IfSome c.held_by.result (λ q. row_index_of u q.0 ≡ Some k)) (sym c.held_row_index.ensures)
+    (subst (λ (p : Option (Node × End)). IfSome p (λ q. row_index_of u q.0 ≡ Some (held_row_index c.args.places e h))) (sym c.held_by.ensures) at)

@@ -1,6 +1,6 @@
 use Rattle.std.proofs.Common.{◌<◌, ◌++◌, length, arith}
 use Rattle.std.specs.Option.{option_copied}
-use Rattle.node_rows.specs.Cells.{cells}
+use Rattle.node_slots.specs.Cells.{cells}
 use Rattle.slot_store.proofs.EnteringLemmas.{next_end}
 use Rattle.slot_store.proofs.incoming.push_entered.Goals as goal
 

@@ -1,5 +1,5 @@
 use Rattle.std.proofs.Common.{◌≡◌, ◌++◌, drop}
-use Rattle.node_rows.specs.Cells.{cells}
+use Rattle.node_slots.specs.Cells.{cells}
 use Rattle.slot_store.proofs.incoming.push_entered.Given as goal
 
 abbrev pub invariant-loop-index : goal.invariant-loop-index

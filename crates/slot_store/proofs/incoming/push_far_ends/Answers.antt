@@ -1,5 +1,5 @@
 use Rattle.std.proofs.Common.{◌<◌, ◌≤◌, ◌++◌, length, arith}
-use Rattle.node_rows.specs.Cells.{cells}
+use Rattle.node_slots.specs.Cells.{cells}
 use Rattle.slot_store.specs.Entering.{far_ends}
 use Rattle.slot_store.proofs.EnteringLemmas.{last_far, next_far}
 use Rattle.std.specs.Option.{option_copied}

@@ -1,5 +1,5 @@
 use Rattle.std.proofs.Common.{◌≡◌, ◌++◌, drop}
-use Rattle.node_rows.specs.Cells.{cells}
+use Rattle.node_slots.specs.Cells.{cells}
 use Rattle.slot_store.specs.Entering.{far_ends}
 use Rattle.slot_store.proofs.incoming.push_far_ends.Given as goal
 

@@ -1,7 +1,7 @@
 use Rattle.std.proofs.Common.{Some, sym, ap, ◌∙◌}
 use Rattle.mm_types.specs.declared.numbers.Node.TheVariants as node
 use Rattle.mm_types.proofs.SameLemmas.{same_end-true}
-use Rattle.node_rows.specs.Cells.{cells}
+use Rattle.node_slots.specs.Cells.{cells}
 use Rattle.slot_store.proofs.PositionLemmas.{end_is}
 use Rattle.slot_store.proofs.search.entry_from.Goals as goal
 

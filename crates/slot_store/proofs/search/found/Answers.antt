@@ -1,6 +1,6 @@
 use Rattle.std.proofs.Common.{Some, sym, ap, ◌∙◌}
 use Rattle.mm_types.specs.SameValues.{same_value-true}
-use Rattle.node_rows.specs.Cells.{cells}
+use Rattle.node_slots.specs.Cells.{cells}
 use Rattle.slot_store.proofs.PositionLemmas.{position_is}
 use Rattle.slot_store.proofs.search.found.Goals as goal
 

@@ -3,8 +3,8 @@ use Rattle.std.specs.Vec.Iter.{into_iter_items}
 use Rattle.links.specs.declared.plan.Edit.{Edit}
 use Rattle.links.specs.Links.{Links}
 use Rattle.links.specs.Plans.{HasPlanOfKind, PlanFits, applied}
-use Rattle.node_rows.specs.Cells.{Room, room}
-use Rattle.node_rows.specs.Growth.{HasRoom}
+use Rattle.node_slots.specs.Cells.{Room, room}
+use Rattle.node_slots.specs.Growth.{HasRoom}
 use Rattle.slot_store.specs.CellLinks.{IsStoreOfKind, store_links}
 use Rattle.slot_store.proofs.StoreLemmas.{kept_once}
 use Rattle.slot_store.proofs.ApplyLemmas.{edit_fits, edit_kept, edit_kind, edit_rest, kinds_same, room_first, room_rest}

@@ -1,8 +1,8 @@
 use Rattle.std.proofs.Common.{◌≡◌}
 use Rattle.std.specs.Vec.Iter.{into_iter_items}
 use Rattle.links.specs.Plans.{HasPlanOfKind, PlanFits, applied}
-use Rattle.node_rows.specs.Cells.{room}
-use Rattle.node_rows.specs.Growth.{HasRoom}
+use Rattle.node_slots.specs.Cells.{room}
+use Rattle.node_slots.specs.Growth.{HasRoom}
 use Rattle.slot_store.specs.CellLinks.{IsStore, IsStoreOfKind, store_links}
 use Rattle.slot_store.proofs.slot_store.apply_rows.Given as goal
 

@@ -3,7 +3,7 @@ use Rattle.std.specs.List.{position}
 use Rattle.mm_types.specs.Same.{same_value}
 use Rattle.mm_types.specs.declared.value.Value.{Value}
 use Rattle.links.specs.Links.{far_end}
-use Rattle.node_rows.specs.Cells.{cells}
+use Rattle.node_slots.specs.Cells.{cells}
 use Rattle.slot_store.proofs.PositionLemmas.{none_of}
 use Rattle.slot_store.proofs.StoreLemmas.{alone_absent, far_absent, kept_once}
 use Rattle.slot_store.proofs.slot_store.far_lacks.Goals as goal

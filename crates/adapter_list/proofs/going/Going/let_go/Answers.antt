@@ -16,13 +16,13 @@ use Rattle.adapter_list.proofs.MarkLemmas.{mark-removed, mark-room}
 use Rattle.adapter_list.proofs.TableLemmas.{is_any-some}
 use Rattle.adapter_list.proofs.going.Going.let_go.Goals as goal
 
-pub returns-in_err-place-clause-others : goal.returns-in_err-place-clause-others
-returns-in_err-place-clause-others g c = without-none c.args.node c.args.no c.args.self.now (absent c.args.node c.args.no c.args.self.now c.in_err-place.ensures.place)
+pub returns-in_err-ordinal-clause-others : goal.returns-in_err-ordinal-clause-others
+returns-in_err-ordinal-clause-others g c = without-none c.args.node c.args.no c.args.self.now (absent c.args.node c.args.no c.args.self.now c.in_err-ordinal.ensures.ordinal)
 
-pub returns-in_err-place-clause-told : goal.returns-in_err-place-clause-told
-returns-in_err-place-clause-told g c =
+pub returns-in_err-ordinal-clause-told : goal.returns-in_err-ordinal-clause-told
+returns-in_err-ordinal-clause-told g c =
     let rs = c.args.self.now in
-    ap (last_told c.args.no) c.from_residual.ensures ∙ told-none [] (is_target c.args.no c.args.node rs) _ (absent c.args.node c.args.no rs c.in_err-place.ensures.place)
+    ap (last_told c.args.no) c.from_residual.ensures ∙ told-none [] (is_target c.args.no c.args.node rs) _ (absent c.args.node c.args.no rs c.in_err-ordinal.ensures.ordinal)
 
 pub returns-in_err-index-clause-others : goal.returns-in_err-index-clause-others
 returns-in_err-index-clause-others g c =
@@ -42,17 +42,17 @@ set_mark-requires g c = λ some.
 
 pub last_notice-requires : goal.last_notice-requires
 last_notice-requires g c =
-    let stands = standing c.self.invariant c.args.self.now c.self.view_is c.args.node c.args.no c.in_ok-place.place c.in_ok-index.index c.in_ok-place.ensures.place c.in_ok-place.ensures.within c.in_ok-index.ensures in
+    let stands = standing c.self.invariant c.args.self.now c.self.view_is c.args.node c.args.no c.in_ok-ordinal.ordinal c.in_ok-index.index c.in_ok-ordinal.ensures.ordinal c.in_ok-ordinal.ensures.within c.in_ok-index.ensures in
     omega (arith, stands.low, c.self.invariant.few, c.self.invariant.counted)
 
 pub last_notice-requires-2 : goal.last_notice-requires-2
 last_notice-requires-2 g c =
-    let stands = standing c.self.invariant c.args.self.now c.self.view_is c.args.node c.args.no c.in_ok-place.place c.in_ok-index.index c.in_ok-place.ensures.place c.in_ok-place.ensures.within c.in_ok-index.ensures in
+    let stands = standing c.self.invariant c.args.self.now c.self.view_is c.args.node c.args.no c.in_ok-ordinal.ordinal c.in_ok-index.index c.in_ok-ordinal.ensures.ordinal c.in_ok-ordinal.ensures.within c.in_ok-index.ensures in
     omega (arith, stands.low, c.self.invariant.few, c.self.invariant.counted)
 
 pub overflow_sub-self : goal.overflow_sub-self
 overflow_sub-self g c =
-    let stands = standing c.self.invariant c.args.self.now c.self.view_is c.args.node c.args.no c.in_ok-place.place c.in_ok-index.index c.in_ok-place.ensures.place c.in_ok-place.ensures.within c.in_ok-index.ensures in
+    let stands = standing c.self.invariant c.args.self.now c.self.view_is c.args.node c.args.no c.in_ok-ordinal.ordinal c.in_ok-index.index c.in_ok-ordinal.ensures.ordinal c.in_ok-ordinal.ensures.within c.in_ok-index.ensures in
     omega (arith, stands.low, c.self.invariant.counted)
 
 pub notify_changed-requires : goal.notify_changed-requires
@@ -60,17 +60,17 @@ notify_changed-requires g c =
     let rs = c.args.self.now in
     let seen = c.self.view_is in
     let one = c.index_mut-one.result.now in
-    let stands = standing c.self.invariant rs seen c.args.node c.args.no c.in_ok-place.place c.in_ok-index.index c.in_ok-place.ensures.place c.in_ok-place.ensures.within c.in_ok-index.ensures in
-    let ready = AreReady-at g.A.Adapter.heard g.A.Adapter.places c.self.inside.attached.items c.in_ok-place.place one c.self.invariant.ready stands.within c.index_mut-one.ensures.value in
-    let some = some-target c.self.invariant rs seen c.args.node c.args.no c.in_ok-place.place c.in_ok-index.index stands one c.index_mut-one.ensures.value in
+    let stands = standing c.self.invariant rs seen c.args.node c.args.no c.in_ok-ordinal.ordinal c.in_ok-index.index c.in_ok-ordinal.ensures.ordinal c.in_ok-ordinal.ensures.within c.in_ok-index.ensures in
+    let ready = AreReady-at g.A.Adapter.heard g.A.Adapter.places c.self.inside.attached.items c.in_ok-ordinal.ordinal one c.self.invariant.ready stands.within c.index_mut-one.ensures.value in
+    let some = some-target c.self.invariant rs seen c.args.node c.args.no c.in_ok-ordinal.ordinal c.in_ok-index.index stands one c.index_mut-one.ensures.value in
     omega (arith, ready.reserve, some)
 
 pub drop_target-requires : goal.drop_target-requires
 drop_target-requires g c =
     let rs = c.args.self.now in
     let seen = c.self.view_is in
-    let stands = standing c.self.invariant rs seen c.args.node c.args.no c.in_ok-place.place c.in_ok-index.index c.in_ok-place.ensures.place c.in_ok-place.ensures.within c.in_ok-index.ensures in
-    once-of g.A.Adapter.heard c.self.inside.attached.items c.in_ok-place.place c.index_mut-one.result.now c.self.invariant.once stands.within c.index_mut-one.ensures.value
+    let stands = standing c.self.invariant rs seen c.args.node c.args.no c.in_ok-ordinal.ordinal c.in_ok-index.index c.in_ok-ordinal.ensures.ordinal c.in_ok-ordinal.ensures.within c.in_ok-index.ensures in
+    once-of g.A.Adapter.heard c.self.inside.attached.items c.in_ok-ordinal.ordinal c.index_mut-one.result.now c.self.invariant.once stands.within c.index_mut-one.ensures.value
 
 pub returns-clause-others : goal.returns-clause-others
 returns-clause-others g c =
@@ -79,8 +79,8 @@ returns-clause-others g c =
     let seen = c.self.view_is in
     let one = c.index_mut-one.result.now in
     let after : Attached g.row.A.Denot = record { no = one.no; targets = c.drop_target.new.targets; adapter = c.notify_changed.new.self } in
-    let stands = standing c.self.invariant rs seen c.args.node c.args.no c.in_ok-place.place c.in_ok-index.index c.in_ok-place.ensures.place c.in_ok-place.ensures.within c.in_ok-index.ensures in
-    let goes = going c.self.invariant rs seen c.args.node c.args.no c.in_ok-place.place c.in_ok-index.index stands one c.index_mut-one.ensures.value after refl c.drop_target.ensures (c.notify_changed.ensures.view ∙ ap (hear (heard one.adapter)) c.last_notice.ensures) in
+    let stands = standing c.self.invariant rs seen c.args.node c.args.no c.in_ok-ordinal.ordinal c.in_ok-index.index c.in_ok-ordinal.ensures.ordinal c.in_ok-ordinal.ensures.within c.in_ok-index.ensures in
+    let goes = going c.self.invariant rs seen c.args.node c.args.no c.in_ok-ordinal.ordinal c.in_ok-index.index stands one c.index_mut-one.ensures.value after refl c.drop_target.ensures (c.notify_changed.ensures.view ∙ ap (hear (heard one.adapter)) c.last_notice.ensures) in
     goes.others ∙ ap (without (c.args.no, c.args.node)) seen
 
 pub returns-clause-told : goal.returns-clause-told
@@ -88,7 +88,7 @@ returns-clause-told g c =
     let rs = c.args.self.now in
     let seen = c.self.view_is in
     let items = c.self.inside.attached.items in
-    let stands = standing c.self.invariant rs seen c.args.node c.args.no c.in_ok-place.place c.in_ok-index.index c.in_ok-place.ensures.place c.in_ok-place.ensures.within c.in_ok-index.ensures in
+    let stands = standing c.self.invariant rs seen c.args.node c.args.no c.in_ok-ordinal.ordinal c.in_ok-index.index c.in_ok-ordinal.ensures.ordinal c.in_ok-ordinal.ensures.within c.in_ok-index.ensures in
     ap (λ n. (c.args.no, n) ∷ []) (c.last_notice-2.ensures ∙ ap (removing c.args.no c.args.node) stands.index_is)
     ∙ told-one [] (is_target c.args.no c.args.node (listed g.A.Adapter.heard items)) _ stands.there ∙ ap (told_of_leaving (c.args.no, c.args.node)) seen
 
@@ -98,7 +98,7 @@ returns-clause-some g c = λ kept some.
     let items = c.self.inside.attached.items in
     let after : Attached g.row.A.Denot = record { no = c.index_mut-one.result.now.no; targets = c.drop_target.new.targets; adapter = c.notify_changed.new.self } in
     let left : 0 < length c.drop_target.new.targets.items = search rules in
-    subst HaveTargets (sym (listed-put heard items c.in_ok-place.place after)) (All-set (λ r. 0 < length r.targets) (listed heard items) c.in_ok-place.place (listed_one heard after) left (subst HaveTargets (sym c.self.view_is) some))
+    subst HaveTargets (sym (listed-put heard items c.in_ok-ordinal.ordinal after)) (All-set (λ r. 0 < length r.targets) (listed heard items) c.in_ok-ordinal.ordinal (listed_one heard after) left (subst HaveTargets (sym c.self.view_is) some))
 
 pub invariant_of-self : goal.invariant_of-self
 invariant_of-self g c =
@@ -109,16 +109,16 @@ invariant_of-self g c =
     let t = c.self.inside.by_target in
     let one = c.index_mut-one.result.now in
     let after : Attached g.row.A.Denot = record { no = one.no; targets = c.drop_target.new.targets; adapter = c.notify_changed.new.self } in
-    let stands = standing c.self.invariant rs seen c.args.node c.args.no c.in_ok-place.place c.in_ok-index.index c.in_ok-place.ensures.place c.in_ok-place.ensures.within c.in_ok-index.ensures in
-    let goes = going c.self.invariant rs seen c.args.node c.args.no c.in_ok-place.place c.in_ok-index.index stands one c.index_mut-one.ensures.value after refl c.drop_target.ensures (c.notify_changed.ensures.view ∙ ap (hear (heard one.adapter)) c.last_notice.ensures) in
-    let ready = AreReady-at heard g.A.Adapter.places items c.in_ok-place.place one c.self.invariant.ready stands.within c.index_mut-one.ensures.value in
+    let stands = standing c.self.invariant rs seen c.args.node c.args.no c.in_ok-ordinal.ordinal c.in_ok-index.index c.in_ok-ordinal.ensures.ordinal c.in_ok-ordinal.ensures.within c.in_ok-index.ensures in
+    let goes = going c.self.invariant rs seen c.args.node c.args.no c.in_ok-ordinal.ordinal c.in_ok-index.index stands one c.index_mut-one.ensures.value after refl c.drop_target.ensures (c.notify_changed.ensures.view ∙ ap (hear (heard one.adapter)) c.last_notice.ensures) in
+    let ready = AreReady-at heard g.A.Adapter.places items c.in_ok-ordinal.ordinal one c.self.invariant.ready stands.within c.index_mut-one.ensures.value in
     record {
       few = omega (arith, c.self.invariant.few);
       counted = omega (arith, goes.counted, c.self.invariant.counted);
-      ready = AreReady-set heard g.A.Adapter.places items c.in_ok-place.place after c.self.invariant.ready (record { reserve = omega (arith, ready.reserve, goes.fewer, c.notify_changed.ensures.one_place_used); countable = c.notify_changed.ensures.countable });
-      numbered = c.self.invariant.numbered ∙ sym (numbers_of-set items c.in_ok-place.place one after c.index_mut-one.ensures.value refl);
+      ready = AreReady-set heard g.A.Adapter.places items c.in_ok-ordinal.ordinal after c.self.invariant.ready (record { reserve = omega (arith, ready.reserve, goes.fewer, c.notify_changed.ensures.one_place_used); countable = c.notify_changed.ensures.countable });
+      numbered = c.self.invariant.numbered ∙ sym (numbers_of-set items c.in_ok-ordinal.ordinal one after c.index_mut-one.ensures.value refl);
       distinct = c.self.invariant.distinct;
-      once = subst HasDistinctTargets (sym (listed-put heard items c.in_ok-place.place after)) (All-set IsOnce (listed heard items) c.in_ok-place.place (listed_one heard after) goes.once c.self.invariant.once);
+      once = subst HasDistinctTargets (sym (listed-put heard items c.in_ok-ordinal.ordinal after)) (All-set IsOnce (listed heard items) c.in_ok-ordinal.ordinal (listed_one heard after) goes.once c.self.invariant.once);
       tied = λ y. c.remove.ensures.removed y ∙ ap (λ es. if same_node c.args.node y then remove es c.in_ok-index.index else es) (c.self.invariant.tied y) ∙ goes.tied y;
       none_empty = c.remove.ensures.none_empty c.self.invariant.none_empty;
       marked = λ o.

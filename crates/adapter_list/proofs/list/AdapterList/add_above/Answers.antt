@@ -13,10 +13,10 @@ loop-next-smaller g c = fewer_above (g.L.LinkStore.links c.args.store.now) c.loo
 pub loop-next-preserved : goal.loop-next-preserved
 loop-next-preserved g c = λ k.
     let s = g.L.LinkStore.links c.args.store.now in
-    above-more (λ x. is_attached_at c.args.self.now.0 x true k) (contains nat_cmp c.loop-next.places k) (contains nat_cmp c.add_attached.new.places k) _ c.in-Some.next (above s c.in-Some.next) (above s c.loop-next.at)
+    above-more (λ x. is_attached_at c.args.self.now.0 x true k) (contains nat_cmp c.loop-next.ordinals k) (contains nat_cmp c.add_attached.new.ordinals k) _ c.in-Some.next (above s c.in-Some.next) (above s c.loop-next.at)
     (above-parent s c.loop-next.at c.in-Some.next c.requires.legal c.requires.no_cycle c.in-Some.ensures) (c.in_ok-add_attached.ensures k) (c.loop-next.invariant k)
 
 pub returns : goal.returns
 returns g c = λ k.
     let s = g.L.LinkStore.links c.args.store.now in
-    above-all (λ x. is_attached_at c.args.self.now.0 x true k) (contains nat_cmp c.loop-next.places k) _ (above s c.loop-next.at) (above-root s c.loop-next.at c.requires.legal c.requires.no_cycle c.in_default.ensures) (c.loop-next.invariant k)
+    above-all (λ x. is_attached_at c.args.self.now.0 x true k) (contains nat_cmp c.loop-next.ordinals k) _ (above s c.loop-next.at) (above-root s c.loop-next.at c.requires.legal c.requires.no_cycle c.in_default.ensures) (c.loop-next.invariant k)

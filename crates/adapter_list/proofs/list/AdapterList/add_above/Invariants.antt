@@ -8,7 +8,7 @@ use Rattle.adapter_list.proofs.list.AdapterList.add_above.Given as goal
 
 -- what is found, and then what is above the last node that was looked at
 abbrev pub invariant-loop-next : goal.invariant-loop-next
-invariant-loop-next g l = (k : ℕ) → (contains nat_cmp l.places k || list_any (λ x. is_attached_at l.self.0 x true k) (above (g.L.LinkStore.links l.store) l.at)) ≡ (contains nat_cmp l.fn.places k || list_any (λ x. is_attached_at l.self.0 x true k) (above (g.L.LinkStore.links l.store) l.fn.node))
+invariant-loop-next g l = (k : ℕ) → (contains nat_cmp l.ordinals k || list_any (λ x. is_attached_at l.self.0 x true k) (above (g.L.LinkStore.links l.store) l.at)) ≡ (contains nat_cmp l.fn.ordinals k || list_any (λ x. is_attached_at l.self.0 x true k) (above (g.L.LinkStore.links l.store) l.fn.node))
 
 abbrev pub decreases-loop-next : goal.decreases-loop-next
 decreases-loop-next g l = length (above (g.L.LinkStore.links l.store) l.at)

@@ -7,4 +7,4 @@ use Rattle.adapter_list.specs.Targets.{is_attached_at}
 use Rattle.adapter_list.proofs.list.AdapterList.add_objects.Given as goal
 
 abbrev pub invariant-loop-object : goal.invariant-loop-object
-invariant-loop-object g l = (k : ℕ) → (contains nat_cmp l.places k || list_any (λ o. is_attached_at l.self.0 (node.Object o) false k) (drop l.object-index l.objects)) ≡ (contains nat_cmp l.fn.places k || list_any (λ o. is_attached_at l.self.0 (node.Object o) false k) l.objects)
+invariant-loop-object g l = (k : ℕ) → (contains nat_cmp l.ordinals k || list_any (λ o. is_attached_at l.self.0 (node.Object o) false k) (drop l.object-index l.objects)) ≡ (contains nat_cmp l.fn.ordinals k || list_any (λ o. is_attached_at l.self.0 (node.Object o) false k) l.objects)

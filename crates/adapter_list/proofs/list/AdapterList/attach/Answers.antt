@@ -35,7 +35,7 @@ invariant_of-self-2 g c =
     let pushed : c.push_reserved.new.self.items ≡ items ++ x ∷ [] = c.push_reserved.ensures.items ∙ ap (λ ys. ys ++ x ∷ []) same in
     let only : c.push_back_reserved.new.self.items ≡ t ∷ [] = c.push_back_reserved.ensures.items ∙ ap (λ ts. ts ++ t ∷ []) c.in-Ok.ensures.items in
     let now : listed heard c.push_reserved.new.self.items ≡ rs ++ listed_one heard x ∷ [] = ap (listed heard) pushed ∙ map-append (listed_one heard) items (x ∷ []) in
-    let place : 1 ≤ g.A.Adapter.places c.reserve.new.self = grind (arith, common_steps) in
+    let ordinal : 1 ≤ g.A.Adapter.places c.reserve.new.self = grind (arith, common_steps) in
     let allowed = allowed_from_none rs c.args.no (rw (← c.self.view_is) at c.in_default.ensures) in
     let few : targets_len rs < TARGETS = allowed.0 in
     let more = targets_len-push rs (listed_one heard x) t only in
@@ -51,7 +51,7 @@ invariant_of-self-2 g c =
       sound = record {
         few = omega (arith, few, c.self.invariant.sound.counted);
         counted = ap (λ n. n + 1) c.self.invariant.sound.counted ∙ sym (ap targets_len now ∙ more);
-        ready = rw pushed (AreReady-push heard g.A.Adapter.places items x c.self.invariant.sound.ready (record { reserve = omega (arith, ones, place); countable = c.reserve.ensures.countable }));
+        ready = rw pushed (AreReady-push heard g.A.Adapter.places items x c.self.invariant.sound.ready (record { reserve = omega (arith, ones, ordinal); countable = c.reserve.ensures.countable }));
         numbered = numbers_of-push items c.push_reserved.new.self.items x keys c.insert-2.new.self.keys c.self.invariant.sound.numbered new inserted pushed;
         distinct = c.insert-2.ensures.unique;
         once = subst HasDistinctTargets (sym now) (once-push rs (listed_one heard x) t only c.self.invariant.sound.once);

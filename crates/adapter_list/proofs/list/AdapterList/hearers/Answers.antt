@@ -15,8 +15,8 @@ returns g c =
     let up = above (g.L.LinkStore.links c.args.store.now) in
     let rs = c.args.self.now.0 in
     let x = c.args.node in
-    let has : (k : ℕ) → contains nat_cmp c.add_above.new.places k ≡ (is_attached_at rs x false k || list_any (λ a. is_attached_at rs a true k) (up x)) =
+    let has : (k : ℕ) → contains nat_cmp c.add_above.new.ordinals k ≡ (is_attached_at rs x false k || list_any (λ a. is_attached_at rs a true k) (up x)) =
     λ k. c.in_ok-add_above.ensures k
-    ∙ ap (λ b. b || list_any (λ a. is_attached_at rs a true k) (up x)) (c.in_ok-add_attached.ensures k ∙ ap (λ (ks : List ℕ). list_any (λ y. is_eq (nat_cmp k y)) ks || is_attached_at rs x false k) c.new-places.ensures.empty) in
-    let are : c.in_ok-found.found.items ≡ hearers up x rs = c.in_ok-found.ensures.items ∙ places-hearers up x rs c.add_above.new.places c.in_ok-found.ensures.order (λ k. once-there rs k (recursion_from_All IsOnce rs c.keeps_its_rules.ensures.once)) has in
+    ∙ ap (λ b. b || list_any (λ a. is_attached_at rs a true k) (up x)) (c.in_ok-add_attached.ensures k ∙ ap (λ (ks : List ℕ). list_any (λ y. is_eq (nat_cmp k y)) ks || is_attached_at rs x false k) c.new-ordinals.ensures.empty) in
+    let are : c.in_ok-found.found.items ≡ hearers up x rs = c.in_ok-found.ensures.items ∙ places-hearers up x rs c.add_above.new.ordinals c.in_ok-found.ensures.order (λ k. once-there rs k (recursion_from_All IsOnce rs c.lemma_keeps_rules.ensures.once)) has in
     record { hearers = are; within = within-hearers up x c.in_ok-found.found.items rs are }

@@ -11,11 +11,11 @@ use Rattle.adapter_list.proofs.list.AdapterList.index_before.Goals.{then-is_befo
 use Rattle.adapter_list.proofs.list.AdapterList.index_before.Goals as goal
 
 abbrev before : List Listed → ℕ → Entry → Bool
-before rs place e = option_map_or (λ k. nat_lt k place) (position (has_no e.no) rs) false
+before rs ordinal e = option_map_or (λ k. nat_lt k ordinal) (position (has_no e.no) rs) false
 
 pub overflow_add-index : goal.overflow_add-index
 overflow_add-index g c =
-    let p = before c.args.self.now.0 c.args.place in
+    let p = before c.args.self.now.0 c.args.ordinal in
     let es = c.at-entry-items.result.now in
     let i = c.loop-entry.entry-index in
     let some = length-filter_both p (λ e. not (p e)) (λ e. refl) (take i es) in
@@ -26,7 +26,7 @@ overflow_add-index g c =
 
 pub loop-entry-preserved : goal.loop-entry-preserved
 loop-entry-preserved g c =
-    let p = before c.args.self.now.0 c.args.place in
+    let p = before c.args.self.now.0 c.args.ordinal in
     let es = c.at-entry-items.result.now in
     let i = c.loop-entry.entry-index in
     let e : Entry = get_or es i _ in
@@ -46,10 +46,10 @@ loop-entry-preserved g c =
 pub returns : goal.returns
 returns g c =
     let rs = c.args.self.now.0 in
-    let p = before rs c.args.place in
+    let p = before rs c.args.ordinal in
     let es = c.at-entry-items.result.now in
     let tied : es ≡ entries c.args.node rs = c.at-entry-items.ensures ∙ c.self.invariant.sound.tied c.args.node ∙ ap (λ v. entries c.args.node v.0) c.self.view_is in
     let distinct : HasDistinctNumbers rs = subst HasDistinctNumbers (ap (λ v. v.0) c.self.view_is) (distinct-numbers g.A.Adapter.heard c.self.inside.attached.items c.self.inside.numbers.keys c.self.invariant.sound.numbered c.self.invariant.sound.distinct) in
     c.loop-entry.invariant
     ∙ ap (λ (ds : List Entry). length (filter p ds)) (take_all c.loop-entry.entry-index es c.loop-entry-test.false ∙ tied)
-    ∙ entries-before c.args.node rs c.args.place distinct
+    ∙ entries-before c.args.node rs c.args.ordinal distinct

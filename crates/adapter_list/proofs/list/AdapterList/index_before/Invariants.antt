@@ -4,4 +4,4 @@ use Rattle.notice_chain.specs.Listed.{has_no}
 use Rattle.adapter_list.proofs.list.AdapterList.index_before.Given as goal
 
 abbrev pub invariant-loop-entry : goal.invariant-loop-entry
-invariant-loop-entry g l = l.index ≡ length (filter (λ e. option_map_or (λ k. nat_lt k l.place) (position (has_no e.no) l.self.0) false) (take l.entry-index l.entry-items))
+invariant-loop-entry g l = l.index ≡ length (filter (λ e. option_map_or (λ k. nat_lt k l.ordinal) (position (has_no e.no) l.self.0) false) (take l.entry-index l.entry-items))

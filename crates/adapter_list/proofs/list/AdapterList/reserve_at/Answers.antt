@@ -8,16 +8,16 @@ use Rattle.adapter_list.proofs.list.AdapterList.reserve_at.Goals as goal
 pub invariant_of-self : goal.invariant_of-self
 invariant_of-self g c =
     let items = c.self.inside.attached.items in
-    let within : c.args.place < length items = rw (length-map) at (rw (← c.self.view_is) at c.requires.within) in
+    let within : c.args.ordinal < length items = rw (length-map) at (rw (← c.self.view_is) at c.requires.within) in
     let one = AreReady-at g.A.Adapter.heard g.A.Adapter.places items _ _ c.self.invariant.sound.ready within c.index_mut-one.ensures.value in
     let more = c.reserve.ensures.no_fewer in
-    let same = listed-set_same g.A.Adapter.heard items c.args.place _ _ c.index_mut-one.ensures.value (rw c.reserve.ensures.same_view) in
+    let same = listed-set_same g.A.Adapter.heard items c.args.ordinal _ _ c.index_mut-one.ensures.value (rw c.reserve.ensures.same_view) in
     record {
       sound = record {
         few = c.self.invariant.sound.few;
         counted = c.self.invariant.sound.counted ∙ ap targets_len (sym same);
         ready = AreReady-set g.A.Adapter.heard g.A.Adapter.places items _ _ c.self.invariant.sound.ready (record { reserve = omega (arith, one.reserve, more); countable = c.reserve.ensures.countable });
-        numbered = c.self.invariant.sound.numbered ∙ sym (numbers_of-set items c.args.place _ _ c.index_mut-one.ensures.value refl);
+        numbered = c.self.invariant.sound.numbered ∙ sym (numbers_of-set items c.args.ordinal _ _ c.index_mut-one.ensures.value refl);
         distinct = c.self.invariant.sound.distinct;
         once = subst HasDistinctTargets (sym same) c.self.invariant.sound.once;
         tied = subst (AreTied c.self.inside.by_target) (sym same) c.self.invariant.sound.tied;
@@ -34,13 +34,13 @@ returns-clause-kept g c = rw (← c.self.view_is) (listed-set_same g.A.Adapter.h
 
 pub returns-clause-ok : goal.returns-clause-ok
 returns-clause-ok g c =
-    let within : c.args.place < length c.self.inside.attached.items = rw (length-map) at (rw (← c.self.view_is) at c.requires.within) in
-    rw (slice_index-map_set (λ a. g.A.Adapter.places a.adapter) c.self.inside.attached.items c.args.place _ within) c.reserve.ensures.ok
+    let within : c.args.ordinal < length c.self.inside.attached.items = rw (length-map) at (rw (← c.self.view_is) at c.requires.within) in
+    rw (slice_index-map_set (λ a. g.A.Adapter.places a.adapter) c.self.inside.attached.items c.args.ordinal _ within) c.reserve.ensures.ok
 
 pub returns-clause-full : goal.returns-clause-full
 returns-clause-full g c =
-    let within : c.args.place < length c.self.inside.attached.items = rw (length-map) at (rw (← c.self.view_is) at c.requires.within) in
-    rw (← c.self.view_is, slice_index-told g.A.Adapter.heard c.self.inside.attached.items c.args.place _ within c.index_mut-one.ensures.value) c.reserve.ensures.full
+    let within : c.args.ordinal < length c.self.inside.attached.items = rw (length-map) at (rw (← c.self.view_is) at c.requires.within) in
+    rw (← c.self.view_is, slice_index-told g.A.Adapter.heard c.self.inside.attached.items c.args.ordinal _ within c.index_mut-one.ensures.value) c.reserve.ensures.full
 
 pub returns-clause-no_fewer : goal.returns-clause-no_fewer
 returns-clause-no_fewer g c = rw (← c.self.view_is) (places_of-grow g.A.Adapter.places c.self.inside.attached.items _ _ _ c.index_mut-one.ensures.value c.reserve.ensures.no_fewer)

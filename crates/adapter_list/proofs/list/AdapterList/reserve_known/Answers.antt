@@ -17,7 +17,7 @@ reserve_places-requires g c =
     let ns = c.as_slice.result.now in
     let rs = c.args.self.now.0 in
     let copies : c.copies.result.now ≡ round_copies up ns rs = c.copies.ensures ∙ ap (λ (r : RoundView). r.copies) c.in-Ok.ensures.round in
-    record { within = subst (λ (cs : List (ℕ × Notice)). AreWithin (length c.args.self.now.1) cs) (sym copies) (subst (λ (n : ℕ). AreWithin n (round_copies up ns rs)) (sym c.keeps_its_rules.ensures.places) (within-round_copies up ns rs)) }
+    record { within = subst (λ (cs : List (ℕ × Notice)). AreWithin (length c.args.self.now.1) cs) (sym copies) (subst (λ (n : ℕ). AreWithin n (round_copies up ns rs)) (sym c.lemma_keeps_rules.ensures.places) (within-round_copies up ns rs)) }
 
 pub returns-in-Ok-reserve_places-clause-fits : goal.returns-in-Ok-reserve_places-clause-fits
 returns-in-Ok-reserve_places-clause-fits g c =
@@ -26,7 +26,7 @@ returns-in-Ok-reserve_places-clause-fits g c =
     let rs = c.args.self.now.0 in
     let ps = c.reserve_places.new.self.1 in
     let copies : c.copies.result.now ≡ round_copies up ns rs = c.copies.ensures ∙ ap (λ (r : RoundView). r.copies) c.in-Ok.ensures.round in
-    let long : length rs ≡ length ps = sym (c.in-Ok-reserve_places.ensures.as_many ∙ c.keeps_its_rules.ensures.places) in
+    let long : length rs ≡ length ps = sym (c.in-Ok-reserve_places.ensures.as_many ∙ c.lemma_keeps_rules.ensures.places) in
     let ready : (k : ℕ) → IsReadyFor rs ps k (copies_len (round_copies up ns rs) k) = λ k. subst (λ (cs : List (ℕ × Notice)). IsReadyFor rs ps k (copies_len cs k)) copies (c.in-Ok-reserve_places.ensures.ok k) in
     let room : (k : ℕ) → k < length ps → length (heard_at up ns rs k) + targets_at rs k ≤ slice_index ps k = λ k low. subst (λ (ms : List Notice). length ms + targets_at rs k ≤ slice_index ps k) (copies_for-round_copies up ns rs k) ((ready k).places low) in
     let fits : RoundFits rs ps (round_of up ns rs) = record { copies_fit = CopiesFit-round_copies up ns rs ps long room; told_is = sym (told_by-round_copies up ns rs) } in

@@ -10,27 +10,27 @@ use Rattle.adapter_list.proofs.list.AdapterList.tell_at.Goals as goal
 
 pub invariant_of-self : goal.invariant_of-self
 invariant_of-self g c =
-    let within : c.args.place < length c.self.inside.attached.items = rw (length-map) at (rw (← c.self.view_is) at c.requires.within) in
-    let spare : targets_at (listed g.A.Adapter.heard c.self.inside.attached.items) c.args.place < slice_index (places_of g.A.Adapter.places c.self.inside.attached.items) c.args.place = rw (← c.self.view_is) at c.requires.spare in
-    let at = slice_index-map (λ a. g.A.Adapter.places a.adapter) c.self.inside.attached.items c.args.place _ within c.index_mut-one.ensures.value in
-    let many = targets_at-here g.A.Adapter.heard c.self.inside.attached.items c.args.place _ within c.index_mut-one.ensures.value in
+    let within : c.args.ordinal < length c.self.inside.attached.items = rw (length-map) at (rw (← c.self.view_is) at c.requires.within) in
+    let spare : targets_at (listed g.A.Adapter.heard c.self.inside.attached.items) c.args.ordinal < slice_index (places_of g.A.Adapter.places c.self.inside.attached.items) c.args.ordinal = rw (← c.self.view_is) at c.requires.spare in
+    let at = slice_index-map (λ a. g.A.Adapter.places a.adapter) c.self.inside.attached.items c.args.ordinal _ within c.index_mut-one.ensures.value in
+    let many = targets_at-here g.A.Adapter.heard c.self.inside.attached.items c.args.ordinal _ within c.index_mut-one.ensures.value in
     let items = c.self.inside.attached.items in
-    let heard = listed-set g.A.Adapter.heard items c.args.place c.args.notice _ _ c.index_mut-one.ensures.value (rw c.notify_changed.ensures.view) in
+    let heard = listed-set g.A.Adapter.heard items c.args.ordinal c.args.notice _ _ c.index_mut-one.ensures.value (rw c.notify_changed.ensures.view) in
     record {
       sound = record {
         few = c.self.invariant.sound.few;
-        counted = c.self.invariant.sound.counted ∙ sym (ap targets_len heard ∙ targets_len-tell_at (listed g.A.Adapter.heard items) c.args.place c.args.notice);
-        ready = AreReady-set g.A.Adapter.heard g.A.Adapter.places c.self.inside.attached.items c.args.place _ c.self.invariant.sound.ready (record { reserve = omega (arith, spare, many, at, c.notify_changed.ensures.one_place_used); countable = c.notify_changed.ensures.countable });
-        numbered = c.self.invariant.sound.numbered ∙ sym (numbers_of-set c.self.inside.attached.items c.args.place _ _ c.index_mut-one.ensures.value refl);
+        counted = c.self.invariant.sound.counted ∙ sym (ap targets_len heard ∙ targets_len-tell_at (listed g.A.Adapter.heard items) c.args.ordinal c.args.notice);
+        ready = AreReady-set g.A.Adapter.heard g.A.Adapter.places c.self.inside.attached.items c.args.ordinal _ c.self.invariant.sound.ready (record { reserve = omega (arith, spare, many, at, c.notify_changed.ensures.one_place_used); countable = c.notify_changed.ensures.countable });
+        numbered = c.self.invariant.sound.numbered ∙ sym (numbers_of-set c.self.inside.attached.items c.args.ordinal _ _ c.index_mut-one.ensures.value refl);
         distinct = c.self.invariant.sound.distinct;
-        once = subst HasDistinctTargets (sym heard) (once-tell_at (listed g.A.Adapter.heard items) c.args.place c.args.notice c.self.invariant.sound.once);
-        tied = λ x. c.self.invariant.sound.tied x ∙ sym (ap (entries x) heard ∙ entries-tell_at x (listed g.A.Adapter.heard items) c.args.place c.args.notice);
+        once = subst HasDistinctTargets (sym heard) (once-tell_at (listed g.A.Adapter.heard items) c.args.ordinal c.args.notice c.self.invariant.sound.once);
+        tied = λ x. c.self.invariant.sound.tied x ∙ sym (ap (entries x) heard ∙ entries-tell_at x (listed g.A.Adapter.heard items) c.args.ordinal c.args.notice);
         none_empty = c.self.invariant.sound.none_empty;
         marked = c.self.invariant.sound.marked;
         unused = c.self.invariant.sound.unused;
         releasable = search rules;
       };
-      some = subst HaveTargets (sym heard) (some-tell_at (listed g.A.Adapter.heard items) c.args.place c.args.notice c.self.invariant.some);
+      some = subst HaveTargets (sym heard) (some-tell_at (listed g.A.Adapter.heard items) c.args.ordinal c.args.notice c.self.invariant.some);
     }
 
 pub returns-clause-heard : goal.returns-clause-heard

@@ -11,6 +11,6 @@ pub returns : goal.returns
 returns g c =
     let rs = c.args.self.now.0 in
     let os = c.args.objects.now in
-    let has : (k : ℕ) → contains nat_cmp c.add_objects.new.places k ≡ list_any (λ o. is_attached_at rs (node.Object o) false k) os =
-    λ k. c.in_ok-add_objects.ensures k ∙ ap (λ (ks : List ℕ). list_any (λ y. is_eq (nat_cmp k y)) ks || list_any (λ o. is_attached_at rs (node.Object o) false k) os) c.new-places.ensures.empty in
-    c.in_ok-found.ensures.items ∙ places-touched os rs c.add_objects.new.places c.in_ok-found.ensures.order has
+    let has : (k : ℕ) → contains nat_cmp c.add_objects.new.ordinals k ≡ list_any (λ o. is_attached_at rs (node.Object o) false k) os =
+    λ k. c.in_ok-add_objects.ensures k ∙ ap (λ (ks : List ℕ). list_any (λ y. is_eq (nat_cmp k y)) ks || list_any (λ o. is_attached_at rs (node.Object o) false k) os) c.new-ordinals.ensures.empty in
+    c.in_ok-found.ensures.items ∙ places-touched os rs c.add_objects.new.ordinals c.in_ok-found.ensures.order has

@@ -1,4 +1,4 @@
-use Rattle.doc_parts.specs.Places.{number_at}
+use Rattle.doc_parts.specs.Keys.{number_at}
 use Rattle.doc_parts.proofs.PathLemmas.{descended_none}
 use Rattle.doc_parts.proofs.found.Numbers.descend.Goals as goal
 

@@ -1,5 +1,5 @@
 use Rattle.std.proofs.Common.{◌≡◌, Some, drop}
-use Rattle.doc_parts.specs.Places.{descend, number_at}
+use Rattle.doc_parts.specs.Keys.{descend, number_at}
 use Rattle.doc_parts.proofs.found.Numbers.descend.Given as goal
 
 abbrev pub invariant-steps : goal.invariant-steps

@@ -1,5 +1,5 @@
 use Rattle.std.proofs.Common.{Some, ◌∙◌, ap}
-use Rattle.doc_parts.specs.Places.{descend, number_at}
+use Rattle.doc_parts.specs.Keys.{descend, number_at}
 use Rattle.doc_parts.proofs.PathLemmas.{path_from, path_none}
 use Rattle.doc_parts.proofs.found.Numbers.of_path.Goals as goal
 

@@ -13,8 +13,8 @@ returns c =
     let m : Metamodel = c.args.self.now in
     let rows : AreRows m c.deref.result.now =
     rw c.deref.ensures.value (subst (λ (m : Metamodel). AreRows m c.self.inside.common.items) c.self.view_is c.self.invariant.finds_common) in
-    let read : c.in_ok-row.row.now ≡ get_or c.deref.result.now c.args.first [] =
-    get_or_read c.deref.result.now c.args.first c.in_ok-row.row.now c.in_ok-row.ensures.lookup.3.0 c.in_ok-row.ensures.lookup.1 [] in
+    let read : c.in_ok-by_class.by_class.now ≡ get_or c.deref.result.now c.args.first [] =
+    get_or_read c.deref.result.now c.args.first c.in_ok-by_class.by_class.now c.in_ok-by_class.ensures.lookup.3.0 c.in_ok-by_class.ensures.lookup.1 [] in
     let known : IsRow m (feature_name m (feature_no c.args.first)) c.as_slice.result.now =
-    subst (λ (row : List (Option FeatureNo)). IsRow m (feature_name m (feature_no c.args.first)) row) (sym (c.as_slice.ensures ∙ read)) (rows c.args.first c.in_ok-row.ensures.lookup.3.0) in
+    subst (λ (by_class : List (Option FeatureNo)). IsRow m (feature_name m (feature_no c.args.first)) by_class) (sym (c.as_slice.ensures ∙ read)) (rows c.args.first c.in_ok-by_class.ensures.lookup.3.0) in
     kept_is m (feature_name m (feature_no c.args.first)) c.as_slice.result.now c.args.class.0 c.copied.result (c.copied.ensures ∙ got _ _ c.get-2.result c.get-2.ensures.lookup) known

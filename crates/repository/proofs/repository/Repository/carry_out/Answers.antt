@@ -21,7 +21,7 @@ use Rattle.models.specs.Model.{Model, model_of, reading}
 use Rattle.models.specs.Steady.{HasSteadyTexts}
 use Rattle.handshake.specs.Effects.{after}
 use Rattle.handshake.specs.Plans.{IsPlanOf}
-use Rattle.handshake.specs.Tellings.{chain}
+use Rattle.handshake.specs.FeatureChanges.{chain}
 use Rattle.handshake.proofs.ProxyLemmas.{change-keeps-steady}
 use Rattle.repository.specs.Answers.{answer_of}
 use Rattle.repository.specs.Leaving.{going_with, leavers, spots_in}

@@ -9,7 +9,7 @@ use Rattle.repository.proofs.repository.Repository.new.Goals as goal
 pub invariant_of-result : goal.invariant_of-result
 unfolding IsDistinct
 invariant_of-result g c =
-    let accepted = c.is_of_document.ensures in
+    let accepted = c.lemma_is_of_document.ensures in
     record {
       legal = rw (c.new.ensures, c.new-2.ensures, c.empty.ensures.links) (record { model = empty-legal c.args.meta accepted; few = omega arith; distinct = tt; adapters = search rules });
       steady = rw (c.new.ensures, c.empty.ensures.links) (empty-steady c.args.meta);

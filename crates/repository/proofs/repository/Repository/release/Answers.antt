@@ -2,7 +2,7 @@ use Rattle.std.proofs.Common.{subst, sym, List}
 use Rattle.notice_chain.specs.Listed.{Listed}
 use Rattle.repository.specs.Repository.{state}
 use Rattle.repository.specs.State.{IsLegal, State}
-use Rattle.repository.proofs.LegalLemmas.{let_go-legal}
+use Rattle.repository.proofs.LegalAdapterLemmas.{let_go-legal}
 use Rattle.repository.proofs.repository.Repository.release.Goals as goal
 
 pub invariant_of-self : goal.invariant_of-self

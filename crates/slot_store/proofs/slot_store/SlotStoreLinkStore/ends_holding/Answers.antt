@@ -2,8 +2,8 @@ use Rattle.std.proofs.Common.{◌≡◌, sym, subst}
 use Rattle.std.proofs.lemmas.Result.{IfOk-weaker}
 use Rattle.mm_types.specs.declared.numbers.Node.TheVariants as node
 use Rattle.links.specs.Plans.{AreIncoming}
-use Rattle.node_rows.specs.Cells.{cells, row_at}
-use Rattle.node_rows.specs.Rows.{row_slots}
+use Rattle.node_slots.specs.Cells.{cells, row_at}
+use Rattle.node_slots.specs.Rows.{row_slots}
 use Rattle.slot_store.specs.CellLinks.{store_links}
 use Rattle.slot_store.specs.Entering.{entering_ends}
 use Rattle.slot_store.proofs.EnteringLemmas.{entering_is}

@@ -3,7 +3,7 @@ use Rattle.std.specs.List.{slice_get}
 use Rattle.std.proofs.lemmas.Option.{slice_get_within}
 use Rattle.mm_types.specs.declared.value.Value.{Value}
 use Rattle.mm_types.specs.declared.value.Value.TheVariants as value
-use Rattle.node_rows.specs.Cells.{cells}
+use Rattle.node_slots.specs.Cells.{cells}
 use Rattle.slot_store.proofs.PositionLemmas.{position_at, position_lacks}
 use Rattle.slot_store.proofs.StoreLemmas.{ends_kept, few_kept, kept_once}
 use Rattle.slot_store.proofs.slot_store.SlotStoreLinkStore.position.Goals as goal

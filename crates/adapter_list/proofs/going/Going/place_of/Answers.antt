@@ -1,6 +1,0 @@
-use Rattle.std.proofs.Common.{◌∙◌}
-use Rattle.adapter_list.proofs.NumberLemmas.{position-numbers}
-use Rattle.adapter_list.proofs.going.Going.place_of.Goals as goal
-
-pub returns-clause-place : goal.returns-clause-place
-returns-clause-place g c = rw (← c.self.view_is) (c.get_index_of.ensures.index ∙ position-numbers g.A.Adapter.heard c.self.inside.attached.items c.self.inside.numbers.keys c.args.no c.self.invariant.numbered)

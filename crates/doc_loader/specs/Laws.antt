@@ -1,0 +1,25 @@
+-- What the edits of a load make: the links that the document says, where its objects' numbers and the resource are still free.
+use Rattle.std.specs.Prelude.{◌≡◌, ℕ, []}
+use Rattle.mm_types.specs.Resolved.{Metamodel}
+use Rattle.mm_types.specs.declared.end.End.{End}
+use Rattle.mm_types.specs.declared.numbers.FeatureNo.{FeatureNo}
+use Rattle.mm_types.specs.declared.numbers.ObjectNo.{ObjectNo}
+use Rattle.mm_types.specs.declared.numbers.ResourceNo.{ResourceNo}
+use Rattle.mm_types.specs.declared.value.Value.TheVariants as value
+use Rattle.links.specs.Links.{Links, end}
+use Rattle.links.specs.Plans.{Lacks, PlanFits, PlanMakesNoCycle, applied}
+use Rattle.resource_docs.specs.declared.doc.Doc.{Doc}
+use Rattle.doc_loader.specs.LoadEdits.{load_edits}
+use Rattle.doc_loader.specs.Loading.{contents_end, loaded, loaded_links, object_end, with_links}
+
+-- no link names a node that a document's objects get, and nothing is in the resource
+pub record IsRoomFor (m : Metamodel) (n : ℕ) (k : ResourceNo) (s : Links) : Type 0 where
+  pub roots : end s (contents_end m k) ≡ []
+  pub ends : (o : ObjectNo) (f : FeatureNo) → end s (object_end n o f) ≡ []
+  pub values : (e : End) (o : ObjectNo) → Lacks s e (value.Object (loaded n o))
+
+-- the edits fit, put nothing below itself, and make the links of the document
+pub record MakesLinks (m : Metamodel) (n : ℕ) (k : ResourceNo) (doc : Doc) (s : Links) : Type 0 where
+  pub fits : PlanFits s (load_edits m n k doc)
+  pub no_cycle : PlanMakesNoCycle s (load_edits m n k doc)
+  pub makes : applied s (load_edits m n k doc) ≡ with_links s (loaded_links m n k doc)

@@ -1,0 +1,51 @@
+-- Where each object stands in the lists of a document.
+use Rattle.std.specs.Prelude.{ℕ, ◌&&◌, Bool, List, [], ◌∷◌, flat_map, nat_eq, Option, Some, None, unwrap_or, if◌then◌else◌}
+use Rattle.std.specs.List.{enumerate_from}
+use Rattle.std.specs.Option.{option_or}
+use Rattle.indexmap.specs.IndexMap.{get}
+use Rattle.mm_types.specs.Resolved.{Metamodel}
+use Rattle.mm_types.specs.Shapes.{shape}
+use Rattle.mm_types.specs.declared.numbers.FeatureNo.{FeatureNo}
+use Rattle.mm_types.specs.declared.numbers.ObjectNo.{ObjectNo}
+use Rattle.mm_types.specs.declared.value.Value.{Value}
+use Rattle.mm_types.specs.declared.value.Value.TheVariants as value
+use Rattle.resource_docs.specs.declared.doc.Content.{Content}
+use Rattle.resource_docs.specs.declared.doc.DocObject.{DocObject}
+use Rattle.doc_loader.specs.Loading.{of_object}
+use Rattle.doc_loader.specs.Pairs.{is_lower}
+use Rattle.doc_loader.specs.declared.indexes.ReferenceKey.{ReferenceKey}
+use Rattle.doc_loader.specs.declared.indexes.ListIndexes.{ListIndexes}
+
+abbrev pub reference_key : ObjectNo → FeatureNo → ObjectNo → ReferenceKey
+reference_key o f b = record { object = o.0; feature = f.0; named = b.0 }
+
+abbrev pub same_reference_key : ReferenceKey → ReferenceKey → Bool
+same_reference_key j k = nat_eq j.object k.object && (nat_eq j.feature k.feature && nat_eq j.named k.named)
+
+-- the object that stands at a position, as it is named there
+abbrev pub placed : ObjectNo → FeatureNo → ℕ × Value → List (ReferenceKey × ℕ)
+placed o f (i, value.Object b) = (reference_key o f b, i) ∷ []
+placed o f (i, v) = []
+
+-- only at the lower feature of a pair the indexes are asked for
+abbrev pub content_indexes : Metamodel → ObjectNo → Content → List (ReferenceKey × ℕ)
+content_indexes m o c =
+    if is_lower (shape m c.feature) c.feature then flat_map (placed o c.feature) (enumerate_from 0 c.values) else []
+
+abbrev pub all_indexes : Metamodel → List DocObject → List (ReferenceKey × ℕ)
+all_indexes m os = flat_map (of_object (content_indexes m)) (enumerate_from 0 os)
+
+-- the index that is last given for a reference key
+abbrev pub last_index : List (ReferenceKey × ℕ) → ReferenceKey → Option ℕ
+last_index [] k = None
+last_index (x ∷ xs) k = option_or (last_index xs k) (if same_reference_key x.0 k then Some x.1 else None)
+
+-- where an object stands in a list of a document that has these objects
+abbrev pub index_among : Metamodel → List DocObject → ReferenceKey → ℕ
+index_among m os k = unwrap_or (last_index (all_indexes m os) k) 0
+
+abbrev pub index_at : ListIndexes → ReferenceKey → Option ℕ
+index_at p k = get same_reference_key p.indexes k
+
+abbrev pub found_at : ListIndexes → ReferenceKey → ℕ
+found_at p k = unwrap_or (index_at p k) 0

@@ -1,0 +1,91 @@
+-- Edits in whose order a document's links and proxies come to stand where it says. First the roots, then the lists of all references but
+-- the higher of a pair: each value is put behind those before it, so each of these lists comes to stand as it is written. The ends of
+-- the higher feature gain meanwhile, each in the order of the numbers of its objects. Where the document has another order there, the
+-- links of that end are taken out and put again, in its order, each at the position that it had at the lower end. Last come the proxies of
+-- those ends, each at its position: the objects stand there by then, in their order.
+use Rattle.std.specs.Prelude.{ℕ, suc, ◌&&◌, Bool, true, not, List, [], ◌∷◌, ◌++◌, flat_map, map, nat_le, is_some, if◌then◌else◌}
+use Rattle.std.specs.List.{enumerate_from}
+use Rattle.std.specs.Option.{option_map_or}
+use Rattle.mm_types.specs.Resolved.{Metamodel}
+use Rattle.mm_types.specs.Shapes.{shape}
+use Rattle.mm_types.specs.declared.numbers.FeatureNo.{FeatureNo}
+use Rattle.mm_types.specs.declared.numbers.ObjectNo.{ObjectNo}
+use Rattle.mm_types.specs.declared.numbers.ResourceNo.{ResourceNo}
+use Rattle.mm_types.specs.declared.end.End.{End}
+use Rattle.mm_types.specs.declared.value.Value.{Value}
+use Rattle.mm_types.specs.declared.value.Value.TheVariants as value
+use Rattle.links.specs.declared.plan.Edit.{Edit}
+use Rattle.links.specs.declared.plan.Edit.TheVariants.{Cut, Put, PutProxy}
+use Rattle.resource_docs.specs.declared.doc.Content.{Content}
+use Rattle.resource_docs.specs.declared.doc.Doc.{Doc}
+use Rattle.doc_loader.specs.Loading.{contents_end, loaded, object_end, of_contents}
+use Rattle.doc_loader.specs.Pairs.{is_near, lower_of}
+use Rattle.doc_loader.specs.ListIndexes.{reference_key, index_among}
+use Rattle.doc_loader.specs.declared.passes.Pass.{Pass}
+use Rattle.doc_loader.specs.declared.passes.Pass.TheVariants.{Near, Proxies}
+use Rattle.doc_loader.specs.declared.indexes.ReferenceKey.{ReferenceKey}
+
+-- puts an object of the document at a position
+abbrev pub put_at : Metamodel → ℕ → End → ℕ → ObjectNo → Edit
+put_at m n e i b = Put e i (loaded n b) (shape m e.feature).opposite (shape m e.feature).containing
+
+abbrev pub root_puts : Metamodel → ℕ → ResourceNo → Doc → List Edit
+root_puts m n k doc = map (λ x. put_at m n (contents_end m k) x.0 x.1) (enumerate_from 0 doc.roots)
+
+---------------------------------------------------------------- references that are put from their own ends
+
+-- puts the value at a position
+abbrev pub value_puts : Metamodel → ℕ → End → ℕ × Value → List Edit
+value_puts m n e (i, value.Object b) = put_at m n e i b ∷ []
+value_puts m n e (i, value.Proxy t) = PutProxy e i t ∷ []
+value_puts m n e (i, v) = []
+
+abbrev pub near_edits : Metamodel → ℕ → ObjectNo → Content → List Edit
+near_edits m n o c =
+    if is_near (shape m c.feature) c.feature then flat_map (value_puts m n (object_end n o c.feature)) (enumerate_from 0 c.values) else []
+
+---------------------------------------------------------------- the higher feature of each pair
+
+-- the objects among values are in the order of their numbers, from k on
+abbrev pub is_ascending_from : ℕ → List Value → Bool
+is_ascending_from k [] = true
+is_ascending_from k (value.Object a ∷ vs) = nat_le k a.0 && is_ascending_from (suc a.0) vs
+is_ascending_from k (v ∷ vs) = is_ascending_from k vs
+
+-- takes an object b out of the end of a value a, and puts it where it stood, so that a then stands last at the other end
+abbrev pub puts_again : Metamodel → ℕ → (ReferenceKey → ℕ) → ObjectNo → FeatureNo → Value → List Edit
+puts_again m n index_of b f (value.Object a) =
+    let e = object_end n a f in
+    Cut e (loaded n b) ∷ put_at m n e (index_of (reference_key a f b)) b ∷ []
+puts_again m n index_of b f v = []
+
+abbrev pub in_order : Metamodel → ℕ → (ReferenceKey → ℕ) → ObjectNo → List Value → FeatureNo → List Edit
+in_order m n index_of b vs f = if is_ascending_from 0 vs then [] else flat_map (puts_again m n index_of b f) vs
+
+-- the values under the higher feature of a pair are in another order than that of their numbers
+abbrev pub is_unordered : Metamodel → Content → Bool
+is_unordered m c = is_some (lower_of (shape m c.feature) c.feature) && not (is_ascending_from 0 c.values)
+
+abbrev pub far_edits : Metamodel → ℕ → (ReferenceKey → ℕ) → ObjectNo → Content → List Edit
+far_edits m n index_of b c = option_map_or (in_order m n index_of b c.values) (lower_of (shape m c.feature) c.feature) []
+
+-- puts a proxy at its position
+abbrev pub proxy_puts : End → ℕ × Value → List Edit
+proxy_puts e (i, value.Proxy t) = PutProxy e i t ∷ []
+proxy_puts e (i, v) = []
+
+abbrev pub proxy_edits : Metamodel → ℕ → ObjectNo → Content → List Edit
+proxy_edits m n o c =
+    if is_some (lower_of (shape m c.feature) c.feature) then flat_map (proxy_puts (object_end n o c.feature)) (enumerate_from 0 c.values) else []
+
+---------------------------------------------------------------- all
+
+-- what a pass over the contents puts
+abbrev pub pass_edits : Pass → Metamodel → ℕ → ObjectNo → Content → List Edit
+pass_edits Near = near_edits
+pass_edits Proxies = proxy_edits
+
+abbrev pub load_edits : Metamodel → ℕ → ResourceNo → Doc → List Edit
+load_edits m n k doc =
+    root_puts m n k doc
+    ++ (of_contents (near_edits m n) doc ++ (of_contents (far_edits m n (index_among m doc.objects)) doc ++ of_contents (proxy_edits m n) doc))

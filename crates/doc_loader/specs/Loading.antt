@@ -1,0 +1,97 @@
+-- What loading a document makes: its objects, numbered on from the next number, their values, and their links and proxies, which stand
+-- at both ends where the document says.
+use Rattle.std.specs.Prelude.{ℕ, ◌+◌, ◌&&◌, Bool, List, [], ◌∷◌, ◌++◌, filter_map, flat_map, fold, map, position, Option, Some, None, unwrap_or, if◌then◌else◌}
+use Rattle.std.specs.List.{enumerate_from}
+use Rattle.std.specs.FinSet as set
+use Rattle.mm_types.specs.Resolved.{Metamodel}
+use Rattle.mm_types.specs.Same.{is_feature, is_nil, same_value}
+use Rattle.mm_types.specs.Shapes.{Shape, shape}
+use Rattle.mm_types.specs.declared.numbers.FeatureNo.{FeatureNo}
+use Rattle.mm_types.specs.declared.numbers.ObjectNo.{ObjectNo}
+use Rattle.mm_types.specs.declared.numbers.ResourceNo.{ResourceNo}
+use Rattle.mm_types.specs.declared.numbers.Node.TheVariants as node
+use Rattle.mm_types.specs.declared.end.End.{End}
+use Rattle.mm_types.specs.declared.value.Value.{Value}
+use Rattle.mm_types.specs.declared.value.Value.TheVariants as value
+use Rattle.mm_values.specs.declared.edit.ValueEdit.{ValueEdit}
+use Rattle.mm_values.specs.declared.edit.ValueEdit.TheVariants.{NewObject, PutList}
+use Rattle.links.specs.declared.link.Far.TheVariants.{Alone, Proxy}
+use Rattle.links.specs.declared.link.Link.{Link}
+use Rattle.links.specs.Links.{Links, far_end, joined}
+use Rattle.models.specs.Reading.{Reading, at_end}
+pub use Rattle.fragment_paths.specs.Fragments.{contents_end}
+use Rattle.resource_docs.specs.declared.doc.Content.{Content}
+use Rattle.resource_docs.specs.declared.doc.Doc.{Doc}
+use Rattle.resource_docs.specs.declared.doc.DocObject.{DocObject}
+use Rattle.resource_docs.specs.Read.{values_in}
+
+-- the number that an object of a document gets, where the first one gets n
+abbrev pub loaded : ℕ → ObjectNo → ObjectNo
+loaded n o = record { 0 = n + o.0 }
+
+-- a value, an object by the number that it gets
+abbrev pub loaded_value : ℕ → Value → Value
+loaded_value n (value.Object b) = value.Object (loaded n b)
+loaded_value n v = v
+
+abbrev pub roots_loaded : ℕ → Doc → List Value
+roots_loaded n doc = map (λ o. value.Object (loaded n o)) doc.roots
+
+-- what something makes of each content of an object that has a number in its document
+abbrev pub of_object : {X : Type 0} → (ObjectNo → Content → List X) → ℕ × DocObject → List X
+of_object make x = flat_map (make (record { 0 = x.0 })) x.1.contents
+
+-- what something makes of each object of a document with its number there, and of each content of it
+abbrev pub of_contents : {X : Type 0} → (ObjectNo → Content → List X) → Doc → List X
+of_contents make doc = flat_map (of_object make) (enumerate_from 0 doc.objects)
+
+---------------------------------------------------------------- values
+
+-- a single unsettable attribute that is written is set
+abbrev pub attribute_edits : Metamodel → ℕ → ObjectNo → Content → List ValueEdit
+attribute_edits m n o c =
+    let a = shape m c.feature in
+    if a.is_reference then [] else PutList (loaded n o) c.feature c.values (a.is_unsettable && a.is_single) ∷ []
+
+abbrev pub loaded_values : Metamodel → ℕ → Doc → List ValueEdit
+loaded_values m n doc = map (λ o. NewObject o.class) doc.objects ++ of_contents (attribute_edits m n) doc
+
+---------------------------------------------------------------- links
+
+-- the end of an object of the document
+abbrev pub object_end : ℕ → ObjectNo → FeatureNo → End
+object_end n o f = at_end (node.Object (loaded n o)) f
+
+abbrev pub is_empty_resource : Reading → ResourceNo → Bool
+is_empty_resource r k = is_nil (r.values (contents_end r.metamodel k))
+
+-- where an object stands at the other end: a part has one holder; else where the document has it there
+abbrev pub far_index : Shape → Doc → ObjectNo → FeatureNo → ObjectNo → FeatureNo → ℕ
+far_index a doc o f b g = if is_feature f a.containing then 0 else unwrap_or (position (same_value (value.Object o)) (values_in doc b g)) 0
+
+-- the link between index i of feature f, of the document's object o, and the document's object b
+abbrev pub link_to : Metamodel → ℕ → Doc → ObjectNo → FeatureNo → ℕ → ObjectNo → Option FeatureNo → Link
+link_to m n doc o f i b None = record { end = object_end n o f; index = i; far = Alone (loaded n b); container = (shape m f).containing }
+link_to m n doc o f i b (Some g) =
+    joined (object_end n o f) i (far_end (loaded n b) g) (far_index (shape m f) doc o f b g) (shape m f).containing
+
+-- the link, or the proxy, that a value at a position is; both ends of a pair give one link
+abbrev pub link_of : Metamodel → ℕ → Doc → ObjectNo → FeatureNo → ℕ × Value → Option Link
+link_of m n doc o f (i, value.Object b) = Some (link_to m n doc o f i b (shape m f).opposite)
+link_of m n doc o f (i, value.Proxy t) = Some (record { end = object_end n o f; index = i; far = Proxy t; container = None })
+link_of m n doc o f (i, v) = None
+
+abbrev pub content_links : Metamodel → ℕ → Doc → ObjectNo → Content → List Link
+content_links m n doc o c = filter_map (link_of m n doc o c.feature) (enumerate_from 0 c.values)
+
+abbrev pub root_link : Metamodel → ℕ → ResourceNo → ℕ × ObjectNo → Link
+root_link m n k x =
+    let e = contents_end m k in
+    record { end = e; index = x.0; far = Alone (loaded n x.1); container = (shape m e.feature).containing }
+
+abbrev pub loaded_links : Metamodel → ℕ → ResourceNo → Doc → List Link
+loaded_links m n k doc = map (root_link m n k) (enumerate_from 0 doc.roots) ++ of_contents (content_links m n doc) doc
+
+-- the set with some links, each standing where it says
+unfoldable pub with_links : Links → List Link → Links
+with_links s ls = fold (λ t l. set.insert t l) s ls

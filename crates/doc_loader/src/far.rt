@@ -1,0 +1,188 @@
+//! The edits that put the links of pairs in the order of their other ends.
+ghost use Rattle.std.specs.Prelude.{◌≡◌, ◌≤◌, ◌+◌, ◌++◌, ℕ, OnOk, flat_map, length, unwrap_or};
+ghost use Rattle.std.specs.List.{All, enumerate_from, list_any};
+ghost use Rattle.mm_types.specs.declared.limits.TheConstants.{OBJECTS};
+ghost use Rattle.doc_loader.specs.Fits.{IsFitting, IsFittingContent, IsFittingObject, IsNumbered, IsValueNumbered};
+ghost use Rattle.doc_loader.specs.LoadEdits as e;
+ghost use Rattle.doc_loader.specs.Loading.{of_object};
+ghost use Rattle.doc_loader.specs.ListIndexes.{found_at, index_among};
+
+use crate::indexes::{ListIndexes, ReferenceKey};
+use crate::near::put_at;
+use crate::numbers::{loaded, object_end};
+use crate::pairs::lower_of;
+use links::Edit;
+use mm_meta::Meta;
+use mm_types::{FeatureNo, ObjectNo, Value};
+use resource_docs::{Content, Doc, DocObject};
+use std::alloc::{AllocError, Global};
+
+/// What the edits are made from: the metamodel, the number that the document's first object gets, and the indexes at which its lists
+/// have each object.
+#[derive(Clone, Copy)]
+struct Source<'r> {
+    meta: &'r Meta,
+    next: usize,
+    indexes: &'r ListIndexes,
+}
+
+/// Whether the objects among values are in the order of their numbers.
+fn is_ascending(values: &[Value]) -> bool
+    ensures { result ≡ e.is_ascending_from 0 values.now }
+{
+    let mut least = 0;
+    'values: for value in values {
+        if let Value::Object(object) = value {
+            if (object.0 as u64) < least {
+                return false;
+            }
+            least = object.0 as u64 + 1;
+        }
+    }
+    true
+}
+
+/// Whether the values under the higher feature of a pair are not in the order of their numbers.
+fn is_unordered(meta: &Meta, content: &Content) -> bool
+    ensures { result ≡ e.is_unordered meta.now content.now }
+{
+    lower_of(meta, content.feature).is_some() && !is_ascending(content.values.as_slice())
+}
+
+fn has_unordered(meta: &Meta, contents: &[Content]) -> bool
+    ensures { result ≡ list_any (e.is_unordered meta.now) contents.now }
+{
+    contents.iter().any(|content| is_unordered(meta, content))
+}
+
+fn has_any_unordered(meta: &Meta, objects: &[DocObject]) -> bool
+    ensures { result ≡ list_any (λ o. list_any (e.is_unordered meta.now) o.contents) objects.now }
+{
+    objects
+        .iter()
+        .any(|object| has_unordered(meta, object.contents.as_slice()))
+}
+
+/// Adds the edits that put the ends of a document's objects in order. If all are, it takes no memory.
+pub(crate) fn push_in_order(
+    alloc: Global,
+    meta: &Meta,
+    next: usize,
+    doc: &Doc,
+    edits: &mut Vec<Edit>,
+) -> Result<(), AllocError>
+    requires { IsFitting next doc.now }
+    ensures { OnOk result (edits.new.items ≡ edits.old.items ++ flat_map (of_object (e.far_edits meta.now next (index_among meta.now doc.now.objects))) (enumerate_from 0 doc.now.objects)) }
+{
+    let objects = doc.objects.as_slice();
+    if !has_any_unordered(meta, objects) {
+        return Ok(());
+    }
+    let indexes = ListIndexes::of(alloc, meta, objects)?;
+    let source = Source {
+        meta,
+        next,
+        indexes: &indexes,
+    };
+    push_objects(&source, objects, edits)
+}
+
+/// Adds the edits that put objects' ends in order.
+fn push_objects(
+    source: &Source,
+    objects: &[DocObject],
+    edits: &mut Vec<Edit>,
+) -> Result<(), AllocError>
+    requires room { source.now.next + length objects.now ≤ OBJECTS }
+    requires fits { All (IsFittingObject source.now.next) objects.now }
+    ensures { OnOk result (edits.new.items ≡ edits.old.items ++ flat_map (of_object (e.far_edits source.now.meta.now source.now.next (found_at source.now.indexes.now))) (enumerate_from 0 objects.now)) }
+{
+    'objects: for (i, object) in objects.iter().enumerate() {
+        let number = ObjectNo(i as u32);
+        push_object(source, number, object.contents.as_slice(), edits)?;
+    }
+    Ok(())
+}
+
+/// Adds the edits that put an object's ends in order.
+fn push_object(
+    source: &Source,
+    object: ObjectNo,
+    contents: &[Content],
+    edits: &mut Vec<Edit>,
+) -> Result<(), AllocError>
+    requires number { IsNumbered source.now.next object }
+    requires fits { All (IsFittingContent source.now.next) contents.now }
+    ensures { OnOk result (edits.new.items ≡ edits.old.items ++ flat_map (e.far_edits source.now.meta.now source.now.next (found_at source.now.indexes.now) object) contents.now) }
+{
+    'contents: for content in contents {
+        push_content(source, object, content, edits)?;
+    }
+    Ok(())
+}
+
+/// Adds the edits that put an object's end of a feature in order, if that is the higher of a pair, and the end is not in that order.
+fn push_content(
+    source: &Source,
+    object: ObjectNo,
+    content: &Content,
+    edits: &mut Vec<Edit>,
+) -> Result<(), AllocError>
+    requires number { IsNumbered source.now.next object }
+    requires fits { IsFittingContent source.now.next content.now }
+    ensures { OnOk result (edits.new.items ≡ edits.old.items ++ e.far_edits source.now.meta.now source.now.next (found_at source.now.indexes.now) object content.now) }
+{
+    let Some(lower) = lower_of(source.meta, content.feature) else {
+        return Ok(());
+    };
+    let values = content.values.as_slice();
+    if is_ascending(values) {
+        return Ok(());
+    }
+    push_values(source, object, lower, values, edits)
+}
+
+/// Adds the edits that take an object out of the ends of values and put it there again.
+fn push_values(
+    source: &Source,
+    object: ObjectNo,
+    lower: FeatureNo,
+    values: &[Value],
+    edits: &mut Vec<Edit>,
+) -> Result<(), AllocError>
+    requires number { IsNumbered source.now.next object }
+    requires fits { All (IsValueNumbered source.now.next) values.now }
+    ensures { OnOk result (edits.new.items ≡ edits.old.items ++ flat_map (e.puts_again source.now.meta.now source.now.next (found_at source.now.indexes.now) object lower) values.now) }
+{
+    'values: for value in values {
+        push_again(source, object, lower, value, edits)?;
+    }
+    Ok(())
+}
+
+/// Adds the edits that take an object out of the end of a value and put it there again.
+fn push_again(
+    source: &Source,
+    object: ObjectNo,
+    lower: FeatureNo,
+    value: &Value,
+    edits: &mut Vec<Edit>,
+) -> Result<(), AllocError>
+    requires number { IsNumbered source.now.next object }
+    requires fits { IsValueNumbered source.now.next value.now }
+    ensures { OnOk result (edits.new.items ≡ edits.old.items ++ e.puts_again source.now.meta.now source.now.next (found_at source.now.indexes.now) object lower value.now) }
+{
+    let Value::Object(other) = value else {
+        return Ok(());
+    };
+    let end = object_end(source.next, *other, lower);
+    let index = source
+        .indexes
+        .index_of(ReferenceKey::of(*other, lower, object));
+    edits.push(Edit::Cut {
+        end,
+        object: loaded(source.next, object),
+    })?;
+    edits.push(put_at(source.meta, source.next, end, index, object))?;
+    Ok(())
+}

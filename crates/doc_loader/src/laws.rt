@@ -1,0 +1,39 @@
+//! Laws of the definitions, each the contract of a function that does nothing.
+ghost use Rattle.std.specs.Prelude.{◌≤◌, ◌+◌, ℕ, List, length};
+ghost use Rattle.mm_types.specs.OfDocument.{IsOfDocument};
+ghost use Rattle.mm_types.specs.Resolved.{Metamodel};
+ghost use Rattle.mm_types.specs.declared.limits.TheConstants.{OBJECTS};
+ghost use Rattle.mm_types.specs.declared.numbers.ResourceNo.{ResourceNo};
+ghost use Rattle.links.specs.Holders.{HasNoCycle};
+ghost use Rattle.links.specs.LegalSets.{AreOfKind, IsLegalSet};
+ghost use Rattle.links.specs.Links.{Links};
+ghost use Rattle.links.specs.Plans.{IsPlanOfKind};
+ghost use Rattle.models.specs.Legal.{kinds_of};
+ghost use Rattle.resource_docs.specs.Causes.{IsRead};
+ghost use Rattle.resource_docs.specs.declared.doc.Doc.{Doc};
+ghost use Rattle.doc_loader.specs.Fits.{IsFitting};
+ghost use Rattle.doc_loader.specs.Laws.{IsRoomFor, MakesLinks};
+ghost use Rattle.doc_loader.specs.LoadEdits.{load_edits};
+ghost use Rattle.doc_loader.specs.Typed.{IsTyped};
+
+/// A document that is read can be loaded if its objects get numbers within the limit.
+pub fn a_document_that_is_read_fits()
+    ensures { (m : Metamodel) (uri : List ℕ) (doc : Doc) (n : ℕ) → IsRead m uri doc → n + length doc.objects ≤ OBJECTS → IsFitting n doc }
+{}
+
+/// A document that is read keeps to its metamodel: each object is of a concrete class that has the features that it is written with, and
+/// each feature takes its values, no more of them than it may have.
+pub fn a_document_that_is_read_is_typed()
+    ensures { (m : Metamodel) (uri : List ℕ) (doc : Doc) → IsOfDocument m → IsRead m uri doc → IsTyped m doc }
+{}
+
+/// The edits that put the links of a document that is read are of the kinds of their features.
+pub fn the_edits_of_a_document_are_of_kind()
+    ensures { (m : Metamodel) (uri : List ℕ) (doc : Doc) (n : ℕ) (k : ResourceNo) → IsRead m uri doc → IsPlanOfKind (kinds_of m) (load_edits m n k doc) }
+{}
+
+/// The edits of a document that is read fit, put nothing below itself, and make the links that the document says and no others, if the
+/// numbers of its objects and the resource are still free.
+pub fn the_edits_of_a_document_make_its_links()
+    ensures { (m : Metamodel) (uri : List ℕ) (doc : Doc) (n : ℕ) (k : ResourceNo) (s : Links) → IsOfDocument m → IsRead m uri doc → n + length doc.objects ≤ OBJECTS → IsLegalSet s → AreOfKind (kinds_of m) s → HasNoCycle s → IsRoomFor m n k s → MakesLinks m n k doc s }
+{}

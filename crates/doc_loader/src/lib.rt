@@ -1,0 +1,20 @@
+//! Loading: the edits that make what a document holds, its objects with their values, and its links.
+//!
+//! `specs/Loading.antt` says what a document makes, `specs/LoadEdits.antt` in which order its links are put.
+#![tactic(auto)]
+
+mod far;
+mod indexes;
+pub mod laws;
+mod linking;
+mod near;
+mod numbers;
+mod pairs;
+mod passes;
+mod proxies;
+mod values;
+
+pub use fragment_paths::contents_end;
+pub use linking::link_edits;
+pub use numbers::loaded;
+pub use values::value_edits;

@@ -1,0 +1,56 @@
+//! The edits that put a document's links and proxies.
+ghost use Rattle.std.specs.Prelude.{◌≡◌, ◌≤◌, ◌++◌, IfOk, OnOk, length, map};
+ghost use Rattle.std.specs.List.{All, enumerate_from};
+ghost use Rattle.mm_types.specs.declared.limits.TheConstants.{LIST_VALUES};
+ghost use Rattle.doc_loader.specs.Fits.{IsFitting, IsNumbered};
+ghost use Rattle.doc_loader.specs.LoadEdits as e;
+
+use crate::far;
+use crate::near::put_at;
+use crate::passes::{Pass, push_objects};
+use fragment_paths::contents_end;
+use links::Edit;
+use mm_meta::Meta;
+use mm_types::{End, ObjectNo, ResourceNo};
+use resource_docs::Doc;
+use std::alloc::{AllocError, Global};
+
+/// The edits that put the roots of a document into a resource, and its links and proxies, once its objects are made, the first of
+/// which got the number `next`. Errs only if memory is refused.
+pub fn link_edits(
+    alloc: Global,
+    meta: &Meta,
+    next: usize,
+    resource: ResourceNo,
+    doc: &Doc,
+) -> Result<Vec<Edit>, AllocError>
+    requires fits { IsFitting next doc.now }
+    ensures { IfOk result (λ es. es.items ≡ e.load_edits meta.now next resource doc.now) }
+{
+    let objects = doc.objects.as_slice();
+    let mut edits = Vec::new(alloc);
+    let roots = contents_end(meta, resource);
+    push_roots(meta, next, roots, doc.roots.as_slice(), &mut edits)?;
+    push_objects(meta, next, Pass::Near, objects, &mut edits)?;
+    far::push_in_order(alloc, meta, next, doc, &mut edits)?;
+    push_objects(meta, next, Pass::Proxies, objects, &mut edits)?;
+    Ok(edits)
+}
+
+/// Adds the edits that put the roots of a document into an end, in their order.
+fn push_roots(
+    meta: &Meta,
+    next: usize,
+    end: End,
+    roots: &[ObjectNo],
+    edits: &mut Vec<Edit>,
+) -> Result<(), AllocError>
+    requires few { length roots.now ≤ LIST_VALUES }
+    requires fits { All (IsNumbered next) roots.now }
+    ensures { OnOk result (edits.new.items ≡ edits.old.items ++ map (λ x. e.put_at meta.now next end x.0 x.1) (enumerate_from 0 roots.now)) }
+{
+    'roots: for (i, root) in roots.iter().enumerate() {
+        edits.push(put_at(meta, next, end, i as u32, *root))?;
+    }
+    Ok(())
+}

@@ -1,0 +1,40 @@
+//! The two features of a pair of which neither contains: a link of theirs is put from the lower one.
+ghost use Rattle.std.specs.Prelude.{◌≡◌};
+ghost use Rattle.mm_types.specs.Shapes.{shape};
+ghost use Rattle.doc_loader.specs.Pairs as p;
+
+use mm_meta::Meta;
+use mm_types::FeatureNo;
+
+/// The opposite of a feature, if that is the lower of the two and neither contains. Takes no memory.
+pub(crate) fn lower_of(meta: &Meta, feature: FeatureNo) -> Option<FeatureNo>
+    ensures { result ≡ p.lower_of (shape meta.now feature) feature }
+{
+    if meta.containing(feature).is_some() {
+        return None;
+    }
+    match meta.opposite(feature) {
+        Some(other) if other.0 < feature.0 => Some(other),
+        _ => None,
+    }
+}
+
+/// Whether a feature is the lower of a pair of which neither contains. Takes no memory.
+pub(crate) fn is_lower(meta: &Meta, feature: FeatureNo) -> bool
+    ensures { result ≡ p.is_lower (shape meta.now feature) feature }
+{
+    if meta.containing(feature).is_some() {
+        return false;
+    }
+    match meta.opposite(feature) {
+        Some(other) => feature.0 < other.0,
+        None => false,
+    }
+}
+
+/// Whether the values of a feature are put from its own end. Takes no memory.
+pub(crate) fn is_near(meta: &Meta, feature: FeatureNo) -> bool
+    ensures { result ≡ p.is_near (shape meta.now feature) feature }
+{
+    meta.is_reference(feature) && lower_of(meta, feature).is_none()
+}

@@ -1,0 +1,101 @@
+//! The edits that make a document's objects and their values.
+ghost use Rattle.std.specs.Prelude.{◌≡◌, ◌≤◌, ◌+◌, ◌++◌, IfOk, OnOk, flat_map, length, map};
+ghost use Rattle.std.specs.List.{enumerate_from};
+ghost use Rattle.mm_types.specs.declared.limits.TheConstants.{OBJECTS};
+ghost use Rattle.mm_values.specs.declared.edit.ValueEdit.TheVariants.{NewObject};
+ghost use Rattle.doc_loader.specs.Fits.{IsFitting, IsNumbered};
+ghost use Rattle.doc_loader.specs.Loading as l;
+
+use crate::numbers::loaded;
+use mm_meta::Meta;
+use mm_types::ObjectNo;
+use mm_values::{NewValues, ValueEdit};
+use resource_docs::{Content, Doc, DocObject};
+use std::alloc::{AllocError, Global};
+
+/// The edits that make the objects of a document, the first of which gets the number `next`, and give them the values of their
+/// attributes, which are moved. Errs only if memory is refused.
+pub fn value_edits(
+    alloc: Global,
+    meta: &Meta,
+    next: usize,
+    doc: Doc,
+) -> Result<Vec<ValueEdit>, AllocError>
+    requires fits { IsFitting next doc }
+    ensures { IfOk result (λ es. es.items ≡ l.loaded_values meta.now next doc) }
+{
+    let mut edits = Vec::new(alloc);
+    let Doc { objects, .. } = doc;
+    push_objects(objects.as_slice(), &mut edits)?;
+    push_lists(meta, next, objects.into_vec(), &mut edits)?;
+    Ok(edits)
+}
+
+/// Adds the edits that make objects.
+fn push_objects(objects: &[DocObject], edits: &mut Vec<ValueEdit>) -> Result<(), AllocError>
+    ensures { OnOk result (edits.new.items ≡ edits.old.items ++ map (λ o. NewObject o.class) objects.now) }
+{
+    'objects: for object in objects {
+        edits.push(ValueEdit::NewObject(object.class))?;
+    }
+    Ok(())
+}
+
+/// Adds the edits that give objects of a document, each by its position there, the values of their attributes.
+fn push_lists(
+    meta: &Meta,
+    next: usize,
+    objects: Vec<DocObject>,
+    edits: &mut Vec<ValueEdit>,
+) -> Result<(), AllocError>
+    requires fits { next + length objects.items ≤ OBJECTS }
+    ensures { OnOk result (edits.new.items ≡ edits.old.items ++ flat_map (l.of_object (l.attribute_edits meta.now next)) (enumerate_from 0 objects.items)) }
+{
+    let mut number = 0;
+    'objects: for object in objects {
+        let DocObject { contents, .. } = object;
+        push_object(meta, next, ObjectNo(number), contents.into_vec(), edits)?;
+        number += 1;
+    }
+    Ok(())
+}
+
+/// Adds the edits that give an object of a document the values of its attributes.
+fn push_object(
+    meta: &Meta,
+    next: usize,
+    object: ObjectNo,
+    contents: Vec<Content>,
+    edits: &mut Vec<ValueEdit>,
+) -> Result<(), AllocError>
+    requires fits { IsNumbered next object }
+    ensures { OnOk result (edits.new.items ≡ edits.old.items ++ flat_map (l.attribute_edits meta.now next object) contents.items) }
+{
+    'contents: for content in contents {
+        push_list(meta, next, object, content, edits)?;
+    }
+    Ok(())
+}
+
+/// Adds the edit that gives an object of a document its values under a feature, if that is an attribute.
+fn push_list(
+    meta: &Meta,
+    next: usize,
+    object: ObjectNo,
+    content: Content,
+    edits: &mut Vec<ValueEdit>,
+) -> Result<(), AllocError>
+    requires fits { IsNumbered next object }
+    ensures { OnOk result (edits.new.items ≡ edits.old.items ++ l.attribute_edits meta.now next object content) }
+{
+    let Content { feature, values } = content;
+    if !meta.is_reference(feature) {
+        edits.push(ValueEdit::PutList {
+            object: loaded(next, object),
+            feature,
+            list: NewValues::from_seq(values),
+            flag: meta.is_unsettable(feature) && meta.is_single(feature),
+        })?;
+    }
+    Ok(())
+}

@@ -1,0 +1,42 @@
+-- Numbers of parts by their keys: a part's number is that of the first part of its path.
+use Rattle.std.specs.Prelude.{ℕ, ◌&&◌, Bool, false, List, [], ◌∷◌, Option, nat_eq, option_and_then, reverse}
+use Rattle.std.specs.Map.{lookup}
+use Rattle.std.specs.Str.{bytes_eq}
+use Rattle.web_uris.specs.Paths.{same_index}
+use Rattle.web_uris.specs.declared.path.Path.{Path}
+use Rattle.web_uris.specs.declared.path.Step.{Step}
+use Rattle.doc_parts.specs.declared.found.PartKey.{PartKey}
+use Rattle.doc_parts.specs.declared.found.PartKey.TheVariants.{Root, Under}
+use Rattle.doc_parts.specs.declared.found.Numbers.{Numbers}
+
+-- the root at a position, or what stands by a step under the part of a number
+pub data Key : Type 0 where
+  RootKey : ℕ → Key
+  UnderKey : ℕ → List ℕ → Option ℕ → Key
+
+abbrev pub key_of : PartKey → Key
+key_of (Root i) = RootKey i
+key_of (Under n w i) = UnderKey n w.now i
+
+abbrev pub is_at : Key → PartKey → Bool
+is_at (RootKey i) (Root j) = nat_eq i j
+is_at (RootKey i) (Under k v j) = false
+is_at (UnderKey n w i) (Root j) = false
+is_at (UnderKey n w i) (Under k v j) = nat_eq n k && (bytes_eq w v.now && same_index i j)
+
+-- the number of what stands at a key
+abbrev pub number_at : Numbers → Key → Option ℕ
+number_at t k = lookup (is_at k) t.numbers.entries
+
+-- the number that a root and steps, the last one first, lead to
+abbrev pub way : (Key → Option ℕ) → ℕ → List Step → Option ℕ
+way at i [] = at (RootKey i)
+way at i (s ∷ ss) = option_and_then (λ n. at (UnderKey n s.name s.index)) (way at i ss)
+
+abbrev pub way_of : (Key → Option ℕ) → Path → Option ℕ
+way_of at p = way at p.root (reverse p.steps)
+
+-- from a part on, the first step first
+abbrev pub descend : (Key → Option ℕ) → Option ℕ → List Step → Option ℕ
+descend at o [] = o
+descend at o (s ∷ ss) = descend at (option_and_then (λ n. at (UnderKey n s.name s.index)) o) ss

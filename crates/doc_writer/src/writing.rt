@@ -1,0 +1,93 @@
+//! A resource is saved.
+ghost use Rattle.std.specs.Prelude.{◌≡◌, IfOk, string_bytes, true};
+ghost use Rattle.std.specs.List.{list_all};
+ghost use Rattle.fragment_paths.specs.Finding.{roots as roots_of};
+ghost use Rattle.models.specs.Model.{reading};
+ghost use Rattle.models.specs.Reading.{is_live};
+ghost use Rattle.doc_writer.specs.Document.{saved as saved_text};
+ghost use Rattle.doc_writer.specs.Saved as saved;
+ghost use Rattle.doc_writer.specs.Written.{objects_in};
+
+use crate::document::document_text;
+use crate::objects::{objects_below, roots};
+use crate::refusals::refusal;
+use crate::ways::note_ways;
+use fragment_paths::Positions;
+use links::LinkStore;
+use mm_types::{ObjectNo, Refused, ResourceNo};
+use models::ModelRef;
+use std::alloc::{AllocError, Global};
+
+/// The document of a resource that has these roots and objects, as text.
+fn text_by<L: LinkStore>(
+    alloc: Global,
+    positions: &mut Positions<L>,
+    resource: ResourceNo,
+    roots: &[ObjectNo],
+    objects: &[ObjectNo],
+) -> Result<String, AllocError>
+    requires roots { roots.now ≡ roots_of (reading positions.old) resource }
+    ensures text { IfOk result (λ t. string_bytes t ≡ saved_text (reading positions.old) resource) }
+    ensures reads { IfOk result (λ t. saved.IsReadAs (reading positions.old) resource (string_bytes t)) }
+{
+    note_ways(positions, objects)?;
+    document_text(alloc, positions, resource, roots)
+}
+
+/// The text of a resource that has these roots and objects, or why it can't be saved.
+fn written<L: LinkStore>(
+    alloc: Global,
+    model: &ModelRef<L>,
+    resource: ResourceNo,
+    roots: &[ObjectNo],
+    objects: &[ObjectNo],
+) -> Result<String, Refused>
+    requires roots { roots.now ≡ roots_of (reading model.now) resource }
+    requires objects { objects.now ≡ objects_in (reading model.now) resource }
+    ensures writes { saved.Writes result (reading model.now) resource }
+    ensures reads { IfOk result (λ t. saved.IsReadAs (reading model.now) resource (string_bytes t)) }
+{
+    if let Some(refused) = refusal(model, objects) {
+        return Err(refused);
+    }
+    let mut positions = Positions::new(alloc, model);
+    let text = text_by(alloc, &mut positions, resource, roots, objects)?;
+    Ok(text)
+}
+
+/// The text of a resource that has these roots, or why it can't be saved.
+fn written_below<L: LinkStore>(
+    alloc: Global,
+    model: &ModelRef<L>,
+    resource: ResourceNo,
+    roots: &[ObjectNo],
+) -> Result<String, Refused>
+    requires roots { roots.now ≡ roots_of (reading model.now) resource }
+    requires live { list_all (is_live (reading model.now)) roots.now ≡ true }
+    ensures writes { saved.Writes result (reading model.now) resource }
+    ensures reads { IfOk result (λ t. saved.IsReadAs (reading model.now) resource (string_bytes t)) }
+{
+    let objects = objects_below(alloc, model, roots)?;
+    written(alloc, model, resource, roots, objects.as_slice())
+}
+
+/// The text of a resource (EMF: XMLResource.save): `serde_json`'s compact text of its document. Written are the features that are
+/// set, but no container references; references inside the resource are fragments, and those into other resources URI, `#` and
+/// fragment. The other end of a reference with an opposite is written in its own resource. A resource that is not there has no
+/// roots.
+///
+/// Before anything is written the whole resource is looked over: `Dangling` if an object that it refers to is in no resource;
+/// else `TooDeep` if an object is below level 40. With `Memory` if memory is refused.
+pub fn write_doc<L: LinkStore>(
+    alloc: Global,
+    model: &ModelRef<L>,
+    resource: ResourceNo,
+) -> Result<String, Refused>
+    ensures writes { saved.Writes result (reading model.now) resource }
+    ensures reads { IfOk result (λ t. saved.IsReadAs (reading model.now) resource (string_bytes t)) }
+{
+    match roots(alloc, model, resource) {
+        Ok(roots) => written_below(alloc, model, resource, roots.as_slice()),
+        Err(_) => Err(Refused::Memory),
+    }
+}

@@ -1,0 +1,123 @@
+-- Tellings that are kept, one after another.
+use Rattle.std.proofs.Common.{◌≡◌, ◌<◌, ◌≤◌, ◌+◌, ◌-◌, subst, ℕ, zero, suc, length, drop, take, slice_get, slice_index_or, Option, Some, None, option_map, option_to_list, if◌then◌else◌, arith, Bool, true, false, cond, List, [], ◌∷◌, ◌++◌, filter, map, refl, append_assoc, ap, sym, ◌∙◌}
+use Rattle.std.proofs.lemmas.Bool.{or_parts}
+use Rattle.std.proofs.lemmas.List.{append-nil, drop_all, drop_more}
+use Rattle.std.proofs.lemmas.Option.{none-some, same_Some}
+use Rattle.mm_types.specs.Ends.{first_in, has_value, index_in}
+use Rattle.mm_types.specs.Same.{same_value}
+use Rattle.mm_types.specs.declared.end.End.{End}
+use Rattle.mm_types.specs.declared.value.Value.{Value}
+use Rattle.mm_types.specs.declared.value.Value.TheVariants as value
+use Rattle.handshake.specs.Displaced.{link_ends_backwards}
+use Rattle.removal.specs.TreeLinkEnds.{link_end}
+use Rattle.handshake.specs.FeatureChange.{feature_change}
+use Rattle.handshake.specs.FeatureChanges.{all_lost}
+use Rattle.handshake.specs.declared.change_kind.ChangeKind.TheVariants.{LosesAt}
+use Rattle.handshake.specs.declared.change_kind.FeatureChange.{FeatureChange}
+use Rattle.removal.specs.declared.link_end.LinkEnd.{LinkEnd}
+
+filter-two : {X : Type 0} (p : X → Bool) (x y : X) → filter p (x ∷ []) ++ filter p (y ∷ []) ≡ filter p (x ∷ y ∷ [])
+filter-two p x y = elim (p x) as (λ b. cond b (x ∷ []) [] ++ filter p (y ∷ []) ≡ cond b (x ∷ filter p (y ∷ [])) (filter p (y ∷ []))) [ true ↦ refl | false ↦ refl ]
+
+-- what is added in two steps is added in one
+pub both-added : {X : Type 0} (p : X → Bool) (xs : List X) (x y : X) → (xs ++ filter p (x ∷ [])) ++ filter p (y ∷ []) ≡ xs ++ filter p (x ∷ y ∷ [])
+both-added p xs x y = append_assoc xs (filter p (x ∷ [])) (filter p (y ∷ [])) ∙ ap (λ ys. xs ++ ys) (filter-two p x y)
+
+-- what has been made so far and what is left, after one more step
+pub made-step : {X Y : Type 0} (f : X → Y) (old rest : List X) (x : X) (out new all : List Y) → old ≡ x ∷ rest → new ≡ out ++ f x ∷ [] → out ++ map f old ≡ all → new ++ map f rest ≡ all
+made-step f old rest x out new all steps made whole =
+    ap (λ ys. ys ++ map f rest) made ∙ append_assoc out (f x ∷ []) (map f rest) ∙ ap (λ xs. out ++ map f xs) (sym steps) ∙ whole
+
+---------------------------------------------------------------- where a value stands
+
+-- a value that is not there stands past the end
+pub index_past : (vs : List Value) (v : Value) → has_value vs v ≡ false → index_in vs v ≡ length vs
+index_past [] v h = refl
+index_past (w ∷ ws) v h =
+    let both = or_parts (same_value v w) (has_value ws v) h in
+    rw both.0 (ap suc (index_past ws v both.1))
+
+pub site-found : (vs : List Value) (v : Value) (k : ℕ) → Some k ≡ first_in vs v → k ≡ index_in vs v
+site-found vs v k h =
+    elim (has_value vs v) as (λ b. Some k ≡ (if b then Some (index_in vs v) else None) → k ≡ index_in vs v) [
+      | true ↦ λ found. same_Some k (index_in vs v) found
+      | false ↦ λ none. absurd (none-some k (sym none))
+    ] h
+
+pub site-past : (vs : List Value) (v : Value) → None ≡ first_in vs v → length vs ≡ index_in vs v
+site-past vs v h =
+    elim (has_value vs v) as (λ b. has_value vs v ≡ b → None ≡ (if b then Some (index_in vs v) else None) → length vs ≡ index_in vs v) [
+      | true ↦ λ _ found. absurd (none-some (index_in vs v) found)
+      | false ↦ λ out _. sym (index_past vs v out)
+    ] refl h
+
+---------------------------------------------------------------- the links of an end
+
+pub get-site : (vs : List Value) (k : ℕ) (d : Value) → k < length vs → slice_get vs k ≡ Some (slice_index_or vs k d)
+get-site [] k d h = absurd (omega (arith, h))
+get-site (w ∷ ws) zero d h = refl
+get-site (w ∷ ws) (suc k) d h = get-site ws k d (omega (arith, h))
+
+-- the link of one value more
+pub link_ends-step : (e : End) (vs : List Value) (k : ℕ) (out new all : List LinkEnd) → k < length vs → new ≡ out ++ option_to_list (option_map (link_end e) (slice_get vs k))
+    → out ++ map (link_end e) (drop k vs) ≡ all → new ++ map (link_end e) (drop (k + 1) vs) ≡ all
+link_ends-step e vs k out new all low made whole =
+    let v = slice_index_or vs k value.Null in
+    ap (λ (ts : List LinkEnd). ts ++ map (link_end e) (drop (k + 1) vs)) (made ∙ ap (λ (x : Option Value). out ++ option_to_list (option_map (link_end e) x)) (get-site vs k value.Null low))
+    ∙ append_assoc out (link_end e v ∷ []) (map (link_end e) (drop (k + 1) vs))
+    ∙ ap (λ (ws : List Value). out ++ map (link_end e) ws) (sym (drop_more vs k value.Null low))
+    ∙ whole
+
+pub link_ends-end : (e : End) (vs : List Value) (k : ℕ) (out all : List LinkEnd) → length vs ≤ k → out ++ map (link_end e) (drop k vs) ≡ all → out ≡ all
+link_ends-end e vs k out all past whole = sym (ap (λ (ws : List Value). out ++ map (link_end e) ws) (drop_all k vs past) ∙ append-nil out) ∙ whole
+
+backwards-push : (e : End) (vs : List Value) (v : Value) → link_ends_backwards e (vs ++ v ∷ []) ≡ link_end e v ∷ link_ends_backwards e vs
+backwards-push e [] v = refl
+backwards-push e (w ∷ ws) v = ap (λ (ts : List LinkEnd). ts ++ link_end e w ∷ []) (backwards-push e ws v)
+
+take-push : (vs : List Value) (k : ℕ) (d : Value) → k < length vs → take (suc k) vs ≡ take k vs ++ slice_index_or vs k d ∷ []
+take-push [] k d h = absurd (omega (arith, h))
+take-push (w ∷ ws) zero d h = refl
+take-push (w ∷ ws) (suc k) d h = ap (λ (xs : List Value). w ∷ xs) (take-push ws k d (omega (arith, h)))
+
+-- the link of one value before
+pub backwards-step : (e : End) (vs : List Value) (k : ℕ) (out new all : List LinkEnd) → k < length vs → new ≡ out ++ option_to_list (option_map (link_end e) (slice_get vs k))
+    → out ++ link_ends_backwards e (take (suc k) vs) ≡ all → new ++ link_ends_backwards e (take k vs) ≡ all
+backwards-step e vs k out new all low made whole =
+    let v = slice_index_or vs k value.Null in
+    ap (λ (ts : List LinkEnd). ts ++ link_ends_backwards e (take k vs)) (made ∙ ap (λ (x : Option Value). out ++ option_to_list (option_map (link_end e) x)) (get-site vs k value.Null low))
+    ∙ append_assoc out (link_end e v ∷ []) (link_ends_backwards e (take k vs))
+    ∙ ap (λ (ts : List LinkEnd). out ++ ts) (sym (ap (link_ends_backwards e) (take-push vs k value.Null low) ∙ backwards-push e (take k vs) v))
+    ∙ whole
+
+pub take-whole : (vs : List Value) → take (length vs) vs ≡ vs
+take-whole [] = refl
+take-whole (v ∷ vs) = ap (λ (ws : List Value). v ∷ ws) (take-whole vs)
+
+one-less : (k : ℕ) → suc k - 1 ≡ k
+one-less k = omega arith
+
+-- the same, from the position behind the value
+pub backwards-before : (e : End) (vs : List Value) (k : ℕ) (out new all : List LinkEnd) → 0 < k → k ≤ length vs → new ≡ out ++ option_to_list (option_map (link_end e) (slice_get vs (k - 1)))
+    → out ++ link_ends_backwards e (take k vs) ≡ all → new ++ link_ends_backwards e (take (k - 1) vs) ≡ all
+backwards-before e vs zero out new all some low made whole = absurd (omega (arith, some))
+backwards-before e vs (suc k) out new all some low made whole =
+    let less = one-less k in
+    subst (λ (i : ℕ). new ++ link_ends_backwards e (take i vs) ≡ all) (sym less)
+    (backwards-step e vs k out new all (omega (arith, low)) (subst (λ (i : ℕ). new ≡ out ++ option_to_list (option_map (link_end e) (slice_get vs i))) less made) whole)
+
+-- one loss more of a list
+pub lost-before : (e : End) (k : ℕ) (out new all : List FeatureChange) → 0 < k → new ≡ out ++ feature_change e (LosesAt (k - 1)) ∷ [] → out ++ all_lost e k ≡ all → new ++ all_lost e (k - 1) ≡ all
+lost-before e zero out new all some made whole = absurd (omega (arith, some))
+lost-before e (suc k) out new all some made whole =
+    let less = one-less k in
+    subst (λ (i : ℕ). new ++ all_lost e i ≡ all) (sym less)
+    (ap (λ (ts : List FeatureChange). ts ++ all_lost e k) (subst (λ (i : ℕ). new ≡ out ++ feature_change e (LosesAt i) ∷ []) less made) ∙ append_assoc out (feature_change e (LosesAt k) ∷ []) (all_lost e k) ∙ whole)
+
+pub lost-end : (e : End) (k : ℕ) (out all : List FeatureChange) → k ≤ 0 → out ++ all_lost e k ≡ all → out ≡ all
+lost-end e zero out all none whole = sym (append-nil out) ∙ whole
+lost-end e (suc k) out all none whole = absurd (omega (arith, none))
+
+pub backwards-end : (e : End) (vs : List Value) (k : ℕ) (out all : List LinkEnd) → k ≤ 0 → out ++ link_ends_backwards e (take k vs) ≡ all → out ≡ all
+backwards-end e vs zero out all none whole = sym (append-nil out) ∙ whole
+backwards-end e vs (suc k) out all none whole = absurd (omega (arith, none))

@@ -1,0 +1,7 @@
+use Rattle.std.proofs.Common.{◌≡◌, ◌++◌, drop}
+use Rattle.models.specs.Model.{reading}
+use Rattle.handshake.specs.FeatureChanges.{far_losses}
+use Rattle.handshake.proofs.feature_change.push_far_losses.Given as goal
+
+abbrev pub invariant-loop-link_end : goal.invariant-loop-link_end
+invariant-loop-link_end g l = l.out.items ++ far_losses (reading l.model) (drop l.link_end-index l.link_ends) ≡ l.initial.out.items ++ far_losses (reading l.model) l.link_ends

@@ -1,6 +1,0 @@
-use Rattle.std.proofs.Common.{◌≡◌, ◌++◌}
-use Rattle.handshake.specs.Tellings.{all_lost}
-use Rattle.handshake.proofs.telling.push_all_lost.Given as goal
-
-abbrev pub invariant-loop-index : goal.invariant-loop-index
-invariant-loop-index l = l.out.items ++ all_lost l.end l.index ≡ l.initial.out.items ++ all_lost l.end l.len

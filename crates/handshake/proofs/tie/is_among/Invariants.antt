@@ -1,8 +1,0 @@
-use Rattle.std.proofs.Common.{◌≡◌, drop}
-use Rattle.std.specs.List.{list_any}
-use Rattle.models.specs.Model.{reading}
-use Rattle.handshake.specs.Displaced.{same_link}
-use Rattle.handshake.proofs.tie.is_among.Given as goal
-
-abbrev pub invariant-loop-other : goal.invariant-loop-other
-invariant-loop-other g l = let same = same_link (reading l.model) l.tie in list_any same (drop l.other-index l.ties) ≡ list_any same l.ties

@@ -1,0 +1,93 @@
+-- What happens to ends, without positions; and the notices that report it, each read in the ends that the notices before it left.
+use Rattle.std.specs.Prelude.{ℤ, pos, Bool, false, List, [], ◌∷◌, ◌++◌, length, Some, if◌then◌else◌}
+use Rattle.mm_types.specs.Resolved.{Metamodel}
+use Rattle.mm_types.specs.Same.{same_value}
+use Rattle.mm_types.specs.Shapes.{Shape, shape}
+use Rattle.mm_types.specs.Ends.{Ends, Held, index_in, is_set, value_in, with_held}
+use Rattle.mm_types.specs.declared.numbers.FeatureNo.{FeatureNo}
+use Rattle.mm_types.specs.declared.end.End.{End}
+use Rattle.mm_types.specs.declared.value.Value.{Value}
+use Rattle.mm_types.specs.declared.value.Value.TheVariants as value
+use Rattle.notice_chain.specs.declared.kind.NoticeKind.{NoticeKind}
+use Rattle.notice_chain.specs.declared.kind.NoticeKind.TheVariants as kind
+use Rattle.notice_chain.specs.declared.notice.Notice.{Notice}
+use Rattle.models.specs.Reading.{Reading, held_at, shape_at}
+use Rattle.notice_chain.specs.Kinds.{no_index}
+use Rattle.notice_chain.specs.Replay.{added, moved, removed, replayed_in, resolved}
+use Rattle.handshake.specs.declared.change_kind.ChangeKind.{ChangeKind}
+use Rattle.handshake.specs.declared.change_kind.ChangeKind.TheVariants.{Gains, GainsAt, Loses, LosesAt, Unsets, Moves, Resolves}
+use Rattle.handshake.specs.declared.change_kind.FeatureChange.{FeatureChange}
+
+abbrev pub feature_change : End → ChangeKind → FeatureChange
+feature_change e h = record { at = e; does = h }
+
+---------------------------------------------------------------- how it is told
+
+-- a notice of an end that holds h
+abbrev pub notice : Shape → End → Held → NoticeKind → Value → Value → ℤ → Notice
+notice a e h k old new p =
+    record { notifier = e.node; feature = Some e.feature; kind = k; old_value = old; new_value = new; position = p; was_set = is_set a h }
+
+abbrev pub notice_of : Shape → End → ChangeKind → Held → Notice
+notice_of a e (Gains v) h =
+    if a.is_single then notice a e h kind.Set (value_in h.values 0) v no_index
+    else notice a e h kind.Add value.Null v (pos (length h.values))
+notice_of a e (GainsAt i v) h = notice a e h kind.Add value.Null v (pos i)
+notice_of a e (Loses v) h =
+    if a.is_single then notice a e h kind.Set v value.Null no_index
+    else notice a e h kind.Remove v value.Null (pos (index_in h.values v))
+notice_of a e (LosesAt i) h = notice a e h kind.Remove (value_in h.values i) value.Null (pos i)
+notice_of a e Unsets h = notice a e h kind.Unset (value_in h.values 0) a.default no_index
+notice_of a e (Moves to from) h = notice a e h kind.Move (value.Int (pos from)) (value_in h.values from) (pos to)
+notice_of a e (Resolves i v) h = notice a e h kind.Resolve (value_in h.values i) v (if a.is_single then no_index else pos i)
+
+-- the notice of a feature change, read in a model
+abbrev pub notice_at : Reading → FeatureChange → Notice
+notice_at r t = notice_of (shape_at r t.at) t.at t.does (held_at r t.at)
+
+-- the features that have a set flag
+abbrev pub has_flag : Metamodel → FeatureNo → Bool
+has_flag m f = (shape m f).is_unsettable
+
+-- each feature change becomes a notice, read in the ends so far, and the ends go on by replaying it
+abbrev pub told : Metamodel → Ends → List FeatureChange → List Notice
+told m e [] = []
+told m e (t ∷ ts) =
+    let n = notice_of (shape m t.at.feature) t.at t.does (e t.at) in
+    n ∷ told m (replayed_in (has_flag m) e n) ts
+
+---------------------------------------------------------------- what it does, said plainly
+
+-- the list without the first of a value
+abbrev pub without : List Value → Value → List Value
+without [] v = []
+without (w ∷ ws) v = if same_value v w then ws else w ∷ without ws v
+
+-- the values after it
+abbrev pub changed : Shape → ChangeKind → List Value → List Value
+changed a (Gains v) vs = if a.is_single then v ∷ [] else vs ++ v ∷ []
+changed a (GainsAt i v) vs = added vs (pos i) v
+changed a (Loses v) vs = if a.is_single then value.Null ∷ [] else without vs v
+changed a (LosesAt i) vs = removed vs (pos i)
+changed a Unsets vs = a.default ∷ []
+changed a (Moves to from) vs = moved vs (pos from) (pos to)
+changed a (Resolves i v) vs = if a.is_single then v ∷ [] else resolved vs (pos i) v
+
+-- the flag after it: a gain or loss of a single end turns it on, where there is one, and unsetting turns it off
+abbrev pub flagged : Shape → ChangeKind → Bool → Bool
+flagged a (Gains v) b = if a.is_single then a.is_unsettable else b
+flagged a (GainsAt i v) b = b
+flagged a (Loses v) b = if a.is_single then a.is_unsettable else b
+flagged a (LosesAt i) b = b
+flagged a Unsets b = false
+flagged a (Moves to from) b = b
+flagged a (Resolves i v) b = b
+
+abbrev pub happened : Metamodel → Ends → FeatureChange → Ends
+happened m e t =
+    let a = shape m t.at.feature in
+    with_held e t.at (record { values = changed a t.does (e t.at).values; flag = flagged a t.does (e t.at).flag })
+
+abbrev pub happened_all : Metamodel → Ends → List FeatureChange → Ends
+happened_all m e [] = e
+happened_all m e (t ∷ ts) = happened_all m (happened m e t) ts

@@ -1,0 +1,165 @@
+-- What a change makes happen, end by end in the order of the rules, and its chain of notices.
+use Rattle.std.specs.Prelude.{ℕ, zero, suc, ◌&&◌, ◌||◌, Bool, true, false, not, List, [], ◌∷◌, ◌++◌, filter, flat_map, length, map, Option, Some, None, option_to_list, if◌then◌else◌}
+use Rattle.std.specs.Option.{option_map_or}
+use Rattle.mm_types.specs.Same.{node_value, same_end}
+use Rattle.mm_types.specs.Shapes.{is_containment}
+use Rattle.mm_types.specs.declared.numbers.Node.TheVariants as node
+use Rattle.mm_types.specs.declared.numbers.ObjectNo.{ObjectNo}
+use Rattle.mm_types.specs.declared.numbers.ResourceNo.{ResourceNo}
+use Rattle.mm_types.specs.declared.end.End.{End}
+use Rattle.mm_types.specs.declared.value.Value.{Value}
+use Rattle.mm_types.specs.declared.value.Value.TheVariants as value
+use Rattle.notice_chain.specs.declared.notice.Notice.{Notice}
+use Rattle.models.specs.Reading.{Reading, at_end, first_at, held_at, is_repeat, shape_at}
+use Rattle.resource_docs.specs.declared.doc.Doc.{Doc}
+use Rattle.doc_loader.specs.Loading.{contents_end, roots_loaded}
+use Rattle.removal.specs.Losses.{is_lost}
+use Rattle.removal.specs.Outer.{touched_ends}
+use Rattle.handshake.specs.declared.change.Change.{Change}
+use Rattle.handshake.specs.declared.change.Change.TheVariants.{Create, Set, Unset, Add, Remove, RemoveValue, Move, Delete, NewResource, Resolve, ResolveAll, Load}
+use Rattle.handshake.specs.declared.change_kind.ChangeKind.TheVariants.{Gains, GainsAt, Loses, LosesAt, Unsets, Moves, Resolves}
+use Rattle.handshake.specs.declared.change_kind.ChangeKind.{ChangeKind}
+use Rattle.handshake.specs.declared.change_kind.FeatureChange.{FeatureChange}
+use Rattle.handshake.specs.declared.planned.Resolved.{Resolved}
+use Rattle.handshake.specs.declared.target.Target.{Target}
+use Rattle.removal.specs.declared.link_end.LinkEnd.{LinkEnd}
+use Rattle.handshake.specs.Displaced.{cut_link_ends, is_plain_set, turned}
+use Rattle.handshake.specs.Proxies.{end_of, sites}
+use Rattle.handshake.specs.ResolvingAll.{Resolution, done, left, resolutions}
+use Rattle.handshake.specs.Resolving.{opposite_end, target_at}
+use Rattle.handshake.specs.FeatureChange.{feature_change, told}
+
+---------------------------------------------------------------- links
+
+abbrev pub loss : LinkEnd → FeatureChange
+loss t = feature_change t.end (Loses t.value)
+
+-- the losses at both ends of a link, the containing end's first
+abbrev pub losses : Reading → LinkEnd → List FeatureChange
+losses r t =
+    option_map_or (λ u. if is_containment r.metamodel u.end.feature then loss u ∷ loss t ∷ [] else loss t ∷ loss u ∷ []) (turned r t) (loss t ∷ [])
+
+-- the loss at the other end, and at the other ends of several
+abbrev pub far_loss : Reading → LinkEnd → List FeatureChange
+far_loss r t = option_map_or (λ u. loss u ∷ []) (turned r t) []
+
+abbrev pub far_losses : Reading → List LinkEnd → List FeatureChange
+far_losses r ts = flat_map (far_loss r) ts
+
+-- a new link between e and an object replaces what d holds
+abbrev pub is_replaced : Reading → End → ObjectNo → End → Bool
+is_replaced r e o d = (shape_at r d).is_single && (same_end e d || option_map_or (same_end d) (opposite_end r e o) false)
+
+-- the losses of a displaced link at each end that the new link doesn't replace
+abbrev pub other_losses : Reading → End → ObjectNo → LinkEnd → List FeatureChange
+other_losses r e o t = filter (λ x. not (is_replaced r e o x.at)) (losses r t)
+
+abbrev pub far_gain : Reading → End → ObjectNo → List FeatureChange
+far_gain r e o = option_map_or (λ d. feature_change d (Gains (node_value e.node)) ∷ []) (opposite_end r e o) []
+
+-- a list of so many values loses each, the last one first
+abbrev pub all_lost : End → ℕ → List FeatureChange
+all_lost e zero = []
+all_lost e (suc n) = feature_change e (LosesAt n) ∷ all_lost e n
+
+---------------------------------------------------------------- changes
+
+-- what a change that cuts these links tells before the end itself gains: of a new link, the displaced links' losses and the far end's
+-- gain; of null, the far ends' losses
+abbrev pub before_gain : Reading → End → Value → List LinkEnd → List FeatureChange
+before_gain r e (value.Object o) ts = flat_map (other_losses r e o) ts ++ far_gain r e o
+before_gain r e v ts = far_losses r ts
+
+-- a gain at the end of a list, or at an index
+abbrev pub gain_at : Option ℕ → Value → ChangeKind
+gain_at None v = Gains v
+gain_at (Some i) v = GainsAt i v
+
+-- the far ends' losses, and then the end's own
+abbrev pub taken_out : Reading → End → List LinkEnd → ℕ → List FeatureChange
+taken_out r e ts i = far_losses r ts ++ feature_change e (LosesAt i) ∷ []
+
+-- nothing where no value is the same
+abbrev pub value_taken_out : Reading → End → List LinkEnd → Value → List FeatureChange
+value_taken_out r e ts v = option_map_or (taken_out r e ts) (first_at r e v) []
+
+abbrev pub emptied : Reading → End → List FeatureChange
+emptied r e = if (shape_at r e).is_single then feature_change e Unsets ∷ [] else all_lost e (length (r.values e))
+
+abbrev pub set_to : Reading → End → Value → List LinkEnd → List FeatureChange
+set_to r e v ts = (if is_plain_set r e v then [] else before_gain r e v ts) ++ feature_change e (Gains v) ∷ []
+
+-- nothing where the list repeats nothing and has the value
+abbrev pub added : Reading → End → Value → Option ℕ → List LinkEnd → List FeatureChange
+added r e v i ts = if is_repeat r e v then [] else before_gain r e v ts ++ feature_change e (gain_at i v) ∷ []
+
+-- the object that a change destroys, with all that is below it
+abbrev pub destroyed_by : Change → Option ObjectNo
+destroyed_by (Delete o) = Some o
+destroyed_by _ = None
+
+-- what the proxy finds that a change resolves
+abbrev pub target_of : Reading → Change → Option Target
+target_of r (Resolve o f i) = target_at r (at_end (node.Object o) f) i
+target_of r _ = None
+
+-- the document that a change loads
+abbrev pub loaded_by : Change → Option Doc
+loaded_by (Load k doc) = Some doc
+loaded_by _ = None
+
+-- a change resolves all proxies
+abbrev pub resolves_all : Change → Bool
+resolves_all ResolveAll = true
+resolves_all _ = false
+
+-- how many proxies it resolves, and how many stand afterwards
+abbrev pub resolved_by : Reading → Change → Option Resolved
+resolved_by r ResolveAll = Some (record { done = done r; left = left r })
+resolved_by r _ = None
+
+-- what an end of another node loses with an object and all that is below it, in order
+abbrev pub lost_with : Reading → ObjectNo → End → List FeatureChange
+lost_with r o d = map (λ v. feature_change d (Loses v)) (filter (is_lost r o d) (r.values d))
+
+-- each such end in order, and last the end that contains the object
+abbrev pub destroyed : Reading → ObjectNo → List FeatureChange
+destroyed r o =
+    flat_map (lost_with r o) (touched_ends r o)
+    ++ map (λ d. feature_change d (Loses (value.Object o))) (option_to_list (r.holder (node.Object o)))
+
+-- the list of a resource's roots gains each root of a document, in order
+abbrev pub loaded : Reading → ResourceNo → Doc → List FeatureChange
+loaded r k doc = map (λ v. feature_change (contents_end r.metamodel k) (Gains v)) (roots_loaded r.next doc)
+
+-- the opposite end's proxy is resolved, and then the end's own
+abbrev pub resolved : End → ℕ → Target → List FeatureChange
+resolved e i x =
+    option_map_or (λ c. feature_change c.end (Resolves c.index (node_value e.node)) ∷ []) x.counterpart []
+    ++ feature_change e (Resolves i (value.Object x.object)) ∷ []
+
+-- what a proxy tells that is resolved, one of several
+abbrev pub resolution_told : Resolution → List FeatureChange
+resolution_told x = resolved (end_of x.site) x.site.index x.target
+
+-- a change that cuts these links
+abbrev pub feature_changes_with : Reading → Change → List LinkEnd → List FeatureChange
+feature_changes_with r (Create c) ts = []
+feature_changes_with r (Set n f v) ts = set_to r (at_end n f) v ts
+feature_changes_with r (Unset n f) ts = far_losses r ts ++ emptied r (at_end n f)
+feature_changes_with r (Add n f v i) ts = added r (at_end n f) v i ts
+feature_changes_with r (Remove n f i) ts = taken_out r (at_end n f) ts i
+feature_changes_with r (RemoveValue n f v) ts = value_taken_out r (at_end n f) ts v
+feature_changes_with r (Move n f to from) ts = feature_change (at_end n f) (Moves to from) ∷ []
+feature_changes_with r (Delete o) ts = destroyed r o
+feature_changes_with r (NewResource u) ts = []
+feature_changes_with r (Resolve o f i) ts = let e = at_end (node.Object o) f in option_map_or (resolved e i) (target_at r e i) []
+feature_changes_with r ResolveAll ts = flat_map resolution_told (resolutions r (sites r))
+feature_changes_with r (Load k doc) ts = loaded r k doc
+
+abbrev pub feature_changes : Reading → Change → List FeatureChange
+feature_changes r c = feature_changes_with r c (cut_link_ends r c)
+
+-- the notices that a change tells, in order
+abbrev pub chain : Reading → Change → List Notice
+chain r c = told r.metamodel (held_at r) (feature_changes r c)

@@ -1,0 +1,365 @@
+//! What a change makes happen, end by end.
+ghost use Rattle.std.specs.Prelude.{◌≡◌, ◌∷◌, ◌++◌, [], None, false, not, flat_map, filter, IfOk, OnOk};
+ghost use Rattle.std.specs.Option.{option_map_or};
+ghost use Rattle.mm_types.specs.Shapes.{is_containment};
+ghost use Rattle.mm_types.specs.declared.value.Value.TheVariants as value;
+ghost use Rattle.models.specs.Model.{reading};
+ghost use Rattle.models.specs.Reading.{at_end};
+ghost use Rattle.handshake.specs.FeatureChanges as t;
+ghost use Rattle.handshake.specs.FeatureChanges.{destroyed_by, loaded_by, resolves_all, target_of};
+
+use crate::change::Change;
+use crate::change_kind::{ChangeKind, FeatureChange};
+use crate::displaced::is_plain_set;
+use crate::link_end::{far_end, node_value, opposite_end, turned};
+use crate::target::Target;
+use links::LinkStore;
+use mm_types::{End, ObjectNo, Value};
+use models::{ModelRef, at_end};
+use removal::LinkEnd;
+use std::alloc::{AllocError, Global};
+
+/// What a change makes happen at each end, in the order in which it is told, given the links that it cuts. For changes that destroy and
+/// load nothing and don't resolve all proxies.
+pub(crate) fn feature_changes<L: LinkStore>(
+    alloc: Global,
+    model: &ModelRef<L>,
+    change: &Change,
+    link_ends: &[LinkEnd],
+    target: Option<Target>,
+) -> Result<Vec<FeatureChange>, AllocError>
+    requires destroys_nothing { destroyed_by change.now ≡ None }
+    requires loads_nothing { loaded_by change.now ≡ None }
+    requires found { target ≡ target_of (reading model.now) change.now }
+    requires one { resolves_all change.now ≡ false }
+    ensures { IfOk result (λ ts. ts.items ≡ t.feature_changes_with (reading model.now) change.now link_ends.now) }
+{
+    let mut out = Vec::new(alloc);
+    match change {
+        // `chain` makes the notices of a delete, `loads` those of a load, and `resolving_all` those that resolve all proxies
+        Change::Create(_)
+        | Change::NewResource(_)
+        | Change::Delete(_)
+        | Change::ResolveAll
+        | Change::Load(_, _) => {}
+        Change::Set {
+            node,
+            feature,
+            value,
+        } => push_set(model, at_end(node, feature), value, link_ends, &mut out)?,
+        Change::Unset { node, feature } => {
+            push_far_losses(model, link_ends, &mut out)?;
+            push_emptied(model, at_end(node, feature), &mut out)?;
+        }
+        Change::Add {
+            node,
+            feature,
+            value,
+            index,
+        } => push_added(
+            model,
+            at_end(node, feature),
+            value,
+            *index,
+            link_ends,
+            &mut out,
+        )?,
+        Change::Remove {
+            node,
+            feature,
+            index,
+        } => push_taken_out(model, at_end(node, feature), link_ends, *index, &mut out)?,
+        Change::RemoveValue {
+            node,
+            feature,
+            value,
+        } => push_value_taken_out(model, at_end(node, feature), link_ends, value, &mut out)?,
+        Change::Move {
+            node,
+            feature,
+            to,
+            from,
+        } => push(
+            &mut out,
+            at_end(node, feature),
+            ChangeKind::Moves(*to, *from),
+        )?,
+        Change::Resolve {
+            object,
+            feature,
+            index,
+        } => push_resolved(far_end(*object, *feature), *index, target, &mut out)?,
+    }
+    Ok(out)
+}
+
+/// Adds what happens when a proxy is resolved: to the opposite end first.
+pub(crate) fn push_resolved(
+    end: End,
+    index: u32,
+    target: Option<Target>,
+    out: &mut Vec<FeatureChange>,
+) -> Result<(), AllocError>
+    ensures { OnOk result (out.new.items ≡ out.old.items ++ option_map_or (t.resolved end index) target []) }
+{
+    let Some(target) = target else {
+        return Ok(());
+    };
+    if let Some(other) = target.counterpart {
+        let resolved = ChangeKind::Resolves(other.index, node_value(end.node));
+        push(out, other.end, resolved)?;
+    }
+    push(
+        out,
+        end,
+        ChangeKind::Resolves(index, Value::Object(target.object)),
+    )
+}
+
+/// Adds what happens when a single feature is set.
+fn push_set<L: LinkStore>(
+    model: &ModelRef<L>,
+    end: End,
+    value: &Value,
+    link_ends: &[LinkEnd],
+    out: &mut Vec<FeatureChange>,
+) -> Result<(), AllocError>
+    ensures { OnOk result (out.new.items ≡ out.old.items ++ t.set_to (reading model.now) end value.now link_ends.now) }
+{
+    if !is_plain_set(model, end, value) {
+        push_cuts(model, end, value, link_ends, out)?;
+    }
+    push(out, end, ChangeKind::Gains(value.clone()?))
+}
+
+/// Adds what happens when a value is added to a list: nothing if the list repeats nothing and has it.
+fn push_added<L: LinkStore>(
+    model: &ModelRef<L>,
+    end: End,
+    value: &Value,
+    index: Option<u32>,
+    link_ends: &[LinkEnd],
+    out: &mut Vec<FeatureChange>,
+) -> Result<(), AllocError>
+    ensures { OnOk result (out.new.items ≡ out.old.items ++ t.added (reading model.now) end value.now index link_ends.now) }
+{
+    if model.is_repeat(end, value) {
+        return Ok(());
+    }
+    push_cuts(model, end, value, link_ends, out)?;
+    push(out, end, gain_at(index, value.clone()?))
+}
+
+/// A gain at the end of a list, or at an index.
+fn gain_at(index: Option<u32>, value: Value) -> ChangeKind
+    ensures { result ≡ t.gain_at index value }
+{
+    match index {
+        Some(index) => ChangeKind::GainsAt(index, value),
+        None => ChangeKind::Gains(value),
+    }
+}
+
+/// Adds what happens when a value is taken out of a list, and its link is cut.
+fn push_taken_out<L: LinkStore>(
+    model: &ModelRef<L>,
+    end: End,
+    link_ends: &[LinkEnd],
+    index: u32,
+    out: &mut Vec<FeatureChange>,
+) -> Result<(), AllocError>
+    ensures { OnOk result (out.new.items ≡ out.old.items ++ t.taken_out (reading model.now) end link_ends.now index) }
+{
+    push_far_losses(model, link_ends, out)?;
+    push(out, end, ChangeKind::LosesAt(index))
+}
+
+/// Adds what happens when the first value that is the same is taken out of a list: nothing if there is none.
+fn push_value_taken_out<L: LinkStore>(
+    model: &ModelRef<L>,
+    end: End,
+    link_ends: &[LinkEnd],
+    value: &Value,
+    out: &mut Vec<FeatureChange>,
+) -> Result<(), AllocError>
+    ensures { OnOk result (out.new.items ≡ out.old.items ++ t.value_taken_out (reading model.now) end link_ends.now value.now) }
+{
+    match model.position(end, value) {
+        Some(index) => push_taken_out(model, end, link_ends, index, out),
+        None => Ok(()),
+    }
+}
+
+/// Adds what happens to an end that is unset: a list loses each value, the last one first.
+fn push_emptied<L: LinkStore>(
+    model: &ModelRef<L>,
+    end: End,
+    out: &mut Vec<FeatureChange>,
+) -> Result<(), AllocError>
+    ensures { OnOk result (out.new.items ≡ out.old.items ++ t.emptied (reading model.now) end) }
+{
+    if model.meta().is_single(end.feature) {
+        return push(out, end, ChangeKind::Unsets);
+    }
+    push_all_lost(end, model.len(end), out)
+}
+
+fn push_all_lost(end: End, len: u32, out: &mut Vec<FeatureChange>) -> Result<(), AllocError>
+    ensures { OnOk result (out.new.items ≡ out.old.items ++ t.all_lost end len) }
+{
+    for index in (0..len).rev() {
+        push(out, end, ChangeKind::LosesAt(index))?;
+    }
+    Ok(())
+}
+
+/// Adds what a change that cuts these links tells before the end itself gains.
+fn push_cuts<L: LinkStore>(
+    model: &ModelRef<L>,
+    end: End,
+    value: &Value,
+    link_ends: &[LinkEnd],
+    out: &mut Vec<FeatureChange>,
+) -> Result<(), AllocError>
+    ensures { OnOk result (out.new.items ≡ out.old.items ++ t.before_gain (reading model.now) end value.now link_ends.now) }
+{
+    match value {
+        Value::Object(object) => {
+            let link = NewLink {
+                end,
+                object: *object,
+            };
+            push_other_losses(model, link, link_ends, out)?;
+            match opposite_end(model, end, *object) {
+                Some(far) => push(out, far, ChangeKind::Gains(node_value(end.node))),
+                None => Ok(()),
+            }
+        }
+        _ => push_far_losses(model, link_ends, out),
+    }
+}
+
+/// Adds the losses at the other ends of links.
+fn push_far_losses<L: LinkStore>(
+    model: &ModelRef<L>,
+    link_ends: &[LinkEnd],
+    out: &mut Vec<FeatureChange>,
+) -> Result<(), AllocError>
+    ensures { OnOk result (out.new.items ≡ out.old.items ++ t.far_losses (reading model.now) link_ends.now) }
+{
+    for link_end in link_ends {
+        push_far_loss(model, link_end, out)?;
+    }
+    Ok(())
+}
+
+fn push_far_loss<L: LinkStore>(
+    model: &ModelRef<L>,
+    link_end: &LinkEnd,
+    out: &mut Vec<FeatureChange>,
+) -> Result<(), AllocError>
+    ensures { OnOk result (out.new.items ≡ out.old.items ++ t.far_loss (reading model.now) link_end.now) }
+{
+    match turned(model, link_end) {
+        Some(far) => push_loss(&far, out),
+        None => Ok(()),
+    }
+}
+
+/// A new link between an end and an object.
+#[derive(Clone, Copy)]
+struct NewLink {
+    end: End,
+    object: ObjectNo,
+}
+
+/// Adds the losses of displaced links at each end that a new link doesn't replace.
+fn push_other_losses<L: LinkStore>(
+    model: &ModelRef<L>,
+    link: NewLink,
+    link_ends: &[LinkEnd],
+    out: &mut Vec<FeatureChange>,
+) -> Result<(), AllocError>
+    ensures { OnOk result (out.new.items ≡ out.old.items ++ flat_map (t.other_losses (reading model.now) link.end link.object) link_ends.now) }
+{
+    for link_end in link_ends {
+        push_losses(model, link, link_end, out)?;
+    }
+    Ok(())
+}
+
+/// The containing end's loss comes first.
+fn push_losses<L: LinkStore>(
+    model: &ModelRef<L>,
+    link: NewLink,
+    link_end: &LinkEnd,
+    out: &mut Vec<FeatureChange>,
+) -> Result<(), AllocError>
+    ensures { OnOk result (out.new.items ≡ out.old.items ++ t.other_losses (reading model.now) link.end link.object link_end.now) }
+{
+    let Some(far) = turned(model, link_end) else {
+        return push_other_loss(model, link, link_end, out);
+    };
+    if model.meta().is_containment(far.end.feature) {
+        push_both(model, link, &far, link_end, out)
+    } else {
+        push_both(model, link, link_end, &far, out)
+    }
+}
+
+/// Adds the losses at both ends of a link, each unless a new link replaces what is lost.
+fn push_both<L: LinkStore>(
+    model: &ModelRef<L>,
+    link: NewLink,
+    first: &LinkEnd,
+    second: &LinkEnd,
+    out: &mut Vec<FeatureChange>,
+) -> Result<(), AllocError>
+    ensures { OnOk result (out.new.items ≡ out.old.items ++ filter (λ x. not (t.is_replaced (reading model.now) link.end link.object x.at)) (t.loss first.now ∷ t.loss second.now ∷ [])) }
+{
+    push_other_loss(model, link, first, out)?;
+    push_other_loss(model, link, second, out)?;
+    Ok(())
+}
+
+/// Adds a loss, unless a new link replaces what is lost.
+fn push_other_loss<L: LinkStore>(
+    model: &ModelRef<L>,
+    link: NewLink,
+    link_end: &LinkEnd,
+    out: &mut Vec<FeatureChange>,
+) -> Result<(), AllocError>
+    ensures { OnOk result (out.new.items ≡ out.old.items ++ filter (λ x. not (t.is_replaced (reading model.now) link.end link.object x.at)) (t.loss link_end.now ∷ [])) }
+{
+    if is_replaced(model, link, link_end.end) {
+        return Ok(());
+    }
+    push_loss(link_end, out)
+}
+
+/// Whether a new link replaces what another end holds.
+fn is_replaced<L: LinkStore>(model: &ModelRef<L>, link: NewLink, other: End) -> bool
+    ensures { result ≡ t.is_replaced (reading model.now) link.end link.object other }
+{
+    if !model.meta().is_single(other.feature) {
+        return false;
+    }
+    match opposite_end(model, link.end, link.object) {
+        Some(far) => link.end == other || other == far,
+        None => link.end == other,
+    }
+}
+
+fn push_loss(link_end: &LinkEnd, out: &mut Vec<FeatureChange>) -> Result<(), AllocError>
+    ensures { OnOk result (out.new.items ≡ out.old.items ++ t.loss link_end.now ∷ []) }
+{
+    let value = link_end.value.clone()?;
+    push(out, link_end.end, ChangeKind::Loses(value))
+}
+
+fn push(out: &mut Vec<FeatureChange>, at: End, does: ChangeKind) -> Result<(), AllocError>
+    ensures { OnOk result (out.new.items ≡ out.old.items ++ record { at = at; does = does } ∷ []) }
+{
+    out.push(FeatureChange { at, does })?;
+    Ok(())
+}

@@ -1,0 +1,98 @@
+//! Links, each named by one of its ends.
+ghost use Rattle.std.specs.Prelude.{◌≡◌};
+ghost use Rattle.std.specs.List.{list_any};
+ghost use Rattle.mm_types.specs.Same as same;
+ghost use Rattle.models.specs.Model.{reading};
+ghost use Rattle.links.specs.Links.{far_end as far_end_of};
+ghost use Rattle.handshake.specs.Displaced as d;
+ghost use Rattle.handshake.specs.Resolving as resolving;
+
+use links::LinkStore;
+use mm_types::{End, FeatureNo, Node, ObjectNo, Value};
+use models::{ModelRef, is_same};
+use removal::LinkEnd;
+
+/// An object as a value; a resource is the value of no end.
+pub(crate) fn node_value(node: Node) -> Value
+    ensures { result ≡ same.node_value node }
+{
+    match node {
+        Node::Object(object) => Value::Object(object),
+        Node::Resource(_) => Value::Null,
+    }
+}
+
+/// The end of an object under a feature.
+pub(crate) fn far_end(object: ObjectNo, feature: FeatureNo) -> End
+    ensures { result ≡ far_end_of object feature }
+{
+    End {
+        node: Node::Object(object),
+        feature,
+    }
+}
+
+/// The opposite end of a link between an end and an object.
+pub(crate) fn opposite_end<L: LinkStore>(
+    model: &ModelRef<L>,
+    end: End,
+    object: ObjectNo,
+) -> Option<End>
+    ensures { result ≡ resolving.opposite_end (reading model.now) end object }
+{
+    match model.meta().opposite(end.feature) {
+        Some(feature) => Some(far_end(object, feature)),
+        None => None,
+    }
+}
+
+/// The same link by its other end, if it has one.
+pub(crate) fn turned<L: LinkStore>(model: &ModelRef<L>, link_end: &LinkEnd) -> Option<LinkEnd>
+    ensures { result ≡ d.turned (reading model.now) link_end.now }
+{
+    match &link_end.value {
+        Value::Object(object) => match opposite_end(model, link_end.end, *object) {
+            Some(end) => Some(LinkEnd {
+                end,
+                value: node_value(link_end.end.node),
+            }),
+            None => None,
+        },
+        _ => None,
+    }
+}
+
+fn is_same_link_end(a: &LinkEnd, b: &LinkEnd) -> bool
+    ensures { result ≡ d.same_link_end a.now b.now }
+{
+    a.end == b.end && is_same(&a.value, &b.value)
+}
+
+/// Whether two names are of one link.
+fn is_same_link<L: LinkStore>(model: &ModelRef<L>, a: &LinkEnd, b: &LinkEnd) -> bool
+    ensures { result ≡ d.same_link (reading model.now) a.now b.now }
+{
+    if is_same_link_end(a, b) {
+        return true;
+    }
+    match turned(model, b) {
+        Some(b) => is_same_link_end(a, &b),
+        None => false,
+    }
+}
+
+/// Whether a link is among some.
+pub(crate) fn is_among<L: LinkStore>(
+    model: &ModelRef<L>,
+    link_ends: &[LinkEnd],
+    link_end: &LinkEnd,
+) -> bool
+    ensures { result ≡ list_any (d.same_link (reading model.now) link_end.now) link_ends.now }
+{
+    for other in link_ends {
+        if is_same_link(model, link_end, other) {
+            return true;
+        }
+    }
+    false
+}

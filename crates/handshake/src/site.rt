@@ -1,0 +1,10 @@
+//! The places of proxies.
+use mm_types::{FeatureNo, ObjectNo};
+
+/// The site of a proxy: the object that refers, its reference, and the index.
+#[derive(Clone, Copy)]
+pub struct ProxySite {
+    pub object: ObjectNo,
+    pub feature: FeatureNo,
+    pub index: u32,
+}

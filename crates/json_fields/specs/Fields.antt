@@ -1,0 +1,139 @@
+-- A layout is fields, one for each key that an object may have: the key, whether it is required, and how its value is read.
+use Rattle.std.specs.Prelude.{ℕ, ◌≡◌, ◌&&◌, ◌++◌, ℤ, Bool, true, false, List, [], ◌∷◌, Option, Some, None, Result, Ok, Err, if◌then◌else◌, option_and_then, option_map}
+use Rattle.std.specs.List.{list_any}
+use Rattle.std.specs.Str.{bytes_eq}
+use Rattle.serde_json.specs.Data.{Data, Items, no_items, item, Members, no_members, member}
+use Rattle.serde_json.specs.Find.{as_array, as_bool, as_i64, as_number, as_object, as_str, get, get_member}
+use Rattle.mm_types.specs.Integers.{is_of_bits}
+use Rattle.json_fields.specs.declared.read_fault.ReadFault.{ReadFault}
+use Rattle.json_fields.specs.declared.read_fault.ReadFault.TheVariants.{Layout, Memory}
+
+infixl 10 ◌>>=◌
+abbrev pub ◌>>=◌ : {A B : Type 0} → Option A → (A → Option B) → Option B
+o >>= f = option_and_then f o
+
+-- What a reader returned is what the reading gives, unless memory was refused.
+abbrev pub Gives : {X : Type 0} → Result X ReadFault → Option X → Type 0
+Gives (Ok x) reading = reading ≡ Some x
+Gives (Err Layout) reading = reading ≡ None
+Gives (Err Memory) reading = Unit {0}
+
+-- what passes the test, and else nothing
+infixl 5 ◌such_that◌
+abbrev pub ◌such_that◌ : {X : Type 0} → Option X → (X → Bool) → Option X
+o such_that passes = option_and_then (λ x. if passes x then Some x else None) o
+
+-- ---- values
+
+-- a text
+abbrev pub text : Data → Option (List ℕ)
+text = as_str
+
+-- what may be absent, and is not
+abbrev pub given : {X : Type 0} → (Data → Option X) → Data → Option (Option X)
+given reading d = option_map Some (reading d)
+
+-- true or false
+abbrev pub flag : Data → Option Bool
+flag = as_bool
+
+-- a whole number of 32 bits, signed
+abbrev pub whole_number : Data → Option ℤ
+whole_number d = as_number d >>= as_i64 such_that is_of_bits 32
+
+-- a whole number of 64 bits, signed
+abbrev pub whole_number_of_64 : Data → Option ℤ
+whole_number_of_64 d = as_number d >>= as_i64 such_that is_of_bits 64
+
+-- this text and no other
+abbrev pub word : List ℕ → Data → Option (Unit {0})
+word wanted d = do
+  found ← as_str d
+  if bytes_eq found wanted then Some tt else None
+
+-- each item in turn
+abbrev pub each : {X : Type 0} → (Data → Option X) → Items → Option (List X)
+each reading no_items = Some []
+each reading (item d ds) = do
+  x ← reading d
+  xs ← each reading ds
+  Some (x ∷ xs)
+
+-- an array of such values
+abbrev pub array_of : {X : Type 0} → (Data → Option X) → Data → Option (List X)
+array_of reading d = as_array d >>= each reading
+
+abbrev pub if_any : {X : Type 0} → List X → Option (List X)
+if_any [] = None
+if_any (x ∷ xs) = Some (x ∷ xs)
+
+-- an array of one such value at least
+abbrev pub array_of_some : {X : Type 0} → (Data → Option X) → Data → Option (List X)
+array_of_some reading d = array_of reading d >>= if_any
+
+-- ---- fields
+
+abbrev pub or_absent : {X : Type 0} → (Data → Option X) → X → Option Data → Option X
+or_absent reading absent None = Some absent
+or_absent reading absent (Some d) = reading d
+
+abbrev pub required_at : {X : Type 0} → List ℕ → (Data → Option X) → Data → Option X
+required_at key reading d = get key d >>= reading
+
+abbrev pub optional_at : {X : Type 0} → List ℕ → (Data → Option X) → X → Data → Option X
+optional_at key reading absent d = or_absent reading absent (get key d)
+
+-- the keys of the fields, and what they say of an object
+pub record Fields (X : Type 0) : Type 0 where
+  pub keys : List (List ℕ)
+  pub reading : Data → Option X
+
+-- a key that has to be there
+abbrev pub required : {X : Type 0} → List ℕ → (Data → Option X) → Fields X
+required key reading = record { keys = key ∷ []; reading = required_at key reading }
+
+-- a key that may be absent, and what that says
+abbrev pub optional : {X : Type 0} → List ℕ → (Data → Option X) → X → Fields X
+optional key reading absent = record { keys = key ∷ []; reading = optional_at key reading absent }
+
+-- no fields yet: a value is made of what the fields behind it say
+abbrev pub makes : {X : Type 0} → X → Fields X
+makes x = record { keys = []; reading = λ d. Some x }
+
+-- one more field
+infixl 10 ◌also◌
+abbrev pub ◌also◌ : {A B : Type 0} → Fields (A → B) → Fields A → Fields B
+fields also field = record {
+  keys = fields.keys ++ field.keys;
+  reading = λ d. do
+    f ← fields.reading d
+    a ← field.reading d
+    Some (f a);
+}
+
+-- ---- objects
+
+abbrev pub keys_of : Members → List (List ℕ)
+keys_of no_members = []
+keys_of (member k d ms) = k ∷ keys_of ms
+
+-- each key is among the names
+abbrev pub only_keys : List (List ℕ) → Members → Bool
+only_keys names no_members = true
+only_keys names (member k d ms) = list_any (λ n. bytes_eq n k) names && only_keys names ms
+
+abbrev pub object_has_only : List (List ℕ) → Option Members → Bool
+object_has_only names (Some ms) = only_keys names ms
+object_has_only names None = false
+
+-- an object with no other keys
+abbrev pub has_only : List (List ℕ) → Data → Bool
+has_only names d = object_has_only names (as_object d)
+
+-- an object of these fields and no other
+abbrev pub object_of : {X : Type 0} → Fields X → Data → Option X
+object_of fields d = if has_only fields.keys d then fields.reading d else None
+
+-- the members of other names than these are in the new object as they were in the old
+abbrev pub KeepsOthers : List (List ℕ) → Members → Members → Type 0
+KeepsOthers names old new = (k : List ℕ) → list_any (λ n. bytes_eq n k) names ≡ false → get_member k new ≡ get_member k old

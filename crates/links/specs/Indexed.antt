@@ -1,0 +1,53 @@
+-- Where a link stands, and what stands there.
+use Rattle.std.specs.Prelude.{ℕ, Bool, false, Option, Some, None, if◌then◌else◌}
+use Rattle.std.specs.Option.{option_map_or}
+use Rattle.mm_types.specs.Same.{node_value, same_end, same_value}
+use Rattle.mm_types.specs.declared.end.End.{End}
+use Rattle.mm_types.specs.declared.value.Value.{Value}
+use Rattle.mm_types.specs.declared.value.Value.TheVariants as value
+use Rattle.links.specs.declared.link.Far.{Far}
+use Rattle.links.specs.declared.link.Far.TheVariants.{At, Alone, Proxy}
+use Rattle.links.specs.declared.link.Link.{Link}
+
+-- the value at a link's near side
+abbrev pub far_value : Far → Value
+far_value (At d j) = node_value d.node
+far_value (Alone o) = value.Object o
+far_value (Proxy t) = value.Proxy t
+
+-- where the far side stands in e, with the value v
+abbrev pub far_indexed : Far → Value → End → Option (ℕ × Value)
+far_indexed (At d j) v e = if same_end d e then Some (j, v) else None
+far_indexed (Alone o) v e = None
+far_indexed (Proxy t) v e = None
+
+-- the position and the value of a link in e, where it stands there
+abbrev pub indexed : Link → End → Option (ℕ × Value)
+indexed l e = if same_end l.end e then Some (l.index, far_value l.far) else far_indexed l.far (node_value l.end.node) e
+
+-- v stands at a position
+abbrev pub is_value_at : Value → Option (ℕ × Value) → Bool
+is_value_at v p = option_map_or (λ q. same_value q.1 v) p false
+
+-- a link stands in e with the value v
+abbrev pub has_value : End → Value → Link → Bool
+has_value e v l = is_value_at v (indexed l e)
+
+-- the far side, its position in e changed by r
+abbrev pub far_moved : Far → End → (ℕ → ℕ) → Far
+far_moved (At d j) e r = if same_end d e then At d (r j) else At d j
+far_moved (Alone o) e r = Alone o
+far_moved (Proxy t) e r = Proxy t
+
+-- the link, its position in e changed by r
+abbrev pub moved : Link → End → (ℕ → ℕ) → Link
+moved l e r = if same_end l.end e then record l { index = r l.index } else record l { far = far_moved l.far e r }
+
+abbrev pub bare_far : Far → Far
+bare_far (At d j) = At d 0
+bare_far (Alone o) = Alone o
+bare_far (Proxy t) = Proxy t
+
+-- the link without its positions: what no edit of another link changes
+abbrev pub bare : Link → Link
+bare l = record { end = l.end; index = 0; far = bare_far l.far; container = l.container }

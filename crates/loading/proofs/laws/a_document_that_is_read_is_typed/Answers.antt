@@ -1,5 +1,0 @@
-use Rattle.loading.proofs.TypedLemmas.{read-typed}
-use Rattle.loading.proofs.laws.a_document_that_is_read_is_typed.Goals as goal
-
-pub returns : goal.returns
-returns c = read-typed

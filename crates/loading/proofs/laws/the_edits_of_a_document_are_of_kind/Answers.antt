@@ -1,5 +1,0 @@
-use Rattle.loading.proofs.KindLemmas.{read-kind}
-use Rattle.loading.proofs.laws.the_edits_of_a_document_are_of_kind.Goals as goal
-
-pub returns : goal.returns
-returns c = read-kind

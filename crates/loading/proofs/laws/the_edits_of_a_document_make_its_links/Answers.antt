@@ -1,5 +1,0 @@
-use Rattle.loading.proofs.SameLemmas.{read-makes}
-use Rattle.loading.proofs.laws.the_edits_of_a_document_make_its_links.Goals as goal
-
-pub returns : goal.returns
-returns c = read-makes

@@ -1,9 +1,0 @@
-use Rattle.std.proofs.Common.{◌∙◌, arith}
-use Rattle.node_rows.proofs.ListLemmas.{moved-shifted, shifted_past}
-use Rattle.node_rows.proofs.slot.move_in.Goals as goal
-
-pub returns-then-from-len-clause-items : goal.returns-then-from-len-clause-items
-returns-then-from-len-clause-items c = rw (c.min.ensures, c.len-len.ensures) at c.move_to.ensures.items ∙ moved-shifted c.args.values.now.items c.args.to c.args.from (omega arith)
-
-pub returns-else-from-len-clause-items : goal.returns-else-from-len-clause-items
-returns-else-from-len-clause-items c = shifted_past c.args.values.now.items c.args.to c.args.from (omega arith)

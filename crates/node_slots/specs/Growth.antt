@@ -1,0 +1,62 @@
+-- How much room a plan takes.
+use Rattle.std.specs.Prelude.{ℕ, ◌+◌, ◌≤◌, Bool, true, false, List, sum_by, Option, Some, None}
+use Rattle.mm_types.specs.Same.{same_end, same_node}
+use Rattle.mm_types.specs.declared.numbers.FeatureNo.{FeatureNo}
+use Rattle.mm_types.specs.declared.numbers.ObjectNo.{ObjectNo}
+use Rattle.mm_types.specs.declared.numbers.Node.{Node}
+use Rattle.mm_types.specs.declared.numbers.Node.TheVariants as node
+use Rattle.mm_types.specs.declared.end.End.{End}
+use Rattle.links.specs.declared.plan.Edit.{Edit}
+use Rattle.links.specs.declared.plan.Edit.TheVariants as edit
+use Rattle.links.specs.Links.{far_end}
+use Rattle.node_slots.specs.Cells.{Room}
+
+abbrev pub one_if : Bool → ℕ
+one_if true = 1
+one_if false = 0
+
+abbrev pub far_gain : ObjectNo → Option FeatureNo → End → ℕ
+far_gain o None x = 0
+far_gain o (Some g) x = one_if (same_end (far_end o g) x)
+
+-- how many values an edit adds to the end x
+abbrev pub gain : End → Edit → ℕ
+gain x (edit.Cut e o) = 0
+gain x (edit.Put e i o g c) = one_if (same_end e x) + far_gain o g x
+gain x (edit.Shift e to from) = 0
+gain x (edit.PutProxy e i t) = one_if (same_end e x)
+gain x (edit.CutProxy e t) = 0
+
+abbrev pub lone_entry : ObjectNo → Option FeatureNo → Node → ℕ
+lone_entry o None n = one_if (same_node (node.Object o) n)
+lone_entry o (Some g) n = 0
+
+-- how many ends with no opposite an edit adds to those that hold n
+abbrev pub entry : Node → Edit → ℕ
+entry n (edit.Cut e o) = 0
+entry n (edit.Put e i o g c) = lone_entry o g n
+entry n (edit.Shift e to from) = 0
+entry n (edit.PutProxy e i t) = 0
+entry n (edit.CutProxy e t) = 0
+
+abbrev pub gains : List Edit → End → ℕ
+gains plan x = sum_by (gain x) plan
+
+abbrev pub entries : List Edit → Node → ℕ
+entries plan n = sum_by (entry n) plan
+
+-- there are places for all that a plan adds
+pub record HasRoom (r : Room) (plan : List Edit) : Type 0 where
+  pub places : (e : End) → gains plan e ≤ r.places e
+  pub entries : (n : Node) → entries plan n ≤ r.entries n
+
+-- so many more values and ends have places
+pub record HasGained (values : End → ℕ) (ends : Node → ℕ) (old new : Room) : Type 0 where
+  pub places : (e : End) → old.places e + values e ≤ new.places e
+  pub entries : (n : Node) → old.entries n + ends n ≤ new.entries n
+
+abbrev pub no_values : End → ℕ
+no_values e = 0
+
+abbrev pub no_ends : Node → ℕ
+no_ends n = 0

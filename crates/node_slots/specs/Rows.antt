@@ -1,0 +1,144 @@
+-- What is kept of one node, and what one change makes of it.
+use Rattle.std.specs.Prelude.{◌≡◌, ℕ, zero, ◌+◌, ◌≤◌, Bool, true, false, List, [], ◌∷◌, ◌++◌, min, remove, IsPermutation, Option, Some, None, if◌then◌else◌}
+use Rattle.mm_types.specs.Same.{same_feature}
+use Rattle.mm_types.specs.declared.numbers.FeatureNo.{FeatureNo}
+use Rattle.mm_types.specs.declared.end.End.{End}
+use Rattle.mm_types.specs.declared.value.Value.{Value}
+use Rattle.node_slots.specs.declared.slot.Pairing.{Pairing}
+use Rattle.node_slots.specs.declared.slot.Slot.{Slot}
+use Rattle.node_slots.specs.declared.row.Row.{Row}
+use Rattle.node_slots.specs.declared.row.RowEdit.{RowEdit}
+use Rattle.node_slots.specs.declared.row.RowEdit.TheVariants.{Change, Hold, Enter, Leave, ForgetEntries}
+use Rattle.node_slots.specs.Slots.{pairing_after, pairing_of, places_of, slot_in, taken, values_after, values_of}
+
+---------------------------------------------------------------- what a row says
+
+abbrev pub row_slots : Option Row → List Slot
+row_slots None = []
+row_slots (Some r) = r.slots.items
+
+abbrev pub row_slot : Option Row → FeatureNo → Option Slot
+row_slot o f = slot_in (row_slots o) f
+
+abbrev pub row_vals : Option Row → FeatureNo → List Value
+row_vals o f = values_of (row_slot o f)
+
+abbrev pub row_pairing : Option Row → FeatureNo → Pairing
+row_pairing o f = pairing_of (row_slot o f)
+
+abbrev pub row_hold : Option Row → Option End
+row_hold None = None
+row_hold (Some r) = r.holder
+
+abbrev pub row_entered : Option Row → List End
+row_entered None = []
+row_entered (Some r) = r.entered.items
+
+-- how many values more may come at a feature with no memory taken
+abbrev pub row_indexes : Option Row → FeatureNo → ℕ
+row_indexes o f = places_of (row_slot o f)
+
+-- and how many ends more that hold the node
+abbrev pub row_entries : Option Row → ℕ
+row_entries None = zero
+row_entries (Some r) = min r.promised r.entered.spare
+
+abbrev pub is_row : Option Row → Bool
+is_row None = false
+is_row (Some r) = true
+
+---------------------------------------------------------------- one change
+
+-- what a change makes of the values at feature g
+abbrev pub vals_after : RowEdit → FeatureNo → List Value → List Value
+vals_after (Change f x) g vs = if same_feature f g then values_after x vs else vs
+vals_after (Hold h) g vs = vs
+vals_after (Enter d) g vs = vs
+vals_after (Leave i) g vs = vs
+vals_after (ForgetEntries n) g vs = vs
+
+-- and of what is told of g
+abbrev pub told_after : RowEdit → FeatureNo → Pairing → Pairing
+told_after (Change f x) g p = if same_feature f g then pairing_after x p else p
+told_after (Hold h) g p = p
+told_after (Enter d) g p = p
+told_after (Leave i) g p = p
+told_after (ForgetEntries n) g p = p
+
+abbrev pub hold_after : RowEdit → Option End → Option End
+hold_after (Change f x) h = h
+hold_after (Hold o) h = o
+hold_after (Enter d) h = h
+hold_after (Leave i) h = h
+hold_after (ForgetEntries n) h = h
+
+abbrev pub entered_after : RowEdit → List End → List End
+entered_after (Change f x) ds = ds
+entered_after (Hold o) ds = ds
+entered_after (Enter d) ds = ds ++ d ∷ []
+entered_after (Leave i) ds = remove ds i
+entered_after (ForgetEntries n) ds = ds
+
+-- how many places for values at g a change takes
+abbrev pub places_taken : RowEdit → FeatureNo → ℕ
+places_taken (Change f x) g = if same_feature f g then taken x else zero
+places_taken (Hold h) g = zero
+places_taken (Enter d) g = zero
+places_taken (Leave i) g = zero
+places_taken (ForgetEntries n) g = zero
+
+-- and how many for ends that hold the node
+abbrev pub entries_taken : RowEdit → ℕ
+entries_taken (Change f x) = zero
+entries_taken (Hold h) = zero
+entries_taken (Enter d) = 1
+entries_taken (Leave i) = zero
+entries_taken (ForgetEntries n) = n
+
+-- there is room for what the change brings; only a node with a row is told its holder
+abbrev pub RowFits : RowEdit → Option Row → Type 0
+RowFits (Change f x) o = taken x ≤ row_indexes o f
+RowFits (Hold None) o = Unit {0}
+RowFits (Hold (Some d)) o = is_row o ≡ true
+RowFits (Enter d) o = 1 ≤ row_entries o
+RowFits (Leave i) o = Unit {0}
+RowFits (ForgetEntries n) o = n ≤ row_entries o
+
+pub record IsRowEdited (x : RowEdit) (old new : Option Row) : Type 0 where
+  pub vals : (g : FeatureNo) → row_vals new g ≡ vals_after x g (row_vals old g)
+  pub pairing : (g : FeatureNo) → row_pairing new g ≡ told_after x g (row_pairing old g)
+  pub hold : row_hold new ≡ hold_after x (row_hold old)
+  pub entered : row_entered new ≡ entered_after x (row_entered old)
+  pub places : (g : FeatureNo) → row_indexes old g ≤ row_indexes new g + places_taken x g
+  pub entries : row_entries old ≤ row_entries new + entries_taken x
+  pub kept : is_row new ≡ is_row old
+
+-- the row at i is changed, and no other
+pub record AreRowsEdited (i : ℕ) (x : RowEdit) (old new : ℕ → Option Row) : Type 0 where
+  pub here : IsRowEdited x (old i) (new i)
+  pub others : (j : ℕ) → ((j ≡ i) → ⊥) → new j ≡ old j
+
+-- the same, with no fewer places
+pub record IsRowGrown (old new : Option Row) : Type 0 where
+  pub vals : (g : FeatureNo) → row_vals new g ≡ row_vals old g
+  pub pairing : (g : FeatureNo) → row_pairing new g ≡ row_pairing old g
+  pub hold : row_hold new ≡ row_hold old
+  pub entered : row_entered new ≡ row_entered old
+  pub places : (g : FeatureNo) → row_indexes old g ≤ row_indexes new g
+  pub entries : row_entries old ≤ row_entries new
+
+abbrev pub AreRowsGrown : (ℕ → Option Row) → (ℕ → Option Row) → Type 0
+AreRowsGrown old new = (j : ℕ) → IsRowGrown (old j) (new j)
+
+-- the same, with the ends that hold the node in another order
+pub record IsRowReordered (old new : Option Row) : Type 0 where
+  pub vals : (g : FeatureNo) → row_vals new g ≡ row_vals old g
+  pub pairing : (g : FeatureNo) → row_pairing new g ≡ row_pairing old g
+  pub hold : row_hold new ≡ row_hold old
+  pub entered : IsPermutation (row_entered old) (row_entered new)
+  pub places : (g : FeatureNo) → row_indexes new g ≡ row_indexes old g
+  pub entries : row_entries new ≡ row_entries old
+  pub kept : is_row new ≡ is_row old
+
+abbrev pub AreRowsReordered : (ℕ → Option Row) → (ℕ → Option Row) → Type 0
+AreRowsReordered old new = (j : ℕ) → IsRowReordered (old j) (new j)

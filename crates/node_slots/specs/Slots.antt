@@ -1,0 +1,89 @@
+-- The values of a node's features, and what one change makes of them.
+use Rattle.std.specs.Prelude.{◌≡◌, ℕ, ◌+◌, ◌≤◌, List, [], ◌∷◌, ◌++◌, insert, min, remove, Option, Some, None, unwrap_or, if◌then◌else◌}
+use Rattle.mm_types.specs.Lists.{shifted}
+use Rattle.mm_types.specs.Same.{same_feature}
+use Rattle.mm_types.specs.declared.numbers.FeatureNo.{FeatureNo}
+use Rattle.mm_types.specs.declared.value.Value.{Value}
+use Rattle.node_slots.specs.declared.slot.Pairing.{Pairing}
+use Rattle.node_slots.specs.declared.slot.Slot.{Slot}
+use Rattle.node_slots.specs.declared.slot.SlotEdit.{SlotEdit}
+use Rattle.node_slots.specs.declared.slot.SlotEdit.TheVariants.{Insert, Push, Remove, Move, Forget}
+
+-- neither an opposite nor a container
+abbrev pub unpaired : Pairing
+unpaired = record { opposite = None; container = None }
+
+---------------------------------------------------------------- one change
+
+abbrev pub values_after : SlotEdit → List Value → List Value
+values_after (Insert i v p) vs = insert vs i v
+values_after (Push v p) vs = vs ++ v ∷ []
+values_after (Remove i) vs = remove vs i
+values_after (Move to from) vs = shifted vs to from
+values_after (Forget n) vs = vs
+
+abbrev pub pairing_after : SlotEdit → Pairing → Pairing
+pairing_after (Insert i v p) q = unwrap_or p q
+pairing_after (Push v p) q = p
+pairing_after (Remove i) q = q
+pairing_after (Move to from) q = q
+pairing_after (Forget n) q = q
+
+-- how many places for values a change takes
+abbrev pub taken : SlotEdit → ℕ
+taken (Insert i v p) = 1
+taken (Push v p) = 1
+taken (Remove i) = 0
+taken (Move to from) = 0
+taken (Forget n) = n
+
+-- how many values more are promised, and have room
+abbrev pub slot_places : Slot → ℕ
+slot_places s = min s.promised s.values.spare
+
+-- the change is made, and takes no more places than it may
+pub record IsSlotEdited (x : SlotEdit) (old new : Slot) : Type 0 where
+  pub feature : new.feature ≡ old.feature
+  pub values : new.values.items ≡ values_after x old.values.items
+  pub pairing : new.pairing ≡ pairing_after x old.pairing
+  pub places : slot_places old ≤ slot_places new + taken x
+
+---------------------------------------------------------------- the slots of a node
+
+-- the first slot of a feature
+abbrev pub slot_in : List Slot → FeatureNo → Option Slot
+slot_in [] f = None
+slot_in (s ∷ ss) f = if same_feature s.feature f then Some s else slot_in ss f
+
+abbrev pub values_of : Option Slot → List Value
+values_of None = []
+values_of (Some s) = s.values.items
+
+abbrev pub pairing_of : Option Slot → Pairing
+pairing_of None = unpaired
+pairing_of (Some s) = s.pairing
+
+-- how many values more may come with no memory taken
+abbrev pub places_of : Option Slot → ℕ
+places_of None = 0
+places_of (Some s) = slot_places s
+
+-- a feature is changed, where it has a slot or not
+pub record IsFeatureEdited (x : SlotEdit) (old new : Option Slot) : Type 0 where
+  pub values : values_of new ≡ values_after x (values_of old)
+  pub pairing : pairing_of new ≡ pairing_after x (pairing_of old)
+  pub places : places_of old ≤ places_of new + taken x
+
+-- the feature f is changed, and no other
+pub record AreSlotsEdited (f : FeatureNo) (x : SlotEdit) (old new : List Slot) : Type 0 where
+  pub here : IsFeatureEdited x (slot_in old f) (slot_in new f)
+  pub others : (g : FeatureNo) → ((f.0 ≡ g.0) → ⊥) → slot_in new g ≡ slot_in old g
+
+-- the same values, with no fewer places
+pub record IsFeatureGrown (old new : Option Slot) : Type 0 where
+  pub values : values_of new ≡ values_of old
+  pub pairing : pairing_of new ≡ pairing_of old
+  pub places : places_of old ≤ places_of new
+
+abbrev pub AreSlotsGrown : List Slot → List Slot → Type 0
+AreSlotsGrown old new = (g : FeatureNo) → IsFeatureGrown (slot_in old g) (slot_in new g)

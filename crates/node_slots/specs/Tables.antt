@@ -1,0 +1,30 @@
+-- The rows of some numbers, and where the row of each is.
+use Rattle.std.specs.Prelude.{◌≡◌, ℕ, zero, suc, ◌<◌, List, slice_get, Option, Some, None}
+use Rattle.node_slots.specs.declared.row.Row.{Row}
+
+-- by number, zero where it has no row, and else one more than the index of its row
+pub record Table : Type 0 where
+  pub places : List ℕ
+  pub rows : List Row
+
+abbrev pub place_at : Option ℕ → Option ℕ
+place_at None = None
+place_at (Some zero) = None
+place_at (Some (suc k)) = Some k
+
+-- the index of the row of number n
+abbrev pub row_index_at : List ℕ → ℕ → Option ℕ
+row_index_at ps n = place_at (slice_get ps n)
+
+abbrev pub row_from : List Row → Option ℕ → Option Row
+row_from rs None = None
+row_from rs (Some k) = slice_get rs k
+
+-- the row of number n
+abbrev pub row_in : Table → ℕ → Option Row
+row_in t n = row_from t.rows (row_index_at t.places n)
+
+-- each index is below the number of rows, and no two numbers have the same
+pub record ArePlaces (ps : List ℕ) (count : ℕ) : Type 0 where
+  pub within : (n k : ℕ) → row_index_at ps n ≡ Some k → k < count
+  pub apart : (m n k : ℕ) → row_index_at ps m ≡ Some k → row_index_at ps n ≡ Some k → m ≡ n

@@ -1,0 +1,198 @@
+//! The rows of all nodes.
+ghost use Rattle.std.specs.Prelude.{◌≡◌, [], length, option_copied, position, slice_get, true, Some};
+ghost use Rattle.mm_types.specs.Same.{same_end, same_value};
+ghost use Rattle.mm_types.specs.declared.numbers.Node.{Node};
+ghost use Rattle.node_slots.specs.Rows.{row_slot, row_slots};
+ghost use Rattle.node_slots.specs.Cells.{AreReordered, Fits, KeepsRoom, cell_edit, cells, ends_of, no_cells, room, row_at, row_index_of};
+
+mod growth;
+
+use crate::row::{Row, RowEdit};
+use crate::row_table::RowTable;
+use crate::slot::{Pairing, Slot};
+pub use growth::PutPlaces;
+use mm_types::{End, Node, Value};
+use std::alloc::Global;
+
+/// A row for each node that was promised room for a value, or for an end that holds it.
+#[derive(Drop)]
+pub struct NodeSlots {
+    objects: RowTable,
+    resources: RowTable,
+}
+
+impl NodeSlots {
+    /// No rows. Takes no memory.
+    pub fn new(alloc: Global) -> Self
+        ensures cells { cells result ≡ no_cells }
+        ensures ends { ends_of result ≡ [] }
+    {
+        NodeSlots {
+            objects: RowTable::new(alloc),
+            resources: RowTable::new(alloc),
+        }
+    }
+
+    /// The row of a node; `None` if it has none, and so no values.
+    fn row(&self, node: Node) -> Option<&Row>
+        ensures { option_copied result ≡ row_at self.now node }
+    {
+        match node {
+            Node::Object(object) => self.objects.get(object.0 as usize),
+            Node::Resource(resource) => self.resources.get(resource.0 as usize),
+        }
+    }
+
+    /// The slots of a node, with its values by features.
+    pub fn slots(&self, node: Node) -> &[Slot]
+        ensures { result.now ≡ row_slots (row_at self.now node) }
+    {
+        match self.row(node) {
+            Some(row) => &row.slots,
+            None => &[],
+        }
+    }
+
+    /// The slot of an end; `None` if it has none, and so no values.
+    fn slot(&self, end: End) -> Option<&Slot>
+        ensures { option_copied result ≡ row_slot (row_at self.now end.node) end.feature }
+    {
+        self.row(end.node)?.slot(end.feature)
+    }
+
+    /// How many values an end has.
+    #[tactic(auto, unfolding(crate::specs::Cells::cells))]
+    pub fn len(&self, end: End) -> usize
+        ensures { result ≡ length ((cells self.now).vals end) }
+    {
+        match self.slot(end) {
+            Some(slot) => slot.values.len(),
+            None => 0,
+        }
+    }
+
+    /// The value at an index of an end; `None` past the last.
+    #[tactic(auto, unfolding(crate::specs::Cells::cells))]
+    pub fn at(&self, end: End, index: usize) -> Option<&Value>
+        ensures { option_copied result ≡ slice_get ((cells self.now).vals end) index }
+    {
+        self.slot(end)?.values.get(index)
+    }
+
+    /// The index of a value in an end; `None` if it is not there.
+    #[tactic(auto, unfolding(crate::specs::Cells::cells))]
+    pub fn position(&self, end: End, value: &Value) -> Option<usize>
+        ensures { result ≡ position (same_value value.now) ((cells self.now).vals end) }
+    {
+        self.slot(end)?.values.position(value)
+    }
+
+    /// What the last put of an object into an end told of its feature.
+    #[tactic(auto, unfolding(crate::specs::Cells::cells))]
+    pub fn pairing(&self, end: End) -> Pairing
+        ensures { result ≡ (cells self.now).pairing end }
+    {
+        match self.slot(end) {
+            Some(slot) => slot.pairing,
+            None => Pairing {
+                opposite: None,
+                container: None,
+            },
+        }
+    }
+
+    /// The end that contains a node; `None` if none does.
+    #[tactic(auto, unfolding(crate::specs::Cells::cells))]
+    pub fn holder(&self, node: Node) -> Option<End>
+        ensures { result ≡ (cells self.now).hold node }
+    {
+        self.row(node)?.holder
+    }
+
+    /// How many ends with no opposite hold a node.
+    #[tactic(auto, unfolding(crate::specs::Cells::cells))]
+    pub fn entered_len(&self, node: Node) -> usize
+        ensures { result ≡ length ((cells self.now).entered node) }
+    {
+        match self.row(node) {
+            Some(row) => row.entered.len(),
+            None => 0,
+        }
+    }
+
+    /// The end at an index of those with no opposite that hold a node; `None` past the last.
+    #[tactic(auto, unfolding(crate::specs::Cells::cells))]
+    pub fn entered_at(&self, node: Node, index: usize) -> Option<&End>
+        ensures { option_copied result ≡ slice_get ((cells self.now).entered node) index }
+    {
+        self.row(node)?.entered.get(index)
+    }
+
+    /// The index of an end among those with no opposite that hold a node; `None` if it is not there.
+    #[tactic(auto, unfolding(crate::specs::Cells::cells))]
+    pub fn entered_position(&self, node: Node, end: End) -> Option<usize>
+        ensures { result ≡ position (same_end end) ((cells self.now).entered node) }
+    {
+        self.row(node)?.entered.position(&end)
+    }
+
+    /// The index of the row of a node; `None` if it has none.
+    fn find(&self, node: Node) -> Option<usize>
+        ensures { result ≡ row_index_of self.now node }
+    {
+        match node {
+            Node::Object(object) => self.objects.row_index(object.0 as usize),
+            Node::Resource(resource) => self.resources.row_index(resource.0 as usize),
+        }
+    }
+
+    /// The index of the row of a node that has one.
+    pub fn row_index(&self, node: Node) -> usize
+        requires { (room self.now).rows node ≡ true }
+        ensures { row_index_of self.now node ≡ Some result }
+    {
+        match self.find(node) {
+            Some(row_index) => row_index,
+            None => unreachable!(),
+        }
+    }
+
+    /// Makes one change of a node. Takes no memory.
+    pub fn edit(&mut self, node: Node, edit: RowEdit)
+        requires { Fits node edit (room self.old) }
+        ensures cells { cells self.new ≡ cell_edit node edit (cells self.old) }
+        ensures room { KeepsRoom node edit (room self.old) (room self.new) }
+    {
+        match self.find(node) {
+            Some(row_index) => self.edit_at(node, row_index, edit),
+            None => drop(edit),
+        }
+    }
+
+    /// Makes one change of a node, whose row is at an index. Takes no memory, and moves no row.
+    pub fn edit_at(&mut self, node: Node, row_index: usize, edit: RowEdit)
+        requires at { row_index_of self.old node ≡ Some row_index }
+        requires fits { Fits node edit (room self.old) }
+        ensures cells { cells self.new ≡ cell_edit node edit (cells self.old) }
+        ensures room { KeepsRoom node edit (room self.old) (room self.new) }
+        ensures places { (n : Node) → row_index_of self.new n ≡ row_index_of self.old n }
+    {
+        match node {
+            Node::Object(object) => self.objects.edit_at(object.0 as usize, row_index, edit),
+            Node::Resource(resource) => self
+                .resources
+                .edit_at(resource.0 as usize, row_index, edit),
+        }
+    }
+
+    /// Puts the ends with no opposite that hold a node in the order of their ranks (`entry_rank`). Takes no memory.
+    pub fn order_entries(&mut self, node: Node)
+        ensures cells { AreReordered (cells self.old) (cells self.new) }
+        ensures room { room self.new ≡ room self.old }
+    {
+        match node {
+            Node::Object(object) => self.objects.order_entries(object.0 as usize),
+            Node::Resource(resource) => self.resources.order_entries(resource.0 as usize),
+        }
+    }
+}

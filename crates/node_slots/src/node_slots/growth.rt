@@ -1,0 +1,229 @@
+//! Room for edits, which is made before they are.
+ghost use Rattle.std.specs.Prelude.{◌≡◌, ℕ, [], ◌∷◌, IfOk, OnOk, Some};
+ghost use Rattle.mm_types.specs.Same.{same_end};
+ghost use Rattle.mm_types.specs.declared.numbers.Node.{Node};
+ghost use Rattle.mm_types.specs.declared.numbers.Node.TheVariants as node;
+ghost use Rattle.links.specs.Plans.{put_edit};
+ghost use Rattle.node_slots.specs.Cells.{cells, room, row_index_of};
+ghost use Rattle.node_slots.specs.Growth.{HasGained, HasRoom, entry, far_gain, gain, lone_entry, no_ends, no_values, one_if};
+
+use super::NodeSlots;
+use crate::row::RowEdit;
+use crate::slot::SlotEdit;
+use links::{Edit, NewLink, Plan};
+use mm_types::{End, FeatureNo, Node, ObjectNo};
+use std::alloc::AllocError;
+
+/// The indexes of the rows of both nodes of a put.
+#[derive(Clone, Copy)]
+pub struct PutPlaces {
+    /// The row of the node of the end.
+    pub near: usize,
+    /// The row of the object.
+    pub far: usize,
+}
+
+impl NodeSlots {
+    /// How many values more of an end come with no memory taken.
+    #[tactic(auto, unfolding(crate::specs::Cells::room))]
+    fn places(&self, end: End) -> usize
+        ensures { result ≡ (room self.now).places end }
+    {
+        match self.slot(end) {
+            Some(slot) => slot.places(),
+            None => 0,
+        }
+    }
+
+    /// How many ends more that hold a node come with no memory taken.
+    #[tactic(auto, unfolding(crate::specs::Cells::room))]
+    fn entries(&self, node: Node) -> usize
+        ensures { result ≡ (room self.now).entries node }
+    {
+        match self.row(node) {
+            Some(row) => row.entries(),
+            None => 0,
+        }
+    }
+
+    /// Takes back what an end was promised.
+    fn forget(&mut self, end: End)
+        ensures { cells self.new ≡ cells self.old }
+    {
+        let places = self.places(end);
+        self.edit(
+            end.node,
+            RowEdit::Change(end.feature, SlotEdit::Forget { places }),
+        );
+    }
+
+    /// Takes back what the far side of a put was promised.
+    fn forget_far(&mut self, object: ObjectNo, opposite: Option<FeatureNo>)
+        ensures { cells self.new ≡ cells self.old }
+    {
+        let node = Node::Object(object);
+        match opposite {
+            Some(feature) => self.forget(End { node, feature }),
+            None => {
+                let places = self.entries(node);
+                self.edit(node, RowEdit::ForgetEntries(places));
+            }
+        }
+    }
+
+    /// Takes back what was promised wherever an edit adds something.
+    fn forget_edit(&mut self, edit: &Edit)
+        ensures { cells self.new ≡ cells self.old }
+    {
+        match edit {
+            Edit::Put {
+                end,
+                object,
+                opposite,
+                ..
+            } => {
+                self.forget(*end);
+                self.forget_far(*object, *opposite);
+            }
+            Edit::PutProxy { end, .. } => self.forget(*end),
+            _ => {}
+        }
+    }
+
+    /// Takes back what was promised wherever a plan adds something.
+    fn forget_plan(&mut self, plan: &[Edit])
+        ensures { cells self.new ≡ cells self.old }
+    {
+        for edit in plan {
+            self.forget_edit(edit);
+        }
+    }
+
+    /// The index of the row of a node, which is made if there is none. Errs only if memory is refused; no value changes, and no row
+    /// is moved.
+    fn make_row(&mut self, node: Node) -> Result<usize, AllocError>
+        ensures cells { cells self.new ≡ cells self.old }
+        ensures room { HasGained no_values no_ends (room self.old) (room self.new) }
+        ensures unmoved { (n : Node) (k : ℕ) → row_index_of self.old n ≡ Some k → row_index_of self.new n ≡ Some k }
+        ensures ok { IfOk result (λ k. row_index_of self.new node ≡ Some k) }
+    {
+        match node {
+            Node::Object(object) => self.objects.make_row(object.0 as usize),
+            Node::Resource(resource) => self.resources.make_row(resource.0 as usize),
+        }
+    }
+
+    /// Promises room for one more value of an end, in the row of the end's node.
+    fn promise_at(&mut self, end: End, row_index: usize) -> Result<(), AllocError>
+        requires at { row_index_of self.old end.node ≡ Some row_index }
+        ensures cells { cells self.new ≡ cells self.old }
+        ensures places { (n : Node) → row_index_of self.new n ≡ row_index_of self.old n }
+        ensures ok { OnOk result (HasGained (λ e. one_if (same_end end e)) no_ends (room self.old) (room self.new)) }
+    {
+        match end.node {
+            Node::Object(object) => {
+                self.objects
+                    .promise_at(object.0 as usize, row_index, end.feature)
+            }
+            Node::Resource(resource) => {
+                self.resources
+                    .promise_at(resource.0 as usize, row_index, end.feature)
+            }
+        }
+    }
+
+    /// Promises room for the far side of a put, in the row of the object.
+    fn promise_far_at(
+        &mut self,
+        object: ObjectNo,
+        row_index: usize,
+        opposite: Option<FeatureNo>,
+    ) -> Result<(), AllocError>
+        requires at { row_index_of self.old (node.Object object) ≡ Some row_index }
+        ensures cells { cells self.new ≡ cells self.old }
+        ensures places { (n : Node) → row_index_of self.new n ≡ row_index_of self.old n }
+        ensures ok { OnOk result (HasGained (far_gain object opposite) (lone_entry object opposite) (room self.old) (room self.new)) }
+    {
+        let number = object.0 as usize;
+        match opposite {
+            Some(feature) => self.objects.promise_at(number, row_index, feature),
+            None => self.objects.promise_entry_at(number, row_index),
+        }
+    }
+
+    /// Promises room for one more value of an end.
+    fn promise(&mut self, end: End) -> Result<(), AllocError>
+        ensures cells { cells self.new ≡ cells self.old }
+        ensures ok { OnOk result (HasGained (λ e. one_if (same_end end e)) no_ends (room self.old) (room self.new)) }
+    {
+        let row_index = self.make_row(end.node)?;
+        self.promise_at(end, row_index)
+    }
+
+    /// Promises room for the far side of a put.
+    fn promise_far(
+        &mut self,
+        object: ObjectNo,
+        opposite: Option<FeatureNo>,
+    ) -> Result<(), AllocError>
+        ensures cells { cells self.new ≡ cells self.old }
+        ensures ok { OnOk result (HasGained (far_gain object opposite) (lone_entry object opposite) (room self.old) (room self.new)) }
+    {
+        let row_index = self.make_row(Node::Object(object))?;
+        self.promise_far_at(object, row_index, opposite)
+    }
+
+    /// Promises room for an edit wherever it adds something.
+    fn promise_edit(&mut self, edit: &Edit) -> Result<(), AllocError>
+        ensures cells { cells self.new ≡ cells self.old }
+        ensures ok { OnOk result (HasGained (λ e. gain e edit.now) (λ n. entry n edit.now) (room self.old) (room self.new)) }
+    {
+        match edit {
+            Edit::Put {
+                end,
+                object,
+                opposite,
+                ..
+            } => {
+                self.promise(*end)?;
+                self.promise_far(*object, *opposite)
+            }
+            Edit::PutProxy { end, .. } => self.promise(*end),
+            _ => Ok(()),
+        }
+    }
+
+    /// Makes room for a plan, instead of what was made for an earlier one wherever this one adds something. Errs only
+    /// if memory is refused; no value changes.
+    pub fn reserve_for(&mut self, plan: &Plan) -> Result<(), AllocError>
+        ensures cells { cells self.new ≡ cells self.old }
+        ensures ok { OnOk result (HasRoom (room self.new) plan.now) }
+    {
+        let edits = plan.as_slice();
+        self.forget_plan(edits);
+        for edit in edits {
+            self.promise_edit(edit)?;
+        }
+        Ok(())
+    }
+
+    /// Makes room for one link, beside what was made before, and returns the indexes of the rows of both nodes. Errs only if memory is
+    /// refused; no value changes.
+    pub fn reserve_put(&mut self, link: NewLink) -> Result<PutPlaces, AllocError>
+        ensures cells { cells self.new ≡ cells self.old }
+        ensures near { IfOk result (λ p. row_index_of self.new link.end.node ≡ Some p.near) }
+        ensures far { IfOk result (λ p. row_index_of self.new (node.Object link.object) ≡ Some p.far) }
+        ensures room { OnOk result (HasRoom (room self.new) (put_edit link ∷ [])) }
+    {
+        let near = self.make_row(link.end.node)?;
+        let far = self.make_row(Node::Object(link.object))?;
+        self.promise_at(link.end, near)?;
+        match self.promise_far_at(link.object, far, link.opposite) {
+            Ok(()) => Ok(PutPlaces { near, far }),
+            Err(refused) => {
+                self.forget(link.end);
+                Err(refused)
+            }
+        }
+    }
+}

@@ -1,0 +1,174 @@
+//! What is kept of one node.
+ghost use Rattle.std.specs.Prelude.{◌≡◌, ℕ, ◌+◌, ◌≤◌, ◌<◌, [], ◌∷◌, ◌++◌, is_ok, length, option_copied, position, if◌then◌else◌, IfOk, None, OnOk, Some};
+ghost use Rattle.mm_types.specs.Same.{same_feature};
+ghost use Rattle.node_slots.specs.Slots.{AreSlotsEdited, AreSlotsGrown, places_of, slot_in, taken};
+ghost use Rattle.node_slots.specs.Rows.{IsRowEdited, IsRowGrown, IsRowReordered, RowFits, row_entries};
+
+use crate::order::put_in_order;
+use crate::slot::{Slot, SlotEdit, push_on, remove_from};
+use mm_types::{End, FeatureNo};
+use slot_lists::ShortList;
+use std::alloc::{AllocError, Global};
+
+/// One change of what is kept of a node.
+#[derive(Drop)]
+pub enum RowEdit {
+    /// Changes the values of a feature.
+    Change(FeatureNo, SlotEdit),
+    /// Tells the end that contains the node.
+    Hold(Option<End>),
+    /// Adds an end with no opposite that holds the node.
+    Enter(End),
+    /// Takes an end with no opposite that holds the node away, at its index; past the last nothing changes.
+    Leave(usize),
+    /// Takes places back that were promised to ends with no opposite that hold the node. No end changes.
+    ForgetEntries(usize),
+}
+
+/// The values of one node, and the ends that hold it.
+#[derive(Drop)]
+pub struct Row {
+    /// In the order of first use; the first of a feature counts.
+    pub slots: Vec<Slot>,
+    /// The end that contains the node.
+    pub holder: Option<End>,
+    /// The ends with no opposite that hold the node, in the order in which they came, until they are put in order.
+    pub entered: ShortList<End>,
+    /// How many ends more are promised room there.
+    pub promised: usize,
+}
+
+impl Row {
+    /// A node with no values, which no end holds. Takes no memory.
+    pub fn new(alloc: Global) -> Self
+        ensures slots { result.slots.items ≡ [] }
+        ensures holder { result.holder ≡ None }
+        ensures entered { result.entered.items ≡ [] }
+    {
+        Row {
+            slots: Vec::new(alloc),
+            holder: None,
+            entered: ShortList::new(),
+            promised: 0,
+        }
+    }
+
+    /// The slot of a feature; `None` if it has none, and so no values.
+    pub fn slot(&self, feature: FeatureNo) -> Option<&Slot>
+        ensures { option_copied result ≡ slot_in self.now.slots.items feature }
+    {
+        match slot_index(&self.slots, feature) {
+            Some(index) => Some(&self.slots[index]),
+            None => None,
+        }
+    }
+
+    /// Makes one change. Takes no memory.
+    pub fn edit(&mut self, edit: RowEdit)
+        requires { RowFits edit (Some self.old) }
+        ensures { IsRowEdited edit (Some self.old) (Some self.new) }
+    {
+        match edit {
+            RowEdit::Change(feature, edit) => edit_slot(&mut self.slots, feature, edit),
+            RowEdit::Hold(holder) => self.holder = holder,
+            RowEdit::Enter(end) => {
+                push_on(&mut self.entered, end);
+                self.promised -= 1;
+            }
+            RowEdit::Leave(index) => remove_from(&mut self.entered, index),
+            RowEdit::ForgetEntries(places) => self.promised -= places,
+        }
+    }
+
+    /// Puts the ends that hold the node in order. Takes no memory.
+    pub fn order_entries(&mut self)
+        ensures { IsRowReordered (Some self.old) (Some self.new) }
+    {
+        put_in_order(&mut self.entered);
+    }
+
+    /// Promises room for one more value of a feature. Errs only if memory is refused; no value changes.
+    pub fn promise(&mut self, feature: FeatureNo) -> Result<(), AllocError>
+        ensures grown { IsRowGrown (Some self.old) (Some self.new) }
+        ensures ok { OnOk result (places_of (slot_in self.old.slots.items feature) + 1 ≤ places_of (slot_in self.new.slots.items feature)) }
+    {
+        add_slot(&mut self.slots, feature)?;
+        promise_in(&mut self.slots, feature)
+    }
+
+    /// How many ends more that hold the node come with no memory taken: those that are promised room, and have it.
+    pub fn entries(&self) -> usize
+        ensures { result ≡ row_entries (Some self.now) }
+    {
+        self.promised.min(self.entered.spare())
+    }
+
+    /// Promises room for one more end that holds the node. Errs only if memory is refused; no end changes.
+    pub fn promise_entry(&mut self) -> Result<(), AllocError>
+        ensures grown { IsRowGrown (Some self.old) (Some self.new) }
+        ensures ok { OnOk result (row_entries (Some self.old) + 1 ≤ row_entries (Some self.new)) }
+    {
+        if self.promised == usize::MAX {
+            return Err(AllocError);
+        }
+        let promised = self.promised + 1;
+        let alloc = *self.slots.allocator();
+        self.entered.reserve(alloc, promised)?;
+        self.promised = promised;
+        Ok(())
+    }
+}
+
+/// The index of the first slot of a feature.
+fn slot_index(slots: &[Slot], feature: FeatureNo) -> Option<usize>
+    ensures { result ≡ position (λ s. same_feature s.feature feature) slots.now }
+{
+    slots.iter().position(|slot| slot.feature == feature)
+}
+
+/// Changes the values of a feature.
+fn edit_slot(slots: &mut Vec<Slot>, feature: FeatureNo, edit: SlotEdit)
+    requires { taken edit ≤ places_of (slot_in slots.old.items feature) }
+    ensures { AreSlotsEdited feature edit slots.old.items slots.new.items }
+{
+    match slot_index(slots, feature) {
+        Some(index) => slots[index].edit(edit),
+        None => drop(edit),
+    }
+}
+
+/// Adds a slot, and room for half as many more. Errs only if memory is refused, and then nothing has changed.
+fn push_slot(slots: &mut Vec<Slot>, slot: Slot) -> Result<(), AllocError>
+    ensures { slots.new.items ≡ (if is_ok result then slots.old.items ++ slot ∷ [] else slots.old.items) }
+{
+    slots.reserve_exact(slots.len() / 2 + 1)?;
+    slots.push(slot)?;
+    Ok(())
+}
+
+/// Makes a slot for a feature, if it has none.
+fn add_slot(slots: &mut Vec<Slot>, feature: FeatureNo) -> Result<(), AllocError>
+    ensures grown { AreSlotsGrown slots.old.items slots.new.items }
+    ensures ok { OnOk result ((slot_in slots.new.items feature ≡ None) → ⊥) }
+{
+    if slot_index(slots, feature).is_some() {
+        return Ok(());
+    }
+    push_slot(slots, Slot::new(feature))?;
+    Ok(())
+}
+
+/// Promises room for one more value in the slot of a feature.
+fn promise_in(slots: &mut Vec<Slot>, feature: FeatureNo) -> Result<(), AllocError>
+    requires { (slot_in slots.old.items feature ≡ None) → ⊥ }
+    ensures grown { AreSlotsGrown slots.old.items slots.new.items }
+    ensures ok { OnOk result (places_of (slot_in slots.old.items feature) + 1 ≤ places_of (slot_in slots.new.items feature)) }
+{
+    match slot_index(slots, feature) {
+        Some(index) => {
+            let alloc = *slots.allocator();
+            slots[index].promise(alloc)
+        }
+        None => unreachable!(),
+    }
+}

@@ -1,0 +1,153 @@
+//! The rows of some numbers, each found by its number.
+ghost use Rattle.std.specs.Prelude.{◌≡◌, ℕ, ◌+◌, ◌<◌, ◌≤◌, [], length, option_copied, vec_len, None, Some, IfOk, OnOk};
+ghost use Rattle.node_slots.specs.Rows.{AreRowsEdited, AreRowsGrown, AreRowsReordered, RowFits, row_entries, row_indexes};
+ghost use Rattle.node_slots.specs.Tables.{row_index_at, row_in};
+
+use crate::row::{Row, RowEdit};
+use mm_types::FeatureNo;
+use std::alloc::{AllocError, Global};
+use std::marker::Model;
+
+/// Rows by number. A number with no row takes four bytes if a higher one has a row, and else none: most objects of a model may
+/// have no links. Contracts see both lists, and read them by `row_in`.
+#[derive(Drop)]
+pub(crate) struct RowTable {
+    /// By number: zero if it has no row, and else one more than the index of the row.
+    places: Vec<u32>,
+    /// In the order in which they were made.
+    rows: Vec<Row>,
+}
+
+impl Model for RowTable {
+    ghost use Rattle.std.specs.Prelude.{length};
+    ghost use Rattle.node_slots.specs.Tables.{Table, ArePlaces};
+
+    ghost Value = { Table };
+
+    ghost view = { λ a. record { places = a.places.items; rows = a.rows.items } };
+
+    ghost invariant = { λ a. ArePlaces a.places.items (length a.rows.items) };
+}
+
+impl RowTable {
+    /// No rows. Takes no memory.
+    pub fn new(alloc: Global) -> Self
+        ensures { result.places ≡ [] }
+    {
+        RowTable {
+            places: Vec::new(alloc),
+            rows: Vec::new(alloc),
+        }
+    }
+
+    /// The row of a number; `None` if it has none.
+    pub fn get(&self, number: usize) -> Option<&Row>
+        ensures { option_copied result ≡ row_in self.now number }
+    {
+        self.rows.get(row_index_in(&self.places, number)?)
+    }
+
+    /// The index of the row of a number; `None` if it has none.
+    pub fn row_index(&self, number: usize) -> Option<usize>
+        ensures { result ≡ row_index_at self.now.places number }
+    {
+        row_index_in(&self.places, number)
+    }
+
+    /// Makes one change of the row of a number, which is at this index. Takes no memory.
+    pub fn edit_at(&mut self, number: usize, row_index: usize, edit: RowEdit)
+        requires at { row_index_at self.old.places number ≡ Some row_index }
+        requires fits { RowFits edit (row_in self.old number) }
+        ensures edited { AreRowsEdited number edit (row_in self.old) (row_in self.new) }
+        ensures places { self.new.places ≡ self.old.places }
+    {
+        self.rows[row_index].edit(edit);
+    }
+
+    /// Puts the ends that hold the node of a row in order. Takes no memory.
+    pub fn order_entries(&mut self, number: usize)
+        ensures { AreRowsReordered (row_in self.old) (row_in self.new) }
+    {
+        if let Some(row_index) = row_index_in(&self.places, number) {
+            self.rows[row_index].order_entries();
+        }
+    }
+
+    /// Promises room for one more value of a feature, in the row of a number. Errs only if memory is refused; no value changes.
+    pub fn promise_at(
+        &mut self,
+        number: usize,
+        row_index: usize,
+        feature: FeatureNo,
+    ) -> Result<(), AllocError>
+        requires at { row_index_at self.old.places number ≡ Some row_index }
+        ensures grown { AreRowsGrown (row_in self.old) (row_in self.new) }
+        ensures places { self.new.places ≡ self.old.places }
+        ensures ok { OnOk result (row_indexes (row_in self.old number) feature + 1 ≤ row_indexes (row_in self.new number) feature) }
+    {
+        self.rows[row_index].promise(feature)
+    }
+
+    /// Promises room for one more end that holds a node, in the row of the node. Errs only if memory is refused; no end changes.
+    pub fn promise_entry_at(&mut self, number: usize, row_index: usize) -> Result<(), AllocError>
+        requires at { row_index_at self.old.places number ≡ Some row_index }
+        ensures grown { AreRowsGrown (row_in self.old) (row_in self.new) }
+        ensures places { self.new.places ≡ self.old.places }
+        ensures ok { OnOk result (row_entries (row_in self.old number) + 1 ≤ row_entries (row_in self.new number)) }
+    {
+        self.rows[row_index].promise_entry()
+    }
+
+    /// The index of the row of a number, which is made if there is none. No row is moved.
+    pub fn make_row(&mut self, number: usize) -> Result<usize, AllocError>
+        ensures grown { AreRowsGrown (row_in self.old) (row_in self.new) }
+        ensures unmoved { (n k : ℕ) → row_index_at self.old.places n ≡ Some k → row_index_at self.new.places n ≡ Some k }
+        ensures ok { IfOk result (λ k. row_index_at self.new.places number ≡ Some k) }
+    {
+        extend(&mut self.places, number)?;
+        match row_index_in(&self.places, number) {
+            Some(row_index) => Ok(row_index),
+            None => self.push_row(number),
+        }
+    }
+
+    /// Makes a row for a number that has none, and returns its index. The row comes first, so that no index is without its row
+    /// if memory is refused.
+    fn push_row(&mut self, number: usize) -> Result<usize, AllocError>
+        requires in_range { number < length self.old.places }
+        requires none { row_index_at self.old.places number ≡ None }
+        ensures grown { AreRowsGrown (row_in self.old) (row_in self.new) }
+        ensures unmoved { (n k : ℕ) → row_index_at self.old.places n ≡ Some k → row_index_at self.new.places n ≡ Some k }
+        ensures ok { IfOk result (λ k. row_index_at self.new.places number ≡ Some k) }
+    {
+        let row_index = self.rows.len();
+        if row_index >= u32::MAX as usize {
+            return Err(AllocError);
+        }
+        let alloc = *self.rows.allocator();
+        self.rows.push(Row::new(alloc))?;
+        self.places[number] = row_index as u32 + 1;
+        Ok(row_index)
+    }
+}
+
+/// The index of the row of a number; `None` if it has none.
+fn row_index_in(places: &[u32], number: usize) -> Option<usize>
+    ensures { result ≡ row_index_at places.now number }
+{
+    match *places.get(number)? {
+        0 => None,
+        above => Some(above as usize - 1),
+    }
+}
+
+/// Makes an entry for each number up to one. No number has a row more.
+fn extend(places: &mut Vec<u32>, number: usize) -> Result<(), AllocError>
+    ensures same { (n : ℕ) → row_index_at places.new.items n ≡ row_index_at places.old.items n }
+    ensures ok { OnOk result (number < vec_len places.new) }
+{
+    while places.len() <= number {
+        places.push(0)?;
+    }
+    Ok(())
+}
