@@ -30,7 +30,7 @@ pub fn each_value_is_read_as_it_was()
 
 /// The document of a resource is read as that resource: its objects in loading order, each with its class and with the values of
 /// the features that are set, objects of other resources as proxies of their addresses. So is the text that
-/// `saved_docs::write_doc` returns.
+/// `doc_writer::write_doc` returns.
 pub fn what_is_saved_is_read_back()
     ensures value { (s : Model) → ReadsBack s }
     ensures text { (s : Model) → ReadsTextBack s }

@@ -13,7 +13,7 @@ use Rattle.mm_types.proofs.SameLemmas.{same_end-self, same_node-true}
 use Rattle.links.proofs.PlaceLemmas.{ne-same_end, same_node_if}
 use Rattle.node_slots.specs.declared.row.RowEdit.TheVariants.{Leave}
 use Rattle.node_slots.specs.Cells.{Cells, cell_edit}
-pub use Rattle.node_rows.proofs.CellLemmas.{same_twice}
+pub use Rattle.node_slots.proofs.CellLemmas.{same_twice}
 use Rattle.slot_store.specs.EditedCells.{holds, released, without_entry}
 use Rattle.slot_store.proofs.OnceLemmas.{without_end}
 

@@ -11,8 +11,8 @@ use Rattle.link_store.proofs.PlacesLemmas.{rows_places_all}
 use Rattle.link_store.proofs.RowLemmas.{of_rows}
 use Rattle.link_store.proofs.row_store.RowStoreLinkStore.incoming.Goals as goal
 
-pub returns-clause-places : goal.returns-clause-places
-returns-clause-places c =
+pub returns-clause-entries : goal.returns-clause-entries
+returns-clause-entries c =
     let rows = c.args.self.now.rows.items in
     let v = value.Object c.args.object in
     let es = c.put_in_order.new.ends.items in

@@ -11,8 +11,8 @@ use Rattle.slot_store.specs.Entering.{found_in}
 use Rattle.slot_store.proofs.EnteringLemmas.{entering_places}
 use Rattle.slot_store.proofs.slot_store.SlotStoreLinkStore.incoming.Goals as goal
 
-pub returns-clause-places : goal.returns-clause-places
-returns-clause-places c =
+pub returns-clause-entries : goal.returns-clause-entries
+returns-clause-entries c =
     let t = c.args.self.now.rows in
     let search = found_in (cells t) (value.Object c.args.object) in
     let es = c.put_in_order.new.ends.items in
