@@ -14,6 +14,7 @@ ghost use Rattle.doc_loader.specs.Fits.{IsFitting};
 ghost use Rattle.doc_loader.specs.Loading.{loaded_values};
 ghost use Rattle.handshake.specs.Effects.{put_values, value_edits as value_edits_of};
 ghost use Rattle.handshake.specs.FeatureChanges.{destroyed_by, loaded_by, resolves_all, target_of};
+ghost use Rattle.handshake.specs.declared.change.Change.TheVariants.{Add, Set};
 
 use crate::change::Change;
 use crate::cuts::push_cuts;
@@ -119,25 +120,13 @@ fn made_edit<L: LinkStore>(model: &ModelRef<L>, change: &Change) -> Option<Edit>
             node,
             feature,
             value,
-        } => {
-            let end = at_end(node, feature);
-            match is_plain_set(model, end, value) {
-                true => None,
-                false => new_put(model, end, 0, value),
-            }
-        }
+        } => set_put(model, at_end(node, feature), value),
         Change::Add {
             node,
             feature,
             value,
             index,
-        } => {
-            let end = at_end(node, feature);
-            match is_plain_add(model, end, value) {
-                true => None,
-                false => new_put(model, end, model.position_for(end, *index), value),
-            }
-        }
+        } => add_put(model, at_end(node, feature), value, *index),
         Change::Move {
             node,
             feature,
@@ -149,6 +138,33 @@ fn made_edit<L: LinkStore>(model: &ModelRef<L>, change: &Change) -> Option<Edit>
             from: *from,
         }),
         _ => None,
+    }
+}
+
+/// The edit of a set of a reference, if the link is not there.
+fn set_put<L: LinkStore>(model: &ModelRef<L>, end: End, value: &Value) -> Option<Edit>
+    ensures { result ≡ e.made_edit (reading model.now) (Set end.node end.feature value.now) }
+{
+    if is_plain_set(model, end, value) {
+        None
+    } else {
+        new_put(model, end, 0, value)
+    }
+}
+
+/// The edit of an addition to a reference, if the list lacks the object.
+fn add_put<L: LinkStore>(
+    model: &ModelRef<L>,
+    end: End,
+    value: &Value,
+    index: Option<u32>,
+) -> Option<Edit>
+    ensures { result ≡ e.made_edit (reading model.now) (Add end.node end.feature value.now index) }
+{
+    if is_plain_add(model, end, value) {
+        None
+    } else {
+        new_put(model, end, model.position_for(end, index), value)
     }
 }
 
