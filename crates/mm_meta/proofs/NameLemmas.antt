@@ -1,8 +1,7 @@
 -- How a table of names goes on.
-use Rattle.std.proofs.Common.{◌≡◌, ◌∙◌, ◌+◌, ℕ, zero, suc, Bool, true, false, cond, List, [], ◌∷◌, ◌++◌, drop, length, map, Option, Some, None, ap, arith, refl, rules, sym, subst}
+use Rattle.std.proofs.Common.{◌≡◌, ◌∙◌, ◌+◌, ℕ, suc, Bool, true, false, cond, List, [], ◌∷◌, ◌++◌, length, map, Option, Some, None, ap, arith, refl, rules, sym, subst}
 use Rattle.std.specs.Prelude.{is_some, option_map, position}
-use Rattle.std.specs.List.{position_from, slice_get}
-use Rattle.std.specs.Map.{lookup}
+use Rattle.std.specs.List.{position_from}
 use Rattle.std.specs.Str.{bytes_eq}
 use Rattle.std.proofs.lemmas.Iterator.Adapters.{position_from-zero}
 use Rattle.std.proofs.lemmas.Slice.Eq.{bytes_eq-Decides}
@@ -66,9 +65,3 @@ position_from-map p f i (x ∷ xs) = ap (cond (p (f x)) (Some i)) (position_from
 -- the first position among what items have is that among the items
 pub position-map : {X Y : Type 0} (p : Y → Bool) (f : X → Y) (xs : List X) → position p (map f xs) ≡ position (λ x. p (f x)) xs
 position-map p f xs = position_from-zero p (map f xs) ∙ (position_from-map p f 0 xs ∙ sym (position_from-zero (λ x. p (f x)) xs))
-
--- an entry whose key is another is passed over
-pub lookup-drop : {K X : Type 0} (test : K → Bool) (es : List (K × X)) (i : ℕ) (e : K × X) → slice_get es i ≡ Some e → test e.0 ≡ false → lookup test (drop (i + 1) es) ≡ lookup test (drop i es)
-lookup-drop test [] i e there other = cc
-lookup-drop test (x ∷ es) zero e there other = let same : Some x ≡ Some e = there in cc
-lookup-drop test (x ∷ es) (suc i) e there other = let one_more : suc i + 1 ≡ suc (i + 1) = omega arith in rw one_more (lookup-drop test es i e there other)

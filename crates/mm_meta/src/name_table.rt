@@ -1,5 +1,5 @@
 //! Look-ups by name.
-ghost use Rattle.std.specs.Prelude.{◌≡◌, ◌∷◌, ◌++◌, [], ℕ, List, length, map, IfOk, OnOk, position, option_and_then, slice_get};
+ghost use Rattle.std.specs.Prelude.{◌≡◌, ◌∷◌, ◌++◌, [], ℕ, List, length, map, IfOk, IfSome, OnOk, Some, position, option_and_then, slice_get};
 ghost use Rattle.std.specs.Str.{bytes_eq};
 ghost use Rattle.indexmap.specs.IndexMap.{get_by_text};
 ghost use Rattle.mm_meta.specs.NameTable.{AreTablesOf, IsTableOf, position_in};
@@ -7,9 +7,6 @@ ghost use Rattle.mm_meta.specs.NameTable.{AreTablesOf, IsTableOf, position_in};
 use indexmap::IndexMap;
 use mm_types::{Class, Enumeration, Feature, RawClass, RawFeature, Text};
 use std::alloc::{AllocError, Global};
-
-/// The names of a table that has no more than these are compared one by one, which is faster than to hash the name.
-const FEW: usize = 16;
 
 /// What has a name.
 pub trait Named {
@@ -72,6 +69,9 @@ impl Named for Text {
 #[derive(Drop)]
 pub struct NameTable {
     positions: IndexMap<String, usize>,
+    /// At the slot of a name is the index in `positions` that is compared first, which is faster than to hash the name. A hint may be any
+    /// number: if the name is not there, the hash finds it.
+    hints: Vec<u32>,
 }
 
 impl NameTable {
@@ -80,6 +80,7 @@ impl NameTable {
     {
         NameTable {
             positions: IndexMap::new(alloc),
+            hints: Vec::new(alloc),
         }
     }
 
@@ -102,6 +103,7 @@ impl NameTable {
         'items: for (i, item) in items.iter().enumerate() {
             table.insert(alloc, item.name(), i)?;
         }
+        table.hints = hints_for(alloc, &table.positions)?;
         Ok(table)
     }
 
@@ -109,34 +111,61 @@ impl NameTable {
     pub fn position(&self, name: &str) -> Option<usize>
         ensures { (names : List (List ℕ)) → IsTableOf self.now names → result ≡ position (λ n. bytes_eq n name.now) names }
     {
-        if self.positions.len() > FEW {
-            self.hashed(name)
-        } else {
-            self.compared(name)
+        match self.hinted(name) {
+            Some(at) => Some(at),
+            None => self.hashed(name),
         }
     }
 
-    /// The first position of a name, which is found by its hash. It is apart, so that a search in a small table saves no registers for it.
+    /// The first position of a name, if its hint leads to the name.
+    fn hinted(&self, name: &str) -> Option<usize>
+        ensures { IfSome result (λ at. get_by_text self.now.positions name.now ≡ Some at) }
+    {
+        let hint = self.hints.get(slot_of(name, self.hints.len()))?;
+        let (key, at) = self.positions.get_index(*hint as usize)?;
+        if name == key.as_str() {
+            Some(*at)
+        } else {
+            None
+        }
+    }
+
+    /// The first position of a name, which is found by its hash. It is apart, so that a search by a hint saves no registers for it.
     #[cold]
     fn hashed(&self, name: &str) -> Option<usize>
         ensures { result ≡ get_by_text self.now.positions name.now }
     {
         self.positions.get(name).copied()
     }
+}
 
-    /// The first position of a name, with which each name is compared.
-    fn compared(&self, name: &str) -> Option<usize>
-        ensures { result ≡ get_by_text self.now.positions name.now }
-    {
-        'names: for index in 0..self.positions.len() {
-            if let Some((key, at)) = self.positions.get_index(index) {
-                if name == key.as_str() {
-                    return Some(*at);
+/// The hints of some names, two to four times as many as there are names. The first name of those with one slot has the hint there.
+fn hints_for(alloc: Global, positions: &IndexMap<String, usize>) -> Result<Vec<u32>, AllocError> {
+    let count = positions.len().min(u32::MAX as usize);
+    let mut hints = vec![in alloc; u32::MAX; (2 * count).next_power_of_two()]?;
+    for index in 0..count {
+        if let Some((name, _)) = positions.get_index(index) {
+            let slot = slot_of(name.as_str(), hints.len());
+            if let Some(hint) = hints.get_mut(slot) {
+                if *hint == u32::MAX {
+                    *hint = index as u32;
                 }
             }
         }
-        None
     }
+    Ok(hints)
+}
+
+/// Where the hint of a name is among so many hints, which are a power of two. The length and three bytes of the name tell most names apart.
+fn slot_of(name: &str, hints: usize) -> usize {
+    let bytes = name.as_bytes();
+    let len = bytes.len();
+    if len == 0 {
+        return 0;
+    }
+    let ends = bytes[0] as usize + bytes[len - 1] as usize;
+    let last_but_one = bytes[len.saturating_sub(2)] as usize;
+    (len + 7 * ends + 11 * last_but_one) & hints.wrapping_sub(1)
 }
 
 /// The first position of a name in the list of the table at an index.
