@@ -14,7 +14,7 @@ use Rattle.node_slots.specs.declared.row.Row.{Row}
 use Rattle.node_slots.specs.declared.row.RowEdit.{RowEdit}
 use Rattle.node_slots.specs.declared.row.RowEdit.TheVariants.{Change, Hold, Enter, Leave, ForgetEntries}
 use Rattle.node_slots.specs.declared.node_slots.NodeSlots.{NodeSlots}
-use Rattle.node_slots.specs.Rows.{AreRowsEdited, AreRowsGrown, AreRowsReordered, IsRowEdited, IsRowGrown, IsRowReordered, RowFits, entered_after, entries_taken, hold_after, is_row, places_taken, row_entered, row_entries, row_hold, row_pairing, row_indexes, row_vals, told_after, vals_after}
+use Rattle.node_slots.specs.Rows.{AreRowsEdited, AreRowsGrown, AreRowsReordered, IsRowEdited, IsRowGrown, IsRowReordered, RowFits, entered_after, entries_taken, hold_after, is_row, places_taken, row_entered, row_entries, row_hold, row_mixed, row_pairing, row_indexes, row_vals, told_after, vals_after}
 use Rattle.node_slots.specs.Tables.{Table, row_from, row_in}
 use Rattle.node_slots.specs.Cells.{AreReordered, Cells, Fits, KeepsRoom, cell_edit, cells, object_of, resource_of, room, row_at, row_index_of}
 use Rattle.node_slots.specs.Growth.{HasGained, no_ends, no_values, one_if}
@@ -47,6 +47,12 @@ module _ (t u : NodeSlots) (n : Node) (x : RowEdit) (here : IsRowEdited x (row_a
     | false ↦ λ q. let e = ap P (apart m q) in omega (arith, e)
   ] refl
 
+  mixed_kept : (e : End) → row_mixed (row_at u e.node) e.feature ≡ row_mixed (row_at t e.node) e.feature
+  mixed_kept e = elim (same_node n e.node) as (λ b. same_node n e.node ≡ b → row_mixed (row_at u e.node) e.feature ≡ row_mixed (row_at t e.node) e.feature) [
+    | true ↦ λ q. subst (λ (k : Node). row_mixed (row_at u k) e.feature ≡ row_mixed (row_at t k) e.feature) (same_node-true n e.node q) (here.mixed e.feature)
+    | false ↦ λ q. ap (λ (o : Option Row). row_mixed o e.feature) (apart e.node q)
+  ] refl
+
   rows_kept : (m : Node) → is_row (row_at u m) ≡ is_row (row_at t m)
   rows_kept m = elim (same_node n m) as (λ b. same_node n m ≡ b → is_row (row_at u m) ≡ is_row (row_at t m)) [
     | true ↦ λ q. subst (λ (k : Node). is_row (row_at u k) ≡ is_row (row_at t k)) (same_node-true n m q) here.kept
@@ -67,6 +73,7 @@ module _ (t u : NodeSlots) (n : Node) (x : RowEdit) (here : IsRowEdited x (row_a
   unfolding room
   room_edited = record {
     places = λ e. room_if (λ o. row_indexes o e.feature) (places_taken x e.feature) (here.places e.feature) e.node;
+    mixed = mixed_kept;
     entries = λ m. room_if row_entries (entries_taken x) here.entries m;
     rows = rows_kept;
   }
@@ -139,6 +146,7 @@ module _ (t u : NodeSlots) (each : (n : Node) → IsRowReordered (row_at t n) (r
   room_reordered = λ i.
       record {
         places = λ e. (each e.node).places e.feature i;
+        mixed = λ e. (each e.node).mixed e.feature i;
         entries = λ n. (each n).entries i;
         rows = λ n. (each n).kept i;
       }
@@ -161,6 +169,7 @@ module _ (t u : NodeSlots) (each : (n : Node) → IsRowGrown (row_at t n) (row_a
       | true ↦ λ q. subst (λ (y : End). row_indexes (row_at t y.node) y.feature + 1 ≤ row_indexes (row_at u y.node) y.feature) (same_end-true e x q) (subst (λ (k : Node). row_indexes (row_at t k) e.feature + 1 ≤ row_indexes (row_at u k) e.feature) (sym is) h)
       | false ↦ λ q. omega (arith, (each x.node).places x.feature)
     ] refl;
+    mixed = λ x. (each x.node).mixed x.feature;
     entries = λ m. omega (arith, (each m).entries);
   }
 
@@ -168,11 +177,17 @@ module _ (t u : NodeSlots) (each : (n : Node) → IsRowGrown (row_at t n) (row_a
   unfolding room
   promised_entry n h = record {
     places = λ x. omega (arith, (each x.node).places x.feature);
+    mixed = λ x. (each x.node).mixed x.feature;
     entries = λ m. elim (same_node n m) as (λ b. same_node n m ≡ b → row_entries (row_at t m) + one_if b ≤ row_entries (row_at u m)) [
       | true ↦ λ q. subst (λ (k : Node). row_entries (row_at t k) + 1 ≤ row_entries (row_at u k)) (same_node-true n m q) h
       | false ↦ λ q. omega (arith, (each m).entries)
     ] refl;
   }
+
+-- an end that was promised a place for any value may have any
+pub promised_mixed : (t : NodeSlots) (e : End) (n : Node) (b : Bool) → e.node ≡ n → (b ≡ true → row_mixed (row_at t n) e.feature ≡ true) → b ≡ true → (room t).mixed e ≡ true
+unfolding room
+promised_mixed t e n b is h q = subst (λ (k : Node). row_mixed (row_at t k) e.feature ≡ true) (sym is) (h q)
 
 pub same_twice : {X : Type 0} (b : Bool) (z : X) → (if b then z else z) ≡ z
 same_twice true z = refl
@@ -201,6 +216,7 @@ pub grown_room : (t u : NodeSlots) → ((n : Node) → IsRowGrown (row_at t n) (
 unfolding room
 grown_room t u each = record {
   places = λ x. omega (arith, (each x.node).places x.feature);
+  mixed = λ x. (each x.node).mixed x.feature;
   entries = λ m. omega (arith, (each m).entries);
 }
 

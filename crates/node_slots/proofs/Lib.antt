@@ -4,3 +4,5 @@ pub mod RowLemmas
 pub mod TableLemmas
 pub mod CellLemmas
 pub mod KeyLemmas
+pub mod TargetLemmas
+pub mod TakesLemmas

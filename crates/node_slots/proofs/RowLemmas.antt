@@ -13,7 +13,7 @@ use Rattle.node_slots.specs.declared.slot.SlotEdit.{SlotEdit}
 use Rattle.node_slots.specs.declared.row.Row.{Row}
 use Rattle.node_slots.specs.declared.row.RowEdit.{RowEdit}
 use Rattle.node_slots.specs.declared.row.RowEdit.TheVariants.{Change, Hold, Enter, Leave, ForgetEntries}
-use Rattle.node_slots.specs.Slots.{AreSlotsEdited, pairing_after, pairing_of, places_of, slot_in, taken, unpaired, values_after, values_of}
+use Rattle.node_slots.specs.Slots.{AreSlotsEdited, mixed_of, pairing_after, pairing_of, places_of, slot_in, taken, unpaired, values_after, values_of}
 use Rattle.node_slots.specs.Rows.{IsRowEdited, IsRowGrown, IsRowReordered, RowFits, row_entered, entered_after, hold_after, told_after, vals_after}
 use Rattle.node_slots.proofs.SlotLemmas.{nothing_after, nothing_told, same_slot}
 
@@ -31,6 +31,12 @@ module _ (f : FeatureNo) (x : SlotEdit) (old new : List Slot) (h : AreSlotsEdite
     | false ↦ λ q. let e = ap places_of (h.others g (λ e. false≢true (sym q ∙ eq-eqb f.0 g.0 e))) in omega (arith, e)
   ] refl
 
+  mixed_same : (g : FeatureNo) → mixed_of (slot_in new g) ≡ mixed_of (slot_in old g)
+  mixed_same g = elim (eqb f.0 g.0) as (λ b. eqb f.0 g.0 ≡ b → mixed_of (slot_in new g) ≡ mixed_of (slot_in old g)) [
+    | true ↦ λ q. rw (same_slot new f g (eqb-true f.0 g.0 q), same_slot old f g (eqb-true f.0 g.0 q)) h.here.mixed
+    | false ↦ λ q. ap mixed_of (h.others g (λ e. false≢true (sym q ∙ eq-eqb f.0 g.0 e)))
+  ] refl
+
 pub changed : (f : FeatureNo) (x : SlotEdit) (r s : Row) (e : RowEdit) → AreSlotsEdited f x r.slots.items s.slots.items → e ≡ Change f x → s.holder ≡ r.holder → s.entered ≡ r.entered → s.promised ≡ r.promised → IsRowEdited e (Some r) (Some s)
 changed f x r s e h is holder entered promised =
     let entries = ap (λ (ds : Places End). ds.spare) entered in
@@ -40,6 +46,7 @@ changed f x r s e h is holder entered promised =
       hold = holder;
       entered = ap (λ (ds : Places End). ds.items) entered;
       places = places_if f x r.slots.items s.slots.items h;
+      mixed = mixed_same f x r.slots.items s.slots.items h;
       entries = omega (arith, entries, promised);
       kept = refl;
     })
@@ -52,14 +59,15 @@ unmade x vals pairing hold entered = record {
   hold = hold;
   entered = entered;
   places = λ g. omega arith;
+  mixed = λ g. refl;
   entries = omega arith;
   kept = refl;
 }
 
 pub unedited_row : (x : RowEdit) (o : Option Row) → o ≡ None → RowFits x o → IsRowEdited x o o
 unedited_row (Change f y) None is fits =
-    unmade (Change f y) (λ g. elim (eqb f.0 g.0) as (λ b. [] ≡ (if b then values_after y [] else [])) [ true ↦ nothing_after y fits | false ↦ refl ])
-    (λ g. elim (eqb f.0 g.0) as (λ b. unpaired ≡ (if b then pairing_after y unpaired else unpaired)) [ true ↦ nothing_told y fits | false ↦ refl ]) refl refl
+    unmade (Change f y) (λ g. elim (eqb f.0 g.0) as (λ b. [] ≡ (if b then values_after y [] else [])) [ true ↦ nothing_after y fits.0 | false ↦ refl ])
+    (λ g. elim (eqb f.0 g.0) as (λ b. unpaired ≡ (if b then pairing_after y unpaired else unpaired)) [ true ↦ nothing_told y fits.0 | false ↦ refl ]) refl refl
 unedited_row (Hold (Some h)) None is fits = absurd (false≢true fits)
 unedited_row (Hold None) None is fits = unmade (Hold None) (λ g. refl) (λ g. refl) refl refl
 unedited_row (Enter d) None is fits = absurd (omega (arith, fits))
@@ -76,6 +84,7 @@ row_same o = record {
   hold = refl;
   entered = refl;
   places = λ g. omega arith;
+  mixed = λ g h. h;
   entries = omega arith;
 }
 
@@ -86,6 +95,7 @@ row_grown_twice o p q a b = record {
   hold = b.hold ∙ a.hold;
   entered = b.entered ∙ a.entered;
   places = λ g. omega (arith, a.places g, b.places g);
+  mixed = λ g h. b.mixed g (a.mixed g h);
   entries = omega (arith, a.entries, b.entries);
 }
 
@@ -96,6 +106,7 @@ row_reordered r s slots holder promised entered spare = record {
   hold = holder;
   entered = entered;
   places = λ g. ap (λ (ss : List Slot). places_of (slot_in ss g)) slots;
+  mixed = λ g. ap (λ (ss : List Slot). mixed_of (slot_in ss g)) slots;
   entries = omega (arith, promised, spare);
   kept = refl;
 }
@@ -107,6 +118,7 @@ row_unmoved o = record {
   hold = refl;
   entered = IsPermutation-refl (row_entered o);
   places = λ g. refl;
+  mixed = λ g. refl;
   entries = refl;
   kept = refl;
 }
@@ -119,5 +131,6 @@ row_made r slots holder entered = record {
   hold = holder;
   entered = entered;
   places = λ g. omega arith;
+  mixed = λ g h. absurd (false≢true h);
   entries = omega arith;
 }

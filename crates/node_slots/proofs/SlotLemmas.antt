@@ -12,7 +12,7 @@ use Rattle.mm_types.specs.declared.numbers.FeatureNo.{FeatureNo}
 use Rattle.node_slots.specs.declared.slot.Slot.{Slot}
 use Rattle.node_slots.specs.declared.slot.SlotEdit.{SlotEdit}
 use Rattle.node_slots.specs.declared.slot.SlotEdit.TheVariants.{Insert, Push, Remove, Move, Forget}
-use Rattle.node_slots.specs.Slots.{AreSlotsEdited, AreSlotsGrown, IsFeatureEdited, IsFeatureGrown, IsSlotEdited, pairing_after, places_of, slot_in, slot_places, taken, unpaired, values_after}
+use Rattle.node_slots.specs.Slots.{AreSlotsEdited, AreSlotsGrown, IsFeatureEdited, IsFeatureGrown, IsSlotEdited, mixed_of, pairing_after, places_of, slot_in, slot_places, taken, unpaired, values_after}
 use Rattle.node_slots.proofs.ListLemmas.{shifted_past}
 
 abbrev pub is_of : FeatureNo → Slot → Bool
@@ -111,6 +111,7 @@ module _ (ss : List Slot) (f : FeatureNo) (i : ℕ) (s t : Slot) (at : IsFirst s
       values = h.values;
       pairing = h.pairing;
       places = h.places;
+      mixed = h.mixed;
     }));
     others = λ g apart.
         written ss f i s t at (ap (λ (x : FeatureNo). x.0) h.feature ∙ its_feature) g
@@ -120,20 +121,24 @@ module _ (ss : List Slot) (f : FeatureNo) (i : ℕ) (s t : Slot) (at : IsFirst s
         ] refl;
   }
 
-  pub grown : t.feature ≡ s.feature → t.values.items ≡ s.values.items → t.pairing ≡ s.pairing → slot_places s ≤ slot_places t → AreSlotsGrown ss (set ss i t)
-  grown same values pairing places g =
+  pub grown : t.feature ≡ s.feature → t.values.items ≡ s.values.items → t.pairing ≡ s.pairing → slot_places s ≤ slot_places t → (s.values.mixed ≡ true → t.values.mixed ≡ true) → AreSlotsGrown ss (set ss i t)
+  grown same values pairing places mixed g =
       subst (λ (o : Option Slot). IsFeatureGrown (slot_in ss g) o) (sym (written ss f i s t at (ap (λ (x : FeatureNo). x.0) same ∙ its_feature) g))
       (elim (eqb f.0 g.0) as (λ b. eqb f.0 g.0 ≡ b → IsFeatureGrown (slot_in ss g) (if b then Some t else slot_in ss g)) [
         | true ↦ λ q. subst (λ (o : Option Slot). IsFeatureGrown o (Some t)) (sym (same_slot ss f g (eqb-true f.0 g.0 q) ∙ was)) (record {
           values = values;
           pairing = pairing;
           places = places;
+          mixed = mixed;
         })
-        | false ↦ λ q. record { values = refl; pairing = refl; places = omega arith }
+        | false ↦ λ q. record { values = refl; pairing = refl; places = omega arith; mixed = λ h. h }
       ] refl)
 
   pub places_now : t.feature ≡ s.feature → places_of (slot_in (set ss i t) f) ≡ slot_places t
   places_now same = ap places_of (is_now same)
+
+  pub mixed_now : t.feature ≡ s.feature → mixed_of (slot_in (set ss i t) f) ≡ t.values.mixed
+  mixed_now same = ap mixed_of (is_now same)
 
 -- without a slot only what puts a value in makes something
 pub nothing_after : (x : SlotEdit) → taken x ≤ 0 → [] ≡ values_after x []
@@ -151,7 +156,7 @@ nothing_told (Move to from) le = refl
 nothing_told (Forget n) le = refl
 
 none_edited : (x : SlotEdit) (o : Option Slot) → o ≡ None → taken x ≤ places_of o → IsFeatureEdited x o o
-none_edited x None is le = record { values = nothing_after x le; pairing = nothing_told x le; places = omega arith }
+none_edited x None is le = record { values = nothing_after x le; pairing = nothing_told x le; places = omega arith; mixed = refl }
 none_edited x (Some s) is le = cc
 
 pub unedited : (ss : List Slot) (f : FeatureNo) (x : SlotEdit) → slot_in ss f ≡ None → taken x ≤ places_of (slot_in ss f) → AreSlotsEdited f x ss ss
@@ -162,11 +167,11 @@ unedited ss f x none le = record { here = none_edited x (slot_in ss f) none le; 
 module _ (s : Slot) (none : s.values.items ≡ []) (told : s.pairing ≡ unpaired) where
   pub pushed : (ss : List Slot) → AreSlotsGrown ss (ss ++ s ∷ [])
   pushed [] g = elim (eqb s.feature.0 g.0) as (λ b. IsFeatureGrown None (if b then Some s else None)) [
-    | true ↦ record { values = none; pairing = told; places = omega arith }
-    | false ↦ record { values = refl; pairing = refl; places = omega arith }
+    | true ↦ record { values = none; pairing = told; places = omega arith; mixed = λ h. absurd (false≢true h) }
+    | false ↦ record { values = refl; pairing = refl; places = omega arith; mixed = λ h. h }
   ]
   pushed (x ∷ ss) g = elim (eqb x.feature.0 g.0) as (λ b. IsFeatureGrown (if b then Some x else slot_in ss g) (if b then Some x else slot_in (ss ++ s ∷ []) g)) [
-    | true ↦ record { values = refl; pairing = refl; places = omega arith }
+    | true ↦ record { values = refl; pairing = refl; places = omega arith; mixed = λ h. h }
     | false ↦ pushed ss g
   ]
 

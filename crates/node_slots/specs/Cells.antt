@@ -12,8 +12,8 @@ use Rattle.node_slots.specs.declared.row.Row.{Row}
 use Rattle.node_slots.specs.declared.row.RowEdit.{RowEdit}
 use Rattle.node_slots.specs.declared.row.RowEdit.TheVariants.{Change, Hold, Enter, Leave, ForgetEntries}
 use Rattle.node_slots.specs.declared.node_slots.NodeSlots.{NodeSlots}
-use Rattle.node_slots.specs.Slots.{taken, unpaired}
-use Rattle.node_slots.specs.Rows.{entered_after, entries_taken, hold_after, is_row, places_taken, row_entered, row_entries, row_hold, row_pairing, row_indexes, row_slots, row_vals, told_after, vals_after}
+use Rattle.node_slots.specs.Slots.{CanEdit, taken, unpaired}
+use Rattle.node_slots.specs.Rows.{entered_after, entries_taken, hold_after, is_row, places_taken, row_entered, row_entries, row_hold, row_mixed, row_pairing, row_indexes, row_slots, row_vals, told_after, vals_after}
 use Rattle.node_slots.specs.Tables.{Table, place_at, row_index_at, row_from, row_in}
 
 -- the values of each end, what puts told of its feature, the end that contains each node, and the ends with no opposite that hold it
@@ -27,9 +27,11 @@ pub record Cells : Type 0 where
 abbrev pub no_cells : Cells
 no_cells = record { vals = λ e. []; pairing = λ e. unpaired; hold = λ n. None; entered = λ n. [] }
 
--- how many values more are promised of each end, how many ends more of each node, with room for each, and which nodes have a row
+-- how many values more are promised of each end, and whether those may be other values than objects; how many ends more of each node, with
+-- room for each; and which nodes have a row
 pub record Room : Type 0 where
   pub places : End → ℕ
+  pub mixed : End → Bool
   pub entries : Node → ℕ
   pub rows : Node → Bool
 
@@ -57,6 +59,7 @@ unfoldable pub room : NodeSlots → Room
 room t =
     record {
       places = λ e. row_indexes (row_at t e.node) e.feature;
+      mixed = λ e. row_mixed (row_at t e.node) e.feature;
       entries = λ n. row_entries (row_at t n);
       rows = λ n. is_row (row_at t n);
     }
@@ -107,7 +110,7 @@ cell_edit n x c =
 
 -- there is room for what a change of the node n brings; only a node with a row is told its holder
 abbrev pub Fits : Node → RowEdit → Room → Type 0
-Fits n (Change f x) r = taken x ≤ r.places (record { node = n; feature = f })
+Fits n (Change f x) r = (taken x ≤ r.places (record { node = n; feature = f })) × CanEdit (r.mixed (record { node = n; feature = f })) x
 Fits n (Hold None) r = Unit {0}
 Fits n (Hold (Some d)) r = r.rows n ≡ true
 Fits n (Enter d) r = 1 ≤ r.entries n
@@ -117,5 +120,6 @@ Fits n (ForgetEntries k) r = k ≤ r.entries n
 -- the room is what it was, but for the places that a change of the node n takes
 pub record KeepsRoom (n : Node) (x : RowEdit) (old new : Room) : Type 0 where
   pub places : (e : End) → old.places e ≤ new.places e + (if same_node n e.node then places_taken x e.feature else zero)
+  pub mixed : (e : End) → new.mixed e ≡ old.mixed e
   pub entries : (m : Node) → old.entries m ≤ new.entries m + (if same_node n m then entries_taken x else zero)
   pub rows : (m : Node) → new.rows m ≡ old.rows m

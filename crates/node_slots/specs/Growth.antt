@@ -1,5 +1,5 @@
 -- How much room a plan takes.
-use Rattle.std.specs.Prelude.{ℕ, ◌+◌, ◌≤◌, Bool, true, false, List, sum_by, Option, Some, None}
+use Rattle.std.specs.Prelude.{◌≡◌, ℕ, ◌+◌, ◌≤◌, Bool, true, false, List, [], ◌∷◌, sum_by, Option, Some, None}
 use Rattle.mm_types.specs.Same.{same_end, same_node}
 use Rattle.mm_types.specs.declared.numbers.FeatureNo.{FeatureNo}
 use Rattle.mm_types.specs.declared.numbers.ObjectNo.{ObjectNo}
@@ -45,14 +45,28 @@ gains plan x = sum_by (gain x) plan
 abbrev pub entries : List Edit → Node → ℕ
 entries plan n = sum_by (entry n) plan
 
+-- an end that a proxy is put into may have other values than objects
+abbrev pub Takes : Room → Edit → Type 0
+Takes r (edit.Cut e o) = Unit {0}
+Takes r (edit.Put e i o g c) = Unit {0}
+Takes r (edit.Shift e to from) = Unit {0}
+Takes r (edit.PutProxy e i t) = r.mixed e ≡ true
+Takes r (edit.CutProxy e t) = Unit {0}
+
+abbrev pub TakesAll : Room → List Edit → Type 0
+TakesAll r [] = Unit {0}
+TakesAll r (x ∷ xs) = Takes r x × TakesAll r xs
+
 -- there are places for all that a plan adds
 pub record HasRoom (r : Room) (plan : List Edit) : Type 0 where
   pub places : (e : End) → gains plan e ≤ r.places e
+  pub takes : TakesAll r plan
   pub entries : (n : Node) → entries plan n ≤ r.entries n
 
 -- so many more values and ends have places
 pub record HasGained (values : End → ℕ) (ends : Node → ℕ) (old new : Room) : Type 0 where
   pub places : (e : End) → old.places e + values e ≤ new.places e
+  pub mixed : (e : End) → old.mixed e ≡ true → new.mixed e ≡ true
   pub entries : (n : Node) → old.entries n + ends n ≤ new.entries n
 
 abbrev pub no_values : End → ℕ

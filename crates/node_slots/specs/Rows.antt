@@ -9,7 +9,7 @@ use Rattle.node_slots.specs.declared.slot.Slot.{Slot}
 use Rattle.node_slots.specs.declared.row.Row.{Row}
 use Rattle.node_slots.specs.declared.row.RowEdit.{RowEdit}
 use Rattle.node_slots.specs.declared.row.RowEdit.TheVariants.{Change, Hold, Enter, Leave, ForgetEntries}
-use Rattle.node_slots.specs.Slots.{pairing_after, pairing_of, places_of, slot_in, taken, values_after, values_of}
+use Rattle.node_slots.specs.Slots.{CanEdit, mixed_of, pairing_after, pairing_of, places_of, slot_in, taken, values_after, values_of}
 
 ---------------------------------------------------------------- what a row says
 
@@ -37,6 +37,10 @@ row_entered (Some r) = r.entered.items
 -- how many values more may come at a feature with no memory taken
 abbrev pub row_indexes : Option Row → FeatureNo → ℕ
 row_indexes o f = places_of (row_slot o f)
+
+-- whether those may be other values than objects
+abbrev pub row_mixed : Option Row → FeatureNo → Bool
+row_mixed o f = mixed_of (row_slot o f)
 
 -- and how many ends more that hold the node
 abbrev pub row_entries : Option Row → ℕ
@@ -97,7 +101,7 @@ entries_taken (ForgetEntries n) = n
 
 -- there is room for what the change brings; only a node with a row is told its holder
 abbrev pub RowFits : RowEdit → Option Row → Type 0
-RowFits (Change f x) o = taken x ≤ row_indexes o f
+RowFits (Change f x) o = (taken x ≤ row_indexes o f) × CanEdit (row_mixed o f) x
 RowFits (Hold None) o = Unit {0}
 RowFits (Hold (Some d)) o = is_row o ≡ true
 RowFits (Enter d) o = 1 ≤ row_entries o
@@ -110,6 +114,7 @@ pub record IsRowEdited (x : RowEdit) (old new : Option Row) : Type 0 where
   pub hold : row_hold new ≡ hold_after x (row_hold old)
   pub entered : row_entered new ≡ entered_after x (row_entered old)
   pub places : (g : FeatureNo) → row_indexes old g ≤ row_indexes new g + places_taken x g
+  pub mixed : (g : FeatureNo) → row_mixed new g ≡ row_mixed old g
   pub entries : row_entries old ≤ row_entries new + entries_taken x
   pub kept : is_row new ≡ is_row old
 
@@ -125,6 +130,7 @@ pub record IsRowGrown (old new : Option Row) : Type 0 where
   pub hold : row_hold new ≡ row_hold old
   pub entered : row_entered new ≡ row_entered old
   pub places : (g : FeatureNo) → row_indexes old g ≤ row_indexes new g
+  pub mixed : (g : FeatureNo) → row_mixed old g ≡ true → row_mixed new g ≡ true
   pub entries : row_entries old ≤ row_entries new
 
 abbrev pub AreRowsGrown : (ℕ → Option Row) → (ℕ → Option Row) → Type 0
@@ -137,6 +143,7 @@ pub record IsRowReordered (old new : Option Row) : Type 0 where
   pub hold : row_hold new ≡ row_hold old
   pub entered : IsPermutation (row_entered old) (row_entered new)
   pub places : (g : FeatureNo) → row_indexes new g ≡ row_indexes old g
+  pub mixed : (g : FeatureNo) → row_mixed new g ≡ row_mixed old g
   pub entries : row_entries new ≡ row_entries old
   pub kept : is_row new ≡ is_row old
 

@@ -1,9 +1,10 @@
 -- The values of a node's features, and what one change makes of them.
-use Rattle.std.specs.Prelude.{◌≡◌, ℕ, ◌+◌, ◌≤◌, List, [], ◌∷◌, ◌++◌, insert, min, remove, Option, Some, None, unwrap_or, if◌then◌else◌}
+use Rattle.std.specs.Prelude.{◌≡◌, ℕ, ◌+◌, ◌≤◌, Bool, true, false, List, [], ◌∷◌, ◌++◌, insert, min, remove, Option, Some, None, unwrap_or, if◌then◌else◌}
 use Rattle.mm_types.specs.Lists.{shifted}
 use Rattle.mm_types.specs.Same.{same_feature}
 use Rattle.mm_types.specs.declared.numbers.FeatureNo.{FeatureNo}
 use Rattle.mm_types.specs.declared.value.Value.{Value}
+use Rattle.node_slots.specs.Targets.{CanHave}
 use Rattle.node_slots.specs.declared.slot.Pairing.{Pairing}
 use Rattle.node_slots.specs.declared.slot.Slot.{Slot}
 use Rattle.node_slots.specs.declared.slot.SlotEdit.{SlotEdit}
@@ -37,6 +38,14 @@ taken (Remove i) = 0
 taken (Move to from) = 0
 taken (Forget n) = n
 
+-- a list may be changed so, where it may have other values than objects or not
+abbrev pub CanEdit : Bool → SlotEdit → Type 0
+CanEdit mixed (Insert i v p) = CanHave mixed v
+CanEdit mixed (Push v p) = CanHave mixed v
+CanEdit mixed (Remove i) = Unit {0}
+CanEdit mixed (Move to from) = Unit {0}
+CanEdit mixed (Forget n) = Unit {0}
+
 -- how many values more are promised, and have room
 abbrev pub slot_places : Slot → ℕ
 slot_places s = min s.promised s.values.spare
@@ -47,6 +56,7 @@ pub record IsSlotEdited (x : SlotEdit) (old new : Slot) : Type 0 where
   pub values : new.values.items ≡ values_after x old.values.items
   pub pairing : new.pairing ≡ pairing_after x old.pairing
   pub places : slot_places old ≤ slot_places new + taken x
+  pub mixed : new.values.mixed ≡ old.values.mixed
 
 ---------------------------------------------------------------- the slots of a node
 
@@ -68,11 +78,17 @@ abbrev pub places_of : Option Slot → ℕ
 places_of None = 0
 places_of (Some s) = slot_places s
 
+-- whether a feature may have other values than objects
+abbrev pub mixed_of : Option Slot → Bool
+mixed_of None = false
+mixed_of (Some s) = s.values.mixed
+
 -- a feature is changed, where it has a slot or not
 pub record IsFeatureEdited (x : SlotEdit) (old new : Option Slot) : Type 0 where
   pub values : values_of new ≡ values_after x (values_of old)
   pub pairing : pairing_of new ≡ pairing_after x (pairing_of old)
   pub places : places_of old ≤ places_of new + taken x
+  pub mixed : mixed_of new ≡ mixed_of old
 
 -- the feature f is changed, and no other
 pub record AreSlotsEdited (f : FeatureNo) (x : SlotEdit) (old new : List Slot) : Type 0 where
@@ -84,6 +100,7 @@ pub record IsFeatureGrown (old new : Option Slot) : Type 0 where
   pub values : values_of new ≡ values_of old
   pub pairing : pairing_of new ≡ pairing_of old
   pub places : places_of old ≤ places_of new
+  pub mixed : mixed_of old ≡ true → mixed_of new ≡ true
 
 abbrev pub AreSlotsGrown : List Slot → List Slot → Type 0
 AreSlotsGrown old new = (g : FeatureNo) → IsFeatureGrown (slot_in old g) (slot_in new g)

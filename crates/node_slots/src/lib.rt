@@ -9,8 +9,10 @@ mod order;
 mod row;
 mod row_table;
 mod slot;
+mod targets;
 
 pub use node_slots::{NodeSlots, PutPlaces};
 pub use order::entry_rank;
 pub use row::{Row, RowEdit};
 pub use slot::{Pairing, Slot, SlotEdit};
+pub use targets::TargetList;

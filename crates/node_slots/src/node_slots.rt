@@ -1,8 +1,10 @@
 //! The rows of all nodes.
-ghost use Rattle.std.specs.Prelude.{◌≡◌, [], length, option_copied, position, slice_get, true, Some};
+ghost use Rattle.std.specs.Prelude.{◌≡◌, [], length, option_and_then, option_copied, position, slice_get, true, Some};
 ghost use Rattle.mm_types.specs.Same.{same_end, same_value};
 ghost use Rattle.mm_types.specs.declared.numbers.Node.{Node};
+ghost use Rattle.links.specs.Links.{object_of, text_of};
 ghost use Rattle.node_slots.specs.Rows.{row_slot, row_slots};
+ghost use Rattle.node_slots.specs.Targets.{is_value};
 ghost use Rattle.node_slots.specs.Cells.{AreReordered, Fits, KeepsRoom, cell_edit, cells, ends_of, no_cells, room, row_at, row_index_of};
 
 mod growth;
@@ -11,7 +13,7 @@ use crate::row::{Row, RowEdit};
 use crate::row_table::RowTable;
 use crate::slot::{Pairing, Slot};
 pub use growth::PutPlaces;
-use mm_types::{End, Node, Value};
+use mm_types::{End, Node, ObjectNo, Value};
 use std::alloc::Global;
 
 /// A row for each node that was promised room for a value, or for an end that holds it.
@@ -71,12 +73,31 @@ impl NodeSlots {
         }
     }
 
-    /// The value at an index of an end; `None` past the last.
+    /// The object at an index of an end; `None` past the last, and if no object is there.
     #[tactic(auto, unfolding(crate::specs::Cells::cells))]
-    pub fn at(&self, end: End, index: usize) -> Option<&Value>
-        ensures { option_copied result ≡ slice_get ((cells self.now).vals end) index }
+    pub fn object_at(&self, end: End, index: usize) -> Option<ObjectNo>
+        ensures { result ≡ option_and_then object_of (slice_get ((cells self.now).vals end) index) }
     {
-        self.slot(end)?.values.get(index)
+        self.slot(end)?.values.object_at(index)
+    }
+
+    /// The text of the proxy at an index of an end; `None` past the last, and if no proxy is there.
+    #[tactic(auto, unfolding(crate::specs::Cells::cells))]
+    pub fn text_at(&self, end: End, index: usize) -> Option<&str>
+        ensures { option_copied result ≡ option_and_then text_of (slice_get ((cells self.now).vals end) index) }
+    {
+        self.slot(end)?.values.text_at(index)
+    }
+
+    /// Whether a value is at an index of an end.
+    #[tactic(auto, unfolding(crate::specs::Cells::cells))]
+    pub fn is_at(&self, end: End, index: usize, value: &Value) -> bool
+        ensures { result ≡ is_value value.now (slice_get ((cells self.now).vals end) index) }
+    {
+        match self.slot(end) {
+            Some(slot) => slot.values.is_at(index, value),
+            None => false,
+        }
     }
 
     /// The index of a value in an end; `None` if it is not there.
@@ -157,7 +178,8 @@ impl NodeSlots {
         }
     }
 
-    /// Makes one change of a node. Takes no memory.
+    /// Makes one change of a node, for which there is room. Takes no memory. An end takes an object always, and a proxy only if it may
+    /// have other values than objects. `reserve_for` made that so for each proxy of its plan, and the change is of that plan.
     pub fn edit(&mut self, node: Node, edit: RowEdit)
         requires { Fits node edit (room self.old) }
         ensures cells { cells self.new ≡ cell_edit node edit (cells self.old) }
@@ -169,7 +191,8 @@ impl NodeSlots {
         }
     }
 
-    /// Makes one change of a node, whose row is at an index. Takes no memory, and moves no row.
+    /// Makes one change of a node, for which there is room, as `edit` does. The row of the node is at an index. Takes no memory, and
+    /// moves no row.
     pub fn edit_at(&mut self, node: Node, row_index: usize, edit: RowEdit)
         requires at { row_index_of self.old node ≡ Some row_index }
         requires fits { Fits node edit (room self.old) }

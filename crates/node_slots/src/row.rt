@@ -1,11 +1,12 @@
 //! What is kept of one node.
-ghost use Rattle.std.specs.Prelude.{◌≡◌, ℕ, ◌+◌, ◌≤◌, ◌<◌, [], ◌∷◌, ◌++◌, is_ok, length, option_copied, position, if◌then◌else◌, IfOk, None, OnOk, Some};
+ghost use Rattle.std.specs.Prelude.{◌≡◌, true, ℕ, ◌+◌, ◌≤◌, ◌<◌, [], ◌∷◌, ◌++◌, is_ok, length, option_copied, position, if◌then◌else◌, IfOk, None, OnOk, Some};
+ghost use Rattle.std.specs.List.{remove};
 ghost use Rattle.mm_types.specs.Same.{same_feature};
-ghost use Rattle.node_slots.specs.Slots.{AreSlotsEdited, AreSlotsGrown, places_of, slot_in, taken};
+ghost use Rattle.node_slots.specs.Slots.{AreSlotsEdited, AreSlotsGrown, CanEdit, mixed_of, places_of, slot_in, taken};
 ghost use Rattle.node_slots.specs.Rows.{IsRowEdited, IsRowGrown, IsRowReordered, RowFits, row_entries};
 
 use crate::order::put_in_order;
-use crate::slot::{Slot, SlotEdit, push_on, remove_from};
+use crate::slot::{Slot, SlotEdit};
 use mm_types::{End, FeatureNo};
 use slot_lists::ShortList;
 use std::alloc::{AllocError, Global};
@@ -63,7 +64,8 @@ impl Row {
         }
     }
 
-    /// Makes one change. Takes no memory.
+    /// Makes one change, for which `promise` made room. Takes no memory. A value that is put in is an object, unless the promise was of
+    /// room for any value.
     pub fn edit(&mut self, edit: RowEdit)
         requires { RowFits edit (Some self.old) }
         ensures { IsRowEdited edit (Some self.old) (Some self.new) }
@@ -87,13 +89,14 @@ impl Row {
         put_in_order(&mut self.entered);
     }
 
-    /// Promises room for one more value of a feature. Errs only if memory is refused; no value changes.
-    pub fn promise(&mut self, feature: FeatureNo) -> Result<(), AllocError>
+    /// Promises room for one more value of a feature, for an object or for any value. Errs only if memory is refused; no value changes.
+    pub fn promise(&mut self, feature: FeatureNo, is_mixed: bool) -> Result<(), AllocError>
         ensures grown { IsRowGrown (Some self.old) (Some self.new) }
         ensures ok { OnOk result (places_of (slot_in self.old.slots.items feature) + 1 ≤ places_of (slot_in self.new.slots.items feature)) }
+        ensures takes { OnOk result (is_mixed ≡ true → mixed_of (slot_in self.new.slots.items feature) ≡ true) }
     {
         add_slot(&mut self.slots, feature)?;
-        promise_in(&mut self.slots, feature)
+        promise_in(&mut self.slots, feature, is_mixed)
     }
 
     /// How many ends more that hold the node come with no memory taken: those that are promised room, and have it.
@@ -128,7 +131,8 @@ fn slot_index(slots: &[Slot], feature: FeatureNo) -> Option<usize>
 
 /// Changes the values of a feature.
 fn edit_slot(slots: &mut Vec<Slot>, feature: FeatureNo, edit: SlotEdit)
-    requires { taken edit ≤ places_of (slot_in slots.old.items feature) }
+    requires places { taken edit ≤ places_of (slot_in slots.old.items feature) }
+    requires can { CanEdit (mixed_of (slot_in slots.old.items feature)) edit }
     ensures { AreSlotsEdited feature edit slots.old.items slots.new.items }
 {
     match slot_index(slots, feature) {
@@ -159,16 +163,36 @@ fn add_slot(slots: &mut Vec<Slot>, feature: FeatureNo) -> Result<(), AllocError>
 }
 
 /// Promises room for one more value in the slot of a feature.
-fn promise_in(slots: &mut Vec<Slot>, feature: FeatureNo) -> Result<(), AllocError>
+fn promise_in(slots: &mut Vec<Slot>, feature: FeatureNo, is_mixed: bool) -> Result<(), AllocError>
     requires { (slot_in slots.old.items feature ≡ None) → ⊥ }
     ensures grown { AreSlotsGrown slots.old.items slots.new.items }
     ensures ok { OnOk result (places_of (slot_in slots.old.items feature) + 1 ≤ places_of (slot_in slots.new.items feature)) }
+    ensures takes { OnOk result (is_mixed ≡ true → mixed_of (slot_in slots.new.items feature) ≡ true) }
 {
     match slot_index(slots, feature) {
         Some(index) => {
             let alloc = *slots.allocator();
-            slots[index].promise(alloc)
+            slots[index].promise(alloc, is_mixed)
         }
         None => unreachable!(),
+    }
+}
+
+/// Puts an end in last, for which there is room.
+fn push_on(ends: &mut ShortList<End>, end: End)
+    requires { 1 ≤ ends.old.spare }
+    ensures items { ends.new.items ≡ ends.old.items ++ end ∷ [] }
+    ensures places { ends.old.spare ≤ ends.new.spare + 1 }
+{
+    ends.insert(ends.len(), end);
+}
+
+/// Takes an end out; past the last nothing changes.
+fn remove_from(ends: &mut ShortList<End>, index: usize)
+    ensures items { ends.new.items ≡ remove ends.old.items index }
+    ensures places { ends.old.spare ≤ ends.new.spare }
+{
+    if index < ends.len() {
+        ends.remove(index);
     }
 }

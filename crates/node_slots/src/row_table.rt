@@ -1,6 +1,6 @@
 //! The rows of some numbers, each found by its number.
-ghost use Rattle.std.specs.Prelude.{◌≡◌, ℕ, ◌+◌, ◌<◌, ◌≤◌, [], length, option_copied, vec_len, None, Some, IfOk, OnOk};
-ghost use Rattle.node_slots.specs.Rows.{AreRowsEdited, AreRowsGrown, AreRowsReordered, RowFits, row_entries, row_indexes};
+ghost use Rattle.std.specs.Prelude.{◌≡◌, true, ℕ, ◌+◌, ◌<◌, ◌≤◌, [], length, option_copied, vec_len, None, Some, IfOk, OnOk};
+ghost use Rattle.node_slots.specs.Rows.{AreRowsEdited, AreRowsGrown, AreRowsReordered, RowFits, row_entries, row_mixed, row_indexes};
 ghost use Rattle.node_slots.specs.Tables.{row_index_at, row_in};
 
 use crate::row::{Row, RowEdit};
@@ -73,19 +73,22 @@ impl RowTable {
         }
     }
 
-    /// Promises room for one more value of a feature, in the row of a number. Errs only if memory is refused; no value changes.
+    /// Promises room for one more value of a feature, for an object or for any value, in the row of a number. Errs only if memory is
+    /// refused; no value changes.
     pub fn promise_at(
         &mut self,
         number: usize,
         row_index: usize,
         feature: FeatureNo,
+        is_mixed: bool,
     ) -> Result<(), AllocError>
         requires at { row_index_at self.old.places number ≡ Some row_index }
         ensures grown { AreRowsGrown (row_in self.old) (row_in self.new) }
         ensures places { self.new.places ≡ self.old.places }
         ensures ok { OnOk result (row_indexes (row_in self.old number) feature + 1 ≤ row_indexes (row_in self.new number) feature) }
+        ensures takes { OnOk result (is_mixed ≡ true → row_mixed (row_in self.new number) feature ≡ true) }
     {
-        self.rows[row_index].promise(feature)
+        self.rows[row_index].promise(feature, is_mixed)
     }
 
     /// Promises room for one more end that holds a node, in the row of the node. Errs only if memory is refused; no end changes.

@@ -1,11 +1,12 @@
 //! The values of one end.
-ghost use Rattle.std.specs.Prelude.{◌≡◌, ◌+◌, ◌≤◌, [], ◌∷◌, ◌++◌, OnOk};
+ghost use Rattle.std.specs.Prelude.{◌≡◌, true, ◌+◌, ◌≤◌, [], ◌∷◌, ◌++◌, OnOk};
 ghost use Rattle.std.specs.List.{insert, remove};
 ghost use Rattle.mm_types.specs.Lists.{shifted};
-ghost use Rattle.node_slots.specs.Slots.{IsSlotEdited, slot_places, taken, unpaired};
+ghost use Rattle.node_slots.specs.Targets.{CanHave};
+ghost use Rattle.node_slots.specs.Slots.{CanEdit, IsSlotEdited, slot_places, taken, unpaired};
 
+use crate::targets::TargetList;
 use mm_types::{FeatureNo, Value};
-use slot_lists::ShortList;
 use std::alloc::{AllocError, Global};
 
 /// What a put tells of a feature.
@@ -52,7 +53,7 @@ pub struct Slot {
     pub feature: FeatureNo,
     /// As the last put of an object told; neither opposite nor container if none was put.
     pub pairing: Pairing,
-    pub values: ShortList<Value>,
+    pub values: TargetList,
     /// How many values more are promised room.
     pub promised: usize,
 }
@@ -70,7 +71,7 @@ impl Slot {
                 opposite: None,
                 container: None,
             },
-            values: ShortList::new(),
+            values: TargetList::new(),
             promised: 0,
         }
     }
@@ -82,26 +83,30 @@ impl Slot {
         self.promised.min(self.values.spare())
     }
 
-    /// Promises room for one more value. Errs only if memory is refused; no value changes.
-    pub fn promise(&mut self, alloc: Global) -> Result<(), AllocError>
+    /// Promises room for one more value, for an object or for any value. Errs only if memory is refused; no value changes.
+    pub fn promise(&mut self, alloc: Global, is_mixed: bool) -> Result<(), AllocError>
         ensures feature { self.new.feature ≡ self.old.feature }
         ensures values { self.new.values.items ≡ self.old.values.items }
         ensures pairing { self.new.pairing ≡ self.old.pairing }
         ensures places { slot_places self.old ≤ slot_places self.new }
+        ensures mixed { self.old.values.mixed ≡ true → self.new.values.mixed ≡ true }
         ensures ok { OnOk result (slot_places self.old + 1 ≤ slot_places self.new) }
+        ensures takes { OnOk result (is_mixed ≡ true → self.new.values.mixed ≡ true) }
     {
         if self.promised == usize::MAX {
             return Err(AllocError);
         }
         let promised = self.promised + 1;
-        self.values.reserve(alloc, promised)?;
+        make_places(&mut self.values, alloc, promised, is_mixed)?;
         self.promised = promised;
         Ok(())
     }
 
-    /// Makes one change. Takes no memory.
+    /// Makes one change, for which `promise` made room. Takes no memory. A value that is put in is an object, unless the promise was of
+    /// room for any value.
     pub fn edit(&mut self, edit: SlotEdit)
-        requires { taken edit ≤ slot_places self.old }
+        requires places { taken edit ≤ slot_places self.old }
+        requires can { CanEdit self.old.values.mixed edit }
         ensures { IsSlotEdited edit self.old self.new }
     {
         match edit {
@@ -115,48 +120,73 @@ impl Slot {
                 self.promised -= 1;
             }
             SlotEdit::Push { value, pairing } => {
-                push_on(&mut self.values, value);
+                push_in(&mut self.values, value);
                 self.pairing = pairing;
                 self.promised -= 1;
             }
-            SlotEdit::Remove { index } => remove_from(&mut self.values, index),
+            SlotEdit::Remove { index } => remove_value(&mut self.values, index),
             SlotEdit::Move { to, from } => move_in(&mut self.values, to, from),
             SlotEdit::Forget { places } => self.promised -= places,
         }
     }
 }
 
+/// Makes places for values, for objects or for any. Errs only if memory is refused; no value changes.
+fn make_places(
+    values: &mut TargetList,
+    alloc: Global,
+    places: usize,
+    is_mixed: bool,
+) -> Result<(), AllocError>
+    ensures items { values.new.items ≡ values.old.items }
+    ensures spare { values.old.spare ≤ values.new.spare }
+    ensures mixed { values.old.mixed ≡ true → values.new.mixed ≡ true }
+    ensures ok { OnOk result (places ≤ values.new.spare) }
+    ensures takes { OnOk result (is_mixed ≡ true → values.new.mixed ≡ true) }
+{
+    if is_mixed {
+        values.mix(alloc)?;
+    }
+    values.reserve(alloc, places)
+}
+
 /// Puts a value in, for which there is room.
-fn insert_in<T: Drop>(values: &mut ShortList<T>, index: usize, value: T)
-    requires { 1 ≤ values.old.spare }
+fn insert_in(values: &mut TargetList, index: usize, value: Value)
+    requires room { 1 ≤ values.old.spare }
+    requires can { CanHave values.old.mixed value }
     ensures items { values.new.items ≡ insert values.old.items index value }
     ensures places { values.old.spare ≤ values.new.spare + 1 }
+    ensures mixed { values.new.mixed ≡ values.old.mixed }
 {
     values.insert(index.min(values.len()), value);
 }
 
 /// Puts a value in last, for which there is room.
-pub(crate) fn push_on<T: Drop>(values: &mut ShortList<T>, value: T)
-    requires { 1 ≤ values.old.spare }
+fn push_in(values: &mut TargetList, value: Value)
+    requires room { 1 ≤ values.old.spare }
+    requires can { CanHave values.old.mixed value }
     ensures items { values.new.items ≡ values.old.items ++ value ∷ [] }
     ensures places { values.old.spare ≤ values.new.spare + 1 }
+    ensures mixed { values.new.mixed ≡ values.old.mixed }
 {
     insert_in(values, values.len(), value);
 }
 
 /// Takes a value out; past the end nothing changes.
-pub(crate) fn remove_from<T: Drop>(values: &mut ShortList<T>, index: usize)
+fn remove_value(values: &mut TargetList, index: usize)
     ensures items { values.new.items ≡ remove values.old.items index }
     ensures places { values.old.spare ≤ values.new.spare }
+    ensures mixed { values.new.mixed ≡ values.old.mixed }
 {
     if index < values.len() {
         values.remove(index);
     }
 }
 
-fn move_in(values: &mut ShortList<Value>, to: usize, from: usize)
+fn move_in(values: &mut TargetList, to: usize, from: usize)
     ensures items { values.new.items ≡ shifted values.old.items to from }
     ensures places { values.old.spare ≤ values.new.spare }
+    ensures mixed { values.new.mixed ≡ values.old.mixed }
 {
     let len = values.len();
     if from < len {

@@ -1,11 +1,11 @@
 //! Room for edits, which is made before they are.
-ghost use Rattle.std.specs.Prelude.{◌≡◌, ℕ, [], ◌∷◌, IfOk, OnOk, Some};
+ghost use Rattle.std.specs.Prelude.{◌≡◌, true, ℕ, [], ◌∷◌, IfOk, OnOk, Some};
 ghost use Rattle.mm_types.specs.Same.{same_end};
 ghost use Rattle.mm_types.specs.declared.numbers.Node.{Node};
 ghost use Rattle.mm_types.specs.declared.numbers.Node.TheVariants as node;
 ghost use Rattle.links.specs.Plans.{put_edit};
 ghost use Rattle.node_slots.specs.Cells.{cells, room, row_index_of};
-ghost use Rattle.node_slots.specs.Growth.{HasGained, HasRoom, entry, far_gain, gain, lone_entry, no_ends, no_values, one_if};
+ghost use Rattle.node_slots.specs.Growth.{HasGained, HasRoom, Takes, entry, far_gain, gain, lone_entry, no_ends, no_values, one_if};
 
 use super::NodeSlots;
 use crate::row::RowEdit;
@@ -113,21 +113,22 @@ impl NodeSlots {
         }
     }
 
-    /// Promises room for one more value of an end, in the row of the end's node.
-    fn promise_at(&mut self, end: End, row_index: usize) -> Result<(), AllocError>
+    /// Promises room for one more value of an end, for an object or for any value, in the row of the end's node.
+    fn promise_at(&mut self, end: End, row_index: usize, is_mixed: bool) -> Result<(), AllocError>
         requires at { row_index_of self.old end.node ≡ Some row_index }
         ensures cells { cells self.new ≡ cells self.old }
         ensures places { (n : Node) → row_index_of self.new n ≡ row_index_of self.old n }
         ensures ok { OnOk result (HasGained (λ e. one_if (same_end end e)) no_ends (room self.old) (room self.new)) }
+        ensures takes { OnOk result (is_mixed ≡ true → (room self.new).mixed end ≡ true) }
     {
         match end.node {
             Node::Object(object) => {
                 self.objects
-                    .promise_at(object.0 as usize, row_index, end.feature)
+                    .promise_at(object.0 as usize, row_index, end.feature, is_mixed)
             }
             Node::Resource(resource) => {
                 self.resources
-                    .promise_at(resource.0 as usize, row_index, end.feature)
+                    .promise_at(resource.0 as usize, row_index, end.feature, is_mixed)
             }
         }
     }
@@ -146,18 +147,19 @@ impl NodeSlots {
     {
         let number = object.0 as usize;
         match opposite {
-            Some(feature) => self.objects.promise_at(number, row_index, feature),
+            Some(feature) => self.objects.promise_at(number, row_index, feature, false),
             None => self.objects.promise_entry_at(number, row_index),
         }
     }
 
-    /// Promises room for one more value of an end.
-    fn promise(&mut self, end: End) -> Result<(), AllocError>
+    /// Promises room for one more value of an end, for an object or for any value.
+    fn promise(&mut self, end: End, is_mixed: bool) -> Result<(), AllocError>
         ensures cells { cells self.new ≡ cells self.old }
         ensures ok { OnOk result (HasGained (λ e. one_if (same_end end e)) no_ends (room self.old) (room self.new)) }
+        ensures takes { OnOk result (is_mixed ≡ true → (room self.new).mixed end ≡ true) }
     {
         let row_index = self.make_row(end.node)?;
-        self.promise_at(end, row_index)
+        self.promise_at(end, row_index, is_mixed)
     }
 
     /// Promises room for the far side of a put.
@@ -177,6 +179,7 @@ impl NodeSlots {
     fn promise_edit(&mut self, edit: &Edit) -> Result<(), AllocError>
         ensures cells { cells self.new ≡ cells self.old }
         ensures ok { OnOk result (HasGained (λ e. gain e edit.now) (λ n. entry n edit.now) (room self.old) (room self.new)) }
+        ensures takes { OnOk result (Takes (room self.new) edit.now) }
     {
         match edit {
             Edit::Put {
@@ -185,10 +188,10 @@ impl NodeSlots {
                 opposite,
                 ..
             } => {
-                self.promise(*end)?;
+                self.promise(*end, false)?;
                 self.promise_far(*object, *opposite)
             }
-            Edit::PutProxy { end, .. } => self.promise(*end),
+            Edit::PutProxy { end, .. } => self.promise(*end, true),
             _ => Ok(()),
         }
     }
@@ -217,7 +220,7 @@ impl NodeSlots {
     {
         let near = self.make_row(link.end.node)?;
         let far = self.make_row(Node::Object(link.object))?;
-        self.promise_at(link.end, near)?;
+        self.promise_at(link.end, near, false)?;
         match self.promise_far_at(link.object, far, link.opposite) {
             Ok(()) => Ok(PutPlaces { near, far }),
             Err(refused) => {

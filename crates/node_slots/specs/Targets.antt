@@ -1,0 +1,29 @@
+-- What a contract sees of the values of an end.
+use Rattle.std.specs.Prelude.{◌≡◌, ℕ, Bool, true, false, List, map, Option, Some, None}
+use Rattle.mm_types.specs.Same.{same_value}
+use Rattle.mm_types.specs.declared.numbers.ObjectNo.{ObjectNo}
+use Rattle.mm_types.specs.declared.value.Value.{Value}
+use Rattle.mm_types.specs.declared.value.Value.TheVariants as value
+
+-- the values in order, how many more may come with no memory taken, and whether those may be other values than objects
+pub record Targets : Type 0 where
+  pub items : List Value
+  pub spare : ℕ
+  pub mixed : Bool
+
+abbrev pub object_value : ObjectNo → Value
+object_value o = value.Object o
+
+-- objects as values
+abbrev pub objects : List ObjectNo → List Value
+objects os = map object_value os
+
+-- a list may have the value, where it may have other values than objects or not
+abbrev pub CanHave : Bool → Value → Type 0
+CanHave mixed (value.Object o) = Unit {0}
+CanHave mixed v = mixed ≡ true
+
+-- the value is what stands at a place
+abbrev pub is_value : Value → Option Value → Bool
+is_value v None = false
+is_value v (Some w) = same_value v w
