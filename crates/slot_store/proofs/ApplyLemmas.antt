@@ -1,5 +1,5 @@
 -- What the rows say once an edit of a plan is made.
-use Rattle.std.proofs.Common.{◌≡◌, ◌+◌, Bool, true, false, List, ◌∷◌, [], if◌then◌else◌, is_ok, OnOk, Result, Ok, Err, sym, ap, subst, arith}
+use Rattle.std.proofs.Common.{◌≡◌, ◌∙◌, ◌+◌, Bool, true, false, List, ◌∷◌, [], if◌then◌else◌, is_ok, OnOk, Result, Ok, Err, sym, ap, subst, arith}
 use Rattle.std.proofs.Math.Logic.{∥∥₁_elim, ∥∥₁_map}
 use Rattle.std.proofs.lemmas.List.Sums.{sum_by-append}
 use Rattle.std.specs.Coded.{Coded-set}
@@ -9,10 +9,11 @@ use Rattle.links.specs.LegalSets.{AreOfKind, Kinds}
 use Rattle.links.specs.Links.{Links, coded_links}
 use Rattle.links.specs.Plans.{EditFits, HasPlanOfKind, IsEditOfKind, IsPlanOfKind, PlanFits, applied, edited}
 use Rattle.links.specs.declared.plan.Edit.{Edit}
+use Rattle.links.specs.declared.plan.Edit.TheVariants as edit
 use Rattle.links.proofs.KindLemmas.{plan_keeps_kinds}
 use Rattle.node_slots.specs.declared.node_slots.NodeSlots.{NodeSlots}
 use Rattle.node_slots.specs.Cells.{Cells, HasKeys, Room, cells, ends_of}
-use Rattle.node_slots.specs.Growth.{HasRoom, entries, entry, gain, gains}
+use Rattle.node_slots.specs.Growth.{HasRoom, Takes, TakesAll, entries, entry, gain, gains}
 use Rattle.node_slots.proofs.KeyLemmas.{keys_of}
 use Rattle.slot_store.specs.CellLinks.{IsKept, IsStore, IsStoreOfKind, cell_links, store_links}
 use Rattle.slot_store.specs.EditedCells.{TakesAtMost, cells_after}
@@ -31,12 +32,25 @@ entries_split x xs n = sum_by-append (entry n) (x ∷ []) xs
 pub room_first : (r : Room) (x : Edit) (xs : List Edit) → HasRoom r (x ∷ xs) → HasRoom r (x ∷ [])
 room_first r x xs has = record {
   places = λ e. omega (arith, has.places e, gains_split x xs e);
+  takes = (has.takes.0, tt);
   entries = λ n. omega (arith, has.entries n, entries_split x xs n);
 }
+
+takes_kept : (r s : Room) → ((e : End) → s.mixed e ≡ r.mixed e) → (x : Edit) → Takes r x → Takes s x
+takes_kept r s same (edit.Cut e o) takes = tt
+takes_kept r s same (edit.Put e i o g h) takes = tt
+takes_kept r s same (edit.Shift e to from) takes = tt
+takes_kept r s same (edit.PutProxy e i t) takes = same e ∙ takes
+takes_kept r s same (edit.CutProxy e t) takes = tt
+
+takes_all_kept : (r s : Room) → ((e : End) → s.mixed e ≡ r.mixed e) → (xs : List Edit) → TakesAll r xs → TakesAll s xs
+takes_all_kept r s same [] takes = tt
+takes_all_kept r s same (x ∷ xs) takes = (takes_kept r s same x takes.0, takes_all_kept r s same xs takes.1)
 
 pub room_rest : (r s : Room) (x : Edit) (xs : List Edit) → HasRoom r (x ∷ xs) → TakesAtMost (λ e. gain e x) (λ n. entry n x) r s → HasRoom s xs
 room_rest r s x xs has takes = record {
   places = λ e. (let one : gains (x ∷ []) e ≡ gain e x = omega arith in omega (arith, has.places e, takes.places e, gains_split x xs e, one));
+  takes = takes_all_kept r s takes.mixed xs has.takes.1;
   entries = λ n. (let one : entries (x ∷ []) n ≡ entry n x = omega arith in omega (arith, has.entries n, takes.entries n, entries_split x xs n, one));
 }
 

@@ -1,7 +1,7 @@
 -- What is read of an object's own lists and entries is which ends have it.
 use Rattle.std.proofs.Common.{◌≡◌, ℕ, zero, suc, ◌+◌, ◌<◌, ◌≤◌, true, false, List, [], ◌∷◌, ◌++◌, drop, length, add-one, append-nil, append_assoc, Option, Some, None, if◌then◌else◌, MatchOption, map, refl, sym, ap, ◌∙◌, subst, inl, inr, arith}
 use Rattle.std.specs.List.{position, slice_get}
-use Rattle.std.specs.Option.{option_to_list}
+use Rattle.std.specs.Option.{option_and_then, option_to_list}
 use Rattle.std.specs.Coded.{Coded-set, coded_bool}
 use Rattle.std.proofs.Math.Logic.{∥∥₁_elim}
 use Rattle.std.proofs.lemmas.Bool.{eqb-true, false≢true, or_cases, or_left}
@@ -16,7 +16,7 @@ use Rattle.mm_types.specs.declared.end.End.{End}
 use Rattle.mm_types.specs.declared.value.Value.{Value}
 use Rattle.mm_types.specs.declared.value.Value.TheVariants as value
 use Rattle.mm_types.proofs.SameLemmas.{same_end-self, same_end-true}
-use Rattle.links.specs.Links.{end, far_end}
+use Rattle.links.specs.Links.{end, far_end, object_of}
 use Rattle.links.specs.Plans.{AreIncoming, AreInOrder, AreEntriesOf, Lacks, has_end, incoming_end}
 use Rattle.links.specs.LegalSets.{IsLegalSet}
 use Rattle.links.specs.Found.{entries_by}
@@ -33,19 +33,19 @@ use Rattle.slot_store.proofs.StoreLemmas.{ends_kept}
 
 ---------------------------------------------------------------- the values of an end
 
-far_ends_suc : (f : FeatureNo) (vs : List Value) (i : ℕ) → i < length vs → far_ends f (drop i vs) ≡ far_of f (slice_get vs i) ++ far_ends f (drop (suc i) vs)
+far_ends_suc : (f : FeatureNo) (vs : List Value) (i : ℕ) → i < length vs → far_ends f (drop i vs) ≡ far_of f (option_and_then object_of (slice_get vs i)) ++ far_ends f (drop (suc i) vs)
 far_ends_suc f [] i lt = absurd (omega (arith, lt))
 far_ends_suc f (v ∷ vs) zero lt = refl
 far_ends_suc f (v ∷ vs) (suc i) lt = far_ends_suc f vs i (omega (arith, lt))
 
 -- one more of the values that are left
-pub next_far : (f : FeatureNo) (vs : List Value) (i : ℕ) (o : Option Value) (out now all : List End) → i < length vs → o ≡ slice_get vs i → now ≡ out ++ far_of f o → out ++ far_ends f (drop i vs) ≡ all → now ++ far_ends f (drop (i + 1) vs) ≡ all
+pub next_far : (f : FeatureNo) (vs : List Value) (i : ℕ) (o : Option ObjectNo) (out now all : List End) → i < length vs → o ≡ option_and_then object_of (slice_get vs i) → now ≡ out ++ far_of f o → out ++ far_ends f (drop i vs) ≡ all → now ++ far_ends f (drop (i + 1) vs) ≡ all
 next_far f vs i o out now all lt at is rest =
     let left = far_ends f (drop (i + 1) vs) in
-    let step : far_ends f (drop i vs) ≡ far_of f (slice_get vs i) ++ left = rw add-one (far_ends_suc f vs i lt) in
-    let part = far_of f (slice_get vs i) in
+    let part = far_of f (option_and_then object_of (slice_get vs i)) in
+    let step : far_ends f (drop i vs) ≡ part ++ left = rw add-one (far_ends_suc f vs i lt) in
     let assoc : (out ++ part) ++ left ≡ out ++ (part ++ left) = rw append_assoc refl in
-    ap (λ (es : List End). es ++ left) (is ∙ ap (λ (p : Option Value). out ++ far_of f p) at)
+    ap (λ (es : List End). es ++ left) (is ∙ ap (λ (p : Option ObjectNo). out ++ far_of f p) at)
     ∙ assoc
     ∙ ap (λ (es : List End). out ++ es) (sym step)
     ∙ rest
@@ -86,7 +86,7 @@ has_far : (f : FeatureNo) (vs : List Value) (k : ℕ) (p : ObjectNo) → slice_g
 has_far f [] k p h = absurd (none-some (value.Object p) h)
 has_far f (v ∷ vs) zero p h =
     subst (λ (w : Value). has_end (far_ends f (w ∷ vs)) (far_end p f) ≡ true) (sym (same_Some v (value.Object p) h)) (or_left _ _ (same_end-self (far_end p f)))
-has_far f (v ∷ vs) (suc k) p h = has_end_right (far_of f (Some v)) (far_ends f vs) (far_end p f) (has_far f vs k p h)
+has_far f (v ∷ vs) (suc k) p h = has_end_right (far_of f (object_of v)) (far_ends f vs) (far_end p f) (has_far f vs k p h)
 
 far_of_has : (o : Option FeatureNo) (vs : List Value) (x : End) → has_end (far_ends_of o vs) x ≡ true → (k : ℕ) × (p : ObjectNo) × (slice_get vs k ≡ Some (value.Object p)) × (o ≡ Some x.feature) × (far_end p x.feature ≡ x)
 far_of_has None vs x h = absurd (false≢true h)

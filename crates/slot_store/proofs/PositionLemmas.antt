@@ -13,6 +13,7 @@ use Rattle.mm_types.specs.SameValues.{same_value-self, same_value-true}
 use Rattle.mm_types.specs.declared.end.End.{End}
 use Rattle.mm_types.specs.declared.value.Value.{Value}
 use Rattle.links.specs.LegalSets.{IsDistinct}
+use Rattle.node_slots.specs.Targets.{is_value}
 use Rattle.slot_store.specs.CellLinks.{IsOnce}
 
 past_all : {X : Type 0} (p : X → Bool) (xs : List X) → position p xs ≡ None → length xs ≤ position_or_len p xs
@@ -43,6 +44,14 @@ position_at = item_at same_value same_value-self same_value-true
 
 pub position_lacks : (xs : List Value) (v : Value) (k : ℕ) → position (same_value v) xs ≡ None → slice_get xs k ≡ Some v → ⊥
 position_lacks = item_lacks same_value same_value-self same_value-true
+
+-- a value that is told to be at an index stands there
+pub value_at : (v : Value) (xs : List Value) (i : ℕ) → is_value v (slice_get xs i) ≡ true → slice_get xs i ≡ Some v
+value_at v xs i = at (slice_get xs i)
+  where
+    at : (o : Option Value) → is_value v o ≡ true → o ≡ Some v
+    at None h = absurd (true≢false (sym h))
+    at (Some w) h = ap Some (sym (same_value-true v w h))
 
 -- a list that repeats nothing has a value at the index that is found
 pub position_is : (xs : List Value) (v : Value) (k : ℕ) → IsDistinct xs → slice_get xs k ≡ Some v → position (same_value v) xs ≡ Some k

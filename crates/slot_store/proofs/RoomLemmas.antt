@@ -1,21 +1,39 @@
 -- What has room for a put has the rows that the put names.
-use Rattle.std.proofs.Common.{◌≡◌, ℕ, true, false, IfSome, List, [], ◌∷◌, Option, Some, None, if◌then◌else◌, ap, subst, arith}
-use Rattle.mm_types.specs.Same.{same_end, same_feature}
+use Rattle.std.proofs.Common.{◌≡◌, ℕ, Bool, true, false, IfSome, List, [], ◌∷◌, Option, Some, None, if◌then◌else◌, sym, ap, subst, arith}
+use Rattle.mm_types.specs.Same.{node_value, same_end, same_feature}
 use Rattle.mm_types.specs.declared.numbers.FeatureNo.{FeatureNo}
 use Rattle.mm_types.specs.declared.numbers.Node.{Node}
 use Rattle.mm_types.specs.declared.numbers.Node.TheVariants as node
 use Rattle.mm_types.specs.declared.numbers.ObjectNo.{ObjectNo}
 use Rattle.mm_types.specs.declared.end.End.{End}
+use Rattle.mm_types.specs.declared.value.Value.{Value}
 use Rattle.mm_types.proofs.SameLemmas.{same_end-self, same_node-self}
 use Rattle.links.specs.declared.plan.Edit.{Edit}
 use Rattle.links.specs.declared.plan.Edit.TheVariants as edit
-use Rattle.links.specs.Links.{far_end}
+use Rattle.links.specs.LegalSets.{IsObject}
+use Rattle.links.specs.Links.{Links, far_end}
+use Rattle.links.specs.Plans.{EditFits}
+use Rattle.node_slots.specs.Targets.{CanHave}
 use Rattle.node_slots.specs.declared.node_slots.NodeSlots.{NodeSlots}
 use Rattle.node_slots.specs.declared.node_slots.growth.PutPlaces.{PutPlaces}
 use Rattle.node_slots.specs.Cells.{room, row_index_of}
 use Rattle.node_slots.specs.Growth.{HasRoom, far_gain, lone_entry, one_if}
 use Rattle.node_slots.proofs.KeyLemmas.{known_entries, known_places}
-use Rattle.slot_store.specs.EditedCells.{HasHeldRow, held, held_far, held_row_index}
+use Rattle.slot_store.specs.EditedCells.{HasHeldRow, PutsObject, held, held_far, held_row_index}
+
+-- an end can have an object's node, also where it can have objects alone
+pub can_have_node : (mixed : Bool) (n : Node) (v : Value) → IsObject n → v ≡ node_value n → CanHave mixed v
+can_have_node mixed (node.Object o) v is same = subst (CanHave mixed) (sym same) tt
+can_have_node mixed (node.Resource r) v is same = absurd is
+
+-- what fits puts no resource into an end
+pub fits_object : (s : Links) (x : Edit) → EditFits s x → PutsObject x
+fits_object s (edit.Cut e o) fits = tt
+fits_object s (edit.Put e i o None h) fits = tt
+fits_object s (edit.Put e i o (Some g) h) fits = fits.1.object
+fits_object s (edit.Shift e to from) fits = tt
+fits_object s (edit.PutProxy e i t) fits = tt
+fits_object s (edit.CutProxy e t) fits = tt
 
 -- the end that is put into has a row
 pub near_row : (t : NodeSlots) (e : End) (i : ℕ) (o : ObjectNo) (g h : Option FeatureNo) → HasRoom (room t) (edit.Put e i o g h ∷ []) → (room t).rows e.node ≡ true

@@ -11,6 +11,7 @@ use Rattle.mm_types.specs.declared.value.Value.{Value}
 use Rattle.mm_types.specs.declared.value.Value.TheVariants as value
 use Rattle.links.specs.declared.plan.Edit.{Edit}
 use Rattle.links.specs.declared.plan.Edit.TheVariants as edit
+use Rattle.links.specs.LegalSets.{IsObject}
 use Rattle.links.specs.Links.{far_end}
 use Rattle.node_slots.specs.declared.node_slots.growth.PutPlaces.{PutPlaces}
 use Rattle.node_slots.specs.declared.slot.Pairing.{Pairing}
@@ -83,8 +84,21 @@ cells_after (edit.CutProxy e t) c = without_value e (value.Proxy t) c
 -- no room is lost but so many for values, and so many for ends that hold a node
 pub record TakesAtMost (values : End → ℕ) (ends : Node → ℕ) (old new : Room) : Type 0 where
   pub places : (e : End) → old.places e ≤ new.places e + values e
+  pub mixed : (e : End) → new.mixed e ≡ old.mixed e
   pub entries : (n : Node) → old.entries n ≤ new.entries n + ends n
   pub rows : (n : Node) → new.rows n ≡ old.rows n
+
+-- the opposite of an object's feature alone is put into
+abbrev pub PairsObject : End → Option FeatureNo → Type 0
+PairsObject e None = Unit {0}
+PairsObject e (Some g) = IsObject e.node
+
+abbrev pub PutsObject : Edit → Type 0
+PutsObject (edit.Cut e o) = Unit {0}
+PutsObject (edit.Put e i o g h) = PairsObject e g
+PutsObject (edit.Shift e to from) = Unit {0}
+PutsObject (edit.PutProxy e i t) = Unit {0}
+PutsObject (edit.CutProxy e t) = Unit {0}
 
 -- the far side has room
 abbrev pub FarHasRoom : ObjectNo → Option FeatureNo → Room → Type 0

@@ -6,20 +6,19 @@ use Rattle.mm_types.specs.declared.numbers.Node.TheVariants as node
 use Rattle.mm_types.specs.declared.numbers.ObjectNo.{ObjectNo}
 use Rattle.mm_types.specs.declared.end.End.{End}
 use Rattle.mm_types.specs.declared.value.Value.{Value}
-use Rattle.mm_types.specs.declared.value.Value.TheVariants as value
 use Rattle.links.specs.LegalSets.{most}
-use Rattle.links.specs.Links.{far_end}
+use Rattle.links.specs.Links.{far_end, object_of}
 use Rattle.node_slots.specs.declared.slot.Slot.{Slot}
 use Rattle.node_slots.specs.Cells.{Cells}
 
--- the end of a feature at an object's node; of no other value
-abbrev pub far_of : FeatureNo → Option Value → List End
-far_of f (Some (value.Object o)) = far_end o f ∷ []
-far_of f _ = []
+-- the end of a feature at an object's node
+abbrev pub far_of : FeatureNo → Option ObjectNo → List End
+far_of f None = []
+far_of f (Some o) = far_end o f ∷ []
 
 abbrev pub far_ends : FeatureNo → List Value → List End
 far_ends f [] = []
-far_ends f (v ∷ vs) = far_of f (Some v) ++ far_ends f vs
+far_ends f (v ∷ vs) = far_of f (object_of v) ++ far_ends f vs
 
 abbrev pub far_ends_of : Option FeatureNo → List Value → List End
 far_ends_of None vs = []

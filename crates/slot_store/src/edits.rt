@@ -6,10 +6,11 @@ ghost use Rattle.mm_types.specs.declared.numbers.Node.TheVariants as node;
 ghost use Rattle.links.specs.LegalSets.{IsDistinct};
 ghost use Rattle.links.specs.Plans.{put_edit};
 ghost use Rattle.node_slots.specs.Cells.{cells, room, row_index_of};
+ghost use Rattle.node_slots.specs.Targets.{CanHave};
 ghost use Rattle.node_slots.specs.Growth.{HasRoom, entry, far_gain, gain, lone_entry, no_ends, no_values, one_if};
 ghost use Rattle.links.specs.declared.plan.Edit.TheVariants as edit;
 ghost use Rattle.slot_store.specs.CellLinks.{IsOnce, RepeatNothing};
-ghost use Rattle.slot_store.specs.EditedCells.{FarHasRoom, HasHeldRow, TakesAtMost, cells_after, cut_far, held, held_far, held_row_index, holds, put_far, put_near, released, without_entry, without_value};
+ghost use Rattle.slot_store.specs.EditedCells.{FarHasRoom, HasHeldRow, PairsObject, PutsObject, TakesAtMost, cells_after, cut_far, held, held_far, held_row_index, holds, put_far, put_near, released, without_entry, without_value};
 
 use crate::search::{entry_from, found};
 use links::{Edit, NewLink};
@@ -148,6 +149,7 @@ fn hold(rows: &mut NodeSlots, row_index: usize, pair: Option<(Node, End)>)
 
 /// Puts a link in at its far side, whose row is at an index.
 fn put_in_far(rows: &mut NodeSlots, row_index: usize, link: NewLink)
+    requires object { PairsObject link.end link.opposite }
     requires room { FarHasRoom link.object link.opposite (room rows.old) }
     requires at { row_index_of rows.old (node.Object link.object) ≡ Some row_index }
     ensures cells { cells rows.new ≡ put_far link.end link.object link.opposite link.container (cells rows.old) }
@@ -182,6 +184,7 @@ fn put_in(
     pairing: Option<Pairing>,
 )
     requires room { 1 ≤ (room rows.old).places end }
+    requires can { CanHave ((room rows.old).mixed end) value }
     requires at { row_index_of rows.old end.node ≡ Some row_index }
     ensures cells { cells rows.new ≡ put_near end index value pairing (cells rows.old) }
     ensures room { TakesAtMost (λ e. one_if (same_end end e)) no_ends (room rows.old) (room rows.new) }
@@ -197,6 +200,7 @@ fn put_in(
 
 /// Puts a link in; the rows of its nodes are at these indexes.
 fn put(rows: &mut NodeSlots, places: PutPlaces, link: NewLink)
+    requires object { PairsObject link.end link.opposite }
     requires room { HasRoom (room rows.old) (put_edit link ∷ []) }
     requires held { HasHeldRow (held link.end link.object link.opposite link.container) (room rows.old) }
     requires near { row_index_of rows.old link.end.node ≡ Some places.near }
@@ -239,6 +243,7 @@ fn places_of(rows: &NodeSlots, end: End, object: ObjectNo) -> PutPlaces
 
 /// Makes room for a link, and puts it in. Errs only if memory is refused; no value changes then.
 pub(crate) fn put_with_room(rows: &mut NodeSlots, link: NewLink) -> Result<(), AllocError>
+    requires { PairsObject link.end link.opposite }
     ensures { cells rows.new ≡ (if is_ok result then cells_after (put_edit link) (cells rows.old) else cells rows.old) }
 {
     let places = rows.reserve_put(link)?;
@@ -261,6 +266,7 @@ fn shift(rows: &mut NodeSlots, end: End, to: u32, from: u32)
 /// Makes one edit, for which there is room. An end that it takes out of those that hold an object is looked for at a guess first.
 /// Takes no memory.
 pub(crate) fn edit_rows(rows: &mut NodeSlots, edit: Edit, guess: usize)
+    requires object { PutsObject edit }
     requires room { HasRoom (room rows.old) (edit ∷ []) }
     requires distinct { RepeatNothing (cells rows.old) }
     ensures cells { cells rows.new ≡ cells_after edit (cells rows.old) }

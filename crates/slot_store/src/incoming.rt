@@ -15,13 +15,17 @@ use mm_types::{End, FeatureNo, Node, ObjectNo, Value};
 use node_slots::{NodeSlots, Slot};
 use std::alloc::{AllocError, Global};
 
-/// Adds the end of a feature at an object's node; of no other value.
-fn push_far(value: Option<&Value>, feature: FeatureNo, out: &mut Vec<End>) -> Result<(), AllocError>
-    ensures { OnOk result (out.new.items ≡ out.old.items ++ far_of feature (option_copied value.entry)) }
+/// Adds the end of a feature at an object's node, if there is an object.
+fn push_far(
+    object: Option<ObjectNo>,
+    feature: FeatureNo,
+    out: &mut Vec<End>,
+) -> Result<(), AllocError>
+    ensures { OnOk result (out.new.items ≡ out.old.items ++ far_of feature object) }
 {
-    if let Some(Value::Object(object)) = value {
+    if let Some(object) = object {
         out.push(End {
-            node: Node::Object(*object),
+            node: Node::Object(object),
             feature,
         })?;
     }
@@ -38,7 +42,7 @@ fn push_far_ends(
     ensures { OnOk result (out.new.items ≡ out.old.items ++ far_ends feature ((cells rows.now).vals end)) }
 {
     for index in 0..rows.len(end) {
-        push_far(rows.at(end, index), feature, out)?;
+        push_far(rows.object_at(end, index), feature, out)?;
     }
     Ok(())
 }

@@ -40,11 +40,8 @@ fn guess<F: Fn(usize) -> Option<u64>>(len: usize, rank: u64, rank_at: F) -> usiz
     low
 }
 
-fn object_rank(value: Option<&Value>) -> Option<u64> {
-    match value? {
-        Value::Object(object) => Some(u64::from(object.0)),
-        _ => None,
-    }
+fn object_rank(rows: &NodeSlots, end: End, index: usize) -> Option<u64> {
+    rows.object_at(end, index).map(|object| u64::from(object.0))
 }
 
 /// Whether two ends are one.
@@ -60,9 +57,10 @@ fn first_text(rows: &NodeSlots, end: End) -> usize {
     let mut high = rows.len(end);
     while low < high {
         let middle = low + (high - low) / 2;
-        match rows.at(end, middle) {
-            Some(Value::Object(_)) => low = middle + 1,
-            _ => high = middle,
+        if rows.object_at(end, middle).is_some() {
+            low = middle + 1;
+        } else {
+            high = middle;
         }
     }
     low
@@ -71,13 +69,11 @@ fn first_text(rows: &NodeSlots, end: End) -> usize {
 /// The position that a value may have in an end. Proxies that are resolved in the order of their list leave a text after the
 /// objects.
 fn value_guess(rows: &NodeSlots, end: End, value: &Value) -> usize {
-    match object_rank(Some(value)) {
-        Some(rank) => guess(
-            rows.len(end),
-            rank,
-            |index| object_rank(rows.at(end, index)),
-        ),
-        None => first_text(rows, end),
+    match value {
+        Value::Object(object) => guess(rows.len(end), u64::from(object.0), |index| {
+            object_rank(rows, end, index)
+        }),
+        _ => first_text(rows, end),
     }
 }
 
@@ -87,10 +83,10 @@ pub(crate) fn found(rows: &NodeSlots, end: End, value: &Value) -> Option<usize>
     ensures { result ≡ found_in (cells rows.now) value.now end }
 {
     let index = value_guess(rows, end, value);
-    match rows.at(end, index) {
-        Some(there) if there == value => Some(index),
-        _ => rows.position(end, value),
+    if rows.is_at(end, index, value) {
+        return Some(index);
     }
+    rows.position(end, value)
 }
 
 /// The position of an end among those with no opposite that hold an object, if they are in order.

@@ -1,8 +1,6 @@
 //! The store of lists.
-ghost use Rattle.std.specs.Prelude.{◌≡◌, true, option_and_then};
-ghost use Rattle.std.specs.Option.{option_copied};
+ghost use Rattle.std.specs.Prelude.{◌≡◌, true};
 ghost use Rattle.mm_types.specs.declared.value.Value.TheVariants as value;
-ghost use Rattle.links.specs.Links.{object_of, text_of};
 ghost use Rattle.links.specs.Plans.{HasPlanOfKind, PlanFits, applied};
 ghost use Rattle.node_slots.specs.Cells.{cells, room};
 ghost use Rattle.node_slots.specs.Growth.{HasRoom};
@@ -42,11 +40,11 @@ impl LinkStore for SlotStore {
     }
 
     fn at(&self, end: End, index: u32) -> Option<ObjectNo> {
-        object_of(self.rows.at(end, index as usize))
+        self.rows.object_at(end, index as usize)
     }
 
     fn proxy_at(&self, end: End, index: u32) -> Option<&str> {
-        text_of(self.rows.at(end, index as usize))
+        self.rows.text_at(end, index as usize)
     }
 
     fn position(&self, end: End, object: ObjectNo) -> Option<u32> {
@@ -83,24 +81,6 @@ impl LinkStore for SlotStore {
 
     fn put(&mut self, link: NewLink) -> Result<(), AllocError> {
         put_with_room(&mut self.rows, link)
-    }
-}
-
-fn object_of(value: Option<&Value>) -> Option<ObjectNo>
-    ensures { result ≡ option_and_then object_of (option_copied value.entry) }
-{
-    match value? {
-        Value::Object(object) => Some(*object),
-        _ => None,
-    }
-}
-
-fn text_of(value: Option<&Value>) -> Option<&str>
-    ensures { option_copied result ≡ option_and_then text_of (option_copied value.entry) }
-{
-    match value? {
-        Value::Proxy(text) => Some(text.as_str()),
-        _ => None,
     }
 }
 

@@ -1,10 +1,10 @@
-use Rattle.std.proofs.Common.{Some, sym, ap, ◌∙◌}
-use Rattle.mm_types.specs.SameValues.{same_value-true}
+use Rattle.std.proofs.Common.{sym, ◌∙◌}
 use Rattle.node_slots.specs.Cells.{cells}
-use Rattle.slot_store.proofs.PositionLemmas.{position_is}
+use Rattle.slot_store.proofs.PositionLemmas.{position_is, value_at}
 use Rattle.slot_store.proofs.search.found.Goals as goal
 
-pub returns-in-Some : goal.returns-in-Some
-returns-in-Some c =
-    let same = same_value-true c.in-Some.there.now c.args.value.now (sym c.eq.ensures ∙ c.if-eq.true) in
-    sym (position_is ((cells c.args.rows.now).vals c.args.end) c.args.value.now c.value_guess-index.result c.requires (sym c.in-Some.ensures ∙ ap Some same))
+pub returns-then-is_at : goal.returns-then-is_at
+returns-then-is_at c =
+    let vs = (cells c.args.rows.now).vals c.args.end in
+    let at = value_at c.args.value.now vs c.value_guess-index.result (sym c.is_at.ensures ∙ c.if-is_at.true) in
+    sym (position_is vs c.args.value.now c.value_guess-index.result c.requires at)

@@ -6,12 +6,20 @@ use Rattle.links.specs.Plans.{HasPlanOfKind, PlanFits, applied}
 use Rattle.node_slots.specs.Cells.{Room, room}
 use Rattle.node_slots.specs.Growth.{HasRoom}
 use Rattle.slot_store.specs.CellLinks.{IsStoreOfKind, store_links}
+use Rattle.slot_store.proofs.RoomLemmas.{fits_object}
 use Rattle.slot_store.proofs.StoreLemmas.{kept_once}
 use Rattle.slot_store.proofs.ApplyLemmas.{edit_fits, edit_kept, edit_kind, edit_rest, kinds_same, room_first, room_rest}
 use Rattle.slot_store.proofs.slot_store.apply_rows.Goals as goal
 
 pub edit_rows-requires-clause-distinct : goal.edit_rows-requires-clause-distinct
 edit_rows-requires-clause-distinct c = kept_once c.make_guess-guess.new.rows c.make_guess-guess.ensures.kept
+
+pub edit_rows-requires-clause-object : goal.edit_rows-requires-clause-object
+edit_rows-requires-clause-object c =
+    let rest = into_iter_items c.next.new.self in
+    let s = store_links c.loop-edit.rows in
+    let first : PlanFits s (c.in-Some.edit ∷ rest) = subst (λ (es : List Edit). PlanFits s es) c.in-Some.ensures.steps.0 c.loop-edit.invariant.fits in
+    fits_object s c.in-Some.edit first.0
 
 pub edit_rows-requires-clause-room : goal.edit_rows-requires-clause-room
 edit_rows-requires-clause-room c =

@@ -1,4 +1,4 @@
-use Rattle.std.proofs.Common.{◌∙◌, List, Option, sym, ap}
+use Rattle.std.proofs.Common.{◌∙◌, List, sym, ap}
 use Rattle.std.specs.Prelude.{option_and_then}
 use Rattle.std.specs.List.{slice_get}
 use Rattle.mm_types.specs.declared.value.Value.{Value}
@@ -8,5 +8,5 @@ use Rattle.slot_store.proofs.slot_store.SlotStoreLinkStore.proxy_at.Goals as goa
 
 pub returns : goal.returns
 returns c =
-    let there = c.at.ensures ∙ ap (λ (xs : List Value). slice_get xs c.args.index) (sym (ends_kept c.args.self.now.rows c.args.self.now.kept c.args.end)) in
-    c.text_of.ensures ∙ ap (λ (v : Option Value). option_and_then text_of v) there
+    c.text_at.ensures
+    ∙ ap (λ (xs : List Value). option_and_then text_of (slice_get xs c.args.index)) (sym (ends_kept c.args.self.now.rows c.args.self.now.kept c.args.end))

@@ -1,7 +1,12 @@
 use Rattle.std.proofs.Common.{is_ok}
 use Rattle.links.specs.Plans.{put_edit}
+use Rattle.slot_store.specs.CellLinks.{store_links}
+use Rattle.slot_store.proofs.RoomLemmas.{fits_object}
 use Rattle.slot_store.proofs.ApplyLemmas.{tried_kept, tried_kinds, tried_links}
 use Rattle.slot_store.proofs.slot_store.SlotStoreLinkStore.put.Goals as goal
+
+pub put_with_room-requires : goal.put_with_room-requires
+put_with_room-requires c = fits_object (store_links c.args.self.now.rows) (put_edit c.args.link) c.requires.fits
 
 pub invariant_of-self : goal.invariant_of-self
 invariant_of-self c =
