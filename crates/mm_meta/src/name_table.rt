@@ -139,7 +139,7 @@ impl NameTable {
     }
 }
 
-/// The hints of some names, two to four times as many as there are names. The first name of those with one slot has the hint there.
+/// The hints of some names, two to four times as many as there are names. If names share a slot, the first of them has its hint there.
 fn hints_for(alloc: Global, positions: &IndexMap<String, usize>) -> Result<Vec<u32>, AllocError> {
     let count = positions.len().min(u32::MAX as usize);
     let mut hints = vec![in alloc; u32::MAX; (2 * count).next_power_of_two()]?;
@@ -156,7 +156,7 @@ fn hints_for(alloc: Global, positions: &IndexMap<String, usize>) -> Result<Vec<u
     Ok(hints)
 }
 
-/// Where the hint of a name is among so many hints, which are a power of two. The length and three bytes of the name tell most names apart.
+/// The slot of a name among so many hints, a power of two. The length and three bytes of the name tell most names apart.
 fn slot_of(name: &str, hints: usize) -> usize {
     let bytes = name.as_bytes();
     let len = bytes.len();
