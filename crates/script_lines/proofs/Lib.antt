@@ -5,3 +5,4 @@ mod ValueLemmas
 mod FormLemmas
 mod LoadLemmas
 mod FrequentLemmas
+mod NumberLemmas

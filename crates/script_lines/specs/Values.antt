@@ -81,6 +81,13 @@ value_in w = if bytes_eq w (codes "null") then Some written.Null
     else if bytes_eq w (codes "false") then Some (written.Bool false)
     else other_value_in w
 
+-- a value that is written without a mark
+abbrev pub word_value_in : List ℕ → Option WrittenValue
+word_value_in w = if bytes_eq w (codes "null") then Some written.Null
+    else if bytes_eq w (codes "true") then Some (written.Bool true)
+    else if bytes_eq w (codes "false") then Some (written.Bool false)
+    else None
+
 -- `#3 pages 100`: a node, the name of one of its features, and a value for it
 abbrev pub feature_value_in : List ℕ → List ℕ → List ℕ → Option ((Node × List ℕ) × WrittenValue)
 feature_value_in n f v = option_zip (feature_in n f) (value_in v)

@@ -18,6 +18,9 @@ pub const QUOTE: u8 = b'"';
 /// Escapes the byte after it in a text.
 pub const BACKSLASH: u8 = b'\\';
 
+/// Comes before the digits of a number below 0: `-12`.
+pub const MINUS: u8 = b'-';
+
 /// Separates words.
 pub const SPACE: u8 = b' ';
 

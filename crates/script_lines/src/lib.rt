@@ -11,6 +11,7 @@ mod line;
 mod lines;
 mod load;
 mod name;
+mod numbers;
 mod parse;
 mod source;
 mod texts;

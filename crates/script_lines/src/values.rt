@@ -1,14 +1,17 @@
 //! Nodes, adapters, features and values, read from words.
-ghost use Rattle.std.specs.Prelude.{◌≡◌, ◌≢◌, ◌<◌, IfOk, length, option_map, slice_index};
-ghost use Rattle.script_lines.specs.Values.{adapter_in, feature_in, feature_value_in, node_in, number_in, object_in, other_value_in, resource_in, string_in, text_in, value_in};
+ghost use Rattle.std.specs.Prelude.{◌≡◌, ◌≢◌, ◌<◌, IfOk, false, length, option_map, slice_index};
+ghost use Rattle.std.specs.Char.{is_ascii_digit};
+ghost use Rattle.mm_types.specs.Integers.{integer};
+ghost use Rattle.script_lines.specs.Values.{adapter_in, feature_in, feature_value_in, node_in, number_in, object_in, resource_in, string_in, text_in, value_in, word_value_in};
 ghost use Rattle.script_lines.specs.declared.written_value.WrittenValue.TheVariants as written;
 
-use crate::grammar::{ADAPTER_MARK, LITERAL_MARK, OBJECT_MARK, QUOTE, RESOURCE_MARK};
+use crate::grammar::{ADAPTER_MARK, LITERAL_MARK, MINUS, OBJECT_MARK, QUOTE, RESOURCE_MARK};
 use crate::name::Name;
+use crate::numbers::int_of;
 use crate::texts::text_of;
 use crate::words::after_byte;
 use crate::written_value::WrittenValue;
-use mm_types::integers::{integer_of, natural_of};
+use mm_types::integers::natural_of;
 use mm_types::{AdapterNo, Node, ObjectNo, ResourceNo, Text};
 use std::alloc::{AllocError, Global};
 
@@ -83,46 +86,60 @@ fn text_value_of(alloc: Global, word: &str) -> Result<Option<WrittenValue<'_>>, 
     }
 }
 
-/// The literal, object or number that a word writes; its first byte says which of them.
-fn plain_value_of(word: &str) -> Option<WrittenValue<'_>>
+/// The value that a word writes without a mark: `null`, `true` or `false`.
+fn word_value_of(word: &str) -> Option<WrittenValue<'_>>
+    ensures { result ≡ word_value_in word.now }
+{
+    if word == "null" {
+        return Some(WrittenValue::Null);
+    }
+    if word == "true" {
+        return Some(WrittenValue::Bool(true));
+    }
+    if word == "false" {
+        return Some(WrittenValue::Bool(false));
+    }
+    None
+}
+
+/// The number that a word writes, as a value.
+fn number_value_of(word: &str) -> Option<WrittenValue<'_>>
+    requires { 0 < length word.now }
+    ensures { result ≡ option_map written.Int (integer word.now) }
+{
+    Some(WrittenValue::Int(int_of(word)?))
+}
+
+/// The value that a word writes with a mark, or without one.
+fn marked_value_of(word: &str) -> Option<WrittenValue<'_>>
     requires some { 0 < length word.now }
     requires no_text { slice_index word.now 0 ≢ QUOTE }
-    ensures { result ≡ other_value_in word.now }
+    requires no_minus { slice_index word.now 0 ≢ MINUS }
+    requires no_digit { is_ascii_digit (slice_index word.now 0) ≡ false }
+    ensures { result ≡ value_in word.now }
 {
     match word.as_bytes()[0] {
         LITERAL_MARK => Some(WrittenValue::Literal(Name::from_word(after_byte(word))?)),
         OBJECT_MARK => Some(WrittenValue::Object(ObjectNo(natural_of(after_byte(word))?))),
-        _ => Some(WrittenValue::Int(integer_of(word)?)),
+        _ => word_value_of(word),
     }
 }
 
-/// The text, literal, object or number that a word writes; its first byte says which of them.
-fn other_value_of(alloc: Global, word: &str) -> Result<Option<WrittenValue<'_>>, AllocError>
-    ensures { IfOk result (λ o. o ≡ other_value_in word.now) }
+/// The value that a word writes; its first byte says which kind of value it is.
+pub fn value_of(alloc: Global, word: &str) -> Result<Option<WrittenValue<'_>>, AllocError>
+    ensures { IfOk result (λ o. o ≡ value_in word.now) }
 {
     if word.is_empty() {
         return Ok(None);
     }
-    if word.as_bytes()[0] == QUOTE {
+    let first = word.as_bytes()[0];
+    if first.is_ascii_digit() || first == MINUS {
+        return Ok(number_value_of(word));
+    }
+    if first == QUOTE {
         return text_value_of(alloc, word);
     }
-    Ok(plain_value_of(word))
-}
-
-/// The value that a word writes.
-pub fn value_of(alloc: Global, word: &str) -> Result<Option<WrittenValue<'_>>, AllocError>
-    ensures { IfOk result (λ o. o ≡ value_in word.now) }
-{
-    if word == "null" {
-        return Ok(Some(WrittenValue::Null));
-    }
-    if word == "true" {
-        return Ok(Some(WrittenValue::Bool(true)));
-    }
-    if word == "false" {
-        return Ok(Some(WrittenValue::Bool(false)));
-    }
-    other_value_of(alloc, word)
+    Ok(marked_value_of(word))
 }
 
 /// The node, the name of one of its features, and the value for it, that three words give: `#3 pages 100`.

@@ -1,0 +1,93 @@
+//! Numbers of up to nine digits, read in one loop.
+ghost use Rattle.std.specs.Prelude.{◌≡◌, ◌≢◌, ◌≤◌, ◌<◌, IfSome, Some, length, slice_index, take};
+ghost use Rattle.std.specs.Char.{is_ascii_digit};
+ghost use Rattle.std.specs.List.{prefix_len};
+ghost use Rattle.std.specs.Str.Parse.{digits_value};
+ghost use Rattle.mm_types.specs.Integers.{integer, natural};
+
+use crate::grammar::MINUS;
+use mm_types::integers::integer_of;
+
+/// So many digits are read at most. Each number of so many digits is below 2^32.
+const MOST_DIGITS: usize = 9;
+
+/// The first bytes, as many as are read.
+#[inline]
+fn first_bytes(bytes: &[u8]) -> &[u8]
+    ensures { result.now ≡ take MOST_DIGITS bytes.now }
+{
+    if bytes.len() <= MOST_DIGITS {
+        bytes
+    } else {
+        &bytes[..MOST_DIGITS]
+    }
+}
+
+/// The number that the digits at the front write, and how many digits they are.
+#[inline]
+fn digits_of(bytes: &[u8]) -> (u32, usize)
+    requires { length bytes.now ≤ MOST_DIGITS }
+    ensures len { result.1 ≡ prefix_len is_ascii_digit bytes.now }
+    ensures number { result.0 ≡ digits_value 10 (take result.1 bytes.now) }
+{
+    let mut number = 0;
+    'bytes: for (i, byte) in bytes.iter().enumerate() {
+        if !byte.is_ascii_digit() {
+            return (number, i);
+        }
+        number = number * 10 + u32::from(*byte - b'0');
+    }
+    (number, bytes.len())
+}
+
+/// The number at the front, and how many digits it has. `None` if there is no digit, or a 0 before further digits. No more than nine digits
+/// are read: another may follow.
+#[inline]
+pub(crate) fn number_begun(bytes: &[u8]) -> Option<(u32, usize)>
+    ensures { IfSome result (λ p. (natural (take p.1 bytes.now) ≡ Some p.0) × (p.1 ≤ length bytes.now)) }
+{
+    let (number, len) = digits_of(first_bytes(bytes));
+    if len == 0 {
+        return None;
+    }
+    if len > 1 && bytes[0] == b'0' {
+        return None;
+    }
+    Some((number, len))
+}
+
+/// The number of 64 bits that a word without a minus writes.
+#[inline]
+fn non_negative_of(word: &str) -> Option<i64>
+    requires { slice_index word.now 0 ≢ MINUS }
+    ensures { result ≡ integer word.now }
+{
+    match number_begun(word.as_bytes()) {
+        Some((number, len)) if len == word.len() => Some(i64::from(number)),
+        _ => integer_of(word),
+    }
+}
+
+/// The number of 64 bits that a word with a minus writes.
+fn negative_of(word: &str) -> Option<i64>
+    requires some { 0 < length word.now }
+    requires minus { slice_index word.now 0 ≡ MINUS }
+    ensures { result ≡ integer word.now }
+{
+    match number_begun(&word.as_bytes()[1..]) {
+        Some((number, len)) if len + 1 == word.len() && number != 0 => Some(-i64::from(number)),
+        _ => integer_of(word),
+    }
+}
+
+/// The number of 64 bits that a word writes.
+pub(crate) fn int_of(word: &str) -> Option<i64>
+    requires { 0 < length word.now }
+    ensures { result ≡ integer word.now }
+{
+    if word.as_bytes()[0] == MINUS {
+        negative_of(word)
+    } else {
+        non_negative_of(word)
+    }
+}
