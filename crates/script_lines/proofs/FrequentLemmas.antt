@@ -1,11 +1,12 @@
 -- The words of a frequent line, one after another.
-use Rattle.std.proofs.Common.{◌∙◌, ◌≡◌, ◌++◌, ◌&&◌, ◌||◌, ◌==◌, ◌+◌, ◌<◌, ℕ, suc, Bool, true, false, List, [], ◌∷◌, Option, None, Some, ap, arith, codes, cond, drop, is_some, length, nat_lt, not, option_map, refl, slice_index, sym, take, true≢false}
+use Rattle.std.proofs.Common.{◌∙◌, ◌≡◌, ◌++◌, ◌&&◌, ◌==◌, ◌+◌, ◌<◌, ℕ, suc, Bool, true, false, List, [], ◌∷◌, Option, None, Some, ap, arith, codes, cond, drop, IfSome, get_or, is_some, length, nat_lt, not, option_map, refl, slice_index, subst, sym, take, true≢false}
 use Rattle.std.specs.Option.{option_zip}
 use Rattle.std.specs.List.{after_first, before_first, list_all, position_or_len}
 use Rattle.std.proofs.lemmas.Bool.{and_parts}
 use Rattle.std.proofs.lemmas.Bool.Decides.{nat_tests}
 use Rattle.std.proofs.Math.Seq.{take-length}
 use Rattle.std.proofs.lemmas.List.{drop_all}
+use Rattle.std.specs.Char.{is_ascii_digit}
 use Rattle.mm_types.specs.Integers.{natural}
 use Rattle.mm_types.specs.Names.{is_name, is_name_byte}
 use Rattle.mm_types.specs.declared.numbers.Node.{Node}
@@ -13,16 +14,18 @@ use Rattle.mm_types.specs.declared.numbers.Node.TheVariants as node
 use Rattle.mm_types.specs.declared.numbers.ObjectNo.{ObjectNo}
 use Rattle.script_lines.specs.Forms.{line_of, line_with, text_line}
 use Rattle.script_lines.specs.Frequent.{ReadsFeature, ReadsValue, frequent_line, verb_text}
-use Rattle.script_lines.specs.Values.{name_in, node_in, object, object_in, resource, value_in}
+use Rattle.script_lines.specs.Values.{name_in, node_in, object, object_in, value_in}
 use Rattle.script_lines.specs.Words.{is_space, words}
 use Rattle.script_lines.specs.declared.form.Form.TheVariants as asks
+use Rattle.script_lines.specs.declared.frequent.Frequent.{Frequent}
 use Rattle.script_lines.specs.declared.frequent.Frequent.TheVariants as frequent
 use Rattle.script_lines.specs.declared.frequent.Verb.{Verb}
 use Rattle.script_lines.specs.declared.frequent.Verb.TheVariants as verb
-use Rattle.script_lines.specs.declared.line.Line.TheVariants as line
 use Rattle.script_lines.specs.declared.written_value.WrittenValue.{WrittenValue}
 use Rattle.script_lines.proofs.FormLemmas.{no_load_begins, other_line}
-use Rattle.script_lines.proofs.WordLemmas.{begins_plain, plain_cut}
+use Rattle.script_lines.proofs.NameLemmas.{name_byte_no_space}
+use Rattle.script_lines.proofs.NumberLemmas.{natural_digits}
+use Rattle.script_lines.proofs.WordLemmas.{begins_plain, first_space, plain_cut}
 
 -- ---- an object, and a name, as words
 
@@ -64,9 +67,6 @@ node_is : (w : List ℕ) (o : ObjectNo) → object_in w ≡ Some o → node_in w
 node_is [] o h = absurd (true≢false (ap is_some (sym h)))
 node_is (c ∷ cs) o h = node_is_at (c == 35) (natural cs) _ o h
 
-name_byte_no_space : (c : ℕ) → is_name_byte c ≡ true → is_space c ≡ false
-name_byte_no_space c h = grind (arith, nat_tests)
-
 no_space_in : (w : List ℕ) → list_all is_name_byte w ≡ true → position_or_len is_space w ≡ length w
 no_space_in [] h = refl
 no_space_in (c ∷ cs) h =
@@ -86,21 +86,46 @@ name_word w h =
 
 -- ---- lines
 
+digit_no_space : (c : ℕ) → is_ascii_digit c ≡ true → is_space c ≡ false
+digit_no_space c h = grind (arith, nat_tests)
+
+object_at : (cs : List ℕ) (n len : ℕ) → natural (take len cs) ≡ Some n → position_or_len is_space cs ≡ len
+    → (object_in (before_first is_space (35 ∷ cs)) ≡ Some (object n)) × (drop (len + 1) cs ≡ after_first is_space (35 ∷ cs))
+object_at cs n len number at =
+    let f : 1 + len ≡ suc len = omega arith in
+    let g : suc (len + 1) ≡ 1 + len + 1 = omega arith in
+    (rw (at, f, number) refl, rw at (ap (λ k. drop k (35 ∷ cs)) g))
+
+-- the mark of an object, its number, and a space
+pub object_before : (text : List ℕ) (n len : ℕ) → 0 < length text → get_or text 0 0 ≡ 35 → natural (take len (drop 1 text)) ≡ Some n
+    → len < length (drop 1 text) → get_or (drop 1 text) len 0 ≡ 32
+    → (object_in (before_first is_space text) ≡ Some (object n)) × (drop (len + 1) (drop 1 text) ≡ after_first is_space text)
+object_before [] n len some mark number within space = absurd (omega arith)
+object_before (c ∷ cs) n len some mark number within space =
+    let at = first_space is_ascii_digit digit_no_space cs len (natural_digits (take len cs) n number) (omega arith) (λ l. space) in
+    let is : c ≡ 35 = mark in
+    rw is (object_at cs n len number at)
+
 -- an object and a name were cut off a text
-pub feature_read : (text : List ℕ) (o : ObjectNo) (f : List ℕ) → object_in (before_first is_space text) ≡ Some o
-    → name_in (before_first is_space (after_first is_space text)) ≡ Some f → ReadsFeature o f (after_first is_space (after_first is_space text)) text
-feature_read text o f object_is name =
-    let rest : List ℕ = after_first is_space text in
+pub feature_read : (text rest more : List ℕ) (o : ObjectNo) (f : List ℕ) → object_in (before_first is_space text) ≡ Some o → rest ≡ after_first is_space text
+    → name_in (before_first is_space rest) ≡ Some f → more ≡ after_first is_space rest → ReadsFeature o f more text
+feature_read text rest more o f object_is rest_is name more_is =
     let named = name_is (before_first is_space rest) f name in
     let one = plain_cut text (object_begins (before_first is_space text) o object_is) in
     let two = plain_cut rest (name_begins (before_first is_space rest) named.0) in
-    let whole : words text ≡ before_first is_space text ∷ f ∷ words (after_first is_space rest) =
-    one ∙ ap (λ x. before_first is_space text ∷ x) (two ∙ ap (λ x. x ∷ words (after_first is_space rest)) named.1) in
+    let whole : words text ≡ before_first is_space text ∷ f ∷ words more =
+    one ∙ ap (λ x. before_first is_space text ∷ x) (ap words (sym rest_is) ∙ (two ∙ ap (λ x. x ∷ words (after_first is_space rest)) named.1
+    ∙ ap (λ x. f ∷ words x) (sym more_is))) in
     record { object = before_first is_space text; words_are = whole; object_is = object_is; name_is = ap name_in (sym named.1) ∙ name }
 
-pub value_read : (o : ObjectNo) (f rest text : List ℕ) → words rest ≡ rest ∷ [] → ReadsFeature o f rest text → ReadsValue o f rest text
-value_read o f rest text one r =
+pub value_read : (o : ObjectNo) (f w rest text : List ℕ) → words rest ≡ w ∷ [] → ReadsFeature o f rest text → ReadsValue o f w text
+value_read o f w rest text one r =
     record { object = r.object; words_are = r.words_are ∙ ap (λ x. r.object ∷ f ∷ x) one; object_is = r.object_is; name_is = r.name_is }
+
+-- what is said of a verb and the rest of a line is said of the line
+pub feature_line : (v : Verb) (line rest : List ℕ) (r : Option Frequent) → line ≡ verb_text v ++ rest
+    → IfSome r (λ f. text_line (verb_text v ++ rest) ≡ frequent_line f) → IfSome r (λ f. text_line line ≡ frequent_line f)
+feature_line v line rest r is h = subst (λ t. IfSome r (λ f. text_line t ≡ frequent_line f)) (sym is) h
 
 ascii_in : (v : Verb) (rest : List ℕ) → (3 < length (verb_text v ++ rest)) × (slice_index (verb_text v ++ rest) 3 < 128)
 ascii_in verb.New rest = (omega arith, omega arith)

@@ -6,3 +6,4 @@ mod FormLemmas
 mod LoadLemmas
 mod FrequentLemmas
 mod NumberLemmas
+mod NameLemmas

@@ -1,11 +1,12 @@
 -- Going on by one step through a line.
 use Rattle.std.proofs.Common.{ap, ◌∙◌, ◌&&◌, ◌==◌, sub-one, ◌≡◌, ◌≢◌, ◌+◌, ◌-◌, ◌<◌, ◌≤◌, ◌++◌, ℕ, zero, suc, Bool, true, false, List, [], ◌∷◌, None, Some, nat_lt, add-one, append_assoc, arith, cond, drop, drop-cons, get_or, length, not, position, refl, sym, take, true≢false}
+use Rattle.std.proofs.lemmas.Bool.{and_parts}
 use Rattle.std.proofs.lemmas.Bool.Decides.{nat_tests}
 use Rattle.std.proofs.lemmas.List.Quantifiers.{position-Some}
 use Rattle.std.proofs.lemmas.List.Sums.{prefix_len-le-length}
 use Rattle.std.proofs.Math.Seq.{drop-length, take-length}
-use Rattle.std.specs.List.{after_first, before_first, position_or_len}
-use Rattle.script_lines.specs.Words.{is_space, plain_len, quoted_len, word_len, words_after}
+use Rattle.std.specs.List.{after_first, before_first, list_all, position_or_len}
+use Rattle.script_lines.specs.Words.{is_space, quoted_len, word_len, words_after}
 
 -- ---- the length of a word
 
@@ -17,11 +18,11 @@ none_at : (b : Bool) (k l : ℕ) → nat_lt k l ≡ b → k ≤ l → cond b (So
 none_at true k l is low h = cc
 none_at false k l is low h = grind (arith, nat_tests)
 
-pub space_at : (bs : List ℕ) (n : ℕ) → position is_space bs ≡ Some n → n ≡ plain_len bs
-space_at bs n h = some_at _ _ n h
+pub first_at : (p : ℕ → Bool) (bs : List ℕ) (n : ℕ) → position p bs ≡ Some n → n ≡ position_or_len p bs
+first_at p bs n h = some_at _ _ n h
 
-pub no_space : (bs : List ℕ) → position is_space bs ≡ None → length bs ≡ plain_len bs
-no_space bs h = none_at _ _ (length bs) refl (prefix_len-le-length _ bs) h
+pub none_in : (p : ℕ → Bool) (bs : List ℕ) → position p bs ≡ None → length bs ≡ position_or_len p bs
+none_in p bs h = none_at _ _ (length bs) refl (prefix_len-le-length _ bs) h
 
 pub space_is : (bs : List ℕ) (n : ℕ) → position is_space bs ≡ Some n → get_or bs n 0 ≡ 32
 space_is bs n h = let e = position-Some is_space bs n 0 h in grind (arith, nat_tests)
@@ -135,3 +136,19 @@ plain_cut bs h = plain_cut_at bs (cut_begins bs h)
 -- a text that is as long as its first word is that word
 pub whole_word : (bs : List ℕ) → 0 < length bs → get_or bs 0 0 ≢ 32 → word_len bs ≡ length bs → words_after 0 bs ≡ bs ∷ []
 whole_word bs some space h = first_word bs some space ∙ (rw (h, take-length bs, drop-length bs) refl)
+
+-- ---- bytes that are no spaces, up to the first space
+
+-- a space, or the end, follows bytes that pass a test which no space passes
+pub first_space : (p : ℕ → Bool) → ((c : ℕ) → p c ≡ true → is_space c ≡ false) → (bs : List ℕ) (k : ℕ) → list_all p (take k bs) ≡ true → k ≤ length bs
+    → (k < length bs → get_or bs k 0 ≡ 32) → position_or_len is_space bs ≡ k
+first_space p other [] k all within space = omega arith
+first_space p other (c ∷ cs) zero all within space =
+    let h : c ≡ 32 = space (omega arith) in
+    let e : is_space c ≡ true = grind (arith, nat_tests) in
+    rw e refl
+first_space p other (c ∷ cs) (suc k) all within space =
+    let parts = and_parts (p c) _ all in
+    let e = other c parts.0 in
+    let f = first_space p other cs k parts.1 (omega arith) (λ l. space (omega arith)) in
+    rw (e, f) (omega arith)

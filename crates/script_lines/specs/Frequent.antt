@@ -2,7 +2,7 @@
 use Rattle.std.specs.Prelude.{◌≡◌, ℕ, List, [], ◌∷◌, None, Some, codes, option_map}
 use Rattle.mm_types.specs.declared.numbers.Node.TheVariants as node
 use Rattle.mm_types.specs.declared.numbers.ObjectNo.{ObjectNo}
-use Rattle.script_lines.specs.Forms.{add_form, line_with}
+use Rattle.script_lines.specs.Forms.{line_with}
 use Rattle.script_lines.specs.Values.{name_in, object_in, value_in}
 use Rattle.script_lines.specs.Words.{words}
 use Rattle.script_lines.specs.declared.form.Form.TheVariants as asks

@@ -1,13 +1,17 @@
 //! The most frequent lines, which are read without a list of their words. Most lines of a script are of these forms, and to cut a line
 //! into a list of words takes longer than the change that it asks for.
-ghost use Rattle.std.specs.Prelude.{◌≡◌, ◌++◌, IfSome, drop};
+ghost use Rattle.std.specs.Prelude.{◌≡◌, ◌++◌, ◌∷◌, [], IfSome, Some, drop};
+ghost use Rattle.std.specs.List.{after_first, before_first};
 ghost use Rattle.script_lines.specs.Forms.{text_line};
-ghost use Rattle.script_lines.specs.Frequent.{ReadsFeature, ReadsValue, frequent_line, verb_text};
+ghost use Rattle.script_lines.specs.Frequent.{ReadsFeature, frequent_line, verb_text};
+ghost use Rattle.script_lines.specs.Values.{object_in};
+ghost use Rattle.script_lines.specs.Words.{is_space, words};
 
+use crate::grammar::{OBJECT_MARK, SPACE};
 use crate::name::Name;
-use crate::values::object_of;
+use crate::numbers::number_begun;
 use crate::word::Word;
-use crate::words::{cut_at_space, is_word};
+use crate::words::{after_byte, is_word};
 use mm_types::ObjectNo;
 
 /// A line of one of the most frequent forms. Classes and features are given by the names that are in the line. The last word of `Set` and
@@ -46,26 +50,65 @@ fn verb_of(line: &str) -> Option<Verb>
     }
 }
 
+/// The object before the first space of a text, and what follows that space.
+fn object_before_space(text: &str) -> Option<(ObjectNo, &str)>
+    ensures { IfSome result (λ p. (object_in (before_first is_space text.now) ≡ Some p.0) × (p.1.now ≡ after_first is_space text.now)) }
+{
+    if text.is_empty() {
+        return None;
+    }
+    if text.as_bytes()[0] != OBJECT_MARK {
+        return None;
+    }
+    let digits = after_byte(text);
+    let bytes = digits.as_bytes();
+    let (number, len) = number_begun(bytes)?;
+    if len == bytes.len() {
+        return None;
+    }
+    if bytes[len] != SPACE {
+        return None;
+    }
+    let rest = &digits[len + 1..];
+    Some((ObjectNo(number), rest))
+}
+
 /// The object and the name of a feature that a text begins with, one space after each, and what follows.
 fn object_feature_of(text: &str) -> Option<(ObjectNo, Name<'_>, &str)>
     ensures { IfSome result (λ p. ReadsFeature p.0 p.1 p.2.now text.now) }
 {
-    let (node, rest) = cut_at_space(text);
-    let object = object_of(node)?;
-    let (name, rest) = cut_at_space(rest);
-    let feature = Name::from_word(name)?;
-    Some((object, feature, rest))
+    let (object, rest) = object_before_space(text)?;
+    let (feature, more) = Name::before_space(rest)?;
+    Some((object, feature, more))
 }
 
-/// The object, the name of a feature and the word of a value that a text is.
-fn object_feature_value_of(text: &str) -> Option<(ObjectNo, Name<'_>, Word<'_>)>
-    ensures { IfSome result (λ p. ReadsValue p.0 p.1 p.2 text.now) }
+/// The one word that a text is.
+fn word_of(text: &str) -> Option<Word<'_>>
+    ensures { IfSome result (λ w. words text.now ≡ w ∷ []) }
 {
-    let (object, feature, rest) = object_feature_of(text)?;
-    if is_word(rest) {
-        Some((object, feature, Word::new(rest)))
+    if is_word(text) {
+        Some(Word::new(text))
     } else {
         None
+    }
+}
+
+/// A line of a verb other than `new`, by what follows the verb.
+fn feature_line_of(verb: Verb, text: &str) -> Option<Frequent<'_>>
+    ensures { IfSome result (λ f. text_line (verb_text verb ++ text.now) ≡ frequent_line f) }
+{
+    let (object, feature, more) = object_feature_of(text)?;
+    if let Verb::Get = verb {
+        if more.is_empty() {
+            return Some(Frequent::Get(object, feature));
+        }
+        return None;
+    }
+    let value = word_of(more)?;
+    match verb {
+        Verb::Set => Some(Frequent::Set(object, feature, value)),
+        Verb::Add => Some(Frequent::Add(object, feature, value)),
+        _ => None,
     }
 }
 
@@ -76,26 +119,9 @@ pub fn frequent_of(line: &str) -> Option<Frequent<'_>>
 {
     let verb = verb_of(line)?;
     let rest = &line[4..];
-    match verb {
-        Verb::New => {
-            let class = Name::from_word(rest)?;
-            Some(Frequent::New(class))
-        }
-        Verb::Get => {
-            let (object, feature, more) = object_feature_of(rest)?;
-            if more.is_empty() {
-                Some(Frequent::Get(object, feature))
-            } else {
-                None
-            }
-        }
-        Verb::Set => {
-            let (object, feature, value) = object_feature_value_of(rest)?;
-            Some(Frequent::Set(object, feature, value))
-        }
-        Verb::Add => {
-            let (object, feature, value) = object_feature_value_of(rest)?;
-            Some(Frequent::Add(object, feature, value))
-        }
+    if let Verb::New = verb {
+        let class = Name::from_word(rest)?;
+        return Some(Frequent::New(class));
     }
+    feature_line_of(verb, rest)
 }

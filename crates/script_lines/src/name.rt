@@ -1,7 +1,12 @@
 //! Names.
-ghost use Rattle.std.specs.Prelude.{◌≡◌};
+ghost use Rattle.std.specs.Prelude.{◌≡◌, IfSome, Some, not, position};
+ghost use Rattle.std.specs.List.{after_first, before_first, prefix_len};
+ghost use Rattle.mm_types.specs.Names.{is_name_byte as is_a_name_byte};
 ghost use Rattle.script_lines.specs.Values.{name_in};
+ghost use Rattle.script_lines.specs.Words.{is_space};
 
+use crate::grammar::SPACE;
+use crate::words::cut_at;
 use mm_types::names::is_name;
 use std::marker::Model;
 
@@ -19,7 +24,46 @@ impl<'a> Model for Name<'a> {
     ghost view = { λ n. n.text.now };
 }
 
+/// Whether a name may have a byte.
+fn is_name_byte(byte: u8) -> bool
+    ensures { result ≡ is_a_name_byte byte }
+{
+    byte.is_ascii_alphabetic() || (byte.is_ascii_digit() || byte == b'_')
+}
+
+fn first_other(bytes: &[u8]) -> Option<usize>
+    ensures { result ≡ position (λ b. not (is_a_name_byte b)) bytes.now }
+{
+    bytes.iter().position(|b| !is_name_byte(*b))
+}
+
+/// How many bytes at the front a name may have.
+fn name_len_of(bytes: &[u8]) -> usize
+    ensures { result ≡ prefix_len is_a_name_byte bytes.now }
+{
+    match first_other(bytes) {
+        Some(n) => n,
+        None => bytes.len(),
+    }
+}
+
 impl<'a> Name<'a> {
+    /// The name before the first space of a text, and what follows that space; nothing follows if there is no space.
+    pub(crate) fn before_space(text: &'a str) -> Option<(Self, &'a str)>
+        ensures { IfSome result (λ p. (name_in (before_first is_space text.now) ≡ Some p.0) × (p.1.now ≡ after_first is_space text.now)) }
+    {
+        let bytes = text.as_bytes();
+        let len = name_len_of(bytes);
+        if len == 0 || bytes[0].is_ascii_digit() {
+            return None;
+        }
+        if len < bytes.len() && bytes[len] != SPACE {
+            return None;
+        }
+        let (name, rest) = cut_at(text, len);
+        Some((Name { text: name }, rest))
+    }
+
     /// The name that a word is: a letter or `_`, and then letters, digits and `_`.
     pub(crate) fn from_word(word: &'a str) -> Option<Self>
         ensures { result ≡ name_in word.now }

@@ -1,5 +1,5 @@
 //! A line is cut into words at its spaces. A word that begins with a quotation mark goes on to the next one.
-ghost use Rattle.std.specs.Prelude.{◌≡◌, ◌<◌, ◌≤◌, ◌∷◌, [], drop, false, length, map, position, slice_index, take, true};
+ghost use Rattle.std.specs.Prelude.{◌≡◌, ◌<◌, ◌≤◌, ◌+◌, ◌∷◌, [], drop, false, length, map, position, slice_index, take, true};
 ghost use Rattle.std.specs.List.{after_first, before_first};
 ghost use Rattle.std.specs.Str.{IsUtf8};
 ghost use Rattle.script_lines.specs.Words.{is_space, plain_len, quoted_len, word_len, words};
@@ -71,17 +71,28 @@ fn first_word(text: &str) -> (&str, &str)
     text.split_at(word_len_of(text.as_bytes()))
 }
 
-/// What comes before the first space of a text, and what follows it; nothing follows if there is no space.
-pub fn cut_at_space(text: &str) -> (&str, &str)
-    ensures before { result.0.now ≡ before_first is_space text.now }
-    ensures after { result.1.now ≡ after_first is_space text.now }
+/// The first bytes of a text, and what follows the space after them; nothing follows at the end of the text.
+#[inline]
+pub fn cut_at(text: &str, len: usize) -> (&str, &str)
+    requires within { len ≤ length text.now }
+    requires end { len < length text.now → slice_index text.now len ≡ SPACE }
+    ensures before { result.0.now ≡ take len text.now }
+    ensures after { result.1.now ≡ drop (len + 1) text.now }
 {
-    let (before, rest) = text.split_at(plain_len_of(text.as_bytes()));
+    let (before, rest) = text.split_at(len);
     if rest.is_empty() {
         (before, rest)
     } else {
         (before, after_byte(rest))
     }
+}
+
+/// What comes before the first space of a text, and what follows it; nothing follows if there is no space.
+pub fn cut_at_space(text: &str) -> (&str, &str)
+    ensures before { result.0.now ≡ before_first is_space text.now }
+    ensures after { result.1.now ≡ after_first is_space text.now }
+{
+    cut_at(text, plain_len_of(text.as_bytes()))
 }
 
 /// Whether a text is one word.
