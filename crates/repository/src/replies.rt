@@ -1,5 +1,5 @@
 //! Replies and refusals of commands that bring no adapter.
-ghost use Rattle.std.specs.Prelude.{◌≡◌, []};
+ghost use Rattle.std.specs.Prelude.{◌≡◌, [], true};
 ghost use Rattle.notice_chain.specs.View.{View};
 ghost use Rattle.repository.specs.Answers.{got_answer};
 ghost use Rattle.repository.specs.Run.{change_outcome, read_outcome};
@@ -20,6 +20,36 @@ pub(crate) fn reply<A>(alloc: Global, answer: Answer) -> Reply<A>
         told: Seq::new(alloc),
         released: Seq::new(alloc),
     }
+}
+
+/// That a command is done which only changes something, as a reply.
+pub(crate) fn replied_done<A>(alloc: Global, done: Result<(), Refused>) -> Result<Reply<A>, Refused>
+    ensures { (heard : A → View) → change_outcome (changed_view heard result) ≡ read_outcome (λ u. answer.Done) done }
+{
+    done?;
+    Ok(reply(alloc, Answer::Done))
+}
+
+/// That a list has a value more, as a reply.
+pub(crate) fn replied_added<A>(
+    alloc: Global,
+    added: Result<(), Refused>,
+) -> Result<Reply<A>, Refused>
+    ensures { (heard : A → View) → change_outcome (changed_view heard result) ≡ read_outcome (λ u. answer.Flag true) added }
+{
+    added?;
+    Ok(reply(alloc, Answer::Flag(true)))
+}
+
+/// The object that was made, as a reply.
+pub(crate) fn replied_object<A>(
+    alloc: Global,
+    made: Result<ObjectNo, Refused>,
+) -> Result<Reply<A>, Refused>
+    ensures { (heard : A → View) → change_outcome (changed_view heard result) ≡ read_outcome answer.Object made }
+{
+    let object = made?;
+    Ok(reply(alloc, Answer::Object(object)))
 }
 
 /// What a feature has, as a reply.

@@ -12,6 +12,7 @@ mod loads;
 mod reads;
 mod resolving;
 mod resources;
+mod unheard;
 mod validation;
 
 use adapter_list::{AdapterList, Hearers};

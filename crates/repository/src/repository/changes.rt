@@ -5,7 +5,6 @@ ghost use Rattle.handshake.specs.Plans.{edits_values_alone};
 ghost use Rattle.handshake.specs.declared.change.Change.{Change};
 ghost use Rattle.handshake.specs.Refusals.{early_refusal as early_refusal_of};
 ghost use Rattle.repository.specs.Run.{Executed, change_outcome};
-ghost use Rattle.repository.specs.Puts.{IsPutAlone};
 ghost use Rattle.repository.specs.State.{reads};
 ghost use Rattle.repository.specs.Views.{changed_view, command_of};
 ghost use Rattle.repository.specs.declared.command.Command.TheVariants.{Create, Delete, Set, Unset};
@@ -13,15 +12,14 @@ ghost use Rattle.repository.specs.Proper.{IsProper};
 
 use super::Repository;
 use crate::leaving::notify;
-use crate::lone_puts::forget_put;
-use crate::preparing::{Prepared, next_object, prepare, prepare_values, reserve};
+use crate::preparing::{Prepared, prepare, prepare_values, reserve};
 use crate::remembered::forget_touched;
-use crate::reply::{Answer, Reply};
+use crate::replies::{replied_done, replied_object};
+use crate::reply::Reply;
 use adapters::Adapter;
-use handshake::{Change, create_refusal, early_refusal, lone_set, plan_set, set_early_refusal};
-use links::{LinkStore, NewLink};
+use handshake::{Change, early_refusal};
+use links::LinkStore;
 use mm_types::{ClassNo, FeatureNo, Node, ObjectNo, Refused, Seq, Value};
-use mm_values::{ValueEdit, ValuePlan};
 
 impl<L: LinkStore, A: Adapter> Repository<L, A> {
     /// Makes an object of a class, each of whose attributes has its default (EMF: EFactory.create). Notifies nobody.
@@ -31,7 +29,7 @@ impl<L: LinkStore, A: Adapter> Repository<L, A> {
         ensures { Executed self.old (Create class) (change_outcome (changed_view A.heard result)) self.new }
     {
         if self.adapters.len() == 0 {
-            return self.create_unheard(class);
+            return replied_object(self.alloc, self.make_object(class));
         }
         self.change(Change::Create(class))
     }
@@ -57,7 +55,7 @@ impl<L: LinkStore, A: Adapter> Repository<L, A> {
             if self.meta.is_reference(feature) {
                 return self.set_link(node, feature, value);
             }
-            return self.set_value(node, feature, value);
+            return replied_done(self.alloc, self.set_value(node, feature, value));
         }
         self.change(Change::Set {
             node,
@@ -128,24 +126,6 @@ impl<L: LinkStore, A: Adapter> Repository<L, A> {
         })
     }
 
-    /// A change whose plan is one put, if no adapter is attached: the store makes room for the link and puts it in one step, and no plan
-    /// is made. Most links that are made displace none.
-    pub(super) fn put_alone(&mut self, put: NewLink, answer: Answer) -> Result<Reply<A>, Refused>
-        requires alone { (c : Change) × IsPutAlone self.old c put answer }
-        ensures { (c : Change) → IsPutAlone self.old c put answer → Executed self.old (command_of [] c) (change_outcome (changed_view A.heard result)) self.new }
-    {
-        match self.store.put(put) {
-            Ok(()) => {}
-            Err(_) => return Err(Refused::Memory),
-        }
-        forget_put(&mut self.paths, put);
-        Ok(Reply {
-            answer,
-            told: Seq::new(self.alloc),
-            released: Seq::new(self.alloc),
-        })
-    }
-
     /// A set of a reference, if no adapter is attached.
     fn set_link(
         &mut self,
@@ -156,72 +136,14 @@ impl<L: LinkStore, A: Adapter> Repository<L, A> {
         requires unheard { self.old.adapters ≡ [] }
         ensures { Executed self.old (Set node feature value) (change_outcome (changed_view A.heard result)) self.new }
     {
-        let model = self.model();
-        if let Some(refused) = set_early_refusal(&model, node, feature, &value) {
-            return Err(refused);
+        match self.set_lone_link(node, feature, &value) {
+            Some(outcome) => replied_done(self.alloc, outcome),
+            None => self.carry_out(Change::Set {
+                node,
+                feature,
+                value,
+            }),
         }
-        if let Some(put) = lone_set(&model, node, feature, &value) {
-            return self.put_alone(put, Answer::Done);
-        }
-        self.carry_out(Change::Set {
-            node,
-            feature,
-            value,
-        })
-    }
-
-    /// `change_values` of a new object, without a `Change`.
-    fn create_unheard(&mut self, class: ClassNo) -> Result<Reply<A>, Refused>
-        requires unheard { self.old.adapters ≡ [] }
-        ensures { Executed self.old (Create class) (change_outcome (changed_view A.heard result)) self.new }
-    {
-        let model = self.model();
-        if let Some(refused) = create_refusal(&model, class) {
-            return Err(refused);
-        }
-        let object = next_object(&model);
-        match self
-            .values
-            .try_apply(ValuePlan::one(ValueEdit::NewObject(class)))
-        {
-            Ok(()) => {}
-            Err(_) => return Err(Refused::Memory),
-        }
-        Ok(Reply {
-            answer: Answer::Object(object),
-            told: Seq::new(self.alloc),
-            released: Seq::new(self.alloc),
-        })
-    }
-
-    /// `change_values` of a set of an attribute, without a `Change`: most sets are of attributes, and what they cost is to hand it on.
-    fn set_value(
-        &mut self,
-        node: Node,
-        feature: FeatureNo,
-        value: Value,
-    ) -> Result<Reply<A>, Refused>
-        requires attribute { (shape self.old.model.metamodel feature).is_reference ≡ false }
-        requires unheard { self.old.adapters ≡ [] }
-        ensures { Executed self.old (Set node feature value) (change_outcome (changed_view A.heard result)) self.new }
-    {
-        let model = self.model();
-        if let Some(refused) = set_early_refusal(&model, node, feature, &value) {
-            return Err(refused);
-        }
-        let values = match plan_set(self.alloc, &model, node, feature, value) {
-            Ok(values) => values,
-            Err(refused) => return Err(refused),
-        };
-        match self.values.try_apply(values) {
-            Ok(()) => {}
-            Err(_) => return Err(Refused::Memory),
-        }
-        Ok(Reply {
-            answer: Answer::Done,
-            told: Seq::new(self.alloc),
-            released: Seq::new(self.alloc),
-        })
     }
 
     /// Every change goes these steps; after the second nothing can fail. A change that loads a document is done as `load` of each text that

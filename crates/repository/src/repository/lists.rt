@@ -5,9 +5,10 @@ ghost use Rattle.repository.specs.Views.{changed_view};
 ghost use Rattle.repository.specs.declared.command.Command.TheVariants as command;
 
 use super::Repository;
-use crate::reply::{Answer, Reply};
+use crate::replies::replied_added;
+use crate::reply::Reply;
 use adapters::Adapter;
-use handshake::{Change, list_early_refusal, lone_add};
+use handshake::Change;
 use links::LinkStore;
 use mm_types::{FeatureNo, Node, Refused, Value};
 
@@ -114,18 +115,14 @@ impl<L: LinkStore, A: Adapter> Repository<L, A> {
         requires unheard { self.old.adapters ≡ [] }
         ensures { Executed self.old (command.Add node feature value index) (change_outcome (changed_view A.heard result)) self.new }
     {
-        let model = self.model();
-        if let Some(refused) = list_early_refusal(&model, node, feature, &value) {
-            return Err(refused);
+        match self.add_lone_link(node, feature, &value, index) {
+            Some(outcome) => replied_added(self.alloc, outcome),
+            None => self.carry_out(Change::Add {
+                node,
+                feature,
+                value,
+                index,
+            }),
         }
-        if let Some(put) = lone_add(&model, node, feature, &value, index) {
-            return self.put_alone(put, Answer::Flag(true));
-        }
-        self.carry_out(Change::Add {
-            node,
-            feature,
-            value,
-            index,
-        })
     }
 }

@@ -2,7 +2,6 @@ use Rattle.std.proofs.Common.{◌≡◌, ◌∙◌, Bool, [], ◌∷◌, refl, s
 use Rattle.std.specs.FinMap as map
 use Rattle.std.specs.Prelude.{if◌then◌else◌}
 use Rattle.mm_values.specs.Room.{values_of}
-use Rattle.adapter_list.specs.Attached.{views_of}
 use Rattle.adapter_list.specs.Hearing.{AreKnown}
 use Rattle.links.specs.Holders.{above}
 use Rattle.links.specs.Laws.{touches_containment}
@@ -35,18 +34,18 @@ seen : (s v : State) (ch : Change) (p : NewLink) (a : Answer) → s ≡ v → Is
 seen s v ch p a is h = subst (λ (t : State). IsPutAlone t ch p a) (sym is) h
 
 pub put-requires-clause-fits : goal.put-requires-clause-fits
-put-requires-clause-fits g c = (seen _ _ c.requires.alone.0 c.args.put c.args.answer c.self.view_is c.requires.alone.1).planned.fits.0
+put-requires-clause-fits g c = (seen _ _ c.requires.alone.0 c.args.put c.requires.alone.1 c.self.view_is c.requires.alone.2).planned.fits.0
 
 pub put-requires-clause-of_kind : goal.put-requires-clause-of_kind
 put-requires-clause-of_kind g c =
-    let alone = seen _ _ c.requires.alone.0 c.args.put c.args.answer c.self.view_is c.requires.alone.1 in
+    let alone = seen _ _ c.requires.alone.0 c.args.put c.requires.alone.1 c.self.view_is c.requires.alone.2 in
     (kinds_of c.self.inside.meta, c.self.invariant.kinds_are, alone.planned.of_kind)
 
 -- if memory is refused, nothing that is seen has changed
 pub returns-in-Err : goal.returns-in-Err
-returns-in-Err g c = λ change given.
+returns-in-Err g c = λ change answer given.
     let s : State = state g.L.LinkStore.links c.self.inside in
-    let alone = seen s _ change c.args.put c.args.answer c.self.view_is given in
+    let alone = seen s _ change c.args.put answer c.self.view_is given in
     rw (← c.self.view_is, c.in-Err.ensures.links) (out_of_memory s [] change alone.proper alone.asked)
 
 pub invariant_of-self : goal.invariant_of-self
@@ -63,15 +62,15 @@ invariant_of-self g c =
     }
 
 pub returns : goal.returns
-returns g c = λ change given.
+returns g c = λ change answer given.
     let s : State = state g.L.LinkStore.links c.self.inside in
     let put = c.args.put in
-    let alone = seen s _ change put c.args.answer c.self.view_is given in
+    let alone = seen s _ change put answer c.self.view_is given in
     let plan = alone.planned in
     let links = c.in-Ok.ensures.links ∙ plan.links_made in
     let t : State = record { model = model_of c.self.inside.meta (values_of c.self.inside.values) (g.L.LinkStore.links c.put.new.self); adapters = c.self.inside.adapters.0 } in
     rw (← c.self.view_is)
-    (changed-unheard s t [] change c.args.answer c.new.result (views_of g.A.Adapter.heard c.new-2.result) alone.unheard c.new.ensures (ap (views_of g.A.Adapter.heard) c.new-2.ensures) alone.proper alone.asked plan.allowed alone.answered
+    (changed-unheard s t [] change answer [] [] alone.unheard refl refl alone.proper alone.asked plan.allowed alone.answered
     (λ i. model_of c.self.inside.meta (plan.values_made i) (links i)) refl)
 
 pub invariant_of-self-2 : goal.invariant_of-self-2
@@ -79,7 +78,7 @@ invariant_of-self-2 g c =
     let s : State = state g.L.LinkStore.links c.self.inside in
     let change = c.requires.alone.0 in
     let put = c.args.put in
-    let alone = seen s _ change put c.args.answer c.self.view_is c.requires.alone.1 in
+    let alone = seen s _ change put c.requires.alone.1 c.self.view_is c.requires.alone.2 in
     let plan = alone.planned in
     let m = c.self.inside.meta in
     let v = values_of c.self.inside.values in
@@ -88,7 +87,7 @@ invariant_of-self-2 g c =
     let is = c.in-Ok.ensures.links in
     let links = is ∙ plan.links_made in
     let made : model_of m v new ≡ after s.model change = λ i. model_of m (plan.values_made i) (links i) in
-    let legal = stepped-legal _ _ (command_of [] change) _ (subst IsLegal c.self.view_is c.self.invariant.legal) (returns g c change c.requires.alone.1) in
+    let legal = stepped-legal _ _ (command_of [] change) _ (subst IsLegal c.self.view_is c.self.invariant.legal) (returns g c change c.requires.alone.1 c.requires.alone.2) in
     let legal_after = subst (λ (l : Links). models.IsLegal (model_of m v l)) is legal.model in
     let kept = kept-after m v v old (put_edit put ∷ []) c.self.invariant.legal.model legal_after plan.fits plan.of_kind c.self.inside.paths c.self.invariant.paths in
     let forgets : Bool → Kept = λ b. if b then map.empty else c.self.inside.paths in

@@ -1,7 +1,6 @@
 use Rattle.std.proofs.Common.{◌≡◌, ◌∙◌, [], None, true, not, refl, sym, ap, subst}
 use Rattle.mm_values.specs.Room.{values_of}
 use Rattle.models.specs.Model.{Model, model_of, reading}
-use Rattle.adapter_list.specs.Attached.{views_of}
 use Rattle.handshake.specs.Effects.{value_edits}
 use Rattle.handshake.specs.Plans.{edits_values_alone}
 use Rattle.handshake.specs.Refusals.{early_refusal, late_refusal}
@@ -61,7 +60,7 @@ returns g c =
     let values = c.in-Ok-try_apply.ensures.ok ∙ plan.values_made in
     let t : State = record { model = model_of c.self.inside.meta (values_of c.try_apply.new.self) (g.L.LinkStore.links c.self.inside.store); adapters = c.self.inside.adapters.0 } in
     rw (← c.self.view_is)
-    (changed-unheard s t [] change answer.Done c.new.result (views_of g.A.Adapter.heard c.new-2.result) none c.new.ensures (ap (views_of g.A.Adapter.heard) c.new-2.ensures) tt early late refl
+    (changed-unheard s t [] change answer.Done [] [] none refl refl tt early late refl
     (λ i. model_of c.self.inside.meta (values i) (plan.links_made i)) refl)
 
 pub invariant_of-self-2 : goal.invariant_of-self-2

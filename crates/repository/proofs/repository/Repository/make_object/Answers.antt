@@ -3,7 +3,6 @@ use Rattle.mm_types.specs.Conditions.{◌else_by◌}
 use Rattle.mm_types.specs.declared.refused.Refused.{Refused}
 use Rattle.mm_values.specs.Room.{values_of}
 use Rattle.models.specs.Model.{Model, model_of, reading}
-use Rattle.adapter_list.specs.Attached.{views_of}
 use Rattle.handshake.specs.Refusals.{early_refusal, late_refusal}
 use Rattle.handshake.specs.declared.change.Change.{Change}
 use Rattle.handshake.specs.declared.change.Change.TheVariants.{Create}
@@ -18,7 +17,7 @@ use Rattle.repository.proofs.LegalLemmas.{stepped-legal}
 use Rattle.repository.proofs.LoadLemmas.{proper-steady}
 use Rattle.repository.proofs.PlanLemmas.{first_err, out_of_memory}
 use Rattle.repository.proofs.ValueLemmas.{changed-unheard}
-use Rattle.repository.proofs.repository.Repository.create_unheard.Goals as goal
+use Rattle.repository.proofs.repository.Repository.make_object.Goals as goal
 
 -- a class that is refused is refused as its command is
 pub returns-in-Some : goal.returns-in-Some
@@ -54,7 +53,7 @@ returns g c =
     let values = c.in-Ok.ensures.ok ∙ plan.values_made in
     let t : State = record { model = model_of c.self.inside.meta (values_of c.try_apply.new.self) (g.L.LinkStore.links c.self.inside.store); adapters = c.self.inside.adapters.0 } in
     rw (← c.self.view_is)
-    (changed-unheard s t [] change (answer.Object c.next_object-object.result) c.new.result (views_of g.A.Adapter.heard c.new-2.result) none c.new.ensures (ap (views_of g.A.Adapter.heard) c.new-2.ensures) tt free.0 free.1 answered
+    (changed-unheard s t [] change (answer.Object c.next_object-object.result) [] [] none refl refl tt free.0 free.1 answered
     (λ i. model_of c.self.inside.meta (values i) (plan.links_made i)) refl)
 
 pub invariant_of-self-2 : goal.invariant_of-self-2

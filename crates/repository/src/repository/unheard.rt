@@ -1,0 +1,177 @@
+//! Changes that nobody can hear. Most commands of a script are such changes, and to make a reply with lists of who was notified takes longer
+//! than the change itself. Each call here does what the call of its name does that has a reply.
+ghost use Rattle.std.specs.Prelude.{◌≡◌, [], None, false, true, MatchOption};
+ghost use Rattle.mm_types.specs.Shapes.{shape};
+ghost use Rattle.handshake.specs.Refusals.{early_refusal as early_refusal_of};
+ghost use Rattle.handshake.specs.declared.change.Change.{Change};
+ghost use Rattle.handshake.specs.declared.change.Change.TheVariants as change;
+ghost use Rattle.repository.specs.Puts.{IsPutAlone};
+ghost use Rattle.repository.specs.Run.{Executed, read_outcome};
+ghost use Rattle.repository.specs.State.{reads};
+ghost use Rattle.repository.specs.Views.{command_of};
+ghost use Rattle.repository.specs.declared.command.Command.TheVariants.{Add, Create, Set};
+ghost use Rattle.repository.specs.declared.reply.Answer.{Answer};
+ghost use Rattle.repository.specs.declared.reply.Answer.TheVariants as answer;
+
+use super::Repository;
+use crate::lone_puts::forget_put;
+use crate::preparing::next_object;
+use adapters::Adapter;
+use handshake::{
+    create_refusal, list_early_refusal, lone_add, lone_set, plan_set, set_early_refusal,
+};
+use links::{LinkStore, NewLink};
+use mm_types::{ClassNo, FeatureNo, Node, ObjectNo, Refused, Value};
+use mm_values::{ValueEdit, ValuePlan};
+
+impl<L: LinkStore, A: Adapter> Repository<L, A> {
+    /// Makes an object as `create` does, and returns it, or the refusal. `None` if an adapter is attached; then nothing was done, and
+    /// `create` is to be called.
+    pub fn create_unheard(&mut self, class: ClassNo) -> Option<Result<ObjectNo, Refused>>
+        ensures { MatchOption result (self.new ≡ self.old) (λ r. Executed self.old (Create class) (read_outcome answer.Object r) self.new) }
+    {
+        if self.adapters.len() > 0 {
+            return None;
+        }
+        Some(self.make_object(class))
+    }
+
+    /// Sets a single feature as `e_set` does, or returns the refusal. `None` if an adapter is attached, or if the new link displaces
+    /// another; then nothing was done, and `e_set` is to be called.
+    pub fn set_unheard(
+        &mut self,
+        node: Node,
+        feature: FeatureNo,
+        value: Value,
+    ) -> Option<Result<(), Refused>>
+        ensures { MatchOption result (self.new ≡ self.old) (λ r. Executed self.old (Set node feature value) (read_outcome (λ u. answer.Done) r) self.new) }
+    {
+        if self.adapters.len() > 0 {
+            return None;
+        }
+        if self.meta.is_reference(feature) {
+            return self.set_lone_link(node, feature, &value);
+        }
+        Some(self.set_value(node, feature, value))
+    }
+
+    /// Adds an object to a list as `add` does, which then returns that the list changed, or returns the refusal. `None` if an adapter is
+    /// attached, if the new link displaces another, if the list has the object, or if the feature is an attribute; then nothing was done,
+    /// and `add` is to be called.
+    pub fn add_unheard(
+        &mut self,
+        node: Node,
+        feature: FeatureNo,
+        value: Value,
+        index: Option<u32>,
+    ) -> Option<Result<(), Refused>>
+        ensures { MatchOption result (self.new ≡ self.old) (λ r. Executed self.old (Add node feature value index) (read_outcome (λ u. answer.Flag true) r) self.new) }
+    {
+        if self.adapters.len() > 0 || !self.meta.is_reference(feature) {
+            return None;
+        }
+        self.add_lone_link(node, feature, &value, index)
+    }
+
+    /// The part of `create` if no adapter is attached.
+    pub(super) fn make_object(&mut self, class: ClassNo) -> Result<ObjectNo, Refused>
+        requires unheard { self.old.adapters ≡ [] }
+        ensures { Executed self.old (Create class) (read_outcome answer.Object result) self.new }
+    {
+        let model = self.model();
+        if let Some(refused) = create_refusal(&model, class) {
+            return Err(refused);
+        }
+        let object = next_object(&model);
+        match self
+            .values
+            .try_apply(ValuePlan::one(ValueEdit::NewObject(class)))
+        {
+            Ok(()) => {}
+            Err(_) => return Err(Refused::Memory),
+        }
+        Ok(object)
+    }
+
+    /// The part of `e_set` of an attribute, if no adapter is attached.
+    pub(super) fn set_value(
+        &mut self,
+        node: Node,
+        feature: FeatureNo,
+        value: Value,
+    ) -> Result<(), Refused>
+        requires attribute { (shape self.old.model.metamodel feature).is_reference ≡ false }
+        requires unheard { self.old.adapters ≡ [] }
+        ensures { Executed self.old (Set node feature value) (read_outcome (λ u. answer.Done) result) self.new }
+    {
+        let model = self.model();
+        if let Some(refused) = set_early_refusal(&model, node, feature, &value) {
+            return Err(refused);
+        }
+        let values = match plan_set(self.alloc, &model, node, feature, value) {
+            Ok(values) => values,
+            Err(refused) => return Err(refused),
+        };
+        match self.values.try_apply(values) {
+            Ok(()) => {}
+            Err(_) => return Err(Refused::Memory),
+        }
+        Ok(())
+    }
+
+    /// The part of `e_set` of a reference, if no adapter is attached. `None` if more is to be done than to put one link; then nothing was
+    /// done, and no refusal applies that needs no memory.
+    pub(super) fn set_lone_link(
+        &mut self,
+        node: Node,
+        feature: FeatureNo,
+        value: &Value,
+    ) -> Option<Result<(), Refused>>
+        requires unheard { self.old.adapters ≡ [] }
+        ensures { MatchOption result
+            ((self.new ≡ self.old) × (early_refusal_of (reads self.old) (change.Set node feature value.now) ≡ None))
+            (λ r. Executed self.old (Set node feature value.now) (read_outcome (λ u. answer.Done) r) self.new) }
+    {
+        let model = self.model();
+        if let Some(refused) = set_early_refusal(&model, node, feature, value) {
+            return Some(Err(refused));
+        }
+        let put = lone_set(&model, node, feature, value)?;
+        Some(self.put_alone(put))
+    }
+
+    /// The part of `add` to a reference, if no adapter is attached, as `set_lone_link` is of `e_set`.
+    pub(super) fn add_lone_link(
+        &mut self,
+        node: Node,
+        feature: FeatureNo,
+        value: &Value,
+        index: Option<u32>,
+    ) -> Option<Result<(), Refused>>
+        requires unheard { self.old.adapters ≡ [] }
+        ensures { MatchOption result
+            ((self.new ≡ self.old) × (early_refusal_of (reads self.old) (change.Add node feature value.now index) ≡ None))
+            (λ r. Executed self.old (Add node feature value.now index) (read_outcome (λ u. answer.Flag true) r) self.new) }
+    {
+        let model = self.model();
+        if let Some(refused) = list_early_refusal(&model, node, feature, value) {
+            return Some(Err(refused));
+        }
+        let put = lone_add(&model, node, feature, value, index)?;
+        Some(self.put_alone(put))
+    }
+
+    /// A change whose plan is one put, if no adapter is attached: the store makes room for the link and puts it in one step, and no plan
+    /// is made. Most links that are made displace none.
+    fn put_alone(&mut self, put: NewLink) -> Result<(), Refused>
+        requires alone { (c : Change) × (a : Answer) × IsPutAlone self.old c put a }
+        ensures { (c : Change) (a : Answer) → IsPutAlone self.old c put a → Executed self.old (command_of [] c) (read_outcome (λ u. a) result) self.new }
+    {
+        match self.store.put(put) {
+            Ok(()) => {}
+            Err(_) => return Err(Refused::Memory),
+        }
+        forget_put(&mut self.paths, put);
+        Ok(())
+    }
+}
