@@ -181,3 +181,11 @@ unfolding verb_word
 add_line o f w rest r =
     verb_line verb.Add rest ∙ (ap (λ ws. line_of (codes "add" ∷ ws)) r.words_are
     ∙ rw (node_is r.object o r.object_is, r.name_is) (ap line_with (zipped (λ p. asks.Add p.0.0 p.0.1 p.1 None) (node.Object o) f (value_in w))))
+
+pub container_line : (rest : List ℕ) (o : ObjectNo) → words rest ≡ rest ∷ [] → object_in rest ≡ Some o → text_line (codes "container " ++ rest) ≡ frequent_line (frequent.Container o)
+container_line rest o one h =
+    other_line (codes "container " ++ rest) (no_load_begins (codes "container " ++ rest) refl)
+    ∙ (ap (λ ws. line_of (codes "container" ∷ ws)) one ∙ ap (λ x. line_with (option_map asks.Container x)) h)
+
+pub ascii_container : (bytes : List ℕ) → bytes ≡ codes "container " ++ drop 10 bytes → (9 < length bytes) × (slice_index bytes 9 < 128)
+ascii_container bytes is = rw is (omega arith, omega arith)

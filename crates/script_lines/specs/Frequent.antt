@@ -25,6 +25,7 @@ frequent_line (frequent.New c) = line.Form (asks.New c)
 frequent_line (frequent.Get o f) = line.Form (asks.Get (node.Object o) f)
 frequent_line (frequent.Set o f w) = line_with (option_map (λ v. asks.Set (node.Object o) f v) (value_in w))
 frequent_line (frequent.Add o f w) = line_with (option_map (λ v. asks.Add (node.Object o) f v None) (value_in w))
+frequent_line (frequent.Container o) = line.Form (asks.Container o)
 
 -- a text begins with an object and a name, and has the words of the rest behind them
 pub record ReadsFeature (o : ObjectNo) (f rest text : List ℕ) : Type 0 where

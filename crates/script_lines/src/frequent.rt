@@ -1,6 +1,6 @@
 //! The most frequent lines, which are read without a list of their words. Most lines of a script are of these forms, and to cut a line
 //! into a list of words takes longer than the change that it asks for.
-ghost use Rattle.std.specs.Prelude.{◌≡◌, ◌++◌, ◌∷◌, [], IfSome, Some, drop};
+ghost use Rattle.std.specs.Prelude.{◌≡◌, ◌++◌, ◌∷◌, [], IfSome, Some, codes, drop, true};
 ghost use Rattle.std.specs.List.{after_first, before_first};
 ghost use Rattle.script_lines.specs.Forms.{text_line};
 ghost use Rattle.script_lines.specs.Frequent.{ReadsFeature, frequent_line, verb_text};
@@ -10,6 +10,7 @@ ghost use Rattle.script_lines.specs.Words.{is_space, words};
 use crate::grammar::{OBJECT_MARK, SPACE};
 use crate::name::Name;
 use crate::numbers::number_begun;
+use crate::values::object_of;
 use crate::word::Word;
 use crate::words::{after_byte, is_word};
 use mm_types::ObjectNo;
@@ -26,6 +27,8 @@ pub enum Frequent<'a> {
     Set(ObjectNo, Name<'a>, Word<'a>),
     /// `add OBJ NAME VALUE`
     Add(ObjectNo, Name<'a>, Word<'a>),
+    /// `container OBJ`
+    Container(ObjectNo),
 }
 
 /// The verb of such a line.
@@ -48,6 +51,40 @@ fn verb_of(line: &str) -> Option<Verb>
         [b'a', b'd', b'd', b' ', ..] => Some(Verb::Add),
         _ => None,
     }
+}
+
+/// Whether a line begins with `container` and a space.
+fn asks_container(line: &str) -> bool
+    ensures { result ≡ true → line.now ≡ codes "container " ++ drop 10 line.now }
+{
+    matches!(
+        line.as_bytes(),
+        [
+            b'c',
+            b'o',
+            b'n',
+            b't',
+            b'a',
+            b'i',
+            b'n',
+            b'e',
+            b'r',
+            b' ',
+            ..
+        ]
+    )
+}
+
+/// A line that asks for the container of an object.
+fn container_line_of(line: &str) -> Option<Frequent<'_>>
+    ensures { IfSome result (λ f. text_line line.now ≡ frequent_line f) }
+{
+    if !asks_container(line) {
+        return None;
+    }
+    let word = word_of(&line[10..])?;
+    let object = object_of(word.as_str())?;
+    Some(Frequent::Container(object))
 }
 
 /// The object before the first space of a text, and what follows that space.
@@ -117,7 +154,9 @@ fn feature_line_of(verb: Verb, text: &str) -> Option<Frequent<'_>>
 pub fn frequent_of(line: &str) -> Option<Frequent<'_>>
     ensures { IfSome result (λ f. text_line line.now ≡ frequent_line f) }
 {
-    let verb = verb_of(line)?;
+    let Some(verb) = verb_of(line) else {
+        return container_line_of(line);
+    };
     let rest = &line[4..];
     if let Verb::New = verb {
         let class = Name::from_word(rest)?;
