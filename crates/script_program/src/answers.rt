@@ -180,7 +180,7 @@ fn print_notified<A: Adapter>(
 }
 
 /// Adds the lines that a command prints that is done; the feature is the one that it names.
-pub(crate) fn print_reply<A: Adapter>(
+fn print_reply<A: Adapter>(
     output: &mut Output,
     meta: &Meta,
     feature: FeatureNo,

@@ -6,6 +6,7 @@ mod arguments;
 mod bind;
 mod dress;
 mod dressing;
+mod frequent;
 mod help;
 mod interpreter;
 pub mod laws;

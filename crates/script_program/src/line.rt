@@ -1,42 +1,34 @@
 //! A line of a script is run.
-ghost use Rattle.std.specs.Prelude.{◌≡◌, [], None, Err, true, IfOk};
-ghost use Rattle.mm_types.specs.declared.numbers.Node.TheVariants as node;
+ghost use Rattle.std.specs.Prelude.{◌≡◌, [], Err, true, IfOk};
 ghost use Rattle.mm_types.specs.Shapes.{shape};
 ghost use Rattle.notice_chain.specs.View.{View};
-ghost use Rattle.repository.specs.Run.{Executed, change_outcome};
-ghost use Rattle.repository.specs.State.{State};
-ghost use Rattle.repository.specs.Step.{joins};
-ghost use Rattle.repository.specs.Views.{changed_view, command_view, outcome_view};
-ghost use Rattle.repository.specs.declared.command.Command.{Command};
+ghost use Rattle.repository.specs.Run.{change_outcome};
+ghost use Rattle.repository.specs.Views.{command_view, outcome_view};
 ghost use Rattle.repository.specs.declared.command.Command.TheVariants.{Get};
 ghost use Rattle.script_lines.specs.Forms as forms;
-ghost use Rattle.script_lines.specs.Frequent.{frequent_line};
 ghost use Rattle.script_lines.specs.Source.{bytes_of};
-ghost use Rattle.script_lines.specs.declared.frequent.Frequent.TheVariants as frequent;
-ghost use Rattle.script_program.specs.Answers.{feature_of as feature_named};
-ghost use Rattle.script_program.specs.Bind.{IsGiven, add_command, create_command, pool_of, request_view, set_command};
+ghost use Rattle.script_program.specs.Bind.{IsGiven, pool_of, request_view};
 ghost use Rattle.script_program.specs.Pool.{Pool as PoolView};
 ghost use Rattle.script_program.specs.Script.{RunsCommand, RunsLine, RunsRequest, bad_printed, seen_printed};
 ghost use Rattle.script_program.specs.Session.{IsBrought, brought_no, session, taken};
 ghost use Rattle.script_program.specs.Turns.{outcome_turn, printed};
 
-use crate::answers::{feature_of, print_found, print_outcome, print_refusal, print_reply};
-use crate::bind::{NOTHING, bind, class_number, feature_number, value_in};
+use crate::answers::{feature_of, print_found, print_outcome, print_refusal};
+use crate::bind::bind;
+use crate::frequent::run_frequent;
 use crate::pool::Pool;
 use crate::request::Request;
 use crate::turn::Turn;
 use adapters::Adapter;
 use links::LinkStore;
-use mm_types::{AdapterNo, FeatureNo, Node, ObjectNo, Refused};
+use mm_types::{AdapterNo, FeatureNo, Node, Refused};
 use repository::{Command, Failure, Reply, Repository};
-use script_lines::{
-    Frequent, Line, Name, Source, WrittenValue, frequent_of, text_line_of, value_of,
-};
+use script_lines::{Line, Source, frequent_of, text_line_of};
 use script_output::Output;
 use std::alloc::{AllocError, Global};
 
 /// How a refusal is counted.
-fn turn_of_refusal(refused: Refused) -> Turn
+pub(crate) fn turn_of_refusal(refused: Refused) -> Turn
     ensures { result ≡ outcome_turn (change_outcome (Err refused)) }
 {
     if refused == Refused::Memory {
@@ -67,7 +59,7 @@ fn number_of<A>(command: &Command<A>) -> Option<AdapterNo>
 }
 
 /// Reads a feature of one value and prints it from where it is kept. Errs only if memory is refused for what is printed.
-fn run_get<L: LinkStore, A: Adapter>(
+pub(crate) fn run_get<L: LinkStore, A: Adapter>(
     repository: &Repository<L, A>,
     output: &mut Output,
     node: Node,
@@ -114,7 +106,7 @@ fn run_seen<L: LinkStore, A: Adapter>(
 
 /// Executes a command, whose adapter is out of the pool, and prints its answer. What is released, or not attached, goes back to
 /// the pool. Errs only if memory is refused for what is printed.
-fn run_command<L: LinkStore, A: Adapter>(
+pub(crate) fn run_command<L: LinkStore, A: Adapter>(
     repository: &mut Repository<L, A>,
     pool: &mut Pool<A>,
     output: &mut Output,
@@ -167,139 +159,6 @@ fn print_bad(output: &mut Output) -> Result<Turn, AllocError>
     Ok(Turn::Bad)
 }
 
-/// Reads a feature of an object and prints its value. Errs only if memory is refused for what is printed.
-fn run_read<L: LinkStore, A: Adapter>(
-    repository: &mut Repository<L, A>,
-    pool: &mut Pool<A>,
-    output: &mut Output,
-    object: ObjectNo,
-    name: &str,
-) -> Result<Turn, AllocError>
-    requires { output.old ≡ [] }
-    ensures { IfOk result (λ t. RunsLine (session repository.old pool.old) (frequent_line (frequent.Get object name.now)) (printed output.new t) (session repository.new pool.new)) }
-{
-    let node = Node::Object(object);
-    let feature = feature_number(repository, node, name);
-    if repository.meta().is_single(feature) {
-        run_get(repository, output, node, feature)
-    } else {
-        run_command(repository, pool, output, Command::Get { node, feature })
-    }
-}
-
-/// Prints the answer of a change that brought no adapter, and puts what it released back into the pool. Errs only if memory is refused for what
-/// is printed.
-fn finish_change<L: LinkStore, A: Adapter>(
-    repository: &Repository<L, A>,
-    pool: &mut Pool<A>,
-    output: &mut Output,
-    feature: FeatureNo,
-    outcome: Result<Reply<A>, Refused>,
-) -> Result<Turn, AllocError>
-    requires { output.old ≡ [] }
-    ensures { (before : State) (command : Command View) → Executed before command (change_outcome (changed_view A.heard outcome)) repository.now
-        → feature_named command ≡ feature → joins command ≡ []
-        → IfOk result (λ t. RunsCommand (session before pool.old) command (printed output.new t) (session repository.now pool.new)) }
-{
-    match outcome {
-        Ok(reply) => {
-            print_reply(output, repository.meta(), feature, &reply)?;
-            pool.put_all(reply.released.into_vec());
-            Ok(Turn::Done)
-        }
-        Err(refused) => {
-            print_refusal(output, refused)?;
-            Ok(turn_of_refusal(refused))
-        }
-    }
-}
-
-/// Creates an object of a class, and prints the answer. Errs only if memory is refused for what is printed.
-fn run_create<L: LinkStore, A: Adapter>(
-    repository: &mut Repository<L, A>,
-    pool: &mut Pool<A>,
-    output: &mut Output,
-    class: Name<'_>,
-) -> Result<Turn, AllocError>
-    requires { output.old ≡ [] }
-    ensures { IfOk result (λ t. RunsCommand (session repository.old pool.old) (create_command repository.old.model.metamodel class.entry) (printed output.new t)
-        (session repository.new pool.new)) }
-{
-    let class = class_number(repository.meta(), class.as_str());
-    let outcome = repository.create(class);
-    finish_change(repository, pool, output, FeatureNo(NOTHING), outcome)
-}
-
-/// Sets a feature of an object to a value, and prints the answer. Errs only if memory is refused for what is printed.
-fn run_set<L: LinkStore, A: Adapter>(
-    repository: &mut Repository<L, A>,
-    pool: &mut Pool<A>,
-    output: &mut Output,
-    object: ObjectNo,
-    name: Name<'_>,
-    written: WrittenValue<'_>,
-) -> Result<Turn, AllocError>
-    requires { output.old ≡ [] }
-    ensures { IfOk result (λ t. RunsCommand (session repository.old pool.old) (set_command repository.old (node.Object object) name.entry written.entry)
-        (printed output.new t) (session repository.new pool.new)) }
-{
-    let node = Node::Object(object);
-    let feature = feature_number(repository, node, name.as_str());
-    let value = value_in(repository.meta(), feature, written);
-    let outcome = repository.e_set(node, feature, value);
-    finish_change(repository, pool, output, feature, outcome)
-}
-
-/// Adds a value at the end of a feature of an object, and prints the answer. Errs only if memory is refused for what is printed.
-fn run_add<L: LinkStore, A: Adapter>(
-    repository: &mut Repository<L, A>,
-    pool: &mut Pool<A>,
-    output: &mut Output,
-    object: ObjectNo,
-    name: Name<'_>,
-    written: WrittenValue<'_>,
-) -> Result<Turn, AllocError>
-    requires { output.old ≡ [] }
-    ensures { IfOk result (λ t. RunsCommand (session repository.old pool.old) (add_command repository.old (node.Object object) name.entry written.entry None)
-        (printed output.new t) (session repository.new pool.new)) }
-{
-    let node = Node::Object(object);
-    let feature = feature_number(repository, node, name.as_str());
-    let value = value_in(repository.meta(), feature, written);
-    let outcome = repository.add(node, feature, value, None);
-    finish_change(repository, pool, output, feature, outcome)
-}
-
-/// Runs a line of one of the most frequent forms, and prints the answer. It does what `run_text` does, and is shorter, since it knows which
-/// call of the repository the line asks for.
-///
-/// Errs only if memory is refused for the text that the line writes as a value, or for what is printed.
-fn run_frequent<L: LinkStore, A: Adapter>(
-    alloc: Global,
-    repository: &mut Repository<L, A>,
-    pool: &mut Pool<A>,
-    output: &mut Output,
-    line: Frequent<'_>,
-) -> Result<Turn, AllocError>
-    requires { output.old ≡ [] }
-    ensures { IfOk result (λ t. RunsLine (session repository.old pool.old) (frequent_line line.entry) (printed output.new t) (session repository.new pool.new)) }
-{
-    match line {
-        Frequent::New(class) => run_create(repository, pool, output, class),
-        Frequent::Get(object, feature) => {
-            run_read(repository, pool, output, object, feature.as_str())
-        }
-        Frequent::Set(object, feature, word) => match value_of(alloc, word.as_str())? {
-            Some(value) => run_set(repository, pool, output, object, feature, value),
-            None => print_bad(output),
-        },
-        Frequent::Add(object, feature, word) => match value_of(alloc, word.as_str())? {
-            Some(value) => run_add(repository, pool, output, object, feature, value),
-            None => print_bad(output),
-        },
-    }
-}
-
 /// Runs a line that is a text: parses it, does what it asks for and prints the answer.
 ///
 /// Errs only if memory is refused for the text that the line writes as a value, or for what is printed.
@@ -340,8 +199,10 @@ pub(crate) fn run_line<L: LinkStore, A: Adapter>(
     let Some(text) = line.text_of_line() else {
         return print_bad(output);
     };
-    match frequent_of(text) {
-        Some(line) => run_frequent(alloc, repository, pool, output, line),
-        None => run_text(alloc, repository, pool, output, text),
+    if let Some(line) = frequent_of(text) {
+        if let Some(turn) = run_frequent(alloc, repository, pool, output, line)? {
+            return Ok(turn);
+        }
     }
+    run_text(alloc, repository, pool, output, text)
 }

@@ -3,7 +3,7 @@ use Rattle.script_lines.specs.declared.form.Form.TheVariants as asks
 use Rattle.mm_types.specs.declared.numbers.Node.TheVariants as node
 use Rattle.script_program.specs.Session.{Session, session}
 use Rattle.script_program.proofs.SessionLemmas.{bind-given}
-use Rattle.script_program.proofs.line.run_read.Goals as goal
+use Rattle.script_program.proofs.frequent.run_read.Goals as goal
 
 pub returns-else-is_single : goal.returns-else-is_single
 returns-else-is_single g c =

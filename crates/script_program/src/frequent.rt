@@ -1,0 +1,230 @@
+//! Lines of the most frequent forms are run. They call the repository themselves, and a change that nobody can hear is printed without a
+//! reply: to bind a line to a command and to take its reply apart takes longer than the change.
+ghost use Rattle.std.specs.Prelude.{◌≡◌, [], Err, IfOk, IfSome, None, Some};
+ghost use Rattle.mm_types.specs.Resolved.{Metamodel};
+ghost use Rattle.mm_types.specs.declared.numbers.Node.TheVariants as node;
+ghost use Rattle.notice_chain.specs.View.{View};
+ghost use Rattle.repository.specs.Run.{change_outcome};
+ghost use Rattle.repository.specs.declared.command.Command.{Command};
+ghost use Rattle.repository.specs.declared.command.Command.TheVariants as command;
+ghost use Rattle.script_lines.specs.Frequent.{frequent_line};
+ghost use Rattle.script_lines.specs.Values.{value_in};
+ghost use Rattle.script_lines.specs.declared.frequent.Frequent.TheVariants as frequent;
+ghost use Rattle.script_program.specs.Bind as b;
+ghost use Rattle.script_program.specs.Pool.{Pool as PoolView};
+ghost use Rattle.script_program.specs.Script.{IsTried, RunsCommand, RunsLine, command_printed};
+ghost use Rattle.script_program.specs.Session.{session};
+ghost use Rattle.script_program.specs.Turns.{printed};
+
+use crate::answers::print_refusal;
+use crate::bind::{class_number, feature_number, value_in};
+use crate::line::{run_command, run_get, turn_of_refusal};
+use crate::pool::Pool;
+use crate::turn::Turn;
+use adapters::Adapter;
+use links::LinkStore;
+use mm_types::{FeatureNo, Node, ObjectNo, Refused, Value};
+use repository::{Command, Repository};
+use script_lines::{Frequent, Name, Word, WrittenValue, value_of};
+use script_output::Output;
+use std::alloc::{AllocError, Global};
+
+/// Prints the refusal of a change that brings no adapter. Errs only if memory is refused for what is printed.
+fn print_refused(output: &mut Output, refused: Refused) -> Result<Turn, AllocError>
+    requires { output.old ≡ [] }
+    ensures { (m : Metamodel) (c : Command View) → IfOk result (λ t. printed output.new t ≡ command_printed m c (change_outcome (Err refused))) }
+{
+    print_refusal(output, refused)?;
+    Ok(turn_of_refusal(refused))
+}
+
+/// Reads a feature of an object and prints its value. Errs only if memory is refused for what is printed.
+fn run_read<L: LinkStore, A: Adapter>(
+    repository: &mut Repository<L, A>,
+    pool: &mut Pool<A>,
+    output: &mut Output,
+    object: ObjectNo,
+    name: &str,
+) -> Result<Turn, AllocError>
+    requires { output.old ≡ [] }
+    ensures { IfOk result (λ t. RunsLine (session repository.old pool.old) (frequent_line (frequent.Get object name.now)) (printed output.new t) (session repository.new pool.new)) }
+{
+    let node = Node::Object(object);
+    let feature = feature_number(repository, node, name);
+    if repository.meta().is_single(feature) {
+        run_get(repository, output, node, feature)
+    } else {
+        run_command(repository, pool, output, Command::Get { node, feature })
+    }
+}
+
+/// Creates an object of a class, and prints the answer; `None` if the repository leaves it to `create`, and then nothing was done. Errs
+/// only if memory is refused for what is printed.
+fn run_create<L: LinkStore, A: Adapter>(
+    repository: &mut Repository<L, A>,
+    output: &mut Output,
+    class: Name<'_>,
+) -> Result<Option<Turn>, AllocError>
+    requires { output.old ≡ [] }
+    ensures { (pool : PoolView) → IfOk result (λ o. IsTried (session repository.old pool) (session repository.new pool) output.new o
+        (λ t. RunsCommand (session repository.old pool) (b.create_command repository.old.model.metamodel class.entry) (printed output.new t)
+        (session repository.new pool))) }
+{
+    let class = class_number(repository.meta(), class.as_str());
+    match repository.create_unheard(class) {
+        Some(Ok(object)) => {
+            output.node(Node::Object(object))?;
+            output.line_end()?;
+            Ok(Some(Turn::Done))
+        }
+        Some(Err(refused)) => Ok(Some(print_refused(output, refused)?)),
+        None => Ok(None),
+    }
+}
+
+/// Reads which object contains an object, and prints it. Errs only if memory is refused for what is printed.
+fn run_container<L: LinkStore, A: Adapter>(
+    repository: &Repository<L, A>,
+    output: &mut Output,
+    object: ObjectNo,
+) -> Result<Turn, AllocError>
+    requires { output.old ≡ [] }
+    ensures { (pool : PoolView)
+        → IfOk result (λ t. RunsCommand (session repository.now pool) (command.Container object) (printed output.new t) (session repository.now pool)) }
+{
+    match repository.e_container(object) {
+        Ok(container) => {
+            output.node_or_null(container.map(Node::Object))?;
+            output.line_end()?;
+            Ok(Turn::Done)
+        }
+        Err(refused) => print_refused(output, refused),
+    }
+}
+
+/// What a line asks for that gives a feature of an object a value.
+#[derive(Drop)]
+struct Asked<'a> {
+    object: ObjectNo,
+    feature: Name<'a>,
+    value: WrittenValue<'a>,
+}
+
+/// What a line asks for by these parts; `None` if its last word writes no value. Errs only if memory is refused for the text that the word
+/// writes.
+fn asked_of<'a>(
+    alloc: Global,
+    object: ObjectNo,
+    feature: Name<'a>,
+    word: Word<'a>,
+) -> Result<Option<Asked<'a>>, AllocError>
+    ensures { IfOk result (λ o. IfSome o (λ a. (a.object ≡ object) × (a.feature ≡ feature.entry) × (value_in word.entry ≡ Some a.value))) }
+{
+    match value_of(alloc, word.as_str())? {
+        Some(value) => Ok(Some(Asked {
+            object,
+            feature,
+            value,
+        })),
+        None => Ok(None),
+    }
+}
+
+/// The number of the feature that is asked for, and the value for it.
+fn bound<L: LinkStore, A: Adapter>(
+    repository: &Repository<L, A>,
+    asked: Asked<'_>,
+) -> (FeatureNo, Value)
+    ensures feature { result.0 ≡ b.feature_number repository.now (node.Object asked.entry.object) asked.entry.feature }
+    ensures value { result.1 ≡ b.named_value repository.now (node.Object asked.entry.object) asked.entry.feature asked.entry.value }
+{
+    let node = Node::Object(asked.object);
+    let feature = feature_number(repository, node, asked.feature.as_str());
+    (feature, value_in(repository.meta(), feature, asked.value))
+}
+
+/// Sets a feature of an object to a value, and prints the answer; `None` if the repository leaves it to `e_set`, and then nothing was done.
+/// Errs only if memory is refused for what is printed.
+fn run_set<L: LinkStore, A: Adapter>(
+    repository: &mut Repository<L, A>,
+    output: &mut Output,
+    asked: Asked<'_>,
+) -> Result<Option<Turn>, AllocError>
+    requires { output.old ≡ [] }
+    ensures { (pool : PoolView) → IfOk result (λ o. IsTried (session repository.old pool) (session repository.new pool) output.new o
+        (λ t. RunsCommand (session repository.old pool)
+        (b.set_command repository.old (node.Object asked.entry.object) asked.entry.feature asked.entry.value)
+        (printed output.new t) (session repository.new pool))) }
+{
+    let node = Node::Object(asked.object);
+    let (feature, value) = bound(repository, asked);
+    match repository.set_unheard(node, feature, value) {
+        Some(Ok(())) => {
+            output.text("ok\n")?;
+            Ok(Some(Turn::Done))
+        }
+        Some(Err(refused)) => Ok(Some(print_refused(output, refused)?)),
+        None => Ok(None),
+    }
+}
+
+/// Adds an object at the end of a feature of another, and prints the answer; `None` if the repository leaves it to `add`, and then nothing
+/// was done. Errs only if memory is refused for what is printed.
+fn run_add<L: LinkStore, A: Adapter>(
+    repository: &mut Repository<L, A>,
+    output: &mut Output,
+    asked: Asked<'_>,
+) -> Result<Option<Turn>, AllocError>
+    requires { output.old ≡ [] }
+    ensures { (pool : PoolView) → IfOk result (λ o. IsTried (session repository.old pool) (session repository.new pool) output.new o
+        (λ t. RunsCommand (session repository.old pool)
+        (b.add_command repository.old (node.Object asked.entry.object) asked.entry.feature asked.entry.value None)
+        (printed output.new t) (session repository.new pool))) }
+{
+    let node = Node::Object(asked.object);
+    let (feature, value) = bound(repository, asked);
+    match repository.add_unheard(node, feature, value, None) {
+        Some(Ok(())) => {
+            output.text("true\n")?;
+            Ok(Some(Turn::Done))
+        }
+        Some(Err(refused)) => Ok(Some(print_refused(output, refused)?)),
+        None => Ok(None),
+    }
+}
+
+/// Runs a line of one of the most frequent forms, and prints the answer. It does what `run_text` does, and is shorter, since it knows which
+/// call of the repository the line asks for. `None` leaves the line to `run_text`, and then nothing was done.
+///
+/// Errs only if memory is refused for the text that the line writes as a value, or for what is printed.
+pub(crate) fn run_frequent<L: LinkStore, A: Adapter>(
+    alloc: Global,
+    repository: &mut Repository<L, A>,
+    pool: &mut Pool<A>,
+    output: &mut Output,
+    line: Frequent<'_>,
+) -> Result<Option<Turn>, AllocError>
+    requires { output.old ≡ [] }
+    ensures { IfOk result (λ o. IsTried (session repository.old pool.old) (session repository.new pool.new) output.new o
+        (λ t. RunsLine (session repository.old pool.old) (frequent_line line.entry) (printed output.new t) (session repository.new pool.new))) }
+{
+    match line {
+        Frequent::New(class) => run_create(repository, output, class),
+        Frequent::Get(object, feature) => {
+            let turn = run_read(repository, pool, output, object, feature.as_str())?;
+            Ok(Some(turn))
+        }
+        Frequent::Container(object) => {
+            let turn = run_container(repository, output, object)?;
+            Ok(Some(turn))
+        }
+        Frequent::Set(object, feature, word) => match asked_of(alloc, object, feature, word)? {
+            Some(asked) => run_set(repository, output, asked),
+            None => Ok(None),
+        },
+        Frequent::Add(object, feature, word) => match asked_of(alloc, object, feature, word)? {
+            Some(asked) => run_add(repository, output, asked),
+            None => Ok(None),
+        },
+    }
+}
