@@ -63,6 +63,7 @@ impl NodeSlots {
     }
 
     /// How many values an end has.
+    #[inline]
     #[tactic(auto, unfolding(crate::specs::Cells::cells))]
     pub fn len(&self, end: End) -> usize
         ensures { result ≡ length ((cells self.now).vals end) }

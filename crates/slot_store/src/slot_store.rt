@@ -35,6 +35,7 @@ impl LinkStore for SlotStore {
         }
     }
 
+    #[inline]
     fn len(&self, end: End) -> usize {
         self.rows.len(end)
     }
