@@ -1,6 +1,13 @@
--- The places of an adapter that takes no memory to hear.
-use Rattle.std.specs.Prelude.{ℕ, ◌+◌, ◌-◌, ◌^◌}
+-- The places of an adapter that takes no memory to hear, and what it answers if it is asked for places.
+use Rattle.std.specs.Prelude.{◌≡◌, ◌↔◌, ℕ, ◌+◌, ◌-◌, ◌^◌, ◌<◌, ◌≤◌, Result, OnOk, IsErrOf, ⊤}
+use Rattle.adapters.specs.declared.adapter.NoRoom.{NoRoom}
+use Rattle.adapters.specs.declared.adapter.NoRoom.TheVariants.{Full, Memory}
 
 -- as many as it can still count, where it was told this many
 abbrev pub places_left : ℕ → ℕ
 places_left told = 2 ^ 64 - (told + 1)
+
+-- nothing changes, and it is full exactly where it can't count `n` more; it needs no memory
+abbrev pub IsCounted : {X : Type 0} → (X → ℕ) → ℕ → X → X → Result ⊤ NoRoom → Type 0
+IsCounted told n old new result =
+    OnOk result (told old + n < 2 ^ 64) × (IsErrOf result Full ↔ (2 ^ 64 ≤ told old + n)) × (IsErrOf result Memory → ⊥) × (new ≡ old) × (told new < 2 ^ 64)

@@ -1,5 +1,6 @@
 //! The count of the notices that an adapter has heard.
-ghost use Rattle.std.specs.Prelude.{◌≡◌, ◌+◌, ◌^◌, ◌≤◌, ◌<◌, ◌↔◌, OnOk, IsErrOf};
+ghost use Rattle.std.specs.Prelude.{◌≡◌, ◌+◌, ◌^◌, ◌<◌};
+ghost use Rattle.adapters.specs.Counting.{IsCounted};
 
 use crate::adapter::NoRoom;
 
@@ -26,10 +27,7 @@ impl Count {
 
     /// Full exactly if it can't count `n` more; never Memory.
     pub(crate) fn reserve(&self, n: u64) -> Result<(), NoRoom>
-        ensures ok { OnOk result (self.now.told + n < 2 ^ 64) }
-        ensures full { IsErrOf result NoRoom.Full ↔ (2 ^ 64 ≤ self.now.told + n) }
-        ensures needs_no_memory { IsErrOf result NoRoom.Memory → ⊥ }
-        ensures in_range { self.now.told < 2 ^ 64 }
+        ensures { IsCounted (λ c. c.told) n self.now self.now result }
     {
         if n > u64::MAX - self.told {
             return Err(NoRoom::Full);

@@ -1,7 +1,7 @@
 //! An adapter that counts.
-ghost use Rattle.std.specs.Prelude.{◌≡◌, ◌+◌, ◌^◌, ◌≤◌, ◌<◌, ◌↔◌, [], Some, OnOk, IsErrOf};
+ghost use Rattle.std.specs.Prelude.{◌≡◌, [], Some};
 ghost use Rattle.notice_chain.specs.View.{View};
-ghost use Rattle.adapters.specs.Counting.{places_left};
+ghost use Rattle.adapters.specs.Counting.{IsCounted, places_left};
 
 use crate::adapter::{Adapter, NoRoom};
 use crate::count::Count;
@@ -40,11 +40,7 @@ impl Adapter for Counter {
 
     /// It needs no memory for what it is to hear, so the only refusal is Full.
     fn reserve(&mut self, n: u64) -> Result<(), NoRoom>
-        ensures ok { OnOk result (self.old.count.told + n < 2 ^ 64) }
-        ensures full { IsErrOf result NoRoom.Full ↔ (2 ^ 64 ≤ self.old.count.told + n) }
-        ensures needs_no_memory { IsErrOf result NoRoom.Memory → ⊥ }
-        ensures unchanged { self.new ≡ self.old }
-        ensures countable { self.new.count.told < 2 ^ 64 }
+        ensures { IsCounted (λ c. c.count.told) n self.old self.new result }
     {
         self.count.reserve(n)
     }
