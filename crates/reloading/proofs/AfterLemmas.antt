@@ -17,8 +17,7 @@ use Rattle.mm_types.specs.declared.numbers.ObjectNo.{ObjectNo}
 use Rattle.mm_types.specs.declared.value.Value.{Value}
 use Rattle.mm_types.specs.declared.value.Value.TheVariants as value
 use Rattle.mm_types.proofs.SameLemmas.{same_end-self, same_end-true}
-use Rattle.mm_values.specs.Values.{ValuesState}
-use Rattle.links.specs.Links.{Links, far_end}
+use Rattle.links.specs.Links.{far_end}
 use Rattle.models.specs.Legal.{IsLegal}
 use Rattle.models.specs.Model.{Model, model_of, reading, values_at}
 use Rattle.models.specs.Reading.{at_end}
@@ -36,50 +35,46 @@ use Rattle.handshake.specs.declared.target.Counterpart.{Counterpart}
 use Rattle.reloading.specs.Addressed.{By, meant}
 use Rattle.reloading.specs.Alike.{HasSame, HaveSame, IsThere}
 use Rattle.reloading.specs.Between.{AreBothOrNone, Between, has_proxy}
-use Rattle.reloading.specs.Proxies.{HasNoProxy, proxies_len}
+use Rattle.reloading.specs.Proxies.{proxies_len}
 use Rattle.reloading.proofs.LeftLemmas.{of-features, one-fewer, with_values}
-use Rattle.reloading.proofs.MatchLemmas.{IsMatched, early-none, from, goal, goal-at, goal-target, late-none, matched, reference}
+use Rattle.reloading.proofs.MatchLemmas.{IsMatched, LeftProxy, early-none, from, goal, goal-at, goal-target, late-none, matched, place, reference}
 use Rattle.reloading.proofs.PlainLemmas.{reference-of}
 use Rattle.reloading.proofs.ListLemmas.{IsSet, New, Old, proxy-object, set-at, set-gone, set-name, set-other}
 use Rattle.reloading.proofs.ResolvedLemmas.{addresses-kept, far-values, other-values, own-values, resolved-legal}
 
 ---------------------------------------------------------------- after a resolve
 
-module _ (s : Model) (w : ValuesState) (c : Links) (legal : IsLegal s) (other : IsLegal (model_of s.metamodel w c)) (none : HasNoProxy (reading s)) (between : Between (reading s) (reading (model_of s.metamodel w c)))
-    (p : ObjectNo) (f : FeatureNo) (i : ℕ) (text : List ℕ) (here : slice_get (values_at (model_of s.metamodel w c) (at_end (node.Object p) f)) i ≡ Some (value.Proxy text)) where
-  abbrev t : Model
-  t = model_of s.metamodel w c
-
-  abbrev e : End
-  e = at_end (node.Object p) f
+module _ (left : LeftProxy) where
+  open left use {s, w, c, legal, other, between, p, f, i, text, here}
+  open place left use {t, e}
 
   abbrev aim : ObjectNo
-  aim = goal s w c legal other none between p f i text here
+  aim = goal left
 
   -- the text of the owner's address
   abbrev own_text : List ℕ
-  own_text = (from s w c legal other none between p f i text here).text
+  own_text = (from left).text
 
   own-at : address (reading t) p ≡ Some own_text
-  own-at = (from s w c legal other none between p f i text here).now
+  own-at = (from left).now
 
   aim-at : address (reading t) aim ≡ Some text
-  aim-at = goal-at s w c legal other none between p f i text here
+  aim-at = goal-at left
 
   abbrev u : Model
   u = after (model_of s.metamodel w c) (Resolve p f i)
 
   early : early_refusal (reading t) (Resolve p f i) ≡ None
-  early = early-none s w c legal other none between p f i text here
+  early = early-none left
 
   late : late_refusal (reading t) (Resolve p f i) ≡ None
-  late = late-none s w c legal other none between p f i text here
+  late = late-none left
 
   found : target_at (reading t) e i ≡ Some (target (reading t) e aim)
-  found = goal-target s w c legal other none between p f i text here
+  found = goal-target left
 
   refers : (shape s.metamodel f).is_reference ≡ true
-  refers = reference s w c legal other none between p f i text here
+  refers = reference left
 
   pub now-legal : IsLegal u
   now-legal = resolved-legal t other p f i early late
@@ -92,8 +87,8 @@ module _ (s : Model) (w : ValuesState) (c : Links) (legal : IsLegal s) (other : 
   abbrev is_far : End → Bool
   is_far d = option_map_or (λ (x : Counterpart). same_end x.end d) (counterpart (reading (model_of s.metamodel w c)) (at_end (node.Object p) f) aim) false
 
-  mate : (g : FeatureNo) → (shape s.metamodel f).opposite ≡ Some g → IsMatched s w c legal other none between p f i text here g
-  mate g pair = matched s w c legal other none between p f i text here g pair
+  mate : (g : FeatureNo) → (shape s.metamodel f).opposite ≡ Some g → IsMatched left g
+  mate g pair = matched left g pair
 
   far-is : (g : FeatureNo) → (shape s.metamodel f).opposite ≡ Some g → (d : End) → is_far d ≡ same_end (far_end aim g) d
   far-is g pair d = ap (λ (q : Option Counterpart). option_map_or (λ (x : Counterpart). same_end x.end d) q false) (mate g pair).found

@@ -69,13 +69,28 @@ leads-proxy r n _ h = absurd (false≢true h)
 
 ---------------------------------------------------------------- a proxy
 
-module _ (s : Model) (w : ValuesState) (c : Links) (legal : IsLegal s) (other : IsLegal (model_of s.metamodel w c)) (none : HasNoProxy (reading s)) (between : Between (reading s) (reading (model_of s.metamodel w c)))
-    (p : ObjectNo) (f : FeatureNo) (i : ℕ) (text : List ℕ) (here : slice_get (values_at (model_of s.metamodel w c) (at_end (node.Object p) f)) i ≡ Some (value.Proxy text)) where
-  abbrev t : Model
-  t = model_of s.metamodel w c
+-- a proxy that is left: s has none, t is between s and itself, and the proxy stands in t
+pub record LeftProxy : Type 0 where
+  pub s : Model
+  pub w : ValuesState
+  pub c : Links
+  pub legal : IsLegal s
+  pub other : IsLegal (model_of s.metamodel w c)
+  pub none : HasNoProxy (reading s)
+  pub between : Between (reading s) (reading (model_of s.metamodel w c))
+  pub p : ObjectNo
+  pub f : FeatureNo
+  pub i : ℕ
+  pub text : List ℕ
+  pub here : slice_get (values_at (model_of s.metamodel w c) (at_end (node.Object p) f)) i ≡ Some (value.Proxy text)
 
-  abbrev e : End
-  e = at_end (node.Object p) f
+-- the model that it stands in, and its end
+abbrev pub place : LeftProxy → record { t : Model; e : End }
+place left = record { t = model_of left.s.metamodel left.w left.c; e = at_end (node.Object left.p) left.f }
+
+module _ (left : LeftProxy) where
+  open left use {s, w, c, legal, other, none, between, p, f, i, text, here}
+  open place left use {t, e}
 
   pub reference : (shape s.metamodel f).is_reference ≡ true
   reference = reference-of t other e i (value.Proxy text) here refl

@@ -8,7 +8,7 @@ use Rattle.mm_types.specs.declared.numbers.ObjectNo.{ObjectNo}
 use Rattle.mm_values.specs.Values.{ValuesState}
 use Rattle.links.specs.Links.{Links}
 use Rattle.models.specs.Legal.{IsLegal}
-use Rattle.models.specs.Model.{Model, model_of, reading, values_at}
+use Rattle.models.specs.Model.{Model, model_of, reading}
 use Rattle.models.specs.Reading.{Reading, all_features_of, at_end}
 use Rattle.doc_loader.proofs.SoundLemmas.{flat_map-at}
 use Rattle.round_trip.proofs.ValuesListLemmas.{passes-kept, stands}
@@ -25,7 +25,7 @@ use Rattle.reloading.specs.Reload.{AreResolves}
 use Rattle.reloading.proofs.AfterLemmas.{now-legal}
 use Rattle.reloading.proofs.AlikeLemmas.{alike-of}
 use Rattle.reloading.proofs.LeftLemmas.{none-left}
-use Rattle.reloading.proofs.ResolveLemmas.{resolves-between, text-at}
+use Rattle.reloading.proofs.ResolveLemmas.{left-at, resolves-between}
 
 ---------------------------------------------------------------- a proxy that is left
 
@@ -59,8 +59,7 @@ module _ (s : Model) (legal : IsLegal s) (none : HasNoProxy (reading s)) where
       let t = model_of s.metamodel w b in
       let u = after t (Resolve o f i) in
       let one = resolves-between s w b legal other none between o f i resolves.0 in
-      let p = text-at (slice_get (values_at t (at_end (node.Object o) f)) i) resolves.0 in
-      let rest = all-resolved cs u.values u.links (now-legal s w b legal other none between o f i p.0 p.1) one.between resolves.1 in
+      let rest = all-resolved cs u.values u.links (now-legal (left-at s w b legal other none between o f i resolves.0)) one.between resolves.1 in
       record { allowed = (record { early = one.early; late = one.late }, rest.allowed); alike = rest.alike }
   all-resolved (_ ∷ cs) w b other between resolves = absurd resolves
 
@@ -75,11 +74,10 @@ module _ (s : Model) (legal : IsLegal s) (none : HasNoProxy (reading s)) where
       let some = some-proxy (reading t) more in
       let p = some.0 in
       let one = resolves-between s w b legal other none between p.object p.feature p.index some.1 in
-      let x = text-at (slice_get (values_at t (at_end (node.Object p.object) p.feature)) p.index) some.1 in
       let u = after t (Resolve p.object p.feature p.index) in
       let fewer = one.fewer in
       let less = fell (is_some (shape s.metamodel p.feature).opposite) (proxies_len (reading t)) (proxies_len (reading u)) fewer in
-      let rest = some-resolves n u.values u.links (now-legal s w b legal other none between p.object p.feature p.index x.0 x.1) one.between (omega (arith, low, less)) in
+      let rest = some-resolves n u.values u.links (now-legal (left-at s w b legal other none between p.object p.feature p.index some.1)) one.between (omega (arith, low, less)) in
       (Resolve p.object p.feature p.index ∷ rest.0, (some.1, rest.1)))
     where
       fell : (b : Bool) (x y : ℕ) → x ≡ (if b then 2 else 1) + y → y < x

@@ -34,7 +34,7 @@ use Rattle.reloading.proofs.AlikeLemmas.{alike-of}
 use Rattle.reloading.proofs.LeftLemmas.{at-range, none-left, of-features}
 use Rattle.reloading.proofs.PlainLemmas.{reference-of}
 use Rattle.reloading.proofs.ReloadLemmas.{some-proxy}
-use Rattle.reloading.proofs.ResolveLemmas.{resolves-between, text-at}
+use Rattle.reloading.proofs.ResolveLemmas.{left-at, resolves-between, text-at}
 use Rattle.reloading.proofs.ResolvedLemmas.{target-is}
 
 ---------------------------------------------------------------- places
@@ -104,10 +104,10 @@ module _ (s : Model) (legal : IsLegal s) (none : HasNoProxy (reading s)) where
     solved : is_proxy_site (reading t) p ≡ true → IsSolved t (p ∷ ps)
     solved there =
         let one = resolves-between s w b legal other none between p.object p.feature p.index there in
-        let x = text-at (slice_get (values_at t (end_of p)) p.index) there in
+        let left = left-at s w b legal other none between p.object p.feature p.index there in
         moved-on false (λ j. is_some (one.early j else_by one.late j))
-        (rest u.values u.links (now-legal s w b legal other none between p.object p.feature p.index x.0 x.1) one.between
-        (λ q g k z here. let was = proxy-was s w b legal other none between p.object p.feature p.index x.0 x.1 (at_end (node.Object q) g) k z here in by q g k was.1 (first-or p ps (site q g k) (at q g k z was.0))))
+        (rest u.values u.links (now-legal left) one.between
+        (λ q g k z here. let was = proxy-was left (at_end (node.Object q) g) k z here in by q g k was.1 (first-or p ps (site q g k) (at q g k z was.0))))
       where
         by : (q : ObjectNo) (g : FeatureNo) (k : ℕ) → (at_end (node.Object q) g ≡ end_of p → k ≡ p.index → ⊥) → IsFirstOr p ps (site q g k) → Contains ps (site q g k)
         by q g k apart (First same) = absurd (apart (ap end_of same) (ap (λ (y : ProxySite). y.index) same))

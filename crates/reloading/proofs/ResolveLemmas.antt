@@ -2,16 +2,22 @@
 use Rattle.std.proofs.Common.{◌≡◌, ℕ, true, List, Option, Some, None, is_some, slice_get, refl, ap}
 use Rattle.std.specs.Prelude.{option_and_then}
 use Rattle.std.proofs.lemmas.Bool.{false≢true}
+use Rattle.mm_types.specs.declared.numbers.FeatureNo.{FeatureNo}
 use Rattle.mm_types.specs.declared.numbers.Node.TheVariants as node
+use Rattle.mm_types.specs.declared.numbers.ObjectNo.{ObjectNo}
 use Rattle.mm_types.specs.declared.value.Value.{Value}
 use Rattle.mm_types.specs.declared.value.Value.TheVariants as value
 use Rattle.mm_values.specs.Values.{ValuesState}
 use Rattle.links.specs.Links.{Links, text_of}
-use Rattle.models.specs.Model.{Model, model_of, values_at}
+use Rattle.models.specs.Legal.{IsLegal}
+use Rattle.models.specs.Model.{Model, model_of, reading, values_at}
 use Rattle.models.specs.Reading.{at_end}
+use Rattle.handshake.specs.Resolving.{proxy_at}
+use Rattle.reloading.specs.Between.{Between}
 use Rattle.reloading.specs.Laws.{ResolvesBetween}
+use Rattle.reloading.specs.Proxies.{HasNoProxy}
 use Rattle.reloading.proofs.AfterLemmas.{between-after, fewer-left}
-use Rattle.reloading.proofs.MatchLemmas.{early-none, late-none}
+use Rattle.reloading.proofs.MatchLemmas.{LeftProxy, early-none, late-none}
 
 text-is : (v : Value) → is_some (text_of v) ≡ true → (t : List ℕ) × (v ≡ value.Proxy t)
 text-is (value.Proxy t) h = (t, refl)
@@ -22,12 +28,13 @@ pub text-at : (q : Option Value) → is_some (option_and_then text_of q) ≡ tru
 text-at None h = absurd (false≢true h)
 text-at (Some v) h = let is = text-is v h in (is.0, ap (λ (w : Value). Some w) is.1)
 
+abbrev pub left-at : (s : Model) (w : ValuesState) (b : Links) → IsLegal s → IsLegal (model_of s.metamodel w b) → HasNoProxy (reading s) → Between (reading s) (reading (model_of s.metamodel w b))
+    → (o : ObjectNo) (f : FeatureNo) (i : ℕ) → is_some (proxy_at (reading (model_of s.metamodel w b)) (at_end (node.Object o) f) i) ≡ true → LeftProxy
+left-at s w b legal other none between o f i there =
+    let x = text-at (slice_get (values_at (model_of s.metamodel w b) (at_end (node.Object o) f)) i) there in
+    record { s = s; w = w; c = b; legal = legal; other = other; none = none; between = between; p = o; f = f; i = i; text = x.0; here = x.1 }
+
 pub resolves-between : (s : Model) (w : ValuesState) (b : Links) → ResolvesBetween s w b
 resolves-between s w b legal other none between o f i there =
-    let p = text-at (slice_get (values_at (model_of s.metamodel w b) (at_end (node.Object o) f)) i) there in
-    record {
-      early = early-none s w b legal other none between o f i p.0 p.1;
-      late = late-none s w b legal other none between o f i p.0 p.1;
-      between = between-after s w b legal other none between o f i p.0 p.1;
-      fewer = fewer-left s w b legal other none between o f i p.0 p.1;
-    }
+    let left = left-at s w b legal other none between o f i there in
+    record { early = early-none left; late = late-none left; between = between-after left; fewer = fewer-left left }

@@ -12,7 +12,7 @@ use Rattle.mm_values.specs.Values.{ValuesState}
 use Rattle.web_uris.specs.Joined.{IsWebUri}
 use Rattle.links.specs.Links.{Links, no_links}
 use Rattle.models.specs.Legal.{IsLegal}
-use Rattle.models.specs.Model.{Model, empty_model, model_of, reading, values_at}
+use Rattle.models.specs.Model.{Model, empty_model, model_of, reading}
 use Rattle.models.specs.Reading.{Reading, at_end, has_resource}
 use Rattle.models.specs.Steady.{HasSteadyTexts}
 use Rattle.notice_chain.specs.View.{View}
@@ -40,7 +40,7 @@ use Rattle.reloading.proofs.MakeLemmas.{made-so-far, room, uri-new, uri-short}
 use Rattle.reloading.proofs.OrdersLemmas.{at-first, loads-give-between}
 use Rattle.reloading.proofs.AgainLemmas as reloads_of
 use Rattle.reloading.proofs.AgainLemmas.{same-metamodel}
-use Rattle.reloading.proofs.ResolveLemmas.{resolves-between, text-at}
+use Rattle.reloading.proofs.ResolveLemmas.{left-at, resolves-between}
 use Rattle.reloading.proofs.ResolveAllLemmas.{resolves-all}
 use Rattle.reloading.proofs.SoFarLemmas.{HasSoFar, numbered}
 use Rattle.repository.specs.Loads.{reads_into, uri_at}
@@ -126,7 +126,7 @@ module _ (s : Model) (legal : IsLegal s) (none : HasNoProxy (reading s)) where
     one = resolves-between s w b legal other none between o f i there
 
     then-legal : IsLegal (after before (Resolve o f i))
-    then-legal = let p = text-at (slice_get (values_at before (at_end (node.Object o) f)) i) there in now-legal s w b legal other none between o f i p.0 p.1
+    then-legal = now-legal (left-at s w b legal other none between o f i there)
 
     stepped : IsStep before (command.Resolve o f i) (after before (Resolve o f i))
     stepped = resolved before o f i (record { early = one.early; late = one.late })
