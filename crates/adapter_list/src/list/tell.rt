@@ -1,13 +1,12 @@
 //! Which adapters hear a notice, what is reserved for a chain, and its delivery.
-ghost use Rattle.std.specs.Prelude.{◌≡◌, ℕ, ◌≤◌, ◌<◌, ◌++◌, length, slice_index, false, All, OnOk, IfOk, IfErr};
+ghost use Rattle.std.specs.Prelude.{◌≡◌, ◌<◌, ◌++◌, length, slice_index, All, OnOk, IfOk};
 ghost use Rattle.links.specs.Holders.{HasNoCycle, above};
 ghost use Rattle.links.specs.LegalSets.{IsLegalSet};
-ghost use Rattle.notice_chain.specs.Listed.{audience_numbers, is_chain_full};
-ghost use Rattle.adapter_list.specs.Counts.{IsFirstFull};
+ghost use Rattle.notice_chain.specs.Listed.{audience_numbers};
 ghost use Rattle.adapter_list.specs.Hearing.{AreKnown, copies_at};
-ghost use Rattle.adapter_list.specs.Refusals.{IsChainRefusal};
+ghost use Rattle.adapter_list.specs.Reserved.{IsReserved};
 ghost use Rattle.adapter_list.specs.Targets.{targets_at};
-ghost use Rattle.adapter_list.specs.Rounds.{RoundFits, RoundView, round_copies, round_of, delivered, tell_at, told_by, use_place};
+ghost use Rattle.adapter_list.specs.Rounds.{RoundFits, round_of, delivered, tell_at, told_by, use_place};
 
 use super::AdapterList;
 use crate::hearers::Hearers;
@@ -49,14 +48,7 @@ impl<A: Adapter> AdapterList<A> {
     pub fn reserve_all<L: LinkStore>(&mut self, store: &L, chain: &Chain) -> Result<Round, Refused>
         requires legal { IsLegalSet (L.links store.now) }
         requires no_cycle { HasNoCycle (L.links store.now) }
-        ensures kept { self.new.0 ≡ self.old.0 }
-        ensures round { IfOk result (λ r. r ≡ round_of (above (L.links store.now)) chain.now self.old.0) }
-        ensures fits { IfOk result (λ r. RoundFits self.new.0 self.new.1 r) }
-        ensures counted { OnOk result (is_chain_full (above (L.links store.now)) chain.now self.old.0 ≡ false) }
-        ensures reason { IfErr result (λ e. IsChainRefusal (is_chain_full (above (L.links store.now)) chain.now self.old.0) e) }
-        ensures first { IfErr result (λ e. e ≡ Refused.AdapterFull → (k : ℕ) × IsFirstFull self.old.0 self.new.1 (round_copies (above (L.links store.now)) chain.now self.old.0) k) }
-        ensures no_fewer { (k : ℕ) → slice_index self.old.1 k ≤ slice_index self.new.1 k }
-        ensures still_fits { (r : RoundView) → RoundFits self.old.0 self.old.1 r → RoundFits self.new.0 self.new.1 r }
+        ensures { IsReserved (above (L.links store.now)) chain.now self.old self.new result }
     {
         let mut hearers = Hearers::new(self.alloc);
         self.reserve_known(store, chain, &mut hearers)
@@ -74,14 +66,7 @@ impl<A: Adapter> AdapterList<A> {
         requires no_cycle { HasNoCycle (L.links store.now) }
         requires known { AreKnown (above (L.links store.now)) self.old.0 hearers.old }
         ensures known { AreKnown (above (L.links store.now)) self.old.0 hearers.new }
-        ensures kept { self.new.0 ≡ self.old.0 }
-        ensures round { IfOk result (λ r. r ≡ round_of (above (L.links store.now)) chain.now self.old.0) }
-        ensures fits { IfOk result (λ r. RoundFits self.new.0 self.new.1 r) }
-        ensures counted { OnOk result (is_chain_full (above (L.links store.now)) chain.now self.old.0 ≡ false) }
-        ensures reason { IfErr result (λ e. IsChainRefusal (is_chain_full (above (L.links store.now)) chain.now self.old.0) e) }
-        ensures first { IfErr result (λ e. e ≡ Refused.AdapterFull → (k : ℕ) × IsFirstFull self.old.0 self.new.1 (round_copies (above (L.links store.now)) chain.now self.old.0) k) }
-        ensures no_fewer { (k : ℕ) → slice_index self.old.1 k ≤ slice_index self.new.1 k }
-        ensures still_fits { (r : RoundView) → RoundFits self.old.0 self.old.1 r → RoundFits self.new.0 self.new.1 r }
+        ensures reserved { IsReserved (above (L.links store.now)) chain.now self.old self.new result }
     {
         self.lemma_keeps_rules();
         let Ok(round) = self.round(store, chain.as_slice(), hearers) else {

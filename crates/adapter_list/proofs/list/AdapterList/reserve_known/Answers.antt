@@ -1,12 +1,12 @@
-use Rattle.std.proofs.Common.{◌≡◌, ◌+◌, ◌<◌, ◌≤◌, List, ℕ, length, slice_index, true, ap, sym, subst, ◌∙◌}
+use Rattle.std.proofs.Common.{◌≡◌, ◌+◌, ◌<◌, ◌≤◌, List, ℕ, length, slice_index, ap, sym, subst, ◌∙◌}
 use Rattle.links.specs.Holders.{above}
 use Rattle.adapters.specs.declared.adapter.NoRoom.TheVariants as room
 use Rattle.notice_chain.specs.Listed.{Listed, is_chain_full}
 use Rattle.notice_chain.specs.declared.notice.Notice.{Notice}
-use Rattle.adapter_list.specs.Counts.{IsFirstFull, IsFullFor, IsReadyFor, copies_len}
+use Rattle.adapter_list.specs.Counts.{IsFirstFull, IsReadyFor, copies_len}
 use Rattle.adapter_list.specs.Rounds.{RoundView, RoundFits, heard_at, round_copies, round_of}
 use Rattle.adapter_list.specs.Targets.{targets_at}
-use Rattle.adapter_list.proofs.DeliveryLemmas.{AreWithin}
+use Rattle.adapter_list.proofs.DeliveryLemmas.{AreWithin, RoundFits-more}
 use Rattle.adapter_list.proofs.ReserveLemmas.{chain-counted, chain-full, full-from, refusal-is}
 use Rattle.adapter_list.proofs.RoundLemmas.{CopiesFit-round_copies, copies_for-round_copies, told_by-round_copies, within-round_copies}
 use Rattle.adapter_list.proofs.list.AdapterList.reserve_known.Goals as goal
@@ -19,45 +19,45 @@ reserve_places-requires g c =
     let copies : c.copies.result.now ≡ round_copies up ns rs = c.copies.ensures ∙ ap (λ (r : RoundView). r.copies) c.in-Ok.ensures.round in
     record { within = subst (λ (cs : List (ℕ × Notice)). AreWithin (length c.args.self.now.1) cs) (sym copies) (subst (λ (n : ℕ). AreWithin n (round_copies up ns rs)) (sym c.lemma_keeps_rules.ensures.places) (within-round_copies up ns rs)) }
 
-pub returns-in-Ok-reserve_places-clause-fits : goal.returns-in-Ok-reserve_places-clause-fits
-returns-in-Ok-reserve_places-clause-fits g c =
+pub returns-in-Ok-reserve_places-clause-reserved : goal.returns-in-Ok-reserve_places-clause-reserved
+returns-in-Ok-reserve_places-clause-reserved g c =
     let up = above (g.L.LinkStore.links c.args.store.now) in
-    let ns = c.as_slice.result.now in
+    let ns = c.args.chain.now in
     let rs = c.args.self.now.0 in
     let ps = c.reserve_places.new.self.1 in
-    let copies : c.copies.result.now ≡ round_copies up ns rs = c.copies.ensures ∙ ap (λ (r : RoundView). r.copies) c.in-Ok.ensures.round in
+    let round : c.in-Ok.round ≡ round_of up ns rs = c.in-Ok.ensures.round ∙ ap (λ (ms : List Notice). round_of up ms rs) c.as_slice.ensures in
+    let copies : c.copies.result.now ≡ round_copies up ns rs = c.copies.ensures ∙ ap (λ (r : RoundView). r.copies) round in
     let long : length rs ≡ length ps = sym (c.in-Ok-reserve_places.ensures.as_many ∙ c.lemma_keeps_rules.ensures.places) in
     let ready : (k : ℕ) → IsReadyFor rs ps k (copies_len (round_copies up ns rs) k) = λ k. subst (λ (cs : List (ℕ × Notice)). IsReadyFor rs ps k (copies_len cs k)) copies (c.in-Ok-reserve_places.ensures.ok k) in
     let room : (k : ℕ) → k < length ps → length (heard_at up ns rs k) + targets_at rs k ≤ slice_index ps k = λ k low. subst (λ (ms : List Notice). length ms + targets_at rs k ≤ slice_index ps k) (copies_for-round_copies up ns rs k) ((ready k).places low) in
     let fits : RoundFits rs ps (round_of up ns rs) = record { copies_fit = CopiesFit-round_copies up ns rs ps long room; told_is = sym (told_by-round_copies up ns rs) } in
-    subst (λ (qs : List Listed). RoundFits qs ps c.in-Ok.round) (sym c.in-Ok-reserve_places.ensures.kept) (subst (λ (r : RoundView). RoundFits rs ps r) (sym c.in-Ok.ensures.round) fits)
+    record {
+      kept = c.in-Ok-reserve_places.ensures.kept;
+      round = round;
+      fits = subst (λ (qs : List Listed). RoundFits qs ps c.in-Ok.round) (sym c.in-Ok-reserve_places.ensures.kept) (subst (λ (r : RoundView). RoundFits rs ps r) (sym round) fits);
+      counted = chain-counted up ns rs ps ready;
+      reason = tt;
+      first = tt;
+      no_fewer = c.in-Ok-reserve_places.ensures.no_fewer;
+      still_fits = RoundFits-more rs c.reserve_places.new.self.0 c.args.self.now.1 ps c.in-Ok-reserve_places.ensures.kept c.in-Ok-reserve_places.ensures.as_many c.in-Ok-reserve_places.ensures.no_fewer;
+    }
 
-pub returns-in-Ok-reserve_places-clause-counted : goal.returns-in-Ok-reserve_places-clause-counted
-returns-in-Ok-reserve_places-clause-counted g c =
+pub returns-in-Err-clause-reserved : goal.returns-in-Err-clause-reserved
+returns-in-Err-clause-reserved g c =
     let up = above (g.L.LinkStore.links c.args.store.now) in
-    let ns = c.as_slice.result.now in
-    let rs = c.args.self.now.0 in
-    let ps = c.reserve_places.new.self.1 in
-    let copies : c.copies.result.now ≡ round_copies up ns rs = c.copies.ensures ∙ ap (λ (r : RoundView). r.copies) c.in-Ok.ensures.round in
-    let ready : (k : ℕ) → IsReadyFor rs ps k (copies_len (round_copies up ns rs) k) = λ k. subst (λ (cs : List (ℕ × Notice)). IsReadyFor rs ps k (copies_len cs k)) copies (c.in-Ok-reserve_places.ensures.ok k) in
-    ap (λ (ms : List Notice). is_chain_full up ms rs) (sym c.as_slice.ensures) ∙ chain-counted up ns rs ps ready
-
-pub returns-in-Err-clause-reason : goal.returns-in-Err-clause-reason
-returns-in-Err-clause-reason g c =
-    let up = above (g.L.LinkStore.links c.args.store.now) in
-    let ns = c.as_slice.result.now in
-    let rs = c.args.self.now.0 in
-    let copies : c.copies.result.now ≡ round_copies up ns rs = c.copies.ensures ∙ ap (λ (r : RoundView). r.copies) c.in-Ok.ensures.round in
-    let full : c.in-Err.reason ≡ room.Full → is_chain_full up c.args.chain.now rs ≡ true =
-    λ is. let one = c.in-Err.ensures.full is in
-    ap (λ (ms : List Notice). is_chain_full up ms rs) (sym c.as_slice.ensures) ∙ chain-full up ns rs one.0 (subst (λ (cs : List (ℕ × Notice)). IsFullFor rs cs one.0) copies one.1.full) in
-    rw c.refusal.ensures (refusal-is (is_chain_full up c.args.chain.now rs) c.in-Err.reason full)
-
-pub returns-in-Err-clause-first : goal.returns-in-Err-clause-first
-returns-in-Err-clause-first g c = λ is.
-    let up = above (g.L.LinkStore.links c.args.store.now) in
+    let ns = c.args.chain.now in
     let rs = c.args.self.now.0 in
     let qs = c.reserve_places.new.self.1 in
-    let copies : c.copies.result.now ≡ round_copies up c.args.chain.now rs = c.copies.ensures ∙ ap (λ (r : RoundView). r.copies) c.in-Ok.ensures.round ∙ ap (λ (ms : List Notice). round_copies up ms rs) c.as_slice.ensures in
-    let one = c.in-Err.ensures.full (full-from c.in-Err.reason (sym c.refusal.ensures ∙ is)) in
-    (one.0, subst (λ (cs : List (ℕ × Notice)). IsFirstFull rs qs cs one.0) copies one.1)
+    let copies : c.copies.result.now ≡ round_copies up ns rs = c.copies.ensures ∙ ap (λ (r : RoundView). r.copies) c.in-Ok.ensures.round ∙ ap (λ (ms : List Notice). round_copies up ms rs) c.as_slice.ensures in
+    let full : c.in-Err.reason ≡ room.Full → (k : ℕ) × IsFirstFull rs qs (round_copies up ns rs) k =
+    λ is. let one = c.in-Err.ensures.full is in (one.0, subst (λ (cs : List (ℕ × Notice)). IsFirstFull rs qs cs one.0) copies one.1) in
+    record {
+      kept = c.in-Err.ensures.kept;
+      round = tt;
+      fits = tt;
+      counted = tt;
+      reason = rw c.refusal.ensures (refusal-is (is_chain_full up ns rs) c.in-Err.reason (λ is. let one = full is in chain-full up ns rs one.0 one.1.full));
+      first = λ is. full (full-from c.in-Err.reason (sym c.refusal.ensures ∙ is));
+      no_fewer = c.in-Err.ensures.no_fewer;
+      still_fits = RoundFits-more rs c.reserve_places.new.self.0 c.args.self.now.1 qs c.in-Err.ensures.kept c.in-Err.ensures.as_many c.in-Err.ensures.no_fewer;
+    }

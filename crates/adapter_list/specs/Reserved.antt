@@ -1,0 +1,20 @@
+-- What reserving a chain gives: its round fits the adapters and their places, or the first adapter that refuses decides.
+use Rattle.std.specs.Prelude.{◌≡◌, ℕ, ◌≤◌, false, List, slice_index, Result, IfErr, IfOk, OnOk}
+use Rattle.mm_types.specs.declared.refused.Refused.{Refused}
+use Rattle.mm_types.specs.declared.refused.Refused.TheVariants.{AdapterFull}
+use Rattle.notice_chain.specs.Listed.{Above, Listed, is_chain_full}
+use Rattle.notice_chain.specs.declared.notice.Notice.{Notice}
+use Rattle.adapter_list.specs.Counts.{IsFirstFull}
+use Rattle.adapter_list.specs.Refusals.{IsChainRefusal}
+use Rattle.adapter_list.specs.Rounds.{RoundFits, RoundView, round_copies, round_of}
+
+-- the adapters and their places before and after a chain is reserved, and the round or the refusal that this gives
+pub record IsReserved (up : Above) (chain : List Notice) (old new : List Listed × List ℕ) (result : Result RoundView Refused) : Type 0 where
+  pub kept : new.0 ≡ old.0
+  pub round : IfOk result (λ r. r ≡ round_of up chain old.0)
+  pub fits : IfOk result (λ r. RoundFits new.0 new.1 r)
+  pub counted : OnOk result (is_chain_full up chain old.0 ≡ false)
+  pub reason : IfErr result (λ e. IsChainRefusal (is_chain_full up chain old.0) e)
+  pub first : IfErr result (λ e. e ≡ AdapterFull → (k : ℕ) × IsFirstFull old.0 new.1 (round_copies up chain old.0) k)
+  pub no_fewer : (k : ℕ) → slice_index old.1 k ≤ slice_index new.1 k
+  pub still_fits : (r : RoundView) → RoundFits old.0 old.1 r → RoundFits new.0 new.1 r
