@@ -1,9 +1,9 @@
--- A slot and a loose box own what a box of a session owns.
+-- A pointer and a loose box own what a box of a session owns.
 use mir.Syntax.{impl, tnil, dnil}
 use mathlib.Core.List.{[]}
 use mathlib.Core.Path.{◌≡◌, refl, subst}
 use denote.RattleType.{RattleType}
-use denote.Signature.{SessionPointer, plain}
+use denote.Signature.{Slot, plain}
 use Rattle.std.specs.Prelude.{Bool, true, false, IsSome, Option, Some, None}
 use Rattle.std_alloc.proofs.BoxSteps.Form.{Bx}
 use Rattle.std_heap.specs.contracts.Global as heap_type
@@ -18,16 +18,16 @@ use Rattle.mmrepo_c.specs.contracts.pointer.SessionPointer as pointer
 abbrev pub E : Bx
 E = record { row = session_type.the_row; laws = session.the_row_laws; al = record { row = heap_type.the_row; laws = heap.the_row_laws; g = ghosts; d = dict; drops = impl [] tnil dnil } }
 
-abbrev pub FromLoose : SessionPointer 0
+abbrev pub FromLoose : Slot 0
 FromLoose = plain (λ _. loose.the_row session_type.the_row heap_type.the_row ghosts)
 
 abbrev pub FromRow : RattleType
 FromRow = pointer.the_row
 
-abbrev pub FromSlot : SessionPointer 0
+abbrev pub FromSlot : Slot 0
 FromSlot = plain (λ _. FromRow)
 
-abbrev pub FromAlloc : SessionPointer 0
+abbrev pub FromAlloc : Slot 0
 FromAlloc = plain (λ _. heap_type.the_row)
 
 abbrev IsFalse : Bool → Type 0
