@@ -6,6 +6,7 @@
 #![tactic(auto)]
 
 mod attribute_lists;
+mod counting;
 mod edit;
 mod list_edit;
 mod new_values;

@@ -1,11 +1,13 @@
 //! What a repository holds besides links.
-ghost use Rattle.std.specs.Prelude.{◌≡◌, ℕ, List, [], ◌∷◌, length, option_and_then, option_copied, option_map, count_by, position, slice_get, All, IfOk, OnErr, OnOk};
+ghost use Rattle.std.specs.Prelude.{◌≡◌, List, [], ◌∷◌, length, option_and_then, option_copied, option_map, position, slice_get, All, OnErr, OnOk};
 ghost use Rattle.mm_types.specs.Same.{same_value};
 ghost use Rattle.std.specs.List.{list_any};
-ghost use Rattle.mm_values.specs.Room.{is_insert, is_insert_at, is_new_object, is_new_uri, needed};
+ghost use Rattle.mm_values.specs.Room.{needed};
 
+use crate::counting::{counted, objects_made, places_needed, uris_added};
 use crate::edit::ValueEdit;
 use crate::list_edit::ListEdit;
+use crate::new_values::NewValues;
 use crate::objects::Objects;
 use crate::plan::{Edits, ValuePlan};
 use crate::uris::Uris;
@@ -25,6 +27,7 @@ impl Values {
     ghost use Rattle.mm_values.specs.Room.{values_of, HasRoom, HasPlaceFor};
     ghost use Rattle.mm_values.specs.Slots.{none_taken, HasPlaceAt, KeepsPlaces};
     ghost use Rattle.mm_values.specs.declared.edit.ValueEdit.{ValueEdit};
+    ghost use Rattle.mm_values.specs.declared.edit.ValueEdit.TheVariants as edit;
 
     /// No objects and no resources. Takes no memory.
     pub fn new(alloc: Global) -> Self
@@ -172,15 +175,38 @@ impl Values {
         ensures err { OnErr result (values_of self.new ≡ values_of self.old) }
     {
         match edit {
-            ValueEdit::NewObject(class) => self.objects.create(class),
+            ValueEdit::NewObject(class) => self.try_create(class),
             ValueEdit::PutList {
                 object,
                 feature,
                 list,
                 flag,
-            } => self.objects.set(object, feature, list, flag),
+            } => self.try_put(object, feature, list, flag),
             edit => self.try_any(edit),
         }
+    }
+
+    /// Makes an object of a class, as the edit of that does. Errs only if memory is refused, and then nothing that is seen has changed.
+    pub fn try_create(&mut self, class: ClassNo) -> Result<(), AllocError>
+        ensures ok { OnOk result (values_of self.new ≡ edited (values_of self.old) (edit.NewObject class)) }
+        ensures err { OnErr result (values_of self.new ≡ values_of self.old) }
+    {
+        self.objects.create(class)
+    }
+
+    /// Replaces what an object has under an attribute, as the edit of that does. Errs only if memory is refused, and then nothing that is
+    /// seen has changed. It is the edit of most changes of values, and to make a plan of it takes longer than to make it.
+    pub fn try_put(
+        &mut self,
+        object: ObjectNo,
+        feature: FeatureNo,
+        list: NewValues,
+        flag: bool,
+    ) -> Result<(), AllocError>
+        ensures ok { OnOk result (values_of self.new ≡ edited (values_of self.old) (edit.PutList object feature list flag)) }
+        ensures err { OnErr result (values_of self.new ≡ values_of self.old) }
+    {
+        self.objects.set(object, feature, list, flag)
     }
 
     /// Makes an edit, as one of a plan is made.
@@ -325,58 +351,4 @@ impl Values {
         let places = places_needed(plan, object, feature)?;
         self.objects.make_place(object, feature, places, is_asked)
     }
-}
-
-/// How many objects a plan makes.
-fn objects_made(plan: &[ValueEdit]) -> usize
-    ensures { result ≡ count_by is_new_object plan.now }
-{
-    plan.iter().filter(|e| e.is_new_object()).count()
-}
-
-/// How many URIs a plan adds, those that are there already among them.
-fn uris_added(plan: &[ValueEdit]) -> usize
-    ensures { result ≡ count_by is_new_uri plan.now }
-{
-    plan.iter().filter(|e| e.is_new_uri()).count()
-}
-
-/// Whether a plan puts a value into any list.
-fn has_insert(plan: &[ValueEdit]) -> bool
-    ensures { result ≡ list_any is_insert plan.now }
-{
-    plan.iter().any(|e| e.is_insert())
-}
-
-/// The edits of which the needed places are counted: none, and so no time, if no value is put into a list.
-fn counted(plan: &[ValueEdit]) -> &[ValueEdit]
-    ensures { (o f : ℕ) → needed result.now o f ≡ needed plan.now o f }
-{
-    if has_insert(plan) { plan } else { &[] }
-}
-
-/// Whether a plan puts a value into the list that an object has under an attribute.
-fn is_inserted_at(plan: &[ValueEdit], object: ObjectNo, feature: FeatureNo) -> bool
-    ensures { result ≡ list_any (is_insert_at object.0 feature.0) plan.now }
-{
-    plan.iter().any(|e| e.is_insert_at(object, feature))
-}
-
-/// How many places a plan needs in the list that an object has under an attribute. Errs if no memory has so many.
-fn places_needed(
-    plan: &[ValueEdit],
-    object: ObjectNo,
-    feature: FeatureNo,
-) -> Result<usize, AllocError>
-    ensures { IfOk result (λ n. n ≡ needed plan.now object.0 feature.0) }
-{
-    if !is_inserted_at(plan, object, feature) {
-        return Ok(0);
-    }
-    let mut places: usize = 0;
-    for edit in plan {
-        let more = edit.places_taken(object, feature);
-        places = places.checked_add(more).ok_or(AllocError)?;
-    }
-    Ok(places)
 }

@@ -1,0 +1,62 @@
+//! What a plan needs, counted.
+ghost use Rattle.std.specs.Prelude.{◌≡◌, ℕ, count_by, IfOk};
+ghost use Rattle.std.specs.List.{list_any};
+ghost use Rattle.mm_values.specs.Room.{is_insert, is_insert_at, is_new_object, is_new_uri, needed};
+
+use crate::edit::ValueEdit;
+use mm_types::{FeatureNo, ObjectNo};
+use std::alloc::AllocError;
+
+/// How many objects a plan makes.
+pub(crate) fn objects_made(plan: &[ValueEdit]) -> usize
+    ensures { result ≡ count_by is_new_object plan.now }
+{
+    plan.iter().filter(|e| e.is_new_object()).count()
+}
+
+/// How many URIs a plan adds, those that are there already among them.
+pub(crate) fn uris_added(plan: &[ValueEdit]) -> usize
+    ensures { result ≡ count_by is_new_uri plan.now }
+{
+    plan.iter().filter(|e| e.is_new_uri()).count()
+}
+
+/// Whether a plan puts a value into any list.
+fn has_insert(plan: &[ValueEdit]) -> bool
+    ensures { result ≡ list_any is_insert plan.now }
+{
+    plan.iter().any(|e| e.is_insert())
+}
+
+/// The edits of which the needed places are counted: none, and so no time, if no value is put into a list.
+pub(crate) fn counted(plan: &[ValueEdit]) -> &[ValueEdit]
+    ensures { (o f : ℕ) → needed result.now o f ≡ needed plan.now o f }
+{
+    if has_insert(plan) { plan } else { &[] }
+}
+
+/// Whether a plan puts a value into the list that an object has under an attribute.
+fn is_inserted_at(plan: &[ValueEdit], object: ObjectNo, feature: FeatureNo) -> bool
+    ensures { result ≡ list_any (is_insert_at object.0 feature.0) plan.now }
+{
+    plan.iter().any(|e| e.is_insert_at(object, feature))
+}
+
+/// How many places a plan needs in the list that an object has under an attribute. Errs if no memory has so many.
+pub(crate) fn places_needed(
+    plan: &[ValueEdit],
+    object: ObjectNo,
+    feature: FeatureNo,
+) -> Result<usize, AllocError>
+    ensures { IfOk result (λ n. n ≡ needed plan.now object.0 feature.0) }
+{
+    if !is_inserted_at(plan, object, feature) {
+        return Ok(0);
+    }
+    let mut places: usize = 0;
+    for edit in plan {
+        let more = edit.places_taken(object, feature);
+        places = places.checked_add(more).ok_or(AllocError)?;
+    }
+    Ok(places)
+}
