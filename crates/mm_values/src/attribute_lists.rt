@@ -137,14 +137,16 @@ impl AttributeLists {
         self.entries[at].list.reserve(alloc, additional, is_asked)
     }
 
-    /// Makes room for an entry if there is none, by a quarter at a time: most objects hold little.
+    /// Makes room for an entry if there is none: for two at first, then by a quarter at a time, since most objects hold little.
     fn grow(&mut self) -> Result<(), AllocError>
         ensures { self.new ≡ self.old }
     {
-        if self.entries.len() < self.entries.capacity() {
+        let len = self.entries.len();
+        if len < self.entries.capacity() {
             return Ok(());
         }
-        self.entries.reserve_exact(self.entries.len() / 4 + 1)
+        self.entries
+            .reserve_exact(if len == 0 { 2 } else { len / 4 + 1 })
     }
 
     /// Replaces what is stored under an attribute, where it is. Takes no memory.
