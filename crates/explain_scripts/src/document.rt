@@ -3,9 +3,7 @@ use crate::content::{explain_bounds, explain_values};
 use crate::links::{Link, explain_crosses, explain_ends, explain_references, links_of};
 use crate::parts::{Entry, Part, entries_of, parts_of};
 use crate::repeats::explain_repeats;
-use crate::shape::{
-    explain_classes, explain_depth, explain_features, explain_objects, explain_top,
-};
+use crate::shape::{Names, explain_depth, explain_names, explain_objects, explain_top};
 use explain::{Shown, front_of};
 use mm_check::check;
 use mm_load::load_meta;
@@ -82,8 +80,8 @@ fn explain_parts(
 ) -> Result<(), AllocError> {
     match refused.cause {
         DocFault::Layout => explain_objects(alloc, out, parts),
-        DocFault::Class => explain_classes(alloc, out, meta, parts),
-        DocFault::Feature => explain_features(alloc, out, meta, parts),
+        DocFault::Class => explain_names(alloc, out, meta, parts, Names::Classes),
+        DocFault::Feature => explain_names(alloc, out, meta, parts, Names::Features),
         DocFault::Depth => explain_depth(out, parts),
         cause => {
             let entries = entries_of(alloc, meta, parts)?;

@@ -90,21 +90,6 @@ fn explain_class(
     }
 }
 
-/// Names of classes that are none, or abstract.
-pub(crate) fn explain_classes(
-    alloc: Global,
-    out: &mut String,
-    meta: &Meta,
-    parts: &[Part<'_>],
-) -> Result<(), AllocError> {
-    for part in parts {
-        if let Some(Value::String(name)) = part.json.get("class") {
-            explain_class(alloc, out, meta, part.path.as_str(), name.as_str())?;
-        }
-    }
-    Ok(())
-}
-
 fn feature_names<'m>(
     alloc: Global,
     meta: &'m Meta,
@@ -160,17 +145,45 @@ fn explain_members(
     Ok(())
 }
 
-/// Names of features that are none, or container references.
-pub(crate) fn explain_features(
+/// What the names of a document are of.
+#[derive(Clone, Copy)]
+pub(crate) enum Names {
+    /// Classes, which may be none, or abstract.
+    Classes,
+    /// Features, which may be none, or container references.
+    Features,
+}
+
+fn explain_names_in(
+    alloc: Global,
+    out: &mut String,
+    meta: &Meta,
+    part: &Part<'_>,
+    names: Names,
+) -> Result<(), AllocError> {
+    let path = part.path.as_str();
+    match names {
+        Names::Classes => match part.json.get("class") {
+            Some(Value::String(name)) => explain_class(alloc, out, meta, path, name.as_str()),
+            _ => Ok(()),
+        },
+        Names::Features => match known(meta, part.json) {
+            Some((class, members)) => explain_members(alloc, out, meta, path, class, members),
+            None => Ok(()),
+        },
+    }
+}
+
+/// Names that a document may not have where it has them.
+pub(crate) fn explain_names(
     alloc: Global,
     out: &mut String,
     meta: &Meta,
     parts: &[Part<'_>],
+    names: Names,
 ) -> Result<(), AllocError> {
     for part in parts {
-        if let Some((class, members)) = known(meta, part.json) {
-            explain_members(alloc, out, meta, part.path.as_str(), class, members)?;
-        }
+        explain_names_in(alloc, out, meta, part, names)?;
     }
     Ok(())
 }
