@@ -174,10 +174,10 @@ pub(crate) fn edit_rows(rows: &mut Vec<Link>, edit: Edit)
         Edit::Cut { end, object } => cut_row(rows, end, &Value::Object(object)),
         Edit::Put {
             end,
-            index,
             object,
-            opposite,
+            index,
             container,
+            opposite,
         } => put_row(
             rows,
             NewLink {
