@@ -365,7 +365,7 @@ fn move_value(alloc: Global, node: Node, feature: FeatureNo, to: u32, from: u32)
 }
 
 /// The edits of a set of an attribute.
-pub(crate) fn set_edits<L: LinkStore>(
+fn set_edits<L: LinkStore>(
     alloc: Global,
     model: &ModelRef<L>,
     node: Node,

@@ -1,13 +1,14 @@
 //! Changes that put one link, and edit nothing else.
-ghost use Rattle.std.specs.Prelude.{◌≡◌, false, IfSome, None};
+ghost use Rattle.std.specs.Prelude.{◌≡◌, false, true, IfSome, None};
+ghost use Rattle.mm_types.specs.Shapes.{shape};
 ghost use Rattle.models.specs.Model.{reading};
 ghost use Rattle.handshake.specs.LonePuts as lone;
 ghost use Rattle.handshake.specs.Plans.{IsPlanOf};
 ghost use Rattle.handshake.specs.Refusals.{early_refusal};
 ghost use Rattle.handshake.specs.declared.change.Change.TheVariants.{Add, Set};
 
-use crate::displaced::{displaces, is_plain_add, is_plain_set};
-use crate::planning::{add_late_refusal, set_late_refusal};
+use crate::displaced::{displaces, is_plain_add};
+use crate::planning::{add_late_refusal, new_set_refusal};
 use links::{LinkStore, NewLink};
 use mm_types::{End, FeatureNo, Node, ObjectNo, Value};
 use models::{ModelRef, at_end};
@@ -44,6 +45,7 @@ pub fn lone_add<L: LinkStore>(
 }
 
 fn put_of_set<L: LinkStore>(model: &ModelRef<L>, end: End, value: &Value) -> Option<NewLink>
+    requires single { (shape model.now.metamodel end.feature).is_single ≡ true }
     ensures { result ≡ lone.lone_set (reading model.now) (Set end.node end.feature value.now) end value.now }
 {
     let Value::Object(object) = value else {
@@ -52,10 +54,11 @@ fn put_of_set<L: LinkStore>(model: &ModelRef<L>, end: End, value: &Value) -> Opt
     if displaces(model, end, *object) {
         return None;
     }
-    if is_plain_set(model, end, value) {
+    if !model.meta().is_reference(end.feature) {
         return None;
     }
-    if set_late_refusal(model, end, value).is_some() {
+    // a single end that displaces nothing has nothing, so it has not this object already
+    if new_set_refusal(model, end, value).is_some() {
         return None;
     }
     Some(put_at(model, end, 0, *object))

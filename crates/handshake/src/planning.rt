@@ -19,10 +19,10 @@ use crate::destroyed::removal_of;
 use crate::displaced::{cut_link_ends, has_already};
 use crate::edits::{link_edits, value_edits};
 use crate::feature_change::feature_changes;
-use crate::link_end::{far_end, opposite_end};
+use crate::gains::{gain_refusal, link_refusal};
+use crate::link_end::far_end;
 use crate::loads::{load_refusal, root_notices};
 use crate::planned::Planned;
-use crate::recursion::is_recursive;
 use crate::resolving::{resolve_refusal, target_of};
 use crate::resolving_all::all_resolved;
 use crate::target::Target;
@@ -219,6 +219,24 @@ pub(crate) fn set_late_refusal<L: LinkStore>(
     set_refusal(model, end, value)
 }
 
+/// `set_late_refusal` of a value that the end does not have already.
+pub(crate) fn new_set_refusal<L: LinkStore>(
+    model: &ModelRef<L>,
+    end: End,
+    value: &Value,
+) -> Option<Refused>
+    requires new { d.has_already (reading model.now) end value.now ≡ false }
+    ensures { result ≡ (refusals.type_refusal (reading model.now) end.feature value.now else_by refusals.set_refusal (reading model.now) end value.now) }
+{
+    if let Some(refused) = type_refusal(model, end.feature, value) {
+        return Some(refused);
+    }
+    match value {
+        Value::Object(object) => link_refusal(model, end, *object),
+        _ => None,
+    }
+}
+
 /// `late_refusal` of an addition, of which it is known whether a unique list has the value.
 pub(crate) fn add_late_refusal<L: LinkStore>(
     model: &ModelRef<L>,
@@ -305,74 +323,6 @@ fn set_refusal<L: LinkStore>(model: &ModelRef<L>, end: End, value: &Value) -> Op
         }
         _ => None,
     }
-}
-
-/// Why an end can't gain a value: `Bound`, `Recursive` or `Limit`.
-fn gain_refusal<L: LinkStore>(model: &ModelRef<L>, end: End, value: &Value) -> Option<Refused>
-    ensures { result ≡ refusals.gain_refusal (reading model.now) end value.now }
-{
-    match value {
-        Value::Object(object) => link_refusal(model, end, *object),
-        _ if is_full_at(model, end) => Some(Refused::Bound),
-        _ if is_at_limit(model, end) => Some(Refused::Limit),
-        _ => None,
-    }
-}
-
-/// Why an end can't gain a link to an object.
-fn link_refusal<L: LinkStore>(model: &ModelRef<L>, end: End, object: ObjectNo) -> Option<Refused>
-    ensures { result ≡ refusals.link_refusal (reading model.now) end object }
-{
-    if is_either_full(model, end, object) {
-        return Some(Refused::Bound);
-    }
-    if is_recursive(model, end, object) {
-        return Some(Refused::Recursive);
-    }
-    if is_either_at_limit(model, end, object) {
-        return Some(Refused::Limit);
-    }
-    None
-}
-
-/// Whether an end or the opposite end of a new link is full.
-fn is_either_full<L: LinkStore>(model: &ModelRef<L>, end: End, object: ObjectNo) -> bool
-    ensures { result ≡ refusals.of_either (refusals.is_full_at (reading model.now)) (reading model.now) end object }
-{
-    if is_full_at(model, end) {
-        return true;
-    }
-    match opposite_end(model, end, object) {
-        Some(far) => is_full_at(model, far),
-        None => false,
-    }
-}
-
-/// Whether an end or the opposite end of a new link has as many values as any list may have.
-fn is_either_at_limit<L: LinkStore>(model: &ModelRef<L>, end: End, object: ObjectNo) -> bool
-    ensures { result ≡ refusals.of_either (refusals.is_at_limit (reading model.now)) (reading model.now) end object }
-{
-    if is_at_limit(model, end) {
-        return true;
-    }
-    match opposite_end(model, end, object) {
-        Some(far) => is_at_limit(model, far),
-        None => false,
-    }
-}
-
-/// Whether an end of an upper bound above 1 has as many values as it may have.
-fn is_full_at<L: LinkStore>(model: &ModelRef<L>, end: End) -> bool
-    ensures { result ≡ refusals.is_full_at (reading model.now) end }
-{
-    model.meta().is_full(end.feature, model.len(end))
-}
-
-/// Whether an end has as many values as any list may have.
-fn is_at_limit<L: LinkStore>(model: &ModelRef<L>, end: End) -> bool
-    ensures { result ≡ refusals.is_at_limit (reading model.now) end }
-{
-    model.len(end) as usize >= limits::LIST_VALUES
 }
 
 /// The notices of a change that cuts these links; none if nobody may hear them.

@@ -1,7 +1,6 @@
 //! What a change makes of values alone.
-ghost use Rattle.std.specs.Prelude.{◌≡◌, ◌&&◌, false, None, Some, IfErr, IfOk, IsFalse, OnOk, if◌then◌else◌};
+ghost use Rattle.std.specs.Prelude.{◌≡◌, ◌&&◌, None, Some, IfErr, IfOk, IsFalse, OnOk, if◌then◌else◌};
 ghost use Rattle.mm_types.specs.Conditions.{◌else_by◌};
-ghost use Rattle.mm_types.specs.Shapes.{shape};
 ghost use Rattle.models.specs.Model.{reading};
 ghost use Rattle.handshake.specs.Effects.{value_edits as value_edits_of};
 ghost use Rattle.handshake.specs.Plans.{HasReadDocument, is_memory_refusal, looks_first};
@@ -10,8 +9,8 @@ ghost use Rattle.handshake.specs.declared.change.Change.TheVariants.{Create, Set
 
 use crate::change::Change;
 use crate::destroyed::removal_of;
-use crate::edits::{set_edits, value_edits};
-use crate::named::class_refusal;
+use crate::edits::value_edits;
+use crate::named::{class_refusal, set_early_refusal};
 use crate::planning::{create_late_refusal, late_refusal, set_late_refusal};
 use crate::resolving::target_of;
 use links::LinkStore;
@@ -42,24 +41,19 @@ pub fn plan_values<L: LinkStore>(
     Ok(value_edits(alloc, model, change, &removal)?)
 }
 
-/// `plan_values` of a set of an attribute, whose parts come one by one: to make a `Change` of them and to take it apart again takes longer
-/// than all that the set does.
-pub fn plan_set<L: LinkStore>(
-    alloc: Global,
+/// Why a value of an attribute can't be set, if not for memory: the first refusal of a set of it. Takes no memory.
+pub fn attribute_refusal<L: LinkStore>(
     model: &ModelRef<L>,
     node: Node,
     feature: FeatureNo,
-    value: Value,
-) -> Result<ValuePlan, Refused>
-    requires attribute { (shape model.now.metamodel feature).is_reference ≡ false }
-    ensures values { IfOk result (λ p. p ≡ value_edits_of (reading model.now) (Set node feature value)) }
-    ensures allowed { OnOk result (refusals.late_refusal (reading model.now) (Set node feature value) ≡ None) }
-    ensures refused { IfErr result (λ r. refusals.late_refusal (reading model.now) (Set node feature value) ≡ (if is_memory_refusal r then None else Some r)) }
+    value: &Value,
+) -> Option<Refused>
+    ensures { result ≡ (refusals.early_refusal (reading model.now) (Set node feature value.now) else_by refusals.late_refusal (reading model.now) (Set node feature value.now)) }
 {
-    if let Some(refused) = set_late_refusal(model, at_end(&node, &feature), &value) {
-        return Err(refused);
+    if let Some(refused) = set_early_refusal(model, node, feature, value) {
+        return Some(refused);
     }
-    Ok(set_edits(alloc, model, node, feature, value))
+    set_late_refusal(model, at_end(&node, &feature), value)
 }
 
 /// Why an object of a class can't be made, if not for memory: `NoClass`, `Abstract`, or `Limit` if 1,000,000 objects were made. Takes no

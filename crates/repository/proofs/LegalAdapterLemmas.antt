@@ -24,8 +24,10 @@ use Rattle.handshake.specs.Named.{node_refusal}
 use Rattle.handshake.proofs.KnownLemmas.{none-else_by, none-unless}
 use Rattle.repository.specs.declared.command.Command.TheVariants.{Attach, Watch}
 use Rattle.repository.specs.State.{State, IsLegal, IsLegalAdapter, is_there, reads}
-use Rattle.repository.specs.Step.{joined_by, joins}
-use Rattle.notice_chain.specs.Released.{Spot, is_gone_at, released, spots, spots_of}
+use Rattle.repository.specs.Step.{closed, joined_by, joins}
+use Rattle.mm_types.specs.Same.{same_node}
+use Rattle.notice_chain.specs.Released.{Spot, all_released, is_gone_at, released, spots, spots_of}
+use Rattle.notice_chain.proofs.ReleasedLemmas.{released-all}
 use Rattle.repository.proofs.OthersLemmas.{distinct-push}
 use Rattle.adapter_list.proofs.SomeLemmas.{others-some}
 use Rattle.repository.proofs.SpotLemmas.{HoldsOn, NoneGoes, both-each, left-of, others-distinct, others-each, others-free, others-len}
@@ -276,3 +278,11 @@ watch-legal r rs number target deep early late legal =
           | true ↦ λ e f. absurd (subst IsThere f tt)
           | false ↦ λ e f. (leb-false _ _ e, f)
         ] refl free
+
+---------------------------------------------------------------- all of them leave
+
+pub all-closed : (s : State) → IsLegal s → all_released s.adapters ≡ closed s
+all-closed s legal =
+    let once = All-weaker (IsLegalAdapter (reads s)) (λ (a : Listed). IsDistinct same_node (map (λ t. t.node) a.targets)) (λ a h. h.once) s.adapters legal.adapters in
+    let some = All-weaker (IsLegalAdapter (reads s)) (λ (a : Listed). 0 < length a.targets) (λ a h. h.some) s.adapters legal.adapters in
+    sym (released-all s.adapters legal.distinct once some)

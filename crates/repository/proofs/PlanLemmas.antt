@@ -236,6 +236,19 @@ refused-either s text c r (Some q) proper is found = early_err s text c r (is �
 pub first_err : (s : State) (text : List ℕ) (c : Change) (r : Refused) → IsProper (reads s) text c → (early_refusal (reads s) c else_by late_refusal (reads s) c) ≡ Some r → Executed s (command_of text c) (Err (record { refused = r; given_back = None })) s
 first_err s text c r proper found = refused-either s text c r (early_refusal (reads s) c) proper refl found
 
+-- all that a change is refused for, early or late, as it is found of the model `m` that is seen
+abbrev pub FoundOf : Model → Change → Option Refused → Type 0
+FoundOf m c q = q ≡ (early_refusal (reading m) c else_by late_refusal (reading m) c)
+
+found-there : (s : State) (m : Model) (c : Change) (q x : Option Refused) → m ≡ s.model → FoundOf m c q → q ≡ x → (early_refusal (reads s) c else_by late_refusal (reads s) c) ≡ x
+found-there s m c q x is found known = ap (λ (m : Model). early_refusal (reading m) c else_by late_refusal (reading m) c) (sym is) ∙ (sym found ∙ known)
+
+pub refused-as-found : (s : State) (m : Model) (c : Change) (q : Option Refused) (r : Refused) → IsProper (reads s) [] c → m ≡ s.model → FoundOf m c q → q ≡ Some r → Executed s (command_of [] c) (Err (record { refused = r; given_back = None })) s
+refused-as-found s m c q r proper is found known = first_err s [] c r proper (found-there s m c q (Some r) is found known)
+
+pub free-as-found : (s : State) (m : Model) (c : Change) (q : Option Refused) → m ≡ s.model → FoundOf m c q → q ≡ None → (early_refusal (reads s) c ≡ None) × (late_refusal (reads s) c ≡ None)
+free-as-found s m c q is found known = none-else_by _ _ (found-there s m c q None is found known)
+
 -- what the adapters refuse
 pub chain_err : (s : State) (text : List ℕ) (c : Change) (made : List Notice) (r : Refused) → IsProper (reads s) text c → early_refusal (reads s) c ≡ None → late_refusal (reads s) c ≡ None → Heard (reads s).above made (chain (reads s) c) s.adapters → IsChainRefusal (is_chain_full (reads s).above made s.adapters) r → Executed s (command_of text c) (Err (record { refused = r; given_back = None })) s
 unfolding full

@@ -1,9 +1,16 @@
-//! What a change does that puts one link, and edits nothing else.
+//! What a change does that edits one value or puts one link, and nothing else.
 ghost use Rattle.std.specs.FinMap as map;
-ghost use Rattle.std.specs.Prelude.{◌≡◌, if◌then◌else◌, is_some};
+ghost use Rattle.std.specs.Prelude.{◌≡◌, ◌∷◌, [], OnErr, OnOk, if◌then◌else◌, is_some};
+ghost use Rattle.mm_values.specs.Room.{values_of};
+ghost use Rattle.mm_values.specs.Values.{applied};
+ghost use Rattle.models.specs.Reading.{at_end};
+ghost use Rattle.handshake.specs.Effects.{put_values};
 
 use fragment_paths::PathCache;
 use links::NewLink;
+use mm_types::{FeatureNo, Node, Value};
+use mm_values::{NewValues, Values};
+use std::alloc::AllocError;
 
 /// Forgets the fragments if a put is one of a link that contains. Takes no memory.
 pub(crate) fn forget_put(paths: &mut PathCache, put: NewLink)
@@ -11,5 +18,23 @@ pub(crate) fn forget_put(paths: &mut PathCache, put: NewLink)
 {
     if put.container.is_some() {
         paths.clear();
+    }
+}
+
+/// Replaces what a node has under an attribute by one value; nothing is done at a resource, which has no attributes. Errs only if memory is
+/// refused, and then nothing that is seen has changed.
+pub(crate) fn put_value(
+    values: &mut Values,
+    node: Node,
+    feature: FeatureNo,
+    value: Value,
+    flag: bool,
+) -> Result<(), AllocError>
+    ensures ok { OnOk result (values_of values.new ≡ applied (values_of values.old) (put_values (at_end node feature) (value ∷ []) flag)) }
+    ensures err { OnErr result (values_of values.new ≡ values_of values.old) }
+{
+    match node {
+        Node::Object(object) => values.try_put(object, feature, NewValues::one(value), flag),
+        Node::Resource(_) => Ok(()),
     }
 }

@@ -18,6 +18,7 @@ use adapters::Adapter;
 use handshake::node_refusal;
 use links::LinkStore;
 use mm_types::{AdapterNo, Node, Refused, Seq};
+use std::mem;
 
 impl<L: LinkStore, A: Adapter> Repository<L, A> {
     /// Attaches an adapter to a node, its first target, last in attach order (EMF: Notifier.eAdapters().add). A deep one is also
@@ -154,6 +155,22 @@ impl<L: LinkStore, A: Adapter> Repository<L, A> {
         ensures { map (λ b. (b.0, A.heard b.1)) result.items ≡ closed self }
     {
         let Repository { adapters, .. } = self;
+        adapters.close()
+    }
+
+    /// Gives every adapter back as `close` does, in a process that ends next: the memory of objects, values and links is left to the end of
+    /// the process. To give it back block by block takes about as long as to get it. Takes no memory.
+    pub fn close_at_exit(self) -> Vec<(AdapterNo, A)>
+        ensures { map (λ b. (b.0, A.heard b.1)) result.items ≡ closed self }
+    {
+        let Repository {
+            adapters,
+            values,
+            store,
+            ..
+        } = self;
+        mem::forget(values);
+        mem::forget(store);
         adapters.close()
     }
 }

@@ -1,6 +1,6 @@
 //! Changes that nobody can hear. Most commands of a script are such changes, and to make a reply with lists of who was notified takes longer
 //! than the change itself. Each call here does what the call of its name does that has a reply.
-ghost use Rattle.std.specs.Prelude.{◌≡◌, [], None, false, true, MatchOption};
+ghost use Rattle.std.specs.Prelude.{◌≡◌, [], None, false, true, IfErr, IfOk, MatchOption};
 ghost use Rattle.mm_types.specs.Shapes.{shape};
 ghost use Rattle.handshake.specs.Refusals.{early_refusal as early_refusal_of};
 ghost use Rattle.handshake.specs.declared.change.Change.{Change};
@@ -14,15 +14,14 @@ ghost use Rattle.repository.specs.declared.reply.Answer.{Answer};
 ghost use Rattle.repository.specs.declared.reply.Answer.TheVariants as answer;
 
 use super::Repository;
-use crate::lone_puts::forget_put;
+use crate::lone_puts::{forget_put, put_value};
 use crate::preparing::next_object;
 use adapters::Adapter;
 use handshake::{
-    create_refusal, list_early_refusal, lone_add, lone_set, plan_set, set_early_refusal,
+    attribute_refusal, create_refusal, list_early_refusal, lone_add, lone_set, set_early_refusal,
 };
 use links::{LinkStore, NewLink};
 use mm_types::{ClassNo, FeatureNo, Node, ObjectNo, Refused, Value};
-use mm_values::{ValueEdit, ValuePlan};
 
 impl<L: LinkStore, A: Adapter> Repository<L, A> {
     /// Makes an object as `create` does, and returns it, or the refusal. `None` if an adapter is attached; then nothing was done, and
@@ -36,41 +35,49 @@ impl<L: LinkStore, A: Adapter> Repository<L, A> {
         Some(self.make_object(class))
     }
 
-    /// Sets a single feature as `e_set` does, or returns the refusal. `None` if an adapter is attached, or if the new link displaces
-    /// another; then nothing was done, and `e_set` is to be called.
+    /// Sets a single feature as `e_set` does, or returns the refusal. Gives the value back if an adapter is attached, or if the new link
+    /// displaces another; then nothing was done, and `e_set` is to be called.
     pub fn set_unheard(
         &mut self,
         node: Node,
         feature: FeatureNo,
         value: Value,
-    ) -> Option<Result<(), Refused>>
-        ensures { MatchOption result (self.new ≡ self.old) (λ r. Executed self.old (Set node feature value) (read_outcome (λ u. answer.Done) r) self.new) }
+    ) -> Result<Result<(), Refused>, Value>
+        ensures done { IfOk result (λ r. Executed self.old (Set node feature value) (read_outcome (λ u. answer.Done) r) self.new) }
+        ensures left { IfErr result (λ v. (v ≡ value) × (self.new ≡ self.old)) }
     {
         if self.adapters.len() > 0 {
-            return None;
+            return Err(value);
         }
-        if self.meta.is_reference(feature) {
-            return self.set_lone_link(node, feature, &value);
+        if !self.meta.is_reference(feature) {
+            return Ok(self.set_value(node, feature, value));
         }
-        Some(self.set_value(node, feature, value))
+        match self.set_lone_link(node, feature, &value) {
+            Some(done) => Ok(done),
+            None => Err(value),
+        }
     }
 
-    /// Adds an object to a list as `add` does, which then returns that the list changed, or returns the refusal. `None` if an adapter is
-    /// attached, if the new link displaces another, if the list has the object, or if the feature is an attribute; then nothing was done,
-    /// and `add` is to be called.
+    /// Adds an object to a list as `add` does, which then returns that the list changed, or returns the refusal. Gives the value back if an
+    /// adapter is attached, if the new link displaces another, if the list has the object, or if the feature is an attribute; then nothing
+    /// was done, and `add` is to be called.
     pub fn add_unheard(
         &mut self,
         node: Node,
         feature: FeatureNo,
         value: Value,
         index: Option<u32>,
-    ) -> Option<Result<(), Refused>>
-        ensures { MatchOption result (self.new ≡ self.old) (λ r. Executed self.old (Add node feature value index) (read_outcome (λ u. answer.Flag true) r) self.new) }
+    ) -> Result<Result<(), Refused>, Value>
+        ensures done { IfOk result (λ r. Executed self.old (Add node feature value index) (read_outcome (λ u. answer.Flag true) r) self.new) }
+        ensures left { IfErr result (λ v. (v ≡ value) × (self.new ≡ self.old)) }
     {
         if self.adapters.len() > 0 || !self.meta.is_reference(feature) {
-            return None;
+            return Err(value);
         }
-        self.add_lone_link(node, feature, &value, index)
+        match self.add_lone_link(node, feature, &value, index) {
+            Some(done) => Ok(done),
+            None => Err(value),
+        }
     }
 
     /// The part of `create` if no adapter is attached.
@@ -83,10 +90,7 @@ impl<L: LinkStore, A: Adapter> Repository<L, A> {
             return Err(refused);
         }
         let object = next_object(&model);
-        match self
-            .values
-            .try_apply(ValuePlan::one(ValueEdit::NewObject(class)))
-        {
+        match self.values.try_create(class) {
             Ok(()) => {}
             Err(_) => return Err(Refused::Memory),
         }
@@ -105,14 +109,11 @@ impl<L: LinkStore, A: Adapter> Repository<L, A> {
         ensures { Executed self.old (Set node feature value) (read_outcome (λ u. answer.Done) result) self.new }
     {
         let model = self.model();
-        if let Some(refused) = set_early_refusal(&model, node, feature, &value) {
+        if let Some(refused) = attribute_refusal(&model, node, feature, &value) {
             return Err(refused);
         }
-        let values = match plan_set(self.alloc, &model, node, feature, value) {
-            Ok(values) => values,
-            Err(refused) => return Err(refused),
-        };
-        match self.values.try_apply(values) {
+        let flag = model.meta().is_unsettable(feature);
+        match put_value(&mut self.values, node, feature, value, flag) {
             Ok(()) => {}
             Err(_) => return Err(Refused::Memory),
         }

@@ -1,13 +1,18 @@
-use Rattle.std.proofs.Common.{◌≡◌, ◌∙◌, [], None, true, not, refl, sym, ap, subst}
+use Rattle.std.proofs.Common.{◌≡◌, ◌∙◌, ◌∷◌, [], Bool, Option, None, false, not, if◌then◌else◌, refl, sym, ap, subst}
+use Rattle.mm_types.specs.Resolved.{Metamodel}
+use Rattle.mm_types.specs.Shapes.{shape}
+use Rattle.mm_types.specs.declared.numbers.FeatureNo.{FeatureNo}
+use Rattle.mm_types.specs.declared.numbers.Node.{Node}
+use Rattle.mm_types.specs.declared.refused.Refused.{Refused}
+use Rattle.mm_types.specs.declared.value.Value.{Value}
 use Rattle.mm_values.specs.Room.{values_of}
-use Rattle.models.specs.Model.{Model, model_of, reading}
-use Rattle.handshake.specs.Effects.{value_edits}
-use Rattle.handshake.specs.Plans.{edits_values_alone}
-use Rattle.handshake.specs.Refusals.{early_refusal, late_refusal}
+use Rattle.models.specs.Model.{Model, model_of}
+use Rattle.models.specs.Reading.{at_end}
+use Rattle.handshake.specs.Effects.{put_values}
+use Rattle.handshake.specs.Plans.{IsPlanOf, of_values}
 use Rattle.handshake.specs.declared.change.Change.{Change}
 use Rattle.handshake.specs.declared.change.Change.TheVariants.{Set}
 use Rattle.handshake.proofs.ValueLemmas.{values-planned}
-use Rattle.repository.specs.Refusals.{IsPlanRefusal}
 use Rattle.repository.specs.Repository.{state}
 use Rattle.repository.specs.State.{IsLegal, State, reads}
 use Rattle.repository.specs.Views.{command_of}
@@ -15,64 +20,56 @@ use Rattle.repository.specs.declared.reply.Answer.TheVariants as answer
 use Rattle.repository.proofs.InsideLemmas.{made, refused}
 use Rattle.repository.proofs.LegalLemmas.{stepped-legal}
 use Rattle.repository.proofs.LoadLemmas.{proper-steady}
-use Rattle.repository.proofs.PlanLemmas.{early_err, out_of_memory, plan_refusal, planned_err}
+use Rattle.repository.proofs.PlanLemmas.{FoundOf, free-as-found, out_of_memory, refused-as-found}
 use Rattle.repository.proofs.ValueLemmas.{changed-unheard}
 use Rattle.repository.proofs.repository.Repository.set_value.Goals as goal
 
+-- the plan of a set of an attribute is the edit of one value
+flagged : (s : State) (m : Model) (n : Node) (f : FeatureNo) (v : Value) (flag : Bool) (q : Option Refused) → IsLegal s → m ≡ s.model → FoundOf m (Set n f v) q → q ≡ None → flag ≡ (shape m.metamodel f).is_unsettable → (shape s.model.metamodel f).is_reference ≡ false
+    → IsPlanOf false s.model (Set n f v) (of_values (put_values (at_end n f) (v ∷ []) flag))
+flagged s m n f v flag q legal is found known flag_is attribute =
+    let free = free-as-found s m (Set n f v) q is found known in
+    let same = flag_is ∙ ap (λ (m : Model). (shape m.metamodel f).is_unsettable) is in
+    values-planned s.model (Set n f v) _ (ap not attribute) legal.model free.0 free.1 (λ i. if sym attribute i then [] else put_values (at_end n f) (v ∷ []) (same i))
+
 pub returns-in-Some : goal.returns-in-Some
 returns-in-Some g c =
-    early_err c.args.self.now [] (Set c.args.node c.args.feature c.args.value) c.in-Some.refused
-    (ap (λ (m : Model). early_refusal (reading m) (Set c.args.node c.args.feature c.args.value)) (sym c.model-model.ensures) ∙ sym c.set_early_refusal.ensures ∙ c.in-Some.is)
+    let s : State = state g.L.LinkStore.links c.self.inside in
+    let change : Change = Set c.args.node c.args.feature c.args.value in
+    let is : c.model-model.result ≡ s.model = c.model-model.ensures ∙ ap (λ (t : State). t.model) (sym c.self.view_is) in
+    rw (← c.self.view_is) (refused-as-found s c.model-model.result change _ c.in-Some.refused tt is c.attribute_refusal.ensures c.in-Some.is)
 
 pub returns-in-Err : goal.returns-in-Err
 returns-in-Err g c =
     let s : State = state g.L.LinkStore.links c.self.inside in
     let change : Change = Set c.args.node c.args.feature c.args.value in
     let is : c.model-model.result ≡ s.model = c.model-model.ensures ∙ ap (λ (t : State). t.model) (sym c.self.view_is) in
-    let early : early_refusal (reads s) change ≡ None = ap (λ (m : Model). early_refusal (reading m) change) (sym is) ∙ sym c.set_early_refusal.ensures ∙ c.in_default.is in
-    let late = subst (λ (m : Model). IsPlanRefusal m change c.in-Err.refused) is (plan_refusal c.model-model.result change c.in-Err.refused (λ _. c.in-Err.ensures.refused)) in
-    rw (← c.self.view_is) (planned_err s [] change c.in-Err.refused tt early late)
-
-pub returns-in-Err-try_apply : goal.returns-in-Err-try_apply
-returns-in-Err-try_apply g c =
-    let s : State = state g.L.LinkStore.links c.self.inside in
-    let change : Change = Set c.args.node c.args.feature c.args.value in
-    let is : c.model-model.result ≡ s.model = c.model-model.ensures ∙ ap (λ (t : State). t.model) (sym c.self.view_is) in
-    let early : early_refusal (reads s) change ≡ None = ap (λ (m : Model). early_refusal (reading m) change) (sym is) ∙ sym c.set_early_refusal.ensures ∙ c.in_default.is in
-    rw (← c.self.view_is, c.in-Err-try_apply.ensures.err) (out_of_memory s [] change tt early)
+    let free = free-as-found s c.model-model.result change _ is c.attribute_refusal.ensures c.in_default.is in
+    rw (← c.self.view_is, c.in-Err.ensures.err) (out_of_memory s [] change tt free.0)
 
 -- if memory is refused, nothing that is seen has changed
 pub invariant_of-self : goal.invariant_of-self
-invariant_of-self g c = refused g.L.LinkStore.links g.L.LinkStore.kinds c.self.inside c.try_apply.new.self c.in-Err-try_apply.ensures.err c.self.invariant
+invariant_of-self g c = refused g.L.LinkStore.links g.L.LinkStore.kinds c.self.inside c.put_value.new.values c.in-Err.ensures.err c.self.invariant
 
 pub returns : goal.returns
 returns g c =
     let s : State = state g.L.LinkStore.links c.self.inside in
     let change : Change = Set c.args.node c.args.feature c.args.value in
     let is : c.model-model.result ≡ s.model = c.model-model.ensures ∙ ap (λ (t : State). t.model) (sym c.self.view_is) in
-    let early : early_refusal (reads s) change ≡ None = ap (λ (m : Model). early_refusal (reading m) change) (sym is) ∙ sym c.set_early_refusal.ensures ∙ c.in_default.is in
+    let free = free-as-found s c.model-model.result change _ is c.attribute_refusal.ensures c.in_default.is in
     let none : s.adapters ≡ [] = subst (λ (t : State). t.adapters ≡ []) (sym c.self.view_is) c.requires.unheard in
-    let alone : edits_values_alone s.model.metamodel change ≡ true = subst (λ (t : State). edits_values_alone t.model.metamodel change ≡ true) (sym c.self.view_is) (ap not c.requires.attribute) in
-    let late : late_refusal (reads s) change ≡ None = subst (λ (m : Model). late_refusal (reading m) change ≡ None) is c.in-Ok.ensures.allowed in
-    let vs = c.in-Ok.values in
-    let lists : vs ≡ value_edits (reads s) change = subst (λ (m : Model). vs ≡ value_edits (reading m) change) is c.in-Ok.ensures.values in
-    let plan = values-planned s.model change vs alone c.self.invariant.legal.model early late lists in
-    let values = c.in-Ok-try_apply.ensures.ok ∙ plan.values_made in
-    let t : State = record { model = model_of c.self.inside.meta (values_of c.try_apply.new.self) (g.L.LinkStore.links c.self.inside.store); adapters = c.self.inside.adapters.0 } in
+    let plan = flagged s c.model-model.result c.args.node c.args.feature c.args.value c.is_unsettable-flag.result _ c.self.invariant.legal is c.attribute_refusal.ensures c.in_default.is (c.is_unsettable-flag.ensures ∙ ap (λ (m : Metamodel). (shape m c.args.feature).is_unsettable) c.meta.ensures)
+    (subst (λ (t : State). (shape t.model.metamodel c.args.feature).is_reference ≡ false) (sym c.self.view_is) c.requires.attribute) in
+    let values = c.in-Ok.ensures.ok ∙ plan.values_made in
+    let t : State = record { model = model_of c.self.inside.meta (values_of c.put_value.new.values) (g.L.LinkStore.links c.self.inside.store); adapters = c.self.inside.adapters.0 } in
     rw (← c.self.view_is)
-    (changed-unheard s t [] change answer.Done [] [] none refl refl tt early late refl
+    (changed-unheard s t [] change answer.Done [] [] none refl refl tt free.0 free.1 refl
     (λ i. model_of c.self.inside.meta (values i) (plan.links_made i)) refl)
 
 pub invariant_of-self-2 : goal.invariant_of-self-2
 invariant_of-self-2 g c =
-    let s : State = state g.L.LinkStore.links c.self.inside in
-    let change : Change = Set c.args.node c.args.feature c.args.value in
-    let is : c.model-model.result ≡ s.model = c.model-model.ensures ∙ ap (λ (t : State). t.model) (sym c.self.view_is) in
-    let early : early_refusal (reads s) change ≡ None = ap (λ (m : Model). early_refusal (reading m) change) (sym is) ∙ sym c.set_early_refusal.ensures ∙ c.in_default.is in
-    let alone : edits_values_alone s.model.metamodel change ≡ true = subst (λ (t : State). edits_values_alone t.model.metamodel change ≡ true) (sym c.self.view_is) (ap not c.requires.attribute) in
-    let late : late_refusal (reads s) change ≡ None = subst (λ (m : Model). late_refusal (reading m) change ≡ None) is c.in-Ok.ensures.allowed in
-    let vs = c.in-Ok.values in
-    let lists : vs ≡ value_edits (reads s) change = subst (λ (m : Model). vs ≡ value_edits (reading m) change) is c.in-Ok.ensures.values in
-    let plan = values-planned s.model change vs alone c.self.invariant.legal.model early late lists in
-    let legal = stepped-legal _ _ (command_of [] change) _ (subst IsLegal c.self.view_is c.self.invariant.legal) (returns g c) in
-    made g.L.LinkStore.links g.L.LinkStore.kinds c.self.inside c.try_apply.new.self change vs plan c.in-Ok-try_apply.ensures.ok (proper-steady (reads s) [] change tt) legal c.self.invariant
+    let seen : c.model-model.result ≡ (state g.L.LinkStore.links c.self.inside).model = c.model-model.ensures ∙ ap (λ (t : State). t.model) (sym c.self.view_is) in
+    let plan = flagged _ c.model-model.result c.args.node c.args.feature c.args.value c.is_unsettable-flag.result _ c.self.invariant.legal seen c.attribute_refusal.ensures c.in_default.is (c.is_unsettable-flag.ensures ∙ ap (λ (m : Metamodel). (shape m c.args.feature).is_unsettable) c.meta.ensures)
+    (subst (λ (t : State). (shape t.model.metamodel c.args.feature).is_reference ≡ false) (sym c.self.view_is) c.requires.attribute) in
+    let legal = stepped-legal _ _ (command_of [] (Set c.args.node c.args.feature c.args.value)) _ (subst IsLegal c.self.view_is c.self.invariant.legal) (returns g c) in
+    made g.L.LinkStore.links g.L.LinkStore.kinds c.self.inside c.put_value.new.values (Set c.args.node c.args.feature c.args.value) _ plan c.in-Ok.ensures.ok (proper-steady (reads (state g.L.LinkStore.links c.self.inside)) [] (Set c.args.node c.args.feature c.args.value) tt) legal c.self.invariant

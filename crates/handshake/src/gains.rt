@@ -1,0 +1,99 @@
+//! Whether an end can gain a value. None of this takes memory.
+ghost use Rattle.std.specs.Prelude.{◌≡◌, int_lt, pos};
+ghost use Rattle.mm_types.specs.Shapes.{shape};
+ghost use Rattle.models.specs.Model.{reading};
+ghost use Rattle.handshake.specs.Refusals as refusals;
+
+use crate::link_end::opposite_end;
+use crate::recursion::is_recursive;
+use links::LinkStore;
+use mm_meta::Meta;
+use mm_types::{End, FeatureNo, ObjectNo, Refused, Value, limits};
+use models::ModelRef;
+
+/// Why an end can't gain a value: `Bound`, `Recursive` or `Limit`.
+pub(crate) fn gain_refusal<L: LinkStore>(
+    model: &ModelRef<L>,
+    end: End,
+    value: &Value,
+) -> Option<Refused>
+    ensures { result ≡ refusals.gain_refusal (reading model.now) end value.now }
+{
+    match value {
+        Value::Object(object) => link_refusal(model, end, *object),
+        _ if is_full_at(model, end) => Some(Refused::Bound),
+        _ if is_at_limit(model, end) => Some(Refused::Limit),
+        _ => None,
+    }
+}
+
+/// Why an end can't gain a link to an object.
+pub(crate) fn link_refusal<L: LinkStore>(
+    model: &ModelRef<L>,
+    end: End,
+    object: ObjectNo,
+) -> Option<Refused>
+    ensures { result ≡ refusals.link_refusal (reading model.now) end object }
+{
+    if is_either_full(model, end, object) {
+        return Some(Refused::Bound);
+    }
+    if is_recursive(model, end, object) {
+        return Some(Refused::Recursive);
+    }
+    if is_either_at_limit(model, end, object) {
+        return Some(Refused::Limit);
+    }
+    None
+}
+
+/// Whether an end or the opposite end of a new link is full.
+fn is_either_full<L: LinkStore>(model: &ModelRef<L>, end: End, object: ObjectNo) -> bool
+    ensures { result ≡ refusals.of_either (refusals.is_full_at (reading model.now)) (reading model.now) end object }
+{
+    if is_full_at(model, end) {
+        return true;
+    }
+    match opposite_end(model, end, object) {
+        Some(far) => is_full_at(model, far),
+        None => false,
+    }
+}
+
+/// Whether an end or the opposite end of a new link has as many values as any list may have.
+fn is_either_at_limit<L: LinkStore>(model: &ModelRef<L>, end: End, object: ObjectNo) -> bool
+    ensures { result ≡ refusals.of_either (refusals.is_at_limit (reading model.now)) (reading model.now) end object }
+{
+    if is_at_limit(model, end) {
+        return true;
+    }
+    match opposite_end(model, end, object) {
+        Some(far) => is_at_limit(model, far),
+        None => false,
+    }
+}
+
+/// Whether an end of an upper bound above 1 has as many values as it may have.
+fn is_full_at<L: LinkStore>(model: &ModelRef<L>, end: End) -> bool
+    ensures { result ≡ refusals.is_full_at (reading model.now) end }
+{
+    // few features have such a bound, and without one the values need not be counted
+    has_bound(model.meta(), end.feature) && model.meta().is_full(end.feature, model.len(end))
+}
+
+/// Whether a feature has an upper bound above 1, so that its lists can be full.
+fn has_bound(meta: &Meta, feature: FeatureNo) -> bool
+    ensures { result ≡ int_lt (pos 1) (shape meta.now feature).upper }
+{
+    match meta.feature(feature) {
+        Some(found) => found.upper > 1,
+        None => false,
+    }
+}
+
+/// Whether an end has as many values as any list may have.
+fn is_at_limit<L: LinkStore>(model: &ModelRef<L>, end: End) -> bool
+    ensures { result ≡ refusals.is_at_limit (reading model.now) end }
+{
+    model.len(end) as usize >= limits::LIST_VALUES
+}
