@@ -8,7 +8,8 @@ use adapters::{Adapter, Counter, Recorder, Window};
 use explain_scripts::Watch;
 use link_store::SlotStore;
 use mm_meta::Meta;
-use script_program::{Dress, Summary, run_dressed, run_live};
+use repository::Repository;
+use script_program::{Dress, Summary, run_live, run_over};
 use script_streams::RunFault;
 use std::cell::RefCell;
 use std::io::{BufReader, BufWriter, Printer, Read, Write};
@@ -61,15 +62,19 @@ fn run_reader<R: Read + Drop, A: Adapter>(
 ) -> Result<Summary, Stop> {
     let mut reader = Watched::new(rt, reader, watch);
     let mut writer = writer_of(rt, watch)?;
-    let meta = Box::into_inner(meta);
-    let outcome = run_dressed::<_, _, SlotStore, _>(
+    let mut repository: Repository<SlotStore, A> = Repository::new(
+        rt.alloc(),
+        Box::into_inner(meta),
+    );
+    let outcome = run_over(
         rt.alloc(),
         &mut reader,
         &mut writer,
-        meta,
+        &mut repository,
         boxes,
         dress,
     );
+    let _ = repository.close_at_exit();
     Ok(ended(&mut writer, outcome)?)
 }
 

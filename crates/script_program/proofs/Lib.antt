@@ -4,5 +4,6 @@ mod SessionLemmas
 mod DressLemmas
 mod ScriptLemmas
 mod LostLemmas
+mod PlainLemmas
 mod BatchLemmas
 mod LiveLemmas

@@ -64,11 +64,11 @@ pub record GoesOn (d : Dress) (z : Session) (bytes rest : List ℕ) (s : Session
   pub going : is_stopped d printed ≡ false
   pub written : Appends old now (dressed_from d 1 so_far.done printed)
 
-never : (b : Bool) → (b && false) ≡ false
+pub never : (b : Bool) → (b && false) ≡ false
 never true = refl
 never false = refl
 
-none_run : (d : Dress) (z : Session) (bytes : List ℕ) → Ran d z bytes bytes z 0 [] no_lines
+unfoldable pub none_run : (d : Dress) (z : Session) (bytes : List ℕ) → Ran d z bytes bytes z 0 [] no_lines
 none_run d z bytes = record {
   done = [];
   all = refl;
@@ -85,7 +85,7 @@ unfolding none_run
 start d z bytes old = record { so_far = none_run d z bytes; going = never d.stop; written = Appends-nil old }
 
 -- one more line is run
-one_more : (d : Dress) (z : Session) (bytes rest more line : List ℕ) (s u : Session) (number : ℕ) (printed : List Printed) (summary : Summary) (p : Printed)
+unfoldable pub one_more : (d : Dress) (z : Session) (bytes rest more line : List ℕ) (s u : Session) (number : ℕ) (printed : List Printed) (summary : Summary) (p : Printed)
     → Ran d z bytes rest s number printed summary → is_stopped d printed ≡ false → lines rest ≡ line ∷ lines more → length more < length rest → RunsLine s (form line) p u
     → Ran d z bytes more u (number + 1) (printed ++ p ∷ []) (with_turn summary p.turn)
 one_more d z bytes rest more line s u number printed summary p g going cut shorter one =
@@ -102,7 +102,7 @@ one_more d z bytes rest more line s u number printed summary p g going cut short
     }
 
 -- what is written of it stands behind what was written
-line_behind : (d : Dress) (z : Session) (bytes rest : List ℕ) (s : Session) (number : ℕ) (printed : List Printed) (summary : Summary) (line : List ℕ) (p : Printed)
+pub line_behind : (d : Dress) (z : Session) (bytes rest : List ℕ) (s : Session) (number : ℕ) (printed : List Printed) (summary : Summary) (line : List ℕ) (p : Printed)
     → (g : Ran d z bytes rest s number printed summary)
     → dressed_from d 1 (g.done ++ line ∷ []) (printed ++ p ∷ []) ≡ dressed_from d 1 g.done printed ++ dressed_line d (number + 1) line p
 line_behind d z bytes rest s number printed summary line p g =
@@ -116,7 +116,7 @@ module _ (d : Dress) (z : Session) (bytes : List ℕ) where
       → RunsFirst d z bytes g.done (lines rest) printed s
   first_run rest s number printed summary g = record { lines_are = sym g.all; ran = g.ran; none_behind = g.none_behind }
 
-  whole_of : (rest : List ℕ) (s : Session) (number : ℕ) (printed : List Printed) (summary : Summary) (old new : Option (List ℕ)) → (g : Ran d z bytes rest s number printed summary)
+  pub whole_of : (rest : List ℕ) (s : Session) (number : ℕ) (printed : List Printed) (summary : Summary) (old new : Option (List ℕ)) → (g : Ran d z bytes rest s number printed summary)
       → ((lines rest ≡ []) ⊎ (is_stopped d printed ≡ true)) → Appends old new (dressed_from d 1 g.done printed) → PrintsDressed d z old new bytes summary
   whole_of rest s number printed summary old new g ends wrote = record {
     first = g.done;
@@ -127,7 +127,7 @@ module _ (d : Dress) (z : Session) (bytes : List ℕ) where
     written = subst (λ ps. Appends old new (dressed_from d 1 g.done ps)) (sym g.none_behind) wrote;
   }
 
-  front_of : (rest : List ℕ) (s : Session) (number : ℕ) (printed : List Printed) (summary : Summary) (old new : Option (List ℕ)) → (g : Ran d z bytes rest s number printed summary)
+  pub front_of : (rest : List ℕ) (s : Session) (number : ℕ) (printed : List Printed) (summary : Summary) (old new : Option (List ℕ)) → (g : Ran d z bytes rest s number printed summary)
       → AppendsFront old new (dressed_from d 1 g.done printed) → PrintsDressedFront d z old new bytes
   front_of rest s number printed summary old new g wrote = record {
     first = g.done;

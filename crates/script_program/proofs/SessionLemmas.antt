@@ -1,21 +1,30 @@
 -- What comes back of a command that was executed.
-use Rattle.std.proofs.Common.{◌∷◌, ◌≡◌, ◌∙◌, [], Option, Ok, Err, refl, ap}
+use Rattle.std.proofs.Common.{◌∷◌, ◌≡◌, ◌∙◌, [], List, Option, Result, Ok, Err, map, refl, sym, ap}
+use Rattle.std.specs.Prelude.{fold}
 use Rattle.std.specs.Option.{option_map_or, option_zip}
 use Rattle.std.proofs.lemmas.List.Elements.{All-cons, All-head, All-nil}
 use Rattle.notice_chain.specs.View.{View}
 use Rattle.notice_chain.specs.Listed.{Listed}
-use Rattle.repository.specs.Run.{Executed}
+use Rattle.mm_types.specs.declared.refused.Refused.{Refused}
+use Rattle.repository.specs.Run.{Executed, read_outcome}
 use Rattle.repository.specs.State.{State}
+use Rattle.repository.specs.Step.{joins}
 use Rattle.repository.specs.Views.{Outcome, brought}
 use Rattle.repository.specs.declared.command.Command.{Command}
 use Rattle.repository.specs.declared.command.Command.TheVariants.{ResolveAll, Create, Set, Unset, Add, Remove, RemoveValue, Move, Delete, Attach, Watch, Unwatch, Detach, Get, IsSet, Container, Contents, Class, AdapterTold, AdapterKept, CreateResource, Resolve, Load, Resource, Validate, Fragment, ObjectAt, Save, Snapshot}
+use Rattle.repository.specs.declared.reply.Answer.{Answer}
 use Rattle.repository.proofs.RunLemmas.{refused-nothing}
 use Rattle.script_lines.specs.declared.form.Form.{Form}
 use Rattle.script_lines.specs.declared.form.Form.TheVariants as asks
 use Rattle.script_program.specs.Bind.{IsGiven, attach_request, bind}
-use Rattle.script_program.specs.Pool.{Pool, box_of, with_box}
+use Rattle.script_program.specs.Pool.{Pool, box_of, with_box, without}
 use Rattle.script_program.specs.Session.{IsBrought, Session, brought_no, pool_after, returned, taken}
 use Rattle.script_program.proofs.PoolLemmas.{put-back}
+
+-- what brings nothing, and releases nothing, leaves the pool as it is
+pub unheard-pool : {X : Type 0} (pool : Pool) (c : Command View) (f : X → Answer) (r : Result X Refused) → joins c ≡ [] → pool ≡ pool_after pool c (read_outcome f r)
+unheard-pool pool c f (Ok x) alone = ap (λ (js : List Listed). fold without pool (map (λ a. a.no) js)) (sym alone)
+unheard-pool pool c f (Err e) alone = refl
 
 -- what was brought and is put back leaves the pool as it was
 undone : (before : Pool) (c : Command View) → IsBrought before c → option_map_or (with_box (taken before c)) (option_zip (brought_no c) (brought c)) (taken before c) ≡ before

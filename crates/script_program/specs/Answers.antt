@@ -103,6 +103,10 @@ abbrev pub outcome_text : Metamodel → FeatureNo → Outcome → List ℕ
 outcome_text m f (Ok r) = answer_line m f r.answer ++ notified_text m r.told r.released
 outcome_text m f (Err e) = refusal_line e.refused
 
+-- the line that a command prints that nobody hears
+abbrev pub unheard_text : Metamodel → FeatureNo → Answer → List ℕ
+unheard_text m f a = outcome_text m f (Ok (record { answer = a; told = []; released = [] }))
+
 -- the line that a read of a feature prints
 abbrev pub read_text : Metamodel → FeatureNo → Value → List ℕ
-read_text m f v = outcome_text m f (Ok (record { answer = answer.Value v; told = []; released = [] }))
+read_text m f v = unheard_text m f (answer.Value v)

@@ -5,6 +5,7 @@ pub mod Bind
 pub mod Answers
 pub mod Turns
 pub mod Dressed
+pub mod Edits
 pub mod Script
 pub mod Batch
 pub mod Live

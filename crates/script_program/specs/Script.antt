@@ -1,5 +1,5 @@
 -- What it is to run a script: each line in turn, in the session that the one before it left.
-use Rattle.std.specs.Prelude.{◌≡◌, ◌≤◌, ℕ, List, [], ◌∷◌, ◌++◌, length, Option, IfSome, MatchOption, codes}
+use Rattle.std.specs.Prelude.{◌≡◌, ◌≤◌, ℕ, List, [], ◌∷◌, ◌++◌, length, Option, IfSome, codes}
 use Rattle.std.specs.Option.{option_map_or}
 use Rattle.std.specs.Io.KnownBytes.{Appends}
 use Rattle.mm_types.specs.Resolved.{Metamodel}
@@ -66,10 +66,6 @@ abbrev pub RunsLine : Session → Line → Printed → Session → Type 0
 RunsLine s line.Blank p t = (p ≡ blank_printed) × (t ≡ s)
 RunsLine s line.Bad p t = (p ≡ bad_printed) × (t ≡ s)
 RunsLine s (line.Form f) p t = RunsRequest s (bind s f) p t
-
--- a way that may be left to another: either nothing was done and nothing printed, or what is said of how the line is counted
-abbrev pub IsTried : Session → Session → List ℕ → Option Turn → (Turn → Type 0) → Type 0
-IsTried s t text turn done = MatchOption turn ((t ≡ s) × (text ≡ [])) done
 
 -- lines were run one after another: what each printed, and the session after the last
 abbrev pub RunsLines : Session → List (List ℕ) → List Printed → Session → Type 0

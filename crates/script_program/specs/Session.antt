@@ -18,9 +18,13 @@ pub record Session : Type 0 where
 abbrev pub session : State → Pool → Session
 session s pool = record { state = s; pool = pool }
 
+-- a repository, and all boxes in the pool
+abbrev pub session_with : {A : Type 0} → (A → View) → State → List A → Session
+session_with heard s boxes = session s (map (λ a. Some (heard a)) boxes)
+
 -- an empty repository, and all boxes in the pool
 abbrev pub first_session : {A : Type 0} → (A → View) → Metamodel → List A → Session
-first_session heard m boxes = session (empty_state m) (map (λ a. Some (heard a)) boxes)
+first_session heard m boxes = session_with heard (empty_state m) boxes
 
 -- what a command brings is in the pool
 abbrev pub IsBrought : Pool → Command View → Type 0

@@ -1,5 +1,5 @@
 //! How the answers of a script are dressed.
-ghost use Rattle.std.specs.Prelude.{◌≡◌, ◌&&◌};
+ghost use Rattle.std.specs.Prelude.{◌≡◌, ◌&&◌, IsTrue};
 ghost use Rattle.script_program.specs.Dressed.{is_fault, plain};
 
 use crate::turn::Turn;
@@ -26,6 +26,13 @@ impl Dress {
             number: false,
             stop: false,
         }
+    }
+
+    /// Whether nothing is written but answers, and all lines are run.
+    pub(crate) fn is_plain(self) -> bool
+        ensures { IsTrue result → self ≡ plain }
+    {
+        !(self.echo || self.number || self.stop)
     }
 
     /// Whether the run ends after a line that is counted so.

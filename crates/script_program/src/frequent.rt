@@ -1,24 +1,27 @@
 //! Lines of the most frequent forms are run. They call the repository themselves, and a change that nobody can hear is printed without a
 //! reply: to bind a line to a command and to take its reply apart takes longer than the change.
-ghost use Rattle.std.specs.Prelude.{◌≡◌, [], Err, IfOk, IfSome, None, Some};
+ghost use Rattle.std.specs.Prelude.{◌≡◌, [], Err, IfOk, MatchOption, None, Some};
 ghost use Rattle.mm_types.specs.Resolved.{Metamodel};
 ghost use Rattle.mm_types.specs.declared.numbers.Node.TheVariants as node;
 ghost use Rattle.notice_chain.specs.View.{View};
-ghost use Rattle.repository.specs.Run.{change_outcome};
+ghost use Rattle.repository.specs.Run.{change_outcome, read_outcome};
 ghost use Rattle.repository.specs.declared.command.Command.{Command};
 ghost use Rattle.repository.specs.declared.command.Command.TheVariants as command;
+ghost use Rattle.repository.specs.declared.reply.Answer.{Answer};
 ghost use Rattle.script_lines.specs.Frequent.{frequent_line};
 ghost use Rattle.script_lines.specs.Values.{value_in};
 ghost use Rattle.script_lines.specs.declared.frequent.Frequent.TheVariants as frequent;
+ghost use Rattle.script_program.specs.Answers.{feature_of, unheard_text};
 ghost use Rattle.script_program.specs.Bind as b;
+ghost use Rattle.script_program.specs.Edits.{edit_command};
 ghost use Rattle.script_program.specs.Pool.{Pool as PoolView};
-ghost use Rattle.script_program.specs.Script.{IsTried, RunsCommand, RunsLine, command_printed};
+ghost use Rattle.script_program.specs.Script.{RunsCommand, RunsLine, command_printed};
 ghost use Rattle.script_program.specs.Session.{session};
 ghost use Rattle.script_program.specs.Turns.{printed};
 
 use crate::answers::print_refusal;
 use crate::bind::{class_number, feature_number, value_in};
-use crate::line::{run_command, run_get, turn_of_refusal};
+use crate::line::{print_bad, run_command, run_get, turn_of_refusal};
 use crate::pool::Pool;
 use crate::turn::Turn;
 use adapters::Adapter;
@@ -58,27 +61,26 @@ fn run_read<L: LinkStore, A: Adapter>(
     }
 }
 
-/// Creates an object of a class, and prints the answer; `None` if the repository leaves it to `create`, and then nothing was done. Errs
-/// only if memory is refused for what is printed.
+/// Creates an object of a class, and prints the answer. Errs only if memory is refused for what is printed.
 fn run_create<L: LinkStore, A: Adapter>(
     repository: &mut Repository<L, A>,
+    pool: &mut Pool<A>,
     output: &mut Output,
     class: Name<'_>,
-) -> Result<Option<Turn>, AllocError>
+) -> Result<Turn, AllocError>
     requires { output.old ≡ [] }
-    ensures { (pool : PoolView) → IfOk result (λ o. IsTried (session repository.old pool) (session repository.new pool) output.new o
-        (λ t. RunsCommand (session repository.old pool) (b.create_command repository.old.model.metamodel class.entry) (printed output.new t)
-        (session repository.new pool))) }
+    ensures { IfOk result (λ t. RunsCommand (session repository.old pool.old) (b.create_command repository.old.model.metamodel class.entry) (printed output.new t)
+        (session repository.new pool.new)) }
 {
     let class = class_number(repository.meta(), class.as_str());
     match repository.create_unheard(class) {
         Some(Ok(object)) => {
             output.node(Node::Object(object))?;
             output.line_end()?;
-            Ok(Some(Turn::Done))
+            Ok(Turn::Done)
         }
-        Some(Err(refused)) => Ok(Some(print_refused(output, refused)?)),
-        None => Ok(None),
+        Some(Err(refused)) => print_refused(output, refused),
+        None => run_command(repository, pool, output, Command::Create(class)),
     }
 }
 
@@ -102,26 +104,39 @@ fn run_container<L: LinkStore, A: Adapter>(
     }
 }
 
+/// How a line gives a feature of an object a value.
+#[derive(Clone, Copy)]
+enum Edit {
+    /// The value is set.
+    Set,
+    /// The value is added at the end.
+    Add,
+}
+
 /// What a line asks for that gives a feature of an object a value.
 #[derive(Drop)]
 struct Asked<'a> {
+    edit: Edit,
     object: ObjectNo,
     feature: Name<'a>,
     value: WrittenValue<'a>,
 }
 
-/// What a line asks for by these parts; `None` if its last word writes no value. Errs only if memory is refused for the text that the word
-/// writes.
+/// What a line asks for that has these parts; `None` if its last word writes no value. Errs only if memory is refused for the text that the
+/// word writes.
 fn asked_of<'a>(
     alloc: Global,
+    edit: Edit,
     object: ObjectNo,
     feature: Name<'a>,
     word: Word<'a>,
 ) -> Result<Option<Asked<'a>>, AllocError>
-    ensures { IfOk result (λ o. IfSome o (λ a. (a.object ≡ object) × (a.feature ≡ feature.entry) × (value_in word.entry ≡ Some a.value))) }
+    ensures { IfOk result (λ o. MatchOption o (value_in word.entry ≡ None)
+        (λ a. (a.edit ≡ edit) × (a.object ≡ object) × (a.feature ≡ feature.entry) × (value_in word.entry ≡ Some a.value))) }
 {
     match value_of(alloc, word.as_str())? {
         Some(value) => Ok(Some(Asked {
+            edit,
             object,
             feature,
             value,
@@ -143,58 +158,69 @@ fn bound<L: LinkStore, A: Adapter>(
     (feature, value_in(repository.meta(), feature, asked.value))
 }
 
-/// Sets a feature of an object to a value, and prints the answer; `None` if the repository leaves it to `e_set`, and then nothing was done.
-/// Errs only if memory is refused for what is printed.
-fn run_set<L: LinkStore, A: Adapter>(
-    repository: &mut Repository<L, A>,
+/// Prints what became of a change that nobody heard, whose answer prints as `done`. Errs only if memory is refused for what is printed.
+fn print_change(
     output: &mut Output,
-    asked: Asked<'_>,
-) -> Result<Option<Turn>, AllocError>
+    outcome: Result<(), Refused>,
+    done: &str,
+) -> Result<Turn, AllocError>
     requires { output.old ≡ [] }
-    ensures { (pool : PoolView) → IfOk result (λ o. IsTried (session repository.old pool) (session repository.new pool) output.new o
-        (λ t. RunsCommand (session repository.old pool)
-        (b.set_command repository.old (node.Object asked.entry.object) asked.entry.feature asked.entry.value)
-        (printed output.new t) (session repository.new pool))) }
+    ensures { (m : Metamodel) (c : Command View) (a : Answer) → done.now ≡ unheard_text m (feature_of c) a
+        → IfOk result (λ t. printed output.new t ≡ command_printed m c (read_outcome (λ u. a) outcome)) }
 {
-    let node = Node::Object(asked.object);
-    let (feature, value) = bound(repository, asked);
-    match repository.set_unheard(node, feature, value) {
-        Some(Ok(())) => {
-            output.text("ok\n")?;
-            Ok(Some(Turn::Done))
+    match outcome {
+        Ok(()) => {
+            output.text(done)?;
+            Ok(Turn::Done)
         }
-        Some(Err(refused)) => Ok(Some(print_refused(output, refused)?)),
-        None => Ok(None),
+        Err(refused) => print_refused(output, refused),
     }
 }
 
-/// Adds an object at the end of a feature of another, and prints the answer; `None` if the repository leaves it to `add`, and then nothing
-/// was done. Errs only if memory is refused for what is printed.
-fn run_add<L: LinkStore, A: Adapter>(
+/// Gives a feature of an object a value, and prints the answer. Errs only if memory is refused for what is printed.
+#[inline(always)]
+fn run_edit<L: LinkStore, A: Adapter>(
     repository: &mut Repository<L, A>,
+    pool: &mut Pool<A>,
     output: &mut Output,
     asked: Asked<'_>,
-) -> Result<Option<Turn>, AllocError>
+) -> Result<Turn, AllocError>
     requires { output.old ≡ [] }
-    ensures { (pool : PoolView) → IfOk result (λ o. IsTried (session repository.old pool) (session repository.new pool) output.new o
-        (λ t. RunsCommand (session repository.old pool)
-        (b.add_command repository.old (node.Object asked.entry.object) asked.entry.feature asked.entry.value None)
-        (printed output.new t) (session repository.new pool))) }
+    ensures { IfOk result (λ t. RunsCommand (session repository.old pool.old)
+        (edit_command repository.old asked.entry.edit (node.Object asked.entry.object) asked.entry.feature asked.entry.value)
+        (printed output.new t) (session repository.new pool.new)) }
 {
-    let node = Node::Object(asked.object);
+    let (edit, node) = (asked.edit, Node::Object(asked.object));
     let (feature, value) = bound(repository, asked);
-    match repository.add_unheard(node, feature, value, None) {
-        Some(Ok(())) => {
-            output.text("true\n")?;
-            Ok(Some(Turn::Done))
-        }
-        Some(Err(refused)) => Ok(Some(print_refused(output, refused)?)),
-        None => Ok(None),
+    match edit {
+        Edit::Set => match repository.set_unheard(node, feature, value) {
+            Ok(outcome) => print_change(output, outcome, "ok\n"),
+            Err(value) => {
+                let command = Command::Set {
+                    node,
+                    feature,
+                    value,
+                };
+                run_command(repository, pool, output, command)
+            }
+        },
+        Edit::Add => match repository.add_unheard(node, feature, value, None) {
+            Ok(outcome) => print_change(output, outcome, "true\n"),
+            Err(value) => {
+                let command = Command::Add {
+                    node,
+                    feature,
+                    value,
+                    index: None,
+                };
+                run_command(repository, pool, output, command)
+            }
+        },
     }
 }
 
 /// Runs a line of one of the most frequent forms, and prints the answer. It does what `run_text` does, and is shorter, since it knows which
-/// call of the repository the line asks for. `None` leaves the line to `run_text`, and then nothing was done.
+/// call of the repository the line asks for.
 ///
 /// Errs only if memory is refused for the text that the line writes as a value, or for what is printed.
 pub(crate) fn run_frequent<L: LinkStore, A: Adapter>(
@@ -203,28 +229,27 @@ pub(crate) fn run_frequent<L: LinkStore, A: Adapter>(
     pool: &mut Pool<A>,
     output: &mut Output,
     line: Frequent<'_>,
-) -> Result<Option<Turn>, AllocError>
+) -> Result<Turn, AllocError>
     requires { output.old ≡ [] }
-    ensures { IfOk result (λ o. IsTried (session repository.old pool.old) (session repository.new pool.new) output.new o
-        (λ t. RunsLine (session repository.old pool.old) (frequent_line line.entry) (printed output.new t) (session repository.new pool.new))) }
+    ensures { IfOk result (λ t. RunsLine (session repository.old pool.old) (frequent_line line.entry) (printed output.new t) (session repository.new pool.new)) }
 {
     match line {
-        Frequent::New(class) => run_create(repository, output, class),
+        Frequent::New(class) => run_create(repository, pool, output, class),
         Frequent::Get(object, feature) => {
-            let turn = run_read(repository, pool, output, object, feature.as_str())?;
-            Ok(Some(turn))
+            run_read(repository, pool, output, object, feature.as_str())
         }
-        Frequent::Container(object) => {
-            let turn = run_container(repository, output, object)?;
-            Ok(Some(turn))
+        Frequent::Container(object) => run_container(repository, output, object),
+        Frequent::Set(object, feature, word) => {
+            match asked_of(alloc, Edit::Set, object, feature, word)? {
+                Some(asked) => run_edit(repository, pool, output, asked),
+                None => print_bad(output),
+            }
         }
-        Frequent::Set(object, feature, word) => match asked_of(alloc, object, feature, word)? {
-            Some(asked) => run_set(repository, output, asked),
-            None => Ok(None),
-        },
-        Frequent::Add(object, feature, word) => match asked_of(alloc, object, feature, word)? {
-            Some(asked) => run_add(repository, output, asked),
-            None => Ok(None),
-        },
+        Frequent::Add(object, feature, word) => {
+            match asked_of(alloc, Edit::Add, object, feature, word)? {
+                Some(asked) => run_edit(repository, pool, output, asked),
+                None => print_bad(output),
+            }
+        }
     }
 }

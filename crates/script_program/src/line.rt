@@ -151,7 +151,7 @@ fn run_request<L: LinkStore, A: Adapter>(
 }
 
 /// Adds the line that a bad line prints. Errs only if memory is refused for it.
-fn print_bad(output: &mut Output) -> Result<Turn, AllocError>
+pub(crate) fn print_bad(output: &mut Output) -> Result<Turn, AllocError>
     requires { output.old ≡ [] }
     ensures { IfOk result (λ t. printed output.new t ≡ bad_printed) }
 {
@@ -199,10 +199,8 @@ pub(crate) fn run_line<L: LinkStore, A: Adapter>(
     let Some(text) = line.text_of_line() else {
         return print_bad(output);
     };
-    if let Some(line) = frequent_of(text) {
-        if let Some(turn) = run_frequent(alloc, repository, pool, output, line)? {
-            return Ok(turn);
-        }
+    match frequent_of(text) {
+        Some(line) => run_frequent(alloc, repository, pool, output, line),
+        None => run_text(alloc, repository, pool, output, text),
     }
-    run_text(alloc, repository, pool, output, text)
 }

@@ -5,11 +5,12 @@ ghost use Rattle.script_lines.specs.Source.{bytes_of};
 ghost use Rattle.script_streams.specs.Faults.{IsReadOrTooLong, IsWriteOrMemory};
 ghost use Rattle.script_program.specs.Batch.{AnswersFront, AnswersLine, PrintsDressed, PrintsDressedFront, PrintsInputDressed, PrintsInputDressedFront};
 ghost use Rattle.script_program.specs.Script.{PrintsInput, PrintsInputFront};
-ghost use Rattle.script_program.specs.Session.{first_session, session};
+ghost use Rattle.script_program.specs.Session.{first_session, session, session_with};
 
 use crate::dress::Dress;
 use crate::dressing::write_dressed;
 use crate::line::run_line;
+use crate::plain::run_plain;
 use crate::pool::Pool;
 use crate::summary::Summary;
 use crate::turn::Turn;
@@ -91,27 +92,55 @@ fn run_lines<W: Write, L: LinkStore, A: Adapter>(
     Ok(summary)
 }
 
-/// Runs a script over an empty repository of a metamodel, and writes what each line prints as it is dressed.
+/// Runs a script over a repository, and writes what each line prints as it is dressed.
 fn run_input<W: Write, L: LinkStore, A: Adapter>(
     alloc: Global,
     writer: &mut W,
-    meta: Meta,
+    repository: &mut Repository<L, A>,
     boxes: Vec<A>,
     dress: Dress,
     input: &[u8],
 ) -> Result<Summary, RunFault>
     requires { length input.now ≤ INPUT_BYTES }
-    ensures ok { IfOk result (PrintsDressed dress (first_session A.heard meta boxes.items) (W.contents writer.old) (W.contents writer.new) input.now) }
-    ensures err { OnErr result (PrintsDressedFront dress (first_session A.heard meta boxes.items) (W.contents writer.old) (W.contents writer.new) input.now) }
+    ensures ok { IfOk result (PrintsDressed dress (session_with A.heard repository.old boxes.items) (W.contents writer.old) (W.contents writer.new) input.now) }
+    ensures err { OnErr result (PrintsDressedFront dress (session_with A.heard repository.old boxes.items) (W.contents writer.old) (W.contents writer.new) input.now) }
     ensures kind { IfErr result (λ e. IsWriteOrMemory e) }
 {
     let Ok(mut pool) = Pool::new(alloc, boxes) else {
         return Err(RunFault::Memory);
     };
-    let mut repository: Repository<L, A> = Repository::new(alloc, meta);
-    let outcome = run_lines(alloc, writer, &mut repository, &mut pool, dress, input);
-    let _ = repository.close();
-    outcome
+    if dress.is_plain() {
+        return run_plain(alloc, writer, repository, &mut pool, input);
+    }
+    run_lines(alloc, writer, repository, &mut pool, dress, input)
+}
+
+/// Runs a script as `run_dressed` does, over a repository that its caller has, and goes on to have.
+///
+/// Errs as `run` does. The script is read to its end before its first line is run, even if the run ends earlier.
+pub fn run_over<R: Read, W: Write, L: LinkStore, A: Adapter>(
+    alloc: Global,
+    reader: &mut R,
+    writer: &mut W,
+    repository: &mut Repository<L, A>,
+    boxes: Vec<A>,
+    dress: Dress,
+) -> Result<Summary, RunFault>
+    // All the input was read, and what was written is what its lines print, as it is dressed.
+    ensures ok { IfOk result (PrintsInputDressed dress (R.remaining reader.old) (session_with A.heard repository.old boxes.items) (W.contents writer.old) (W.contents writer.new)) }
+    ensures end { OnOk result (IsAtEnd (R.remaining reader.new)) }
+    // If a write fails or the run is out of memory, what was written is a front of what the first lines print.
+    ensures stopped { IfErr result (λ e. IsWriteOrMemory e
+        → PrintsInputDressedFront dress (R.remaining reader.old) (session_with A.heard repository.old boxes.items) (W.contents writer.old) (W.contents writer.new)) }
+    // After a fault in reading nothing was written.
+    ensures unread { IfErr result (λ e. IsReadOrTooLong e → Keeps (W.contents writer.old) (W.contents writer.new)) }
+    // `TooLong` is returned only if the input is too long.
+    ensures long { IsErrOf result RunFault.TooLong → IfSome (R.remaining reader.old) (λ input. INPUT_BYTES < length input) }
+{
+    match read_all(alloc, reader) {
+        Ok(input) => run_input(alloc, writer, repository, boxes, dress, input.as_slice()),
+        Err(fault) => Err(fault),
+    }
 }
 
 /// Runs a script as `run` does, and writes what its lines print as it is dressed; if the dress says so, the run ends after the first line
@@ -137,10 +166,10 @@ pub fn run_dressed<R: Read, W: Write, L: LinkStore, A: Adapter>(
     // `TooLong` is returned only if the input is too long.
     ensures long { IsErrOf result RunFault.TooLong → IfSome (R.remaining reader.old) (λ input. INPUT_BYTES < length input) }
 {
-    match read_all(alloc, reader) {
-        Ok(input) => run_input::<W, L, A>(alloc, writer, meta, boxes, dress, input.as_slice()),
-        Err(fault) => Err(fault),
-    }
+    let mut repository: Repository<L, A> = Repository::new(alloc, meta);
+    let outcome = run_over(alloc, reader, writer, &mut repository, boxes, dress);
+    let _ = repository.close();
+    outcome
 }
 
 /// Reads a whole script, runs it over an empty repository of a metamodel, and writes what its lines print. The n-th of the boxes, from 1

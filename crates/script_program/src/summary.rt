@@ -35,12 +35,26 @@ impl Summary {
         requires { IsWithin self (2 ^ 64 - 2) }
         ensures { result ≡ with_turn self turn }
     {
-        let refused = matches!(turn, Turn::Refused | Turn::Lost);
-        Summary {
-            lines: self.lines + u64::from(turn != Turn::Blank),
-            refused: self.refused + u64::from(refused),
-            bad: self.bad + u64::from(turn == Turn::Bad),
-            no_memory: self.no_memory + u64::from(turn == Turn::Lost),
+        let lines = self.lines + 1;
+        match turn {
+            Turn::Done => Summary { lines, ..self },
+            Turn::Blank => self,
+            Turn::Bad => Summary {
+                lines,
+                bad: self.bad + 1,
+                ..self
+            },
+            Turn::Refused => Summary {
+                lines,
+                refused: self.refused + 1,
+                ..self
+            },
+            Turn::Lost => Summary {
+                lines,
+                refused: self.refused + 1,
+                no_memory: self.no_memory + 1,
+                ..self
+            },
         }
     }
 }

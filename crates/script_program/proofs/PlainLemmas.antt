@@ -1,0 +1,66 @@
+-- A script goes on by one line, where the answers of its last lines wait in a block.
+use Rattle.std.proofs.Common.{◌≡◌, ◌∙◌, ◌+◌, ◌<◌, ◌++◌, ℕ, List, [], ◌∷◌, Option, inl, ap, append-nil, append_assoc, length, refl, subst, sym}
+use Rattle.std.proofs.lemmas.List.{nil_from_length}
+use Rattle.std.specs.Io.KnownBytes.{Appends}
+use Rattle.std.proofs.KnownBytes.{Appends-nil, Appends-trans}
+use Rattle.script_lines.specs.Lines.{lines}
+use Rattle.script_program.specs.Batch.{PrintsDressed, PrintsDressedFront, RunsInto}
+use Rattle.script_program.specs.Dressed.{dressed_from, plain}
+use Rattle.script_program.specs.Session.{Session}
+use Rattle.script_program.specs.Turns.{Printed, no_lines, with_turn}
+use Rattle.script_program.specs.declared.summary.Summary.{Summary}
+use Rattle.script_program.specs.declared.turn.Turn.{Turn}
+use Rattle.script_streams.specs.Streams.{AppendsFront}
+use Rattle.script_streams.proofs.FrontLemmas.{front_after}
+use Rattle.script_program.proofs.ScriptLemmas.{Ran, front_of, line_behind, none_run, one_more, whole_of}
+
+-- Some first lines were run. Of their answers a front is written, and the rest is in the block.
+pub record Waits (z : Session) (bytes rest : List ℕ) (s : Session) (summary : Summary) (old now : Option (List ℕ)) (block : List ℕ) : Type 0 where
+  pub number : ℕ
+  pub printed : List Printed
+  pub so_far : Ran plain z bytes rest s number printed summary
+  pub front : List ℕ
+  pub written : Appends old now front
+  pub answers : dressed_from plain 1 so_far.done printed ≡ front ++ block
+
+module _ (z : Session) (bytes : List ℕ) (old : Option (List ℕ)) where
+  pub begun : Waits z bytes bytes z no_lines old old []
+  unfolding none_run
+  begun = record { number = 0; printed = []; so_far = none_run plain z bytes; front = []; written = Appends-nil old; answers = refl }
+
+  module _ (rest : List ℕ) (s : Session) (summary : Summary) (now : Option (List ℕ)) (block : List ℕ) (w : Waits z bytes rest s summary old now block) where
+    -- one more line is run
+    pub answered : (more line grown : List ℕ) (turn : Turn) (u : Session) → lines rest ≡ line ∷ lines more → length more < length rest → RunsInto line s block grown turn u
+        → Waits z bytes more u (with_turn summary turn) old now grown
+    unfolding one_more
+    answered more line grown turn u cut shorter one =
+        let p = one.printed in
+        let goes : Waits z bytes more u (with_turn summary p.turn) old now grown = record {
+          number = w.number + 1;
+          printed = w.printed ++ p ∷ [];
+          so_far = one_more plain z bytes rest more line s u w.number w.printed summary p w.so_far refl cut shorter one.ran;
+          front = w.front;
+          written = w.written;
+          answers = line_behind plain z bytes rest s w.number w.printed summary line p w.so_far ∙ (ap (λ x. x ++ p.text) w.answers ∙ (append_assoc w.front block p.text ∙ ap (λ x. w.front ++ x) (sym one.added)));
+        } in
+        subst (λ t. Waits z bytes more u (with_turn summary t) old now grown) one.counted goes
+
+    -- the block is written
+    pub emptied : (after : Option (List ℕ)) → Appends now after block → Waits z bytes rest s summary old after []
+    emptied after wrote = record {
+      number = w.number;
+      printed = w.printed;
+      so_far = w.so_far;
+      front = w.front ++ block;
+      written = Appends-trans old now after w.front block w.written wrote;
+      answers = w.answers ∙ sym (append-nil (w.front ++ block));
+    }
+
+    -- a front of the block is written
+    pub broken : (after : Option (List ℕ)) → AppendsFront now after block → PrintsDressedFront plain z old after bytes
+    broken after wrote = front_of plain z bytes rest s w.number w.printed summary old after w.so_far (subst (AppendsFront old after) (sym w.answers) (front_after old now after w.front block w.written wrote))
+
+    -- all lines were run, and the block is written
+    pub done : (after : Option (List ℕ)) → length rest ≡ 0 → Appends now after block → PrintsDressed plain z old after bytes summary
+    done after none wrote = whole_of plain z bytes rest s w.number w.printed summary old after w.so_far (inl (ap lines (nil_from_length rest none)))
+        (subst (Appends old after) (sym w.answers) (Appends-trans old now after w.front block w.written wrote))

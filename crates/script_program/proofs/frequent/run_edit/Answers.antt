@@ -1,0 +1,52 @@
+use Rattle.std.proofs.Common.{◌≡◌, None, Ok, true, refl}
+use Rattle.std.proofs.lemmas.List.Elements.{All-nil}
+use Rattle.std.proofs.lemmas.Result.{IfOk-weaker}
+use Rattle.mm_types.specs.declared.numbers.Node.TheVariants as node
+use Rattle.notice_chain.specs.Listed.{Listed}
+use Rattle.repository.specs.Run.{read_outcome}
+use Rattle.repository.specs.declared.command.Command.TheVariants.{Set, Add}
+use Rattle.repository.specs.declared.reply.Answer.TheVariants as answer
+use Rattle.script_program.specs.Pool.{box_of}
+use Rattle.script_program.specs.Script.{RunsCommand, command_printed}
+use Rattle.script_program.specs.Session.{Session, session}
+use Rattle.script_program.specs.Turns.{printed}
+use Rattle.script_program.proofs.SessionLemmas.{unheard-pool}
+use Rattle.script_program.proofs.frequent.run_edit.Goals as goal
+
+pub returns-in-Ok : goal.returns-in-Ok
+returns-in-Ok g c =
+    let n = node.Object c.args.asked.object in
+    let s : Session = session c.args.repository.now c.args.pool.now in
+    let t : Session = session c.set_unheard.new.self c.args.pool.now in
+    let k = Set n c.bound-value.result.0 c.bound-value.result.1 in
+    let o = read_outcome (λ u. answer.Done) c.in-Ok.outcome in
+    rw (c.in-Set.is, ← c.bound-value.ensures.value, ← c.bound-value.ensures.feature)
+    (IfOk-weaker c.print_change.result (λ r. printed c.print_change.new.output r ≡ command_printed s.state.model.metamodel k o) (λ r. RunsCommand s k (printed c.print_change.new.output r) t)
+    (λ r is. record { outcome = o; executed = c.in-Ok.ensures.done; pool = unheard-pool _ k (λ u. answer.Done) c.in-Ok.outcome refl; printed = is })
+    (c.print_change.ensures s.state.model.metamodel k answer.Done refl))
+
+-- nothing was done before
+pub returns-in-Err : goal.returns-in-Err
+returns-in-Err g c =
+    let pool = c.args.pool.now in
+    rw (c.in-Set.is, ← c.bound-value.ensures.value, ← c.bound-value.ensures.feature)
+    (rw (c.in-Err.ensures.left.0, c.in-Err.ensures.left.1) at (c.run_command.ensures pool refl (All-nil (λ (a : Listed). box_of pool a.no ≡ Ok a.view))))
+
+pub returns-in-Ok-add_unheard : goal.returns-in-Ok-add_unheard
+returns-in-Ok-add_unheard g c =
+    let n = node.Object c.args.asked.object in
+    let s : Session = session c.args.repository.now c.args.pool.now in
+    let t : Session = session c.add_unheard.new.self c.args.pool.now in
+    let k = Add n c.bound-value.result.0 c.bound-value.result.1 None in
+    let a = answer.Flag true in
+    let o = read_outcome (λ u. a) c.in-Ok-add_unheard.outcome in
+    rw (c.in-Add.is, ← c.bound-value.ensures.value, ← c.bound-value.ensures.feature)
+    (IfOk-weaker c.print_change-in-Ok-add_unheard.result (λ r. printed c.print_change-in-Ok-add_unheard.new.output r ≡ command_printed s.state.model.metamodel k o) (λ r. RunsCommand s k (printed c.print_change-in-Ok-add_unheard.new.output r) t)
+    (λ r is. record { outcome = o; executed = c.in-Ok-add_unheard.ensures.done; pool = unheard-pool _ k (λ u. a) c.in-Ok-add_unheard.outcome refl; printed = is })
+    (c.print_change-in-Ok-add_unheard.ensures s.state.model.metamodel k a refl))
+
+pub returns-in-Err-add_unheard : goal.returns-in-Err-add_unheard
+returns-in-Err-add_unheard g c =
+    let pool = c.args.pool.now in
+    rw (c.in-Add.is, ← c.bound-value.ensures.value, ← c.bound-value.ensures.feature)
+    (rw (c.in-Err-add_unheard.ensures.left.0, c.in-Err-add_unheard.ensures.left.1) at (c.run_command-in-Err-add_unheard.ensures pool refl (All-nil (λ (a : Listed). box_of pool a.no ≡ Ok a.view))))
