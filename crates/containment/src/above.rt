@@ -1,5 +1,5 @@
 //! The nodes above a node: whether one is among them, the topmost, and the resource that it is.
-ghost use Rattle.std.specs.Prelude.{◌≡◌, IfSome};
+ghost use Rattle.std.specs.Prelude.{◌≡◌};
 ghost use Rattle.std.specs.List.{list_any};
 ghost use Rattle.std.specs.Option.{option_map};
 ghost use Rattle.mm_types.specs.Same.{same_node};
@@ -26,25 +26,6 @@ pub fn is_under<L: LinkStore>(store: &L, node: Node, above: Node) -> bool
         at = next;
     }
     false
-}
-
-/// Whether `above` is among the nodes above `node`, if so many levels tell it: `above` is met, or the top is reached. Takes no memory.
-pub(crate) fn is_near<L: LinkStore>(store: &L, node: Node, above: Node, levels: u32) -> Option<bool>
-    requires legal { IsLegalSet (L.links store.now) }
-    requires no_cycle { HasNoCycle (L.links store.now) }
-    ensures { IfSome result (λ b. b ≡ list_any (same_node above) (above_of (L.links store.now) node)) }
-{
-    let mut at = node;
-    'levels: for _level in 0..levels {
-        let Some(next) = parent_of(store, at) else {
-            return Some(false);
-        };
-        if above == next {
-            return Some(true);
-        }
-        at = next;
-    }
-    None
 }
 
 /// The topmost of a node and the nodes above it: the node itself if nothing contains it (EMF: EcoreUtil.getRootContainer, but

@@ -6,7 +6,7 @@ ghost use Rattle.models.specs.Model.{reading};
 ghost use Rattle.models.specs.Reading as r;
 ghost use Rattle.containment.specs.Forest as forest;
 
-use crate::above::{is_near, is_under};
+use crate::above::is_under;
 use crate::forest::contents;
 use links::LinkStore;
 use mm_types::{FeatureNo, Node, ObjectNo};
@@ -64,9 +64,6 @@ fn all_below<L: LinkStore>(
     Ok(found)
 }
 
-/// So many levels are climbed before it is asked whether an object contains anything.
-const NEAR: u32 = 2;
-
 /// Whether a node is a given one, or is below it. Takes no memory, and few steps if the given one contains nothing.
 pub fn is_within<L: LinkStore>(model: &ModelRef<L>, above: Node, node: Node) -> bool
     ensures { result ≡ r.is_within (reading model.now) above node }
@@ -81,9 +78,6 @@ fn is_below<L: LinkStore>(model: &ModelRef<L>, above: Node, node: Node) -> bool
     ensures { result ≡ list_any (same_node above) ((reading model.now).above node) }
 {
     model.lemma_is_legal();
-    if let Some(is_below) = is_near(model.store(), node, above, NEAR) {
-        return is_below;
-    }
     match above {
         Node::Object(_) if !has_parts(model, above) => false,
         _ => is_under(model.store(), node, above),
