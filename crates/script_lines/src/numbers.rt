@@ -6,6 +6,7 @@ ghost use Rattle.std.specs.Str.Parse.{digits_value};
 ghost use Rattle.mm_types.specs.Integers.{integer, natural};
 
 use crate::grammar::MINUS;
+use mm_types::integers;
 use mm_types::integers::integer_of;
 
 /// So many digits are read at most. Each number of so many digits is below 2^32.
@@ -54,6 +55,17 @@ pub(crate) fn number_begun(bytes: &[u8]) -> Option<(u32, usize)>
         return None;
     }
     Some((number, len))
+}
+
+/// The number of 32 bits that a word writes.
+#[inline]
+pub(crate) fn natural_of(word: &str) -> Option<u32>
+    ensures { result ≡ natural word.now }
+{
+    match number_begun(word.as_bytes()) {
+        Some((number, len)) if len == word.len() => Some(number),
+        _ => integers::natural_of(word),
+    }
 }
 
 /// The number of 64 bits that a word without a minus writes.

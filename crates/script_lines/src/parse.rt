@@ -5,8 +5,8 @@ ghost use Rattle.script_lines.specs.Forms.{add_at_form, add_form, alone, at_form
 use crate::adapter_forms::{attach_of, detach_of, seen_of, unwatch_of, watch_of};
 use crate::form::Form;
 use crate::name::Name;
+use crate::numbers::natural_of;
 use crate::values::{feature_of, feature_value_of, node_of, object_of, resource_no_of, string_of};
-use mm_types::integers::natural_of;
 use std::alloc::{AllocError, Global};
 
 /// `new NAME`

@@ -7,11 +7,10 @@ ghost use Rattle.script_lines.specs.declared.written_value.WrittenValue.TheVaria
 
 use crate::grammar::{ADAPTER_MARK, LITERAL_MARK, MINUS, OBJECT_MARK, QUOTE, RESOURCE_MARK};
 use crate::name::Name;
-use crate::numbers::int_of;
+use crate::numbers::{int_of, natural_of};
 use crate::texts::text_of;
 use crate::words::after_byte;
 use crate::written_value::WrittenValue;
-use mm_types::integers::natural_of;
 use mm_types::{AdapterNo, Node, ObjectNo, ResourceNo, Text};
 use std::alloc::{AllocError, Global};
 

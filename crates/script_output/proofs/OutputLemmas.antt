@@ -1,7 +1,11 @@
 -- A text behind what is printed.
-use Rattle.std.proofs.Common.{◌∙◌, ◌≡◌, ◌++◌, ◌∷◌, ℕ, List, [], ap, append-nil}
+use Rattle.std.proofs.Common.{◌∙◌, ◌≡◌, ◌++◌, ◌∷◌, ◌||◌, ◌==◌, ℕ, nat_lt, Bool, false, List, [], ap, append-nil, refl, sym}
+use Rattle.std.specs.List.{list_any}
+use Rattle.std.proofs.lemmas.Bool.{eqb-false, ltb-false, or_parts}
+use Rattle.json.specs.Run.{is_stop}
+use Rattle.json.proofs.Printed.Strings.{escape_byte_plain}
 use Rattle.json.specs.Token.{Token, string}
-use Rattle.json.specs.Print.{print, print_from, quoted}
+use Rattle.json.specs.Print.{escape, print, print_from, quoted}
 
 -- one string token is printed as the text in its quotation marks
 pub one_string : (out old before t : List ℕ) (start new : List Token) → out ≡ before ++ print new → before ≡ old → start ≡ []
@@ -9,3 +13,15 @@ pub one_string : (out old before t : List ℕ) (start new : List Token) → out 
 unfolding print_from
 one_string out old before t start new is kept empty one =
     is ∙ (ap (λ x. x ++ print new) kept ∙ ap (λ x. old ++ print x) (one ∙ ap (λ x. x ++ string t ∷ []) empty)) ∙ ap (λ x. old ++ x) (append-nil (quoted t))
+
+-- a text without escapes stands in its quotation marks as it is
+unescaped : (t : List ℕ) → list_any is_stop t ≡ false → escape t ≡ t
+unescaped [] h = refl
+unescaped (x ∷ xs) h =
+    let tests = or_parts (is_stop x) (list_any is_stop xs) h in
+    let marks = or_parts ((x == 34) || (x == 92)) (nat_lt x 32) tests.0 in
+    let both = or_parts (x == 34) (x == 92) marks.0 in
+    λ i. escape_byte_plain x (eqb-false x 34 both.0) (eqb-false x 92 both.1) (ltb-false x 32 marks.1) i ++ unescaped xs tests.1 i
+
+pub plain_string : (t : List ℕ) → list_any is_stop t ≡ false → 34 ∷ (t ++ 34 ∷ []) ≡ quoted t
+plain_string t h = ap (λ x. 34 ∷ (x ++ 34 ∷ [])) (sym (unescaped t h))

@@ -1,6 +1,8 @@
 //! A text that grows at its end, by values, answers and refusals.
 ghost use Rattle.std.specs.Prelude.{◌≡◌, ◌++◌, ◌∷◌, [], OnOk};
 ghost use Rattle.std.specs.Fmt.{decimal, signed_decimal};
+ghost use Rattle.std.specs.List.{list_any};
+ghost use Rattle.json.specs.Run.{is_stop};
 ghost use Rattle.mm_types.specs.Refusals.{refusal_detail};
 ghost use Rattle.script_output.specs.Printed.{adapter_text, cause_detail, class_text, json_text, node_text, proxy_text, refused_text, value_text};
 
@@ -13,7 +15,7 @@ use json::Writer;
 use mm_meta::Meta;
 use mm_types::{AdapterNo, ClassNo, DocFault, Node, Refused, Value};
 use script_lines::grammar::{
-    ADAPTER_MARK, LITERAL_MARK, NEWLINE, OBJECT_MARK, RESOURCE_MARK, SPACE,
+    ADAPTER_MARK, LITERAL_MARK, NEWLINE, OBJECT_MARK, QUOTE, RESOURCE_MARK, SPACE,
 };
 use std::alloc::{AllocError, Global};
 use std::marker::Model;
@@ -97,6 +99,26 @@ impl Output {
 
     /// Adds a text as a JSON string, with the escapes that `serde_json` writes.
     pub fn json(&mut self, text: &str) -> Result<(), AllocError>
+        ensures ok { OnOk result (self.new ≡ self.old ++ json_text text.now) }
+    {
+        if has_escaped(text.as_bytes()) {
+            self.escaped(text)
+        } else {
+            self.quoted(text)
+        }
+    }
+
+    /// Adds a text in quotation marks, as it is.
+    fn quoted(&mut self, text: &str) -> Result<(), AllocError>
+        ensures ok { OnOk result (self.new ≡ self.old ++ QUOTE ∷ (text.now ++ QUOTE ∷ [])) }
+    {
+        self.byte(QUOTE)?;
+        self.text(text)?;
+        self.byte(QUOTE)
+    }
+
+    /// Adds a text as a JSON string by a writer, which looks for what has to be escaped.
+    fn escaped(&mut self, text: &str) -> Result<(), AllocError>
         ensures ok { OnOk result (self.new ≡ self.old ++ json_text text.now) }
     {
         let bytes = mem::replace(&mut self.bytes, Vec::new(self.alloc));
@@ -194,4 +216,18 @@ impl Output {
         self.text(refused.name())?;
         self.detail(refused)
     }
+}
+
+/// Whether a byte is escaped in a JSON string.
+fn is_escaped(byte: u8) -> bool
+    ensures { result ≡ is_stop byte }
+{
+    byte == b'"' || byte == b'\\' || byte < 32
+}
+
+/// Whether a byte of a text is escaped in a JSON string.
+fn has_escaped(bytes: &[u8]) -> bool
+    ensures { result ≡ list_any is_stop bytes.now }
+{
+    bytes.iter().any(|byte| is_escaped(*byte))
 }

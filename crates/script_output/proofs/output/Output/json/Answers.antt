@@ -1,9 +1,12 @@
-use Rattle.std.proofs.Common.{◌∙◌, ap}
-use Rattle.std.proofs.lemmas.Result.{on_ok_weaker}
-use Rattle.script_output.proofs.OutputLemmas.{one_string}
+use Rattle.std.proofs.Common.{◌∙◌, ◌≡◌, ◌++◌, List, ℕ, false, subst, sym}
+use Rattle.std.specs.List.{list_any}
+use Rattle.std.specs.Prelude.{OnOk}
+use Rattle.json.specs.Run.{is_stop}
+use Rattle.script_output.proofs.OutputLemmas.{plain_string}
 use Rattle.script_output.proofs.output.Output.json.Goals as goal
 
-pub returns : goal.returns
-returns c =
-    let kept = c.string-result.ensures.room.0 ∙ (c.new-writer.ensures.before ∙ (ap (λ v. v.items) c.replace-bytes.ensures.value ∙ c.self.view_is)) in
-    record { ok = on_ok_weaker c.string-result.result (λ h. one_string _ _ _ _ _ _ c.into_inner.ensures.items kept c.new-writer.ensures.tokens h) c.string-result.ensures.ok }
+-- a text without escapes stands in its quotation marks as it is
+pub returns-else-has_escaped : goal.returns-else-has_escaped
+returns-else-has_escaped c =
+    let plain = subst (λ (t : List ℕ). list_any is_stop t ≡ false) c.as_bytes.ensures.value (sym c.has_escaped.ensures ∙ c.if-has_escaped.false) in
+    record { ok = subst (λ (x : List ℕ). OnOk c.quoted.result (c.quoted.new.self ≡ c.args.self.now ++ x)) (plain_string c.args.text.now plain) c.quoted.ensures.ok }
