@@ -1,6 +1,6 @@
 -- What follows where a change is not refused: the node lives and has the feature, the value is one of its type, and the end can gain
 -- it.
-use Rattle.std.proofs.Common.{◌≡◌, ℕ, nat_le, nat_lt, length, slice_get, ◌&&◌, ◌||◌, not, Bool, true, false, Option, Some, None, is_some, if◌then◌else◌, refl, sym, ap, ◌∙◌, subst, arith, ◌<◌, List}
+use Rattle.std.proofs.Common.{◌≡◌, ℕ, nat_le, nat_lt, length, slice_get, option_to_list, ◌&&◌, ◌||◌, not, Bool, true, false, Option, Some, None, is_some, if◌then◌else◌, refl, sym, ap, ◌∙◌, subst, arith, ◌<◌, List}
 use Rattle.std.specs.Option.{option_map_or}
 use Rattle.std.proofs.lemmas.Bool.{and_parts, eqb-true, false≢true}
 use Rattle.std.proofs.lemmas.Option.{none-some, slice_get_past}
@@ -25,7 +25,9 @@ use Rattle.mm_types.specs.declared.value.Value.{Value}
 use Rattle.mm_types.specs.declared.value.Value.TheVariants as value
 use Rattle.links.specs.LegalSets.{AreKinds}
 use Rattle.web_uris.specs.Addresses.{uri_part}
-use Rattle.models.specs.Legal.{is_short, kinds_of, is_short_text}
+use Rattle.models.specs.Legal.{IsLegal, is_short, kinds_of, is_short_text}
+use Rattle.models.specs.Model.{Model, reading}
+use Rattle.models.proofs.EndLemmas.{values-single}
 use Rattle.models.specs.Reading.{Reading, at_end, has_feature, is_live, is_node_live, is_repeat, is_value_live, position_for, takes, has_uri}
 use Rattle.containment.proofs.PartLemmas.{object-reference}
 use Rattle.handshake.specs.Named.{feature_refusal, many_refusal, node_refusal, single_refusal, value_refusal}
@@ -35,7 +37,7 @@ use Rattle.handshake.specs.declared.target.Target.{Target}
 use Rattle.handshake.proofs.TargetLemmas.{IsFound, found-is}
 use Rattle.handshake.specs.declared.change.Change.TheVariants.{Set, Unset, Add, Remove, RemoveValue, Move, Delete, Resolve}
 use Rattle.std.proofs.lemmas.Bool.Decides.{nat_tests}
-use Rattle.mm_types.specs.declared.limits.TheConstants.{RESOURCES}
+use Rattle.mm_types.specs.declared.limits.TheConstants.{LIST_VALUES, RESOURCES}
 
 ---------------------------------------------------------------- the metamodel
 
@@ -313,3 +315,14 @@ uri-taken r u late =
       room = grind (arith, nat_tests);
       free = none-where_so ResourceExists (has_uri r u) of_count.1;
     }
+
+---------------------------------------------------------------- single references
+
+below-limit : (q : Option Value) → nat_le LIST_VALUES (length (option_to_list q)) ≡ false
+below-limit None = refl
+below-limit (Some v) = refl
+
+pub single-below-limit : (s : Model) (e : End) → IsLegal s → ((shape s.metamodel e.feature).is_reference && (shape s.metamodel e.feature).is_single) ≡ true → is_at_limit (reading s) e ≡ false
+single-below-limit s e legal both =
+    let parts = and_parts (shape s.metamodel e.feature).is_reference (shape s.metamodel e.feature).is_single both in
+    subst (λ (vs : List Value). nat_le LIST_VALUES (length vs) ≡ false) (sym (values-single s e legal parts.0 parts.1)) (below-limit (slice_get ((reading s).values e) 0))

@@ -1,5 +1,6 @@
 //! Whether an end can gain a value. None of this takes memory.
-ghost use Rattle.std.specs.Prelude.{◌≡◌, int_lt, pos};
+ghost use Rattle.std.specs.Prelude.{◌≡◌, ◌&&◌, ◌||◌, false, int_lt, pos};
+ghost use Rattle.std.specs.Option.{option_map_or};
 ghost use Rattle.mm_types.specs.Shapes.{shape};
 ghost use Rattle.models.specs.Model.{reading};
 ghost use Rattle.handshake.specs.Refusals as refusals;
@@ -35,39 +36,40 @@ pub(crate) fn link_refusal<L: LinkStore>(
 ) -> Option<Refused>
     ensures { result ≡ refusals.link_refusal (reading model.now) end object }
 {
-    if is_either_full(model, end, object) {
+    let far = opposite_end(model, end, object);
+    if is_either_full(model, end, far) {
         return Some(Refused::Bound);
     }
     if is_recursive(model, end, object) {
         return Some(Refused::Recursive);
     }
-    if is_either_at_limit(model, end, object) {
+    if is_either_at_limit(model, end, far) {
         return Some(Refused::Limit);
     }
     None
 }
 
-/// Whether an end or the opposite end of a new link is full.
-fn is_either_full<L: LinkStore>(model: &ModelRef<L>, end: End, object: ObjectNo) -> bool
-    ensures { result ≡ refusals.of_either (refusals.is_full_at (reading model.now)) (reading model.now) end object }
+/// Whether an end or the opposite end is full.
+fn is_either_full<L: LinkStore>(model: &ModelRef<L>, end: End, far: Option<End>) -> bool
+    ensures { result ≡ (refusals.is_full_at (reading model.now) end || option_map_or (refusals.is_full_at (reading model.now)) far false) }
 {
     if is_full_at(model, end) {
         return true;
     }
-    match opposite_end(model, end, object) {
+    match far {
         Some(far) => is_full_at(model, far),
         None => false,
     }
 }
 
-/// Whether an end or the opposite end of a new link has as many values as any list may have.
-fn is_either_at_limit<L: LinkStore>(model: &ModelRef<L>, end: End, object: ObjectNo) -> bool
-    ensures { result ≡ refusals.of_either (refusals.is_at_limit (reading model.now)) (reading model.now) end object }
+/// Whether an end or the opposite end has as many values as any list may have.
+fn is_either_at_limit<L: LinkStore>(model: &ModelRef<L>, end: End, far: Option<End>) -> bool
+    ensures { result ≡ (refusals.is_at_limit (reading model.now) end || option_map_or (refusals.is_at_limit (reading model.now)) far false) }
 {
     if is_at_limit(model, end) {
         return true;
     }
-    match opposite_end(model, end, object) {
+    match far {
         Some(far) => is_at_limit(model, far),
         None => false,
     }
@@ -95,5 +97,17 @@ fn has_bound(meta: &Meta, feature: FeatureNo) -> bool
 fn is_at_limit<L: LinkStore>(model: &ModelRef<L>, end: End) -> bool
     ensures { result ≡ refusals.is_at_limit (reading model.now) end }
 {
+    model.lemma_is_legal();
+    // it has one value at most
+    if is_single_reference(model.meta(), end.feature) {
+        return false;
+    }
     model.len(end) as usize >= limits::LIST_VALUES
+}
+
+/// Whether a feature is a reference of one value.
+fn is_single_reference(meta: &Meta, feature: FeatureNo) -> bool
+    ensures { result ≡ ((shape meta.now feature).is_reference && (shape meta.now feature).is_single) }
+{
+    meta.is_reference(feature) && meta.is_single(feature)
 }

@@ -14,6 +14,7 @@ use mm_types::{End, FeatureNo, Node, ObjectNo, Value};
 use models::{ModelRef, at_end};
 
 /// The put of a set of an object, if that is the whole plan: nothing refuses the set, and it displaces no link. Takes no memory.
+#[inline(always)]
 pub fn lone_set<L: LinkStore>(
     model: &ModelRef<L>,
     node: Node,
@@ -29,6 +30,7 @@ pub fn lone_set<L: LinkStore>(
 }
 
 /// The put of an addition of an object, as `lone_set` has it. Takes no memory.
+#[inline(always)]
 pub fn lone_add<L: LinkStore>(
     model: &ModelRef<L>,
     node: Node,
@@ -44,6 +46,7 @@ pub fn lone_add<L: LinkStore>(
     put_of_add(model, at_end(&node, &feature), value, index)
 }
 
+#[inline(always)]
 fn put_of_set<L: LinkStore>(model: &ModelRef<L>, end: End, value: &Value) -> Option<NewLink>
     requires single { (shape model.now.metamodel end.feature).is_single ≡ true }
     ensures { result ≡ lone.lone_set (reading model.now) (Set end.node end.feature value.now) end value.now }
@@ -64,6 +67,7 @@ fn put_of_set<L: LinkStore>(model: &ModelRef<L>, end: End, value: &Value) -> Opt
     Some(put_at(model, end, 0, *object))
 }
 
+#[inline(always)]
 fn put_of_add<L: LinkStore>(
     model: &ModelRef<L>,
     end: End,

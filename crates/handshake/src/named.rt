@@ -54,6 +54,7 @@ pub fn early_refusal<L: LinkStore>(model: &ModelRef<L>, change: &Change) -> Opti
 }
 
 /// `early_refusal` of a set, whose parts come one by one.
+#[inline(always)]
 pub fn set_early_refusal<L: LinkStore>(
     model: &ModelRef<L>,
     node: Node,
@@ -66,6 +67,7 @@ pub fn set_early_refusal<L: LinkStore>(
 }
 
 /// `early_refusal` of an addition or a removal of a value, whose parts come one by one.
+#[inline(always)]
 pub fn list_early_refusal<L: LinkStore>(
     model: &ModelRef<L>,
     node: Node,

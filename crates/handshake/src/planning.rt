@@ -206,6 +206,7 @@ pub(crate) fn create_late_refusal<L: LinkStore>(model: &ModelRef<L>) -> Option<R
     }
 }
 
+#[inline(always)]
 pub(crate) fn set_late_refusal<L: LinkStore>(
     model: &ModelRef<L>,
     end: End,

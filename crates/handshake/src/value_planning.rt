@@ -42,6 +42,7 @@ pub fn plan_values<L: LinkStore>(
 }
 
 /// Why a value of an attribute can't be set, if not for memory: the first refusal of a set of it. Takes no memory.
+#[inline(always)]
 pub fn attribute_refusal<L: LinkStore>(
     model: &ModelRef<L>,
     node: Node,

@@ -13,6 +13,7 @@ use mm_values::{NewValues, Values};
 use std::alloc::AllocError;
 
 /// Forgets the fragments if a put is one of a link that contains. Takes no memory.
+#[inline(always)]
 pub(crate) fn forget_put(paths: &mut PathCache, put: NewLink)
     ensures { paths.new ≡ (if is_some put.container then map.empty else paths.old) }
 {
@@ -23,6 +24,7 @@ pub(crate) fn forget_put(paths: &mut PathCache, put: NewLink)
 
 /// Replaces what a node has under an attribute by one value; nothing is done at a resource, which has no attributes. Errs only if memory is
 /// refused, and then nothing that is seen has changed.
+#[inline(always)]
 pub(crate) fn put_value(
     values: &mut Values,
     node: Node,

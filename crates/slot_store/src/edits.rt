@@ -199,6 +199,7 @@ fn put_in(
 }
 
 /// Puts a link in; the rows of its nodes are at these indexes.
+#[inline(always)]
 fn put(rows: &mut NodeSlots, places: PutPlaces, link: NewLink)
     requires object { PairsObject link.end link.opposite }
     requires room { HasRoom (room rows.old) (put_edit link ∷ []) }

@@ -26,6 +26,7 @@ use mm_types::{ClassNo, FeatureNo, Node, ObjectNo, Refused, Value};
 impl<L: LinkStore, A: Adapter> Repository<L, A> {
     /// Makes an object as `create` does, and returns it, or the refusal. `None` if an adapter is attached; then nothing was done, and
     /// `create` is to be called.
+    #[inline(always)]
     pub fn create_unheard(&mut self, class: ClassNo) -> Option<Result<ObjectNo, Refused>>
         ensures { MatchOption result (self.new ≡ self.old) (λ r. Executed self.old (Create class) (read_outcome answer.Object r) self.new) }
     {
@@ -37,6 +38,7 @@ impl<L: LinkStore, A: Adapter> Repository<L, A> {
 
     /// Sets a single feature as `e_set` does, or returns the refusal. Gives the value back if an adapter is attached, or if the new link
     /// displaces another; then nothing was done, and `e_set` is to be called.
+    #[inline(always)]
     pub fn set_unheard(
         &mut self,
         node: Node,
@@ -61,6 +63,7 @@ impl<L: LinkStore, A: Adapter> Repository<L, A> {
     /// Adds an object to a list as `add` does, which then returns that the list changed, or returns the refusal. Gives the value back if an
     /// adapter is attached, if the new link displaces another, if the list has the object, or if the feature is an attribute; then nothing
     /// was done, and `add` is to be called.
+    #[inline(always)]
     pub fn add_unheard(
         &mut self,
         node: Node,
@@ -81,6 +84,7 @@ impl<L: LinkStore, A: Adapter> Repository<L, A> {
     }
 
     /// The part of `create` if no adapter is attached.
+    #[inline(always)]
     pub(super) fn make_object(&mut self, class: ClassNo) -> Result<ObjectNo, Refused>
         requires unheard { self.old.adapters ≡ [] }
         ensures { Executed self.old (Create class) (read_outcome answer.Object result) self.new }
@@ -98,6 +102,7 @@ impl<L: LinkStore, A: Adapter> Repository<L, A> {
     }
 
     /// The part of `e_set` of an attribute, if no adapter is attached.
+    #[inline(always)]
     pub(super) fn set_value(
         &mut self,
         node: Node,
@@ -122,6 +127,7 @@ impl<L: LinkStore, A: Adapter> Repository<L, A> {
 
     /// The part of `e_set` of a reference, if no adapter is attached. `None` if more is to be done than to put one link; then nothing was
     /// done, and no refusal applies that needs no memory.
+    #[inline(always)]
     pub(super) fn set_lone_link(
         &mut self,
         node: Node,
@@ -142,6 +148,7 @@ impl<L: LinkStore, A: Adapter> Repository<L, A> {
     }
 
     /// The part of `add` to a reference, if no adapter is attached, as `set_lone_link` is of `e_set`.
+    #[inline(always)]
     pub(super) fn add_lone_link(
         &mut self,
         node: Node,
@@ -164,6 +171,7 @@ impl<L: LinkStore, A: Adapter> Repository<L, A> {
 
     /// A change whose plan is one put, if no adapter is attached: the store makes room for the link and puts it in one step, and no plan
     /// is made. Most links that are made displace none.
+    #[inline(always)]
     fn put_alone(&mut self, put: NewLink) -> Result<(), Refused>
         requires alone { (c : Change) × (a : Answer) × IsPutAlone self.old c put a }
         ensures { (c : Change) (a : Answer) → IsPutAlone self.old c put a → Executed self.old (command_of [] c) (read_outcome (λ u. a) result) self.new }
