@@ -3,11 +3,13 @@ use Rattle.std.proofs.Common.{◌≡◌, ◌∙◌, ◌+◌, ◌<◌, ◌++◌, 
 use Rattle.std.proofs.lemmas.List.{nil_from_length}
 use Rattle.std.specs.Io.KnownBytes.{Appends}
 use Rattle.std.proofs.KnownBytes.{Appends-nil, Appends-trans}
+use Rattle.script_lines.specs.Forms.{form}
 use Rattle.script_lines.specs.Lines.{lines}
-use Rattle.script_program.specs.Batch.{PrintsDressed, PrintsDressedFront, RunsInto}
+use Rattle.script_program.specs.Batch.{PrintsDressed, PrintsDressedFront}
 use Rattle.script_program.specs.Dressed.{dressed_from, plain}
 use Rattle.script_program.specs.Session.{Session}
-use Rattle.script_program.specs.Turns.{Printed, no_lines, with_turn}
+use Rattle.script_program.specs.Script.{Adds, RunsLine}
+use Rattle.script_program.specs.Turns.{Printed, no_lines, printed, with_turn}
 use Rattle.script_program.specs.declared.summary.Summary.{Summary}
 use Rattle.script_program.specs.declared.turn.Turn.{Turn}
 use Rattle.script_streams.specs.Streams.{AppendsFront}
@@ -30,20 +32,19 @@ module _ (z : Session) (bytes : List ℕ) (old : Option (List ℕ)) where
 
   module _ (rest : List ℕ) (s : Session) (summary : Summary) (now : Option (List ℕ)) (block : List ℕ) (w : Waits z bytes rest s summary old now block) where
     -- one more line is run
-    pub answered : (more line grown : List ℕ) (turn : Turn) (u : Session) → lines rest ≡ line ∷ lines more → length more < length rest → RunsInto line s block grown turn u
+    pub answered : (more line grown : List ℕ) (turn : Turn) (u : Session) → lines rest ≡ line ∷ lines more → length more < length rest → Adds block grown turn (λ p. RunsLine s (form line) p u)
         → Waits z bytes more u (with_turn summary turn) old now grown
     unfolding one_more
     answered more line grown turn u cut shorter one =
-        let p = one.printed in
-        let goes : Waits z bytes more u (with_turn summary p.turn) old now grown = record {
+        let p = printed one.text turn in
+        record {
           number = w.number + 1;
           printed = w.printed ++ p ∷ [];
-          so_far = one_more plain z bytes rest more line s u w.number w.printed summary p w.so_far refl cut shorter one.ran;
+          so_far = one_more plain z bytes rest more line s u w.number w.printed summary p w.so_far refl cut shorter one.said;
           front = w.front;
           written = w.written;
-          answers = line_behind plain z bytes rest s w.number w.printed summary line p w.so_far ∙ (ap (λ x. x ++ p.text) w.answers ∙ (append_assoc w.front block p.text ∙ ap (λ x. w.front ++ x) (sym one.added)));
-        } in
-        subst (λ t. Waits z bytes more u (with_turn summary t) old now grown) one.counted goes
+          answers = line_behind plain z bytes rest s w.number w.printed summary line p w.so_far ∙ (ap (λ x. x ++ one.text) w.answers ∙ (append_assoc w.front block one.text ∙ ap (λ x. w.front ++ x) (sym one.added)));
+        }
 
     -- the block is written
     pub emptied : (after : Option (List ℕ)) → Appends now after block → Waits z bytes rest s summary old after []
@@ -55,6 +56,10 @@ module _ (z : Session) (bytes : List ℕ) (old : Option (List ℕ)) where
       written = Appends-trans old now after w.front block w.written wrote;
       answers = w.answers ∙ sym (append-nil (w.front ++ block));
     }
+
+    -- memory is refused, and the block is lost
+    pub lost : PrintsDressedFront plain z old now bytes
+    lost = front_of plain z bytes rest s w.number w.printed summary old now w.so_far (subst (AppendsFront old now) (sym w.answers) (w.front, block, w.written, refl))
 
     -- a front of the block is written
     pub broken : (after : Option (List ℕ)) → AppendsFront now after block → PrintsDressedFront plain z old after bytes

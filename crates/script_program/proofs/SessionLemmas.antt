@@ -1,6 +1,7 @@
 -- What comes back of a command that was executed.
-use Rattle.std.proofs.Common.{◌∷◌, ◌≡◌, ◌∙◌, [], List, Option, Result, Ok, Err, map, refl, sym, ap}
-use Rattle.std.specs.Prelude.{fold}
+use Rattle.std.proofs.Common.{◌∷◌, ◌≡◌, ◌∙◌, [], List, Option, Result, Ok, Err, map, refl, sym, ap, subst}
+use Rattle.std.specs.Prelude.{ℕ, fold, IfOk}
+use Rattle.std.proofs.lemmas.Result.{IfOk-weaker}
 use Rattle.std.specs.Option.{option_map_or, option_zip}
 use Rattle.std.proofs.lemmas.List.Elements.{All-cons, All-head, All-nil}
 use Rattle.notice_chain.specs.View.{View}
@@ -18,7 +19,10 @@ use Rattle.script_lines.specs.declared.form.Form.{Form}
 use Rattle.script_lines.specs.declared.form.Form.TheVariants as asks
 use Rattle.script_program.specs.Bind.{IsGiven, attach_request, bind}
 use Rattle.script_program.specs.Pool.{Pool, box_of, with_box, without}
+use Rattle.script_program.specs.Script.{Adds}
 use Rattle.script_program.specs.Session.{IsBrought, Session, brought_no, pool_after, returned, taken}
+use Rattle.script_program.specs.Turns.{Printed}
+use Rattle.script_program.specs.declared.turn.Turn.{Turn}
 use Rattle.script_program.proofs.PoolLemmas.{put-back}
 
 -- what brings nothing, and releases nothing, leaves the pool as it is
@@ -96,3 +100,11 @@ bind-given s (asks.At t) = All-nil (λ (a : Listed). box_of s.pool a.no ≡ Ok a
 bind-given s (asks.Save k) = All-nil (λ (a : Listed). box_of s.pool a.no ≡ Ok a.view)
 bind-given s (asks.Class o) = All-nil (λ (a : Listed). box_of s.pool a.no ≡ Ok a.view)
 bind-given s (asks.Seen number) = tt
+
+-- what is said of an added text may be said in another way
+pub adds-run : {E : Type 0} (r : Result Turn E) (old new : List ℕ) (P Q : Printed → Type 0) → ((p : Printed) → P p → Q p) → IfOk r (λ t. Adds old new t P) → IfOk r (λ t. Adds old new t Q)
+adds-run r old new P Q so h = IfOk-weaker r (λ t. Adds old new t P) (λ t. Adds old new t Q) (λ t a. record { text = a.text; added = a.added; said = so _ a.said }) h
+
+-- what is added to nothing is all that is there
+pub said-alone : {E : Type 0} (r : Result Turn E) (new : List ℕ) (P : Printed → Type 0) → IfOk r (λ t. Adds [] new t P) → IfOk r (λ t. P (record { text = new; turn = t }))
+said-alone r new P h = IfOk-weaker r (λ t. Adds [] new t P) (λ t. P (record { text = new; turn = t })) (λ t a. subst (λ (x : List ℕ). P (record { text = x; turn = t })) (sym a.added) a.said) h

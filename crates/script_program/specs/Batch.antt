@@ -26,13 +26,6 @@ pub record AnswersLine (d : Dress) (number : ℕ) (line : List ℕ) (s : Session
   pub counted : printed.turn ≡ turn
   pub written : Appends old new (dressed_line d number line printed)
 
--- A line was run, and what it prints was added to a text.
-pub record RunsInto (line : List ℕ) (s : Session) (old new : List ℕ) (turn : Turn) (t : Session) : Type 0 where
-  pub printed : Printed
-  pub ran : RunsLine s (form line) printed t
-  pub counted : printed.turn ≡ turn
-  pub added : new ≡ old ++ printed.text
-
 -- A line was run, and a front of what it prints was written.
 pub record AnswersFront (d : Dress) (number : ℕ) (line : List ℕ) (s : Session) (old new : Option (List ℕ)) : Type 0 where
   pub printed : Printed

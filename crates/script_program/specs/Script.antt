@@ -48,6 +48,12 @@ abbrev pub seen_printed : State → AdapterNo → Printed
 seen_printed s number =
     option_map_or (λ a. record { text = seen_text a.view.told (length a.view.kept) ++ NEWLINE ∷ []; turn = turned.Done }) (adapter number s.adapters) (refused_printed NoAdapter)
 
+-- A line added a text to another; what is said of the text and of how the line is counted.
+pub record Adds (old new : List ℕ) (turn : Turn) (Said : Printed → Type 0) : Type 0 where
+  pub text : List ℕ
+  pub added : new ≡ old ++ text
+  pub said : Said (record { text = text; turn = turn })
+
 -- a command was executed, what it brought and released left and joined the pool, and its outcome was printed
 pub record RunsCommand (s : Session) (c : Command View) (p : Printed) (t : Session) : Type 0 where
   pub outcome : Outcome

@@ -1,6 +1,6 @@
 //! Lines of the most frequent forms are run. They call the repository themselves, and a change that nobody can hear is printed without a
 //! reply: to bind a line to a command and to take its reply apart takes longer than the change.
-ghost use Rattle.std.specs.Prelude.{◌≡◌, [], Err, IfOk, MatchOption, None, Some};
+ghost use Rattle.std.specs.Prelude.{◌≡◌, Err, IfOk, MatchOption, None, Some};
 ghost use Rattle.mm_types.specs.Resolved.{Metamodel};
 ghost use Rattle.mm_types.specs.declared.numbers.Node.TheVariants as node;
 ghost use Rattle.notice_chain.specs.View.{View};
@@ -15,9 +15,8 @@ ghost use Rattle.script_program.specs.Answers.{feature_of, unheard_text};
 ghost use Rattle.script_program.specs.Bind as b;
 ghost use Rattle.script_program.specs.Edits.{edit_command};
 ghost use Rattle.script_program.specs.Pool.{Pool as PoolView};
-ghost use Rattle.script_program.specs.Script.{RunsCommand, RunsLine, command_printed};
+ghost use Rattle.script_program.specs.Script.{Adds, RunsCommand, RunsLine, command_printed};
 ghost use Rattle.script_program.specs.Session.{session};
-ghost use Rattle.script_program.specs.Turns.{printed};
 
 use crate::answers::print_refusal;
 use crate::bind::{class_number, feature_number, value_in};
@@ -34,8 +33,7 @@ use std::alloc::{AllocError, Global};
 
 /// Prints the refusal of a change that brings no adapter. Errs only if memory is refused for what is printed.
 fn print_refused(output: &mut Output, refused: Refused) -> Result<Turn, AllocError>
-    requires { output.old ≡ [] }
-    ensures { (m : Metamodel) (c : Command View) → IfOk result (λ t. printed output.new t ≡ command_printed m c (change_outcome (Err refused))) }
+    ensures { (m : Metamodel) (c : Command View) → IfOk result (λ t. Adds output.old output.new t (λ p. p ≡ command_printed m c (change_outcome (Err refused)))) }
 {
     print_refusal(output, refused)?;
     Ok(turn_of_refusal(refused))
@@ -49,8 +47,7 @@ fn run_read<L: LinkStore, A: Adapter>(
     object: ObjectNo,
     name: &str,
 ) -> Result<Turn, AllocError>
-    requires { output.old ≡ [] }
-    ensures { IfOk result (λ t. RunsLine (session repository.old pool.old) (frequent_line (frequent.Get object name.now)) (printed output.new t) (session repository.new pool.new)) }
+    ensures { IfOk result (λ t. Adds output.old output.new t (λ p. RunsLine (session repository.old pool.old) (frequent_line (frequent.Get object name.now)) p (session repository.new pool.new))) }
 {
     let node = Node::Object(object);
     let feature = feature_number(repository, node, name);
@@ -68,9 +65,8 @@ fn run_create<L: LinkStore, A: Adapter>(
     output: &mut Output,
     class: Name<'_>,
 ) -> Result<Turn, AllocError>
-    requires { output.old ≡ [] }
-    ensures { IfOk result (λ t. RunsCommand (session repository.old pool.old) (b.create_command repository.old.model.metamodel class.entry) (printed output.new t)
-        (session repository.new pool.new)) }
+    ensures { IfOk result (λ t. Adds output.old output.new t (λ p. RunsCommand (session repository.old pool.old) (b.create_command repository.old.model.metamodel class.entry) p
+        (session repository.new pool.new))) }
 {
     let class = class_number(repository.meta(), class.as_str());
     match repository.create_unheard(class) {
@@ -90,9 +86,8 @@ fn run_container<L: LinkStore, A: Adapter>(
     output: &mut Output,
     object: ObjectNo,
 ) -> Result<Turn, AllocError>
-    requires { output.old ≡ [] }
     ensures { (pool : PoolView)
-        → IfOk result (λ t. RunsCommand (session repository.now pool) (command.Container object) (printed output.new t) (session repository.now pool)) }
+        → IfOk result (λ t. Adds output.old output.new t (λ p. RunsCommand (session repository.now pool) (command.Container object) p (session repository.now pool))) }
 {
     match repository.e_container(object) {
         Ok(container) => {
@@ -146,6 +141,7 @@ fn asked_of<'a>(
 }
 
 /// The number of the feature that is asked for, and the value for it.
+#[inline(always)]
 fn bound<L: LinkStore, A: Adapter>(
     repository: &Repository<L, A>,
     asked: Asked<'_>,
@@ -159,14 +155,14 @@ fn bound<L: LinkStore, A: Adapter>(
 }
 
 /// Prints what became of a change that nobody heard, whose answer prints as `done`. Errs only if memory is refused for what is printed.
+#[inline(always)]
 fn print_change(
     output: &mut Output,
     outcome: Result<(), Refused>,
     done: &str,
 ) -> Result<Turn, AllocError>
-    requires { output.old ≡ [] }
     ensures { (m : Metamodel) (c : Command View) (a : Answer) → done.now ≡ unheard_text m (feature_of c) a
-        → IfOk result (λ t. printed output.new t ≡ command_printed m c (read_outcome (λ u. a) outcome)) }
+        → IfOk result (λ t. Adds output.old output.new t (λ p. p ≡ command_printed m c (read_outcome (λ u. a) outcome))) }
 {
     match outcome {
         Ok(()) => {
@@ -185,10 +181,9 @@ fn run_edit<L: LinkStore, A: Adapter>(
     output: &mut Output,
     asked: Asked<'_>,
 ) -> Result<Turn, AllocError>
-    requires { output.old ≡ [] }
-    ensures { IfOk result (λ t. RunsCommand (session repository.old pool.old)
+    ensures { IfOk result (λ t. Adds output.old output.new t (λ p. RunsCommand (session repository.old pool.old)
         (edit_command repository.old asked.entry.edit (node.Object asked.entry.object) asked.entry.feature asked.entry.value)
-        (printed output.new t) (session repository.new pool.new)) }
+        p (session repository.new pool.new))) }
 {
     let (edit, node) = (asked.edit, Node::Object(asked.object));
     let (feature, value) = bound(repository, asked);
@@ -230,8 +225,7 @@ pub(crate) fn run_frequent<L: LinkStore, A: Adapter>(
     output: &mut Output,
     line: Frequent<'_>,
 ) -> Result<Turn, AllocError>
-    requires { output.old ≡ [] }
-    ensures { IfOk result (λ t. RunsLine (session repository.old pool.old) (frequent_line line.entry) (printed output.new t) (session repository.new pool.new)) }
+    ensures { IfOk result (λ t. Adds output.old output.new t (λ p. RunsLine (session repository.old pool.old) (frequent_line line.entry) p (session repository.new pool.new))) }
 {
     match line {
         Frequent::New(class) => run_create(repository, pool, output, class),

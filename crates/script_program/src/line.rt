@@ -1,5 +1,5 @@
 //! A line of a script is run.
-ghost use Rattle.std.specs.Prelude.{◌≡◌, [], Err, true, IfOk};
+ghost use Rattle.std.specs.Prelude.{◌≡◌, Err, true, IfOk};
 ghost use Rattle.mm_types.specs.Shapes.{shape};
 ghost use Rattle.notice_chain.specs.View.{View};
 ghost use Rattle.repository.specs.Run.{change_outcome};
@@ -7,11 +7,13 @@ ghost use Rattle.repository.specs.Views.{command_view, outcome_view};
 ghost use Rattle.repository.specs.declared.command.Command.TheVariants.{Get};
 ghost use Rattle.script_lines.specs.Forms as forms;
 ghost use Rattle.script_lines.specs.Source.{bytes_of};
+ghost use Rattle.script_lines.specs.declared.line.Line.TheVariants as asked;
 ghost use Rattle.script_program.specs.Bind.{IsGiven, pool_of, request_view};
 ghost use Rattle.script_program.specs.Pool.{Pool as PoolView};
-ghost use Rattle.script_program.specs.Script.{RunsCommand, RunsLine, RunsRequest, bad_printed, seen_printed};
-ghost use Rattle.script_program.specs.Session.{IsBrought, brought_no, session, taken};
-ghost use Rattle.script_program.specs.Turns.{outcome_turn, printed};
+ghost use Rattle.script_program.specs.Script.{Adds, RunsCommand, RunsLine, RunsRequest};
+ghost use Rattle.script_program.specs.Session.{IsBrought, Session, brought_no, session, taken};
+ghost use Rattle.script_program.specs.Turns.{outcome_turn};
+ghost use Rattle.script_program.specs.declared.request.Request.TheVariants as request;
 
 use crate::answers::{feature_of, print_found, print_outcome, print_refusal};
 use crate::bind::bind;
@@ -65,10 +67,9 @@ pub(crate) fn run_get<L: LinkStore, A: Adapter>(
     node: Node,
     feature: FeatureNo,
 ) -> Result<Turn, AllocError>
-    requires empty { output.old ≡ [] }
     requires single { (shape repository.now.model.metamodel feature).is_single ≡ true }
     ensures { (pool : PoolView)
-        → IfOk result (λ t. RunsCommand (session repository.now pool) (Get node feature) (printed output.new t) (session repository.now pool)) }
+        → IfOk result (λ t. Adds output.old output.new t (λ p. RunsCommand (session repository.now pool) (Get node feature) p (session repository.now pool))) }
 {
     match repository.value(node, feature) {
         Ok(value) => {
@@ -88,8 +89,8 @@ fn run_seen<L: LinkStore, A: Adapter>(
     output: &mut Output,
     no: AdapterNo,
 ) -> Result<Turn, AllocError>
-    requires { output.old ≡ [] }
-    ensures { IfOk result (λ t. printed output.new t ≡ seen_printed repository.now no) }
+    ensures { (pool : PoolView)
+        → IfOk result (λ t. Adds output.old output.new t (λ p. RunsRequest (session repository.now pool) (request.Seen no) p (session repository.now pool))) }
 {
     match (repository.adapter_told(no), repository.adapter_kept(no)) {
         (Ok(told), Ok(kept)) => {
@@ -112,10 +113,8 @@ pub(crate) fn run_command<L: LinkStore, A: Adapter>(
     output: &mut Output,
     command: Command<A>,
 ) -> Result<Turn, AllocError>
-    requires { output.old ≡ [] }
-    ensures { (before : PoolView) → pool.old ≡ taken before (command_view A.heard command) → IsBrought before (command_view A.heard command)
-        → IfOk result (λ t. RunsCommand (session repository.old before) (command_view A.heard command)
-        (printed output.new t) (session repository.new pool.new)) }
+    ensures { (before : PoolView) → pool.old ≡ taken before (command_view A.heard command) → IsBrought before (command_view A.heard command) → IfOk result (λ t.
+        Adds output.old output.new t (λ p. RunsCommand (session repository.old before) (command_view A.heard command) p (session repository.new pool.new))) }
 {
     let feature = feature_of(&command);
     let no = number_of(&command);
@@ -133,10 +132,9 @@ fn run_request<L: LinkStore, A: Adapter>(
     output: &mut Output,
     request: Request<A>,
 ) -> Result<Turn, AllocError>
-    requires { output.old ≡ [] }
     ensures { (before : PoolView) → pool.old ≡ pool_of before (request_view A.heard request) → IsGiven before (request_view A.heard request)
-        → IfOk result (λ t. RunsRequest (session repository.old before) (request_view A.heard request)
-        (printed output.new t) (session repository.new pool.new)) }
+        → IfOk result (λ t. Adds output.old output.new t (λ p. RunsRequest (session repository.old before) (request_view A.heard request)
+        p (session repository.new pool.new))) }
 {
     match request {
         Request::Execute(Command::Get { node, feature }) if repository.meta().is_single(feature) =>
@@ -152,8 +150,7 @@ fn run_request<L: LinkStore, A: Adapter>(
 
 /// Adds the line that a bad line prints. Errs only if memory is refused for it.
 pub(crate) fn print_bad(output: &mut Output) -> Result<Turn, AllocError>
-    requires { output.old ≡ [] }
-    ensures { IfOk result (λ t. printed output.new t ≡ bad_printed) }
+    ensures { (s : Session) → IfOk result (λ t. Adds output.old output.new t (λ p. RunsLine s asked.Bad p s)) }
 {
     output.text("bad line\n")?;
     Ok(Turn::Bad)
@@ -165,13 +162,12 @@ pub(crate) fn print_bad(output: &mut Output) -> Result<Turn, AllocError>
 #[inline(never)]
 fn run_text<L: LinkStore, A: Adapter>(
     alloc: Global,
+    text: &str,
     repository: &mut Repository<L, A>,
     pool: &mut Pool<A>,
     output: &mut Output,
-    text: &str,
 ) -> Result<Turn, AllocError>
-    requires { output.old ≡ [] }
-    ensures { IfOk result (λ t. RunsLine (session repository.old pool.old) (forms.text_line text.now) (printed output.new t) (session repository.new pool.new)) }
+    ensures { IfOk result (λ t. Adds output.old output.new t (λ p. RunsLine (session repository.old pool.old) (forms.text_line text.now) p (session repository.new pool.new))) }
 {
     match text_line_of(alloc, text)? {
         Line::Blank => Ok(Turn::Blank),
@@ -183,9 +179,28 @@ fn run_text<L: LinkStore, A: Adapter>(
     }
 }
 
+/// Runs a line that is a text, as one of the most frequent forms if it is one.
+///
+/// Errs as `run_line` does.
+fn run_text_line<L: LinkStore, A: Adapter>(
+    alloc: Global,
+    repository: &mut Repository<L, A>,
+    pool: &mut Pool<A>,
+    output: &mut Output,
+    text: &str,
+) -> Result<Turn, AllocError>
+    ensures { IfOk result (λ t. Adds output.old output.new t (λ p. RunsLine (session repository.old pool.old) (forms.text_line text.now) p (session repository.new pool.new))) }
+{
+    match frequent_of(text) {
+        Some(line) => run_frequent(alloc, repository, pool, output, line),
+        None => run_text(alloc, text, repository, pool, output),
+    }
+}
+
 /// Runs a line: parses it, does what it asks for and prints the answer.
 ///
 /// Errs if memory is refused to the program itself. A command that the repository refuses for memory prints that refusal.
+#[inline(always)]
 pub(crate) fn run_line<L: LinkStore, A: Adapter>(
     alloc: Global,
     repository: &mut Repository<L, A>,
@@ -193,14 +208,10 @@ pub(crate) fn run_line<L: LinkStore, A: Adapter>(
     output: &mut Output,
     line: Source<'_>,
 ) -> Result<Turn, AllocError>
-    requires { output.old ≡ [] }
-    ensures { IfOk result (λ t. RunsLine (session repository.old pool.old) (forms.form (bytes_of line.entry)) (printed output.new t) (session repository.new pool.new)) }
+    ensures { IfOk result (λ t. Adds output.old output.new t (λ p. RunsLine (session repository.old pool.old) (forms.form (bytes_of line.entry)) p (session repository.new pool.new))) }
 {
-    let Some(text) = line.text_of_line() else {
-        return print_bad(output);
-    };
-    match frequent_of(text) {
-        Some(line) => run_frequent(alloc, repository, pool, output, line),
-        None => run_text(alloc, repository, pool, output, text),
+    match line.text_of_line() {
+        Some(text) => run_text_line(alloc, repository, pool, output, text),
+        None => print_bad(output),
     }
 }

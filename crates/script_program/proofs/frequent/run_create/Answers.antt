@@ -1,6 +1,5 @@
 use Rattle.std.proofs.Common.{◌≡◌, ◌∙◌, Ok, Err, ap, ap₂, refl, sym}
 use Rattle.std.proofs.lemmas.List.Elements.{All-nil}
-use Rattle.std.proofs.lemmas.Result.{IfOk-weaker}
 use Rattle.notice_chain.specs.Listed.{Listed}
 use Rattle.notice_chain.specs.View.{View}
 use Rattle.repository.specs.Run.{change_outcome}
@@ -9,7 +8,7 @@ use Rattle.script_program.specs.Bind.{class_number, create_command}
 use Rattle.script_program.specs.Pool.{box_of}
 use Rattle.script_program.specs.Script.{RunsCommand, command_printed}
 use Rattle.script_program.specs.Session.{Session, session}
-use Rattle.script_program.specs.Turns.{printed}
+use Rattle.script_program.proofs.SessionLemmas.{adds-run}
 use Rattle.script_program.proofs.frequent.run_create.Goals as goal
 
 pub returns-in-Some-Err : goal.returns-in-Some-Err
@@ -22,8 +21,8 @@ returns-in-Some-Err g c =
     let is : create_command {A = View} s.state.model.metamodel c.args.class ≡ k =
     ap Create (sym (c.class_number-class.ensures ∙ ap₂ class_number c.meta.ensures c.as_str.ensures)) in
     rw is
-    (IfOk-weaker c.print_refused.result (λ r. printed c.print_refused.new.output r ≡ command_printed s.state.model.metamodel k o) (λ r. RunsCommand s k (printed c.print_refused.new.output r) t)
-    (λ r shown. record { outcome = o; executed = rw c.in-Some-Err.field-0-is at c.in-Some-Err.ensures; pool = refl; printed = shown })
+    (adds-run c.print_refused.result _ _ (λ p. p ≡ command_printed s.state.model.metamodel k o) (λ p. RunsCommand s k p t)
+    (λ p shown. record { outcome = o; executed = rw c.in-Some-Err.field-0-is at c.in-Some-Err.ensures; pool = refl; printed = shown })
     (rw c.in-Some-Err.field-0-is at (c.print_refused.ensures s.state.model.metamodel k)))
 
 -- nothing was done before

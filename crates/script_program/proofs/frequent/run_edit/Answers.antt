@@ -1,6 +1,5 @@
 use Rattle.std.proofs.Common.{◌≡◌, None, Ok, true, refl}
 use Rattle.std.proofs.lemmas.List.Elements.{All-nil}
-use Rattle.std.proofs.lemmas.Result.{IfOk-weaker}
 use Rattle.mm_types.specs.declared.numbers.Node.TheVariants as node
 use Rattle.notice_chain.specs.Listed.{Listed}
 use Rattle.repository.specs.Run.{read_outcome}
@@ -9,8 +8,7 @@ use Rattle.repository.specs.declared.reply.Answer.TheVariants as answer
 use Rattle.script_program.specs.Pool.{box_of}
 use Rattle.script_program.specs.Script.{RunsCommand, command_printed}
 use Rattle.script_program.specs.Session.{Session, session}
-use Rattle.script_program.specs.Turns.{printed}
-use Rattle.script_program.proofs.SessionLemmas.{unheard-pool}
+use Rattle.script_program.proofs.SessionLemmas.{adds-run, unheard-pool}
 use Rattle.script_program.proofs.frequent.run_edit.Goals as goal
 
 pub returns-in-Ok : goal.returns-in-Ok
@@ -21,8 +19,8 @@ returns-in-Ok g c =
     let k = Set n c.bound-value.result.0 c.bound-value.result.1 in
     let o = read_outcome (λ u. answer.Done) c.in-Ok.outcome in
     rw (c.in-Set.is, ← c.bound-value.ensures.value, ← c.bound-value.ensures.feature)
-    (IfOk-weaker c.print_change.result (λ r. printed c.print_change.new.output r ≡ command_printed s.state.model.metamodel k o) (λ r. RunsCommand s k (printed c.print_change.new.output r) t)
-    (λ r is. record { outcome = o; executed = c.in-Ok.ensures.done; pool = unheard-pool _ k (λ u. answer.Done) c.in-Ok.outcome refl; printed = is })
+    (adds-run c.print_change.result _ _ (λ p. p ≡ command_printed s.state.model.metamodel k o) (λ p. RunsCommand s k p t)
+    (λ p is. record { outcome = o; executed = c.in-Ok.ensures.done; pool = unheard-pool _ k (λ u. answer.Done) c.in-Ok.outcome refl; printed = is })
     (c.print_change.ensures s.state.model.metamodel k answer.Done refl))
 
 -- nothing was done before
@@ -41,8 +39,8 @@ returns-in-Ok-add_unheard g c =
     let a = answer.Flag true in
     let o = read_outcome (λ u. a) c.in-Ok-add_unheard.outcome in
     rw (c.in-Add.is, ← c.bound-value.ensures.value, ← c.bound-value.ensures.feature)
-    (IfOk-weaker c.print_change-in-Ok-add_unheard.result (λ r. printed c.print_change-in-Ok-add_unheard.new.output r ≡ command_printed s.state.model.metamodel k o) (λ r. RunsCommand s k (printed c.print_change-in-Ok-add_unheard.new.output r) t)
-    (λ r is. record { outcome = o; executed = c.in-Ok-add_unheard.ensures.done; pool = unheard-pool _ k (λ u. a) c.in-Ok-add_unheard.outcome refl; printed = is })
+    (adds-run c.print_change-in-Ok-add_unheard.result _ _ (λ p. p ≡ command_printed s.state.model.metamodel k o) (λ p. RunsCommand s k p t)
+    (λ p is. record { outcome = o; executed = c.in-Ok-add_unheard.ensures.done; pool = unheard-pool _ k (λ u. a) c.in-Ok-add_unheard.outcome refl; printed = is })
     (c.print_change-in-Ok-add_unheard.ensures s.state.model.metamodel k a refl))
 
 pub returns-in-Err-add_unheard : goal.returns-in-Err-add_unheard

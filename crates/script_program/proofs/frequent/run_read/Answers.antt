@@ -9,3 +9,6 @@ pub returns-else-is_single : goal.returns-else-is_single
 returns-else-is_single g c =
     let s : Session = session c.args.repository.now c.args.pool.now in
     rw (← c.feature_number-feature.ensures) (c.run_command.ensures s.pool refl (bind-given s (asks.Get (node.Object c.args.object) c.args.name.now)))
+
+pub returns-then-is_single : goal.returns-then-is_single
+returns-then-is_single g c = rw (← c.feature_number-feature.ensures) (c.run_get.ensures c.args.pool.now)

@@ -5,3 +5,6 @@ returns-in-Execute-Get g c =
     λ before out given.
     let get = c.in-Execute-Get in
     rw (get.is, get.field-0-is, (rw (get.is, get.field-0-is) at out)) (c.run_get.ensures before)
+
+pub returns-in-Seen : goal.returns-in-Seen
+returns-in-Seen g c = λ before out given. rw (c.in-Seen.is, (rw c.in-Seen.is at out)) (c.run_seen.ensures before)

@@ -12,3 +12,8 @@ returns-in-Form g c =
     let asked : text_line c.args.text.now ≡ line.Form c.in-Form.form = sym c.in_ok-text_line_of.ensures ∙ c.in-Form.is in
     let given = subst (IsGiven s.pool) (sym c.bind-request.ensures.request) (bind-given s c.in-Form.form) in
     rw (asked, ← c.bind-request.ensures.request) (c.run_request.ensures s.pool c.bind-request.ensures.pool given)
+
+pub returns-in-Bad : goal.returns-in-Bad
+returns-in-Bad g c =
+    let asked : text_line c.args.text.now ≡ line.Bad = sym c.in_ok-text_line_of.ensures ∙ c.in-Bad.is in
+    rw asked (c.print_bad.ensures (session c.args.repository.now c.args.pool.now))
