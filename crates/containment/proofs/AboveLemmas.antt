@@ -1,7 +1,8 @@
 -- What one step up leaves of the nodes above a node.
-use Rattle.std.proofs.Common.{◌≡◌, suc, ◌<◌, Bool, true, false, ◌||◌, List, [], ◌∷◌, ◌++◌, length, append_assoc, Option, option_map, unwrap_or, Some, None, refl, sym, ap, ◌∙◌, arith}
+use Rattle.std.proofs.Common.{◌≡◌, suc, ◌<◌, Bool, true, false, ◌||◌, List, [], ◌∷◌, ◌++◌, length, append_assoc, Option, option_map, unwrap_or, is_some, Some, None, refl, sym, ap, ◌∙◌, arith}
 use Rattle.std.specs.List.{last_or, list_any}
 use Rattle.std.specs.Option.{option_map_or}
+use Rattle.std.proofs.lemmas.Bool.{true≢false}
 use Rattle.std.proofs.lemmas.List.{append-nil}
 use Rattle.std.proofs.lemmas.Option.{none-some, same_Some}
 use Rattle.mm_types.specs.Same.{same_node}
@@ -59,6 +60,14 @@ is_above-on s x y z legal free h other = sym (ap (list_any (same_node z)) (above
 
 pub is_above-root : (s : Links) (x z : Node) → IsLegalSet s → HasNoCycle s → None ≡ parent s x → list_any (same_node z) (above s x) ≡ false
 is_above-root s x z legal free h = ap (list_any (same_node z)) (above-root s x legal free h)
+
+none-of : (o : Option Node) → is_some o ≡ false → None ≡ o
+none-of None h = refl
+none-of (Some x) h = absurd (true≢false h)
+
+-- so it is if its parent is asked for alone
+pub is_above-top : (s : Links) (x z : Node) → IsLegalSet s → HasNoCycle s → is_some (parent s x) ≡ false → list_any (same_node z) (above s x) ≡ false
+is_above-top s x z legal free h = is_above-root s x z legal free (none-of (parent s x) h)
 
 -- and the topmost is that of the next one up
 pub topmost-parent : (s : Links) (x y : Node) → IsLegalSet s → HasNoCycle s → Some y ≡ parent s x → last_or (Some x) (above s x) ≡ last_or (Some y) (above s y)

@@ -1,9 +1,9 @@
 -- An object at whose ends that contain nothing stands is above no node.
-use Rattle.std.proofs.Common.{◌≡◌, ◌∙◌, ◌&&◌, ◌||◌, ◌++◌, ℕ, nat_eq, nat_lt, Bool, true, false, List, [], ◌∷◌, cond, filter, flat_map, length, arith, refl, sym, ap}
+use Rattle.std.proofs.Common.{◌≡◌, ◌∙◌, ◌&&◌, ◌||◌, ◌++◌, ℕ, nat_eq, nat_lt, Bool, true, false, List, [], ◌∷◌, cond, flat_map, length, arith, refl, sym, ap}
 use Rattle.std.specs.List.{list_any}
-use Rattle.std.proofs.lemmas.Bool.{false≢true, true≢false}
+use Rattle.std.proofs.lemmas.Bool.{true≢false}
 use Rattle.std.proofs.lemmas.Bool.Decides.{nat_tests}
-use Rattle.mm_types.specs.Same.{same_node, same_object}
+use Rattle.mm_types.specs.Same.{same_node}
 use Rattle.mm_types.specs.Shapes.{is_containment}
 use Rattle.mm_types.specs.declared.numbers.FeatureNo.{FeatureNo}
 use Rattle.mm_types.specs.declared.numbers.Node.{Node}
@@ -13,7 +13,7 @@ use Rattle.mm_types.specs.declared.value.Value.{Value}
 use Rattle.models.specs.Legal.{IsLegal}
 use Rattle.models.specs.Model.{Model, reading}
 use Rattle.models.specs.Reading.{Reading, all_features_of, at_end, is_within, objects_of}
-use Rattle.containment.specs.Forest.{contents, has_parts, has_parts_at, is_node_among, parts, subtree}
+use Rattle.containment.specs.Forest.{has_parts, has_parts_at, is_node_among, parts, subtree}
 use Rattle.containment.proofs.ForestLemmas.{parts-first}
 use Rattle.containment.proofs.MemberLemmas.{subtree-has}
 use Rattle.containment.proofs.TreeLemmas.{subtree-parts}

@@ -1,5 +1,5 @@
 -- A subtree has an object and all that is below it, and nothing else.
-use Rattle.std.proofs.Common.{◌&&◌, if◌then◌else◌, ◌≡◌, ℕ, zero, suc, ◌<◌, Bool, true, false, cond, length, List, [], ◌∷◌, filter, flat_map, Option, Some, None, unwrap_or, slice_get, nat_eq, eqb-true, eq-eqb, refl, sym, ap, ◌∙◌, subst, inl, inr}
+use Rattle.std.proofs.Common.{◌&&◌, if◌then◌else◌, ◌≡◌, ℕ, zero, suc, Bool, true, false, cond, length, List, [], ◌∷◌, filter, flat_map, Option, Some, None, unwrap_or, slice_get, nat_eq, eqb-true, eq-eqb, refl, sym, ap, ◌∙◌, subst, inl, inr}
 use Rattle.std.specs.Prelude.{option_and_then}
 use Rattle.std.specs.List.{AllByRecursion, list_any}
 use Rattle.std.specs.Option.{option_map_or}

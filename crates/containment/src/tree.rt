@@ -6,7 +6,7 @@ ghost use Rattle.models.specs.Model.{reading};
 ghost use Rattle.models.specs.Reading as r;
 ghost use Rattle.containment.specs.Forest as forest;
 
-use crate::above::is_under;
+use crate::above::{is_under, parent_of};
 use crate::forest::contents;
 use links::LinkStore;
 use mm_types::{FeatureNo, Node, ObjectNo};
@@ -71,13 +71,16 @@ pub fn is_within<L: LinkStore>(model: &ModelRef<L>, above: Node, node: Node) -> 
     above == node || is_below(model, above, node)
 }
 
-/// Whether a node is below another one. An object that contains nothing is above none: so a chain that grows at its lower end is not
-/// climbed to its top for each new object.
+/// Whether a node is below another one. A node at the top is below none, and an object that contains nothing is above none: so a chain
+/// that grows at its lower end is not climbed to its top for each new object.
 fn is_below<L: LinkStore>(model: &ModelRef<L>, above: Node, node: Node) -> bool
     requires apart { same_node above node ≡ false }
     ensures { result ≡ list_any (same_node above) ((reading model.now).above node) }
 {
     model.lemma_is_legal();
+    if parent_of(model.store(), node).is_none() {
+        return false;
+    }
     match above {
         Node::Object(_) if !has_parts(model, above) => false,
         _ => is_under(model.store(), node, above),
