@@ -225,9 +225,13 @@ fn is_escaped(byte: u8) -> bool
     byte == b'"' || byte == b'\\' || byte < 32
 }
 
-/// Whether a byte of a text is escaped in a JSON string.
+/// Whether a byte of a text is escaped in a JSON string. The loop has no end at the first one, so that it takes many bytes at a time.
 fn has_escaped(bytes: &[u8]) -> bool
     ensures { result ≡ list_any is_stop bytes.now }
 {
-    bytes.iter().any(|byte| is_escaped(*byte))
+    let mut found = false;
+    for byte in bytes {
+        found |= is_escaped(*byte);
+    }
+    found
 }
