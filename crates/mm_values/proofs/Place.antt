@@ -1,12 +1,12 @@
 -- What a search finds among entries whose attributes rise, and what an edit at that place does.
-use Rattle.std.proofs.Common.{◌≡◌, ℕ, ◌+◌, ◌-◌, ◌<◌, ◌≤◌, eqb, cond, Bool, List, length, get_or, set, None, Result, Ok, Err, IfOk, IfErr, unwrap_or, refl, inl, inr, sym, ap, subst, ◌∙◌, arith, [], false, eq-eqb, true}
+use Rattle.std.proofs.Common.{◌≡◌, ℕ, ◌+◌, ◌-◌, ◌<◌, ◌≤◌, eqb, cond, Bool, List, length, get_or, set, None, Result, Ok, Err, IfOk, IfErr, unwrap_or, refl, inl, inr, sym, ap, subst, ◌∙◌, arith, [], ◌∷◌, ◌++◌, false, eq-eqb, true}
 use Rattle.std.specs.List.{insert}
 use Rattle.std.specs.List.Sorted.{IsSearchInRange, IsBinarySearchResult, IsNonDecreasingBy}
 use Rattle.std.specs.Ordering.{nat_cmp, ordering_index}
 use Rattle.std.specs.FinMap as map
 use Rattle.std.proofs.lemmas.Cmp.{ranked}
 use Rattle.std.proofs.lemmas.List.Sorted.{IsNonDecreasingBy-from_default}
-use Rattle.std.proofs.lemmas.List.Edits.{length-insert, get_or-insert_below, get_or-insert_at, get_or-insert_above}
+use Rattle.std.proofs.lemmas.List.Edits.{insert_end, length-insert, get_or-insert_below, get_or-insert_at, get_or-insert_above}
 use Rattle.std.proofs.lemmas.Bool.Decides.{nat_tests}
 use Rattle.std.proofs.lemmas.Grind.{common_steps}
 use Rattle.std.proofs.lemmas.Bool.{cases_eq, cases_lt, cases_order}
@@ -149,10 +149,26 @@ module _ (l : List Entry) (f at : ℕ) (gap : IsGapFor l f at) where
   none_found : (q : ℕ) → cond (eqb q f) None (found l q) ≡ found l q
   none_found q = grind (arith, nat_tests, found_absent l f none)
 
-module _ (l : List Entry) (f at : ℕ) (gap : IsGapFor l f at) (e : Entry) (is : e.feature.0 ≡ f) (holds : stored_of e ≡ nothing_stored) where
+module _ (l : List Entry) (f at : ℕ) (gap : IsGapFor l f at) (e : Entry) (is : e.feature.0 ≡ f) where
+  none_before_gap : NoneBefore l f at
+  none_before_gap j lt same = omega (arith, gap.smaller_before j lt)
+
+  -- what an entry holds that is put in the gap is stored
+  stored_in-insert : stored_in (insert l at e) ≡ with_stored (stored_in l) f (stored_of e)
+  stored_in-insert = same_stored _ _ (λ q. get-stored_in _ q ∙ found-insert l f at e is none_before_gap q
+      ∙ ap (λ r. cond (eqb q f) (kept (stored_of e)) r) (sym (get-stored_in l q)) ∙ sym (get-with_stored (stored_in l) f (stored_of e) q))
+
+  -- a list and a flag that it holds are stored
+  pub stored_in-put_new : (vs : List Value) (b : Bool) → e.list.items ≡ vs → e.flag ≡ b → stored_in (insert l at e) ≡ with_stored (stored_in l) f (record { list = vs; flag = b })
+  stored_in-put_new vs b items flag = stored_in-insert ∙ ap (with_stored (stored_in l) f) (λ i. record { list = items i; flag = flag i })
+
+  -- so they are if the gap is the end
+  pub stored_in-pushed : (vs : List Value) (b : Bool) → at ≡ length l → e.list.items ≡ vs → e.flag ≡ b → stored_in (l ++ e ∷ []) ≡ with_stored (stored_in l) f (record { list = vs; flag = b })
+  stored_in-pushed vs b end items flag = ap stored_in (sym (ap (λ i. insert l i e) end ∙ insert_end l e)) ∙ stored_in-put_new vs b items flag
+
   -- a place that is made in the gap changes nothing that is stored
-  pub stored_in-insert : stored_in (insert l at e) ≡ stored_in l
-  stored_in-insert = same_stored _ _ (λ q. get-stored_in _ q ∙ found-insert l f at e is holds (λ j lt same. omega (arith, gap.smaller_before j lt)) q ∙ none_found l f at gap q ∙ sym (get-stored_in l q))
+  pub stored_in-made : stored_of e ≡ nothing_stored → stored_in (insert l at e) ≡ stored_in l
+  stored_in-made holds = stored_in-insert ∙ ap (with_stored (stored_in l) f) (holds ∙ sym (stored_in_gap l f at gap)) ∙ with_stored_same l f
 
   feature_below : (i : ℕ) → i < at → feature_at (insert l at e) i ≡ feature_at l i
   feature_below i below = ap (λ (e : Entry). e.feature.0) (get_or-insert_below l at e (place_for 0) i below gap.in_range)

@@ -63,14 +63,11 @@ found-set [] f i e is at none q = absurd (omega (arith, at.in_range))
 found-set (x ∷ l) f zero e is at none q = grind (arith, nat_tests, at.has_feature, is)
 found-set (x ∷ l) f (suc i) e is at none q = grind (arith, nat_tests, none 0 (omega arith), found-set l f i e is (is_at_tail x l f i at) (none_before_tail x l f i none) q)
 
-first_found : (l : List Entry) (f : ℕ) (e : Entry) → e.feature.0 ≡ f → stored_of e ≡ nothing_stored → (q : ℕ) → found (e ∷ l) q ≡ cond (eqb q f) None (found l q)
-first_found l f e is holds q = ap (λ k. cond (eqb q k) (kept (stored_of e)) (found l q)) is ∙ ap (λ h. cond (eqb q f) (kept h) (found l q)) holds
-
--- an entry that holds nothing, before any of its attribute's, sets nothing there
-pub found-insert : (l : List Entry) (f i : ℕ) (e : Entry) → e.feature.0 ≡ f → stored_of e ≡ nothing_stored → NoneBefore l f i → (q : ℕ) → found (insert l i e) q ≡ (if eqb q f then None else found l q)
-found-insert l f zero e is holds none q = first_found l f e is holds q
-found-insert [] f (suc i) e is holds none q = first_found [] f e is holds q
-found-insert (x ∷ l) f (suc i) e is holds none q = grind (arith, nat_tests, none 0 (omega arith), found-insert l f i e is holds (none_before_tail x l f i none) q)
+-- an entry before any of its attribute's is what is found there
+pub found-insert : (l : List Entry) (f i : ℕ) (e : Entry) → e.feature.0 ≡ f → NoneBefore l f i → (q : ℕ) → found (insert l i e) q ≡ (if eqb q f then kept (stored_of e) else found l q)
+found-insert l f zero e is none q = ap (λ k. cond (eqb q k) (kept (stored_of e)) (found l q)) is
+found-insert [] f (suc i) e is none q = ap (λ k. cond (eqb q k) (kept (stored_of e)) (found [] q)) is
+found-insert (x ∷ l) f (suc i) e is none q = grind (arith, nat_tests, none 0 (omega arith), found-insert l f i e is (none_before_tail x l f i none) q)
 
 nothing_kept : (list : List _) (flag : Bool) → unwrap_or (kept (record { list = list; flag = flag })) nothing_stored ≡ record { list = list; flag = flag }
 nothing_kept [] false = refl

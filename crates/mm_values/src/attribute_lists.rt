@@ -167,8 +167,40 @@ impl AttributeLists {
         ensures ok { OnOk result (stored_in self.new ≡ with_stored (stored_in self.old) feature.0 (record { list = list; flag = flag })) }
         ensures err { OnErr result (stored_in self.new ≡ stored_in self.old) }
     {
-        let at = self.make_entry(feature)?;
-        self.put_at(feature, at, list, flag);
+        match self.find(feature) {
+            Ok(at) => {
+                self.put_at(feature, at, list, flag);
+                Ok(())
+            }
+            Err(at) => self.put_new(feature, at, list, flag),
+        }
+    }
+
+    /// Makes the entry of an attribute that has none, with what it is to hold. Errs only if memory is refused, and then nothing that is
+    /// seen has changed.
+    fn put_new(
+        &mut self,
+        feature: FeatureNo,
+        at: usize,
+        list: NewValues,
+        flag: bool,
+    ) -> Result<(), AllocError>
+        requires { IsGapFor self.old feature.0 at }
+        ensures ok { OnOk result (stored_in self.new ≡ with_stored (stored_in self.old) feature.0 (record { list = list; flag = flag })) }
+        ensures err { OnErr result (stored_in self.new ≡ stored_in self.old) }
+    {
+        self.grow()?;
+        let entry = Entry {
+            feature,
+            flag,
+            list: list.into_list(),
+        };
+        // Most objects get their values in the order of the attributes' numbers, and to push takes half as long as to insert.
+        if at == self.entries.len() {
+            self.entries.push(entry)?;
+        } else {
+            self.entries.insert(at, entry)?;
+        }
         Ok(())
     }
 

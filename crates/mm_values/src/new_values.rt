@@ -59,6 +59,16 @@ impl NewValues {
         }
     }
 
+    /// A list of these values. Takes no memory.
+    pub(crate) fn into_list(self) -> ValueList
+        ensures { result.items ≡ self }
+    {
+        match self.layout {
+            Layout::One(value) => ValueList::of_one(value),
+            Layout::Many(values) => ValueList::from_vec(values.into_vec()),
+        }
+    }
+
     /// Replaces the values of a list by these. Takes no memory.
     pub(crate) fn put_in(self, alloc: Global, list: &mut ValueList)
         ensures items { list.new.items ≡ self }

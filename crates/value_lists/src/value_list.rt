@@ -56,6 +56,24 @@ impl ValueList {
         }
     }
 
+    /// One value. Takes no memory.
+    pub fn of_one(value: Value) -> Self
+        ensures { result.items ≡ value ∷ [] }
+    {
+        ValueList {
+            layout: Layout::One(value),
+        }
+    }
+
+    /// The values of a `Vec`, in its block if they are more than one. Takes no memory.
+    pub fn from_vec(values: Vec<Value>) -> Self
+        ensures { result.items ≡ values.items }
+    {
+        ValueList {
+            layout: layout_of(values),
+        }
+    }
+
     /// How many values there are.
     pub fn len(&self) -> usize
         ensures { result ≡ length self.now.items }
