@@ -1,20 +1,26 @@
 -- What is planned of a change that puts one link, and edits nothing else.
-use Rattle.std.proofs.Common.{arith, ◌≡◌, ◌++◌, ◌||◌, ◌&&◌, ℕ, suc, Bool, true, false, List, [], ◌∷◌, length, map, nat_lt, is_some, option_map, option_to_list, IfSome, Option, Some, None, if◌then◌else◌, refl, sym, ap, ◌∙◌}
+use Rattle.std.proofs.Common.{arith, eq-eqb, not, ◌≡◌, ◌++◌, ◌||◌, ◌&&◌, ℕ, suc, Bool, true, false, List, [], ◌∷◌, length, map, nat_lt, is_some, option_map, option_to_list, IfSome, Option, Some, None, if◌then◌else◌, refl, sym, ap, ◌∙◌}
 use Rattle.std.specs.Option.{option_map_or}
+use Rattle.std.proofs.Math.Bool.{and-false}
 use Rattle.std.proofs.lemmas.Bool.{true≢false}
 use Rattle.std.proofs.lemmas.Bool.Decides.{nat_tests}
 use Rattle.std.proofs.lemmas.Option.{none-some}
 use Rattle.mm_types.specs.declared.end.End.{End}
 use Rattle.mm_types.specs.declared.numbers.FeatureNo.{FeatureNo}
 use Rattle.mm_types.specs.declared.numbers.Node.{Node}
+use Rattle.mm_types.specs.declared.numbers.Node.TheVariants as node
 use Rattle.mm_types.specs.declared.numbers.ObjectNo.{ObjectNo}
-use Rattle.mm_types.specs.Same.{node_value}
+use Rattle.mm_types.specs.Ends.{has_value, index_in}
+use Rattle.mm_types.specs.Same.{node_value, same_feature}
+use Rattle.mm_types.specs.Shapes.{is_containment, shape}
 use Rattle.mm_types.specs.declared.value.Value.{Value}
 use Rattle.mm_types.specs.declared.value.Value.TheVariants as value
-use Rattle.links.specs.Holders.{contained}
+use Rattle.links.specs.Holders.{contained, holder}
 use Rattle.links.specs.Plans.{put_edit}
 use Rattle.models.specs.Legal.{IsLegal}
-use Rattle.models.specs.Model.{Model, reading}
+use Rattle.models.specs.Model.{Model, reading, values_at}
+use Rattle.models.proofs.PlaceLemmas.{index-at}
+use Rattle.containment.proofs.PartLemmas.{contains-itself, contains-reference, holder-at}
 use Rattle.models.specs.Reading.{Reading, at_end, is_repeat, position_for, shape_at}
 use Rattle.removal.specs.TreeLinkEnds.{link_end}
 use Rattle.removal.specs.declared.link_end.LinkEnd.{LinkEnd}
@@ -71,6 +77,33 @@ yields-none r e o h =
     let far = none-far r (opposite_end r e o) second.0 in
     let up = none-holding r (contained e o (shape_at r e).containing) second.1 in
     ap (once r) (λ i. near i ++ (far i ++ up i))
+
+---------------------------------------------------------------- an object that nothing contains
+
+-- it is at no end that would contain it
+uncontained-absent : (s : Model) (e : End) (o : ObjectNo) → IsLegal s → is_containment s.metamodel e.feature ≡ true → is_some (holder s.links (node.Object o)) ≡ false → has_value (values_at s e) (value.Object o) ≡ false
+uncontained-absent s e o legal contains unheld =
+    let vs = values_at s e in
+    let v = value.Object o in
+    elim (has_value vs v) as (λ b. has_value vs v ≡ b → b ≡ false) [
+      | true ↦ λ there. absurd (true≢false (sym (ap is_some (holder-at s legal e.node e.feature contains (index_in vs v) o (index-at vs v there))) ∙ unheld))
+      | false ↦ λ _. refl
+    ] refl
+
+unheld-part : (s : Model) (e : End) (o : ObjectNo) (h : Option FeatureNo) → h ≡ Some e.feature → option_map_or (λ n. is_some (holder s.links n)) (contained e o h) false ≡ false → is_some (holder s.links (node.Object o)) ≡ false
+unheld-part s e o h is unheld =
+    let self : same_feature e.feature e.feature ≡ true = eq-eqb e.feature.0 e.feature.0 refl in
+    sym (ap (λ q. option_map_or (λ n. is_some (holder s.links n)) (contained e o q) false) is ∙ ap (λ (b : Bool). is_some (holder s.links (if b then node.Object o else e.node))) self) ∙ unheld
+
+-- so an end that contains its objects has none that displaces nothing
+pub lone-absent : (s : Model) (e : End) (o : ObjectNo) → IsLegal s → is_containment s.metamodel e.feature ≡ true → displaces (reading s) e o ≡ false → is_plain_add (reading s) e (value.Object o) ≡ false
+lone-absent s e o legal contains h =
+    let a = shape s.metamodel e.feature in
+    let own = contains-itself e.feature a.containing contains in
+    let refers = contains-reference s.metamodel e.feature e.feature own in
+    let nowhere = (neither _ _ (neither (is_taken (reading s) e) _ h).1).1 in
+    let absent = uncontained-absent s e o legal contains (unheld-part s e o a.containing own nowhere) in
+    ap (λ b. not b || (a.is_unique && has_value (values_at s e) (value.Object o))) refers ∙ ap (λ b. a.is_unique && b) absent ∙ and-false a.is_unique
 
 ---------------------------------------------------------------- the plan
 

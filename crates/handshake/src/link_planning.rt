@@ -1,7 +1,9 @@
 //! Changes that put one link, and edit nothing else.
 ghost use Rattle.std.specs.Prelude.{◌≡◌, false, true, IfSome, None};
 ghost use Rattle.mm_types.specs.Shapes.{shape};
+ghost use Rattle.mm_types.specs.declared.value.Value.TheVariants.{Object};
 ghost use Rattle.models.specs.Model.{reading};
+ghost use Rattle.handshake.specs.Displaced.{displaces, is_plain_add};
 ghost use Rattle.handshake.specs.LonePuts as lone;
 ghost use Rattle.handshake.specs.Plans.{IsPlanOf};
 ghost use Rattle.handshake.specs.Refusals.{early_refusal};
@@ -82,13 +84,33 @@ fn put_of_add<L: LinkStore>(
     if displaces(model, end, *object) {
         return None;
     }
-    if is_plain_add(model, end, value) {
+    if adds_no_link(model, end, value, *object) {
         return None;
     }
     if add_late_refusal(model, end, value, index, false).is_some() {
         return None;
     }
     Some(put_at(model, end, model.position_for(end, index), *object))
+}
+
+/// Whether an addition of an object that displaces nothing makes no link. An object that displaces nothing is contained nowhere, so a list
+/// that contains its objects doesn't have it, and need not be looked through.
+#[inline(always)]
+fn adds_no_link<L: LinkStore>(
+    model: &ModelRef<L>,
+    end: End,
+    value: &Value,
+    object: ObjectNo,
+) -> bool
+    requires object { value.now ≡ Object object }
+    requires lone { displaces (reading model.now) end object ≡ false }
+    ensures { result ≡ is_plain_add (reading model.now) end value.now }
+{
+    model.lemma_is_legal();
+    if model.meta().is_containment(end.feature) {
+        return false;
+    }
+    is_plain_add(model, end, value)
 }
 
 fn put_at<L: LinkStore>(model: &ModelRef<L>, end: End, index: u32, object: ObjectNo) -> NewLink
