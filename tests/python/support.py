@@ -1,6 +1,7 @@
 """What the tests of the client share: repositories of the program, and programs that do wrong."""
 
 import os
+import subprocess
 import sys
 import tempfile
 import unittest
@@ -81,6 +82,14 @@ class ClientTest(unittest.TestCase):
         path = self.file('fake', f'#!{sys.executable}\n{begin}\n{body}\n')
         path.chmod(0o755)
         return path
+
+    def run_code(self, code, folder):
+        """What a piece of Python prints in a folder, with the client and the program at hand."""
+        environment = {**os.environ, 'PYTHONPATH': str(CLIENT), 'MMREPO': str(PROGRAM), 'PYTHONDONTWRITEBYTECODE': '1'}
+        command = [sys.executable, '-W', 'error', '-c', code]
+        done = subprocess.run(command, cwd=folder, env=environment, stdout=subprocess.PIPE, stderr=subprocess.PIPE)
+        self.assertEqual(done.stderr.decode(), '')
+        return done.stdout.decode()
 
     @contextmanager
     def refused(self, number, name, cause=None):

@@ -100,6 +100,15 @@ class Starting(ClientTest):
             self.assertEqual(found.exception.fault, fault)
             self.assertIn(f'-meta.json: metamodel refused: {fault}', str(found.exception))
 
+    def test_metamodel_explained(self):
+        with self.assertRaises(MetamodelRefused) as found:
+            Repository(self.file('-meta.json', '{"classes":[{"nam":"A"},{"name":"B","x":1}]}'), PROGRAM)
+        self.assertEqual(found.exception.fault, '2 LAYOUT')
+        self.assertEqual(found.exception.explained, (
+            'classes[0]: the key "name" is absent', 'classes[0]: unknown key "nam"; is "name" meant?', 'classes[1]: unknown key "x"'
+        ))
+        self.assertTrue(str(found.exception).endswith('2 LAYOUT\n' + '\n'.join(found.exception.explained)))
+
     def test_smallest_metamodel(self):
         with Repository(self.file('-meta.json', '{"classes":[]}'), PROGRAM) as repo:
             self.assertEqual(repo.metamodel.classes, {})

@@ -1,12 +1,9 @@
 """The examples of docs/PYTHON.md and the README do what they say, and the page names what there is."""
 
-import os
 import re
-import subprocess
-import sys
 import textwrap
 
-from support import CLIENT, PROGRAM, TOP, ClientTest
+from support import TOP, ClientTest
 
 import mmrepo
 
@@ -22,14 +19,6 @@ def block(language):
 
 class Page(ClientTest):
     """The page on the client."""
-
-    def run_code(self, code, folder):
-        """What a piece of Python prints in a folder, with the client and the program at hand."""
-        environment = {**os.environ, 'PYTHONPATH': str(CLIENT), 'MMREPO': str(PROGRAM), 'PYTHONDONTWRITEBYTECODE': '1'}
-        command = [sys.executable, '-W', 'error', '-c', code]
-        done = subprocess.run(command, cwd=folder, env=environment, stdout=subprocess.PIPE, stderr=subprocess.PIPE)
-        self.assertEqual(done.stderr.decode(), '')
-        return done.stdout.decode()
 
     def test_example(self):
         self.file('library.json', block('json'))

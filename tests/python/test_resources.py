@@ -4,7 +4,7 @@ import json
 
 from support import LibraryTest
 
-from mmrepo import Proxy
+from mmrepo import Proxy, Refused
 
 URI = 'http://m.example/a'
 
@@ -185,6 +185,24 @@ class Documents(LibraryTest):
         with self.assertRaises(ValueError):
             town.load(' ' * 16_777_216)
         self.assertEqual(town.load(TOWN), 4)
+
+    def test_explained(self):
+        """An error says what is wrong, and of its own document alone."""
+        town = self.repo.resource(URI)
+        cases = [
+            ('{"format":2,"roots":[{"class":"Boook","features":{}},{"class":"Named","features":{}}]}', (
+                'roots[0]: "Boook" is no class; is "Book" meant?', 'roots[1]: class Named is abstract; name a subclass',
+            )),
+            ('{"format":3,"roots":[]}', ('"format" is 3, and has to be 2, or 1',)),
+        ]
+        for text, wanted in cases:
+            with self.assertRaises(Refused) as found:
+                town.load(text)
+            self.assertEqual(found.exception.explained, wanted)
+            self.assertTrue(str(found.exception).endswith('\n' + '\n'.join(wanted)))
+        with self.assertRaises(Refused) as found:
+            self.repo.create('Nothing')
+        self.assertEqual(found.exception.explained, ())
 
     def test_not_saved(self):
         town = self.repo.resource(URI)

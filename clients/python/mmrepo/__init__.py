@@ -11,6 +11,8 @@ from .errors import (
     IndexRefused,
     MetamodelRefused,
     MmrepoError,
+    NotOpened,
+    NotSaved,
     NotStarted,
     ProgramEnded,
     ProgramError,
@@ -19,6 +21,8 @@ from .errors import (
     ReplyNotUnderstood,
     RepositoryClosed,
 )
+from .findings import Finding
+from .folders import Folder
 from .lists import FeatureList
 from .metamodel import EAttribute, EClass, EClassifier, EDataType, EEnum, EReference, EStructuralFeature, Metamodel
 from .notices import Kind, Notice, View
@@ -26,10 +30,11 @@ from .objects import EObject
 from .repository import Repository, Resolved
 from .resources import Resource
 from .values import Literal, Proxy, Value
+from .xmi import ToolFailed
 
 __all__ = [
     'BadLine', 'CallableFailed', 'EAttribute', 'EClass', 'EClassifier', 'EDataType', 'EEnum', 'EObject', 'EReference',
-    'EStructuralFeature', 'FeatureList', 'IndexRefused', 'Kind', 'Literal', 'Metamodel', 'MetamodelRefused', 'MmrepoError',
-    'NotStarted', 'Notice', 'ProgramEnded', 'ProgramError', 'Proxy', 'Refused', 'ReplyCut', 'ReplyNotUnderstood',
-    'Repository', 'RepositoryClosed', 'Resolved', 'Resource', 'Value', 'View',
+    'EStructuralFeature', 'FeatureList', 'Finding', 'Folder', 'IndexRefused', 'Kind', 'Literal', 'Metamodel', 'MetamodelRefused',
+    'MmrepoError', 'NotOpened', 'NotSaved', 'NotStarted', 'Notice', 'ProgramEnded', 'ProgramError', 'Proxy', 'Refused', 'ReplyCut',
+    'ReplyNotUnderstood', 'Repository', 'RepositoryClosed', 'Resolved', 'Resource', 'ToolFailed', 'Value', 'View',
 ]

@@ -2,8 +2,13 @@
 
 from __future__ import annotations
 
-from typing import Any, Callable, Optional, Tuple
+from typing import TYPE_CHECKING, Any, Callable, Optional, Sequence, Tuple
 
+if TYPE_CHECKING:
+    from .findings import Finding
+    from .folders import Folder
+
+SOME = 10  # findings that a message shows
 SHOWN = 200  # the most characters of a line that a message shows
 
 
@@ -20,19 +25,24 @@ class Refused(MmrepoError):
     """A command was refused, and nothing has changed. docs/SCRIPT.md lists the refusals.
 
     `number` and `name` tell which it is, as 8 and `TYPE`; `cause` has the number and the name of the cause, where a
-    document was refused, and is None elsewhere; `command` is the line of the script.
+    document was refused, and is None elsewhere; `explained` has a line for each thing that is to be mended in the document,
+    in the words of `--explain`; `command` is the line of the script.
     """
 
-    def __init__(self, command: str, number: int, name: str, cause: Optional[Tuple[int, str]] = None) -> None:
-        super().__init__(command, number, name, cause)
+    def __init__(
+        self, command: str, number: int, name: str, cause: Optional[Tuple[int, str]] = None, explained: Sequence[str] = ()
+    ) -> None:
+        super().__init__(command, number, name, cause, explained)
         self.command = command
         self.number = number
         self.name = name
         self.cause = cause
+        self.explained = tuple(explained)
 
     def __str__(self) -> str:
         cause = f' {self.cause[0]} {self.cause[1]}' if self.cause else ''
-        return f'refused {self.number} {self.name}{cause}: {shown(self.command)}'
+        said = f'refused {self.number} {self.name}{cause}: {shown(self.command)}'
+        return '\n'.join([said, *self.explained])
 
 
 class IndexRefused(Refused, IndexError):
@@ -51,15 +61,17 @@ class BadLine(MmrepoError):
 
 
 class MetamodelRefused(MmrepoError):
-    """The metamodel has a fault. `fault` is what the program tells of it, as `7 CYCLE class 0`; docs/METAMODEL.md lists the faults."""
+    """The metamodel has a fault. `fault` is what the program tells of it, as `7 CYCLE class 0`; docs/METAMODEL.md lists the faults.
+    `explained` has a line for each thing that is to be mended, in the words of `--explain`."""
 
-    def __init__(self, file: str, fault: str) -> None:
-        super().__init__(file, fault)
+    def __init__(self, file: str, fault: str, explained: Sequence[str] = ()) -> None:
+        super().__init__(file, fault, explained)
         self.file = file
         self.fault = fault
+        self.explained = tuple(explained)
 
     def __str__(self) -> str:
-        return f'{self.file}: metamodel refused: {self.fault}'
+        return '\n'.join([f'{self.file}: metamodel refused: {self.fault}', *self.explained])
 
 
 class ProgramError(MmrepoError):
@@ -110,6 +122,37 @@ class CallableFailed(MmrepoError):
 
     def __str__(self) -> str:
         return f'{self.callable!r} failed on {self.notice!r}: {self.__cause__!r}'
+
+
+class NotOpened(MmrepoError):
+    """A folder was opened by `strict`, and something could not be loaded or resolved. What could be is in the repository.
+
+    `folder` is what was opened; its `findings` say what is wrong.
+    """
+
+    def __init__(self, folder: Folder) -> None:
+        super().__init__(folder)
+        self.folder = folder
+
+    def __str__(self) -> str:
+        return f'{self.folder.path}: {_counted(self.folder.findings)}'
+
+
+class NotSaved(MmrepoError):
+    """Nothing was written, since something is in the way. `findings` say what, file by file."""
+
+    def __init__(self, findings: Sequence[Finding]) -> None:
+        super().__init__(findings)
+        self.findings = list(findings)
+
+    def __str__(self) -> str:
+        return f'nothing was written: {_counted(self.findings)}'
+
+
+def _counted(findings: Sequence[Finding]) -> str:
+    """How many findings there are, and the first of them."""
+    more = '' if len(findings) <= SOME else f'\n.. and {len(findings) - SOME} more'
+    return f'{len(findings)} finding{"" if len(findings) == 1 else "s"}\n' + '\n'.join(it.line for it in findings[:SOME]) + more
 
 
 class RepositoryClosed(MmrepoError):

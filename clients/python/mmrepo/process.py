@@ -6,7 +6,7 @@ import os
 import shutil
 import subprocess
 import tempfile
-from typing import List, Optional, Tuple
+from typing import List, Optional, Sequence, Tuple
 
 from .errors import (
     MetamodelRefused,
@@ -20,6 +20,7 @@ from .errors import (
 )
 
 LONGEST_LINE = 16_777_216  # bytes
+TOGETHER = 32_768  # bytes of lines that are sent at once: a pipe of Linux holds twice as many, so the writing never waits for an answer
 SECONDS_TO_END = 60  # how long a program that takes no more lines may take to end
 REFUSED = 'metamodel refused: '
 
@@ -41,7 +42,9 @@ class Program:
         self._metamodel = metamodel
         self._closed: Optional[str] = None  # why it takes no more lines
         self._said = tempfile.TemporaryFile()
-        command = [file, '--meta', os.path.abspath(metamodel), '--live']
+        self._said_before = 0  # how many bytes there were of what it said before
+        self._sent = 0  # how many lines it was sent
+        command = [file, '--meta', os.path.abspath(metamodel), '--live', '--explain']
         try:
             # In a session of its own no Ctrl-C of a terminal ends it, and a file, other than a pipe, is never full.
             self._process = subprocess.Popen(
@@ -62,27 +65,55 @@ class Program:
         A ValueError comes before anything is sent if the line is too long, if it has a newline, or if it has half of a
         surrogate pair.
         """
-        data = line.encode('utf-8')
-        if len(data) > LONGEST_LINE:
-            raise ValueError(f'a line has at most {LONGEST_LINE} bytes, and this one {len(data)}')
-        if b'\n' in data:
-            raise ValueError('a line has no newline')
+        data = _data_of(line)
         if self._closed is not None:
             raise RepositoryClosed(self._closed)
         try:
-            return self._answer(line, data + b'\n')
+            self._send(line, 1, data)
+            return self._answer(line)
         except BaseException:
             # Half of an answer may still come, so nothing that is read from now on belongs to a line.
             self.end(f'the exchange of a line failed: {shown(line)}')
             raise
 
-    def _answer(self, line: str, data: bytes) -> List[str]:
-        """Sends a line, and reads up to the empty line behind its answer."""
+    def exchange_all(self, lines: Sequence[str]) -> List[List[str]]:
+        """The answers to several lines, as `exchange` gives each. The lines are sent many at once, which takes a fraction of
+        the time. The errors are those of `exchange`."""
+        waiting = [(line, _data_of(line)) for line in lines]
+        answers: List[List[str]] = []
+        at = 0
+        while at < len(waiting):
+            end, size = at + 1, len(waiting[at][1])
+            while end < len(waiting) and size + len(waiting[end][1]) <= TOGETHER:
+                size += len(waiting[end][1])
+                end += 1
+            answers += self._exchange_some(waiting[at:end])
+            at = end
+        return answers
+
+    def _exchange_some(self, lines: Sequence[Tuple[str, bytes]]) -> List[List[str]]:
+        """Sends some lines at once, and reads the answer to each."""
+        if self._closed is not None:
+            raise RepositoryClosed(self._closed)
+        first = lines[0][0]
+        try:
+            self._send(first, len(lines), b''.join(data for _, data in lines))
+            return [self._answer(line) for line, _ in lines]
+        except BaseException:
+            self.end(f'the exchange of lines failed, from this one on: {shown(first)}')
+            raise
+
+    def _send(self, line: str, count: int, data: bytes) -> None:
+        """Sends the bytes of lines, which begin with a line."""
         try:
             self._input.write(data)
             self._input.flush()
         except OSError:
             raise self._failure(line, False) from None
+        self._sent += count
+
+    def _answer(self, line: str) -> List[str]:
+        """Reads up to the empty line behind the answer to a line."""
         lines: List[str] = []
         while True:
             found = self._output.readline()
@@ -95,11 +126,26 @@ class Program:
             except UnicodeDecodeError:
                 raise self.not_understood(line, repr(found)) from None
 
+    def explained(self) -> List[str]:
+        """What `--explain` says of the line that was sent last, without its number: nothing for most lines."""
+        start = f'line {self._sent}: '
+        if self.exchange(''):  # once this line is answered, all has been said of the one before it
+            raise self.not_understood('', 'an answer to an empty line')
+        return [said[len(start):] for said in self._news().split('\n') if said.startswith(start)]
+
+    def _news(self) -> str:
+        """What it wrote on standard error since this was asked before. The place of the file is also the program's, and stays."""
+        size = os.fstat(self._said.fileno()).st_size
+        data = os.pread(self._said.fileno(), size - self._said_before, self._said_before)
+        self._said_before += len(data)
+        return data.decode('utf-8', 'replace')
+
     def _failure(self, line: str, is_cut: bool) -> MmrepoError:
         """The error for a program that ended by itself, or took no more."""
         status, said = self._ending()
         if status == 1 and said.startswith(REFUSED):
-            return MetamodelRefused(self._metamodel, said[len(REFUSED):])
+            fault, *explained = said[len(REFUSED):].split('\n')
+            return MetamodelRefused(self._metamodel, fault, explained)
         kind = ReplyCut if is_cut else ProgramEnded
         what = 'the answer was cut' if is_cut else 'the program ended'
         return kind(f'{what}, at the line `{shown(line)}`', status, said)
@@ -110,8 +156,7 @@ class Program:
             status: Optional[int] = self._process.wait(SECONDS_TO_END)
         except subprocess.TimeoutExpired:
             status = None
-        self._said.seek(0)
-        said = self._said.read().decode('utf-8', 'replace').strip()
+        said = self._news().strip()
         self.end('the program ended')
         return status, said
 
@@ -144,3 +189,13 @@ class Program:
         status, said = self._ending()
         if status != 0:
             raise ProgramEnded('the program ended, when it was closed', status, said)
+
+
+def _data_of(line: str) -> bytes:
+    """The bytes of a line with its newline; a ValueError if the program can't read it as one line."""
+    data = line.encode('utf-8')
+    if len(data) > LONGEST_LINE:
+        raise ValueError(f'a line has at most {LONGEST_LINE} bytes, and this one {len(data)}')
+    if b'\n' in data:
+        raise ValueError('a line has no newline')
+    return data + b'\n'

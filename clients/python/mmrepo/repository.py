@@ -3,15 +3,20 @@
 from __future__ import annotations
 
 import os
+from pathlib import Path
 from types import TracebackType
-from typing import NamedTuple, Optional, Type, Union
+from typing import List, NamedTuple, Optional, Sequence, Type, Union
 
+from .errors import NotOpened
+from .folders import Folder, save_all
+from .loading import XMI_FILES
 from .metamodel import EClass, Metamodel
 from .notices import Hearer, View, depth
 from .objects import EObject
 from .process import Program, program_file
 from .resources import Resource
 from .session import Session
+from .uris import BASE
 from .values import name_word, text_word
 
 
@@ -38,6 +43,7 @@ class Repository:
         path = os.fspath(metamodel)
         with open(path, 'rb') as file:
             document = file.read()
+        self._file = os.path.abspath(path)
         running = Program(program_file(None if program is None else os.fspath(program)), path)
         try:
             self._session = Session(running, Metamodel(document))
@@ -59,6 +65,35 @@ class Repository:
         """Makes a resource of a URI of http or https. It is refused for another text (BAD_URI) and for a URI that a
         resource has (RESOURCE_EXISTS)."""
         return self._session.resource(f'resource {text_word(uri)}', uri)
+
+    @property
+    def resources(self) -> List[Resource]:
+        """All resources, in the order in which they were made."""
+        return self._session.resources()
+
+    def open(
+        self, path: Union[str, os.PathLike], base: str = BASE, ecore: Sequence[str] = (), strict: bool = False,
+        suffixes: Sequence[str] = XMI_FILES,
+    ) -> Folder:
+        """Loads each `*.json` below a directory into a resource, whose URI is the base and the relative path, and resolves all
+        proxies. With the Ecore files of the metamodel also each `*.xmi` is loaded, or the files with other suffixes.
+
+        What could not be loaded or resolved is in the `findings` of the Folder. With `strict` a NotOpened comes for it. An OSError
+        comes if there is no directory, and a ValueError for a base that is none. docs/FOLDERS.md has more.
+        """
+        folder = Folder(self, path, base, [os.fspath(it) for it in ecore], suffixes, self._file)
+        self._session.folders.append(folder)
+        if strict and folder.findings:
+            raise NotOpened(folder)
+        return folder
+
+    def save_all(self, force: bool = False) -> List[Path]:
+        """Writes the files of the resources of folders that have changed, and gives their paths.
+
+        Each file has its old content or its new one at any moment. A NotSaved comes, and nothing is written, if a resource can't be
+        saved; and unless it is by `force`, if others have changed a file, or something of it was left out when it was read.
+        """
+        return save_all(self._session.folders, force)
 
     def at(self, address: str) -> Optional[EObject]:
         """The object at an address: the URI of a resource, `#` and a fragment. None: nothing is there."""

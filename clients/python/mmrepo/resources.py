@@ -2,7 +2,8 @@
 
 from __future__ import annotations
 
-from typing import TYPE_CHECKING, List
+from pathlib import Path
+from typing import TYPE_CHECKING, List, Optional
 
 from .lists import FeatureList
 from .objects import EObject, Node
@@ -13,15 +14,20 @@ if TYPE_CHECKING:
 
 
 class Resource(Node):
-    """A resource: objects that are its roots, and all that they contain. `uri` is the text that it was made of."""
+    """A resource: objects that are its roots, and all that they contain.
 
-    __slots__ = ('uri',)
+    `uri` is the text that it was made of. `path` is its file if it is one of a folder that was opened, and None otherwise.
+    """
+
+    __slots__ = ('uri', 'path')
     uri: str
+    path: Optional[Path]
 
     def __init__(self, session: Session, word: str, uri: str) -> None:
         """`resource` of a repository makes resources."""
         super().__init__(session, word)
         self.uri = uri
+        self.path = None
 
     @property
     def contents(self) -> FeatureList:

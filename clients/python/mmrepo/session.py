@@ -3,7 +3,7 @@
 from __future__ import annotations
 
 import re
-from typing import Any, Callable, Dict, List, Optional, Sequence, Type, TypeVar
+from typing import TYPE_CHECKING, Any, Callable, Dict, List, Optional, Sequence, Type, TypeVar
 from weakref import WeakValueDictionary
 
 from .errors import BadLine, CallableFailed, IndexRefused, MmrepoError, Refused
@@ -14,9 +14,12 @@ from .process import Program
 from .resources import Resource
 from .values import data_word, name_word, value_of, values_of
 
+if TYPE_CHECKING:
+    from .folders import Folder
+
 T = TypeVar('T')
 FLAGS = {'true': True, 'false': False}
-INDEX = 10  # the number of the refusal
+INDEX, DOCUMENT = 10, 18  # the numbers of two refusals
 
 _OBJECT = re.compile(r'#(0|[1-9][0-9]*)')
 _RESOURCE = re.compile(r'r(0|[1-9][0-9]*)')
@@ -30,6 +33,7 @@ class Session:
         self.program = program
         self.metamodel = metamodel
         self.views = Views()
+        self.folders: List[Folder] = []
         self._objects: WeakValueDictionary[str, EObject] = WeakValueDictionary()
         self._resources: Dict[str, Resource] = {}
         self._is_handing = False
@@ -66,7 +70,8 @@ class Session:
             return self.program.not_understood(line, answer)
         number, name, cause, cause_name = found.groups()
         kind = IndexRefused if int(number) == INDEX else Refused
-        return kind(line, int(number), name, (int(cause), cause_name) if cause else None)
+        explained = self.program.explained() if int(number) == DOCUMENT else []
+        return kind(line, int(number), name, (int(cause), cause_name) if cause else None, explained)
 
     def _hand_out(self) -> None:
         """Hands the notices that wait to their callables. What a callable causes by a command of its own waits behind them."""
@@ -141,6 +146,10 @@ class Session:
         if verb != 'class' or name not in self.metamodel.classes:
             raise ValueError('no class')
         return self.metamodel.classes[name]
+
+    def resources(self) -> List[Resource]:
+        """The resources that were made, in order."""
+        return list(self._resources.values())
 
     def resource(self, line: str, uri: str) -> Resource:
         """The resource that a command makes."""

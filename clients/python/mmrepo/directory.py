@@ -1,0 +1,183 @@
+"""The files below a directory. No name leads out of it, and no symbolic link is followed."""
+
+from __future__ import annotations
+
+import errno
+import os
+import secrets
+import stat
+from contextlib import contextmanager
+from hashlib import blake2b
+from typing import Iterable, Iterator, List, NamedTuple, Optional, Sequence, Tuple, Union
+
+_FOLDER = os.O_RDONLY | os.O_DIRECTORY | os.O_NOFOLLOW | os.O_CLOEXEC
+_READ = os.O_RDONLY | os.O_NOFOLLOW | os.O_NONBLOCK | os.O_CLOEXEC  # a pipe without a writer is opened too, and then refused
+_MAKE = os.O_WRONLY | os.O_CREAT | os.O_EXCL | os.O_NOFOLLOW | os.O_CLOEXEC
+LINK = 'it is a symbolic link, which is not followed'
+
+
+def digest_of(content: bytes) -> bytes:
+    """What tells two contents apart."""
+    return blake2b(content, digest_size=16).digest()
+
+
+def checked_name(name: str) -> str:
+    """The name of a file below a directory, as `sub/town.json`; a ValueError if it may lead out of it."""
+    parts = name.split('/')
+    if any(part in ('', '.', '..') for part in parts) or '\0' in name:
+        raise ValueError(f'{name!r} does not name a file below the folder')
+    return name
+
+
+def reason(error: OSError) -> str:
+    """Why a file can't be read or written."""
+    return LINK if error.errno == errno.ELOOP else f"it can't be read: {error.strerror}"
+
+
+class State(NamedTuple):
+    """A file at one moment: what tells its content, and what a change of the file would change."""
+
+    digest: bytes
+    mode: int
+    mark: Tuple[int, ...]
+
+
+class Directory:
+    """A directory, and the files below it by their names, as `sub/town.json`."""
+
+    def __init__(self, path: Union[str, os.PathLike]) -> None:
+        """The directory of a path, which may be a symbolic link itself. An OSError comes if it is none."""
+        self.path = os.fspath(path)
+        self._real = os.path.realpath(self.path)
+        os.close(os.open(self._real, _FOLDER))
+
+    def full(self, name: str) -> str:
+        """The path of a file, for a reader and for other programs."""
+        return os.path.join(self.path, name)
+
+    def name_of(self, path: str) -> Optional[str]:
+        """The name of a file that is given by a path; None if it is not below the directory."""
+        name = os.path.relpath(os.path.realpath(path), self._real)
+        return None if name.split('/')[0] in ('.', '..') else name
+
+    def names(self, suffixes: Sequence[str]) -> Tuple[List[str], List[Tuple[str, str]]]:
+        """The files whose names have one of the suffixes, in order; and names that are refused, each with the reason."""
+        names: List[str] = []
+        refused: List[Tuple[str, str]] = []
+
+        def unreadable(error: OSError) -> None:
+            refused.append((os.path.relpath(error.filename or self._real, self._real), reason(error)))
+
+        for folder, folders, files, fd in os.fwalk(self._real, onerror=unreadable):
+            above = os.path.relpath(folder, self._real)
+            for leaf in folders + [file for file in files if file.endswith(tuple(suffixes))]:
+                name = leaf if above == '.' else f'{above}/{leaf}'
+                try:
+                    mode = os.stat(leaf, dir_fd=fd, follow_symlinks=False).st_mode
+                except OSError as error:
+                    refused.append((name, reason(error)))
+                    continue
+                if stat.S_ISLNK(mode):
+                    refused.append((name, LINK))
+                elif stat.S_ISREG(mode):
+                    names.append(name)
+                elif not stat.S_ISDIR(mode):
+                    refused.append((name, 'it is no regular file'))
+        return sorted(names), sorted(refused)
+
+    @contextmanager
+    def _folder(self, name: str, makes: bool = False) -> Iterator[Tuple[int, str]]:
+        """The open directory of a file, and the file's name there. Directories on the way are made if it `makes` them."""
+        *folders, leaf = checked_name(name).split('/')
+        fd = os.open(self._real, _FOLDER)
+        try:
+            for folder in folders:
+                if makes:
+                    try:
+                        os.mkdir(folder, dir_fd=fd)
+                        os.fsync(fd)
+                    except FileExistsError:
+                        pass
+                below = os.open(folder, _FOLDER, dir_fd=fd)
+                os.close(fd)
+                fd = below
+            yield fd, leaf
+        finally:
+            os.close(fd)
+
+    def read(self, name: str) -> bytes:
+        """The content of a file. An OSError comes for what is no regular file, and for a symbolic link."""
+        return self._read(name)[0]
+
+    def _read(self, name: str) -> Tuple[bytes, os.stat_result]:
+        with self._folder(name) as (fd, leaf), open(os.open(leaf, _READ, dir_fd=fd), 'rb') as file:
+            status = os.fstat(file.fileno())
+            if not stat.S_ISREG(status.st_mode):
+                raise OSError(errno.EINVAL, 'it is no regular file', name)
+            return file.read(), status
+
+    def state(self, name: str) -> Optional[State]:
+        """The state of a file; None if there is none. An OSError comes as it does for `read`."""
+        try:
+            content, status = self._read(name)
+        except FileNotFoundError:
+            return None
+        return State(digest_of(content), stat.S_IMODE(status.st_mode), _mark(status))
+
+    def is_as(self, name: str, state: Optional[State]) -> bool:
+        """Whether nobody has changed a file since it had a state."""
+        try:
+            with self._folder(name) as (fd, leaf):
+                mark = _mark(os.stat(leaf, dir_fd=fd, follow_symlinks=False))
+        except FileNotFoundError:
+            return state is None
+        return state is not None and mark == state.mark
+
+    def replacement(self, name: str, content: bytes, mode: Optional[int]) -> Replacement:
+        """New content for a file, on the disk, which `put` puts in the file's place."""
+        leaf = f'.mmrepo-{secrets.token_hex(8)}.tmp'
+        with self._folder(name, True) as (fd, _):
+            with open(os.open(leaf, _MAKE, 0o666, dir_fd=fd), 'wb') as file:
+                try:
+                    file.write(content)
+                    file.flush()
+                    if mode is not None:
+                        os.fchmod(file.fileno(), mode)
+                    os.fsync(file.fileno())
+                except BaseException:
+                    os.unlink(leaf, dir_fd=fd)
+                    raise
+        return Replacement(self, name, leaf)
+
+    def sync(self, names: Iterable[str]) -> None:
+        """Has the disk know which files there are in the folders of some files."""
+        for name in {name.rpartition('/')[0]: name for name in names}.values():
+            with self._folder(name) as (fd, _):
+                os.fsync(fd)
+
+
+class Replacement:
+    """New content of a file. It is in a file beside it until it is put in its place, by one step: a crash leaves the old content
+    or the new one, and perhaps the file beside it, whose name begins with `.mmrepo-`."""
+
+    def __init__(self, directory: Directory, name: str, temporary: str) -> None:
+        self._directory, self._name, self._temporary = directory, name, temporary
+        self._is_done = False
+
+    def put(self) -> None:
+        """Puts it in the place of the file."""
+        with self._directory._folder(self._name) as (fd, leaf):
+            os.rename(self._temporary, leaf, src_dir_fd=fd, dst_dir_fd=fd)
+            self._is_done = True
+
+    def drop(self) -> None:
+        """Takes it away, unless it was put in its place."""
+        if not self._is_done:
+            self._is_done = True
+            with self._directory._folder(self._name) as (fd, _):
+                os.unlink(self._temporary, dir_fd=fd)
+
+
+def _mark(status: os.stat_result) -> Tuple[int, ...]:
+    """What a change of a file changes."""
+    return status.st_dev, status.st_ino, status.st_size, status.st_mtime_ns, status.st_ctime_ns
