@@ -1,8 +1,14 @@
 """The examples of docs/FOLDERS.md do what the page says."""
 
+import argparse
+import os
 import re
+import subprocess
+import sys
 
-from support import LIBRARY, TOP, ClientTest
+from support import CLIENT, LIBRARY, PROGRAM, TOP, ClientTest
+
+from mmrepo import check
 
 PAGE = (TOP / 'docs/FOLDERS.md').read_text()
 
@@ -26,3 +32,19 @@ class Opening(ClientTest):
 
     def test_example(self):
         self.assertEqual(self.run_code(blocks('python')[0], self.room.name), blocks('text')[0])
+
+    def test_check(self):
+        command, printed = re.search(r'^```\npython3 (-m mmrepo check.*)\n```\n\nprints\n\n```\n(.*?)^```$', PAGE, re.M | re.S).groups()
+        environment = {**os.environ, 'PYTHONPATH': str(CLIENT), 'MMREPO': str(PROGRAM), 'PYTHONDONTWRITEBYTECODE': '1'}
+        done = subprocess.run([sys.executable, *command.split()], cwd=self.room.name, env=environment, stdout=subprocess.PIPE)
+        self.assertEqual((done.returncode, done.stdout.decode()), (1, printed))
+
+    def test_options(self):
+        """Each option of the command is on the page, and each kind of a finding in the package."""
+        parser = argparse.ArgumentParser()
+        check.add_arguments(parser)
+        for option in set(parser._option_string_actions) - {'-h', '--help'}:
+            self.assertIn(f'`{option}', PAGE)
+        for file in (CLIENT / 'mmrepo').glob('*.py'):
+            for kind in re.findall(r"(?:Finding\(\w+(?:\.\w+)*, |_InTheWay\()'([A-Z_]+)'", file.read_text()):
+                self.assertIn(f'`{kind}`', PAGE)

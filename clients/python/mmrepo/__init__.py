@@ -11,6 +11,7 @@ from .errors import (
     IndexRefused,
     MetamodelRefused,
     MmrepoError,
+    NotLoaded,
     NotOpened,
     NotSaved,
     NotStarted,
@@ -35,6 +36,6 @@ from .xmi import ToolFailed
 __all__ = [
     'BadLine', 'CallableFailed', 'EAttribute', 'EClass', 'EClassifier', 'EDataType', 'EEnum', 'EObject', 'EReference',
     'EStructuralFeature', 'FeatureList', 'Finding', 'Folder', 'IndexRefused', 'Kind', 'Literal', 'Metamodel', 'MetamodelRefused',
-    'MmrepoError', 'NotOpened', 'NotSaved', 'NotStarted', 'Notice', 'ProgramEnded', 'ProgramError', 'Proxy', 'Refused', 'ReplyCut',
+    'MmrepoError', 'NotLoaded', 'NotOpened', 'NotSaved', 'NotStarted', 'Notice', 'ProgramEnded', 'ProgramError', 'Proxy', 'Refused', 'ReplyCut',
     'ReplyNotUnderstood', 'Repository', 'RepositoryClosed', 'Resolved', 'Resource', 'ToolFailed', 'Value', 'View',
 ]

@@ -116,6 +116,15 @@ class Directory:
                 raise OSError(errno.EINVAL, 'it is no regular file', name)
             return file.read(), status
 
+    def has(self, name: str) -> bool:
+        """Whether there is something under the name of a file, a link or a folder included."""
+        try:
+            with self._folder(name) as (fd, leaf):
+                os.stat(leaf, dir_fd=fd, follow_symlinks=False)
+                return True
+        except (OSError, ValueError):
+            return False
+
     def state(self, name: str) -> Optional[State]:
         """The state of a file; None if there is none. An OSError comes as it does for `read`."""
         try:

@@ -138,6 +138,17 @@ class NotOpened(MmrepoError):
         return f'{self.folder.path}: {_counted(self.folder.findings)}'
 
 
+class NotLoaded(MmrepoError):
+    """Files of a shard could not be loaded. `findings` say why, file by file."""
+
+    def __init__(self, findings: Sequence[Finding]) -> None:
+        super().__init__(findings)
+        self.findings = list(findings)
+
+    def __str__(self) -> str:
+        return f'the shard is not loaded: {_counted(self.findings)}'
+
+
 class NotSaved(MmrepoError):
     """Nothing was written, since something is in the way. `findings` say what, file by file."""
 

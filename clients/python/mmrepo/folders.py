@@ -109,7 +109,7 @@ class Folder:
         shapes = Shapes(session.metamodel)
         links = [link for met in shapes.walk(parsed(document)) for link in links_of(met)]
         found = proxies_of(session, first_number(loaded.resource), links)
-        return list(Judge(session, self.base, loaded.name, uri, self._loader.unread).findings(found))
+        return [it for _, it in Judge(session, self.base, loaded.name, uri, self._loader.unread).findings(found)]
 
     # Saving
 

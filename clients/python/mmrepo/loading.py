@@ -3,7 +3,8 @@
 from __future__ import annotations
 
 import json
-from typing import TYPE_CHECKING, Dict, List, NamedTuple, Optional, Sequence, Set, Tuple
+from pathlib import Path
+from typing import TYPE_CHECKING, Dict, List, NamedTuple, Optional, Sequence, Tuple
 
 from .directory import Directory, digest_of, reason
 from .errors import Refused
@@ -34,14 +35,14 @@ class Loaded(NamedTuple):
 
 
 class Loader:
-    """Loads files of a folder. A file that can't be loaded is in `findings`, and its name in `unread`."""
+    """Loads files of a folder. `findings` says why one can't be loaded, and `unread` has its name, with the kind of the finding."""
 
     def __init__(self, repo: Repository, directory: Directory, base: str, xmi: Optional[Xmi], suffixes: Sequence[str]) -> None:
         """The XMI files are those with one of the suffixes, if there are the tools for them."""
         self.repo, self.directory, self.base = repo, directory, base
         self._xmi, self._suffixes = xmi, tuple(suffixes)
         self.findings: List[Finding] = []
-        self.unread: Set[str] = set()
+        self.unread: Dict[str, str] = {}
         self.names: Dict[str, Resource] = {}
 
     def is_xmi(self, name: str) -> bool:
@@ -57,7 +58,7 @@ class Loader:
         try:
             return self._load(name)
         except _NotLoaded as found:
-            self.unread.add(name)
+            self.unread[name] = found.findings[0].kind
             self.findings += found.findings
             return None
 
@@ -75,9 +76,11 @@ class Loader:
             says = f'from byte {error.start + 1} on the document is no JSON: it is not UTF-8'
             raise _NotLoaded(Finding(name, 'SYNTAX', '', says)) from None
         resource = self._resource(name)
+        resource.path = Path(self.directory.full(name))
         try:
             count = resource.load(text)
         except Refused as refused:
+            resource.path = None
             raise _NotLoaded(*_reasons(name, refused)) from None
         self.findings += notes
         self.names[name] = resource

@@ -3,7 +3,7 @@
 from __future__ import annotations
 
 import re
-from typing import TYPE_CHECKING, Container, Dict, Iterable, List, NamedTuple, Sequence, Tuple
+from typing import TYPE_CHECKING, Container, Dict, Iterator, List, NamedTuple, Sequence, Tuple
 
 from .findings import Finding
 from .metamodel import EReference
@@ -56,14 +56,14 @@ class Judge:
         """`unread` are the names of the files that could not be loaded."""
         self._session, self._base, self._own, self._uri, self._unread = session, base, own, uri, unread
 
-    def findings(self, proxies: Sequence[Found]) -> Iterable[Finding]:
-        """Resolves each proxy, and gives a finding for each that is refused."""
+    def findings(self, proxies: Sequence[Found]) -> Iterator[Tuple[Found, Finding]]:
+        """Resolves each proxy, and gives each that is refused with a finding."""
         answers = self._session.program.exchange_all([it.command for it in proxies])
         for proxy, answer in zip(proxies, answers):
             refused = _REFUSED.fullmatch(answer[0])
             if refused is None or refused[1] == RESOLVED:
                 continue
-            yield Finding(self._own, *self._why(proxy, refused[1]))
+            yield proxy, Finding(self._own, *self._why(proxy, refused[1]))
 
     def _why(self, found: Found, refusal: str) -> Tuple[str, str, str]:
         """The kind of a finding, its place and its text."""

@@ -91,8 +91,11 @@ class Repository:
         """Writes the files of the resources of folders that have changed, and gives their paths.
 
         Each file has its old content or its new one at any moment. A NotSaved comes, and nothing is written, if a resource can't be
-        saved; and unless it is by `force`, if others have changed a file, or something of it was left out when it was read.
+        saved; and unless it is by `force`, if others have changed a file, or something of it was left out when it was read. A
+        ValueError comes in a shard, since files of other shards refer to its objects by their positions.
         """
+        if self._session.is_shard:
+            raise ValueError('the files of a shard are not written: open the folder for it (docs/SHARDS.md)')
         return save_all(self._session.folders, force)
 
     def at(self, address: str) -> Optional[EObject]:

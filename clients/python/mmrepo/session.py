@@ -34,6 +34,7 @@ class Session:
         self.metamodel = metamodel
         self.views = Views()
         self.folders: List[Folder] = []
+        self.is_shard = False  # whether it has a part of a model alone, so that no file of it is written
         self._objects: WeakValueDictionary[str, EObject] = WeakValueDictionary()
         self._resources: Dict[str, Resource] = {}
         self._is_handing = False

@@ -1,0 +1,26 @@
+"""The commands of the package: `python3 -m mmrepo check META PATH..` and `python3 -m mmrepo shell META [PATH]`."""
+
+from __future__ import annotations
+
+import argparse
+import sys
+
+from . import check
+
+COMMANDS = {
+    'check': (check, 'checks each document of folders'),
+}
+
+
+def main() -> int:
+    """Reads the arguments and runs the command."""
+    parser = argparse.ArgumentParser(prog='mmrepo', description='Commands on models in folders (docs/FOLDERS.md).')
+    commands = parser.add_subparsers(dest='command', required=True, metavar='COMMAND')
+    for name, (module, what) in COMMANDS.items():
+        module.add_arguments(commands.add_parser(name, help=what, description=module.__doc__))
+    words = parser.parse_args()
+    return COMMANDS[words.command][0].main(words)
+
+
+if __name__ == '__main__':
+    sys.exit(main())
