@@ -321,6 +321,28 @@ class Saving(FolderTest):
         self.assertEqual(self.contents(), before)
         self.assertEqual(self.folder.changed(), [self.sub, self.town])
 
+    def test_a_proxy_of_an_address_that_an_object_has(self):
+        """The document would have one text twice, and would not be read again."""
+        self.write('likes.json', '{"format":2,"roots":[{"class":"Person","features":{"likes":["town.json#//@books.1","town.json#//@books.2"]}}]}')
+        before = self.contents()
+        with self.opened() as repo:
+            folder = repo.open(self.top)
+            likes, town = folder.resources[1], folder.resources[-1]
+            self.assertEqual(len(folder.findings), 1)
+            town.contents[0].books.insert(0, repo.create('Book'))
+            for force in (False, True):
+                with self.assertRaises(NotSaved) as found:
+                    repo.save_all(force)
+                self.assertEqual([it.line for it in found.exception.findings], [
+                    'likes.json: roots[0].features.likes: "http://models.example/town.json#//@books.2" is in the list twice, '
+                    'as an object and as a proxy that was left; take one out'
+                ])
+            self.assertEqual(self.contents(), before)
+            likes.contents[0].likes.pop()
+            self.assertEqual(len(repo.save_all()), 3)
+        with self.opened() as repo:
+            self.assertEqual(repo.open(self.top).findings, [])
+
     def test_faulty_file_stays(self):
         self.write('bad.json', 'no JSON')
         with self.opened() as repo:

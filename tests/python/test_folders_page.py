@@ -8,7 +8,7 @@ import sys
 
 from support import CLIENT, LIBRARY, PROGRAM, TOP, ClientTest
 
-from mmrepo import check
+from mmrepo import check, shell
 
 PAGE = (TOP / 'docs/FOLDERS.md').read_text()
 
@@ -39,10 +39,21 @@ class Opening(ClientTest):
         done = subprocess.run([sys.executable, *command.split()], cwd=self.room.name, env=environment, stdout=subprocess.PIPE)
         self.assertEqual((done.returncode, done.stdout.decode()), (1, printed))
 
+    def test_shell(self):
+        """The lines are answered so, and nothing was changed."""
+        typed, answered = re.search(r'^```\n(tree\n.*?)^```$\n\nare answered by\n\n```\n(.*?)^```$', PAGE, re.M | re.S).groups()
+        environment = {**os.environ, 'PYTHONPATH': str(CLIENT), 'MMREPO': str(PROGRAM), 'PYTHONDONTWRITEBYTECODE': '1'}
+        done = subprocess.run(
+            [sys.executable, '-m', 'mmrepo', 'shell', 'library.json', 'models'], cwd=self.room.name, env=environment, input=typed.encode(),
+            stdout=subprocess.PIPE, stderr=subprocess.PIPE,
+        )
+        self.assertEqual((done.returncode, done.stdout.decode()), (0, answered))
+
     def test_options(self):
-        """Each option of the command is on the page, and each kind of a finding in the package."""
-        parser = argparse.ArgumentParser()
+        """Each option of the commands is on the page, and so is each kind of a finding in the package."""
+        parser = argparse.ArgumentParser(conflict_handler='resolve')
         check.add_arguments(parser)
+        shell.add_arguments(parser)
         for option in set(parser._option_string_actions) - {'-h', '--help'}:
             self.assertIn(f'`{option}', PAGE)
         for file in (CLIENT / 'mmrepo').glob('*.py'):

@@ -5,10 +5,11 @@ from __future__ import annotations
 import argparse
 import sys
 
-from . import check
+from . import check, shell
 
 COMMANDS = {
     'check': (check, 'checks each document of folders'),
+    'shell': (shell, 'a prompt for the lines of a script'),
 }
 
 

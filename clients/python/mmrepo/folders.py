@@ -14,7 +14,8 @@ from .loading import DOCUMENTS, Loaded, Loader, first_number, parsed
 from .proxies import Judge, proxies_of
 from .resources import Resource
 from .uris import checked_base, shortened, uri_of
-from .walking import Shapes, links_of
+from .values import text_word
+from .walking import Shapes, links_of, place_text
 from .xmi import ToolFailed, Xmi
 
 if TYPE_CHECKING:
@@ -155,7 +156,7 @@ class Folder:
 
     def _content(self, kept: Kept, document: str) -> bytes:
         """The content of a file for a document, in which references to other files of the folder are relative."""
-        if f'"{self.base}' in document:
+        if '#' in document:
             document = self._with_relative(kept.resource.uri, document)
         if not self._loader.is_xmi(kept.name):
             return document.encode('utf-8') + b'\n'
@@ -169,17 +170,25 @@ class Folder:
         """A document with relative references, written as the program writes it."""
         read = parsed(document)
         for met in Shapes(self._repo.metamodel).walk(read):
-            for link in links_of(met):
-                written = met.features[link.feature.name]
-                if link.feature.many:
-                    written[link.index] = shortened(self.base, uri, written[link.index])
-                else:
-                    met.features[link.feature.name] = shortened(self.base, uri, written)
+            for feature in met.shape.links:
+                value = met.features.get(feature.name)
+                if value and feature.many:
+                    _check_differ(value, place_text((met.place, feature.name, None)))
+                    value[:] = [shortened(self.base, uri, text) if '#' in text else text for text in value]
+                elif value and '#' in value:
+                    met.features[feature.name] = shortened(self.base, uri, value)
         return json.dumps(read, ensure_ascii=False, sort_keys=True, separators=(',', ':'))
 
 
 class _InTheWay(Exception):
     """Why a file is not written: the kind, place and text of a finding."""
+
+
+def _check_differ(texts: Sequence[str], place: str) -> None:
+    """Refuses a list that has an object and a proxy of its address too: a document with one text twice is not read again."""
+    if len(set(texts)) < len(texts):
+        text = next(it for it in texts if texts.count(it) > 1)
+        raise _InTheWay('DUPLICATE', place, f'{text_word(text)} is in the list twice, as an object and as a proxy that was left; take one out')
 
 
 def save_all(folders: Sequence[Folder], force: bool) -> List[Path]:
