@@ -9,7 +9,7 @@ import zipfile
 from pathlib import Path
 from unittest import mock
 
-from support import LIBRARY, PROGRAM, TOP, ClientTest
+from support import CLIENT, LIBRARY, PROGRAM, TOP, ClientTest
 
 from mmrepo import NotSaved, Repository
 
@@ -99,6 +99,30 @@ class Emf(ClientTest):
         after = read_by_emf([], files)
         self.assertEqual(after, {name: (*counts[:3], f'{counts[3]}_2') for name, counts in before.items()})
         self.assertEqual({counts[1:3] for counts in after.values()}, {(0, 0)})
+
+    def check(self, meta, *words):
+        """The status of `check` on the folder, and its lines."""
+        command = [sys.executable, '-m', 'mmrepo', 'check', str(meta), 'models', '--jobs', '2', *map(str, words)]
+        environment = {**os.environ, 'PYTHONPATH': str(CLIENT), 'MMREPO': str(PROGRAM)}
+        done = subprocess.run(command, cwd=self.room.name, env=environment, stdout=subprocess.PIPE)
+        return done.returncode, done.stdout.decode().splitlines()
+
+    def test_ecore_files_checked(self):
+        """Nothing is wrong with EMF's own files but that they lead outside; then with one of them."""
+        files = self.taken(JARS[1], '.ecore', self.top)
+        ecore = self.ecore()
+        words = ['--ecore', ecore, '--suffix', '.ecore', '--accept', 'http://www.eclipse.org/emf/']
+        status, lines = self.check(self.meta([ecore]), *words)
+        self.assertEqual((status, len(lines)), (0, 1))
+        count = int(lines[0].split(' ')[-2].replace(',', ''))
+        self.assertEqual(lines, [f'no findings in {len(files)} files with {count:,} objects'])
+        self.assertGreater(count, 500)
+        wrong = self.top / 'EcoreAnnotation.ecore'
+        wrong.write_text(wrong.read_text().replace('http://www.eclipse.org/emf/2002/Ecore#//EBoolean', 'Ecore.ecore#//@eClassifiers.999'))
+        status, lines = self.check(self.meta([ecore]), *words)
+        self.assertEqual(status, 1)
+        self.assertIn('"Ecore.ecore#//@eClassifiers.999" leads to no object of Ecore.ecore', lines[0])
+        self.assertEqual(len(lines), 2)
 
     def test_across_files(self):
         """Names become positions, which follow an edit of the other file."""
