@@ -244,6 +244,11 @@ class Printing(CheckTest):
     def test_metamodel_is_no_document(self):
         self.write('library.json', LIBRARY.read_bytes())
         self.assertEqual(self.check('models', meta='models/library.json')[1][-1], '1 finding in 1 of 2 files with 1 object')
+        self.write('good.json', '{"format":2,"roots":[{"class":"Person","features":{"favourite":"library.json#/"}}]}')
+        self.assertEqual(self.check('models', meta='models/library.json')[1][1:], [
+            'models/good.json: roots[0].features.favourite: "library.json#/" leads to library.json, which is not loaded',
+            '2 findings in 2 of 2 files with 1 object',
+        ])
 
     def test_progress(self):
         """On a terminal there is a bar, and it is gone at the end."""

@@ -162,9 +162,13 @@ class Opening(FolderTest):
         roots = ','.join(['{"class":"Book","features":{}}'] * 400_001)
         for name in 'xyz':
             self.write(f'{name}.json', f'{{"format":2,"roots":[{roots}]}}')
-        self.assertEqual(self.lines(self.repo.open(self.top)), [
-            'z.json: there is no room for its objects: a repository makes at most 1,000,000'
+        self.write('a.json', '{"format":2,"roots":[{"class":"Person","features":{"favourite":"z.json#/7"}}]}')
+        folder = self.repo.open(self.top)
+        self.assertEqual(self.lines(folder), [
+            'a.json: roots[0].features.favourite: "z.json#/7" leads to z.json, for which there is no room beside this file',
+            'z.json: there is no room for its objects: a repository makes at most 1,000,000',
         ])
+        self.assertEqual([it.kind for it in folder.findings], ['LIMIT', 'LIMIT'])
 
     def test_metamodel_is_no_document(self):
         meta = self.write('meta.json', LIBRARY.read_bytes())

@@ -39,6 +39,7 @@ class Files(NamedTuple):
     tops: Tuple[str, ...]
     names: List[str]
     refused: List[Tuple[str, str]]
+    metamodel: Optional[str]
 
 
 def add_arguments(parser: argparse.ArgumentParser) -> None:
@@ -128,7 +129,7 @@ def _files(models: Models, words: argparse.Namespace) -> Files:
             names += [os.path.normpath(os.path.join(real, it)) for it in below]
             refused += [(os.path.normpath(os.path.join(real, it)), why) for it, why in wrong]
     own = root.name_of(words.metamodel)
-    return Files(models.path, shown, tuple(tops), sorted(set(names) - {own}), sorted(set(refused)))
+    return Files(models.path, shown, tuple(tops), sorted(set(names) - {own}), sorted(set(refused)), own)
 
 
 @contextmanager
@@ -165,7 +166,7 @@ def _check(models: Models, files: Files, words: argparse.Namespace, executor: Op
     refused = [Finding(name, 'FILE', '', why) for name, why in files.refused]
     counts.files = len(refused)
     _print(refused, files, counts, report, progress)
-    scope = Scope(files.tops, tuple(words.accept))
+    scope = Scope(files.tops, tuple(words.accept), files.metamodel)
     work = partial(check_group, models, scope)
     for done in in_order(work, groups(models, files.names, OBJECTS), executor):
         counts.files += done.files

@@ -6,7 +6,7 @@ from typing import Callable, Iterator, List, NamedTuple, Optional, Sequence, Set
 
 from .findings import Finding
 from .loading import Loaded, first_number, parsed
-from .proxies import UNREAD, Found, Judge
+from .proxies import LIMIT, UNREAD, Found, Judge
 from .shards import Group, Models, Part
 from .uris import name_of
 from .walking import Met, place_text, shortage
@@ -15,14 +15,16 @@ Placed = Tuple[int, Finding]  # with the number of the object in the document
 
 
 class Scope(NamedTuple):
-    """What is checked: the files below some names, an empty one for all; and the beginnings of URIs that may lead outside."""
+    """What is checked: the files below some names, an empty one for all, but for the metamodel; and the beginnings of URIs that may
+    lead outside."""
 
     tops: Tuple[str, ...]
     accepted: Tuple[str, ...]
+    metamodel: Optional[str] = None
 
-    def has(self, name: str) -> bool:
+    def has(self, name: Optional[str]) -> bool:
         """Whether a file is one of those that are checked."""
-        return any(top in ('', name) or name.startswith(f'{top}/') for top in self.tops)
+        return name is not None and name != self.metamodel and any(top in ('', name) or name.startswith(f'{top}/') for top in self.tops)
 
 
 class Report(NamedTuple):
@@ -96,7 +98,7 @@ def _load_some(part: Part, later: List[str]) -> Set[str]:
     tried: Set[str] = set()
     while later:
         part.loader.load(later[0])
-        if tried and part.loader.unread.get(later[0]) == 'LIMIT':
+        if tried and part.loader.unread.get(later[0]) == LIMIT:
             break
         tried.add(later.pop(0))
     return tried
@@ -108,7 +110,7 @@ def _judged(part: Part, scope: Scope, files: Sequence[Checked], is_now: Callable
         proxies = [it for it in file.proxies if is_now(name_of(part.base, it.proxy.uri))]
         judge = Judge(part.repo._session, part.base, file.loaded.name, file.loaded.resource.uri, part.loader.unread)
         for proxy, finding in judge.findings(proxies):
-            if finding.kind == UNREAD and scope.has(name_of(part.base, proxy.proxy.uri) or ''):
+            if finding.kind == UNREAD and scope.has(name_of(part.base, proxy.proxy.uri)):
                 continue  # the file has a finding itself
             if finding.kind == 'OUTSIDE' and proxy.proxy.uri.startswith(scope.accepted):
                 continue

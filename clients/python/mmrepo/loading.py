@@ -3,13 +3,15 @@
 from __future__ import annotations
 
 import json
+import os
 from pathlib import Path
-from typing import TYPE_CHECKING, Dict, List, NamedTuple, Optional, Sequence, Tuple
+from typing import TYPE_CHECKING, Any, Dict, List, NamedTuple, Optional, Sequence, Tuple, Union
 
 from .directory import Directory, digest_of, reason
 from .errors import Refused
 from .findings import Finding, explained
 from .process import LONGEST_LINE
+from .proxies import LIMIT
 from .resources import Resource
 from .uris import uri_of
 from .xmi import ToolFailed, Xmi
@@ -19,7 +21,7 @@ if TYPE_CHECKING:
 
 DOCUMENTS, XMI_FILES = ('.json',), ('.xmi',)  # the suffixes of files
 COMMAND = len('load r99999 ')  # bytes of a line before a document
-EXISTS, LIMIT, DOCUMENT = 16, 14, 18  # the numbers of three refusals
+EXISTS, LIMIT_NUMBER, DOCUMENT = 16, 14, 18  # the numbers of three refusals
 TOO_LONG = f'it has %s bytes; a document that is loaded has at most {LONGEST_LINE - COMMAND} (docs/FOLDERS.md)'
 
 
@@ -118,9 +120,14 @@ def _reasons(name: str, refused: Refused) -> List[Finding]:
     if refused.number == DOCUMENT and refused.cause is not None:
         cause = refused.cause[1]
         return [explained(name, cause, line) for line in refused.explained or (f'it is refused: {cause}',)]
-    if refused.number == LIMIT:
-        return [Finding(name, 'LIMIT', '', 'there is no room for its objects: a repository makes at most 1,000,000')]
+    if refused.number == LIMIT_NUMBER:
+        return [Finding(name, LIMIT, '', 'there is no room for its objects: a repository makes at most 1,000,000')]
     return [Finding(name, refused.name, '', f'it is refused: {refused.name}')]
+
+
+def several(given: Union[str, os.PathLike, Sequence[Any]]) -> Tuple[str, ...]:
+    """Paths or texts, of which one may be given alone."""
+    return tuple(os.fspath(it) for it in ([given] if isinstance(given, (str, os.PathLike)) else given))
 
 
 def parsed(document: str) -> Dict[str, List[dict]]:

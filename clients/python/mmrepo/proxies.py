@@ -3,7 +3,7 @@
 from __future__ import annotations
 
 import re
-from typing import TYPE_CHECKING, Container, Dict, Iterator, List, NamedTuple, Sequence, Tuple
+from typing import TYPE_CHECKING, Dict, Iterator, List, Mapping, NamedTuple, Sequence, Tuple
 
 from .findings import Finding
 from .metamodel import EReference
@@ -15,6 +15,7 @@ if TYPE_CHECKING:
     from .session import Session
 
 _REFUSED = re.compile(r'refused [0-9]+ ([A-Z_]+)')
+LIMIT = 'LIMIT'  # the kind of a finding on a file for which a repository has no room
 UNREAD = 'UNREAD'  # the kind of a finding on a proxy that leads to a file which has findings itself
 RESOLVED = 'NOT_PROXY'  # the refusal of `resolve` if the proxy was resolved before
 
@@ -52,8 +53,8 @@ def proxies_of(session: Session, first: int, links: Sequence[Link]) -> List[Foun
 class Judge:
     """Says of proxies of the file `own`, of a URI, why they can't be resolved."""
 
-    def __init__(self, session: Session, base: str, own: str, uri: str, unread: Container[str]) -> None:
-        """`unread` are the names of the files that could not be loaded."""
+    def __init__(self, session: Session, base: str, own: str, uri: str, unread: Mapping[str, str]) -> None:
+        """`unread` has the names of the files that could not be loaded, each with the kind of its finding."""
         self._session, self._base, self._own, self._uri, self._unread = session, base, own, uri, unread
 
     def findings(self, proxies: Sequence[Found]) -> Iterator[Tuple[Found, Finding]]:
@@ -76,6 +77,8 @@ class Judge:
         shown = text_word(shortened(self._base, self._uri, address))
         name = name_of(self._base, found.proxy.uri)
         wanted = found.link.feature.eType.name
+        if name is not None and self._unread.get(name) == LIMIT:
+            return LIMIT, f'{shown} leads to {name}, for which there is no room beside this file'
         if name in self._unread:
             return UNREAD, f'{shown} leads to {name}, which is not loaded'
         if refusal == 'UNLOADED' and name is None:

@@ -9,7 +9,7 @@ from typing import List, NamedTuple, Optional, Sequence, Type, Union
 
 from .errors import NotOpened
 from .folders import Folder, save_all
-from .loading import XMI_FILES
+from .loading import XMI_FILES, several
 from .metamodel import EClass, Metamodel
 from .notices import Hearer, View, depth
 from .objects import EObject
@@ -81,7 +81,7 @@ class Repository:
         What could not be loaded or resolved is in the `findings` of the Folder. With `strict` a NotOpened comes for it. An OSError
         comes if there is no directory, and a ValueError for a base that is none. docs/FOLDERS.md has more.
         """
-        folder = Folder(self, path, base, [os.fspath(it) for it in ecore], suffixes, self._file)
+        folder = Folder(self, path, base, several(ecore), several(suffixes), self._file)
         self._session.folders.append(folder)
         if strict and folder.findings:
             raise NotOpened(folder)

@@ -14,7 +14,7 @@ from typing import Any, Callable, Deque, Iterable, Iterator, List, NamedTuple, O
 from .directory import Directory
 from .errors import NotLoaded
 from .findings import Finding
-from .loading import DOCUMENTS, XMI_FILES, Loaded, Loader, first_number, parsed
+from .loading import DOCUMENTS, XMI_FILES, Loaded, Loader, first_number, parsed, several
 from .proxies import Found, proxies_of
 from .repository import Repository
 from .resources import Resource
@@ -63,7 +63,7 @@ class Part:
 
     def __init__(self, models: Models, repo: Repository) -> None:
         directory = Directory(models.path)
-        beside = [it for it in directory.names(models.suffixes)[0]] if models.ecore else []
+        beside = directory.names(models.suffixes)[0] if models.ecore else []
         xmi = Xmi(directory, models.ecore, beside) if models.ecore else None
         self.repo, self.base, self.directory = repo, models.base, directory
         self.loader = Loader(repo, directory, models.base, xmi, models.suffixes)
@@ -187,6 +187,6 @@ def models_of(
     with open(metamodel, 'rb') as file:
         document = file.read()
     Directory(path)
-    files = tuple(os.path.abspath(it) for it in ecore)
+    files = tuple(os.path.abspath(it) for it in several(ecore))
     given = None if program is None else os.path.abspath(program)
-    return Models(document, os.path.realpath(path), checked_base(base), files, tuple(suffixes), given)
+    return Models(document, os.path.realpath(path), checked_base(base), files, several(suffixes), given)
