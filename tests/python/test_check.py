@@ -318,10 +318,15 @@ class Statuses(CheckTest):
 
     def test_interrupted(self):
         self.write('pages.json', book(['']))
-        fake = self.fake('import time\nfor line in lines():\n    if line.startswith("load"): time.sleep(60)\n    say("r0\\n\\n" if line.strip() else "\\n")')
+        begun = Path(self.room.name, 'begun')
+        fake = self.fake(
+            f'import time\nfor line in lines():\n    if line.startswith("load"): open({str(begun)!r}, "w").close(); time.sleep(60)\n'
+            '    say("r0\\n\\n" if line.strip() else "\\n")'
+        )
         self.environment['MMREPO'] = str(fake)
         with subprocess.Popen(self.command('models', '--jobs', '1'), cwd=self.room.name, env=self.environment, stderr=subprocess.PIPE) as run:
-            time.sleep(1.5)
+            while not begun.exists():
+                time.sleep(0.05)
             run.send_signal(signal.SIGINT)
             self.assertEqual(run.stderr.read(), b'')
         self.assertEqual(run.returncode, 130)

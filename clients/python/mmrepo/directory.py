@@ -64,25 +64,11 @@ class Directory:
         """The files whose names have one of the suffixes, in order; and names that are refused, each with the reason."""
         names: List[str] = []
         refused: List[Tuple[str, str]] = []
-
-        def unreadable(error: OSError) -> None:
-            refused.append((os.path.relpath(error.filename or self._real, self._real), reason(error)))
-
-        for folder, folders, files, fd in os.fwalk(self._real, onerror=unreadable):
-            above = os.path.relpath(folder, self._real)
-            for leaf in folders + [file for file in files if file.endswith(tuple(suffixes))]:
-                name = leaf if above == '.' else f'{above}/{leaf}'
-                try:
-                    mode = os.stat(leaf, dir_fd=fd, follow_symlinks=False).st_mode
-                except OSError as error:
-                    refused.append((name, reason(error)))
-                    continue
-                if stat.S_ISLNK(mode):
-                    refused.append((name, LINK))
-                elif stat.S_ISREG(mode):
-                    names.append(name)
-                elif not stat.S_ISDIR(mode):
-                    refused.append((name, 'it is no regular file'))
+        fd = os.open(self._real, _FOLDER)
+        try:
+            _look(fd, '', tuple(suffixes), names, refused)
+        finally:
+            os.close(fd)
         return sorted(names), sorted(refused)
 
     @contextmanager
@@ -185,6 +171,39 @@ class Replacement:
             self._is_done = True
             with self._directory._folder(self._name) as (fd, _):
                 os.unlink(self._temporary, dir_fd=fd)
+
+
+def _look(fd: int, above: str, suffixes: Tuple[str, ...], names: List[str], refused: List[Tuple[str, str]]) -> None:
+    """Adds the files of an open directory and of those below it, and what is refused there."""
+    with os.scandir(fd) as entries:
+        found = list(entries)
+    for entry in found:
+        name, is_wanted = above + entry.name, entry.name.endswith(suffixes)
+        if entry.is_symlink():
+            if is_wanted or _leads_to_folder(entry):
+                refused.append((name, LINK))
+        elif entry.is_dir(follow_symlinks=False):
+            try:
+                below = os.open(entry.name, _FOLDER, dir_fd=fd)
+            except OSError as error:
+                refused.append((name, reason(error)))
+                continue
+            try:
+                _look(below, f'{name}/', suffixes, names, refused)
+            finally:
+                os.close(below)
+        elif is_wanted and entry.is_file(follow_symlinks=False):
+            names.append(name)
+        elif is_wanted:
+            refused.append((name, 'it is no regular file'))
+
+
+def _leads_to_folder(entry: os.DirEntry) -> bool:
+    """Whether a link leads to a directory; False if it leads nowhere, or round and round."""
+    try:
+        return entry.is_dir()
+    except OSError:
+        return False
 
 
 def _mark(status: os.stat_result) -> Tuple[int, ...]:
