@@ -4,8 +4,10 @@ import os
 import shutil
 import subprocess
 import sys
+import tempfile
 import unittest
 import zipfile
+from functools import lru_cache
 from pathlib import Path
 from unittest import mock
 
@@ -38,9 +40,17 @@ SECOND = """<?xml version="1.0" encoding="UTF-8"?>
 """
 
 
+@lru_cache()
+def reader():
+    """The folder of the reader's class, compiled once."""
+    room = tempfile.TemporaryDirectory()
+    subprocess.run(['javac', '-cp', ':'.join(map(str, JARS)), '-d', room.name, str(READER)], check=True)
+    return room
+
+
 def read_by_emf(ecore, models):
     """What EMF says of models: for each its file, and counts of objects, errors and proxies, and the first value."""
-    command = ['java', '-cp', ':'.join(map(str, JARS)), str(READER), *map(str, ecore), '--', *map(str, models)]
+    command = ['java', '-cp', ':'.join(map(str, [reader().name, *JARS])), 'ReadModels', *map(str, ecore), '--', *map(str, models)]
     done = subprocess.run(command, stdout=subprocess.PIPE, stderr=subprocess.PIPE)
     assert done.returncode == 0, done.stderr.decode()
     rows = (line.split(' ', 4) for line in done.stdout.decode().splitlines())

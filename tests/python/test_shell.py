@@ -83,8 +83,8 @@ class Lines(ShellTest):
 
     def test_what_is_wrong(self):
         """The words of `--explain`, without numbers of lines."""
-        self.assertEqual(self.shell('nwe Book\nset #0 pages 01\ntree x y\nshow\nsaveall\nnew Nothing\n'), (
-            0, 'bad line\nbad line\nrefused 3 NO_CLASS\n',
+        self.assertEqual(self.shell('nwe Book\nset #0 pages 01\ntree x y\nshow\nsaveall\n'), (
+            0, 'bad line\nbad line\n',
             'unknown verb "nwe"; is "new" meant?\n'
             '"01" is not a value: null, true, false, a whole number, a text in quotation marks, :LITERAL, or an object, as #0\n'
             'tree is written as: tree [NODE [LINES]]\nshow is written as: show OBJ, of an object that is there, as show #0\n'
