@@ -83,9 +83,9 @@ class Written(ToolTest):
             [
                 '  <part-list xsi:type="kinds:B"/>',
                 '  <one xsi:type="kinds:A" href="b#/"/>',
-                '  <many href="#//@part-list.0"/>',
+                '  <many xsi:type="kinds:B" href="#//@part-list.0"/>',
                 '  <many xsi:type="kinds:A" href="c#/0/@x"/>',
-                '  <many href="#/"/>',
+                '  <many xsi:type="kinds:A" href="#/"/>',
                 '</kinds:A>',
             ],
         )

@@ -80,8 +80,8 @@ def reference_type(bending: 'Bent', feature: EFeature) -> Type:
 
 
 def bend_bounds(bending: 'Bent', made: MFeature, source: EFeature) -> None:
-    """The bounds: -1 for an upper bound that is unspecified or no number, 1 for another that none can have."""
-    upper = -1 if source.upper is None or source.upper == -2 else source.upper
+    """The bounds: -1 for an upper bound that is no number, or unspecified in a feature map; 1 for another that none can have."""
+    upper = -1 if source.upper is None or source.upper == -2 and source.is_grouped else source.upper
     upper = 1 if upper < -1 or upper == 0 else upper
     lower = max(0, source.lower or 0)
     made.upper, made.lower = upper, lower if upper == -1 else min(lower, upper)

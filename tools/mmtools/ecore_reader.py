@@ -163,17 +163,22 @@ class Reader:
             type_link=erased(generic) if generic is not None else link_of(element, 'eType'),
             is_generic=generic is not None, default=value_of(element, 'defaultValueLiteral'),
             opposite_link=link_of(element, 'eOpposite'), has_keys=bool(links_of(element, 'eKeys')),
-            is_grouped=is_grouped(element),
+            is_grouped=bool(detail(element, 'group')) or is_in_mixed(element, owner.element, flags),
         )
         self.keep(element, made)
         self.annotations(element, made.qualified)
         return made
 
 
-def is_grouped(feature: Element) -> bool:
-    """Whether the values of a feature stand in a feature map, as its extended metadata says."""
-    return any(
-        detail.plain('key') == 'group'
-        for annotation in children(feature, 'eAnnotations') if annotation.plain('source') == EXTENDED
-        for detail in children(annotation, 'details')
+def detail(element: Element, key: str) -> str:
+    """What the extended metadata of an element says under a key; empty if it says nothing."""
+    found = (
+        it.plain('value') for annotation in children(element, 'eAnnotations') if annotation.plain('source') == EXTENDED
+        for it in children(annotation, 'details') if it.plain('key') == key
     )
+    return next(found, None) or ''
+
+
+def is_in_mixed(feature: Element, owner: Element, flags: Dict[str, bool]) -> bool:
+    """Whether the values of a feature are in the feature map that a class of mixed content has for all of its elements."""
+    return flags['derived'] and detail(owner, 'kind') == 'mixed' and detail(feature, 'kind') == 'element'

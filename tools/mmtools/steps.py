@@ -14,12 +14,22 @@ FRAGMENT = re.compile(r'/(0|[1-9][0-9]{0,6})?(/@[A-Za-z_][A-Za-z0-9_]*(\.(0|[1-9
 
 @dataclass(frozen=True)
 class Step:
-    """A step from an object to one that it contains: by feature, or by the value of an attribute; with its position among them."""
+    """A step from an object to one that it contains: by feature, or by the value of an attribute; with its position among them.
+
+    `keys` has the attributes of a step by keys, and the texts of their values, with None for null.
+    """
 
     feature: Optional[str]
     attribute: str
     value: str
     index: int
+    keys: Tuple[Tuple[str, List[Optional[str]]], ...] = ()
+
+
+VALUE = r"(?:null|'[^']*'|\"[^\"]*\")"
+VALUES = rf'(?:{VALUE}|\[(?:{VALUE}(?:,{VALUE})*)?\])'
+KEY = re.compile(rf'([^=,\[\]]+)=({VALUES})')
+KEYED = re.compile(rf'@([^\[\]]+)\[([^=,\[\]]+={VALUES}(?:,[^=,\[\]]+={VALUES})*)\]')
 
 
 def is_fragment(text: str) -> bool:
@@ -37,8 +47,21 @@ def parse_steps(fragment: str) -> Optional[Tuple[int, List[Step]]]:
     return (int(root or '0'), found) if len(found) == len(steps) else None
 
 
+def keyed_step(word: str) -> Step:
+    """A step by keys, `@feature[key='value',keys=['a','b']]`. EMF writes the marks of a value by their numbers."""
+    found = KEYED.fullmatch(word)
+    assert found is not None
+    keys = []
+    for key, text in KEY.findall(found.group(2)):
+        values = re.findall(VALUE, text)
+        keys.append((unquote(key), [None if it == 'null' else unquote(it[1:-1]) for it in values]))
+    return Step(unquote(found.group(1)), '', '', 0, tuple(keys))
+
+
 def parse_step(word: str) -> Optional[Step]:
     """One step: `@feature.0`, and in Ecore `name.0` or, for an annotation, `%source%.0`."""
+    if word.endswith(']') and KEYED.fullmatch(word):
+        return keyed_step(word)
     text, dot, index = word.rpartition('.')
     if not dot or not INDEX.fullmatch(index):
         text, index = word, '0'

@@ -5,9 +5,9 @@ from __future__ import annotations
 import os
 from typing import Any, Dict, List, Optional, Set, Tuple, Union
 
-from .datatypes import is_short
+from .datatypes import default_of, is_short, text_of
 from .faults import fault
-from .metamodel import MFeature
+from .metamodel import MEnum, MFeature
 from .notes import Notes
 from .objects import Obj
 from .progress import Progress
@@ -27,6 +27,21 @@ def named(obj: Obj, step: Step) -> Optional[Obj]:
     parts = [it for feature in obj.of.all_features() if feature.source for it in obj.slots.get(feature.source.name, [])]
     same = [it for it in parts if it is not None and step.value in attribute(it, step.attribute)]
     return same[step.index] if step.index < len(same) else None
+
+
+def keyed(obj: Obj, step: Step) -> Optional[Obj]:
+    """What a step by keys leads to: the part whose attributes have the values that are written."""
+    parts = [it for it in obj.slots.get(step.feature or '', []) if it is not None]
+    return next((it for it in parts if all(key_values(it, name) == values for name, values in step.keys)), None)
+
+
+def key_values(obj: Obj, name: str) -> Optional[List[Optional[str]]]:
+    """The texts of the attribute that Ecore calls so, with its default if it was not set; None if there is none."""
+    found = next((it for it in obj.of.all_features() if it.source is not None and it.source.name == name), None)
+    if found is None or not isinstance(found.type, (str, MEnum)):
+        return None
+    values = obj.values.get(found, [] if found.is_many else [default_of(found.type, found.default)])
+    return [None if it is None else text_of(found.type, it) for it in values]
 
 
 def attribute(obj: Obj, name: str) -> List[object]:
@@ -155,7 +170,7 @@ class Completion:
 def at(reader: XmiReader, fragment: str) -> Found:
     """The object of a fragment: by an id, or by steps from a root; or that it is left out."""
     if not fragment.startswith('/'):
-        return reader.ids.get(fragment)
+        return reader.ids.get(fragment) or reader.keys.get(fragment)
     parsed = parse_steps(fragment)
     if parsed is None or parsed[0] >= len(reader.graph.roots):
         return None
@@ -164,6 +179,8 @@ def at(reader: XmiReader, fragment: str) -> Found:
         assert found is not None
         if step.feature is None:
             found = named(found, step)
+        elif step.keys:
+            found = keyed(found, step)
         else:
             slot = found.slots.get(step.feature, [])
             if reader.kinds.why_left(found.of, step.feature) and not reader.kinds.source_feature(found.of, step.feature):

@@ -6,7 +6,7 @@ from dataclasses import dataclass
 from typing import Dict, List, Optional
 
 from .bending import Bent
-from .datatypes import Value, value_of
+from .datatypes import Value, text_of, value_of
 from .faults import fault
 from .metamodel import MClass, MEnum, MFeature
 from .notes import Notes
@@ -35,6 +35,7 @@ class XmiReader:
         self.file, self.bent, self.kinds, self.notes = file, bent, kinds, notes
         self.graph = Graph()
         self.ids: Dict[str, Obj] = {}
+        self.keys: Dict[str, Obj] = {}
         self.xmi_ids = 0
         self.pending: List[Pending] = []
         self.progress = Progress('', 0)
@@ -88,7 +89,7 @@ class XmiReader:
         xmi_id = element.xmi('id')
         if xmi_id is not None:
             self.xmi_ids += 1
-            self.ids.setdefault(xmi_id, made)
+            self.ids[xmi_id] = made
         for (space, name), value in element.attributes.items():
             if not space:
                 self.attribute(made, element, name, value)
@@ -197,5 +198,5 @@ class XmiReader:
         if values and not feature.is_many:
             fault(self.file, line, f'{feature.qualified} has one value, and several are written')
         values.append(value)
-        if feature.source is not None and feature.source.flags['iD'] and isinstance(value, str):
-            self.ids.setdefault(value, owner)
+        if feature.source is not None and feature.source.flags['iD'] and isinstance(feature.type, (str, MEnum)) and value is not None:
+            self.keys.setdefault(text_of(feature.type, value), owner)

@@ -7,7 +7,7 @@ from typing import Dict, List, Optional, Tuple
 from xml.sax.saxutils import escape
 
 from .datatypes import text_of
-from .ecore_model import EPackage
+from .ecore_model import EFeature, EPackage
 from .faults import ToolError
 from .metamodel import MClass, MEnum, Metamodel, MFeature
 from .names import is_name
@@ -98,7 +98,7 @@ class XmiWriter:
         self.progress.step(1)
         for feature in self.kinds.features(obj.of):
             values = obj.values.get(feature, [])
-            if not values or feature.is_container or feature.source is None:
+            if not values or feature.is_container or feature.source is None or is_completed_by_emf(feature.source):
                 continue
             self.check_name(obj.of, feature, feature.source.name)
             if feature.containment:
@@ -158,13 +158,20 @@ class XmiWriter:
     def link(self, feature: MFeature, value: object) -> Tuple[str, str]:
         """The type and the href of a reference that is an element."""
         if isinstance(value, Obj):
-            return '', '#' + value.fragment
+            assert isinstance(feature.type, MClass)
+            head = f' xsi:type="{self.type_text(value.of)}"' if feature.type.is_abstract else ''
+            return head, '#' + value.fragment
         text = str(value)
         if FORBIDDEN.search(text):
             raise ToolError(f'{feature.qualified} has a character that XML cannot write')
         if self.folder and text.startswith(self.folder) and text[len(self.folder):len(self.folder) + 1] not in ('', '#', '/'):
             text = text[len(self.folder):]
         return self.proxy_type(feature), attribute_text(text)
+
+
+def is_completed_by_emf(source: EFeature) -> bool:
+    """Whether EMF saves nothing of a feature, since it is transient: it completes the feature from the opposite end as it loads."""
+    return source.flags['transient'] and not source.is_grouped
 
 
 def attribute_text(text: str) -> str:

@@ -1,0 +1,61 @@
+"""EMF as the judge: a program in Java (folder emf) that reads and writes XMI by EMF and says what it has. It is compiled at first use."""
+
+import shutil
+import subprocess
+import tempfile
+from pathlib import Path
+
+from support import HERE
+
+JARS = [Path('/usr/share/java', f'eclipse-emf-{name}.jar') for name in ('common', 'ecore', 'ecore-xmi')]
+MISSING = [str(it) for it in JARS if not it.exists()] + [name for name in ('javac', 'java') if shutil.which(name) is None]
+WHY = f'no {" and no ".join(MISSING)}: a JDK and the package libeclipse-emf-ecore-xmi-java are needed'
+SOURCES = HERE / 'emf'
+
+
+class Emf:
+    """One process of the judge, which all tests ask."""
+
+    one = None
+
+    def __init__(self):
+        self.room = tempfile.TemporaryDirectory()
+        path = ':'.join(map(str, JARS))
+        subprocess.run(['javac', '-cp', path, '-d', self.room.name, *map(str, SOURCES.glob('*.java'))], check=True)
+        self.process = subprocess.Popen(
+            ['java', '-Xshare:auto', '-XX:TieredStopAtLevel=1', '-cp', f'{path}:{self.room.name}', 'Judge'],
+            stdin=subprocess.PIPE, stdout=subprocess.PIPE,
+        )
+
+    def send(self, words):
+        """The lines of the answer to a command."""
+        self.process.stdin.write(('\t'.join(map(str, words)) + '\n').encode())
+        self.process.stdin.flush()
+        lines = []
+        for line in iter(self.process.stdout.readline, b'.\n'):
+            if not line:
+                raise AssertionError(f'the judge ended at {words}')
+            lines.append(line.decode().rstrip('\n'))
+        return lines
+
+
+def ask(*words):
+    """What EMF answers to a command."""
+    Emf.one = Emf.one or Emf()
+    return Emf.one.send(words)
+
+
+def close():
+    """Ends the judge."""
+    if Emf.one is not None:
+        Emf.one.process.stdin.close()
+        Emf.one.process.wait()
+        Emf.one.process.stdout.close()
+        Emf.one.room.cleanup()
+        Emf.one = None
+
+
+def read(ecore, *files):
+    """What EMF has of XMI files, without their names; the first lines are its errors."""
+    lines = ask('packages', *ecore)
+    return lines + ask('read', *files)
