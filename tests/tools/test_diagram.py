@@ -75,7 +75,7 @@ GRAPH = """digraph model {
   n1 [label="{«abstract»\\nA|x\\ :\\ E\\ [1..1]\\l}"];
   n2 [label="{B}"];
   n2 -> n1 [arrowhead=empty];
-  n2 -> n1 [dir=both, arrowtail=diamond, arrowhead=none, label="parts", headlabel="0..*"];
+  n2 -> n1 [dir=both, arrowtail=diamond, arrowhead=none, label="parts [0..*]"];
 }
 """
 SMALL = {'enums': [{'name': 'E', 'literals': ['A']}], 'classes': [
@@ -137,6 +137,23 @@ class Diagrams(ToolTest):
         document = {'format': 1, 'roots': [{'class': 'Book', 'features': {'name': 'x' * 50}}]}
         made = self.tool('diagram', LIBRARY, self.file('d.json', json.dumps(document)))
         self.assertIn('    name = #34;' + 'x' * 38 + '…\n', made)
+
+    def test_bounds_of_one_line_are_at_its_ends(self):
+        classes = [{'name': 'A'}, {'name': 'B', 'features': [{'name': 'parts', 'kind': 'reference', 'type': 'A', 'upper': -1}]}]
+        self.assertIn('  n1 -> n0 [label="parts", headlabel="0..*"];', self.draw({'classes': classes}, '--dot'))
+
+    def test_class_that_all_have(self):
+        classes = [{'name': 'EObject', 'abstract': True}, {'name': 'A', 'supers': ['EObject']}, {'name': 'B', 'supers': ['A']}]
+        self.assertEqual(self.draw({'classes': classes}).splitlines()[-1], '  A <|-- B')
+        classes.append({'name': 'C'})
+        self.assertIn('  EObject <|-- A', self.draw({'classes': classes}))
+
+    def test_around(self):
+        classes = [{'name': f'C{number}', 'supers': [f'C{number - 1}'] if number else []} for number in range(50)]
+        boxes = [line for line in self.draw({'classes': classes}, '--around', 'C7', '--steps', '2').splitlines() if ' class ' in line]
+        self.assertEqual(boxes, [f'  class C{number}' for number in range(5, 10)])
+        self.assertEqual(self.draw({'classes': classes}, '--around', 'C0'), 'classDiagram\n  class C0\n  class C1\n  C0 <|-- C1\n')
+        self.assert_fault('ROOM/m.json: no class Z', 'diagram', self.file('m.json', json.dumps({'classes': classes})), '--around', 'Z')
 
     def test_faults(self):
         for text, line in FAULTS:

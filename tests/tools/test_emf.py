@@ -52,7 +52,7 @@ class Written(EmfTest):
         self.assertIn('/0/kids.2/from = FILE#/0/kids.0 FILE#/0/kids.1', lines)
 
     def test_content_of_a_mixed_class(self):
-        made = self.check_same('po', 'po', ['text Memo in line 7: left out: text between elements'])
+        made = self.check_same('po', 'po', ['text Memo in line 7: left out: text between elements', '1 text left out'])
         self.assertIn('"order":[{"class":"Order"', made)
 
 

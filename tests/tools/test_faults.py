@@ -35,7 +35,9 @@ ECORE_FAULTS = [
     (f'<ecore:EPackage {ECORE} abstract="true"/>', 'ROOM/a.ecore:1: not Ecore: EPackage has no attribute abstract'),
     (f'<ecore:EPackage {ECORE}><eFoo/></ecore:EPackage>', 'ROOM/a.ecore:1: not Ecore: EPackage has no child eFoo'),
     ('<a>' * 101, 'ROOM/a.ecore:1: elements nest deeper than 100 levels'),
-    (b'<a b="\xff"/>', 'ROOM/a.ecore:1: not XML: not well-formed (invalid token)'),
+    (b'<a b="\xff"/>', 'ROOM/a.ecore:1: not XML: byte 0xff is none of the encoding UTF-8'),
+    (b'<?xml version="1.0" encoding="cp1252"?>\n<a>\x81</a>', 'ROOM/a.ecore:2: not XML: byte 0x81 is none of the encoding cp1252'),
+    ('<a>\x01</a>', 'ROOM/a.ecore:1: not XML: not well-formed (invalid token)'),
     ('<?xml version="1.0" encoding="none-such"?><a/>', 'ROOM/a.ecore:1: the encoding cannot be read: unknown encoding: none-such'),
     (b'\xef\xbb\xbf<a/>', 'ROOM/a.ecore:1: not Ecore: the root is a, and no EPackage of http://www.eclipse.org/emf/2002/Ecore'),
 ]
@@ -58,11 +60,13 @@ XMI_FAULTS = [
     ('>\n<part-list xsi:type="z:A"/></k:A>', 'ROOM/a.xmi:2: xsi:type z:A has a prefix that is not declared'),
     ('>\n<part-list xsi:type="k:Z"/></k:A>', 'ROOM/a.xmi:2: no class Z in a package http://m.example/kinds of the files given'),
     ('>\n<box xsi:type="k:A"/></k:A>', 'ROOM/a.xmi:2: class A is no B, which A.box holds'),
-    ('one="missing"/>', 'ROOM/a.xmi:1: A.one leads to nothing: missing'),
-    ('one="//@part-list.0"/>', 'ROOM/a.xmi:1: A.one leads to nothing: //@part-list.0'),
-    ('one="/1"/>', 'ROOM/a.xmi:1: A.one leads to nothing: /1'),
-    ('one="//A"/>', 'ROOM/a.xmi:1: A.one leads to nothing: //A'),
-    ('><one href="#/00"/></k:A>', 'ROOM/a.xmi:1: A.one leads to nothing: #/00'),
+    ('one="missing"/>', 'ROOM/a.xmi:1: A.one leads to nothing, no such id: missing'),
+    ('one="//@part-list.0"/>', 'ROOM/a.xmi:1: A.one leads to nothing, no such position: //@part-list.0'),
+    ('one="/1"/>', 'ROOM/a.xmi:1: A.one leads to nothing, no such position: /1'),
+    ('one="//@part-list[key=\'k\']"><part-list xsi:type="k:A" key="l"/></k:A>',
+     "ROOM/a.xmi:1: A.one leads to nothing, no such key: //@part-list[key='k']"),
+    ('><text>a<b/></text></k:A>', 'ROOM/a.xmi:1: b is an element inside of a value'),
+    (f'number="{"9" * 200}"/>', f'ROOM/a.xmi:1: A.number is no EInt: {"9" * 99}…'),
     ('left="//@box"><box/></k:A>', 'ROOM/a.xmi:1: class B is no A, which A.left holds'),
     ('><one/></k:A>', 'ROOM/a.xmi:1: one has no href'),
     ('left="/ #a #b"><part-list xsi:type="k:A" xmi:id="a"/><part-list xsi:type="k:A" xmi:id="b"/></k:A>',
@@ -82,7 +86,7 @@ DOCUMENT_FAULTS = [
     ('{"format":1,"roots":[1]}', 'ROOM/a.json: root 0: no object: it has the keys class and features'),
     ('{"format":1,"roots":[{"class":"Z","features":{}}]}', 'ROOM/a.json: root 0: no class that has objects: Z'),
     ('{"format":1,"roots":[{"class":"Base","features":{}}]}', 'ROOM/a.json: root 0: no class that has objects: Base'),
-    ('[' * 100000, 'the input nests too deep'),
+    ('[' * 100000, 'ROOM/a.json: nests too deep'),
 ]
 
 # What a root of class A has as features, and the line that doc2xmi tells of it.
@@ -96,13 +100,13 @@ FEATURE_FAULTS = [
     ({'numbers': 1}, 'ROOM/a.json: root 0: numbers is many-valued, and no array is written'),
     ({'box': {'class': 'A', 'features': {}}}, 'ROOM/a.json: root 0: box does not hold objects of class A'),
     ({'box': {'class': 'B', 'features': {'home': '/'}}}, 'ROOM/a.json: root 0 box 0: class B has no feature home to write'),
-    ({'one': 1}, 'ROOM/a.json: A.one has what is no text'),
-    ({'one': 'x'}, 'ROOM/a.json: A.one has what is no fragment: x'),
-    ({'one': '/1'}, 'ROOM/a.json: A.one leads to no Base: /1'),
-    ({'one': '//@box'}, 'ROOM/a.json: A.one leads to no Base: //@box'),
-    ({'text': '\u0001'}, 'A.text has a character that XML cannot write'),
-    ({'text': '\ud800'}, 'A.text has a character that XML cannot write'),
-    ({'one': 'b\ud800#/'}, 'A.one has a character that XML cannot write'),
+    ({'one': 1}, 'ROOM/a.json: root 0: A.one has what is no text'),
+    ({'one': 'x'}, 'ROOM/a.json: root 0: A.one has what is no fragment: x'),
+    ({'one': '/1'}, 'ROOM/a.json: root 0: A.one leads to no Base: /1'),
+    ({'one': '//@box'}, 'ROOM/a.json: root 0: A.one leads to no Base: //@box'),
+    ({'text': '\u0001'}, 'ROOM/a.json: root 0: A.text has a character that XML cannot write'),
+    ({'text': '\ud800'}, 'ROOM/a.json: root 0: A.text has a character that XML cannot write'),
+    ({'part_list': [{'class': 'A', 'features': {'one': 'b\ud800#/'}}]}, 'ROOM/a.json: root 0 part_list 0: A.one has a character that XML cannot write'),
 ]
 
 
@@ -161,9 +165,9 @@ class Faults(ToolTest):
 
     def test_names_that_xml_does_not_have(self):
         rows = [
-            ({'class': 'A_b', 'features': {}}, 'class A_b is called A b in Ecore, which is no name in XML'),
-            ({'class': 'Sub', 'features': {'_1st': 'x'}}, 'A_b._1st is called 1st in Ecore, which is no name in XML'),
-            ({'class': 'Sub', 'features': {'a_b_2': 1}}, 'A_b.a_b_2 is called a_b in Ecore, as another feature of Sub is'),
+            ({'class': 'A_b', 'features': {}}, 'ROOM/a.json: root 0: class A_b is called A b in Ecore, which is no name in XML'),
+            ({'class': 'Sub', 'features': {'_1st': 'x'}}, 'ROOM/a.json: root 0: A_b._1st is called 1st in Ecore, which is no name in XML'),
+            ({'class': 'Sub', 'features': {'a_b_2': 1}}, 'ROOM/a.json: root 0: A_b.a_b_2 is called a_b in Ecore, as another feature of Sub is'),
         ]
         table = [(json.dumps({'format': 1, 'roots': [root]}), line) for root, line in rows]
         self.check_table(table, 'a.json', 'doc2xmi', '--ecore', 'ecore/names.ecore')
@@ -171,5 +175,5 @@ class Faults(ToolTest):
     def test_package_without_uri(self):
         ecore = self.file('a.ecore', f'<ecore:EPackage {ECORE}><eClassifiers xsi:type="ecore:EClass" name="A"/></ecore:EPackage>')
         document = self.file('a.json', '{"format":1,"roots":[{"class":"A","features":{}}]}')
-        line = 'class A stands in a package without URI, so XMI has no name for it'
+        line = 'ROOM/a.json: root 0: class A is in a package without URI, so XMI has no name for it'
         self.assert_fault(line, 'doc2xmi', '--ecore', ecore, document)

@@ -133,7 +133,8 @@ class Read(ToolTest):
     def test_many_notes(self):
         content = f'<k:A xmlns:k="http://m.example/kinds">{"<cache/>" * 13}</k:A>'
         ended = run_tool('xmi2doc', '--ecore', 'ecore/kinds.ecore', self.file('a.xmi', content))
-        told = ['xmi2doc: value A.cache in line 1: left out: transient'] * 10 + ['xmi2doc: value A.cache: 3 more']
+        told = ['xmi2doc: value A.cache in line 1: left out: transient'] * 10
+        told += ['xmi2doc: value A.cache: 3 more', 'xmi2doc: 13 values left out']
         self.assertEqual((ended.status, ended.err.splitlines()), (0, told))
 
     def test_report(self):
@@ -169,7 +170,7 @@ class HowFar(ToolTest):
         text = f'<l:Library xmlns:l="http://m.example/library">{books}</l:Library>'
         file = self.file('a.xmi', text)
         told = self.run_on_terminal('xmi2doc', '--ecore', 'ecore/library.ecore', file)
-        for what in ('reading', 'making the objects of', 'joining the references of', 'writing the objects of'):
+        for what in ('reading', 'joining the references of', 'writing the objects of'):
             self.assertRegex(told, f'{what} {re.escape(str(file))}: [0-9]+ %')
         self.assertEqual(told[-2:], ' \r')
         ended = run_tool('xmi2doc', '--ecore', 'ecore/library.ecore', file)

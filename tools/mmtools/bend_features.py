@@ -4,17 +4,21 @@ from __future__ import annotations
 
 from typing import TYPE_CHECKING, Optional, Union
 
-from .datatypes import BUILT_IN, literal_of
+from .datatypes import BUILT_IN, OBJECTS, literal_of
 from .ecore_model import EClass, EDataType, EEnum, EFeature
 from .metamodel import MClass, MEnum, MFeature
 from .names import bent
+from .notes import shortened
 from .xml_reader import ECORE
 
 if TYPE_CHECKING:
     from .bending import Bent
 
 FEATURE_MAP = 'ecore:EFeatureMapEntry'
+CHARS = ('ecore:EChar', 'ecore:ECharacterObject')
 Type = Union[str, MEnum, MClass, None]
+MAP, DERIVED, TRANSIENT = 'a feature map; the features of its group stay', 'derived', 'transient'
+LOSES_NOTHING = (MAP, DERIVED, TRANSIENT)  # reasons to leave out what EMF calculates, or has elsewhere
 FLAGS = {
     'changeable': (False, 'unchangeable', 'can be changed here'),
     'volatile': (True, 'volatile', 'is stored here'),
@@ -40,14 +44,14 @@ def is_stored(feature: EFeature) -> bool:
 def reason_to_leave(feature: EFeature) -> str:
     """Why a feature is left out whatever its type; empty if it isn't."""
     if not feature.is_reference and built_in(feature) == FEATURE_MAP:
-        return 'a feature map; the features of its group stay'
+        return MAP
     if feature.is_grouped:
         return ''
     if feature.flags['derived']:
-        return 'derived'
+        return DERIVED
     other = feature.opposite
     if feature.flags['transient'] and not (other and other.opposite is feature and is_stored(other)):
-        return 'transient'
+        return TRANSIENT
     return ''
 
 
@@ -67,7 +71,7 @@ def attribute_type(bending: 'Bent', feature: EFeature) -> Type:
         return made
     if not isinstance(found, EDataType) or name:
         what = name.partition(':')[2] or 'no data type of the files given'
-        tell('attribute type', feature.qualified, f'{what} becomes EString')
+        tell('attribute type', feature.qualified, f'{what} becomes EString' + (': the number of the character' if name in CHARS else ''))
     return 'EString'
 
 
@@ -106,7 +110,9 @@ def bend_flags(bending: 'Bent', made: MFeature, source: EFeature) -> None:
         if made.is_reference:
             tell('not unique', source.qualified, 'holds an object once here')
         made.unique = made.is_reference
-    if source.flags['unsettable']:
+    if built_in(source) in OBJECTS and not source.is_reference and not made.is_many and source.default is None:
+        made.unsettable = True
+    elif source.flags['unsettable']:
         made.unsettable = not made.is_reference and not made.is_many
         if not made.unsettable:
             tell('unsettable', source.qualified, 'is set here if it has a value')
@@ -121,7 +127,7 @@ def bend_default(bending: 'Bent', made: MFeature, source: EFeature) -> None:
     if not isinstance(made.type, MClass) and not made.is_many:
         made.default = literal_of(made.type, source.default)
     if made.default is None:
-        bending.notes.tell('default', source.qualified, f'left out: {source.default[:80]}')
+        bending.notes.tell('default', source.qualified, f'left out: {shortened(source.default)}', None, True)
 
 
 def no_type(feature: EFeature) -> str:

@@ -4,7 +4,7 @@ from __future__ import annotations
 
 from typing import Dict
 
-from .metamodel import MFeature
+from .metamodel import Left, MFeature
 from .notes import Notes
 
 
@@ -33,7 +33,7 @@ def leave_out(one: MFeature, why: str, notes: Notes) -> None:
     """Leaves out the end of a part whose holder's end is no opposite here; its holder is known without."""
     one.owner.features.remove(one)
     if one.source is not None:
-        one.owner.left[one.source.name] = 'its opposite is a containment'
+        one.owner.left[one.source.name] = Left('its opposite is a containment', one.source)
     notes.tell('opposite', one.qualified, f'left out with its opposite: {why}; `container` tells the holder')
 
 

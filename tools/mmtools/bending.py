@@ -5,13 +5,13 @@ from __future__ import annotations
 import os
 from typing import Dict, Iterable, List, Optional, Set, Tuple
 
-from .bend_features import bend_feature, no_type, reason_to_leave
+from .bend_features import LOSES_NOTHING, bend_feature, no_type, reason_to_leave
 from .bend_opposites import bend_opposites
 from .ecore_links import join
 from .ecore_model import EClass, EClassifier, EDataType, EEnum, EFile
 from .ecore_reader import Reader
 from .metamodel import (
-    MOST_CLASSES, MOST_ENUMS, MOST_FEATURES, MOST_LITERALS, MOST_SUPERS, MClass, MEnum, Metamodel, MFeature
+    MOST_CLASSES, MOST_ENUMS, MOST_FEATURES, MOST_LITERALS, MOST_SUPERS, Left, MClass, MEnum, Metamodel, MFeature
 )
 from .names import RESERVED, bent, numbered
 from .notes import Notes
@@ -33,6 +33,7 @@ class Bent:
         self.names: Set[str] = set(RESERVED)
         self.any_object: Optional[MClass] = None
         self.by_name: Dict[Tuple[str, str], MClass] = {}
+        self.files: List[EFile] = []
 
     def classifier_name(self, classifier: EClassifier) -> str:
         """The name of a class or an enumeration: bent, with its package's name if it is taken, and at last with a number."""
@@ -50,7 +51,7 @@ class Bent:
         """An enumeration with its literals."""
         if not source.literals or len(self.meta.enums) == MOST_ENUMS:
             why = 'has no literals' if not source.literals else f'is past {MOST_ENUMS} enumerations'
-            self.notes.tell('enumeration', source.qualified, f'left out: {why}; attributes of it become EString')
+            self.notes.tell('enumeration', source.qualified, f'left out: {why}; attributes of it become EString', None, True)
             return
         made = MEnum(self.classifier_name(source), [], {}, source)
         for literal in source.literals[:MOST_LITERALS]:
@@ -60,7 +61,7 @@ class Bent:
             made.literals.append(name)
             made.texts[name] = literal.literal
         if len(source.literals) > MOST_LITERALS:
-            self.notes.tell('enumeration', source.qualified, f'literals left out: more than {MOST_LITERALS}')
+            self.notes.tell('enumeration', source.qualified, f'literals left out: more than {MOST_LITERALS}', None, True)
         if [it.value.strip() for it in source.literals] != [str(place) for place in range(len(source.literals))]:
             self.notes.tell('enumeration', source.qualified, 'numbers left out; the value of a literal is its position')
         self.meta.enums.append(made)
@@ -69,7 +70,7 @@ class Bent:
     def add_class(self, source: EClass) -> None:
         """A class without its supertypes and features."""
         if len(self.meta.classes) == MOST_CLASSES:
-            self.notes.tell('class', source.qualified, f'left out: more than {MOST_CLASSES} classes')
+            self.notes.tell('class', source.qualified, f'left out: more than {MOST_CLASSES} classes', None, True)
             return
         made = MClass(self.classifier_name(source), source.is_abstract or source.is_interface, source=source)
         if source.is_interface:
@@ -92,7 +93,7 @@ class Bent:
             elif len(made.supers) == MOST_SUPERS:
                 why = f'more than {MOST_SUPERS} supertypes'
             if why:
-                self.notes.tell('supertype', name, f'{source.name} left out: {why}')
+                self.notes.tell('supertype', name, f'{source.name} left out: {why}', None, True)
             elif found is not None:
                 made.supers.append(found)
 
@@ -121,8 +122,9 @@ class Bent:
                 made.features.append(bent_feature)
                 self.features[feature] = bent_feature
             if why:
-                made.left[feature.name] = why
-                self.notes.tell(feature_kind(feature.is_reference), feature.qualified, f'left out: {why}')
+                made.left[feature.name] = Left(why, feature)
+                kind = 'reference' if feature.is_reference else 'attribute'
+                self.notes.tell(kind, feature.qualified, f'left out: {why}', None, why not in LOSES_NOTHING)
 
     def put_object_class_above(self) -> None:
         """Makes the class of every object the supertype of those that have none."""
@@ -153,11 +155,6 @@ def is_object_class(source: Optional[EClass]) -> bool:
     return source is not None and source.name == ANY and source.package.uri == ECORE
 
 
-def feature_kind(is_reference: bool) -> str:
-    """The word for notes."""
-    return 'reference' if is_reference else 'attribute'
-
-
 def tell_data_types(classifiers: List[EClassifier], notes: Notes) -> None:
     """Tells the data types of users."""
     for it in classifiers:
@@ -169,6 +166,7 @@ def bend(files: List[EFile], notes: Notes) -> Bent:
     """The metamodel of the packages of all files."""
     join(files, notes)
     made = Bent(notes)
+    made.files = files
     classifiers = [it for file in files for package in file.all_packages() for it in package.classifiers]
     tell_data_types(classifiers, notes)
     for it in classifiers:

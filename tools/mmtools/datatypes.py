@@ -15,14 +15,15 @@ BUILT_IN = {
     'EInt': ('EInt', ''),
     'ELong': ('ELong', ''),
     'EBoolean': ('EBoolean', ''),
-    'EIntegerObject': ('EInt', 'null becomes 0'),
-    'ELongObject': ('ELong', 'null becomes 0'),
-    'EBooleanObject': ('EBoolean', 'null becomes false'),
+    'EIntegerObject': ('EInt', 'null is unset'),
+    'ELongObject': ('ELong', 'null is unset'),
+    'EBooleanObject': ('EBoolean', 'null is unset'),
     'EShort': ('EInt', 'its range is wider'),
     'EByte': ('EInt', 'its range is wider'),
-    'EShortObject': ('EInt', 'its range is wider, and null becomes 0'),
-    'EByteObject': ('EInt', 'its range is wider, and null becomes 0'),
+    'EShortObject': ('EInt', 'its range is wider, and null is unset'),
+    'EByteObject': ('EInt', 'its range is wider, and null is unset'),
 }
+OBJECTS = frozenset(f'ecore:{name}' for name, (_, loss) in BUILT_IN.items() if loss.endswith('null is unset'))
 RANGES = {'EInt': 1 << 31, 'ELong': 1 << 63}
 NUMBER = re.compile(r'([+-]?)0*([0-9]{1,19})', re.ASCII)
 SPACES = ' \t\r\n'

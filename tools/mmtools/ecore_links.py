@@ -116,7 +116,7 @@ def join_class(links: Links, file: EFile, eclass: EClass, notes: Notes) -> None:
             if found not in eclass.supers:
                 eclass.supers.append(found)
         elif found != 'ecore:EObject':
-            notes.tell('supertype', eclass.qualified, f'left out: no class of the files given: {link}')
+            notes.tell('supertype', eclass.qualified, f'left out: no class of the files given: {link}', None, True)
     for feature in eclass.features:
         join_feature(links, file, feature)
 

@@ -104,7 +104,7 @@ class Reader:
             element,
         )
         self.keep(element, made)
-        self.notes.tell('package', made.name, 'left out; its classifiers stand in the document')
+        self.notes.tell('package', made.name, 'left out; its classifiers are in the document')
         self.annotations(element, made.name)
         made.classifiers = [self.classifier(child, made) for child in children(element, 'eClassifiers')]
         made.subpackages = [self.package(child) for child in children(element, 'eSubpackages')]

@@ -2,9 +2,13 @@
 
 from __future__ import annotations
 
+import gc
+import itertools
 import os
 import sys
-from typing import Callable, NoReturn, Optional
+from typing import Callable, Iterable, Iterator, NoReturn, Optional, Tuple
+
+PIECE = 1 << 16  # bytes that are read at once
 
 
 class ToolError(Exception):
@@ -22,12 +26,13 @@ def one_line(text: str) -> str:
     return ''.join(char if char.isprintable() else ' ' for char in text)
 
 
-def run(name: str, main: Callable[[], None]) -> NoReturn:
-    """Runs a tool, and ends the process: 0 for its output, 1 for a fault, which is told in one line."""
+def run(name: str, main: Callable[[], int]) -> NoReturn:
+    """Runs a tool, and ends the process: the status that the tool gives, or 1 for a fault, which is told in one line."""
+    gc.disable()  # what is read stays until the end, and a search for cycles would look through all of it again and again
     try:
-        main()
+        status = main()
         sys.stdout.flush()
-        sys.exit(0)
+        sys.exit(status)
     except ToolError as found:
         text = str(found)
     except RecursionError:
@@ -53,13 +58,31 @@ def read_bytes(path: str) -> bytes:
         fault(path, None, getattr(found, 'strerror', None) or str(found))
 
 
-def write_text(path: Optional[str], text: str) -> None:
-    """Writes a text in UTF-8 to a file, or to the standard output."""
+def pieces(path: str) -> Tuple[int, Iterator[bytes]]:
+    """The length of a file, which is 0 for the standard input, and its bytes piece by piece."""
+    try:
+        file = sys.stdin.buffer if path == '-' else open(path, 'rb')
+        length = 0 if path == '-' else os.fstat(file.fileno()).st_size
+        first = file.read(PIECE)
+    except (OSError, ValueError) as found:
+        fault(path, None, getattr(found, 'strerror', None) or str(found))
+    return length, itertools.chain([first], iter(lambda: file.read(PIECE), b''))
+
+
+def write_pieces(path: Optional[str], made: Iterable[bytes]) -> None:
+    """Writes bytes to a file, or to the standard output."""
     if path is None:
-        sys.stdout.buffer.write(text.encode('utf-8'))
+        for piece in made:
+            sys.stdout.buffer.write(piece)
         return
     try:
         with open(path, 'wb') as file:
-            file.write(text.encode('utf-8'))
+            for piece in made:
+                file.write(piece)
     except (OSError, ValueError) as found:
         fault(path, None, getattr(found, 'strerror', None) or str(found))
+
+
+def write_text(path: Optional[str], text: str) -> None:
+    """Writes a text in UTF-8 to a file, or to the standard output."""
+    write_pieces(path, [text.encode('utf-8')])

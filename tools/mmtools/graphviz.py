@@ -2,9 +2,10 @@
 
 from __future__ import annotations
 
-from typing import List
+from collections import Counter
+from typing import FrozenSet, List, Tuple
 
-from .picture import BOTH, CONTAINS, INHERITS, Box, Picture
+from .picture import BOTH, CONTAINS, INHERITS, Box, Line, Picture
 
 STYLES = {
     INHERITS: 'arrowhead=empty',
@@ -31,13 +32,27 @@ def box_text(place: int, box: Box) -> str:
     return f'  n{place} [label="{{{above}{field_text(box.title)}' + (f'|{rows}' if rows else '') + '}"];'
 
 
+def pair(line: Line) -> FrozenSet[int]:
+    """The boxes of a line."""
+    return frozenset((line.start, line.end))
+
+
+def labels(line: Line, is_one_of_many: bool) -> List[Tuple[str, str]]:
+    """The texts of a line. Of many lines between two boxes the bounds are in the label, since texts at the ends would lie over each other."""
+    if not is_one_of_many or not line.far:
+        return [('label', line.label), ('taillabel', line.near), ('headlabel', line.far)]
+    bounds = f'{line.near} / {line.far}' if line.near else line.far
+    return [('label', f'{line.label} [{bounds}]')]
+
+
 def graphviz(picture: Picture) -> str:
     """The graph."""
     out: List[str] = ['digraph model {', '  rankdir=BT;', '  node [shape=record];']
     out += [box_text(place, box) for place, box in enumerate(picture.boxes)]
+    between = Counter(pair(line) for line in picture.lines)
     for line in picture.lines:
         words = [STYLES[line.kind]] if line.kind in STYLES else []
-        for key, text in (('label', line.label), ('taillabel', line.near), ('headlabel', line.far)):
+        for key, text in labels(line, between[pair(line)] > 1):
             if text:
                 words.append(f'{key}="{quoted(text)}"')
         out.append(f'  n{line.start} -> n{line.end}' + (f' [{", ".join(words)}]' if words else '') + ';')

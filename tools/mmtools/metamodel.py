@@ -4,7 +4,7 @@ from __future__ import annotations
 
 import json
 from dataclasses import dataclass, field
-from typing import Any, Dict, List, Optional, Union
+from typing import Any, Dict, List, NamedTuple, Optional, Union
 
 from .ecore_model import EClass, EEnum, EFeature
 
@@ -25,11 +25,14 @@ class MEnum:
     literals: List[str]
     texts: Dict[str, str] = field(default_factory=dict)
     source: Optional[EEnum] = None
+    by_text: Dict[str, str] = field(default_factory=dict)
 
     def literal(self, text: str) -> Optional[str]:
         """The literal that a text of XMI stands for: by its text, else by its name."""
-        named = [name for name in self.literals if self.texts.get(name, name) == text]
-        return named[0] if named else text if text in self.literals else None
+        if not self.by_text:
+            self.by_text = {name: name for name in self.literals}
+            self.by_text.update({self.texts.get(name, name): name for name in reversed(self.literals)})
+        return self.by_text.get(text)
 
 
 @dataclass(eq=False)
@@ -94,6 +97,13 @@ class MFeature:
         return made
 
 
+class Left(NamedTuple):
+    """A feature of Ecore that has no place, and why."""
+
+    why: str
+    source: EFeature
+
+
 @dataclass(eq=False)
 class MClass:
     """A class. `left` has what became of the features of Ecore that have no place, by their names there."""
@@ -103,7 +113,7 @@ class MClass:
     supers: List['MClass'] = field(default_factory=list)
     features: List[MFeature] = field(default_factory=list)
     source: Optional[EClass] = None
-    left: Dict[str, str] = field(default_factory=dict)
+    left: Dict[str, Left] = field(default_factory=dict)
 
     def above(self) -> List['MClass']:
         """Its supertypes, depth first, each once, and then itself."""

@@ -4,7 +4,7 @@ from __future__ import annotations
 
 from typing import Any, Dict, List, Type, Union
 
-from .document import read_json
+from .document_reader import read_json
 from .faults import fault
 from .metamodel import DATA_TYPES, MClass, MEnum, Metamodel, MFeature
 

@@ -3,7 +3,9 @@
 from __future__ import annotations
 
 import re
+from functools import lru_cache
 from typing import Container
+from xml.parsers import expat
 
 from .metamodel import LONGEST_NAME
 
@@ -15,6 +17,19 @@ RESERVED = ('EString', 'EInt', 'ELong', 'EBoolean', 'Resource')
 def is_name(text: str) -> bool:
     """Whether a text is a name of at most 255 bytes."""
     return NAME.fullmatch(text) is not None and len(text) <= LONGEST_NAME
+
+
+@lru_cache(maxsize=None)
+def is_xml_name(text: str) -> bool:
+    """Whether a text is a name of XML without a colon. `expat` says so: like Java's parser it goes by the fourth edition of XML 1.0."""
+    found = []
+    parser = expat.ParserCreate()
+    parser.StartElementHandler = lambda name, _: found.append(name)
+    try:
+        parser.Parse(f'<{text}/>', True)
+    except (expat.ExpatError, UnicodeError):
+        return False
+    return found == [text] and ':' not in text
 
 
 def bent(text: str) -> str:

@@ -1,99 +1,176 @@
-"""Objects of a resource, as documents and XMI hold them."""
+"""Objects of a resource, as documents and XMI hold them, and what is known of the features of their classes."""
 
 from __future__ import annotations
 
-from dataclasses import dataclass, field
 from typing import Any, Dict, Iterator, List, Optional, Tuple
 
 from .metamodel import MClass, MFeature
+from .steps import INDEX
 
 DEEPEST = 40  # levels of objects in a document
+MOST_LISTS = 100_000  # lists that are remembered by the path to them
+ATTRIBUTE, CONTAINED, REFERENCE, CONTAINER = range(4)
 
 
-@dataclass(eq=False)
 class Obj:
     """An object.
 
-    `values` has a list for each feature that was written: values of an attribute, objects of a containment, and objects or the
-    texts of proxies of another reference. `slots` has what XMI contains, by the names of Ecore, with None for what is left out.
+    `values` has what was written, by the names of the document: a list of a many-valued feature, the value of a single one. A value of
+    a containment is an object, and that of another reference an object or the text of a proxy. `via` is the slot that contains the
+    object in its parent, and `index` its position there; for a root it is the position among the roots.
     """
 
-    of: MClass
-    line: Optional[int] = None
-    values: Dict[MFeature, List[Any]] = field(default_factory=dict)
-    slots: Dict[str, List[Optional['Obj']]] = field(default_factory=dict)
-    fragment: str = ''
+    __slots__ = ('of', 'line', 'values', 'parent', 'via', 'index')
+
+    def __init__(self, of: MClass, line: int = 0, values: Optional[Dict[str, Any]] = None) -> None:
+        """The object is in nothing yet."""
+        self.of, self.line = of, line
+        self.values: Dict[str, Any] = {} if values is None else values
+        self.parent: Optional[Obj] = None
+        self.via: Optional[Slot] = None
+        self.index = 0
 
 
-@dataclass(eq=False)
-class Graph:
-    """The roots of a resource."""
+class Slot:
+    """What the readers and writers need of a feature, without a call for each question."""
 
-    roots: List[Obj] = field(default_factory=list)
+    __slots__ = ('feature', 'name', 'key', 'kind', 'is_many', 'type', 'opposite', 'is_id', 'is_completed', 'is_plain', 'is_settable')
 
-    def walk(self) -> Iterator[Tuple[int, Obj]]:
-        """Each object with its level, before those that it contains."""
-        stack = [(1, root) for root in reversed(self.roots)]
-        while stack:
-            level, obj = stack.pop()
-            yield level, obj
-            parts = [it for feature, values in obj.values.items() if feature.containment for it in values]
-            stack += [(level + 1, part) for part in reversed(parts)]
-
-    def address(self, use_source_names: bool) -> None:
-        """Gives each object its fragment, by the names of the document or by those of Ecore."""
-        for place, root in enumerate(self.roots):
-            root.fragment = '/' if len(self.roots) == 1 else f'/{place}'
-        for _, obj in self.walk():
-            for feature, values in obj.values.items():
-                if feature.containment:
-                    source = feature.source if use_source_names else None
-                    step = f'{obj.fragment}/@{source.name if source else feature.name}'
-                    for place, part in enumerate(values):
-                        part.fragment = f'{step}.{place}' if feature.is_many else step
+    def __init__(self, feature: MFeature) -> None:
+        """`key` is the name in Ecore, which is empty if the feature is none of Ecore."""
+        source = feature.source
+        self.feature, self.name, self.type, self.is_many = feature, feature.name, feature.type, feature.is_many
+        self.key = source.name if source is not None else ''
+        self.kind = ATTRIBUTE
+        if feature.is_reference:
+            self.kind = CONTAINED if feature.containment else CONTAINER if feature.is_container else REFERENCE
+        self.opposite = feature.opposite
+        self.is_id = source is not None and source.flags['iD']
+        self.is_completed = is_completed_by_emf(feature)
+        is_changeable = self.is_many or source is None or source.flags['changeable'] or source.is_grouped
+        self.is_settable = is_changeable and not self.is_completed
+        self.is_plain = feature.type == 'EString' and not self.is_many and not self.is_id
 
 
-class Kinds:
-    """The features of each class, and which classes conform, found once."""
+def is_completed_by_emf(feature: MFeature) -> bool:
+    """Whether EMF saves nothing of a feature, since it is transient: it completes the feature from the opposite end as it loads."""
+    return feature.source is not None and feature.source.flags['transient'] and not feature.source.is_grouped
 
-    def __init__(self) -> None:
-        """Nothing is found yet."""
-        self.by_source: Dict[MClass, Dict[str, MFeature]] = {}
-        self.by_name: Dict[MClass, Dict[str, MFeature]] = {}
-        self.left: Dict[MClass, Dict[str, str]] = {}
-        self.aboves: Dict[MClass, List[MClass]] = {}
 
-    def find(self, of: MClass) -> None:
-        """Finds what there is of a class."""
-        if of in self.aboves:
-            return
-        self.aboves[of] = of.above()
-        features = of.all_features()
-        self.by_name[of] = {feature.name: feature for feature in features}
-        self.by_source[of] = {feature.source.name: feature for feature in features if feature.source}
-        self.left[of] = {name: why for it in self.aboves[of] for name, why in it.left.items()}
+class Plan:
+    """The slots of a class by both kinds of names, what is left out of it, and the classes that it conforms to."""
 
-    def source_feature(self, of: MClass, name: str) -> Optional[MFeature]:
-        """The feature that Ecore calls so."""
-        self.find(of)
-        return self.by_source[of].get(name)
+    def __init__(self, of: MClass) -> None:
+        """All is found here, once for each class."""
+        self.slots = [Slot(feature) for feature in of.all_features()]
+        self.by_name = {slot.name: slot for slot in self.slots}
+        self.by_key = {slot.key: slot for slot in self.slots if slot.key}
+        above = of.above()
+        self.left = {name: left for it in above for name, left in it.left.items() if name not in self.by_key}
+        self.above = frozenset(map(id, above))
 
-    def feature(self, of: MClass, name: str) -> Optional[MFeature]:
-        """The feature that the document calls so."""
-        self.find(of)
-        return self.by_name[of].get(name)
 
-    def features(self, of: MClass) -> List[MFeature]:
-        """All features of a class, in order."""
-        self.find(of)
-        return list(self.by_name[of].values())
+class Plans(Dict[MClass, Plan]):
+    """The plan of each class, made when it is asked for."""
 
-    def why_left(self, of: MClass, name: str) -> Optional[str]:
-        """Why a feature of Ecore is left out; None if it isn't."""
-        self.find(of)
-        return self.left[of].get(name)
+    def __missing__(self, of: MClass) -> Plan:
+        """Makes a plan."""
+        made = self[of] = Plan(of)
+        return made
 
     def conforms(self, of: MClass, to: object) -> bool:
         """Whether a class is another, or below it."""
-        self.find(of)
-        return any(it is to for it in self.aboves[of])
+        return of is to or id(to) in self[of].above
+
+
+class Graph:
+    """The roots of a resource."""
+
+    def __init__(self, plans: Plans) -> None:
+        """There are no roots yet."""
+        self.plans = plans
+        self.roots: List[Obj] = []
+        self.paths: Tuple[Dict[Obj, str], Dict[Obj, str]] = ({}, {})
+        self.lists: Tuple[Dict[str, List[Obj]], Dict[str, List[Obj]]] = ({}, {})
+
+    def walk(self) -> Iterator[Obj]:
+        """Each object, before those that it contains."""
+        stack = self.roots[::-1]
+        while stack:
+            obj = stack.pop()
+            yield obj
+            parts = self.parts(obj)
+            if parts:
+                stack += reversed(parts)
+
+    def parts(self, obj: Obj) -> List[Obj]:
+        """What an object contains, in the order in which it was written."""
+        slots = self.plans[obj.of].by_name
+        found: List[Obj] = []
+        for name, value in obj.values.items():
+            slot = slots[name]
+            if slot.kind == CONTAINED:
+                if slot.is_many:
+                    found += value
+                else:
+                    found.append(value)
+        return found
+
+    def follow(self, fragment: str, by_keys: bool) -> Optional[Obj]:
+        """The object of a fragment by positions; None if there is none yet, or the fragment is of another form."""
+        path, _, digits = fragment.rpartition('.')
+        parts = self.lists[by_keys].get(path)
+        if parts is not None and INDEX.fullmatch(digits):
+            return parts[int(digits)] if int(digits) < len(parts) else None
+        words = fragment.split('/')
+        root = words[1] if len(words) > 1 and not words[0] else '-'
+        if root and not INDEX.fullmatch(root) or len(self.roots) <= int(root or '0'):
+            return None
+        found = self.roots[int(root or '0')]
+        for word in words[2:]:
+            key, dot, digits = word.partition('.')
+            plan = self.plans[found.of]
+            slot = (plan.by_key if by_keys else plan.by_name).get(key[1:])
+            if slot is None or slot.kind != CONTAINED or slot.name not in found.values or key[0] != '@':
+                return None
+            parts = value = found.values[slot.name]
+            if slot.is_many:
+                if not INDEX.fullmatch(digits) or len(value) <= int(digits):
+                    return None
+                value = value[int(digits)]
+            elif dot:
+                return None
+            found = value
+        if parts is not None and type(parts) is list:
+            if len(self.lists[by_keys]) >= MOST_LISTS:
+                self.lists[by_keys].clear()
+            self.lists[by_keys][path] = parts
+        return found
+
+    def where(self, obj: Obj) -> str:
+        """The place of an object of a document, for faults and notes."""
+        if obj.parent is None or obj.via is None:
+            return f'root {obj.index}'
+        return f'{self.where(obj.parent)} {obj.via.name} {obj.index}'
+
+    def fragment(self, obj: Obj, by_keys: bool = False) -> str:
+        """The fragment of an object, by the names of the document or by those of Ecore."""
+        parent, via = obj.parent, obj.via
+        if parent is None or via is None:
+            return '/' if len(self.roots) == 1 else f'/{obj.index}'
+        paths = self.paths[by_keys]
+        path = paths.get(parent)
+        if path is None:
+            path = paths[parent] = self.fragment(parent, by_keys)
+        name = via.key if by_keys else via.name
+        return f'{path}/@{name}.{obj.index}' if via.is_many else f'{path}/@{name}'
+
+
+def as_list(slot: Slot, value: Any) -> List[Any]:
+    """The values of a slot."""
+    return value if slot.is_many else [value]
+
+
+def held(obj: Obj, slot: Slot) -> List[Any]:
+    """What an object holds in a slot."""
+    return as_list(slot, obj.values[slot.name]) if slot.name in obj.values else []

@@ -3,14 +3,15 @@
 from __future__ import annotations
 
 import json
-from dataclasses import dataclass, field
-from typing import Any, Dict, List, Set
+from dataclasses import dataclass, field, replace
+from typing import Any, Dict, List, Optional, Set
 
 from .metamodel import MClass, Metamodel, MFeature
-from .objects import Graph, Obj
+from .objects import ATTRIBUTE, Graph, Obj, held
 
 INHERITS, CONTAINS, REFERS, BOTH = 'inherits', 'contains', 'refers', 'both'
 LONGEST_TEXT = 40  # characters of a value
+ANY = 'EObject'
 
 
 @dataclass
@@ -79,7 +80,8 @@ def class_picture(meta: Metamodel) -> Picture:
         places[id(it)] = len(made.boxes)
         rows = [attribute_row(feature) for feature in it.features if not feature.is_reference]
         made.boxes.append(Box(it.name, 'abstract' if it.is_abstract else '', rows))
-    made.lines = [Line(INHERITS, places[id(it)], places[id(above)]) for it in meta.classes for above in it.supers]
+    root = common_root(meta)
+    made.lines = [Line(INHERITS, places[id(it)], places[id(above)]) for it in meta.classes for above in it.supers if above is not root]
     drawn: Set[MFeature] = set()
     for it in meta.classes:
         for feature in it.features:
@@ -87,6 +89,25 @@ def class_picture(meta: Metamodel) -> Picture:
                 made.lines.append(reference_line(places, feature))
                 drawn |= {feature} | ({feature.opposite} if feature.opposite else set())
     return made
+
+
+def common_root(meta: Metamodel) -> Optional[MClass]:
+    """The class `EObject`, if it is above each other class: lines to it would say nothing."""
+    root = next((it for it in meta.classes if it.name == ANY), None)
+    return root if root is not None and all(root in it.above() for it in meta.classes) else None
+
+
+def cut_around(picture: Picture, title: str, steps: int) -> Optional[Picture]:
+    """What is at most so many lines away from a box; None if there is no box of that title."""
+    near = {place for place, box in enumerate(picture.boxes) if box.title == title}
+    if not near:
+        return None
+    for _ in range(steps):
+        near |= {place for line in picture.lines for place in (line.start, line.end) if {line.start, line.end} & near}
+    kept = sorted(near)
+    places = {old: new for new, old in enumerate(kept)}
+    lines = [replace(line, start=places[line.start], end=places[line.end]) for line in picture.lines if {line.start, line.end} <= near]
+    return Picture([picture.boxes[place] for place in kept], lines)
 
 
 def value_text(value: Any, is_literal: bool) -> str:
@@ -104,17 +125,17 @@ def object_picture(graph: Graph) -> Picture:
     """The objects of a document, by their fragments, with what they hold; each proxy is a box of its own."""
     made = Picture()
     places: Dict[object, int] = {}
-    objects = [obj for _, obj in graph.walk()]
+    objects = list(graph.walk())
     for obj in objects:
         places[id(obj)] = len(made.boxes)
-        held = [(feature, obj.values[feature]) for feature in obj.of.all_features() if obj.values.get(feature)]
-        rows = [value_row(feature, values) for feature, values in held if not feature.is_reference]
-        made.boxes.append(Box(f'{obj.fragment} : {obj.of.name}', '', rows))
+        slots = [slot for slot in graph.plans[obj.of].slots if slot.kind == ATTRIBUTE and held(obj, slot)]
+        rows = [value_row(slot.feature, held(obj, slot)) for slot in slots]
+        made.boxes.append(Box(f'{graph.fragment(obj)} : {obj.of.name}', '', rows))
     drawn: Set[object] = set()
     for obj in objects:
-        for feature in obj.of.all_features():
-            for value in obj.values.get(feature, []) if feature.is_reference else []:
-                draw_link(made, places, drawn, obj, feature, value)
+        for slot in graph.plans[obj.of].slots:
+            for value in held(obj, slot) if slot.kind != ATTRIBUTE else []:
+                draw_link(made, places, drawn, obj, slot.feature, value)
     return made
 
 

@@ -4,7 +4,7 @@ from __future__ import annotations
 
 import re
 from dataclasses import dataclass
-from typing import List, Optional, Tuple
+from typing import List, Mapping, Optional, Set, Tuple
 from urllib.parse import unquote
 
 INDEX = re.compile(r'0|[1-9][0-9]{0,6}', re.ASCII)
@@ -26,10 +26,16 @@ class Step:
     keys: Tuple[Tuple[str, List[Optional[str]]], ...] = ()
 
 
+NAMED = re.compile(r'/@([^/\[\]]+?)(?=\.[0-9]+(?:/|$)|/|$)', re.ASCII)
 VALUE = r"(?:null|'[^']*'|\"[^\"]*\")"
 VALUES = rf'(?:{VALUE}|\[(?:{VALUE}(?:,{VALUE})*)?\])'
 KEY = re.compile(rf'([^=,\[\]]+)=({VALUES})')
 KEYED = re.compile(rf'@([^\[\]]+)\[([^=,\[\]]+={VALUES}(?:,[^=,\[\]]+={VALUES})*)\]')
+
+
+def renamed(fragment: str, names: Mapping[str, Set[str]]) -> str:
+    """A fragment by positions with each name of a feature replaced, if there is only one for it."""
+    return NAMED.sub(lambda it: f'/@{next(iter(names[it[1]]))}' if len(names.get(it[1], ())) == 1 else it[0], fragment)
 
 
 def is_fragment(text: str) -> bool:

@@ -1,30 +1,48 @@
-"""URIs of resources: joined with one another, and those that a document takes."""
+"""URIs of resources: joined with one another as the repository joins them, and the paths of files."""
 
 from __future__ import annotations
 
 import os
 from typing import Optional
-from urllib.parse import unquote, urljoin, urlsplit
+from urllib.parse import unquote, urlsplit
+
+from .web_urls import SCHEME, Url, parse
+
+DEEP = 20  # levels of folders above a relative URI
+NOWHERE = 'http://nowhere.invalid/' + '0/' * DEEP
 
 
-def joined(base: Optional[str], uri: str) -> str:
-    """A URI joined with that of a resource; as it is if there is none, or if it is none."""
-    if base is None:
-        return uri
-    try:
-        return urljoin(base, uri)
-    except ValueError:
-        return uri
+def joined(base: Optional[str], uri: str) -> Optional[str]:
+    """A URI joined with that of a resource, or for itself; None if there is none of http or https. Without a base it may stay relative."""
+    there = parse(base, None) if base is not None else None
+    if there is None and base is None and SCHEME.fullmatch(uri) is None:
+        return relative(uri)
+    found = parse(uri, there)
+    return found.text() if found is not None else None
 
 
-def is_web(uri: str) -> bool:
-    """Whether a document takes a URI: one of http or https with a host, or a relative one."""
-    try:
-        parts = urlsplit(uri)
-        parts.port
-    except ValueError:
-        return False
-    return parts.scheme == '' or parts.scheme in ('http', 'https') and bool(parts.hostname)
+def relative(uri: str) -> Optional[str]:
+    """A relative URI with its path as the URL Standard writes it."""
+    base = parse(NOWHERE, None)
+    assert base is not None
+    found = parse(uri, base)
+    if found is None:
+        return None
+    text = found.text()
+    if uri.startswith('?'):
+        return f'?{found.query}'
+    if found.host != base.host or uri[:1] in ('/', '\\'):
+        return text[len('http:'):] if found.host != base.host else text[len(NOWHERE.rstrip('0/')):]
+    return below(found, base)
+
+
+def below(found: Url, base: Url) -> str:
+    """The path from the folder of a URL."""
+    folder = base.path[:-1]
+    same = next((place for place, (one, other) in enumerate(zip(found.path[:-1], folder)) if one != other), len(found.path) - 1)
+    same = min(same, len(folder))
+    path = '/'.join(['..'] * (len(folder) - same) + found.path[same:])
+    return ('' if path else '.') + path + ('' if found.query is None else f'?{found.query}')
 
 
 def path_of(uri: str) -> str:

@@ -1,202 +1,395 @@
-"""Reads an XMI file into objects. References stay texts until all of the file is read (`xmi_links`)."""
+"""Reads an XMI file into objects as it is parsed. What a reference can't lead to yet stays a text until the end (`xmi_links`)."""
 
 from __future__ import annotations
 
-from dataclasses import dataclass
-from typing import Dict, List, Optional
+from typing import Any, List, NamedTuple, Optional, Set, Tuple, Union
 
 from .bending import Bent
-from .datatypes import Value, text_of, value_of
+from .datatypes import text_of, value_of
+from .ecore_model import EClass, EFeature
 from .faults import fault
-from .metamodel import MClass, MEnum, MFeature
-from .notes import Notes
-from .objects import Graph, Kinds, Obj
-from .progress import Progress
-from .xml_reader import XSI, Element, is_xmi, read_xml
+from .metamodel import LONGEST_TEXT, MClass, MEnum
+from .notes import Notes, shortened
+from .objects import ATTRIBUTE, CONTAINED, CONTAINER, DEEPEST, Graph, Obj, Plans, Slot
+from .skipped import Skipped
+from .xmi_paths import Addresses
+from .xml_parser import DEEPEST as DEEPEST_ELEMENT, Parser
+from .xml_reader import XSI, is_xmi, name_of
 
 XML = 'http://www.w3.org/XML/1998/namespace'
+XSI_TYPE, XSI_NIL = f'{XSI} type', f'{XSI} nil'
+SHORT = LONGEST_TEXT // 4  # characters of a text that is surely not too long
+FEW = 5  # references of an attribute that EMF resolves one by one
+WAITING = object()  # what a list has in place of a reference that is still a text
 
 
-@dataclass
-class Pending:
-    """A reference that is still a text."""
+class Pending(NamedTuple):
+    """A reference that is still a text. `index` is its position in the list."""
 
     owner: Obj
-    feature: MFeature
+    slot: Slot
+    index: int
     text: str
     line: int
 
 
-class XmiReader:
+class Text:
+    """An open element that has a value, or references."""
+
+    __slots__ = ('owner', 'slot', 'line', 'is_nil')
+
+    def __init__(self, owner: Obj, slot: Slot, line: int, is_nil: bool) -> None:
+        """The text is read at its end."""
+        self.owner, self.slot, self.line, self.is_nil = owner, slot, line, is_nil
+
+
+class XmiReader(Parser):
     """Reads one file."""
 
-    def __init__(self, file: str, bent: Bent, kinds: Kinds, notes: Notes) -> None:
+    def __init__(self, file: str, bent: Bent, plans: Plans, notes: Notes) -> None:
         """The classes are those of the packages that were bent."""
-        self.file, self.bent, self.kinds, self.notes = file, bent, kinds, notes
-        self.graph = Graph()
-        self.ids: Dict[str, Obj] = {}
-        self.keys: Dict[str, Obj] = {}
-        self.xmi_ids = 0
+        super().__init__(file)
+        self.bent, self.plans, self.notes = bent, plans, notes
+        self.graph = Graph(plans)
+        self.addresses = Addresses(self.graph)
+        self.open: List[Union[Obj, Text, Skipped, None]] = []
+        self.texts: List[str] = []
+        self.texted: Set[int] = set()
+        self.xmi_ids = self.count = 0
         self.pending: List[Pending] = []
-        self.progress = Progress('', 0)
+        self.many: List[Pending] = []
+        self.back: List[Tuple[Obj, Slot, Obj]] = []
 
     def read(self) -> Graph:
         """The objects of the file."""
-        root = read_xml(self.file)
-        self.progress = Progress(f'making the objects of {self.file}', root.count())
-        tops = root.children if root.name == 'XMI' and is_xmi(root.space) else [root]
-        for top in tops:
-            if is_xmi(top.space):
-                self.notes.tell('element', f'xmi:{top.name}', 'left out', top.line)
-            else:
-                self.graph.roots.append(self.object(top, self.class_of(top, top.space, top.name)))
-        self.progress.end()
+        self.run()
         if self.xmi_ids:
             self.notes.tell('xmi:id', self.file, f'{self.xmi_ids} ids left out; references go by position')
         return self.graph
 
-    def class_of(self, element: Element, space: str, name: str) -> MClass:
+    def start(self, tag: str, attributes: List[str]) -> None:
+        """An element starts: an object, a value, or what is left out."""
+        opened = self.open
+        if self.texts:
+            self.text_before()
+        if not opened:
+            self.first(tag, attributes)
+            return
+        if len(opened) == DEEPEST_ELEMENT:
+            self.fault(f'elements nest deeper than {DEEPEST_ELEMENT} levels')
+        top = opened[-1]
+        if type(top) is Obj:
+            self.child(top, tag, attributes)
+        elif top is None:
+            self.root(tag, attributes)
+        elif isinstance(top, Skipped):
+            opened.append(top.below(tag, attributes, self))
+        else:
+            self.fault(f'{name_of(tag)[1]} is an element inside of a value')
+
+    def end(self, _: str) -> None:
+        """An element ends."""
+        top = self.open.pop()
+        if type(top) is Text:
+            text = ''.join(self.texts)
+            self.texts = []
+            self.take_text(top, text)
+        elif self.texts:
+            self.open.append(top)
+            self.text_before()
+            self.open.pop()
+
+    def data(self, text: str) -> None:
+        """Takes text. Spaces say something in a value alone."""
+        if self.open and (type(self.open[-1]) is Text or not text.isspace()):
+            self.texts.append(text)
+
+    def text_before(self) -> None:
+        """Tells text of an object, which has no place."""
+        top = self.open[-1] if self.open else None
+        if type(top) is Obj and id(top) not in self.texted:
+            self.texted.add(id(top))
+            self.notes.tell('text', top.of.name, 'left out: text between elements', top.line, True)
+        self.texts = []
+
+    def first(self, tag: str, attributes: List[str]) -> None:
+        """The root element: that of XMI, or the only root."""
+        space, name = name_of(tag)
+        if name == 'XMI' and is_xmi(space):
+            self.open.append(None)
+        else:
+            self.root(tag, attributes)
+
+    def root(self, tag: str, attributes: List[str]) -> None:
+        """A root."""
+        space, name = name_of(tag)
+        if is_xmi(space):
+            self.skip(f'xmi:{name}')
+            return
+        made = self.object(self.class_of(space, name), attributes)
+        made.index = len(self.graph.roots)
+        self.graph.roots.append(made)
+        self.open.append(made)
+
+    def skip(self, name: str) -> None:
+        """Leaves out an element of XMI."""
+        self.notes.tell('element', name, 'left out', self.line, True)
+        self.open.append(Skipped(None))
+
+    def class_of(self, space: str, name: str) -> MClass:
         """The class of a name in a package."""
         found = self.bent.by_name.get((space, name))
         if found is None:
-            fault(self.file, element.line, f'no class {name} in a package {space or "without URI"} of the files given')
+            self.fault(f'no class {shortened(name)} in a package {space or "without URI"} of the files given')
         if found.is_abstract:
-            fault(self.file, element.line, f'class {name} is abstract')
+            self.fault(f'class {shortened(name)} is abstract')
         return found
 
-    def typed(self, element: Element, feature: MFeature) -> MClass:
+    def typed(self, slot: Slot, attributes: List[str]) -> MClass:
         """The class of a contained object: that of its type, else that of the reference."""
-        text = element.type_name()
-        to = feature.type
-        if not isinstance(to, MClass):
-            fault(self.file, element.line, f'{feature.qualified} holds no objects')
+        text, to = type_text(attributes), slot.type
+        assert isinstance(to, MClass)
         if text is None:
             if to.is_abstract:
-                fault(self.file, element.line, f'{element.name} without xsi:type, and class {to.name} is abstract')
+                self.fault(f'{slot.key} without xsi:type, and class {to.name} is abstract')
             return to
-        name = element.qualified(text)
+        name = self.qualified(text)
         if name is None:
-            fault(self.file, element.line, f'xsi:type {text} has a prefix that is not declared')
-        found = self.class_of(element, *name)
-        if not self.kinds.conforms(found, to):
-            fault(self.file, element.line, f'class {found.name} is no {to.name}, which {feature.qualified} holds')
+            self.fault(f'xsi:type {shortened(text)} has a prefix that is not declared')
+        found = self.class_of(*name)
+        if not self.plans.conforms(found, to):
+            self.fault(f'class {found.name} is no {to.name}, which {slot.feature.qualified} holds')
         return found
 
-    def object(self, element: Element, of: MClass) -> Obj:
-        """An object with its attributes and all that it contains."""
-        made = Obj(of, element.line)
-        self.progress.step(1 + len(element.children))
-        xmi_id = element.xmi('id')
-        if xmi_id is not None:
-            self.xmi_ids += 1
-            self.ids[xmi_id] = made
-        for (space, name), value in element.attributes.items():
-            if not space:
-                self.attribute(made, element, name, value)
-            elif space == XML:
-                self.notes.tell('attribute', f'{of.name}.xml:{name}', 'left out', element.line)
-            elif space != XSI and not is_xmi(space):
-                fault(self.file, element.line, f'class {of.name} has no feature {name} of {space}')
-        if element.text.strip():
-            self.notes.tell('text', of.name, 'left out: text between elements', element.line)
-        for child in element.children:
-            if is_xmi(child.space):
-                self.notes.tell('element', f'xmi:{child.name}', 'left out', child.line)
-            else:
-                self.child(made, child)
+    def object(self, of: MClass, attributes: List[str]) -> Obj:
+        """An object with its attributes. It is in nothing yet, so its own references don't find it by position."""
+        made = Obj(of, self.parser.CurrentLineNumber)
+        self.count += 1
+        if attributes:
+            slots = self.plans[of].by_key
+            it = iter(attributes)
+            values = made.values
+            for name, text in zip(it, it):
+                slot = slots.get(name)
+                if slot is None:
+                    self.other_attribute(made, name, text)
+                elif slot.is_plain and len(text) < SHORT:
+                    values[slot.name] = text
+                else:
+                    self.attribute(made, slot, text)
         return made
 
-    def feature(self, owner: Obj, name: str, line: int) -> Optional[MFeature]:
-        """The feature of a name; None, which is told, if it has no place."""
-        found = self.kinds.source_feature(owner.of, name)
-        if found is None:
-            why = self.kinds.why_left(owner.of, name)
-            if why is None:
-                fault(self.file, line, f'class {owner.of.name} has no feature {name}')
-            self.notes.tell('value', f'{owner.of.name}.{name}', f'left out: {why}', line)
-        return found
+    def other_attribute(self, owner: Obj, name: str, text: str) -> None:
+        """An attribute that is no feature that has a place: one of XMI or XML, or of what is left out."""
+        space, local = name_of(name)
+        if not space:
+            self.left(owner, local, [])
+        elif is_xmi(space):
+            if local == 'id':
+                self.xmi_ids += 1
+                self.addresses.ids[text] = owner
+        elif space == XML:
+            self.notes.tell('attribute', f'{owner.of.name}.xml:{local}', 'left out', self.line, True)
+        elif space != XSI:
+            self.fault(f'class {owner.of.name} has no feature {shortened(local)} of {space}')
 
-    def attribute(self, owner: Obj, element: Element, name: str, text: str) -> None:
-        """A feature that is written as an attribute."""
-        found = self.feature(owner, name, element.line)
+    def left(self, owner: Obj, name: str, attributes: List[str]) -> Skipped:
+        """Tells a feature that has no place, or refuses one that is unknown."""
+        found = self.plans[owner.of].left.get(name)
         if found is None:
-            return
-        if found.containment:
-            fault(self.file, element.line, f'{found.qualified} contains objects, and is written as an attribute')
-        if found.is_reference:
-            self.words(owner, found, text, element.line)
-            return
-        for word in text.split() if found.is_many else [text]:
-            self.put(owner, found, self.value(found, word, element.line), element.line)
+            self.fault(f'class {owner.of.name} has no feature {shortened(name)}')
+        self.notes.tell('value', f'{owner.of.name}.{name}', f'left out: {found.why}', self.line, True)
+        is_part = found.source.is_reference and found.source.flags['containment']
+        return Skipped(self.skipped_class(attributes, found.source) if is_part else None)
 
-    def words(self, owner: Obj, feature: MFeature, text: str, line: int) -> None:
-        """References of an attribute, with spaces between them. A word with a colon and no fragment is the type of the next."""
+    def attribute(self, owner: Obj, slot: Slot, text: str) -> None:
+        """A feature that is written as an attribute. A list is cut at spaces, like one of EMF."""
+        if slot.kind == ATTRIBUTE:
+            if not slot.is_many:
+                self.put_text(owner, slot, text)
+                return
+            for word in text.split(' '):
+                if word:
+                    self.put_text(owner, slot, word)
+        elif slot.kind == CONTAINED:
+            self.fault(f'{slot.feature.qualified} contains objects, and is written as an attribute')
+        else:
+            self.words(owner, slot, text, self.line)
+
+    def words(self, owner: Obj, slot: Slot, text: str, line: int) -> None:
+        """References of an attribute, with spaces between them. A word with a colon and no `#` is the type of the next one."""
+        if ':' not in text and ' ' not in text and self.refer(owner, slot, text, line):
+            return
+        type_name, waiting = '', []
         for word in text.split():
             if '#' in word or ':' not in word:
-                self.pending.append(Pending(owner, feature, word, line))
-
-    def child(self, owner: Obj, element: Element) -> None:
-        """A feature that is written as an element."""
-        if element.space:
-            fault(self.file, element.line, f'class {owner.of.name} has no feature {element.name} of {element.space}')
-        found = self.feature(owner, element.name, element.line)
-        if found is None:
-            owner.slots.setdefault(element.name, []).append(None)
-            return
-        is_nil = (element.xsi('nil') or '').strip() in ('true', '1')
-        if not found.is_reference:
-            self.attribute_child(owner, found, element, is_nil)
-        elif found.containment:
-            self.contained(owner, found, element, is_nil)
-        elif not is_nil:
-            link = element.plain('href') or element.xmi('idref')
-            if link is None and not element.text.strip():
-                fault(self.file, element.line, f'{element.name} has no href')
-            if link is not None:
-                self.pending.append(Pending(owner, found, link, element.line))
-            else:
-                self.words(owner, found, element.text, element.line)
-
-    def attribute_child(self, owner: Obj, feature: MFeature, element: Element, is_nil: bool) -> None:
-        """A value that is written as an element."""
-        if not is_nil:
-            self.put(owner, feature, self.value(feature, element.text, element.line), element.line)
-        elif feature.is_many:
-            self.notes.tell('value', feature.qualified, 'left out: null in a list', element.line)
-        elif feature.type == 'EString':
-            self.put(owner, feature, None, element.line)
+                type_name = ''
+                if not self.refer(owner, slot, word, line):
+                    waiting.append(Pending(owner, slot, self.wait(owner, slot, line), word, line))
+                continue
+            self.tell_type_name(slot, type_name, line)
+            type_name = word
+        self.tell_type_name(slot, type_name, line)
+        if len(waiting) > FEW:
+            self.many += waiting
         else:
-            self.notes.tell('value', feature.qualified, f'left out: null in {feature.type_name}', element.line)
+            self.pending += waiting
 
-    def contained(self, owner: Obj, feature: MFeature, element: Element, is_nil: bool) -> None:
+    def tell_type_name(self, slot: Slot, name: str, line: int) -> None:
+        """Tells a reference that is read as the type of the next one, and no next one is there."""
+        if name:
+            why = f'left out: a text with a colon and without # is the name of a type: {shortened(name)}'
+            self.notes.tell('reference', slot.feature.qualified, why, line, True)
+
+    def refer(self, owner: Obj, slot: Slot, text: str, line: int) -> bool:
+        """Joins a reference to an object that was read already; whether there is one."""
+        fragment = text[1:] if text.startswith('#') else text
+        if slot.kind == CONTAINER or '#' in fragment:
+            return False
+        found = self.addresses.quick(fragment)
+        if found is None or not self.plans.conforms(found.of, slot.type):
+            return False
+        self.put(owner, slot, found, line)
+        self.note_back(found, slot, owner)
+        return True
+
+    def note_back(self, target: Obj, slot: Slot, owner: Obj) -> None:
+        """Notes a link whose other end EMF completes as it sets this one, in that order."""
+        if slot.opposite is not None and self.plans[target.of].by_name[slot.opposite.name].is_completed:
+            self.back.append((target, slot, owner))
+
+    def wait(self, owner: Obj, slot: Slot, line: int) -> int:
+        """Keeps the place of a reference that is joined later, and returns its position."""
+        if slot.kind == CONTAINER:
+            return 0
+        self.put(owner, slot, WAITING, line)
+        return len(owner.values[slot.name]) - 1 if slot.is_many else 0
+
+    def child(self, owner: Obj, tag: str, attributes: List[str]) -> None:
+        """A feature that is written as an element."""
+        slot = self.plans[owner.of].by_key.get(tag)
+        if slot is None:
+            self.other_child(owner, tag, attributes)
+            return
+        is_nil = False
+        if attributes and XSI_NIL in attributes:
+            is_nil = (value_under(attributes, XSI_NIL) or '').strip() in ('true', '1')
+        if slot.kind == CONTAINED:
+            self.contained(owner, slot, attributes, is_nil)
+            return
+        line = self.line
+        if slot.kind != ATTRIBUTE and not is_nil:
+            link = link_of(attributes)
+            if link is not None:
+                self.pending.append(Pending(owner, slot, self.wait(owner, slot, line), link, line))
+                is_nil = True
+        self.open.append(Text(owner, slot, line, is_nil))
+
+    def other_child(self, owner: Obj, tag: str, attributes: List[str]) -> None:
+        """An element that is no feature that has a place. A feature is in the default namespace if there is one."""
+        space, name = name_of(tag)
+        if is_xmi(space):
+            self.skip(f'xmi:{name}')
+        elif space and space == self.prefixes.get('', [''])[-1]:
+            self.child(owner, name, attributes)
+        elif space:
+            self.fault(f'class {owner.of.name} has no feature {shortened(name)} of {space}')
+        else:
+            self.open.append(self.left(owner, name, attributes))
+
+    def contained(self, owner: Obj, slot: Slot, attributes: List[str], is_nil: bool) -> None:
         """An object that is contained. One of another file has no place."""
-        slot = owner.slots.setdefault(element.name, [])
-        if is_nil:
+        href = value_under(attributes, 'href') if 'href' in attributes else None
+        if is_nil or href is not None:
+            if href is not None:
+                text = f'left out: it is in another file: {shortened(href)}'
+                self.notes.tell('containment', slot.feature.qualified, text, self.line, True)
+                self.addresses.skip(owner, slot)
+            self.open.append(Skipped(None))
             return
-        href = element.plain('href')
-        if href is not None:
-            self.notes.tell('containment', feature.qualified, f'left out: it stands in another file: {href}', element.line)
-            slot.append(None)
-            return
-        made = self.object(element, self.typed(element, feature))
-        slot.append(made)
-        self.put(owner, feature, made, element.line)
+        if len(self.open) - (self.open[0] is None) >= DEEPEST:
+            self.fault(f'an object at level {DEEPEST + 1}; a document has {DEEPEST} levels at most')
+        made = self.object(self.typed(slot, attributes), attributes)
+        made.parent, made.via = owner, slot
+        self.put(owner, slot, made)
+        if slot.is_many:
+            made.index = len(owner.values[slot.name]) - 1
+        self.open.append(made)
 
-    def value(self, feature: MFeature, text: str, line: int) -> Value:
-        """The value of a text."""
-        of = feature.type
+    def take_text(self, top: Text, text: str) -> None:
+        """The text of a value, or of references."""
+        owner, slot = top.owner, top.slot
+        if slot.kind != ATTRIBUTE:
+            if not top.is_nil:
+                if not text.strip():
+                    fault(self.file, top.line, f'{slot.key} has no href')
+                self.words(owner, slot, text, top.line)
+        elif not top.is_nil:
+            self.put_text(owner, slot, text, top.line)
+        elif slot.is_many:
+            self.notes.tell('value', slot.feature.qualified, 'left out: null in a list', top.line, True)
+        elif slot.type == 'EString':
+            self.put(owner, slot, None, top.line)
+        else:
+            self.notes.tell('value', slot.feature.qualified, f'left out: null in {slot.feature.type_name}', top.line, True)
+
+    def put_text(self, owner: Obj, slot: Slot, text: str, line: int = 0) -> None:
+        """Adds the value of a text."""
+        of = slot.type
         assert isinstance(of, (str, MEnum))
         found = value_of(of, text)
         if found is None:
-            what = 'longer than 65,535 bytes' if of == 'EString' else f'no {feature.type_name}: {text[:80]}'
-            fault(self.file, line, f'{feature.qualified} is {what}')
-        return found
+            what = 'longer than 65,535 bytes' if of == 'EString' else f'no {slot.feature.type_name}: {shortened(text)}'
+            fault(self.file, line or self.line, f'{slot.feature.qualified} is {what}')
+        if slot.is_id:
+            self.addresses.keys.setdefault(text_of(of, found), owner)
+        self.put(owner, slot, found, line)
 
-    def put(self, owner: Obj, feature: MFeature, value: object, line: int) -> None:
+    def put(self, owner: Obj, slot: Slot, value: Any, line: int = 0) -> None:
         """Adds a value."""
-        values = owner.values.setdefault(feature, [])
-        if values and not feature.is_many:
-            fault(self.file, line, f'{feature.qualified} has one value, and several are written')
-        values.append(value)
-        if feature.source is not None and feature.source.flags['iD'] and isinstance(feature.type, (str, MEnum)) and value is not None:
-            self.keys.setdefault(text_of(feature.type, value), owner)
+        values = owner.values
+        if slot.is_many:
+            found = values.get(slot.name)
+            if found is None:
+                values[slot.name] = [value]
+            else:
+                found.append(value)
+        elif slot.name in values:
+            fault(self.file, line or self.line, f'{slot.feature.qualified} has one value, and several are written')
+        else:
+            values[slot.name] = value
+
+    def skipped_class(self, attributes: List[str], feature: EFeature) -> Optional[EClass]:
+        """The class of an object that is left out, as far as it is known."""
+        text = type_text(attributes)
+        if text is None:
+            return feature.type if isinstance(feature.type, EClass) else None
+        name = self.qualified(text)
+        found = self.bent.by_name.get(name) if name is not None else None
+        return found.source if found is not None else None
+
+
+def value_under(attributes: List[str], name: str) -> Optional[str]:
+    """The value of an attribute."""
+    return next((text for key, text in zip(attributes[::2], attributes[1::2]) if key == name), None)
+
+
+def xmi_value(attributes: List[str], name: str) -> Optional[str]:
+    """The value of an attribute of XMI; its name comes after a space."""
+    for place in range(0, len(attributes), 2):
+        key = attributes[place]
+        if key.endswith(name) and is_xmi(key[:-len(name)]):
+            return attributes[place + 1]
+    return None
+
+
+def type_text(attributes: List[str]) -> Optional[str]:
+    """The text of `xsi:type`, or of `xmi:type`."""
+    if XSI_TYPE in attributes:
+        return value_under(attributes, XSI_TYPE)
+    return xmi_value(attributes, ' type') if attributes else None
+
+
+def link_of(attributes: List[str]) -> Optional[str]:
+    """The reference of an element that has one as an attribute."""
+    return (value_under(attributes, 'href') or xmi_value(attributes, ' idref')) if attributes else None

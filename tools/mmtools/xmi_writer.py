@@ -3,55 +3,63 @@
 from __future__ import annotations
 
 import re
-from typing import Dict, List, Optional, Tuple
+from typing import Any, Dict, List, NoReturn, Optional, Tuple
 from xml.sax.saxutils import escape
 
 from .datatypes import text_of
-from .ecore_model import EFeature, EPackage
-from .faults import ToolError
-from .metamodel import MClass, MEnum, Metamodel, MFeature
-from .names import is_name
-from .objects import Graph, Kinds, Obj
+from .ecore_model import EPackage
+from .emf_values import Check, check_of, type_name
+from .faults import fault
+from .metamodel import MClass, MEnum, Metamodel
+from .names import is_name, is_xml_name
+from .notes import Notes, shortened
+from .objects import ATTRIBUTE, CONTAINED, Graph, Obj, Slot, as_list
+from .outside import Link, Outside
 from .progress import Progress
 from .xml_reader import XMI_SPACES, XSI
 
-XML_NAME = re.compile(r'[^\W\d][\w.\-\u00b7]*')
 FORBIDDEN = re.compile('[^\t\n\r\u0020-\ud7ff\ue000-\ufffd\U00010000-\U0010ffff]')
 IN_TEXT = {'\r': '&#xD;'}
 IN_ATTRIBUTE = {'"': '&quot;', '\t': '&#x9;', '\n': '&#xA;', '\r': '&#xD;'}
+MARKS = re.compile('[&<>"\t\n\r]')
+PIECE = 20_000  # texts that are joined at once
 
 
 class XmiWriter:
     """Writes one resource."""
 
-    def __init__(self, graph: Graph, meta: Metamodel, kinds: Kinds, uri: Optional[str]) -> None:
-        """References are written relative to `uri`, that of the resource."""
-        self.graph, self.meta, self.kinds = graph, meta, kinds
-        self.folder = uri.rpartition('/')[0] + '/' if uri else None
+    def __init__(self, file: str, graph: Graph, meta: Metamodel, outside: Outside, notes: Notes) -> None:
+        """`file` is that of the document, which faults name; `outside` knows the URI of the resource and the other files."""
+        self.file, self.graph, self.meta, self.outside, self.notes = file, graph, meta, outside, notes
+        self.plans = graph.plans
         self.prefixes: Dict[EPackage, str] = {}
-        self.lines: List[str] = []
+        self.types: Dict[MClass, str] = {}
+        self.checks: Dict[Slot, Optional[Check]] = {}
+        self.out: List[str] = []
+        self.done: List[bytes] = []
         self.progress = Progress('', 0)
 
-    def text(self) -> str:
-        """The file."""
-        self.graph.address(True)
-        objects = [obj for _, obj in self.graph.walk()]
-        self.progress = Progress('writing the objects', len(objects))
-        for obj in objects:
-            self.prefix(obj.of)
-            for feature, values in obj.values.items():
-                if not feature.containment and any(isinstance(it, str) for it in values) and feature.is_reference:
-                    self.proxy_type(feature)
-        self.lines = ['<?xml version="1.0" encoding="UTF-8"?>']
-        if len(self.graph.roots) == 1:
-            self.element(self.graph.roots[0], self.root_name(self.graph.roots[0]), self.head(), 0)
-        else:
-            self.lines.append(f'<xmi:XMI{self.head()}' + ('>' if self.graph.roots else '/>'))
-            for root in self.graph.roots:
-                self.element(root, self.root_name(root), '', 1)
-            self.lines += ['</xmi:XMI>'] if self.graph.roots else []
+    def pieces(self, count: int) -> List[bytes]:
+        """The file in pieces. The head is written at last, when all prefixes are known."""
+        self.progress = Progress('writing the objects', count)
+        roots = self.graph.roots
+        name = 'xmi:XMI' if len(roots) != 1 else self.type_text(roots[0])
+        self.out.append('' if len(roots) == 1 else '>\n' if roots else '/>\n')
+        for root in roots:
+            if len(roots) == 1:
+                self.element(root, name, '', '')
+            else:
+                self.element(root, self.type_text(root), f'  <{self.type_text(root)}', '  ')
+        if len(roots) > 1:
+            self.out.append('</xmi:XMI>\n')
+        self.flush()
         self.progress.end()
-        return '\n'.join(self.lines) + '\n'
+        return [f'<?xml version="1.0" encoding="UTF-8"?>\n<{name}{self.head()}'.encode('utf-8'), *self.done]
+
+    def flush(self) -> None:
+        """Joins what was written."""
+        self.done.append(''.join(self.out).encode('utf-8'))
+        self.out.clear()
 
     def head(self) -> str:
         """The version of XMI, and the prefixes."""
@@ -59,11 +67,15 @@ class XmiWriter:
         declared = ''.join(f' xmlns:{prefix}="{attribute_text(uri)}"' for prefix, uri in spaces)
         return ' xmi:version="2.0"' + declared
 
-    def prefix(self, of: MClass) -> str:
+    def fault(self, obj: Obj, text: str) -> NoReturn:
+        """Ends with a fault in an object."""
+        fault(self.file, None, f'{self.graph.where(obj)}: {text}')
+
+    def prefix(self, obj: Obj, of: MClass) -> str:
         """The prefix of the package of a class."""
         package = of.source.package if of.source else None
         if package is None or not package.uri:
-            raise ToolError(f'class {of.name} stands in a package without URI, so XMI has no name for it')
+            self.fault(obj, f'class {of.name} is in a package without URI, so XMI has no name for it')
         if package not in self.prefixes:
             wanted = package.prefix if is_name(package.prefix) and not package.prefix.lower().startswith('xm') else ''
             taken = list(self.prefixes.values()) + ['xsi', '']
@@ -73,105 +85,128 @@ class XmiWriter:
             self.prefixes[package] = wanted
         return self.prefixes[package]
 
-    def type_text(self, of: MClass) -> str:
-        """The name of a class with its prefix."""
-        name = of.source.name if of.source else of.name
-        if not XML_NAME.fullmatch(name):
-            raise ToolError(f'class {of.name} is called {name} in Ecore, which is no name in XML')
-        return f'{self.prefix(of)}:{name}'
+    def type_text(self, obj: Obj, of: Optional[MClass] = None) -> str:
+        """The name of a class with its prefix: that of an object, or another one that the object needs."""
+        of = of or obj.of
+        if of not in self.types:
+            name = of.source.name if of.source else of.name
+            if not is_xml_name(name):
+                self.fault(obj, f'class {shortened(of.name)} is called {shortened(name)} in Ecore, which is no name in XML')
+            self.types[of] = f'{self.prefix(obj, of)}:{name}'
+        return self.types[of]
 
-    def root_name(self, root: Obj) -> str:
-        """The name of a root element."""
-        return self.type_text(root.of)
-
-    def proxy_type(self, feature: MFeature) -> str:
-        """The `xsi:type` of a proxy, which EMF wants if the type of the reference is abstract: the first class below it."""
-        assert isinstance(feature.type, MClass)
-        if not feature.type.is_abstract:
-            return ''
-        below = [it for it in self.meta.classes if not it.is_abstract and self.kinds.conforms(it, feature.type)]
-        return f' xsi:type="{self.type_text(below[0])}"' if below else ''
-
-    def element(self, obj: Obj, name: str, head: str, level: int) -> None:
-        """The element of an object."""
-        attributes, below = head, []
-        self.progress.step(1)
-        for feature in self.kinds.features(obj.of):
-            values = obj.values.get(feature, [])
-            if not values or feature.is_container or feature.source is None or is_completed_by_emf(feature.source):
+    def element(self, obj: Obj, name: str, start: str, space: str) -> None:
+        """The element of an object, which begins with `start`."""
+        out, values = self.out, obj.values
+        out.append(start)
+        below = []
+        for slot in self.plans[obj.of].slots:
+            if slot.name not in values:
                 continue
-            self.check_name(obj.of, feature, feature.source.name)
-            if feature.containment:
-                below.append((feature, values))
-            elif feature.is_many and not feature.is_reference or any(it is None for it in values):
-                below.append((feature, values))
-            elif any(isinstance(it, str) for it in values) and feature.is_reference:
-                below.append((feature, values))
+            value = values[slot.name]
+            if value is None or slot.kind == CONTAINED or slot.is_many and slot.kind == ATTRIBUTE:
+                if value != [] and self.is_written(obj, slot):
+                    below.append((slot, value))
+            elif not slot.key or value == [] or not self.is_written(obj, slot):
+                continue
+            elif slot.kind == ATTRIBUTE:
+                out.append(f' {slot.key}="{self.attribute(obj, slot, value)}"')
+            elif not slot.is_many and type(value) is Obj:
+                out.append(f' {slot.key}="{self.graph.fragment(value, True)}"')
+            elif any([type(it) is str for it in as_list(slot, value)]):
+                below.append((slot, value))
             else:
-                attributes += f' {feature.source.name}="{self.joined(feature, values)}"'
-        space = '  ' * level
+                out.append(f' {slot.key}="{" ".join([self.graph.fragment(it, True) for it in value])}"')
+        self.progress.step(1)
         if not below:
-            self.lines.append(f'{space}<{name}{attributes}/>')
+            out.append('/>\n')
             return
-        self.lines.append(f'{space}<{name}{attributes}>')
-        for feature, values in below:
-            for value in values:
-                self.child(feature, value, level + 1)
-        self.lines.append(f'{space}</{name}>')
+        out.append('>\n')
+        inner = space + '  '
+        for slot, value in below:
+            for it in as_list(slot, value):
+                self.child(obj, slot, it, inner)
+        out.append(f'{space}</{name}>\n')
+        if len(out) > PIECE:
+            self.flush()
 
-    def check_name(self, of: MClass, feature: MFeature, name: str) -> None:
+    def is_written(self, obj: Obj, slot: Slot) -> bool:
+        """Whether a feature that has a value is written. EMF completes transient ends itself, and can't set what is unchangeable."""
+        if slot not in self.checks:
+            self.checks[slot] = check_of(slot.feature)
+            self.check_name(obj, slot)
+        if slot.is_settable:
+            return True
+        if slot.is_completed:
+            for it in as_list(slot, obj.values[slot.name]):
+                if type(it) is str:
+                    why = f'left out: EMF saves no transient end: {shortened(it)}'
+                    self.notes.tell('reference', f'{self.graph.where(obj)} {slot.feature.qualified}', why, None, True)
+            return False
+        self.notes.tell('value', f'{self.graph.where(obj)} {slot.feature.qualified}', 'left out: EMF sets nothing unchangeable', None, True)
+        if slot.kind == CONTAINED:
+            self.notes.objects_below += self.count_below(obj.values[slot.name])
+        return False
+
+    def count_below(self, obj: Obj) -> int:
+        """How many objects an object contains."""
+        return sum(1 + self.count_below(it) for it in self.graph.parts(obj))
+
+    def check_name(self, obj: Obj, slot: Slot) -> None:
         """Refuses a feature whose name in Ecore is none of XML, or that of another feature of the class."""
-        if not XML_NAME.fullmatch(name):
-            raise ToolError(f'{feature.qualified} is called {name} in Ecore, which is no name in XML')
-        if self.kinds.source_feature(of, name) is not feature:
-            raise ToolError(f'{feature.qualified} is called {name} in Ecore, as another feature of {of.name} is')
+        name, feature = slot.key, slot.feature
+        if not is_xml_name(name):
+            self.fault(obj, f'{feature.qualified} is called {shortened(name)} in Ecore, which is no name in XML')
+        if self.plans[obj.of].by_key[name] is not slot:
+            self.fault(obj, f'{feature.qualified} is called {shortened(name)} in Ecore, as another feature of {obj.of.name} is')
 
-    def joined(self, feature: MFeature, values: List[object]) -> str:
-        """The text of an attribute: one value, or fragments with spaces between them."""
-        if feature.is_reference:
-            return ' '.join(it.fragment for it in values if isinstance(it, Obj))
-        return attribute_text(self.plain(feature, values[0]))
+    def attribute(self, obj: Obj, slot: Slot, value: Any) -> str:
+        """The text of a value between quotation marks."""
+        text = self.plain(obj, slot, value)
+        return attribute_text(text) if MARKS.search(text) else text
 
-    def plain(self, feature: MFeature, value: object) -> str:
-        """The text of a value. XML has no way to write some control characters."""
-        assert isinstance(feature.type, (str, MEnum)) and isinstance(value, (str, int, bool))
-        text = text_of(feature.type, value)
+    def plain(self, obj: Obj, slot: Slot, value: Any) -> str:
+        """The text of a value. XML has no way to write some control characters, and EMF refuses some texts."""
+        text = value if type(value) is str and not isinstance(slot.type, MEnum) else text_of(slot.type, value)
         if FORBIDDEN.search(text):
-            raise ToolError(f'{feature.qualified} has a character that XML cannot write')
+            self.fault(obj, f'{slot.feature.qualified} has a character that XML cannot write')
+        check = self.checks[slot]
+        if check is not None and not check(text):
+            self.fault(obj, f'{slot.feature.qualified} is {shortened(text)}, which EMF reads as no {type_name(slot.feature)}')
         return text
 
-    def child(self, feature: MFeature, value: object, level: int) -> None:
+    def child(self, obj: Obj, slot: Slot, value: Any, space: str) -> None:
         """A value that is an element of its own."""
-        assert feature.source is not None
-        name, space = feature.source.name, '  ' * level
-        if isinstance(value, Obj) and feature.containment:
-            head = '' if value.of is feature.type else f' xsi:type="{self.type_text(value.of)}"'
-            self.element(value, name, head, level)
+        name = slot.key
+        if slot.kind == CONTAINED:
+            head = '' if value.of is slot.type else f' xsi:type="{self.type_text(value)}"'
+            self.element(value, name, f'{space}<{name}{head}', space)
         elif value is None:
-            self.lines.append(f'{space}<{name} xsi:nil="true"/>')
-        elif feature.is_reference:
-            head, href = self.link(feature, value)
-            self.lines.append(f'{space}<{name}{head} href="{href}"/>')
+            self.out.append(f'{space}<{name} xsi:nil="true"/>\n')
+        elif slot.kind == ATTRIBUTE:
+            self.out.append(f'{space}<{name}>{escape(self.plain(obj, slot, value), IN_TEXT)}</{name}>\n')
         else:
-            self.lines.append(f'{space}<{name}>{escape(self.plain(feature, value), IN_TEXT)}</{name}>')
+            head, href = self.link(obj, slot, value)
+            self.out.append(f'{space}<{name}{head} href="{href}"/>\n')
 
-    def link(self, feature: MFeature, value: object) -> Tuple[str, str]:
-        """The type and the href of a reference that is an element."""
+    def link(self, obj: Obj, slot: Slot, value: Any) -> Tuple[str, str]:
+        """The type and the href of a reference that is an element. The type is written if that of the reference is abstract."""
+        to = slot.type
+        assert isinstance(to, MClass)
         if isinstance(value, Obj):
-            assert isinstance(feature.type, MClass)
-            head = f' xsi:type="{self.type_text(value.of)}"' if feature.type.is_abstract else ''
-            return head, '#' + value.fragment
-        text = str(value)
-        if FORBIDDEN.search(text):
-            raise ToolError(f'{feature.qualified} has a character that XML cannot write')
-        if self.folder and text.startswith(self.folder) and text[len(self.folder):len(self.folder) + 1] not in ('', '#', '/'):
-            text = text[len(self.folder):]
-        return self.proxy_type(feature), attribute_text(text)
-
-
-def is_completed_by_emf(source: EFeature) -> bool:
-    """Whether EMF saves nothing of a feature, since it is transient: it completes the feature from the opposite end as it loads."""
-    return source.flags['transient'] and not source.is_grouped
+            head = f' xsi:type="{self.type_text(value)}"' if to.is_abstract else ''
+            return head, '#' + self.graph.fragment(value, True)
+        if FORBIDDEN.search(value):
+            self.fault(obj, f'{slot.feature.qualified} has a character that XML cannot write')
+        found: Link = self.outside.written(value)
+        if found.is_by_position:
+            why = 'goes by position into a package that is not given; EMF may have another order'
+            self.notes.tell('reference', f'{self.graph.where(obj)} {slot.feature.qualified}', f'{why}: {shortened(value)}')
+        of = found.of if found.of is not None and self.plans.conforms(found.of, to) else None
+        if of is None or of.is_abstract:
+            of = next((it for it in self.meta.classes if not it.is_abstract and self.plans.conforms(it, to)), None)
+        head = f' xsi:type="{self.type_text(obj, of)}"' if to.is_abstract and of is not None else ''
+        return head, attribute_text(found.text)
 
 
 def attribute_text(text: str) -> str:

@@ -106,6 +106,7 @@ final class Shown {
     if (object == null) {
       return "null";
     }
+    object = EcoreUtil.resolve(object, resource);
     if (object.eIsProxy()) {
       return "proxy " + ((InternalEObject) object).eProxyURI().deresolve(resource.getURI());
     }

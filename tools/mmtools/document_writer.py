@@ -1,0 +1,108 @@
+"""The text of a document of objects, as the repository saves it."""
+
+from __future__ import annotations
+
+from json.encoder import encode_basestring
+from typing import Any, Dict, List
+
+from .datatypes import default_of
+from .metamodel import MClass, MEnum
+from .objects import ATTRIBUTE, CONTAINED, CONTAINER, Graph, Obj, Slot
+from .progress import Progress
+
+FORMAT = 2
+PIECE = 20_000  # texts that are joined at once
+
+
+class DocumentWriter:
+    """Writes one document, with the keys in order and without spaces."""
+
+    def __init__(self, file: str, graph: Graph, count: int) -> None:
+        """`count` says how many objects there are, for the progress."""
+        self.graph, self.plans = graph, graph.plans
+        self.progress = Progress(f'writing the objects of {file}', count)
+        self.heads: Dict[MClass, str] = {}
+        self.defaults: Dict[Slot, Any] = {}
+        self.out: List[str] = []
+        self.done: List[bytes] = []
+
+    def pieces(self) -> List[bytes]:
+        """The text in UTF-8, in pieces."""
+        self.out.append(f'{{"format":{FORMAT},"roots":[')
+        for place, root in enumerate(self.graph.roots):
+            self.out.append(',' if place else '')
+            self.object(root)
+        self.out.append(']}\n')
+        self.flush()
+        self.progress.end()
+        return self.done
+
+    def flush(self) -> None:
+        """Joins what was written."""
+        self.done.append(''.join(self.out).encode('utf-8'))
+        self.out.clear()
+
+    def object(self, obj: Obj) -> None:
+        """An object with all that it contains."""
+        of, out = obj.of, self.out
+        head = self.heads.get(of)
+        if head is None:
+            head = self.heads[of] = f'{{"class":{encode_basestring(of.name)},"features":{{'
+        out.append(head)
+        slots, values = self.plans[of].by_name, obj.values
+        comma = ''
+        for name in sorted(values):
+            slot, value = slots[name], values[name]
+            if self.is_set(slot, value):
+                mark = f'{comma}"{name}":'
+                comma = ','
+                if slot.is_plain and value is not None:
+                    out.append(mark + encode_basestring(value))
+                    continue
+                out.append(mark)
+                if slot.is_many:
+                    self.list(slot, value)
+                else:
+                    self.one(slot, value)
+        out.append('}}')
+        self.progress.step(1)
+        if len(out) > PIECE:
+            self.flush()
+
+    def is_set(self, slot: Slot, value: Any) -> bool:
+        """Whether a feature is written: a list with values, an unsettable attribute that was given one, another value than the default."""
+        if slot.kind == CONTAINER:
+            return False
+        if slot.is_many:
+            return bool(value)
+        if slot.kind != ATTRIBUTE or slot.feature.unsettable:
+            return True
+        default = self.defaults.get(slot, self)
+        if default is self:
+            assert isinstance(slot.type, (str, MEnum))
+            default = self.defaults[slot] = default_of(slot.type, slot.feature.default)
+        return bool(value != default)
+
+    def list(self, slot: Slot, values: List[Any]) -> None:
+        """The values of a list."""
+        mark = '['
+        for value in values:
+            self.out.append(mark)
+            self.one(slot, value)
+            mark = ','
+        self.out.append(']')
+
+    def one(self, slot: Slot, value: Any) -> None:
+        """One value."""
+        if slot.kind == CONTAINED:
+            self.object(value)
+        elif type(value) is str:
+            self.out.append(encode_basestring(value))
+        elif type(value) is Obj:
+            self.out.append(f'"{self.graph.fragment(value)}"')
+        elif value is None:
+            self.out.append('null')
+        elif value is True or value is False:
+            self.out.append('true' if value else 'false')
+        else:
+            self.out.append(str(value))
