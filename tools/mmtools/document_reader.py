@@ -72,7 +72,8 @@ class DocumentReader:
     def tell_strays(self, notes: Notes) -> None:
         """Tells references by whole URIs that could lead to this document, if nothing says what its own URI is."""
         for uri, count in self.strays.items():
-            text = f'{counted(count, "reference")} to it, taken for another resource; --uri says that it is that of the document'
+            verb = 'leads' if count == 1 else 'lead'
+            text = f'{counted(count, "reference")} {verb} to it as to another resource; if it is that of the document, give it with --uri'
             notes.tell('URI', uri, text)
 
     def made(self, value: Dict[str, Any]) -> Any:
