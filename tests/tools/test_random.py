@@ -57,12 +57,13 @@ class Random(ToolTest):
     """The cases."""
 
     def test_cases(self):
-        counts = {'files': 0, 'notes': 0}
+        counts = {'files': 0, 'notes': 0, 'refused by EMF itself': 0}
         for seed in range(FIRST, FIRST + CASES):
             with self.subTest(seed=seed):
                 self.check(seed, counts)
         self.assertGreater(counts['files'], 0)
-        print(f'random: {CASES} cases, {counts["files"]} files, {counts["notes"]} notes')
+        self.assertLess(counts['refused by EMF itself'], CASES / 20 + 1)
+        print(f'random: {CASES} cases', *(f'{count} {what}' for what, count in counts.items()), sep=', ')
 
     def check(self, seed, counts):
         """Checks one case."""
@@ -72,10 +73,12 @@ class Random(ToolTest):
         emf.ask('random', seed, folder)
         ecore, files = sorted(folder.glob('*.ecore')), sorted(folder.glob('*.xmi'))
         self.assertEqual(emf.ask('packages', *ecore), [])
-        before = emf.ask('read', *files)
-        self.assertEqual([line for line in before if line.startswith('error')], [])
+        before = emf.ask('sorted', *files)
+        if any(line.startswith('error') for line in before):
+            counts['refused by EMF itself'] += 1
+            return
         notes = self.convert(ecore, files, made)
-        after = emf.ask('read', *[made / file.name for file in files])
+        after = emf.ask('sorted', *[made / file.name for file in files])
         counts['files'] += len(files)
         counts['notes'] += len(notes)
         told = {name for note in notes for name in FEATURE.findall(note)}

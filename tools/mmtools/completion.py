@@ -5,7 +5,7 @@ from __future__ import annotations
 from typing import TYPE_CHECKING, Dict, List, Set, Tuple
 
 from .notes import Notes
-from .objects import REFERENCE, Obj, Slot, held
+from .objects import Obj, Slot, held
 
 if TYPE_CHECKING:
     from .xmi_reader import XmiReader
@@ -29,9 +29,9 @@ class Completion:
             if not self.add(target, self.other(target, slot), owner):
                 self.take_over(target, slot, owner)
         for obj in self.graph.walk():
-            slots = self.plans[obj.of].by_name
-            for name in [it for it in obj.values if slots[it].opposite is not None and slots[it].kind == REFERENCE]:
-                self.complete_end(obj, slots[name])
+            for slot in self.plans[obj.of].ends:
+                if slot.name in obj.values:
+                    self.complete_end(obj, slot)
 
     def other(self, target: Obj, slot: Slot) -> Slot:
         """The slot of the other end."""
@@ -41,6 +41,8 @@ class Completion:
     def complete_end(self, obj: Obj, slot: Slot) -> None:
         """Completes the links of one end; a link whose other end has no room is left out."""
         values = held(obj, slot)
+        if not slot.is_many and type(values[0]) is Obj and values[0].values.get(self.other(values[0], slot).name) is obj:
+            return
         kept = [it for it in values if isinstance(it, str) or self.has_back(it, slot, obj)]
         if len(kept) < len(values):
             self.cut(obj, slot, kept)

@@ -105,6 +105,8 @@ class DocumentReader:
                 continue
             if slot.is_many and type(content) is not list:
                 self.fault(obj, f'{name} is many-valued, and no array is written')
+            if slot.kind == REFERENCE:
+                continue
             if slot.kind == CONTAINED:
                 self.check_parts(obj, slot, as_list(slot, content), level)
             elif slot.kind == ATTRIBUTE and not all(is_taken(slot, it) for it in as_list(slot, content)):
@@ -122,14 +124,15 @@ class DocumentReader:
 
     def join(self, obj: Obj) -> None:
         """Joins the references of an object: they become objects, or stay the texts of proxies."""
-        slots, values = self.plans[obj.of].by_name, obj.values
-        for name, content in values.items():
-            slot = slots[name]
-            if slot.kind == REFERENCE:
-                if slot.is_many:
-                    content[:] = [self.target(obj, slot, text) for text in content]
-                else:
-                    values[name] = self.target(obj, slot, content)
+        values = obj.values
+        for slot in self.plans[obj.of].references:
+            if slot.name not in values:
+                continue
+            content = values[slot.name]
+            if slot.is_many:
+                content[:] = [self.target(obj, slot, text) for text in content]
+            else:
+                values[slot.name] = self.target(obj, slot, content)
 
     def target(self, obj: Obj, slot: Slot, text: Any) -> Any:
         """The object that a reference leads to, or the text of a proxy."""

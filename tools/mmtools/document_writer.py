@@ -5,8 +5,7 @@ from __future__ import annotations
 from json.encoder import encode_basestring
 from typing import Any, Dict, List
 
-from .datatypes import default_of
-from .metamodel import MClass, MEnum
+from .metamodel import MClass
 from .objects import ATTRIBUTE, CONTAINED, CONTAINER, Graph, Obj, Slot
 from .progress import Progress
 
@@ -22,7 +21,6 @@ class DocumentWriter:
         self.graph, self.plans = graph, graph.plans
         self.progress = Progress(f'writing the objects of {file}', count)
         self.heads: Dict[MClass, str] = {}
-        self.defaults: Dict[Slot, Any] = {}
         self.out: List[str] = []
         self.done: List[bytes] = []
 
@@ -53,38 +51,26 @@ class DocumentWriter:
         comma = ''
         for name in sorted(values):
             slot, value = slots[name], values[name]
-            if self.is_set(slot, value):
-                mark = f'{comma}"{name}":'
-                comma = ','
-                if slot.is_plain and value is not None:
-                    out.append(mark + encode_basestring(value))
-                    continue
-                out.append(mark)
-                if slot.is_many:
-                    self.list(slot, value)
-                else:
-                    self.one(slot, value)
+            if slot.kind == CONTAINER or value == slot.default or slot.is_many and not value:
+                continue
+            out.append(f'{comma}"{name}":')
+            comma = ','
+            if slot.is_many:
+                self.list(slot, value)
+            elif type(value) is str:
+                out.append(encode_basestring(value))
+            else:
+                self.one(slot, value)
         out.append('}}')
         self.progress.step(1)
         if len(out) > PIECE:
             self.flush()
 
-    def is_set(self, slot: Slot, value: Any) -> bool:
-        """Whether a feature is written: a list with values, an unsettable attribute that was given one, another value than the default."""
-        if slot.kind == CONTAINER:
-            return False
-        if slot.is_many:
-            return bool(value)
-        if slot.kind != ATTRIBUTE or slot.feature.unsettable:
-            return True
-        default = self.defaults.get(slot, self)
-        if default is self:
-            assert isinstance(slot.type, (str, MEnum))
-            default = self.defaults[slot] = default_of(slot.type, slot.feature.default)
-        return bool(value != default)
-
     def list(self, slot: Slot, values: List[Any]) -> None:
         """The values of a list."""
+        if slot.kind == ATTRIBUTE and type(values[0]) is str:
+            self.out.append(f'[{",".join([encode_basestring(value) for value in values])}]')
+            return
         mark = '['
         for value in values:
             self.out.append(mark)

@@ -4,12 +4,14 @@ from __future__ import annotations
 
 from typing import Any, Dict, Iterator, List, Optional, Tuple
 
+from .datatypes import default_of
 from .metamodel import MClass, MFeature
 from .steps import INDEX
 
 DEEPEST = 40  # levels of objects in a document
 MOST_LISTS = 100_000  # lists that are remembered by the path to them
 ATTRIBUTE, CONTAINED, REFERENCE, CONTAINER = range(4)
+NEVER = object()  # the default of a feature that is written whatever its value
 
 
 class Obj:
@@ -34,7 +36,9 @@ class Obj:
 class Slot:
     """What the readers and writers need of a feature, without a call for each question."""
 
-    __slots__ = ('feature', 'name', 'key', 'kind', 'is_many', 'type', 'opposite', 'is_id', 'is_completed', 'is_plain', 'is_settable')
+    __slots__ = (
+        'feature', 'name', 'key', 'kind', 'is_many', 'type', 'opposite', 'is_id', 'is_completed', 'completes', 'is_plain', 'is_settable', 'default'
+    )
 
     def __init__(self, feature: MFeature) -> None:
         """`key` is the name in Ecore, which is empty if the feature is none of Ecore."""
@@ -47,6 +51,8 @@ class Slot:
         self.opposite = feature.opposite
         self.is_id = source is not None and source.flags['iD']
         self.is_completed = is_completed_by_emf(feature)
+        self.completes = self.kind == REFERENCE and feature.opposite is not None and is_completed_by_emf(feature.opposite)
+        self.default = NEVER if feature.unsettable or self.is_many or isinstance(self.type, MClass) else default_of(self.type, feature.default)
         is_changeable = self.is_many or source is None or source.flags['changeable'] or source.is_grouped
         self.is_settable = is_changeable and not self.is_completed
         self.is_plain = feature.type == 'EString' and not self.is_many and not self.is_id
@@ -65,6 +71,10 @@ class Plan:
         self.slots = [Slot(feature) for feature in of.all_features()]
         self.by_name = {slot.name: slot for slot in self.slots}
         self.by_key = {slot.key: slot for slot in self.slots if slot.key}
+        self.references = [slot for slot in self.slots if slot.kind == REFERENCE]
+        self.ends = [slot for slot in self.references if slot.opposite is not None]
+        self.lists = [slot for slot in self.slots if slot.is_many]
+        self.has_parts = any(slot.kind == CONTAINED for slot in self.slots)
         above = of.above()
         self.left = {name: left for it in above for name, left in it.left.items() if name not in self.by_key}
         self.above = frozenset(map(id, above))
@@ -105,8 +115,11 @@ class Graph:
 
     def parts(self, obj: Obj) -> List[Obj]:
         """What an object contains, in the order in which it was written."""
-        slots = self.plans[obj.of].by_name
+        plan = self.plans[obj.of]
         found: List[Obj] = []
+        if not plan.has_parts:
+            return found
+        slots = plan.by_name
         for name, value in obj.values.items():
             slot = slots[name]
             if slot.kind == CONTAINED:

@@ -68,7 +68,8 @@ class LinkJoiner:
                 to = it.slot.feature
                 fault(self.file, it.line, f'class {found.of.name} is no {to.type_name}, which {to.qualified} holds')
             self.put(it, found)
-            self.reader.note_back(found, it.slot, it.owner)
+            if it.slot.completes:
+                self.reader.back.append((found, it.slot, it.owner))
         elif found == LEFT:
             self.leave(it, 'it leads to what is left out')
         elif found == NO_FORM:
@@ -108,10 +109,9 @@ class LinkJoiner:
         """Leaves out what a list has already, and refuses a list that is too long."""
         plans = self.plans
         for obj in self.reader.graph.walk():
-            slots = plans[obj.of].by_name
-            for name, values in obj.values.items():
-                if type(values) is list:
-                    self.check_list(obj, slots[name], values)
+            for slot in plans[obj.of].lists:
+                if slot.name in obj.values:
+                    self.check_list(obj, slot, obj.values[slot.name])
 
     def check_list(self, obj: Obj, slot: Slot, values: List[Any]) -> None:
         """Checks one list."""

@@ -2,7 +2,7 @@
 
 from __future__ import annotations
 
-from typing import Any, List, NamedTuple, Optional, Set, Tuple, Union
+from typing import Any, Dict, List, NamedTuple, Optional, Set, Tuple, Union
 
 from .bending import Bent
 from .datatypes import text_of, value_of
@@ -56,6 +56,7 @@ class XmiReader(Parser):
         self.texts: List[str] = []
         self.texted: Set[int] = set()
         self.xmi_ids = self.count = 0
+        self.shapes: Dict[Tuple[Any, ...], Tuple[MClass, List[Slot]]] = {}
         self.pending: List[Pending] = []
         self.many: List[Pending] = []
         self.back: List[Tuple[Obj, Slot, Obj]] = []
@@ -72,14 +73,18 @@ class XmiReader(Parser):
         opened = self.open
         if self.texts:
             self.text_before()
-        if not opened:
-            self.first(tag, attributes)
-            return
-        if len(opened) == DEEPEST_ELEMENT:
-            self.fault(f'elements nest deeper than {DEEPEST_ELEMENT} levels')
-        top = opened[-1]
+        top = opened[-1] if opened else None
         if type(top) is Obj:
-            self.child(top, tag, attributes)
+            slot = self.plans[top.of].by_key.get(tag)
+            shape = self.shapes.get((slot, *attributes[::2])) if slot is not None and slot.kind == CONTAINED else None
+            if shape is not None and len(opened) < DEEPEST:
+                self.put_part(top, slot, self.plain_object(shape, attributes))
+            else:
+                self.child(top, slot, tag, attributes)
+        elif not opened:
+            self.first(tag, attributes)
+        elif len(opened) == DEEPEST_ELEMENT:
+            self.fault(f'elements nest deeper than {DEEPEST_ELEMENT} levels')
         elif top is None:
             self.root(tag, attributes)
         elif isinstance(top, Skipped):
@@ -179,6 +184,26 @@ class XmiReader(Parser):
                     self.attribute(made, slot, text)
         return made
 
+    def plain_object(self, shape: Tuple[MClass, List[Slot]], attributes: List[str]) -> Obj:
+        """An object whose attributes are known features: the quick way for what comes again and again."""
+        of, slots = shape
+        made = Obj(of, self.parser.CurrentLineNumber)
+        self.count += 1
+        values = made.values
+        for slot, text in zip(slots, attributes[1::2]):
+            if slot.is_plain and len(text) < SHORT:
+                values[slot.name] = text
+            else:
+                self.attribute(made, slot, text)
+        return made
+
+    def note_shape(self, of: MClass, slot: Slot, attributes: List[str]) -> None:
+        """Notes that objects of a slot with these attributes are plain, if they are: without a type, a link, and names of other spaces."""
+        names = attributes[::2]
+        slots = [self.plans[of].by_key.get(name) for name in names]
+        if None not in slots and 'href' not in names and of is slot.type:
+            self.shapes[(slot, *names)] = (of, [it for it in slots if it is not None])
+
     def other_attribute(self, owner: Obj, name: str, text: str) -> None:
         """An attribute that is no feature that has a place: one of XMI or XML, or of what is left out."""
         space, local = name_of(name)
@@ -204,6 +229,8 @@ class XmiReader(Parser):
 
     def attribute(self, owner: Obj, slot: Slot, text: str) -> None:
         """A feature that is written as an attribute. A list is cut at spaces, like one of EMF."""
+        if slot.is_many and not text.strip(' ') and slot.feature.source is not None and slot.feature.source.flags['unsettable']:
+            self.notes.tell('unsettable', slot.feature.qualified, 'is set to an empty list there, and not set here', self.line)
         if slot.kind == ATTRIBUTE:
             if not slot.is_many:
                 self.put_text(owner, slot, text)
@@ -218,7 +245,9 @@ class XmiReader(Parser):
 
     def words(self, owner: Obj, slot: Slot, text: str, line: int) -> None:
         """References of an attribute, with spaces between them. A word with a colon and no `#` is the type of the next one."""
-        if ':' not in text and ' ' not in text and self.refer(owner, slot, text, line):
+        if ':' not in text and ' ' not in text and text:
+            if not self.refer(owner, slot, text, line):
+                self.pending.append(Pending(owner, slot, self.wait(owner, slot, line), text, line))
             return
         type_name, waiting = '', []
         for word in text.split():
@@ -246,17 +275,13 @@ class XmiReader(Parser):
         fragment = text[1:] if text.startswith('#') else text
         if slot.kind == CONTAINER or '#' in fragment:
             return False
-        found = self.addresses.quick(fragment)
-        if found is None or not self.plans.conforms(found.of, slot.type):
+        found = self.addresses.at(fragment) if '[' in fragment else self.addresses.quick(fragment)
+        if type(found) is not Obj or found.of is not slot.type and not self.plans.conforms(found.of, slot.type):
             return False
         self.put(owner, slot, found, line)
-        self.note_back(found, slot, owner)
+        if slot.completes:
+            self.back.append((found, slot, owner))
         return True
-
-    def note_back(self, target: Obj, slot: Slot, owner: Obj) -> None:
-        """Notes a link whose other end EMF completes as it sets this one, in that order."""
-        if slot.opposite is not None and self.plans[target.of].by_name[slot.opposite.name].is_completed:
-            self.back.append((target, slot, owner))
 
     def wait(self, owner: Obj, slot: Slot, line: int) -> int:
         """Keeps the place of a reference that is joined later, and returns its position."""
@@ -265,9 +290,10 @@ class XmiReader(Parser):
         self.put(owner, slot, WAITING, line)
         return len(owner.values[slot.name]) - 1 if slot.is_many else 0
 
-    def child(self, owner: Obj, tag: str, attributes: List[str]) -> None:
+    def child(self, owner: Obj, slot: Optional[Slot], tag: str, attributes: List[str]) -> None:
         """A feature that is written as an element."""
-        slot = self.plans[owner.of].by_key.get(tag)
+        if len(self.open) == DEEPEST_ELEMENT:
+            self.fault(f'elements nest deeper than {DEEPEST_ELEMENT} levels')
         if slot is None:
             self.other_child(owner, tag, attributes)
             return
@@ -291,7 +317,7 @@ class XmiReader(Parser):
         if is_xmi(space):
             self.skip(f'xmi:{name}')
         elif space and space == self.prefixes.get('', [''])[-1]:
-            self.child(owner, name, attributes)
+            self.child(owner, self.plans[owner.of].by_key.get(name), name, attributes)
         elif space:
             self.fault(f'class {owner.of.name} has no feature {shortened(name)} of {space}')
         else:
@@ -309,11 +335,19 @@ class XmiReader(Parser):
             return
         if len(self.open) - (self.open[0] is None) >= DEEPEST:
             self.fault(f'an object at level {DEEPEST + 1}; a document has {DEEPEST} levels at most')
-        made = self.object(self.typed(slot, attributes), attributes)
+        of = self.typed(slot, attributes)
+        self.note_shape(of, slot, attributes)
+        self.put_part(owner, slot, self.object(of, attributes))
+
+    def put_part(self, owner: Obj, slot: Slot, made: Obj) -> None:
+        """Puts an object into its container, and opens it."""
         made.parent, made.via = owner, slot
-        self.put(owner, slot, made)
-        if slot.is_many:
-            made.index = len(owner.values[slot.name]) - 1
+        if slot.is_many and slot.name in owner.values:
+            parts = owner.values[slot.name]
+            made.index = len(parts)
+            parts.append(made)
+        else:
+            self.put(owner, slot, made)
         self.open.append(made)
 
     def take_text(self, top: Text, text: str) -> None:

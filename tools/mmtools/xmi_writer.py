@@ -3,7 +3,7 @@
 from __future__ import annotations
 
 import re
-from typing import Any, Dict, List, NoReturn, Optional, Tuple
+from typing import Any, Dict, List, NoReturn, Optional, Set, Tuple
 from xml.sax.saxutils import escape
 
 from .datatypes import text_of
@@ -22,6 +22,7 @@ FORBIDDEN = re.compile('[^\t\n\r\u0020-\ud7ff\ue000-\ufffd\U00010000-\U0010ffff]
 IN_TEXT = {'\r': '&#xD;'}
 IN_ATTRIBUTE = {'"': '&quot;', '\t': '&#x9;', '\n': '&#xA;', '\r': '&#xD;'}
 MARKS = re.compile('[&<>"\t\n\r]')
+SPECIAL = re.compile('[^ !#-%\'-;=?-\ud7ff\ue000-\ufffd\U00010000-\U0010ffff]')  # what is forbidden, or a mark
 PIECE = 20_000  # texts that are joined at once
 
 
@@ -35,6 +36,7 @@ class XmiWriter:
         self.prefixes: Dict[EPackage, str] = {}
         self.types: Dict[MClass, str] = {}
         self.checks: Dict[Slot, Optional[Check]] = {}
+        self.free: Set[Slot] = set()
         self.out: List[str] = []
         self.done: List[bytes] = []
         self.progress = Progress('', 0)
@@ -110,7 +112,10 @@ class XmiWriter:
             elif not slot.key or value == [] or not self.is_written(obj, slot):
                 continue
             elif slot.kind == ATTRIBUTE:
-                out.append(f' {slot.key}="{self.attribute(obj, slot, value)}"')
+                if type(value) is str and slot in self.free and not SPECIAL.search(value):
+                    out.append(f' {slot.key}="{value}"')
+                else:
+                    out.append(f' {slot.key}="{self.attribute(obj, slot, value)}"')
             elif not slot.is_many and type(value) is Obj:
                 out.append(f' {slot.key}="{self.graph.fragment(value, True)}"')
             elif any([type(it) is str for it in as_list(slot, value)]):
@@ -134,6 +139,8 @@ class XmiWriter:
         """Whether a feature that has a value is written. EMF completes transient ends itself, and can't set what is unchangeable."""
         if slot not in self.checks:
             self.checks[slot] = check_of(slot.feature)
+            if self.checks[slot] is None and not isinstance(slot.type, MEnum):
+                self.free.add(slot)
             self.check_name(obj, slot)
         if slot.is_settable:
             return True

@@ -26,6 +26,7 @@ import org.eclipse.emf.ecore.xmi.impl.XMIResourceImpl;
  *
  * packages FILE ..        the packages of Ecore files are those of the next commands
  * read FILE ..            the objects of XMI files, as text
+ * sorted FILE ..          the same, with transient ends in the order of their texts
  * types FILE ..           the types of the features of Ecore files
  * write FROM TO OPTION .. loads a file and saves it
  * random SEED FOLDER      makes a metamodel and models at random
@@ -63,7 +64,10 @@ public final class Judge {
         loadPackages(words);
         break;
       case "read":
-        read(words);
+        read(words, false);
+        break;
+      case "sorted":
+        read(words, true);
         break;
       case "types":
         types(words);
@@ -128,7 +132,7 @@ public final class Judge {
     }
   }
 
-  private void read(List<String> files) {
+  private void read(List<String> files, boolean sorts) {
     ResourceSet set = fresh();
     List<Resource> loaded = new ArrayList<>();
     for (String file : files) {
@@ -137,7 +141,7 @@ public final class Judge {
     for (Resource it : loaded) {
       tellErrors(it);
       out.println("file " + it.getURI().lastSegment());
-      new Shown(it, out).tell();
+      new Shown(it, out, sorts).tell();
     }
   }
 

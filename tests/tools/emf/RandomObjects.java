@@ -172,14 +172,20 @@ final class RandomObjects {
       int most = it.isMany() ? it.getUpperBound() > 1 ? it.getUpperBound() : 9 : 1;
       for (int count = random.nextInt(most + 1); count > 0; count--) {
         EObject to = objects.get(random.nextInt(objects.size()));
-        if (fits(it, to) && !(it.isMany() && (((List<?>) object.eGet(it)).size() >= most || ((List<?>) object.eGet(it)).contains(to)))) {
+        boolean isOwn = to == object && it.getEOpposite() != null; // EMF reads the order of such a list by ids and by positions differently
+        if (!isOwn && fits(it, to) && hasRoom(it.getEOpposite(), to) && !(it.isMany() && (((List<?>) object.eGet(it)).size() >= most || ((List<?>) object.eGet(it)).contains(to)))) {
           add(object, it, to);
         }
       }
     }
   }
 
-  /** Whether a reference takes an object, and the end that it has there has room. */
+  /** Whether the end of a link that EMF completes has room; EMF doesn't look. */
+  private static boolean hasRoom(EReference end, EObject at) {
+    return end == null || end.getUpperBound() < 2 || ((List<?>) at.eGet(end)).size() < end.getUpperBound();
+  }
+
+  /** Whether a reference takes an object. */
   private static boolean fits(EReference by, EObject to) {
     return by.getEReferenceType() == EcorePackage.Literals.EOBJECT || by.getEReferenceType().isInstance(to);
   }

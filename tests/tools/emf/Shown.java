@@ -1,5 +1,6 @@
 import java.io.PrintStream;
 import java.util.ArrayList;
+import java.util.Collections;
 import java.util.List;
 import org.eclipse.emf.ecore.EAttribute;
 import org.eclipse.emf.ecore.EClass;
@@ -19,8 +20,11 @@ import org.eclipse.emf.ecore.util.FeatureMapUtil;
 final class Shown {
   private final Resource resource;
   private final PrintStream out;
+  private final boolean sorts;
 
-  Shown(Resource resource, PrintStream out) {
+  /** If it sorts, the order of transient ends is not told: it depends on how the file writes its references. */
+  Shown(Resource resource, PrintStream out, boolean sorts) {
+    this.sorts = sorts;
     this.resource = resource;
     this.out = out;
   }
@@ -66,11 +70,14 @@ final class Shown {
       }
       return;
     }
-    StringBuilder line = new StringBuilder(path + " =");
+    List<String> texts = new ArrayList<>();
     for (Object it : values) {
-      line.append(' ').append(feature instanceof EAttribute ? text(feature, it) : addressOf((EObject) it));
+      texts.add(feature instanceof EAttribute ? text(feature, it) : addressOf((EObject) it));
     }
-    out.println(line);
+    if (sorts && feature.isTransient()) {
+      Collections.sort(texts);
+    }
+    out.println(path + " = " + String.join(" ", texts));
   }
 
   private static List<Object> valuesOf(EObject object, EStructuralFeature feature) {
