@@ -37,7 +37,8 @@ class Slot:
     """What the readers and writers need of a feature, without a call for each question."""
 
     __slots__ = (
-        'feature', 'name', 'key', 'kind', 'is_many', 'type', 'opposite', 'is_id', 'is_completed', 'completes', 'is_plain', 'is_settable', 'default'
+        'feature', 'name', 'key', 'kind', 'is_many', 'type', 'opposite', 'is_id', 'is_completed', 'completes', 'is_plain', 'is_settable',
+        'default',
     )
 
     def __init__(self, feature: MFeature) -> None:
@@ -52,7 +53,9 @@ class Slot:
         self.is_id = source is not None and source.flags['iD']
         self.is_completed = is_completed_by_emf(feature)
         self.completes = self.kind == REFERENCE and feature.opposite is not None and is_completed_by_emf(feature.opposite)
-        self.default = NEVER if feature.unsettable or self.is_many or isinstance(self.type, MClass) else default_of(self.type, feature.default)
+        self.default = NEVER
+        if not (feature.unsettable or self.is_many or isinstance(self.type, MClass)):
+            self.default = default_of(self.type, feature.default)
         is_changeable = self.is_many or source is None or source.flags['changeable'] or source.is_grouped
         self.is_settable = is_changeable and not self.is_completed
         self.is_plain = feature.type == 'EString' and not self.is_many and not self.is_id

@@ -12,8 +12,9 @@ from .objects import ATTRIBUTE, CONTAINED, CONTAINER, Obj, Slot
 from .outside import Outside
 from .progress import Progress
 from .steps import is_fragment
+from .xmi_open import WAITING, Pending
 from .xmi_paths import LEFT, NO_FORM, Found
-from .xmi_reader import WAITING, Pending, XmiReader
+from .xmi_reader import XmiReader
 
 
 class LinkJoiner:

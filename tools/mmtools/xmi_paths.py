@@ -100,7 +100,8 @@ class Addresses:
         above, name = self.by_names(obj.parent), obj.values.get('name')
         if above is None or not isinstance(name, str) or obj.via.key in NAMELESS:
             return None
-        same = [it for it in self.graph.parts(obj.parent) if it.values.get('name') == name and it.via is not None and it.via.key not in NAMELESS]
+        named = [it for it in self.graph.parts(obj.parent) if it.via is not None and it.via.key not in NAMELESS]
+        same = [it for it in named if it.values.get('name') == name]
         number = next(place for place, it in enumerate(same) if it is obj)
         return f'{above}/{name}' + (f'.{number}' if number else '')
 

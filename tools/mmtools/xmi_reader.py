@@ -2,7 +2,7 @@
 
 from __future__ import annotations
 
-from typing import Any, Dict, List, NamedTuple, Optional, Set, Tuple, Union
+from typing import Any, Dict, List, Optional, Set, Tuple, Union
 
 from .bending import Bent
 from .datatypes import text_of, value_of
@@ -12,35 +12,15 @@ from .metamodel import LONGEST_TEXT, MClass, MEnum
 from .notes import Notes, shortened
 from .objects import ATTRIBUTE, CONTAINED, CONTAINER, DEEPEST, Graph, Obj, Plans, Slot
 from .skipped import Skipped
+from .xmi_attributes import XSI_NIL, link_of, type_text, value_under
+from .xmi_open import WAITING, Pending, Text
 from .xmi_paths import Addresses
 from .xml_parser import DEEPEST as DEEPEST_ELEMENT, Parser
 from .xml_reader import XSI, is_xmi, name_of
 
 XML = 'http://www.w3.org/XML/1998/namespace'
-XSI_TYPE, XSI_NIL = f'{XSI} type', f'{XSI} nil'
 SHORT = LONGEST_TEXT // 4  # characters of a text that is surely not too long
 FEW = 5  # references of an attribute that EMF resolves one by one
-WAITING = object()  # what a list has in place of a reference that is still a text
-
-
-class Pending(NamedTuple):
-    """A reference that is still a text. `index` is its position in the list."""
-
-    owner: Obj
-    slot: Slot
-    index: int
-    text: str
-    line: int
-
-
-class Text:
-    """An open element that has a value, or references."""
-
-    __slots__ = ('owner', 'slot', 'line', 'is_nil')
-
-    def __init__(self, owner: Obj, slot: Slot, line: int, is_nil: bool) -> None:
-        """The text is read at its end."""
-        self.owner, self.slot, self.line, self.is_nil = owner, slot, line, is_nil
 
 
 class XmiReader(Parser):
@@ -401,29 +381,3 @@ class XmiReader(Parser):
         name = self.qualified(text)
         found = self.bent.by_name.get(name) if name is not None else None
         return found.source if found is not None else None
-
-
-def value_under(attributes: List[str], name: str) -> Optional[str]:
-    """The value of an attribute."""
-    return next((text for key, text in zip(attributes[::2], attributes[1::2]) if key == name), None)
-
-
-def xmi_value(attributes: List[str], name: str) -> Optional[str]:
-    """The value of an attribute of XMI; its name comes after a space."""
-    for place in range(0, len(attributes), 2):
-        key = attributes[place]
-        if key.endswith(name) and is_xmi(key[:-len(name)]):
-            return attributes[place + 1]
-    return None
-
-
-def type_text(attributes: List[str]) -> Optional[str]:
-    """The text of `xsi:type`, or of `xmi:type`."""
-    if XSI_TYPE in attributes:
-        return value_under(attributes, XSI_TYPE)
-    return xmi_value(attributes, ' type') if attributes else None
-
-
-def link_of(attributes: List[str]) -> Optional[str]:
-    """The reference of an element that has one as an attribute."""
-    return (value_under(attributes, 'href') or xmi_value(attributes, ' idref')) if attributes else None
