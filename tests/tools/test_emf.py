@@ -171,11 +171,11 @@ class Packages(EmfTest):
         self.assertEqual(ended.err, f'doc2xmi: reference root 0 N.any: {why}: http://www.eclipse.org/emf/2002/Ecore#//@eClassifiers.19\n')
 
     def test_real_files(self):
-        """Each Ecore file of Debian's EMF has the same types when it comes back as an instance of Ecore."""
+        """Each Ecore file of Debian's packages of Eclipse has the same types when it comes back as an instance of Ecore."""
         room, made = Path(self.room.name, 'there'), Path(self.room.name, 'back')
         room.mkdir()
         made.mkdir()
-        for jar in sorted(Path('/usr/share/java').glob('eclipse-emf*.jar')):
+        for jar in sorted(Path('/usr/share/java').glob('eclipse-*.jar')):
             with zipfile.ZipFile(jar) as found:
                 for name in found.namelist():
                     if name.endswith('.ecore'):
@@ -183,11 +183,12 @@ class Packages(EmfTest):
         files = sorted(room.glob('*.ecore'))
         self.assertGreaterEqual(len(files), 6)
         emf.ask('packages')
+        options = ['--ecore', room / 'Ecore.ecore', '--beside', *files]
+        for file in files:
+            document = self.file('d.json', self.tool('xmi2doc', *options, file))
+            (made / file.name).write_text(self.tool('doc2xmi', *options, document))
         for file in files:
             with self.subTest(file=file.name):
-                options = ['--ecore', room / 'Ecore.ecore', '--beside', *files]
-                document = self.file('d.json', self.tool('xmi2doc', *options, file))
-                (made / file.name).write_text(self.tool('doc2xmi', *options, document))
                 self.assertEqual(emf.ask('types', made / file.name), emf.ask('types', file))
 
 
