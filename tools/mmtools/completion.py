@@ -18,19 +18,21 @@ class Completion:
 
     def __init__(self, reader: 'XmiReader', notes: Notes) -> None:
         """`back` has the links whose other end is transient, as EMF sets them."""
-        self.graph, self.back, self.plans, self.notes = reader.graph, reader.back, reader.plans, notes
+        self.back, self.plans, self.notes = reader.back, reader.plans, notes
         self.sets: Dict[Tuple[Obj, str], Set[object]] = {}
 
-    def complete(self) -> None:
+    def complete(self, objects: List[Obj]) -> None:
         """Completes the transient ends first, and then all ends in the order of the objects."""
         for target, slot, owner in self.back:
             if owner in held(target, self.other(target, slot)):
                 continue
             if not self.add(target, self.other(target, slot), owner):
                 self.take_over(target, slot, owner)
-        for obj in self.graph.walk():
+        for obj in objects:
             for slot in self.plans[obj.of].ends:
-                if slot.name in obj.values:
+                value = obj.values.get(slot.name)
+                is_joined = type(value) is Obj and value.values.get(slot.opposite.name) is obj
+                if value is not None and not is_joined:
                     self.complete_end(obj, slot)
 
     def other(self, target: Obj, slot: Slot) -> Slot:
@@ -41,8 +43,6 @@ class Completion:
     def complete_end(self, obj: Obj, slot: Slot) -> None:
         """Completes the links of one end; a link whose other end has no room is left out."""
         values = held(obj, slot)
-        if not slot.is_many and type(values[0]) is Obj and values[0].values.get(self.other(values[0], slot).name) is obj:
-            return
         kept = [it for it in values if isinstance(it, str) or self.has_back(it, slot, obj)]
         if len(kept) < len(values):
             self.cut(obj, slot, kept)

@@ -26,6 +26,7 @@ BUILT_IN = {
 OBJECTS = frozenset(f'ecore:{name}' for name, (_, loss) in BUILT_IN.items() if loss.endswith('null is unset'))
 RANGES = {'EInt': 1 << 31, 'ELong': 1 << 63}
 NUMBER = re.compile(r'([+-]?)0*([0-9]{1,19})', re.ASCII)
+SURE_DIGITS = 10  # from which on a number may be out of range
 SPACES = ' \t\r\n'
 
 
@@ -36,6 +37,8 @@ def is_short(text: str) -> bool:
 
 def number(data_type: str, text: str) -> Optional[int]:
     """The number of a text, in the range of EInt or ELong."""
+    if len(text) < SURE_DIGITS and text.isdecimal() and text.isascii():
+        return int(text)
     found = NUMBER.fullmatch(text.strip(SPACES))
     if not found:
         return None

@@ -21,6 +21,7 @@ class DocumentWriter:
         self.graph, self.plans = graph, graph.plans
         self.progress = Progress(f'writing the objects of {file}', count)
         self.heads: Dict[MClass, str] = {}
+        self.count = 0  # objects since the last flush
         self.out: List[str] = []
         self.done: List[bytes] = []
 
@@ -37,6 +38,8 @@ class DocumentWriter:
 
     def flush(self) -> None:
         """Joins what was written."""
+        self.progress.step(self.count)
+        self.count = 0
         self.done.append(''.join(self.out).encode('utf-8'))
         self.out.clear()
 
@@ -53,16 +56,14 @@ class DocumentWriter:
             slot, value = slots[name], values[name]
             if slot.kind == CONTAINER or value == slot.default or slot.is_many and not value:
                 continue
-            out.append(f'{comma}"{name}":')
-            comma = ','
-            if slot.is_many:
-                self.list(slot, value)
-            elif type(value) is str:
-                out.append(encode_basestring(value))
+            if type(value) is str:
+                out.append(f'{comma}"{name}":{encode_basestring(value)}')
             else:
-                self.one(slot, value)
+                out.append(f'{comma}"{name}":')
+                (self.list if slot.is_many else self.one)(slot, value)
+            comma = ','
         out.append('}}')
-        self.progress.step(1)
+        self.count += 1
         if len(out) > PIECE:
             self.flush()
 
@@ -80,12 +81,13 @@ class DocumentWriter:
 
     def one(self, slot: Slot, value: Any) -> None:
         """One value."""
-        if slot.kind == CONTAINED:
-            self.object(value)
+        if type(value) is Obj:
+            if slot.kind == CONTAINED:
+                self.object(value)
+            else:
+                self.out.append(f'"{self.graph.fragment(value)}"')
         elif type(value) is str:
             self.out.append(encode_basestring(value))
-        elif type(value) is Obj:
-            self.out.append(f'"{self.graph.fragment(value)}"')
         elif value is None:
             self.out.append('null')
         elif value is True or value is False:

@@ -2,7 +2,7 @@
 
 from __future__ import annotations
 
-from typing import Any, Dict, Iterator, List, Optional, Tuple
+from typing import Any, Dict, Iterator, List, Optional, Tuple, Union
 
 from .datatypes import default_of
 from .metamodel import MClass, MFeature
@@ -12,6 +12,8 @@ DEEPEST = 40  # levels of objects in a document
 MOST_LISTS = 100_000  # lists that are remembered by the path to them
 ATTRIBUTE, CONTAINED, REFERENCE, CONTAINER = range(4)
 NEVER = object()  # the default of a feature that is written whatever its value
+BEYOND = object()  # what a fragment leads to if its list is known and has no such position
+MARKS = ': #'  # what a path has that is more than positions, or a part of a name that a reader cuts at
 
 
 class Obj:
@@ -37,8 +39,8 @@ class Slot:
     """What the readers and writers need of a feature, without a call for each question."""
 
     __slots__ = (
-        'feature', 'name', 'key', 'kind', 'is_many', 'type', 'opposite', 'is_id', 'is_completed', 'completes', 'is_plain', 'is_settable',
-        'default',
+        'feature', 'name', 'key', 'kind', 'is_many', 'type', 'opposite', 'is_id', 'is_completed', 'completes', 'is_plain', 'is_value', 'is_link',
+        'is_settable', 'default',
     )
 
     def __init__(self, feature: MFeature) -> None:
@@ -58,7 +60,9 @@ class Slot:
             self.default = default_of(self.type, feature.default)
         is_changeable = self.is_many or source is None or source.flags['changeable'] or source.is_grouped
         self.is_settable = is_changeable and not self.is_completed
-        self.is_plain = feature.type == 'EString' and not self.is_many and not self.is_id
+        self.is_value = self.kind == ATTRIBUTE and not self.is_many and not self.is_id
+        self.is_plain = self.is_value and feature.type == 'EString'
+        self.is_link = self.kind == REFERENCE and not self.is_many and not self.completes
 
 
 def is_completed_by_emf(feature: MFeature) -> bool:
@@ -96,6 +100,28 @@ class Plans(Dict[MClass, Plan]):
         return of is to or id(to) in self[of].above
 
 
+class Lists(Dict[str, List[Obj]]):
+    """The lists of contained objects that were looked for, by the paths to them."""
+
+    def at(self, fragment: str) -> Union[Obj, object, None]:
+        """The object of a fragment, or `BEYOND`, if its list is known; None if that is not known."""
+        path, _, digits = fragment.rpartition('.')
+        parts = self.get(path)
+        if parts is None or INDEX.fullmatch(digits) is None:
+            return None
+        index = int(digits)
+        return parts[index] if index < len(parts) else BEYOND
+
+    def remember(self, fragment: str, parts: List[Obj]) -> None:
+        """Keeps the list of a fragment, if its path is plain."""
+        path = fragment.rpartition('.')[0]
+        if any(mark in path for mark in MARKS):
+            return
+        if len(self) >= MOST_LISTS:
+            self.clear()
+        self[path] = parts
+
+
 class Graph:
     """The roots of a resource."""
 
@@ -104,17 +130,16 @@ class Graph:
         self.plans = plans
         self.roots: List[Obj] = []
         self.paths: Tuple[Dict[Obj, str], Dict[Obj, str]] = ({}, {})
-        self.lists: Tuple[Dict[str, List[Obj]], Dict[str, List[Obj]]] = ({}, {})
+        self.lists = (Lists(), Lists())
 
     def walk(self) -> Iterator[Obj]:
         """Each object, before those that it contains."""
-        stack = self.roots[::-1]
+        plans, stack = self.plans, self.roots[::-1]
         while stack:
             obj = stack.pop()
             yield obj
-            parts = self.parts(obj)
-            if parts:
-                stack += reversed(parts)
+            if plans[obj.of].has_parts:
+                stack += reversed(self.parts(obj))
 
     def parts(self, obj: Obj) -> List[Obj]:
         """What an object contains, in the order in which it was written."""
@@ -134,10 +159,10 @@ class Graph:
 
     def follow(self, fragment: str, by_keys: bool) -> Optional[Obj]:
         """The object of a fragment by positions; None if there is none yet, or the fragment is of another form."""
-        path, _, digits = fragment.rpartition('.')
-        parts = self.lists[by_keys].get(path)
-        if parts is not None and INDEX.fullmatch(digits):
-            return parts[int(digits)] if int(digits) < len(parts) else None
+        known = self.lists[by_keys].at(fragment)
+        if known is not None:
+            return known if type(known) is Obj else None
+        parts = None
         words = fragment.split('/')
         root = words[1] if len(words) > 1 and not words[0] else '-'
         if root and not INDEX.fullmatch(root) or len(self.roots) <= int(root or '0'):
@@ -158,9 +183,7 @@ class Graph:
                 return None
             found = value
         if parts is not None and type(parts) is list:
-            if len(self.lists[by_keys]) >= MOST_LISTS:
-                self.lists[by_keys].clear()
-            self.lists[by_keys][path] = parts
+            self.lists[by_keys].remember(fragment, parts)
         return found
 
     def where(self, obj: Obj) -> str:

@@ -4,10 +4,13 @@ from __future__ import annotations
 
 import sys
 import time
+from typing import Iterator, List, TypeVar
 
 MANY_BYTES = 1_000_000  # from which a file counts as long
 MANY_OBJECTS = 5_000
 SECONDS = 0.5  # between two texts
+AT_ONCE = 1_000  # steps that are counted at once
+Item = TypeVar('Item')
 
 
 class Progress:
@@ -26,6 +29,14 @@ class Progress:
             self.next = time.monotonic() + SECONDS
             sys.stderr.write(f'\r{self.what}: {min(100, 100 * self.done // self.total)} %')
             sys.stderr.flush()
+
+    def each(self, items: List[Item]) -> Iterator[Item]:
+        """Things that are done one after the other: a step each."""
+        for start in range(0, len(items), AT_ONCE):
+            some = items[start:start + AT_ONCE]
+            yield from some
+            self.step(len(some))
+        self.end()
 
     def end(self) -> None:
         """Clears the line."""

@@ -2,7 +2,7 @@
 
 from __future__ import annotations
 
-from typing import Any, Set, Tuple
+from typing import Any, List, Set, Tuple
 
 from .completion import Completion
 from .datatypes import is_short
@@ -29,19 +29,22 @@ class LinkJoiner:
     def join(self) -> None:
         """Joins all references, in the order of EMF: those of attributes with many of them at last. Completes both ends."""
         waiting = self.reader.pending + self.reader.many
-        progress = Progress(f'joining the references of {self.file}', len(waiting))
-        for it in waiting:
-            self.join_one(it)
-            progress.step(1)
-        progress.end()
+        object_at = self.reader.addresses.lists.at
+        for it in Progress(f'joining the references of {self.file}', len(waiting)).each(waiting):
+            found = object_at(it.text) if it.slot.is_link else None
+            if type(found) is Obj:
+                self.join_inside(it, found)
+            else:
+                self.join_one(it)
         for owner, slot in self.holes:
             kept = [it for it in owner.values[slot.name] if it is not WAITING]
             if kept:
                 owner.values[slot.name] = kept
             else:
                 del owner.values[slot.name]
-        self.drop_repeats()
-        Completion(self.reader, self.notes).complete()
+        objects = list(self.reader.graph.walk())
+        self.drop_repeats(objects)
+        Completion(self.reader, self.notes).complete(objects)
 
     def join_one(self, it: Pending) -> None:
         """Joins one reference."""
@@ -65,7 +68,7 @@ class LinkJoiner:
     def join_inside(self, it: Pending, found: Found) -> None:
         """Joins a reference inside of the file."""
         if isinstance(found, Obj):
-            if not self.plans.conforms(found.of, it.slot.type):
+            if found.of is not it.slot.type and not self.plans.conforms(found.of, it.slot.type):
                 to = it.slot.feature
                 fault(self.file, it.line, f'class {found.of.name} is no {to.type_name}, which {to.qualified} holds')
             self.put(it, found)
@@ -106,10 +109,10 @@ class LinkJoiner:
         text = f'{whole}#{bent}'
         return text, '' if is_short(text) else 'longer than 65,535 bytes'
 
-    def drop_repeats(self) -> None:
+    def drop_repeats(self, objects: List[Obj]) -> None:
         """Leaves out what a list has already, and refuses a list that is too long."""
         plans = self.plans
-        for obj in self.reader.graph.walk():
+        for obj in objects:
             for slot in plans[obj.of].lists:
                 if slot.name in obj.values:
                     self.check_list(obj, slot, obj.values[slot.name])

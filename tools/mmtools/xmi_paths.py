@@ -7,7 +7,7 @@ from typing import Dict, List, Optional, Tuple, Union
 from .datatypes import default_of, text_of
 from .metamodel import MEnum
 from .objects import CONTAINED, Graph, Obj, Slot, held
-from .steps import INDEX, Step, parse_steps
+from .steps import Step, parse_steps
 from .xml_reader import ECORE
 
 NO_ID, NO_POSITION, NO_KEY, NO_FORM = 'no such id', 'no such position', 'no such key', 'a fragment of a form that is not known'
@@ -28,7 +28,8 @@ class Addresses:
         self.gaps: Dict[Tuple[Obj, str], List[int]] = {}
 
     def skip(self, owner: Obj, slot: Slot) -> None:
-        """Notes that a part is left out at this position, so that the positions after it count it."""
+        """Notes that a part is left out at this position, so that the positions after it count it. No list is looked up from here on."""
+        self.lists.clear()
         gaps = self.gaps.setdefault((owner, slot.name), [])
         gaps.append(len(held(owner, slot)) + len(gaps))
 
@@ -36,14 +37,7 @@ class Addresses:
         """The object of an id, or of steps by positions; None if it takes a longer look, or there is none yet."""
         if not fragment.startswith('/'):
             return self.ids.get(fragment) or self.keys.get(fragment)
-        if self.gaps:
-            return None
-        path, _, digits = fragment.rpartition('.')
-        parts = self.lists.get(path)
-        if parts is not None and INDEX.fullmatch(digits):
-            index = int(digits)
-            return parts[index] if index < len(parts) else None
-        return self.graph.follow(fragment, True)
+        return None if self.gaps else self.graph.follow(fragment, True)
 
     def at(self, fragment: str) -> Found:
         """The object of a fragment, that it is left out, or why there is none."""

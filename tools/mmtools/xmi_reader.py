@@ -10,7 +10,7 @@ from .ecore_model import EClass, EFeature
 from .faults import fault
 from .metamodel import LONGEST_TEXT, MClass, MEnum
 from .notes import Notes, shortened
-from .objects import ATTRIBUTE, CONTAINED, CONTAINER, DEEPEST, Graph, Obj, Plans, Slot
+from .objects import ATTRIBUTE, BEYOND, CONTAINED, CONTAINER, DEEPEST, Graph, Obj, Plans, Slot
 from .skipped import Skipped
 from .xmi_attributes import XSI_NIL, link_of, type_text, value_under
 from .xmi_open import WAITING, Pending, Text
@@ -20,6 +20,7 @@ from .xml_reader import XSI, is_xmi, name_of
 
 XML = 'http://www.w3.org/XML/1998/namespace'
 SHORT = LONGEST_TEXT // 4  # characters of a text that is surely not too long
+Slots = List[Optional[Slot]]
 FEW = 5  # references of an attribute that EMF resolves one by one
 
 
@@ -36,7 +37,7 @@ class XmiReader(Parser):
         self.texts: List[str] = []
         self.texted: Set[int] = set()
         self.xmi_ids = self.count = 0
-        self.shapes: Dict[Tuple[Any, ...], Tuple[MClass, List[Slot]]] = {}
+        self.shapes: Dict[Tuple[Any, ...], Tuple[MClass, Slots]] = {}
         self.pending: List[Pending] = []
         self.many: List[Pending] = []
         self.back: List[Tuple[Obj, Slot, Obj]] = []
@@ -56,9 +57,10 @@ class XmiReader(Parser):
         top = opened[-1] if opened else None
         if type(top) is Obj:
             slot = self.plans[top.of].by_key.get(tag)
-            shape = self.shapes.get((slot, *attributes[::2])) if slot is not None and slot.kind == CONTAINED else None
+            names = attributes[::2]
+            shape = self.shapes.get((slot, *names)) if slot is not None and slot.kind == CONTAINED else None
             if shape is not None and len(opened) < DEEPEST:
-                self.put_part(top, slot, self.plain_object(shape, attributes))
+                self.put_part(top, slot, self.object(shape[0], names, shape[1], attributes[1::2]))
             else:
                 self.child(top, slot, tag, attributes)
         elif not opened:
@@ -111,7 +113,7 @@ class XmiReader(Parser):
         if is_xmi(space):
             self.skip(f'xmi:{name}')
             return
-        made = self.object(self.class_of(space, name), attributes)
+        made = self.new_object(self.class_of(space, name), attributes)
         made.index = len(self.graph.roots)
         self.graph.roots.append(made)
         self.open.append(made)
@@ -146,35 +148,39 @@ class XmiReader(Parser):
             self.fault(f'class {found.name} is no {to.name}, which {slot.feature.qualified} holds')
         return found
 
-    def object(self, of: MClass, attributes: List[str]) -> Obj:
-        """An object with its attributes. It is in nothing yet, so its own references don't find it by position."""
-        made = Obj(of, self.parser.CurrentLineNumber)
-        self.count += 1
-        if attributes:
-            slots = self.plans[of].by_key
-            it = iter(attributes)
-            values = made.values
-            for name, text in zip(it, it):
-                slot = slots.get(name)
-                if slot is None:
-                    self.other_attribute(made, name, text)
-                elif slot.is_plain and len(text) < SHORT:
-                    values[slot.name] = text
-                else:
-                    self.attribute(made, slot, text)
-        return made
+    def new_object(self, of: MClass, attributes: List[str]) -> Obj:
+        """An object with its attributes."""
+        names, slots = attributes[::2], self.plans[of].by_key
+        return self.object(of, names, [slots.get(name) for name in names], attributes[1::2])
 
-    def plain_object(self, shape: Tuple[MClass, List[Slot]], attributes: List[str]) -> Obj:
-        """An object whose attributes are known features: the quick way for what comes again and again."""
-        of, slots = shape
+    def object(self, of: MClass, names: List[str], slots: Slots, texts: List[str]) -> Obj:
+        """An object with its attributes. It is in nothing yet, so its own references don't find it by position.
+
+        Single values, and references by the position in a list that is known, are set here; the other features by `attribute`.
+        """
         made = Obj(of, self.parser.CurrentLineNumber)
         self.count += 1
-        values = made.values
-        for slot, text in zip(slots, attributes[1::2]):
+        values, object_at = made.values, self.addresses.lists.at
+        for name, slot, text in zip(names, slots, texts):
+            value: Any = None
+            if slot is None:
+                self.other_attribute(made, name, text)
+                continue
             if slot.is_plain and len(text) < SHORT:
-                values[slot.name] = text
-            else:
+                value = text
+            elif slot.is_value:
+                value = value_of(slot.type, text)
+            elif slot.is_link:
+                value = object_at(text)
+                if value is BEYOND:
+                    value = WAITING
+                    self.pending.append(Pending(made, slot, 0, text, made.line))
+                elif value is not None and value.of is not slot.type and not self.plans.conforms(value.of, slot.type):
+                    value = None
+            if value is None:
                 self.attribute(made, slot, text)
+            else:
+                values[slot.name] = value
         return made
 
     def note_shape(self, of: MClass, slot: Slot, attributes: List[str]) -> None:
@@ -182,7 +188,7 @@ class XmiReader(Parser):
         names = attributes[::2]
         slots = [self.plans[of].by_key.get(name) for name in names]
         if None not in slots and 'href' not in names and of is slot.type:
-            self.shapes[(slot, *names)] = (of, [it for it in slots if it is not None])
+            self.shapes[(slot, *names)] = (of, slots)
 
     def other_attribute(self, owner: Obj, name: str, text: str) -> None:
         """An attribute that is no feature that has a place: one of XMI or XML, or of what is left out."""
@@ -317,7 +323,7 @@ class XmiReader(Parser):
             self.fault(f'an object at level {DEEPEST + 1}; a document has {DEEPEST} levels at most')
         of = self.typed(slot, attributes)
         self.note_shape(of, slot, attributes)
-        self.put_part(owner, slot, self.object(of, attributes))
+        self.put_part(owner, slot, self.new_object(of, attributes))
 
     def put_part(self, owner: Obj, slot: Slot, made: Obj) -> None:
         """Puts an object into its container, and opens it."""
