@@ -9,13 +9,12 @@ from .datatypes import is_value
 from .faults import fault, read_bytes
 from .metamodel import LONGEST_TEXT, MClass, Metamodel
 from .notes import Notes, counted, shortened
-from .objects import ATTRIBUTE, CONTAINED, CONTAINER, DEEPEST, REFERENCE, Graph, Obj, Plans, Slot, as_list
+from .objects import CONTAINED, CONTAINER, DEEPEST, REFERENCE, Graph, Obj, Plans, Slot, as_list
 from .progress import Progress
 from .steps import is_fragment
 from .uris import joined
 
 FORMATS = (1, 2)
-PAIR = {'class', 'features'}
 SHORT = LONGEST_TEXT // 4  # characters of a text that is surely not too long
 
 
@@ -44,6 +43,7 @@ class DocumentReader:
         self.own: Dict[str, bool] = {'': True}
         self.classes = {it.name: it for it in meta.classes}
         self.graph = Graph(plans)
+        self.linked: List[Obj] = []  # objects that may have references
         self.progress = Progress('', 0)
         self.count = 0
         self.strays: Dict[str, int] = {}
@@ -55,7 +55,7 @@ class DocumentReader:
             fault(self.file, None, 'no document of a resource: it has the keys format and roots')
         if type(top['format']) is not int or top['format'] not in FORMATS:
             fault(self.file, None, f'format {json.dumps(top["format"])[:20]} is another than 1 or 2')
-        self.progress = Progress(f'reading the objects of {self.file}', 2 * self.count)
+        self.progress = Progress(f'reading the objects of {self.file}', self.count)
         for place, root in enumerate(top['roots']):
             if type(root) is not Obj:
                 fault(self.file, None, f'root {place}: no object: it has the keys class and features')
@@ -63,10 +63,9 @@ class DocumentReader:
             self.graph.roots.append(root)
         for root in self.graph.roots:
             self.check(root, 1)
-        for obj in self.graph.walk():
-            self.progress.step(1)
-            self.join(obj)
         self.progress.end()
+        for obj in Progress(f'joining the references of {self.file}', len(self.linked)).each(self.linked):
+            self.join(obj)
         return self.graph
 
     def tell_strays(self, notes: Notes) -> None:
@@ -78,7 +77,7 @@ class DocumentReader:
 
     def made(self, value: Dict[str, Any]) -> Any:
         """An object for a JSON object that has the keys of one. Its class stays a name until it is checked."""
-        if len(value) == 2 and value.keys() == PAIR and type(value['features']) is dict:
+        if len(value) == 2 and 'class' in value and type(value.get('features')) is dict:
             self.count += 1
             name = value['class']
             return Obj(self.classes.get(name, name) if isinstance(name, str) else name, 0, value['features'])
@@ -96,7 +95,10 @@ class DocumentReader:
         if level > DEEPEST:
             self.fault(obj, f'deeper than {DEEPEST} levels')
         self.progress.step(1)
-        slots = self.plans[of].by_name
+        plan = self.plans[of]
+        if plan.references:
+            self.linked.append(obj)
+        slots = plan.by_name
         for name, content in obj.values.items():
             slot = slots.get(name)
             if slot is None or slot.kind == CONTAINER:
@@ -109,7 +111,7 @@ class DocumentReader:
                 continue
             if slot.kind == CONTAINED:
                 self.check_parts(obj, slot, as_list(slot, content), level)
-            elif slot.kind == ATTRIBUTE and not all(is_taken(slot, it) for it in as_list(slot, content)):
+            elif not (all([is_taken(slot, it) for it in content]) if slot.is_many else is_taken(slot, content)):
                 self.fault(obj, f'{name} has what is no {slot.feature.type_name}')
 
     def check_parts(self, obj: Obj, slot: Slot, parts: List[Any], level: int) -> None:
@@ -119,7 +121,7 @@ class DocumentReader:
                 fault(self.file, None, f'{self.graph.where(obj)} {slot.name} {place}: no object: it has the keys class and features')
             part.parent, part.via, part.index = obj, slot, place
             self.check(part, level + 1)
-            if not self.plans.conforms(part.of, slot.type):
+            if part.of is not slot.type and not self.plans.conforms(part.of, slot.type):
                 self.fault(obj, f'{slot.name} does not hold objects of class {part.of.name}')
 
     def join(self, obj: Obj) -> None:
@@ -136,6 +138,9 @@ class DocumentReader:
 
     def target(self, obj: Obj, slot: Slot, text: Any) -> Any:
         """The object that a reference leads to, or the text of a proxy."""
+        known = self.graph.lists[False].at(text) if type(text) is str else None
+        if type(known) is Obj and (known.of is slot.type or self.plans.conforms(known.of, slot.type)):
+            return known
         feature = slot.feature
         if not isinstance(text, str):
             self.fault(obj, f'{feature.qualified} has what is no text')

@@ -24,6 +24,7 @@ IN_ATTRIBUTE = {'"': '&quot;', '\t': '&#x9;', '\n': '&#xA;', '\r': '&#xD;'}
 MARKS = re.compile('[&<>"\t\n\r]')
 SPECIAL = re.compile('[^ !#-%\'-;=?-\ud7ff\ue000-\ufffd\U00010000-\U0010ffff]')  # what is forbidden, or a mark
 PIECE = 20_000  # texts that are joined at once
+ABSENT = object()  # the value of a feature that has none
 
 
 class XmiWriter:
@@ -36,7 +37,10 @@ class XmiWriter:
         self.prefixes: Dict[EPackage, str] = {}
         self.types: Dict[MClass, str] = {}
         self.checks: Dict[Slot, Optional[Check]] = {}
-        self.free: Set[Slot] = set()
+        self.free: Set[Slot] = set()  # attributes that take any text
+        self.written: Set[Slot] = set()  # features that are written whatever their value
+        self.literals: Dict[Tuple[Slot, str], str] = {}  # the texts of literals
+        self.count = 0  # objects since the last flush
         self.out: List[str] = []
         self.done: List[bytes] = []
         self.progress = Progress('', 0)
@@ -60,6 +64,8 @@ class XmiWriter:
 
     def flush(self) -> None:
         """Joins what was written."""
+        self.progress.step(self.count)
+        self.count = 0
         self.done.append(''.join(self.out).encode('utf-8'))
         self.out.clear()
 
@@ -99,41 +105,38 @@ class XmiWriter:
 
     def element(self, obj: Obj, name: str, start: str, space: str) -> None:
         """The element of an object, which begins with `start`."""
-        out, values = self.out, obj.values
+        out, values, fragment, below = self.out, obj.values, self.graph.fragment, []
         out.append(start)
-        below = []
         for slot in self.plans[obj.of].slots:
-            if slot.name not in values:
+            value = values.get(slot.name, ABSENT)
+            if value is ABSENT or value == [] or not (slot in self.written or self.is_written(obj, slot)):
                 continue
-            value = values[slot.name]
             if value is None or slot.kind == CONTAINED or slot.is_many and slot.kind == ATTRIBUTE:
-                if value != [] and self.is_written(obj, slot):
-                    below.append((slot, value))
-            elif not slot.key or value == [] or not self.is_written(obj, slot):
-                continue
-            elif slot.kind == ATTRIBUTE:
-                if type(value) is str and slot in self.free and not SPECIAL.search(value):
-                    out.append(f' {slot.key}="{value}"')
-                else:
-                    out.append(f' {slot.key}="{self.attribute(obj, slot, value)}"')
-            elif not slot.is_many and type(value) is Obj:
-                out.append(f' {slot.key}="{self.graph.fragment(value, True)}"')
-            elif any([type(it) is str for it in as_list(slot, value)]):
                 below.append((slot, value))
+            elif slot.kind == ATTRIBUTE:
+                is_free = type(value) is str and slot in self.free and not SPECIAL.search(value)
+                out.append(f' {slot.key}="{value if is_free else self.attribute(obj, slot, value)}"')
+            elif type(value) is Obj:
+                out.append(f' {slot.key}="{fragment(value, True)}"')
+            elif slot.is_many and not any([type(it) is str for it in value]):
+                out.append(f' {slot.key}="{" ".join([fragment(it, True) for it in value])}"')
             else:
-                out.append(f' {slot.key}="{" ".join([self.graph.fragment(it, True) for it in value])}"')
-        self.progress.step(1)
-        if not below:
-            out.append('/>\n')
-            return
-        out.append('>\n')
-        inner = space + '  '
-        for slot, value in below:
-            for it in as_list(slot, value):
-                self.child(obj, slot, it, inner)
-        out.append(f'{space}</{name}>\n')
+                below.append((slot, value))
+        self.count += 1
+        self.end_element(obj, name, below, space)
         if len(out) > PIECE:
             self.flush()
+
+    def end_element(self, obj: Obj, name: str, below: List[Tuple[Slot, Any]], space: str) -> None:
+        """The elements below an object, and its end."""
+        if not below:
+            self.out.append('/>\n')
+            return
+        self.out.append('>\n')
+        for slot, value in below:
+            for it in as_list(slot, value):
+                self.child(obj, slot, it, space + '  ')
+        self.out.append(f'{space}</{name}>\n')
 
     def is_written(self, obj: Obj, slot: Slot) -> bool:
         """Whether a feature that has a value is written. EMF completes transient ends itself, and can't set what is unchangeable."""
@@ -143,6 +146,7 @@ class XmiWriter:
                 self.free.add(slot)
             self.check_name(obj, slot)
         if slot.is_settable:
+            self.written.add(slot)
             return True
         if slot.is_completed:
             for it in as_list(slot, obj.values[slot.name]):
@@ -169,8 +173,16 @@ class XmiWriter:
 
     def attribute(self, obj: Obj, slot: Slot, value: Any) -> str:
         """The text of a value between quotation marks."""
+        if type(value) is int and self.checks[slot] is None:
+            return str(value)
+        known = self.literals.get((slot, value))
+        if known is not None:
+            return known
         text = self.plain(obj, slot, value)
-        return attribute_text(text) if MARKS.search(text) else text
+        text = attribute_text(text) if MARKS.search(text) else text
+        if isinstance(slot.type, MEnum):
+            self.literals[slot, value] = text
+        return text
 
     def plain(self, obj: Obj, slot: Slot, value: Any) -> str:
         """The text of a value. XML has no way to write some control characters, and EMF refuses some texts."""
