@@ -6,7 +6,7 @@ from json.encoder import encode_basestring
 from typing import Any, Dict, List
 
 from .metamodel import MClass
-from .objects import ATTRIBUTE, CONTAINED, CONTAINER, Graph, Obj, Slot
+from .objects import ATTRIBUTE, CONTAINED, CONTAINER, REFERENCE, Graph, Obj, Slot
 from .progress import Progress
 
 FORMAT = 2
@@ -45,7 +45,7 @@ class DocumentWriter:
 
     def object(self, obj: Obj) -> None:
         """An object with all that it contains."""
-        of, out = obj.of, self.out
+        of, out, fragment = obj.of, self.out, self.graph.fragment
         head = self.heads.get(of)
         if head is None:
             head = self.heads[of] = f'{{"class":{encode_basestring(of.name)},"features":{{'
@@ -54,9 +54,11 @@ class DocumentWriter:
         comma = ''
         for name in sorted(values):
             slot, value = slots[name], values[name]
-            if slot.kind == CONTAINER or value == slot.default or slot.is_many and not value:
+            if type(value) is Obj and slot.kind == REFERENCE:
+                out.append(f'{comma}"{name}":"{fragment(value)}"')
+            elif slot.kind == CONTAINER or value == slot.default or slot.is_many and not value:
                 continue
-            if type(value) is str:
+            elif type(value) is str:
                 out.append(f'{comma}"{name}":{encode_basestring(value)}')
             else:
                 out.append(f'{comma}"{name}":')

@@ -39,8 +39,8 @@ class Slot:
     """What the readers and writers need of a feature, without a call for each question."""
 
     __slots__ = (
-        'feature', 'name', 'key', 'kind', 'is_many', 'type', 'opposite', 'is_id', 'is_completed', 'completes', 'is_plain', 'is_value', 'is_link',
-        'is_settable', 'default',
+        'feature', 'name', 'key', 'kind', 'is_many', 'type', 'opposite', 'is_id', 'is_completed', 'completes', 'is_plain', 'is_value',
+        'is_link', 'is_settable', 'default',
     )
 
     def __init__(self, feature: MFeature) -> None:

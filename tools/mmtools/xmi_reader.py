@@ -167,8 +167,9 @@ class XmiReader(Parser):
                 self.other_attribute(made, name, text)
                 continue
             if slot.is_plain and len(text) < SHORT:
-                value = text
-            elif slot.is_value:
+                values[slot.name] = text
+                continue
+            if slot.is_value:
                 value = value_of(slot.type, text)
             elif slot.is_link:
                 value = object_at(text)
