@@ -13,7 +13,7 @@ from .faults import fault
 from .metamodel import MClass, MEnum, Metamodel
 from .names import is_name, is_xml_name
 from .notes import Notes, shortened
-from .objects import ATTRIBUTE, CONTAINED, Graph, Obj, Slot, as_list
+from .objects import ATTRIBUTE, CONTAINED, REFERENCE, Graph, Obj, Slot, as_list
 from .outside import Link, Outside
 from .progress import Progress
 from .xml_reader import XMI_SPACES, XSI
@@ -109,16 +109,17 @@ class XmiWriter:
         out.append(start)
         for slot in self.plans[obj.of].slots:
             value = values.get(slot.name, ABSENT)
-            if value is ABSENT or value == [] or not (slot in self.written or self.is_written(obj, slot)):
+            if value is ABSENT:
                 continue
-            if value is None or slot.kind == CONTAINED or slot.is_many and slot.kind == ATTRIBUTE:
-                below.append((slot, value))
-            elif slot.kind == ATTRIBUTE:
-                is_free = type(value) is str and slot in self.free and not SPECIAL.search(value)
-                out.append(f' {slot.key}="{value if is_free else self.attribute(obj, slot, value)}"')
-            elif type(value) is Obj:
+            if type(value) is str and slot in self.free and not SPECIAL.search(value):
+                out.append(f' {slot.key}="{value}"')
+            elif value == [] or not (slot in self.written or self.is_written(obj, slot)):
+                continue
+            elif type(value) is Obj and slot.kind == REFERENCE:
                 out.append(f' {slot.key}="{fragment(value, True)}"')
-            elif slot.is_many and not any([type(it) is str for it in value]):
+            elif slot.kind == ATTRIBUTE and not slot.is_many and value is not None:
+                out.append(f' {slot.key}="{self.attribute(obj, slot, value)}"')
+            elif slot.kind == REFERENCE and slot.is_many and not any([type(it) is str for it in value]):
                 out.append(f' {slot.key}="{" ".join([fragment(it, True) for it in value])}"')
             else:
                 below.append((slot, value))
@@ -142,11 +143,11 @@ class XmiWriter:
         """Whether a feature that has a value is written. EMF completes transient ends itself, and can't set what is unchangeable."""
         if slot not in self.checks:
             self.checks[slot] = check_of(slot.feature)
-            if self.checks[slot] is None and not isinstance(slot.type, MEnum):
-                self.free.add(slot)
             self.check_name(obj, slot)
         if slot.is_settable:
             self.written.add(slot)
+            if self.checks[slot] is None and isinstance(slot.type, str):
+                self.free.add(slot)
             return True
         if slot.is_completed:
             for it in as_list(slot, obj.values[slot.name]):
