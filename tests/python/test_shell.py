@@ -4,6 +4,7 @@ import os
 import pty
 import re
 import select
+import signal
 import subprocess
 import sys
 import time
@@ -177,6 +178,14 @@ class Terminal(ShellTest):
     def type(self, text):
         os.write(self.ours, text.encode())
 
+    def interrupt(self):
+        """Ctrl-C, up to the next prompt. Python misses a signal that comes just before it waits for a key, so it is sent again."""
+        for _ in range(12):
+            os.killpg(self.running.pid, signal.SIGINT)
+            if select.select([self.ours], [], [], 5)[0]:
+                break
+        self.until('> ')
+
     def test_completion_and_history(self):
         self.type('new Bo\t\n')
         self.assertIn('new Book', self.until('#8 Book'))
@@ -197,8 +206,7 @@ class Terminal(ShellTest):
     def test_ctrl_c_and_d(self):
         self.type('new Bo')
         self.until('new Bo')
-        os.killpg(self.running.pid, 2)
-        self.until('> ')
+        self.interrupt()
         self.type('get #1 pages\n')
         self.until('100')
         self.until('> ')
