@@ -8,6 +8,7 @@ LIBRARY = 'ecore/library.ecore'
 KINDS = 'ecore/kinds.ecore'
 HEAD = 'xmlns:xmi="http://www.omg.org/XMI" xmlns:xsi="http://www.w3.org/2001/XMLSchema-instance"'
 ECORE = f'{HEAD} xmlns:ecore="http://www.eclipse.org/emf/2002/Ecore" name="p"'
+STRING = 'http://www.eclipse.org/emf/2002/Ecore#//EString'
 ENTITY = '<!DOCTYPE a [<!ENTITY b "c">]>'
 
 # What a file has, and the line that ecore2mm tells of it.
@@ -126,6 +127,16 @@ class Faults(ToolTest):
         head = f'<k:A {HEAD} xmlns:k="http://m.example/kinds" '
         table = [(head + content, line) for content, line in XMI_FAULTS]
         self.check_table(table, 'a.xmi', 'xmi2doc', '--ecore', KINDS)
+
+    def test_feature_without_name(self):
+        line = 'ROOM/n.json: root 0: P._ is called  in Ecore, which is no name in XML'
+        for bound, value in (('', 'x'), ('upperBound="-1"', ['x'])):
+            feature = f'<eStructuralFeatures xsi:type="ecore:EAttribute" {bound} eType="ecore:EDataType {STRING}"/>'
+            classifier = f'<eClassifiers xsi:type="ecore:EClass" name="P">{feature}</eClassifiers>'
+            package = self.file('n.ecore', f'<ecore:EPackage {ECORE} nsURI="http://m.example/n">{classifier}</ecore:EPackage>')
+            document = self.file('n.json', json.dumps({'format': 2, 'roots': [{'class': 'P', 'features': {'_': value}}]}))
+            with self.subTest(bound=bound):
+                self.assert_fault(line, 'doc2xmi', '--ecore', package, document)
 
     def test_root(self):
         self.check_table(
