@@ -1,5 +1,6 @@
 """Runs the test files of a folder by unittest, and counts the tests that pass, fail and are skipped."""
 
+import signal
 import sys
 import unittest
 
@@ -25,6 +26,8 @@ def run(folder, names):
 
     The last line is 'N passed, M failed', and behind it how many were skipped, if any were.
     """
+    # A shell that starts the tests in the background has them ignore Ctrl-C, and so every program that a test interrupts.
+    signal.signal(signal.SIGINT, signal.default_int_handler)
     sys.path.insert(0, str(folder))
     names = names or sorted(file.stem[len('test_'):] for file in folder.glob('test_*.py'))
     suite = unittest.defaultTestLoader.loadTestsFromNames([f'test_{name}' for name in names])
