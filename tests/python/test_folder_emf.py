@@ -159,11 +159,13 @@ class Emf(ClientTest):
         ecore = [self.taken(MODELS, name, self.room.name)[0] for name in ('UIElements.ecore', 'ModelFragment.ecore')]
         file, = self.taken(WORKBENCH, '.e4xmi', self.top)
         before, text = read_by_emf(ecore, [file]), file.read_bytes()
+        words = [word for name in ecore for word in ('--ecore', name)]
+        left_out = 'LegacyIDE.e4xmi: xmi:id LegacyIDE.e4xmi: 24 ids left out; references go by position'
+        told = [f'models/{left_out}', '1 finding in 1 of 1 file with 24 objects']
+        self.assertEqual(self.check(self.meta(ecore), *words, '--suffix', '.e4xmi'), (1, told))
         with Repository(self.meta(ecore), PROGRAM) as repo:
             folder = repo.open(self.top, ecore=ecore, suffixes=['.e4xmi'])
-            self.assertEqual([it.line for it in folder.findings], [
-                'LegacyIDE.e4xmi: xmi:id LegacyIDE.e4xmi: 24 ids left out; references go by position'
-            ])
+            self.assertEqual([it.line for it in folder.findings], [left_out])
             folder.resources[0].contents[0].elementId = 'edited'
             with self.assertRaises(NotSaved) as found:
                 repo.save_all()
