@@ -54,6 +54,13 @@ class Written(EmfTest):
         self.assertIn('/0/kids.0/to = FILE#/0/kids.1 FILE#/0/kids.2', lines)
         self.assertIn('/0/kids.2/from = FILE#/0/kids.0 FILE#/0/kids.1', lines)
 
+    def test_ends_that_a_file_has_too(self):
+        """EMF completes an end that the file has, and so holds a link twice in a unique list; a document has each link once."""
+        tool = ['xmi2doc', '--ecore', CASES / 'tr.ecore']
+        self.assertEqual(self.tool(*tool, CASES / 'tr2.xmi'), self.tool(*tool, CASES / 'tr.xmi'))
+        lines = emf.read([CASES / 'tr.ecore'], CASES / 'tr2.xmi')
+        self.assertIn('/0/kids.1/from = tr2.xmi#/0/kids.0 tr2.xmi#/0/kids.0', lines)
+
     def test_order_of_a_completed_end(self):
         kids = ['1', '', '', '1', '0 3 4 5 6 7', '1', '1', '1']
         words = [' '.join(f'//@kids.{place}' for place in it.split()) for it in kids]
@@ -151,7 +158,8 @@ class Found(EmfTest):
     def test_equal_ids(self):
         for name, count in (('d1', 2), ('d2', 0), ('d3', 0), ('d4', 1), ('d5', 1)):
             with self.subTest(name=name):
-                self.check_same('dup', name, [f'xmi:id {name}.xmi: {count} ids left out; references go by position'] * (count > 0))
+                ids = '1 id' if count == 1 else f'{count} ids'
+                self.check_same('dup', name, [f'xmi:id {name}.xmi: {ids} left out; references go by position'] * (count > 0))
 
     def test_id_with_a_colon(self):
         why = 'a text with a colon and without # is the name of a type'

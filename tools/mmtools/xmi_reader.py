@@ -9,7 +9,7 @@ from .datatypes import text_of, value_of
 from .ecore_model import EClass, EFeature
 from .faults import fault
 from .metamodel import LONGEST_TEXT, MClass, MEnum
-from .notes import Notes, shortened
+from .notes import Notes, counted, shortened
 from .objects import ATTRIBUTE, BEYOND, CONTAINED, CONTAINER, DEEPEST, Graph, Obj, Plans, Slot
 from .skipped import Skipped
 from .xmi_attributes import XSI_NIL, link_of, type_text, value_under
@@ -46,7 +46,7 @@ class XmiReader(Parser):
         """The objects of the file."""
         self.run()
         if self.xmi_ids:
-            self.notes.tell('xmi:id', self.file, f'{self.xmi_ids} ids left out; references go by position')
+            self.notes.tell('xmi:id', self.file, f'{counted(self.xmi_ids, "id")} left out; references go by position')
         return self.graph
 
     def start(self, tag: str, attributes: List[str]) -> None:
