@@ -2,9 +2,9 @@
 use crate::stop::Stop;
 use adapters::Adapter;
 use link_store::LinkStore;
-use mm_types::{AdapterNo, ClassNo, FeatureNo, Node, ObjectNo, Refused, Text, Value};
+use mm_types::{AdapterNo, ClassNo, End, FeatureNo, Node, ObjectNo, Refused, Text, Value};
 use notice_chain::{NO_INDEX, Notice, NoticeKind};
-use repository::{Command, Repository};
+use repository::{Act, Command, EndRead, NodeRead, Read, Repository};
 use snapshots::{Snapshot, replay};
 use std::alloc::{AllocError, Global};
 
@@ -71,7 +71,10 @@ pub(crate) fn commands<A: Adapter>(
     alloc: Global,
     adapter: A,
 ) -> Result<Vec<Command<A>>, AllocError> {
-    let (node, feature) = (FIRST, NAME);
+    let end = End {
+        node: FIRST,
+        feature: NAME,
+    };
     let value = Value::Text(Text::from_str(alloc, "Emma")?);
     let attach = Command::Attach {
         no: BROUGHT,
@@ -81,13 +84,9 @@ pub(crate) fn commands<A: Adapter>(
     };
     let mut commands = Vec::new(alloc);
     commands.push(Command::Create(BOOK))?;
-    commands.push(Command::Set {
-        node,
-        feature,
-        value,
-    })?;
+    commands.push(Command::At(end, Act::Set(value)))?;
     commands.push(attach)?;
-    commands.push(Command::Get { node, feature })?;
-    commands.push(Command::Snapshot(node))?;
+    commands.push(Command::Read(Read::At(end, EndRead::Get)))?;
+    commands.push(Command::Read(Read::Under(FIRST, NodeRead::Snapshot)))?;
     Ok(commands)
 }

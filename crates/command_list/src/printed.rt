@@ -3,7 +3,7 @@ use crate::commands::{BROUGHT, FIRST, NAME, THERE};
 use adapters::Adapter;
 use link_store::LinkStore;
 use mm_types::ObjectNo;
-use repository::{Command, Failure, Reply, Repository};
+use repository::{Act, Command, EndRead, Failure, NodeRead, Read, Reply, Repository};
 use std::io;
 use std::io::Write;
 
@@ -46,12 +46,18 @@ fn print_command<A: Adapter, W: Write>(
 ) -> Result<(), io::Error> {
     match command {
         Command::Create(class) => writeln!(writer, "back: create {class:?}"),
-        Command::Set { node, value, .. } => writeln!(writer, "back: set {node:?} {value:?}"),
+        Command::At(end, Act::Set(value)) => {
+            writeln!(writer, "back: set {:?} {value:?}", end.node)
+        }
         Command::Attach { no, adapter, .. } => {
             writeln!(writer, "back: attach {no:?} {}", adapter.told())
         }
-        Command::Get { node, .. } => writeln!(writer, "back: get {node:?}"),
-        Command::Snapshot(node) => writeln!(writer, "back: snapshot {node:?}"),
+        Command::Read(Read::At(end, EndRead::Get)) => {
+            writeln!(writer, "back: get {:?}", end.node)
+        }
+        Command::Read(Read::Under(node, NodeRead::Snapshot)) => {
+            writeln!(writer, "back: snapshot {node:?}")
+        }
         _ => writeln!(writer, "back: another"),
     }
 }

@@ -26,7 +26,7 @@ use Rattle.resource_docs.specs.declared.doc.Doc.{Doc}
 use Rattle.resource_docs.specs.declared.doc.DocObject.{DocObject}
 use Rattle.doc_loader.specs.Laws.{IsRoomFor}
 use Rattle.doc_loader.specs.LoadEdits.{is_ascending_from, load_edits, near_edits, proxy_edits, root_puts}
-use Rattle.doc_loader.specs.Loading.{contents_end, loaded, loaded_value, object_end, of_contents, roots_loaded}
+use Rattle.doc_loader.specs.Loading.{loaded, loaded_value, object_end, of_contents, roots_loaded}
 use Rattle.doc_loader.specs.Pairs.{lower_of}
 use Rattle.doc_loader.proofs.AgainLemmas.{IsLowerEnd, IsNotHigher, again-edits, agains, agains-good, answered-in, last-higher, last-none, target-in, target-object}
 use Rattle.doc_loader.proofs.FillLemmas.{AreFilled, IsReady, all_filled, at-others, end_filled, fills-kinds, is_no_proxy, others, others-ascending, others-at, others-distinct, others-loaded, proxies-loaded}
@@ -38,6 +38,7 @@ use Rattle.doc_loader.proofs.SideLemmas.{IsFarSide, IsHigher, IsNearSide, IsPlai
 use Rattle.doc_loader.proofs.SoundLemmas.{filter-at, object-there, there-object, IsSound}
 use Rattle.doc_loader.proofs.SourceLemmas.{ascending-one, ascending-test, at-loaded, at-source, loaded-at, loaded-distinct, loaded_values, source-at, sources-ascending, sources_from}
 use Rattle.doc_loader.proofs.TotalLemmas.{IsElsewhere}
+use Rattle.models.specs.Reading.{contents_end}
 
 module _ (m : Metamodel) (n : ℕ) (k : ResourceNo) (doc : Doc) (sound : IsSound m doc) (s : Links) (legal : IsLegalSet s) (kinds : AreOfKind (kinds_of m) s) (free : HasNoCycle s) (room : IsRoomFor m n k s) (fit : n + length doc.objects ≤ OBJECTS) where
   abbrev first_plan : List Edit

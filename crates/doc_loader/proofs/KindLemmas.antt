@@ -34,13 +34,14 @@ use Rattle.resource_docs.specs.declared.doc.Content.{Content}
 use Rattle.resource_docs.specs.declared.doc.Doc.{Doc}
 use Rattle.resource_docs.specs.declared.doc.DocObject.{DocObject}
 use Rattle.doc_loader.specs.LoadEdits.{far_edits, in_order, is_ascending_from, load_edits, near_edits, proxy_edits, proxy_puts, put_at, puts_again, value_puts}
-use Rattle.doc_loader.specs.Loading.{contents_end, object_end, of_object}
+use Rattle.doc_loader.specs.Loading.{object_end, of_object}
 use Rattle.doc_loader.specs.Pairs.{is_near, lower_of}
 use Rattle.doc_loader.specs.ListIndexes.{index_among}
 use Rattle.doc_loader.specs.declared.indexes.ReferenceKey.{ReferenceKey}
 use Rattle.doc_loader.proofs.CauseLemmas.{read-faultless}
 use Rattle.doc_loader.proofs.FitLemmas.{all-filtered}
 use Rattle.doc_loader.proofs.WrittenLemmas.{plain-entries}
+use Rattle.models.specs.Reading.{contents_end}
 
 -- a proxy stands where nothing of the pair contains
 abbrev Place : Option FeatureNo → Value → Type 0

@@ -16,12 +16,13 @@ use Rattle.resource_docs.specs.declared.doc.Content.{Content}
 use Rattle.resource_docs.specs.declared.doc.Doc.{Doc}
 use Rattle.resource_docs.specs.declared.doc.DocObject.{DocObject}
 use Rattle.doc_loader.specs.LoadEdits.{far_edits, is_ascending_from, is_unordered, load_edits, near_edits, proxy_edits, put_at, puts_again}
-use Rattle.doc_loader.specs.Loading.{contents_end, of_object}
+use Rattle.doc_loader.specs.Loading.{of_object}
 use Rattle.doc_loader.specs.Pairs.{lower_of}
 use Rattle.doc_loader.specs.ListIndexes.{all_indexes, found_at, last_index, index_at, index_among}
 use Rattle.doc_loader.proofs.FitLemmas.{or-left, or-right}
 use Rattle.doc_loader.specs.declared.indexes.ReferenceKey.{ReferenceKey}
 use Rattle.doc_loader.specs.declared.indexes.ListIndexes.{ListIndexes}
+use Rattle.models.specs.Reading.{contents_end}
 
 pub made_numbered-more : {X Y : Type 0} (f : ℕ × X → List Y) (xs : List X) (i : ℕ) (x : X) (old new whole : List Y) → i < length xs → x ≡ get_or xs i x → new ≡ old ++ f (i, x)
     → old ++ flat_map f (enumerate_from i (drop i xs)) ≡ whole → new ++ flat_map f (enumerate_from (i + 1) (drop (i + 1) xs)) ≡ whole

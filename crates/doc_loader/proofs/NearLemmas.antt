@@ -30,7 +30,7 @@ use Rattle.resource_docs.specs.declared.doc.Doc.{Doc}
 use Rattle.resource_docs.specs.declared.doc.DocObject.{DocObject}
 use Rattle.doc_loader.specs.Laws.{IsRoomFor}
 use Rattle.doc_loader.specs.LoadEdits.{near_edits, put_at, root_puts, value_puts}
-use Rattle.doc_loader.specs.Loading.{contents_end, loaded, loaded_value, object_end, of_contents, of_object, roots_loaded}
+use Rattle.doc_loader.specs.Loading.{loaded, loaded_value, object_end, of_contents, of_object, roots_loaded}
 use Rattle.doc_loader.specs.Pairs.{is_near}
 use Rattle.doc_loader.proofs.GainLemmas.{AreGood, IsBefore, IsGood, IsMade, gains, plan_made}
 use Rattle.doc_loader.proofs.PairLemmas.{all-more, numbered-all, all-append, all-at, all-flat_map, all-map}
@@ -38,6 +38,7 @@ use Rattle.doc_loader.proofs.SideLemmas.{IsFarSide, IsNearSide, contents-shape, 
 use Rattle.doc_loader.proofs.SoundLemmas.{at-map, AreSoundContents, IsSort, IsSound, IsSoundContent, has-content, map-at}
 use Rattle.doc_loader.proofs.SourceLemmas.{ascending-distinct, at-loaded, loaded-at, loaded-distinct, loaded-same, loaded-value-object, loaded_values, same-object, sources-ascending, sources-few, sources_from}
 use Rattle.doc_loader.proofs.TotalLemmas.{IsElsewhere, near-far, near-none, near-own, root-gain-none, root-gain-own}
+use Rattle.models.specs.Reading.{contents_end}
 
 pub not-contents : (m : Metamodel) (n : ℕ) (k : ResourceNo) (o : ObjectNo) (f : FeatureNo) → object_end n o f ≡ contents_end m k → ⊥
 not-contents m n k o f q = let e = ap (λ (x : End). is_object x.node) q in true≢false e

@@ -30,7 +30,7 @@ use Rattle.resource_docs.specs.Read.{values_in, values_under}
 use Rattle.resource_docs.specs.declared.doc.Doc.{Doc}
 use Rattle.resource_docs.specs.declared.doc.DocObject.{DocObject}
 use Rattle.doc_loader.specs.Laws.{IsRoomFor, MakesLinks}
-use Rattle.doc_loader.specs.Loading.{content_links, contents_end, far_index, link_of, link_to, loaded, loaded_links, object_end, of_contents, of_object, root_link, with_links}
+use Rattle.doc_loader.specs.Loading.{content_links, far_index, link_of, link_to, loaded, loaded_links, object_end, of_contents, of_object, root_link, with_links}
 use Rattle.doc_loader.proofs.DocSoundLemmas.{read-sound}
 use Rattle.doc_loader.proofs.EndLemmas.{end-elsewhere, end-held, end-near, end-roots, end-values, one-source, loaded-fits, loaded-set_is, loaded-no_cycle, loaded_set}
 use Rattle.doc_loader.proofs.GainLemmas.{got_left}
@@ -40,6 +40,7 @@ use Rattle.doc_loader.proofs.SideLemmas.{IsFarSide, opposite-reference}
 use Rattle.doc_loader.proofs.SoundLemmas.{at-map, first-of, there-object, IsSort, IsSound, at-filter_map, at-flat_map, at-numbered, got_right, has-content, map-at}
 use Rattle.doc_loader.proofs.PairLemmas.{all-at}
 use Rattle.doc_loader.proofs.SourceLemmas.{ascending-distinct, at-loaded, loaded_values, source-at, sources-ascending, sources_from}
+use Rattle.models.specs.Reading.{contents_end}
 
 module _ (m : Metamodel) (n : ℕ) (k : ResourceNo) (doc : Doc) (sound : IsSound m doc) (s : Links) (legal : IsLegalSet s) (kinds : AreOfKind (kinds_of m) s) (free : HasNoCycle s) (room : IsRoomFor m n k s) (fit : n + length doc.objects ≤ OBJECTS) where
   abbrev t : Links

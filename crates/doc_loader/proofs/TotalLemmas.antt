@@ -26,7 +26,7 @@ use Rattle.resource_docs.specs.declared.doc.Content.{Content}
 use Rattle.resource_docs.specs.declared.doc.Doc.{Doc}
 use Rattle.resource_docs.specs.declared.doc.DocObject.{DocObject}
 use Rattle.doc_loader.specs.LoadEdits.{near_edits, put_at, root_puts, value_puts}
-use Rattle.doc_loader.specs.Loading.{contents_end, loaded, object_end, of_contents, roots_loaded}
+use Rattle.doc_loader.specs.Loading.{loaded, object_end, of_contents, roots_loaded}
 use Rattle.doc_loader.specs.Pairs.{is_near, lower_of}
 use Rattle.doc_loader.proofs.GainLemmas.{gains}
 use Rattle.doc_loader.proofs.GatherLemmas.{gathered, gathered-none, gathered-one}
@@ -35,6 +35,7 @@ use Rattle.doc_loader.proofs.RotateLemmas.{distinct-tail}
 use Rattle.doc_loader.proofs.SideLemmas.{IsFarSide, IsNearSide, IsPlainFeature, contents-shape, feature-same, opposite-reference}
 use Rattle.doc_loader.proofs.SoundLemmas.{IsSort, IsSound, IsSoundContent}
 use Rattle.doc_loader.proofs.SourceLemmas.{flat_map-none, loaded_values, sources_from}
+use Rattle.models.specs.Reading.{contents_end}
 
 ---------------------------------------------------------------- tests
 

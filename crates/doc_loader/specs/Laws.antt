@@ -10,7 +10,8 @@ use Rattle.links.specs.Links.{Links, end}
 use Rattle.links.specs.Plans.{Lacks, PlanFits, PlanMakesNoCycle, applied}
 use Rattle.resource_docs.specs.declared.doc.Doc.{Doc}
 use Rattle.doc_loader.specs.LoadEdits.{load_edits}
-use Rattle.doc_loader.specs.Loading.{contents_end, loaded, loaded_links, object_end, with_links}
+use Rattle.doc_loader.specs.Loading.{loaded, loaded_links, object_end, with_links}
+use Rattle.models.specs.Reading.{contents_end}
 
 -- no link names a node that a document's objects get, and nothing is in the resource
 pub record IsRoomFor (m : Metamodel) (n : ℕ) (k : ResourceNo) (s : Links) : Type 0 where

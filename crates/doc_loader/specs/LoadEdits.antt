@@ -18,12 +18,13 @@ use Rattle.links.specs.declared.plan.Edit.{Edit}
 use Rattle.links.specs.declared.plan.Edit.TheVariants.{Cut, Put, PutProxy}
 use Rattle.resource_docs.specs.declared.doc.Content.{Content}
 use Rattle.resource_docs.specs.declared.doc.Doc.{Doc}
-use Rattle.doc_loader.specs.Loading.{contents_end, loaded, object_end, of_contents}
+use Rattle.doc_loader.specs.Loading.{loaded, object_end, of_contents}
 use Rattle.doc_loader.specs.Pairs.{is_near, lower_of}
 use Rattle.doc_loader.specs.ListIndexes.{reference_key, index_among}
 use Rattle.doc_loader.specs.declared.passes.Pass.{Pass}
 use Rattle.doc_loader.specs.declared.passes.Pass.TheVariants.{Near, Proxies}
 use Rattle.doc_loader.specs.declared.indexes.ReferenceKey.{ReferenceKey}
+use Rattle.models.specs.Reading.{contents_end}
 
 -- puts an object of the document at a position
 abbrev pub put_at : Metamodel → ℕ → End → ℕ → ObjectNo → Edit

@@ -18,8 +18,7 @@ use Rattle.mm_values.specs.declared.edit.ValueEdit.TheVariants.{NewObject, PutLi
 use Rattle.links.specs.declared.link.Far.TheVariants.{Alone, Proxy}
 use Rattle.links.specs.declared.link.Link.{Link}
 use Rattle.links.specs.Links.{Links, far_end, joined}
-use Rattle.models.specs.Reading.{Reading, at_end}
-pub use Rattle.fragment_paths.specs.Fragments.{contents_end}
+use Rattle.models.specs.Reading.{Reading, at_end, contents_end}
 use Rattle.resource_docs.specs.declared.doc.Content.{Content}
 use Rattle.resource_docs.specs.declared.doc.Doc.{Doc}
 use Rattle.resource_docs.specs.declared.doc.DocObject.{DocObject}

@@ -14,7 +14,6 @@ mod passes;
 mod proxies;
 mod values;
 
-pub use fragment_paths::contents_end;
 pub use linking::link_edits;
 pub use numbers::loaded;
 pub use values::value_edits;

@@ -8,10 +8,10 @@ ghost use Rattle.doc_loader.specs.LoadEdits as e;
 use crate::far;
 use crate::near::put_at;
 use crate::passes::{Pass, push_objects};
-use fragment_paths::contents_end;
 use links::Edit;
 use mm_meta::Meta;
 use mm_types::{End, ObjectNo, ResourceNo};
+use models::contents_end;
 use resource_docs::Doc;
 use std::alloc::{AllocError, Global};
 

@@ -18,10 +18,9 @@ use Rattle.links.specs.Links as links
 use Rattle.links.specs.Links.{end}
 use Rattle.models.specs.Legal.{IsLegal, is_legal_end, is_legal_target}
 use Rattle.models.specs.Model.{Model, reading, values_at}
-use Rattle.models.specs.Reading.{Reading, is_live, objects_of}
+use Rattle.models.specs.Reading.{Reading, is_live, objects_of, roots_end}
 use Rattle.mm_types.specs.declared.numbers.ResourceNo.{ResourceNo}
 use Rattle.fragment_paths.specs.Finding.{roots}
-use Rattle.fragment_paths.specs.Fragments.{roots_end}
 use Rattle.containment.proofs.PartLemmas.{taken-live, values-linked}
 
 -- an object that is pushed is the one at its place

@@ -7,10 +7,9 @@ ghost use Rattle.models.specs.Model.{reading};
 ghost use Rattle.models.specs.Reading.{is_live};
 
 use containment::{push_some, subtree};
-use fragment_paths::roots_end;
 use links::LinkStore;
 use mm_types::{ObjectNo, ResourceNo};
-use models::ModelRef;
+use models::{ModelRef, roots_end};
 use std::alloc::{AllocError, Global};
 
 /// The roots of a resource (EMF: Resource.getContents). Errs only if memory is refused.

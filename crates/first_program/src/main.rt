@@ -2,7 +2,7 @@
 //! docs/LIBRARY.md shows it.
 #![tactic(auto)]
 
-ghost use Rattle.mmrepo_lib.specs.Commands.{Set};
+ghost use Rattle.mmrepo_lib.specs.Commands.{set};
 ghost use Rattle.mmrepo_lib.specs.Steps.{Executed, change_outcome, changed_view};
 ghost use Rattle.mmrepo_lib.specs.Nodes as node;
 ghost use Rattle.mmrepo_lib.specs.Values as value;
@@ -57,14 +57,14 @@ fn print_told<W: Write>(writer: &mut W, reply: &Reply<Tally>) -> Result<(), io::
     Ok(())
 }
 
-/// Gives a book a title. The contract is that of the call: the step of the command `Set`, or a refusal that changes nothing.
+/// Gives a book a title. The contract is that of the call: the step of the command `set`, or a refusal that changes nothing.
 fn set_title<L: LinkStore>(
     repository: &mut Repository<L, Tally>,
     book: ObjectNo,
     title: FeatureNo,
     text: Text,
 ) -> Result<Reply<Tally>, Refused>
-    ensures { Executed repository.old (Set (node.Object book) title (value.Text text))
+    ensures { Executed repository.old (set (node.Object book) title (value.Text text))
         (change_outcome (changed_view ⟦<Tally as Adapter>⟧.heard result)) repository.new }
 {
     repository.e_set(Node::Object(book), title, Value::Text(text))

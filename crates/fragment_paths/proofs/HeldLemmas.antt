@@ -22,14 +22,14 @@ use Rattle.links.specs.Holders.{holder}
 use Rattle.links.specs.Links.{end}
 use Rattle.models.specs.Legal.{IsLegal, kinds_of}
 use Rattle.models.specs.Model.{Model, reading, values_at}
-use Rattle.models.specs.Reading.{at_end, has_feature, has_resource, object_of, objects_of}
+use Rattle.models.specs.Reading.{at_end, has_feature, has_resource, object_of, objects_of, roots_end}
 use Rattle.models.proofs.EndLemmas.{values-single}
 use Rattle.models.proofs.PlaceLemmas.{has-at, index-at, values-few}
 use Rattle.containment.proofs.HolderLemmas.{container_at, holding-feature}
 use Rattle.containment.proofs.PartLemmas.{contains-reference, kinds-are, legal-at, values-linked}
 use Rattle.web_uris.specs.Paths.{IsWritten}
 use Rattle.fragment_paths.specs.Finding.{feature_of, goes_by, if_goes_by, roots, stepped}
-use Rattle.fragment_paths.specs.Fragments.{has_one_root, position_in, roots_end, step_into}
+use Rattle.fragment_paths.specs.Fragments.{has_one_root, position_in, step_into}
 use Rattle.fragment_paths.proofs.NameLemmas.{own-name, valid-feature}
 use Rattle.fragment_paths.proofs.ObjectLemmas.{all-objects, objects-get}
 

@@ -6,8 +6,7 @@ use Rattle.mm_types.specs.declared.numbers.FeatureNo.{FeatureNo}
 use Rattle.mm_types.specs.declared.numbers.ObjectNo.{ObjectNo}
 use Rattle.mm_types.specs.declared.numbers.ResourceNo.{ResourceNo}
 use Rattle.mm_types.specs.declared.numbers.Node.TheVariants as node
-use Rattle.models.specs.Reading.{Reading, at_end, objects_of, resource_named}
-use Rattle.fragment_paths.specs.Fragments.{roots_end}
+use Rattle.models.specs.Reading.{Reading, at_end, objects_of, resource_named, roots_end}
 use Rattle.web_uris.specs.Addresses.{fragment_part, has_mark, uri_part}
 use Rattle.web_uris.specs.Paths.{parse}
 use Rattle.web_uris.specs.declared.path.Path.{Path}

@@ -9,20 +9,12 @@ use Rattle.mm_types.specs.declared.numbers.Node.{Node}
 use Rattle.mm_types.specs.declared.numbers.Node.TheVariants as node
 use Rattle.mm_types.specs.declared.end.End.{End}
 use Rattle.mm_types.specs.declared.value.Value.TheVariants as value
-use Rattle.models.specs.Reading.{Reading, at_end, first_at, shape_at}
+use Rattle.models.specs.Reading.{Reading, at_end, first_at, roots_end, shape_at}
 use Rattle.containment.specs.Above.{resource_of}
 use Rattle.web_uris.specs.Addresses.{address_text}
 use Rattle.web_uris.specs.Paths.{new_path, new_step, path_text, with_step}
 use Rattle.web_uris.specs.declared.path.Path.{Path}
 use Rattle.web_uris.specs.declared.path.Step.{Step}
-
--- the end of a resource that holds its roots, in any model of a metamodel
-abbrev pub contents_end : Metamodel → ResourceNo → End
-contents_end m k = at_end (node.Resource k) (lookups.contents m)
-
--- and in this one
-abbrev pub roots_end : Reading → ResourceNo → End
-roots_end r k = contents_end r.metamodel k
 
 -- where an object stands in the end that holds it
 abbrev pub position_in : Reading → End → ObjectNo → ℕ

@@ -4,12 +4,11 @@ ghost use Rattle.models.specs.Model.{reading};
 ghost use Rattle.fragment_paths.specs.Fragments as spec;
 ghost use Rattle.fragment_paths.specs.Located.{located_address, located_text};
 
-use crate::ends::roots_end;
 use crate::paths::{Located, locate};
 use crate::positions::Positions;
 use links::LinkStore;
 use mm_types::{ObjectNo, ResourceNo, Text};
-use models::ModelRef;
+use models::{ModelRef, roots_end};
 use std::alloc::{AllocError, Global};
 use web_uris::address_of;
 

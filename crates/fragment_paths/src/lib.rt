@@ -12,7 +12,6 @@ mod path_cache;
 mod paths;
 mod positions;
 
-pub use ends::{contents_end, roots_end};
 pub use finding::{find, object_at};
 pub use fragments::{address, reference, write};
 pub use path_cache::PathCache;

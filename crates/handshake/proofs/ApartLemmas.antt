@@ -15,7 +15,6 @@ use Rattle.mm_types.specs.Shapes.{Shape, is_containment, shape}
 use Rattle.mm_types.specs.declared.end.End.{End}
 use Rattle.mm_types.specs.declared.numbers.FeatureNo.{FeatureNo}
 use Rattle.mm_types.specs.declared.numbers.Node.{Node}
-use Rattle.mm_types.specs.declared.numbers.Node.TheVariants as node
 use Rattle.mm_types.specs.declared.numbers.ObjectNo.{ObjectNo}
 use Rattle.mm_types.specs.declared.numbers.ResourceNo.{ResourceNo}
 use Rattle.mm_types.specs.declared.value.Value.TheVariants as value
@@ -43,7 +42,8 @@ use Rattle.handshake.specs.Laws.{AreApart, AreDifferent, takes_many}
 use Rattle.handshake.specs.Refusals.{early_refusal, late_refusal}
 use Rattle.handshake.specs.FeatureChange.{changed, flagged, happened, happened_all, has_flag, notice_at, notice_of, feature_change, told}
 use Rattle.handshake.specs.FeatureChanges.{all_lost, before_gain, chain, destroyed_by, far_gain, far_loss, far_losses, gain_at, is_replaced, loaded_by, loss, losses, other_losses, resolves_all, taken_out, feature_changes, feature_changes_with}
-use Rattle.handshake.specs.declared.change.Change.TheVariants.{Create, Set, Unset, Add, Remove, RemoveValue, Move, Delete, NewResource, Resolve, ResolveAll, Load}
+use Rattle.handshake.specs.declared.change.Change.TheVariants.{At, Create, Delete, NewResource, ResolveAll, Load}
+use Rattle.handshake.specs.declared.act.Act.TheVariants.{Set, Unset, Add, Remove, RemoveValue, Move, Resolve}
 use Rattle.resource_docs.specs.declared.doc.Doc.{Doc}
 use Rattle.handshake.specs.declared.change.Change.{Change}
 use Rattle.handshake.specs.declared.change_kind.ChangeKind.TheVariants.{Gains, LosesAt, Moves, Resolves, Unsets}
@@ -329,7 +329,7 @@ reference-tells : (P : List LinkEnd → Type 0) (b : Bool) (ts : List LinkEnd) �
 reference-tells P true ts some none = some refl
 reference-tells P false ts some none = none
 
-set-apart : (s : Model) (n : Node) (f : FeatureNo) (v : Value) → IsLegal s → early_refusal (reading s) (Set n f v) ≡ None → late_refusal (reading s) (Set n f v) ≡ None → is_plain_set (reading s) (at_end n f) v ≡ false
+set-apart : (s : Model) (n : Node) (f : FeatureNo) (v : Value) → IsLegal s → early_refusal (reading s) (At (at_end n f) (Set v)) ≡ None → late_refusal (reading s) (At (at_end n f) (Set v)) ≡ None → is_plain_set (reading s) (at_end n f) v ≡ false
     → AreApart (before_gain (reading s) (at_end n f) v (cut_by_set (reading s) (at_end n f) v) ++ feature_change (at_end n f) (Gains v) ∷ [])
 set-apart s n f (value.Object o) legal early late h = linked-apart s legal (at_end n f) o (set-new s n f o legal early late h) (Gains (value.Object o))
 set-apart s n f v legal early late h =
@@ -337,7 +337,7 @@ set-apart s n f v legal early late h =
     let both = plain-not (shape s.metamodel f).is_reference (has_already (reading s) e v) h in
     emptied-apart s legal e (link_ends_at (reading s) e) (Gains v) (link_ends_at-here (reading s) e) (link_ends_at-different s e legal both.0 (set-named (reading s) n f v early).single) (link_ends_at-stand s e both.0)
 
-add-apart : (s : Model) (n : Node) (f : FeatureNo) (v : Value) (i : Option ℕ) → IsLegal s → early_refusal (reading s) (Add n f v i) ≡ None → late_refusal (reading s) (Add n f v i) ≡ None → is_plain_add (reading s) (at_end n f) v ≡ false
+add-apart : (s : Model) (n : Node) (f : FeatureNo) (v : Value) (i : Option ℕ) → IsLegal s → early_refusal (reading s) (At (at_end n f) (Add v i)) ≡ None → late_refusal (reading s) (At (at_end n f) (Add v i)) ≡ None → is_plain_add (reading s) (at_end n f) v ≡ false
     → AreApart (before_gain (reading s) (at_end n f) v (cut_by_new (reading s) (at_end n f) v) ++ feature_change (at_end n f) (gain_at i v) ∷ [])
 add-apart s n f (value.Object o) i legal early late h = linked-apart s legal (at_end n f) o (add-new s n f o i early late h) (gain_at i (value.Object o))
 add-apart s n f v i legal early late h = one-apart (feature_change (at_end n f) (gain_at i v))
@@ -355,7 +355,7 @@ taken-apart s n f i legal =
     (λ reference. emptied-apart s legal e (link_end_in (reading s) e i) (LosesAt i) (link_end_in-here (reading s) e i) (link_end_in-different (reading s) e i) (link_end_in-stand s e i reference)) (one-apart (feature_change e (LosesAt i)))
 
 -- where an end is unset, no far end is told twice, and none of them is the end itself
-pub unset-apart : (s : Model) (n : Node) (f : FeatureNo) (h : ChangeKind) → IsLegal s → AreApart (far_losses (reading s) (cut_link_ends (reading s) (Unset n f)) ++ feature_change (at_end n f) h ∷ [])
+pub unset-apart : (s : Model) (n : Node) (f : FeatureNo) (h : ChangeKind) → IsLegal s → AreApart (far_losses (reading s) (cut_link_ends (reading s) (At (at_end n f) Unset)) ++ feature_change (at_end n f) h ∷ [])
 unset-apart s n f h legal =
     let e = at_end n f in
     let vs = (reading s).values e in
@@ -369,50 +369,44 @@ unset-apart s n f h legal =
 pub feature_changes-apart : (s : Model) (c : Change) → IsLegal s → early_refusal (reading s) c ≡ None → late_refusal (reading s) c ≡ None → takes_many (reading s) c ≡ false → AreApart (feature_changes (reading s) c)
 feature_changes-apart s (Create c) legal early late few = tt
 feature_changes-apart s (NewResource u) legal early late few = tt
-feature_changes-apart s (Delete o) legal early late few = absurd (false≢true (sym few))
-feature_changes-apart s (Set n f v) legal early late few =
+feature_changes-apart s (At e (Set v)) legal early late few =
     let r = reading s in
-    let e = at_end n f in
     elim (is_plain_set r e v) as (λ b. is_plain_set r e v ≡ b → AreApart ((if b then [] else before_gain r e v (if b then [] else cut_by_set r e v)) ++ feature_change e (Gains v) ∷ [])) [
       | true ↦ λ _. one-apart (feature_change e (Gains v))
-      | false ↦ λ h. set-apart s n f v legal early late h
+      | false ↦ λ h. set-apart s e.node e.feature v legal early late h
     ] refl
-feature_changes-apart s (Unset n f) legal early late few =
-    let single = not-not (shape s.metamodel f).is_single few in
-    subst (λ (b : Bool). AreApart (far_losses (reading s) (cut_link_ends (reading s) (Unset n f)) ++ (if b then feature_change (at_end n f) Unsets ∷ [] else all_lost (at_end n f) (length ((reading s).values (at_end n f)))))) (sym single)
-    (unset-apart s n f Unsets legal)
+feature_changes-apart s (At e Unset) legal early late few =
+    let single = not-not (shape s.metamodel e.feature).is_single few in
+    subst (λ (b : Bool). AreApart (far_losses (reading s) (cut_link_ends (reading s) (At e Unset)) ++ (if b then feature_change e Unsets ∷ [] else all_lost e (length ((reading s).values e))))) (sym single)
+    (unset-apart s e.node e.feature Unsets legal)
   where
     not-not : (b : Bool) → not b ≡ false → b ≡ true
     not-not true h = refl
     not-not false h = absurd (false≢true (sym h))
-feature_changes-apart s (Add n f v i) legal early late few =
+feature_changes-apart s (At e (Add v i)) legal early late few =
     let r = reading s in
-    let e = at_end n f in
-    elim (is_repeat r e v) as (λ b. is_repeat r e v ≡ b → AreApart (if b then [] else before_gain r e v (if not (shape s.metamodel f).is_reference || b then [] else cut_by_new r e v) ++ feature_change e (gain_at i v) ∷ [])) [
+    elim (is_repeat r e v) as (λ b. is_repeat r e v ≡ b → AreApart (if b then [] else before_gain r e v (if not (shape s.metamodel e.feature).is_reference || b then [] else cut_by_new r e v) ++ feature_change e (gain_at i v) ∷ [])) [
       | true ↦ λ _. tt
-      | false ↦ λ new. elim (shape s.metamodel f).is_reference as (λ b. (shape s.metamodel f).is_reference ≡ b → AreApart (before_gain r e v (if not b || false then [] else cut_by_new r e v) ++ feature_change e (gain_at i v) ∷ [])) [
-        | true ↦ λ reference. add-apart s n f v i legal early late (λ j. not (reference j) || new j)
-        | false ↦ λ attribute. attribute-add s n f v (gain_at i v) attribute (add-taken r n f v i late).takes
+      | false ↦ λ new. elim (shape s.metamodel e.feature).is_reference as (λ b. (shape s.metamodel e.feature).is_reference ≡ b → AreApart (before_gain r e v (if not b || false then [] else cut_by_new r e v) ++ feature_change e (gain_at i v) ∷ [])) [
+        | true ↦ λ reference. add-apart s e.node e.feature v i legal early late (λ j. not (reference j) || new j)
+        | false ↦ λ attribute. attribute-add s e.node e.feature v (gain_at i v) attribute (add-taken r e.node e.feature v i late).takes
       ] refl
     ] refl
-feature_changes-apart s (Remove n f i) legal early late few = taken-apart s n f i legal
-feature_changes-apart s (RemoveValue n f v) legal early late few =
+feature_changes-apart s (At e (Remove i)) legal early late few = taken-apart s e.node e.feature i legal
+feature_changes-apart s (At e (RemoveValue v)) legal early late few =
     let r = reading s in
-    let e = at_end n f in
-    elim (first_at r e v) as (λ q. AreApart (option_map_or (taken_out r e (if (shape s.metamodel f).is_reference then option_map_or (link_end_in r e) q [] else [])) q [])) [
+    elim (first_at r e v) as (λ q. AreApart (option_map_or (taken_out r e (if (shape s.metamodel e.feature).is_reference then option_map_or (link_end_in r e) q [] else [])) q [])) [
       | None ↦ tt
-      | Some i ↦ taken-apart s n f i legal
+      | Some i ↦ taken-apart s e.node e.feature i legal
     ]
-feature_changes-apart s (Move n f to from) legal early late few = one-apart (feature_change (at_end n f) (Moves to from))
-feature_changes-apart s (Load k doc) legal early late few = absurd (true≢false few)
-feature_changes-apart s ResolveAll legal early late few = absurd (true≢false few)
-feature_changes-apart s (Resolve o f i) legal early late few =
-    let e = at_end (node.Object o) f in
+feature_changes-apart s (At e (Move to from)) legal early late few = one-apart (feature_change e (Moves to from))
+feature_changes-apart s (At e (Resolve i)) legal early late few =
     resolved-as s legal e i late (λ ts xs us u. AreApart us) (λ x is alone. one-apart (feature_change e (Resolves i (value.Object x.object))))
     (λ x is g opposite j text stands.
     let d = far_end x.object g in
     let apart : d ≡ e → ⊥ = λ same. true≢false (sym (same_end-self d) ∙ ap (same_end d) same ∙ match-apart (reading s) e x.object g legal.metamodel opposite) in
     ((apart, tt), one-apart (feature_change e (Resolves i (value.Object x.object)))))
+feature_changes-apart s _ legal early late few = absurd (true≢false few)
 
 ---------------------------------------------------------------- a list that is unset
 
@@ -498,13 +492,13 @@ push-away (t ∷ ts) u apart = (last ts apart.0, push-away ts u apart.1)
     last [] all = all.0
     last (x ∷ xs) all = last xs all.1
 
-unset-read : (s : Model) (n : Node) (f : FeatureNo) → IsLegal s → (shape s.metamodel f).is_single ≡ false → chain (reading s) (Unset n f) ≡ map (notice_at (reading s)) (feature_changes (reading s) (Unset n f))
+unset-read : (s : Model) (n : Node) (f : FeatureNo) → IsLegal s → (shape s.metamodel f).is_single ≡ false → chain (reading s) (At (at_end n f) Unset) ≡ map (notice_at (reading s)) (feature_changes (reading s) (At (at_end n f) Unset))
 unset-read s n f legal many =
     let m = s.metamodel in
     let r = reading s in
     let e = at_end n f in
     let h = held_at r in
-    let far = far_losses r (cut_link_ends r (Unset n f)) in
+    let far = far_losses r (cut_link_ends r (At (at_end n f) Unset)) in
     let own = all_lost e (length (r.values e)) in
     let apart = unset-apart s n f Unsets legal in
     let away = push-away far (feature_change e Unsets) apart in
@@ -541,7 +535,7 @@ chain-read s c one legal none unloaded early late =
     by ResolveAll one none unloaded many = absurd (true≢false one)
     by (Load k doc) one none unloaded many = absurd (none-some doc (sym unloaded))
     by (Delete o) one none unloaded many = absurd (none-some o (sym none))
-    by (Unset n f) one none unloaded many = unset-read s n f legal (not-true (shape s.metamodel f).is_single many)
+    by (At e Unset) one none unloaded many = unset-read s e.node e.feature legal (not-true (shape s.metamodel e.feature).is_single many)
     by _ one none unloaded many = absurd (false≢true many)
 
 ---------------------------------------------------------------- tellings that are made

@@ -46,7 +46,8 @@ use Rattle.handshake.specs.Refusals.{early_refusal, late_refusal}
 use Rattle.handshake.specs.FeatureChange.{feature_change}
 use Rattle.handshake.specs.FeatureChanges.{all_lost, before_gain, far_losses, gain_at, resolves_all, taken_out, feature_changes}
 use Rattle.handshake.specs.declared.change.Change.{Change}
-use Rattle.handshake.specs.declared.change.Change.TheVariants.{Create, Set, Unset, Add, Remove, RemoveValue, Move, Delete, NewResource, Resolve, ResolveAll, Load}
+use Rattle.handshake.specs.declared.change.Change.TheVariants.{At, Create, Delete, NewResource, ResolveAll, Load}
+use Rattle.handshake.specs.declared.act.Act.TheVariants.{Set, Unset, Add, Remove, RemoveValue, Move, Resolve}
 use Rattle.handshake.specs.declared.change_kind.ChangeKind.{ChangeKind}
 use Rattle.handshake.specs.declared.change_kind.ChangeKind.TheVariants.{Gains, LosesAt, Moves, Resolves, Unsets}
 use Rattle.handshake.specs.declared.change_kind.FeatureChange.{FeatureChange}
@@ -292,10 +293,9 @@ joint-replays s legal e i x is g opposite j text stands d =
     ∙ same-held s s.links u d (sym (ends d ∙ ap (λ (b : Bool). if b then mine else swapped y theirs (end s.links) d) apart ∙ ap (λ (b : Bool). if b then theirs else end s.links d) third)))
     other)
 
-pub resolve-changes : (s : Model) (legal : IsLegal s) (o : ObjectNo) (f : FeatureNo) (i : ℕ) → late_refusal (reading s) (Resolve o f i) ≡ None → Replays s (feature_changes (reading s) (Resolve o f i)) (after s (Resolve o f i))
-resolve-changes s legal o f i late =
-    let e = at_end (node.Object o) f in
-    relinked-by s (feature_changes (reading s) (Resolve o f i)) _ _ (ap (λ (t : Links). put_by t (reading s) (Resolve o f i)) (sym (without_link_ends-names_of s.links (cut_link_ends (reading s) (Resolve o f i)))))
+pub resolve-changes : (s : Model) (legal : IsLegal s) (e : End) (i : ℕ) → late_refusal (reading s) (At e (Resolve i)) ≡ None → Replays s (feature_changes (reading s) (At e (Resolve i))) (after s (At e (Resolve i)))
+resolve-changes s legal e i late =
+    relinked-by s (feature_changes (reading s) (At e (Resolve i))) _ _ (ap (λ (t : Links). put_by t (reading s) (At e (Resolve i))) (sym (without_link_ends-names_of s.links (cut_link_ends (reading s) (At e (Resolve i))))))
     (resolved-as s legal e i late (λ ts xs us u. Replays s us (relinked s u)) (λ x is alone. alone-replays s legal e i x is alone)
     (λ x is g opposite j text stands. joint-replays s legal e i x is g opposite j text stands))
 
@@ -313,7 +313,7 @@ by-object s f P attribute each (node.Resource k) has = absurd (resource-keeps-no
 
 -- a set that is plain: of an attribute, or to the value that is there
 plain-set : (s : Model) (n : Node) (f : FeatureNo) (v : Value) → IsLegal s → has_feature (reading s) n f ≡ true → (shape s.metamodel f).is_single ≡ true → is_plain_set (reading s) (at_end n f) v ≡ true
-    → Replays s (feature_change (at_end n f) (Gains v) ∷ []) (record s { values = applied s.values (value_edits (reading s) (Set n f v)) })
+    → Replays s (feature_change (at_end n f) (Gains v) ∷ []) (record s { values = applied s.values (value_edits (reading s) (At (at_end n f) (Set v))) })
 plain-set s n f v legal has single plain =
     let e = at_end n f in
     let a = shape s.metamodel f in
@@ -332,7 +332,7 @@ new-put_set s legal e o new single =
     ∙ ap (λ (t : Links). with_value t (reading s) e None (value.Object o)) (sym (without_link_ends-names_of s.links (yields (reading s) e o)))
 
 -- a set that is not
-new-set : (s : Model) (n : Node) (f : FeatureNo) (v : Value) → IsLegal s → early_refusal (reading s) (Set n f v) ≡ None → late_refusal (reading s) (Set n f v) ≡ None → is_plain_set (reading s) (at_end n f) v ≡ false
+new-set : (s : Model) (n : Node) (f : FeatureNo) (v : Value) → IsLegal s → early_refusal (reading s) (At (at_end n f) (Set v)) ≡ None → late_refusal (reading s) (At (at_end n f) (Set v)) ≡ None → is_plain_set (reading s) (at_end n f) v ≡ false
     → (let e = at_end n f in Replays s (before_gain (reading s) e v (cut_by_set (reading s) e v) ++ feature_change e (Gains v) ∷ []) (relinked s (with_value (without_link_ends s.links (cut_by_set (reading s) e v)) (reading s) e None v)))
 new-set s n f (value.Object o) legal early late h =
     let e = at_end n f in
@@ -354,11 +354,11 @@ new-set s n f v legal early late h =
 no-values : (s : Model) (f : FeatureNo) (es : List ValueEdit) → (shape s.metamodel f).is_reference ≡ true → s.values ≡ applied s.values (if (shape s.metamodel f).is_reference then [] else es)
 no-values s f es reference = ap (λ b. applied s.values (if b then [] else es)) (sym reference)
 
-set-changes : (s : Model) (n : Node) (f : FeatureNo) (v : Value) → IsLegal s → early_refusal (reading s) (Set n f v) ≡ None → late_refusal (reading s) (Set n f v) ≡ None → Replays s (feature_changes (reading s) (Set n f v)) (after s (Set n f v))
+set-changes : (s : Model) (n : Node) (f : FeatureNo) (v : Value) → IsLegal s → early_refusal (reading s) (At (at_end n f) (Set v)) ≡ None → late_refusal (reading s) (At (at_end n f) (Set v)) ≡ None → Replays s (feature_changes (reading s) (At (at_end n f) (Set v))) (after s (At (at_end n f) (Set v)))
 set-changes s n f v legal early late =
     let r = reading s in
     let e = at_end n f in
-    let vs = applied s.values (value_edits r (Set n f v)) in
+    let vs = applied s.values (value_edits r (At (at_end n f) (Set v))) in
     let cut : Bool → List LinkEnd = λ b. if b then [] else cut_by_set r e v in
     elim (is_plain_set r e v) as (λ b. is_plain_set r e v ≡ b → Replays s ((if b then [] else before_gain r e v (cut b)) ++ feature_change e (Gains v) ∷ [])
     (record s { values = vs; links = if b then without_link_ends s.links (cut b) else with_value (without_link_ends s.links (cut b)) r e None v })) [
@@ -370,7 +370,7 @@ set-changes s n f v legal early late =
           (new-set s n f v legal early late new)
     ] refl
 
-unset-changes : (s : Model) (n : Node) (f : FeatureNo) → IsLegal s → has_feature (reading s) n f ≡ true → Replays s (feature_changes (reading s) (Unset n f)) (after s (Unset n f))
+unset-changes : (s : Model) (n : Node) (f : FeatureNo) → IsLegal s → has_feature (reading s) n f ≡ true → Replays s (feature_changes (reading s) (At (at_end n f) Unset)) (after s (At (at_end n f) Unset))
 unset-changes s n f legal has =
     let r = reading s in
     let e = at_end n f in
@@ -390,7 +390,7 @@ unset-changes s n f legal has =
     ] refl
 
 -- a new link in a list
-new-add : (s : Model) (n : Node) (f : FeatureNo) (v : Value) (i : Option ℕ) → IsLegal s → early_refusal (reading s) (Add n f v i) ≡ None → late_refusal (reading s) (Add n f v i) ≡ None → is_plain_add (reading s) (at_end n f) v ≡ false
+new-add : (s : Model) (n : Node) (f : FeatureNo) (v : Value) (i : Option ℕ) → IsLegal s → early_refusal (reading s) (At (at_end n f) (Add v i)) ≡ None → late_refusal (reading s) (At (at_end n f) (Add v i)) ≡ None → is_plain_add (reading s) (at_end n f) v ≡ false
     → (let e = at_end n f in Replays s (before_gain (reading s) e v (cut_by_new (reading s) e v) ++ feature_change e (gain_at i v) ∷ []) (relinked s (with_value (without_link_ends s.links (cut_by_new (reading s) e v)) (reading s) e i v)))
 new-add s n f (value.Object o) i legal early late h =
     let e = at_end n f in
@@ -426,7 +426,7 @@ new-add s n f v i legal early late h =
         null-many s.metamodel (reading s).class f reference many (subst (λ (w : Value). lookups.takes s.metamodel (reading s).class f w ≡ true) (null-taken s.metamodel (reading s).class f v reference takes none) takes)
 
 -- a value that is added to an attribute
-attribute-add : (s : Model) (n : Node) (f : FeatureNo) (v : Value) (i : Option ℕ) → IsLegal s → early_refusal (reading s) (Add n f v i) ≡ None → late_refusal (reading s) (Add n f v i) ≡ None → (shape s.metamodel f).is_reference ≡ false → is_repeat (reading s) (at_end n f) v ≡ false
+attribute-add : (s : Model) (n : Node) (f : FeatureNo) (v : Value) (i : Option ℕ) → IsLegal s → early_refusal (reading s) (At (at_end n f) (Add v i)) ≡ None → late_refusal (reading s) (At (at_end n f) (Add v i)) ≡ None → (shape s.metamodel f).is_reference ≡ false → is_repeat (reading s) (at_end n f) v ≡ false
     → Replays s (before_gain (reading s) (at_end n f) v [] ++ feature_change (at_end n f) (gain_at i v) ∷ []) (record s { values = applied s.values (add_value (reading s) (at_end n f) v i) })
 attribute-add s (node.Resource k) f v i legal early late attribute new = absurd (resource-keeps-none (reading s) k f (add-named (reading s) (node.Resource k) f v i early).there attribute)
 attribute-add s (node.Object o) f (value.Object p) i legal early late attribute new =
@@ -443,7 +443,7 @@ attribute-add s (node.Object o) f v i legal early late attribute new =
     below_or : (k n : ℕ) → nat_le k n ≡ true → k ≤ n
     below_or k n h = grind (arith, nat_tests)
 
-add-changes : (s : Model) (n : Node) (f : FeatureNo) (v : Value) (i : Option ℕ) → IsLegal s → early_refusal (reading s) (Add n f v i) ≡ None → late_refusal (reading s) (Add n f v i) ≡ None → Replays s (feature_changes (reading s) (Add n f v i)) (after s (Add n f v i))
+add-changes : (s : Model) (n : Node) (f : FeatureNo) (v : Value) (i : Option ℕ) → IsLegal s → early_refusal (reading s) (At (at_end n f) (Add v i)) ≡ None → late_refusal (reading s) (At (at_end n f) (Add v i)) ≡ None → Replays s (feature_changes (reading s) (At (at_end n f) (Add v i))) (after s (At (at_end n f) (Add v i)))
 add-changes s n f v i legal early late =
     let r = reading s in
     let e = at_end n f in
@@ -477,7 +477,7 @@ first-low vs v i h =
     let low = first-below vs v i (sym h) in
     grind (arith, nat_tests)
 
-take-value_changes : (s : Model) (n : Node) (f : FeatureNo) (v : Value) → IsLegal s → has_feature (reading s) n f ≡ true → (shape s.metamodel f).is_single ≡ false → Replays s (feature_changes (reading s) (RemoveValue n f v)) (after s (RemoveValue n f v))
+take-value_changes : (s : Model) (n : Node) (f : FeatureNo) (v : Value) → IsLegal s → has_feature (reading s) n f ≡ true → (shape s.metamodel f).is_single ≡ false → Replays s (feature_changes (reading s) (At (at_end n f) (RemoveValue v))) (after s (At (at_end n f) (RemoveValue v)))
 take-value_changes s n f v legal has many =
     let r = reading s in
     let e = at_end n f in
@@ -488,7 +488,7 @@ take-value_changes s n f v legal has many =
       | Some i ↦ λ at. take-changes s n f i legal has many (first-low (r.values e) v i at)
     ] refl
 
-move-changes : (s : Model) (n : Node) (f : FeatureNo) (to from : ℕ) → IsLegal s → has_feature (reading s) n f ≡ true → (shape s.metamodel f).is_single ≡ false → late_refusal (reading s) (Move n f to from) ≡ None → Replays s (feature_changes (reading s) (Move n f to from)) (after s (Move n f to from))
+move-changes : (s : Model) (n : Node) (f : FeatureNo) (to from : ℕ) → IsLegal s → has_feature (reading s) n f ≡ true → (shape s.metamodel f).is_single ≡ false → late_refusal (reading s) (At (at_end n f) (Move to from)) ≡ None → Replays s (feature_changes (reading s) (At (at_end n f) (Move to from))) (after s (At (at_end n f) (Move to from)))
 move-changes s n f to from legal has many late =
     let r = reading s in
     let e = at_end n f in
@@ -508,19 +508,19 @@ changes-replay : (s : Model) (c : Change) → resolves_all c ≡ false → IsLeg
 changes-replay s (Create k) one legal early late read = everywhere s (Create k) (create-replays s k)
 changes-replay s (NewResource u) one legal early late read = everywhere s (NewResource u) (λ d. refl)
 changes-replay s (Delete o) one legal early late read = (λ d stays old. destroyed-replays s legal o (delete-named (reading s) o early) d stays)
-changes-replay s (Set n f v) one legal early late read = everywhere s (Set n f v) (set-changes s n f v legal early late)
-changes-replay s (Unset n f) one legal early late read = everywhere s (Unset n f) (unset-changes s n f legal (unset-there (reading s) n f early))
-changes-replay s (Add n f v i) one legal early late read = everywhere s (Add n f v i) (add-changes s n f v i legal early late)
-changes-replay s (Remove n f i) one legal early late read =
-    let named = remove-named (reading s) n f i early in
-    everywhere s (Remove n f i) (take-changes s n f i legal named.0 named.1 (remove-placed (reading s) n f i late))
-changes-replay s (RemoveValue n f v) one legal early late read =
-    let named = take-named (reading s) n f v early in
-    everywhere s (RemoveValue n f v) (take-value_changes s n f v legal named.there named.single)
-changes-replay s (Move n f to from) one legal early late read =
-    let named = move-named (reading s) n f to from early in
-    everywhere s (Move n f to from) (move-changes s n f to from legal named.0 named.1 late)
-changes-replay s (Resolve o f i) one legal early late read = everywhere s (Resolve o f i) (resolve-changes s legal o f i late)
+changes-replay s (At e (Set v)) one legal early late read = everywhere s (At e (Set v)) (set-changes s e.node e.feature v legal early late)
+changes-replay s (At e Unset) one legal early late read = everywhere s (At e Unset) (unset-changes s e.node e.feature legal (unset-there (reading s) e.node e.feature early))
+changes-replay s (At e (Add v i)) one legal early late read = everywhere s (At e (Add v i)) (add-changes s e.node e.feature v i legal early late)
+changes-replay s (At e (Remove i)) one legal early late read =
+    let named = remove-named (reading s) e.node e.feature i early in
+    everywhere s (At e (Remove i)) (take-changes s e.node e.feature i legal named.0 named.1 (remove-placed (reading s) e.node e.feature i late))
+changes-replay s (At e (RemoveValue v)) one legal early late read =
+    let named = take-named (reading s) e.node e.feature v early in
+    everywhere s (At e (RemoveValue v)) (take-value_changes s e.node e.feature v legal named.there named.single)
+changes-replay s (At e (Move to from)) one legal early late read =
+    let named = move-named (reading s) e.node e.feature to from early in
+    everywhere s (At e (Move to from)) (move-changes s e.node e.feature to from legal named.0 named.1 late)
+changes-replay s (At e (Resolve i)) one legal early late read = everywhere s (At e (Resolve i)) (resolve-changes s legal e i late)
 changes-replay s ResolveAll one legal early late read = absurd (true≢false one)
 changes-replay s (Load k doc) one legal early late read = λ d stays old. load-replays s k doc legal late read d old
 

@@ -12,7 +12,6 @@ use Rattle.mm_types.specs.Shapes.{shape}
 use Rattle.mm_types.specs.declared.numbers.FeatureNo.{FeatureNo}
 use Rattle.mm_types.specs.declared.numbers.ObjectNo.{ObjectNo}
 use Rattle.mm_types.specs.declared.numbers.Node.{Node}
-use Rattle.mm_types.specs.declared.numbers.Node.TheVariants as node
 use Rattle.mm_types.specs.declared.end.End.{End}
 use Rattle.mm_types.specs.declared.value.Value.{Value}
 use Rattle.mm_types.specs.declared.value.Value.TheVariants as value
@@ -32,7 +31,8 @@ use Rattle.models.specs.Model.{Model, reading}
 use Rattle.models.specs.Reading.{Reading, at_end, first_at, is_repeat}
 use Rattle.handshake.proofs.KnownLemmas.{delete-named, far-reference, kinds-are, set-named}
 use Rattle.handshake.specs.declared.change.Change.{Change}
-use Rattle.handshake.specs.declared.change.Change.TheVariants.{Create, Set, Unset, Add, Remove, RemoveValue, Move, Delete, NewResource, Resolve, ResolveAll, Load}
+use Rattle.handshake.specs.declared.change.Change.TheVariants.{At, Delete}
+use Rattle.handshake.specs.declared.act.Act.TheVariants.{Set, Unset, Add, Remove, RemoveValue, Resolve}
 use Rattle.removal.specs.declared.link_end.LinkEnd.{LinkEnd}
 use Rattle.handshake.specs.Displaced.{cut_by_new, cut_by_set, cut_link_ends, is_plain_add, link_end_in, link_ends_backwards, has_already, in_the_way, is_plain_set, once, holding_link_end, other_side, same_link, same_link_end, link_ends_at, link_ends_if_single, with_link_end, yields, link_ends_resolved}
 use Rattle.handshake.specs.Resolving.{opposite_end}
@@ -253,14 +253,14 @@ plain-not false b h = absurd (false≢true (sym h))
 
 -- what a set that is not plain has to cut, and what an unset of a reference has
 module _ (P : List LinkEnd → Type 0) (s : Model) (n : Node) (f : FeatureNo) (none : P []) where
-  pub set-cuts : (v : Value) → ((shape s.metamodel f).is_reference ≡ true → has_already (reading s) (at_end n f) v ≡ false → P (cut_by_set (reading s) (at_end n f) v)) → P (cut_link_ends (reading s) (Set n f v))
+  pub set-cuts : (v : Value) → ((shape s.metamodel f).is_reference ≡ true → has_already (reading s) (at_end n f) v ≡ false → P (cut_by_set (reading s) (at_end n f) v)) → P (cut_link_ends (reading s) (At (at_end n f) (Set v)))
   set-cuts v some =
       elim (is_plain_set (reading s) (at_end n f) v) as (λ b. is_plain_set (reading s) (at_end n f) v ≡ b → P (if b then [] else cut_by_set (reading s) (at_end n f) v)) [
         | true ↦ λ _. none
         | false ↦ λ h. let both = plain-not (shape s.metamodel f).is_reference (has_already (reading s) (at_end n f) v) h in some both.0 both.1
       ] refl
 
-  pub add-cuts : (v : Value) (i : Option ℕ) → ((shape s.metamodel f).is_reference ≡ true → is_repeat (reading s) (at_end n f) v ≡ false → P (cut_by_new (reading s) (at_end n f) v)) → P (cut_link_ends (reading s) (Add n f v i))
+  pub add-cuts : (v : Value) (i : Option ℕ) → ((shape s.metamodel f).is_reference ≡ true → is_repeat (reading s) (at_end n f) v ≡ false → P (cut_by_new (reading s) (at_end n f) v)) → P (cut_link_ends (reading s) (At (at_end n f) (Add v i)))
   add-cuts v i some =
       elim (is_plain_add (reading s) (at_end n f) v) as (λ b. is_plain_add (reading s) (at_end n f) v ≡ b → P (if b then [] else cut_by_new (reading s) (at_end n f) v)) [
         | true ↦ λ _. none
@@ -272,10 +272,10 @@ module _ (P : List LinkEnd → Type 0) (s : Model) (n : Node) (f : FeatureNo) (n
   reference-cuts ts some =
       elim (shape s.metamodel f).is_reference as (λ b. (shape s.metamodel f).is_reference ≡ b → P (if b then ts else [])) [ true ↦ some | false ↦ λ _. none ] refl
 
-  pub unset-cuts : ((shape s.metamodel f).is_reference ≡ true → P (link_ends_backwards (at_end n f) ((reading s).values (at_end n f)))) → P (cut_link_ends (reading s) (Unset n f))
+  pub unset-cuts : ((shape s.metamodel f).is_reference ≡ true → P (link_ends_backwards (at_end n f) ((reading s).values (at_end n f)))) → P (cut_link_ends (reading s) (At (at_end n f) Unset))
   unset-cuts some = reference-cuts (link_ends_backwards (at_end n f) ((reading s).values (at_end n f))) some
 
-  pub take-cuts : (v : Value) → ((shape s.metamodel f).is_reference ≡ true → (i : ℕ) → P (link_end_in (reading s) (at_end n f) i)) → P (cut_link_ends (reading s) (RemoveValue n f v))
+  pub take-cuts : (v : Value) → ((shape s.metamodel f).is_reference ≡ true → (i : ℕ) → P (link_end_in (reading s) (at_end n f) i)) → P (cut_link_ends (reading s) (At (at_end n f) (RemoveValue v)))
   take-cuts v some =
       let r = reading s in
       let e = at_end n f in
@@ -319,42 +319,27 @@ different-of_once r (t ∷ ts) once =
 
 -- the links that a change leaves, by the names of those that it cuts
 pub left-cuts : (s : Model) (c : Change) → IsLegal s → early_refusal (reading s) c ≡ None → links_left s.links (reading s) c ≡ without_all s.links (names_of (cut_link_ends (reading s) c))
-left-cuts s (Create c) legal early = refl
-left-cuts s (NewResource u) legal early = refl
-left-cuts s (Set n f v) legal early = without_link_ends-names_of s.links (cut_link_ends (reading s) (Set n f v))
-left-cuts s (Unset n f) legal early = without_link_ends-names_of s.links (cut_link_ends (reading s) (Unset n f))
-left-cuts s (Add n f v i) legal early = without_link_ends-names_of s.links (cut_link_ends (reading s) (Add n f v i))
-left-cuts s (Remove n f i) legal early = without_link_ends-names_of s.links (cut_link_ends (reading s) (Remove n f i))
-left-cuts s (RemoveValue n f v) legal early = without_link_ends-names_of s.links (cut_link_ends (reading s) (RemoveValue n f v))
-left-cuts s (Move n f to from) legal early = refl
-left-cuts s (Load k doc) legal early = refl
-left-cuts s ResolveAll legal early = refl
-left-cuts s (Resolve o f i) legal early = without_link_ends-names_of s.links (cut_link_ends (reading s) (Resolve o f i))
 left-cuts s (Delete o) legal early =
     let r = reading s in
     let m = kinds_of s.metamodel in
     sym (without_all-nodes m (kinds-are s.metamodel legal.metamodel) s.links (gone r o) (names_of (tree_link_ends r o)) legal.links.set legal.links.kinds (tree-named s legal o (delete-named r o early)).all)
+left-cuts s c legal early = without_link_ends-names_of s.links (cut_link_ends (reading s) c)
 
 -- each link that a change cuts stands where its name says
 pub cuts-stand : (s : Model) (c : Change) → IsLegal s → early_refusal (reading s) c ≡ None → AllByRecursion (Stands s.links) (cut_link_ends (reading s) c)
-cuts-stand s (Create c) legal early = tt
-cuts-stand s (NewResource u) legal early = tt
 cuts-stand s (Delete o) legal early = all_from_map (λ (t : End × Value). Has s.links t.0 t.1) (λ (t : LinkEnd). (t.end, t.value)) (tree_link_ends (reading s) o) (tree-named s legal o (delete-named (reading s) o early)).there
-cuts-stand s (Set n f v) legal early = set-cuts (AllByRecursion (Stands s.links)) s n f tt v (λ reference _. cut_by_set-stand s (at_end n f) v legal reference)
-cuts-stand s (Unset n f) legal early = unset-cuts (AllByRecursion (Stands s.links)) s n f tt (λ reference. link_ends_backwards-stand s (at_end n f) reference)
-cuts-stand s (Add n f v i) legal early = add-cuts (AllByRecursion (Stands s.links)) s n f tt v i (λ reference _. cut_by_new-stand s (at_end n f) v legal reference)
-cuts-stand s (Remove n f i) legal early = reference-cuts (AllByRecursion (Stands s.links)) s n f tt (link_end_in (reading s) (at_end n f) i) (λ reference. link_end_in-stand s (at_end n f) i reference)
-cuts-stand s (RemoveValue n f v) legal early = take-cuts (AllByRecursion (Stands s.links)) s n f tt v (λ reference i. link_end_in-stand s (at_end n f) i reference)
-cuts-stand s (Move n f to from) legal early = tt
-cuts-stand s (Load k doc) legal early = tt
-cuts-stand s ResolveAll legal early = tt
-cuts-stand s (Resolve o f i) legal early =
+cuts-stand s (At e (Set v)) legal early = set-cuts (AllByRecursion (Stands s.links)) s e.node e.feature tt v (λ reference _. cut_by_set-stand s e v legal reference)
+cuts-stand s (At e Unset) legal early = unset-cuts (AllByRecursion (Stands s.links)) s e.node e.feature tt (λ reference. link_ends_backwards-stand s e reference)
+cuts-stand s (At e (Add v i)) legal early = add-cuts (AllByRecursion (Stands s.links)) s e.node e.feature tt v i (λ reference _. cut_by_new-stand s e v legal reference)
+cuts-stand s (At e (Remove i)) legal early = reference-cuts (AllByRecursion (Stands s.links)) s e.node e.feature tt (link_end_in (reading s) e i) (λ reference. link_end_in-stand s e i reference)
+cuts-stand s (At e (RemoveValue v)) legal early = take-cuts (AllByRecursion (Stands s.links)) s e.node e.feature tt v (λ reference i. link_end_in-stand s e i reference)
+cuts-stand s (At e (Resolve i)) legal early =
     let r = reading s in
-    let e = at_end (node.Object o) f in
-    reference-cuts (AllByRecursion (Stands s.links)) s (node.Object o) f tt (link_ends_resolved r e i) (λ reference.
+    reference-cuts (AllByRecursion (Stands s.links)) s e.node e.feature tt (link_ends_resolved r e i) (λ reference.
     resolved-cuts (AllByRecursion (Stands s.links)) r e i (link_end_in-stand s e i reference) (λ b c t is at.
     all_append (Stands s.links) (link_end_in r e i) (link_end_in r c.end c.index) (link_end_in-stand s e i reference)
-    (link_end_in-stand s c.end c.index (subst (λ (d : End). (shape s.metamodel d.feature).is_reference ≡ true) (sym is.stands) (far-reference s.metamodel legal.metamodel f is.feature is.opposite)))))
+    (link_end_in-stand s c.end c.index (subst (λ (d : End). (shape s.metamodel d.feature).is_reference ≡ true) (sym is.stands) (far-reference s.metamodel legal.metamodel e.feature is.feature is.opposite)))))
+cuts-stand s _ legal early = tt
 
 pub cuts-there : (s : Model) (c : Change) → IsLegal s → early_refusal (reading s) c ≡ None → late_refusal (reading s) c ≡ None → AreThere s.links (names_of (cut_link_ends (reading s) c))
 cuts-there s c legal early late = all_map (λ (t : End × Value). Has s.links t.0 t.1) (λ (t : LinkEnd). (t.end, t.value)) (cut_link_ends (reading s) c) (cuts-stand s c legal early)
@@ -452,26 +437,20 @@ proxies-different s e i o c t legal is at =
     subst (AreDifferent r) (sym (λ k. near k ++ far k)) ((apart, tt), (tt, tt))
 
 pub cuts-different : (s : Model) (c : Change) → IsLegal s → early_refusal (reading s) c ≡ None → AreDifferent (reading s) (cut_link_ends (reading s) c)
-cuts-different s (Create c) legal early = tt
-cuts-different s (NewResource u) legal early = tt
 cuts-different s (Delete o) legal early = different-of_once (reading s) (tree_link_ends (reading s) o) (tree-named s legal o (delete-named (reading s) o early)).once
-cuts-different s (Set n f v) legal early =
-    set-cuts (AreDifferent (reading s)) s n f tt v (λ reference _. cut_by_set-different s (at_end n f) v legal reference (set-named (reading s) n f v early).single)
-cuts-different s (Unset n f) legal early =
-    let e = at_end n f in
-    unset-cuts (AreDifferent (reading s)) s n f tt (λ reference.
+cuts-different s (At e (Set v)) legal early =
+    set-cuts (AreDifferent (reading s)) s e.node e.feature tt v (λ reference _. cut_by_set-different s e v legal reference (set-named (reading s) e.node e.feature v early).single)
+cuts-different s (At e Unset) legal early =
+    unset-cuts (AreDifferent (reading s)) s e.node e.feature tt (λ reference.
     subst (λ (vs : List Value). AreDifferent (reading s) (link_ends_backwards e vs)) (sym (values-linked s e reference)) (backwards-different s e (end s.links e) legal (legal.links.set.placed.distinct e)))
-cuts-different s (Add n f v i) legal early = add-cuts (AreDifferent (reading s)) s n f tt v i (λ reference _. cut_by_new-different (reading s) (at_end n f) v)
-cuts-different s (Remove n f i) legal early = reference-cuts (AreDifferent (reading s)) s n f tt (link_end_in (reading s) (at_end n f) i) (λ reference. link_end_in-different (reading s) (at_end n f) i)
-cuts-different s (RemoveValue n f v) legal early = take-cuts (AreDifferent (reading s)) s n f tt v (λ reference i. link_end_in-different (reading s) (at_end n f) i)
-cuts-different s (Move n f to from) legal early = tt
-cuts-different s (Load k doc) legal early = tt
-cuts-different s ResolveAll legal early = tt
-cuts-different s (Resolve o f i) legal early =
+cuts-different s (At e (Add v i)) legal early = add-cuts (AreDifferent (reading s)) s e.node e.feature tt v i (λ reference _. cut_by_new-different (reading s) e v)
+cuts-different s (At e (Remove i)) legal early = reference-cuts (AreDifferent (reading s)) s e.node e.feature tt (link_end_in (reading s) e i) (λ reference. link_end_in-different (reading s) e i)
+cuts-different s (At e (RemoveValue v)) legal early = take-cuts (AreDifferent (reading s)) s e.node e.feature tt v (λ reference i. link_end_in-different (reading s) e i)
+cuts-different s (At e (Resolve i)) legal early =
     let r = reading s in
-    let e = at_end (node.Object o) f in
-    reference-cuts (AreDifferent r) s (node.Object o) f tt (link_ends_resolved r e i) (λ reference.
+    reference-cuts (AreDifferent r) s e.node e.feature tt (link_ends_resolved r e i) (λ reference.
     resolved-cuts (AreDifferent r) r e i (link_end_in-different r e i) (λ b c t is at. proxies-different s e i b c t legal is at))
+cuts-different s _ legal early = tt
 
 pub cuts-once : (s : Model) (c : Change) → IsLegal s → early_refusal (reading s) c ≡ None → late_refusal (reading s) c ≡ None → AreOnce (kinds_of s.metamodel) (names_of (cut_link_ends (reading s) c))
 cuts-once s c legal early late = once-of_different (reading s) (cut_link_ends (reading s) c) (cuts-different s c legal early)

@@ -30,14 +30,16 @@ use Rattle.models.specs.Model.{Model, reading}
 use Rattle.models.proofs.EndLemmas.{values-single}
 use Rattle.models.specs.Reading.{Reading, at_end, has_feature, is_live, is_node_live, is_repeat, is_value_live, position_for, takes, has_uri}
 use Rattle.containment.proofs.PartLemmas.{object-reference}
-use Rattle.handshake.specs.Named.{feature_refusal, many_refusal, node_refusal, single_refusal, value_refusal}
-use Rattle.handshake.specs.Refusals.{add_refusal, early_refusal, gain_refusal, is_at_limit, is_full_at, is_mistyped, is_recursive, is_there_already, late_refusal, link_refusal, of_either, resolve_refusal, set_refusal, target_refusal, type_refusal, uri_refusal}
+use Rattle.handshake.specs.Refusals.{add_refusal, early_refusal, gain_refusal, is_at_limit, is_full_at, is_mistyped, is_recursive, is_there_already, late_refusal, link_refusal, many_refusal, of_either, resolve_refusal, set_refusal, single_refusal, target_refusal, type_refusal, uri_refusal}
 use Rattle.handshake.specs.Resolving.{is_unmatched, proxy_at, target_at}
 use Rattle.handshake.specs.declared.target.Target.{Target}
 use Rattle.handshake.proofs.TargetLemmas.{IsFound, found-is}
-use Rattle.handshake.specs.declared.change.Change.TheVariants.{Set, Unset, Add, Remove, RemoveValue, Move, Delete, Resolve}
+use Rattle.handshake.specs.declared.act.Act.{Act}
+use Rattle.handshake.specs.declared.change.Change.TheVariants.{At, Delete}
+use Rattle.handshake.specs.declared.act.Act.TheVariants.{Set, Unset, Add, Remove, RemoveValue, Move, Resolve}
 use Rattle.std.proofs.lemmas.Bool.Decides.{nat_tests}
 use Rattle.mm_types.specs.declared.limits.TheConstants.{LIST_VALUES, RESOURCES}
+use Rattle.models.specs.Existence.{end_refusal, node_refusal, value_refusal}
 
 ---------------------------------------------------------------- the metamodel
 
@@ -84,7 +86,7 @@ there-of r o f None is h = absurd (false≢true h)
 there-of r o f (Some c) is h = record { object = o; class = c; node = refl; class_is = is; has = h }
 
 -- what a resource has is `contents`
-resource-shape : (r : Reading) (k : ResourceNo) (f : FeatureNo) → has_feature r (node.Resource k) f ≡ true → shape r.metamodel f ≡ contents_shape r.metamodel
+pub resource-shape : (r : Reading) (k : ResourceNo) (f : FeatureNo) → has_feature r (node.Resource k) f ≡ true → shape r.metamodel f ≡ contents_shape r.metamodel
 resource-shape r k f h =
     let m = r.metamodel in
     let same = eqb-true f.0 (length m.features) (and_parts _ _ h).1 in
@@ -105,12 +107,12 @@ feature-there r (node.Resource k) f g opposite h = absurd (resource-alone r k f 
 
 ---------------------------------------------------------------- early refusals
 
-pub feature-named : (r : Reading) (n : Node) (f : FeatureNo) → feature_refusal r n f ≡ None → has_feature r n f ≡ true
+pub feature-named : (r : Reading) (n : Node) (f : FeatureNo) → end_refusal r (at_end n f) ≡ None → has_feature r n f ≡ true
 feature-named r n f h = none-unless NoFeature (has_feature r n f) (none-else_by (node_refusal r n) (NoFeature unless has_feature r n f) h).1
 
-pub value-named : (r : Reading) (n : Node) (f : FeatureNo) (v : Value) → value_refusal r n f v ≡ None → (is_value_live r v ≡ true) × (has_feature r n f ≡ true)
+pub value-named : (r : Reading) (n : Node) (f : FeatureNo) (v : Value) → value_refusal r (at_end n f) v ≡ None → (is_value_live r v ≡ true) × (has_feature r n f ≡ true)
 value-named r n f v h =
-    let both = none-else_by (NoObject unless (is_node_live r n && is_value_live r v)) (feature_refusal r n f) h in (
+    let both = none-else_by (NoObject unless (is_node_live r n && is_value_live r v)) (end_refusal r (at_end n f)) h in (
       (and_parts (is_node_live r n) (is_value_live r v) (none-unless NoObject (is_node_live r n && is_value_live r v) both.0)).1,
       feature-named r n f both.1,
     )
@@ -121,50 +123,57 @@ pub record IsNamed (one : Bool) (r : Reading) (n : Node) (f : FeatureNo) (v : Va
   pub there : has_feature r n f ≡ true
   pub single : (shape r.metamodel f).is_single ≡ one
 
-single-named : (r : Reading) (n : Node) (f : FeatureNo) (v : Value) → (value_refusal r n f v else_by single_refusal r.metamodel f) ≡ None → IsNamed true r n f v
+single-named : (r : Reading) (n : Node) (f : FeatureNo) (v : Value) → (value_refusal r (at_end n f) v else_by single_refusal r.metamodel f) ≡ None → IsNamed true r n f v
 single-named r n f v h =
-    let both = none-else_by (value_refusal r n f v) (single_refusal r.metamodel f) h in
+    let both = none-else_by (value_refusal r (at_end n f) v) (single_refusal r.metamodel f) h in
     let named = value-named r n f v both.0 in
     record { live = named.0; there = named.1; single = none-unless NotSingle (shape r.metamodel f).is_single both.1 }
 
-many-named : (r : Reading) (n : Node) (f : FeatureNo) (v : Value) → (value_refusal r n f v else_by many_refusal r.metamodel f) ≡ None → IsNamed false r n f v
+many-named : (r : Reading) (n : Node) (f : FeatureNo) (v : Value) → (value_refusal r (at_end n f) v else_by many_refusal r.metamodel f) ≡ None → IsNamed false r n f v
 many-named r n f v h =
-    let both = none-else_by (value_refusal r n f v) (many_refusal r.metamodel f) h in
+    let both = none-else_by (value_refusal r (at_end n f) v) (many_refusal r.metamodel f) h in
     let named = value-named r n f v both.0 in
     record { live = named.0; there = named.1; single = none-where_so NotMany (shape r.metamodel f).is_single both.1 }
 
-list-named : (r : Reading) (n : Node) (f : FeatureNo) → (feature_refusal r n f else_by many_refusal r.metamodel f) ≡ None → (has_feature r n f ≡ true) × ((shape r.metamodel f).is_single ≡ false)
+list-named : (r : Reading) (n : Node) (f : FeatureNo) → (end_refusal r (at_end n f) else_by many_refusal r.metamodel f) ≡ None → (has_feature r n f ≡ true) × ((shape r.metamodel f).is_single ≡ false)
 list-named r n f h =
-    let both = none-else_by (feature_refusal r n f) (many_refusal r.metamodel f) h in
+    let both = none-else_by (end_refusal r (at_end n f)) (many_refusal r.metamodel f) h in
     (feature-named r n f both.0, none-where_so NotMany (shape r.metamodel f).is_single both.1)
 
 -- an early refusal of None, of each change
 pub delete-named : (r : Reading) (o : ObjectNo) → early_refusal r (Delete o) ≡ None → is_live r o ≡ true
 delete-named r o h = none-unless NoObject (is_live r o) (none-else_by (NoObject unless is_live r o) (NoResource unless true) h).0
 
-pub set-named : (r : Reading) (n : Node) (f : FeatureNo) (v : Value) → early_refusal r (Set n f v) ≡ None → IsNamed true r n f v
+pub set-named : (r : Reading) (n : Node) (f : FeatureNo) (v : Value) → early_refusal r (At (at_end n f) (Set v)) ≡ None → IsNamed true r n f v
 set-named r n f v h = single-named r n f v h
 
-pub set-there : (r : Reading) (n : Node) (f : FeatureNo) (v : Value) → early_refusal r (Set n f v) ≡ None → has_feature r n f ≡ true
+pub set-there : (r : Reading) (n : Node) (f : FeatureNo) (v : Value) → early_refusal r (At (at_end n f) (Set v)) ≡ None → has_feature r n f ≡ true
 set-there r n f v h = (set-named r n f v h).there
 
-pub unset-there : (r : Reading) (n : Node) (f : FeatureNo) → early_refusal r (Unset n f) ≡ None → has_feature r n f ≡ true
+pub unset-there : (r : Reading) (n : Node) (f : FeatureNo) → early_refusal r (At (at_end n f) Unset) ≡ None → has_feature r n f ≡ true
 unset-there r n f h = feature-named r n f h
 
-pub add-named : (r : Reading) (n : Node) (f : FeatureNo) (v : Value) (i : Option ℕ) → early_refusal r (Add n f v i) ≡ None → IsNamed false r n f v
+pub add-named : (r : Reading) (n : Node) (f : FeatureNo) (v : Value) (i : Option ℕ) → early_refusal r (At (at_end n f) (Add v i)) ≡ None → IsNamed false r n f v
 add-named r n f v i h = many-named r n f v h
 
-pub remove-named : (r : Reading) (n : Node) (f : FeatureNo) (i : ℕ) → early_refusal r (Remove n f i) ≡ None → (has_feature r n f ≡ true) × ((shape r.metamodel f).is_single ≡ false)
+pub remove-named : (r : Reading) (n : Node) (f : FeatureNo) (i : ℕ) → early_refusal r (At (at_end n f) (Remove i)) ≡ None → (has_feature r n f ≡ true) × ((shape r.metamodel f).is_single ≡ false)
 remove-named r n f i h = list-named r n f h
 
-pub take-named : (r : Reading) (n : Node) (f : FeatureNo) (v : Value) → early_refusal r (RemoveValue n f v) ≡ None → IsNamed false r n f v
+pub take-named : (r : Reading) (n : Node) (f : FeatureNo) (v : Value) → early_refusal r (At (at_end n f) (RemoveValue v)) ≡ None → IsNamed false r n f v
 take-named r n f v h = many-named r n f v h
 
-pub move-named : (r : Reading) (n : Node) (f : FeatureNo) (to from : ℕ) → early_refusal r (Move n f to from) ≡ None → (has_feature r n f ≡ true) × ((shape r.metamodel f).is_single ≡ false)
+pub move-named : (r : Reading) (n : Node) (f : FeatureNo) (to from : ℕ) → early_refusal r (At (at_end n f) (Move to from)) ≡ None → (has_feature r n f ≡ true) × ((shape r.metamodel f).is_single ≡ false)
 move-named r n f to from h = list-named r n f h
 
-pub resolve-named : (r : Reading) (o : ObjectNo) (f : FeatureNo) (i : ℕ) → early_refusal r (Resolve o f i) ≡ None → has_feature r (node.Object o) f ≡ true
-resolve-named r o f i h = feature-named r (node.Object o) f h
+-- so the end is there at which something is done
+pub act-there : (r : Reading) (e : End) (a : Act) → early_refusal r (At e a) ≡ None → has_feature r e.node e.feature ≡ true
+act-there r e (Set v) h = set-there r e.node e.feature v h
+act-there r e Unset h = unset-there r e.node e.feature h
+act-there r e (Add v i) h = (add-named r e.node e.feature v i h).there
+act-there r e (Remove i) h = (remove-named r e.node e.feature i h).0
+act-there r e (RemoveValue v) h = (take-named r e.node e.feature v h).there
+act-there r e (Move to from) h = (move-named r e.node e.feature to from h).0
+act-there r e (Resolve i) h = feature-named r e.node e.feature h
 
 ---------------------------------------------------------------- late refusals
 
@@ -249,7 +258,7 @@ pub record IsTaken (r : Reading) (n : Node) (f : FeatureNo) (v : Value) : Type 0
   pub short : is_short v ≡ true
   pub allowed : set_refusal r (at_end n f) v ≡ None
 
-pub set-taken : (r : Reading) (n : Node) (f : FeatureNo) (v : Value) → late_refusal r (Set n f v) ≡ None → IsTaken r n f v
+pub set-taken : (r : Reading) (n : Node) (f : FeatureNo) (v : Value) → late_refusal r (At (at_end n f) (Set v)) ≡ None → IsTaken r n f v
 set-taken r n f v h =
     let both = none-else_by (type_refusal r f v) (set_refusal r (at_end n f) v) h in
     let typed = typed-of r f v both.0 in
@@ -262,7 +271,7 @@ pub record IsAdded (r : Reading) (n : Node) (f : FeatureNo) (v : Value) (i : Opt
   pub placed : nat_le (position_for r (at_end n f) i) (length (r.values (at_end n f))) ≡ true
   pub allowed : add_refusal r (at_end n f) v i ≡ None
 
-pub add-taken : (r : Reading) (n : Node) (f : FeatureNo) (v : Value) (i : Option ℕ) → late_refusal r (Add n f v i) ≡ None → IsAdded r n f v i
+pub add-taken : (r : Reading) (n : Node) (f : FeatureNo) (v : Value) (i : Option ℕ) → late_refusal r (At (at_end n f) (Add v i)) ≡ None → IsAdded r n f v i
 add-taken r n f v i h =
     let e = at_end n f in
     let both = none-else_by (type_refusal r f v) _ h in
@@ -274,10 +283,10 @@ add-taken r n f v i h =
 pub add-gains : (r : Reading) (e : End) (v : Value) (i : Option ℕ) → is_repeat r e v ≡ false → add_refusal r e v i ≡ None → gain_refusal r e v ≡ None
 add-gains r e v i new h = subst (λ (b : Bool). (if b then (Duplicate where_so is_some i) else gain_refusal r e v) ≡ None) new h
 
-pub remove-placed : (r : Reading) (n : Node) (f : FeatureNo) (i : ℕ) → late_refusal r (Remove n f i) ≡ None → nat_lt i (length (r.values (at_end n f))) ≡ true
+pub remove-placed : (r : Reading) (n : Node) (f : FeatureNo) (i : ℕ) → late_refusal r (At (at_end n f) (Remove i)) ≡ None → nat_lt i (length (r.values (at_end n f))) ≡ true
 remove-placed r n f i h = none-unless Index _ h
 
-pub move-placed : (r : Reading) (n : Node) (f : FeatureNo) (to from : ℕ) → late_refusal r (Move n f to from) ≡ None
+pub move-placed : (r : Reading) (n : Node) (f : FeatureNo) (to from : ℕ) → late_refusal r (At (at_end n f) (Move to from)) ≡ None
     → (nat_lt to (length (r.values (at_end n f))) ≡ true) × (nat_lt from (length (r.values (at_end n f))) ≡ true)
 move-placed r n f to from h = and_parts _ _ (none-unless Index _ h)
 
@@ -294,7 +303,7 @@ linkable r e o h =
     record { room = none-where_so Bound _ first.0; clear = none-where_so Recursive _ later.0; few = none-where_so Limit _ later.1 }
 
 -- so an object is set under a reference
-pub set-reference : (r : Reading) (n : Node) (f : FeatureNo) (o : ObjectNo) → late_refusal r (Set n f (value.Object o)) ≡ None → (shape r.metamodel f).is_reference ≡ true
+pub set-reference : (r : Reading) (n : Node) (f : FeatureNo) (o : ObjectNo) → late_refusal r (At (at_end n f) (Set (value.Object o))) ≡ None → (shape r.metamodel f).is_reference ≡ true
 set-reference r n f o h = object-reference r.metamodel r.class f o (set-taken r n f (value.Object o) h).takes
 
 ---------------------------------------------------------------- resources

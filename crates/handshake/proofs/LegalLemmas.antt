@@ -44,18 +44,20 @@ use Rattle.models.specs.Reading.{at_end, first_at, has_feature, has_resource, is
 use Rattle.resource_docs.specs.declared.doc.Doc.{Doc}
 use Rattle.doc_loader.proofs.TypedLemmas.{read-typed}
 use Rattle.containment.proofs.PartLemmas.{object-reference}
+use Rattle.handshake.specs.declared.act.Act.{Act}
 use Rattle.handshake.specs.declared.change.Change.{Change}
-use Rattle.handshake.specs.declared.change.Change.TheVariants.{Create, Set, Unset, Add, Remove, RemoveValue, Move, Delete, NewResource, Resolve, ResolveAll, Load}
+use Rattle.handshake.specs.declared.change.Change.TheVariants.{At, Create, Delete, NewResource, ResolveAll, Load}
+use Rattle.handshake.specs.declared.act.Act.TheVariants.{Set, Unset, Add, Remove, RemoveValue, Move, Resolve}
 use Rattle.handshake.specs.Displaced.{cut_by_new, cut_by_set, cut_link_ends, is_plain_add, is_plain_set}
 use Rattle.handshake.specs.Edits.{link_edits}
-use Rattle.handshake.specs.Effects.{add_value, after, links_after, put_by, put_under, take_value, value_edits, with_value}
+use Rattle.handshake.specs.Effects.{act_edits, after, links_after, put_by, put_under, take_value, value_edits, with_value}
 use Rattle.handshake.specs.Laws.{KeepsLegal, IsBrought, goes_with}
 use Rattle.handshake.specs.Plans.{HasReadDocument, IsDocument}
 use Rattle.handshake.specs.FeatureChanges.{loaded_by, resolves_all}
 use Rattle.handshake.specs.Refusals.{early_refusal, gain_refusal, is_at_limit, is_full_at, late_refusal}
 use Rattle.handshake.proofs.CutLinkEndLemmas.{left-cuts, values-linked}
 use Rattle.removal.specs.Laws.{names_of}
-use Rattle.handshake.proofs.KnownLemmas.{add-gains, add-named, add-taken, kinds-are, move-named, move-placed, none-else_by, none-unless, none-where_so, remove-named, resource-keeps-none, set-named, set-taken, set-there, take-named, uri-taken}
+use Rattle.handshake.proofs.KnownLemmas.{act-there, add-gains, add-named, add-taken, kinds-are, move-named, move-placed, none-else_by, none-unless, none-where_so, remove-named, resource-keeps-none, set-named, set-taken, take-named, uri-taken}
 use Rattle.handshake.proofs.LegalEndLemmas.{HaveClasses, IsUntouched, cut-end, legal-end-kept, none_goes, put-end, shifted-end, untouched-end}
 use Rattle.handshake.proofs.LinkLemmas.{below-limit, near-empty, without_displaced}
 use Rattle.handshake.proofs.LoadEndLemmas.{linked-legal, no-fewer, same-classes}
@@ -164,7 +166,7 @@ module _ (s : Model) (legal : IsLegal s) (o : ObjectNo) (f : FeatureNo) (many : 
   plain-room (value.Object p) takes h = absurd (false≢true (sym attribute ∙ object-reference s.metamodel (class_of s.values) f p takes))
   plain-room _ takes h = let both = none-else_by (Bound where_so is_full_at (reading s) e) (Limit where_so is_at_limit (reading s) e) h in (none-where_so Bound _ both.0, none-where_so Limit _ both.1)
 
-  added-values : (v : Value) (i : Option ℕ) → late_refusal (reading s) (Add (node.Object o) f v i) ≡ None → is_repeat (reading s) e v ≡ false
+  added-values : (v : Value) (i : Option ℕ) → late_refusal (reading s) (At (at_end (node.Object o) f) (Add v i)) ≡ None → is_repeat (reading s) e v ≡ false
       → AreLegalValues s none_goes (record { objects = with_changed s.values.objects o f (λ vs. insert vs (position_for (reading s) e i) v); uris = s.values.uris })
   added-values v i late new =
       let m = s.metamodel in
@@ -250,6 +252,41 @@ load-legal s k doc legal late read =
       more = no-fewer s k doc legal late read (after s (Load k doc)).values made;
     }
 
+-- what an act makes of an attribute, which is one of an object
+act-values : (s : Model) (n : Node) (f : FeatureNo) (a : Act) → IsLegal s → early_refusal (reading s) (At (at_end n f) a) ≡ None → late_refusal (reading s) (At (at_end n f) a) ≡ None → (shape s.metamodel f).is_reference ≡ false
+    → AreLegalValues s none_goes (applied s.values (act_edits (reading s) (at_end n f) a))
+act-values s (node.Object o) f (Set v) legal early late attribute =
+    let m = s.metamodel in
+    let ask = set-taken (reading s) (node.Object o) f v late in
+    let h : Stored = record { list = v ∷ []; flag = (shape m f).is_unsettable } in
+    let named = set-named (reading s) (node.Object o) f v early in
+    put-values s o f h legal (λ x e. one-legal m x.class f v named.single (has-of m _ f x e named.there) (keeps-taken m (class_of s.values) f v attribute ask.takes) ask.short)
+act-values s (node.Object o) f Unset legal early late attribute = put-values s o f nothing_stored legal (λ x e. nothing-legal s.metamodel x.class f)
+act-values s (node.Object o) f (Add v i) legal early late attribute =
+    let r = reading s in
+    let e = at_end (node.Object o) f in
+    let named = add-named r (node.Object o) f v i early in
+    elim (is_repeat r e v) as (λ b. is_repeat r e v ≡ b → AreLegalValues s none_goes (applied s.values (if b then [] else InsertValue o f (position_for r e i) v (shape s.metamodel f).is_unique ∷ []))) [
+      | true ↦ λ _. same-values s legal
+      | false ↦ λ new. added-values s legal o f named.single named.there attribute v i late new
+    ] refl
+act-values s (node.Object o) f (Remove i) legal early late attribute =
+    let named = remove-named (reading s) (node.Object o) f i early in
+    taken-values s legal o f named.1 named.0 attribute i
+act-values s (node.Object o) f (RemoveValue v) legal early late attribute =
+    let r = reading s in
+    let e = at_end (node.Object o) f in
+    let named = take-named r (node.Object o) f v early in
+    elim (first_at r e v) as (λ q. AreLegalValues s none_goes (applied s.values (option_map_or (take_value e) q []))) [
+      | None ↦ same-values s legal
+      | Some i ↦ taken-values s legal o f named.single named.there attribute i
+    ]
+act-values s (node.Object o) f (Move to from) legal early late attribute =
+    let named = move-named (reading s) (node.Object o) f to from early in
+    moved-values s legal o f named.1 named.0 attribute to from
+act-values s (node.Object o) f (Resolve i) legal early late attribute = same-values s legal
+act-values s (node.Resource k) f a legal early late attribute = absurd (resource-keeps-none (reading s) k f (act-there (reading s) (at_end (node.Resource k) f) a early) attribute)
+
 values-after : (s : Model) (c : Change) → IsLegal s → early_refusal (reading s) c ≡ None → late_refusal (reading s) c ≡ None → HasReadDocument s.metamodel c → IsBrought c → AreLegalValues s (goes_with (reading s) c) (applied s.values (value_edits (reading s) c))
 values-after s (Create c) legal early late read brought =
     let P = IsLegalObject s.metamodel in
@@ -265,59 +302,15 @@ values-after s (NewResource u) legal early late read is =
     let uri = uri-taken (reading s) u late in
     let us = with-new s.values.uris u legal.uris is uri.short uri.room uri.free in
     record { count = legal.count; objects = legal.objects; classes = λ o stays c h. h; uris = us.0; more = us.1 }
-values-after s (Resolve o f i) legal early late read brought = same-values s legal
 values-after s ResolveAll legal early late read brought = same-values s legal
-values-after s (Set (node.Object o) f v) legal early late read brought =
-    let m = s.metamodel in
-    let ask = set-taken (reading s) (node.Object o) f v late in
-    let h : Stored = record { list = v ∷ []; flag = (shape m f).is_unsettable } in
-    elim (shape m f).is_reference as (λ b. (shape m f).is_reference ≡ b → AreLegalValues s none_goes (applied s.values (if b then [] else put_under f h.list h.flag (node.Object o)))) [
-      | true ↦ λ _. same-values s legal
-      | false ↦ λ attribute. put-values s o f h legal (λ x e. one-legal m x.class f v (set-named (reading s) (node.Object o) f v early).single (has-of m _ f x e (set-there (reading s) (node.Object o) f v early)) (keeps-taken m (class_of s.values) f v attribute ask.takes) ask.short)
-    ] refl
-values-after s (Set (node.Resource k) f v) legal early late read brought =
-    elim (shape s.metamodel f).is_reference as (λ b. AreLegalValues s none_goes (applied s.values (if b then [] else []))) [ true ↦ same-values s legal | false ↦ same-values s legal ]
-values-after s (Unset (node.Object o) f) legal early late read brought =
-    elim (shape s.metamodel f).is_reference as (λ b. AreLegalValues s none_goes (applied s.values (if b then [] else put_under f [] false (node.Object o)))) [
-      | true ↦ same-values s legal
-      | false ↦ put-values s o f nothing_stored legal (λ x e. nothing-legal s.metamodel x.class f)
-    ]
-values-after s (Unset (node.Resource k) f) legal early late read brought =
-    elim (shape s.metamodel f).is_reference as (λ b. AreLegalValues s none_goes (applied s.values (if b then [] else []))) [ true ↦ same-values s legal | false ↦ same-values s legal ]
-values-after s (Add (node.Object o) f v i) legal early late read brought =
-    let r = reading s in
-    let e = at_end (node.Object o) f in
-    let named = add-named r (node.Object o) f v i early in
-    of-attribute s f (add_value r e v i) legal (λ attribute.
-    elim (is_repeat r e v) as (λ b. is_repeat r e v ≡ b → AreLegalValues s none_goes (applied s.values (if b then [] else InsertValue o f (position_for r e i) v (shape s.metamodel f).is_unique ∷ []))) [
-      | true ↦ λ _. same-values s legal
-      | false ↦ λ new. added-values s legal o f named.single named.there attribute v i late new
-    ] refl)
-values-after s (Add (node.Resource k) f v i) legal early late read brought = of-attribute s f _ legal (λ attribute. absurd (resource-keeps-none (reading s) k f (add-named (reading s) (node.Resource k) f v i early).there attribute))
-values-after s (Remove (node.Object o) f i) legal early late read brought =
-    let named = remove-named (reading s) (node.Object o) f i early in
-    of-attribute s f _ legal (λ attribute. taken-values s legal o f named.1 named.0 attribute i)
-values-after s (Remove (node.Resource k) f i) legal early late read brought = of-attribute s f _ legal (λ attribute. absurd (resource-keeps-none (reading s) k f (remove-named (reading s) (node.Resource k) f i early).0 attribute))
-values-after s (RemoveValue (node.Object o) f v) legal early late read brought =
-    let r = reading s in
-    let e = at_end (node.Object o) f in
-    let named = take-named r (node.Object o) f v early in
-    of-attribute s f _ legal (λ attribute.
-    elim (first_at r e v) as (λ q. AreLegalValues s none_goes (applied s.values (option_map_or (take_value e) q []))) [
-      | None ↦ same-values s legal
-      | Some i ↦ taken-values s legal o f named.single named.there attribute i
-    ])
-values-after s (RemoveValue (node.Resource k) f v) legal early late read brought = of-attribute s f _ legal (λ attribute. absurd (resource-keeps-none (reading s) k f (take-named (reading s) (node.Resource k) f v early).there attribute))
-values-after s (Move (node.Object o) f to from) legal early late read brought =
-    let named = move-named (reading s) (node.Object o) f to from early in
-    of-attribute s f _ legal (λ attribute. moved-values s legal o f named.1 named.0 attribute to from)
-values-after s (Move (node.Resource k) f to from) legal early late read brought = of-attribute s f _ legal (λ attribute. absurd (resource-keeps-none (reading s) k f (move-named (reading s) (node.Resource k) f to from early).0 attribute))
+values-after s (At e (Resolve i)) legal early late read brought = same-values s legal
+values-after s (At e a) legal early late read brought = of-attribute s e.feature (act_edits (reading s) e a) legal (λ attribute. act-values s e.node e.feature a legal early late attribute)
 values-after s (Load k doc) legal early late read brought = load-legal s k doc legal late read
 
 ---------------------------------------------------------------- the links after a change
 
 -- of a set and an addition that are not plain
-set-ends : (s : Model) (n : Node) (f : FeatureNo) (v : Value) → IsLegal s → early_refusal (reading s) (Set n f v) ≡ None → late_refusal (reading s) (Set n f v) ≡ None → is_plain_set (reading s) (at_end n f) v ≡ false → (d : End)
+set-ends : (s : Model) (n : Node) (f : FeatureNo) (v : Value) → IsLegal s → early_refusal (reading s) (At (at_end n f) (Set v)) ≡ None → late_refusal (reading s) (At (at_end n f) (Set v)) ≡ None → is_plain_set (reading s) (at_end n f) v ≡ false → (d : End)
     → is_legal_end (reading s) d (end (with_value (without_all s.links (names_of (cut_by_set (reading s) (at_end n f) v))) (reading s) (at_end n f) None v) d) ≡ true
 set-ends s n f (value.Object o) legal early late h d =
     let e = at_end n f in
@@ -329,7 +322,7 @@ set-ends s n f (value.Object o) legal early late h d =
     (put-end s legal e o new (set-taken (reading s) n f (value.Object o) late).takes 0 (omega arith) d)
 set-ends s n f v legal early late h d = cut-end s (names_of (cut_by_set (reading s) (at_end n f) v)) legal d
 
-add-ends : (s : Model) (n : Node) (f : FeatureNo) (v : Value) (i : Option ℕ) → IsLegal s → early_refusal (reading s) (Add n f v i) ≡ None → late_refusal (reading s) (Add n f v i) ≡ None → is_plain_add (reading s) (at_end n f) v ≡ false → (d : End)
+add-ends : (s : Model) (n : Node) (f : FeatureNo) (v : Value) (i : Option ℕ) → IsLegal s → early_refusal (reading s) (At (at_end n f) (Add v i)) ≡ None → late_refusal (reading s) (At (at_end n f) (Add v i)) ≡ None → is_plain_add (reading s) (at_end n f) v ≡ false → (d : End)
     → is_legal_end (reading s) d (end (with_value (without_all s.links (names_of (cut_by_new (reading s) (at_end n f) v))) (reading s) (at_end n f) i v) d) ≡ true
 add-ends s n f (value.Object o) i legal early late h d =
     let e = at_end n f in
@@ -340,7 +333,7 @@ add-ends s n f (value.Object o) i legal early late h d =
     (put-end s legal e o (add-new s n f o i early late h) (add-taken (reading s) n f (value.Object o) i late).takes (position_for (reading s) e i) at.0 d)
 add-ends s n f v i legal early late h d = cut-end s (names_of (cut_by_new (reading s) (at_end n f) v)) legal d
 
-move-ends : (s : Model) (n : Node) (f : FeatureNo) (to from : ℕ) → IsLegal s → late_refusal (reading s) (Move n f to from) ≡ None → (shape s.metamodel f).is_reference ≡ true → (d : End) → is_legal_end (reading s) d (end (shift s.links (at_end n f) to from) d) ≡ true
+move-ends : (s : Model) (n : Node) (f : FeatureNo) (to from : ℕ) → IsLegal s → late_refusal (reading s) (At (at_end n f) (Move to from)) ≡ None → (shape s.metamodel f).is_reference ≡ true → (d : End) → is_legal_end (reading s) d (end (shift s.links (at_end n f) to from) d) ≡ true
 move-ends s n f to from legal late reference d =
     let e = at_end n f in
     let placed = move-placed (reading s) n f to from late in
@@ -350,39 +343,32 @@ move-ends s n f to from legal late reference d =
 -- of a change that loads nothing and doesn't resolve all proxies
 ends-by-pairs : (s : Model) (c : Change) → loaded_by c ≡ None → resolves_all c ≡ false → IsLegal s → early_refusal (reading s) c ≡ None → late_refusal (reading s) c ≡ None → (d : End)
     → is_legal_end (reading s) d (end (put_by (without_all s.links (names_of (cut_link_ends (reading s) c))) (reading s) c) d) ≡ true
-ends-by-pairs s (Create k) none one legal early late d = legal.links.ends d
-ends-by-pairs s (NewResource u) none one legal early late d = legal.links.ends d
-ends-by-pairs s (Delete o) none one legal early late d = cut-end s (names_of (cut_link_ends (reading s) (Delete o))) legal d
-ends-by-pairs s (Unset n f) none one legal early late d = cut-end s (names_of (cut_link_ends (reading s) (Unset n f))) legal d
-ends-by-pairs s (Remove n f i) none one legal early late d = cut-end s (names_of (cut_link_ends (reading s) (Remove n f i))) legal d
-ends-by-pairs s (RemoveValue n f v) none one legal early late d = cut-end s (names_of (cut_link_ends (reading s) (RemoveValue n f v))) legal d
-ends-by-pairs s (Set n f v) none one legal early late d =
+ends-by-pairs s (At e (Set v)) none one legal early late d =
     let r = reading s in
-    let e = at_end n f in
     let t : Bool → Links = λ b. without_all s.links (names_of (if b then [] else cut_by_set r e v)) in
     elim (is_plain_set r e v) as (λ b. is_plain_set r e v ≡ b → is_legal_end r d (end (if b then t b else with_value (t b) r e None v) d) ≡ true) [
       | true ↦ λ _. legal.links.ends d
-      | false ↦ λ new. set-ends s n f v legal early late new d
+      | false ↦ λ new. set-ends s e.node e.feature v legal early late new d
     ] refl
-ends-by-pairs s (Add n f v i) none one legal early late d =
+ends-by-pairs s (At e (Add v i)) none one legal early late d =
     let r = reading s in
-    let e = at_end n f in
     let t : Bool → Links = λ b. without_all s.links (names_of (if b then [] else cut_by_new r e v)) in
     elim (is_plain_add r e v) as (λ b. is_plain_add r e v ≡ b → is_legal_end r d (end (if b then t b else with_value (t b) r e i v) d) ≡ true) [
       | true ↦ λ _. legal.links.ends d
-      | false ↦ λ new. add-ends s n f v i legal early late new d
+      | false ↦ λ new. add-ends s e.node e.feature v i legal early late new d
     ] refl
-ends-by-pairs s (Move n f to from) none one legal early late d =
-    elim (shape s.metamodel f).is_reference as (λ b. (shape s.metamodel f).is_reference ≡ b → is_legal_end (reading s) d (end (if b then shift s.links (at_end n f) to from else s.links) d) ≡ true) [
-      | true ↦ λ reference. move-ends s n f to from legal late reference d
+ends-by-pairs s (At e (Move to from)) none one legal early late d =
+    elim (shape s.metamodel e.feature).is_reference as (λ b. (shape s.metamodel e.feature).is_reference ≡ b → is_legal_end (reading s) d (end (if b then shift s.links e to from else s.links) d) ≡ true) [
+      | true ↦ λ reference. move-ends s e.node e.feature to from legal late reference d
       | false ↦ λ _. legal.links.ends d
     ] refl
-ends-by-pairs s (Resolve o f i) none one legal early late d =
-    resolved-as s legal (at_end (node.Object o) f) i late (λ ts xs us u. is_legal_end (reading s) d (end u d) ≡ true)
+ends-by-pairs s (At e (Resolve i)) none one legal early late d =
+    resolved-as s legal e i late (λ ts xs us u. is_legal_end (reading s) d (end u d) ≡ true)
     (λ x is alone. alone-legal s legal _ i x is alone d)
     (λ x is g opposite j text stands. joint-legal s legal _ i x is g opposite j text stands d)
 ends-by-pairs s ResolveAll none one legal early late d = absurd (true≢false one)
 ends-by-pairs s (Load k doc) none one legal early late d = absurd (none-some doc (sym none))
+ends-by-pairs s c none one legal early late d = cut-end s (names_of (cut_link_ends (reading s) c)) legal d
 
 ends-after : (s : Model) (c : Change) → loaded_by c ≡ None → resolves_all c ≡ false → IsLegal s → early_refusal (reading s) c ≡ None → late_refusal (reading s) c ≡ None → (d : End)
     → is_legal_end (reading s) d (end (links_after s.links (reading s) c) d) ≡ true
@@ -412,17 +398,7 @@ untouched-after s (Delete o) legal e =
       | true ↦ λ _. tt
       | false ↦ λ stays. untouched-left g e vs stays (left-stays g (end s.links e))
     ] refl)
-untouched-after s (Create k) legal e = untouched-end e _
-untouched-after s (NewResource u) legal e = untouched-end e _
-untouched-after s (Set n f v) legal e = untouched-end e _
-untouched-after s (Unset n f) legal e = untouched-end e _
-untouched-after s (Add n f v i) legal e = untouched-end e _
-untouched-after s (Remove n f i) legal e = untouched-end e _
-untouched-after s (RemoveValue n f v) legal e = untouched-end e _
-untouched-after s (Move n f to from) legal e = untouched-end e _
-untouched-after s (Load k doc) legal e = untouched-end e _
-untouched-after s (Resolve o f i) legal e = untouched-end e _
-untouched-after s ResolveAll legal e = untouched-end e _
+untouched-after s _ legal e = untouched-end e _
 
 -- a load leaves legal ends, and so does each other change
 load-ends : (s : Model) (c : Change) (doc : Doc) → loaded_by c ≡ Some doc → IsLegal s → early_refusal (reading s) c ≡ None → late_refusal (reading s) c ≡ None → HasReadDocument s.metamodel c → (d : End)

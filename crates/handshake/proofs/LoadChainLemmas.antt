@@ -19,12 +19,12 @@ use Rattle.mm_types.specs.declared.value.Value.TheVariants as value
 use Rattle.mm_types.proofs.SameLemmas.{same_end-self, same_end-true}
 use Rattle.models.specs.Legal.{IsLegal}
 use Rattle.models.specs.Model.{Model, attribute_values, reading}
-use Rattle.models.specs.Reading.{at_end, held_at}
+use Rattle.models.specs.Reading.{at_end, contents_end, held_at}
 use Rattle.notice_chain.specs.Kinds.{no_index}
 use Rattle.notice_chain.specs.Replay.{replayed_in}
 use Rattle.notice_chain.specs.declared.kind.NoticeKind.TheVariants as kind
 use Rattle.resource_docs.specs.declared.doc.Doc.{Doc}
-use Rattle.doc_loader.specs.Loading.{contents_end, loaded, roots_loaded}
+use Rattle.doc_loader.specs.Loading.{loaded, roots_loaded}
 use Rattle.doc_loader.proofs.SideLemmas.{contents-shape}
 use Rattle.doc_loader.proofs.TypedLemmas.{read-typed}
 use Rattle.handshake.specs.Effects.{after}

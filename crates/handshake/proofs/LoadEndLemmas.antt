@@ -27,12 +27,12 @@ use Rattle.mm_values.specs.Values.{ValuesState, class_of}
 use Rattle.links.specs.Links.{Links, end}
 use Rattle.models.specs.Legal.{IsLegal, is_legal_end, is_legal_target}
 use Rattle.models.specs.Model.{Model, model_of, reading}
-use Rattle.models.specs.Reading.{Reading, has_feature, has_resource}
+use Rattle.models.specs.Reading.{Reading, contents_end, has_feature, has_resource}
 use Rattle.resource_docs.specs.Read.{values_in, values_under}
 use Rattle.resource_docs.specs.declared.doc.Content.{Content}
 use Rattle.resource_docs.specs.declared.doc.Doc.{Doc}
 use Rattle.resource_docs.specs.declared.doc.DocObject.{DocObject}
-use Rattle.doc_loader.specs.Loading.{contents_end, loaded, loaded_links, loaded_value, object_end, roots_loaded, with_links}
+use Rattle.doc_loader.specs.Loading.{loaded, loaded_links, loaded_value, object_end, roots_loaded, with_links}
 use Rattle.doc_loader.specs.Typed.{IsTyped, IsTypedContent, IsTypedObject, IsTypedValue, class_in}
 use Rattle.doc_loader.proofs.EndLemmas.{end-elsewhere, end-held, end-near, end-roots, end-values, loaded-set_is, loaded_set, one-source}
 use Rattle.doc_loader.proofs.NearLemmas.{IsPlaceOf, at_far, at_near, at_roots, elsewhere, place_of}

@@ -21,7 +21,7 @@ use Rattle.models.specs.Model.{Model, reading}
 use Rattle.containment.proofs.PartLemmas.{IsMade, contains-reference, end-made, holder-at, values-linked}
 use Rattle.resource_docs.specs.Read.{values_in}
 use Rattle.resource_docs.specs.declared.doc.Doc.{Doc}
-use Rattle.doc_loader.specs.Loading.{contents_end, loaded, loaded_value, object_end, roots_loaded}
+use Rattle.doc_loader.specs.Loading.{loaded, loaded_value, object_end, roots_loaded}
 use Rattle.doc_loader.proofs.NearLemmas.{IsPlaceOf, at_far, at_near, at_roots, elsewhere, place_of}
 use Rattle.doc_loader.proofs.SoundLemmas.{map-at}
 use Rattle.doc_loader.proofs.SourceLemmas.{at-loaded, loaded-value-object, same-object}
@@ -35,6 +35,7 @@ use Rattle.handshake.proofs.LegalLemmas.{one-keeps-legal}
 use Rattle.handshake.proofs.LoadEndLemmas.{linked-before, linked-elsewhere, linked-near, linked-roots}
 use Rattle.handshake.proofs.LoadLemmas.{few, no-roots, room, sound}
 use Rattle.handshake.proofs.YieldLemmas.{holder-contains}
+use Rattle.models.specs.Reading.{contents_end}
 
 -- an object that stands at an end of a containment is held there
 pub stands-held : (s : Model) → IsLegal s → (e : End) (i : ℕ) (o : ObjectNo) → (shape s.metamodel e.feature).containing ≡ Some e.feature → slice_get (end s.links e) i ≡ Some (value.Object o)

@@ -29,10 +29,10 @@ use Rattle.links.specs.Links.{end}
 use Rattle.links.specs.Plans.{Lacks}
 use Rattle.models.specs.Legal.{IsLegal, is_legal_end, is_legal_target}
 use Rattle.models.specs.Model.{Model, reading}
-use Rattle.models.specs.Reading.{at_end, has_feature}
+use Rattle.models.specs.Reading.{at_end, contents_end, has_feature}
 use Rattle.resource_docs.specs.declared.doc.Doc.{Doc}
 use Rattle.doc_loader.specs.Laws.{IsRoomFor, MakesLinks}
-use Rattle.doc_loader.specs.Loading.{contents_end, is_empty_resource, loaded}
+use Rattle.doc_loader.specs.Loading.{is_empty_resource, loaded}
 use Rattle.doc_loader.proofs.DocSoundLemmas.{read-sound}
 use Rattle.doc_loader.proofs.FitLemmas.{read-fits}
 use Rattle.doc_loader.proofs.SameLemmas.{links-made}

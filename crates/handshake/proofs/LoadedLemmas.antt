@@ -28,7 +28,7 @@ use Rattle.containment.proofs.PartLemmas.{contains-itself, contains-reference, v
 use Rattle.resource_docs.specs.Read.{values_in, values_under}
 use Rattle.resource_docs.specs.declared.doc.Doc.{Doc}
 use Rattle.resource_docs.specs.declared.doc.DocObject.{DocObject}
-use Rattle.doc_loader.specs.Loading.{contents_end, loaded, loaded_value, object_end}
+use Rattle.doc_loader.specs.Loading.{loaded, loaded_value, object_end}
 use Rattle.doc_loader.proofs.SideLemmas.{IsFarSide, IsPlainFeature, contents-shape, near-contained, opposite-reference, sides}
 use Rattle.doc_loader.proofs.SoundLemmas.{IsSound, at-map, object-there, there-object}
 use Rattle.doc_loader.proofs.SourceLemmas.{at-source, loaded-at, source-at, sources_from}
@@ -47,6 +47,7 @@ use Rattle.handshake.proofs.LoadLemmas.{sound}
 use Rattle.handshake.proofs.LoadStoredLemmas.{stored-loaded}
 use Rattle.handshake.proofs.LoadValueLemmas.{AreLoaded, load-values}
 use Rattle.handshake.proofs.ObjectLegalLemmas.{flag-off, legal-at}
+use Rattle.models.specs.Reading.{contents_end}
 
 ---------------------------------------------------------------- container references
 

@@ -25,7 +25,8 @@ use Rattle.models.specs.Reading.{Reading, at_end, is_repeat, position_for, shape
 use Rattle.removal.specs.TreeLinkEnds.{link_end}
 use Rattle.removal.specs.declared.link_end.LinkEnd.{LinkEnd}
 use Rattle.handshake.specs.declared.change.Change.{Change}
-use Rattle.handshake.specs.declared.change.Change.TheVariants.{Set, Add}
+use Rattle.handshake.specs.declared.change.Change.TheVariants.{At}
+use Rattle.handshake.specs.declared.act.Act.TheVariants.{Set, Add}
 use Rattle.links.specs.declared.link.NewLink.{NewLink}
 use Rattle.handshake.specs.Displaced.{cut_by_new, cut_by_set, displaces, has_already, holding_link_end, is_plain_add, is_plain_set, is_taken, once, link_ends_if_single, yields}
 use Rattle.handshake.specs.Edits.{cut_of, link_edits, new_put}
@@ -124,12 +125,12 @@ nothing : {X : Type 0} (q : Option X) → is_some q ≡ false → q ≡ None
 nothing None h = refl
 nothing (Some x) h = absurd (true≢false h)
 
-set-planned : (s : Model) (n : Node) (f : FeatureNo) (v : Value) (p : NewLink) → IsLegal s → early_refusal (reading s) (Set n f v) ≡ None → lone_put (reading s) (Set n f v) ≡ Some p → IsPlanOf false s (Set n f v) (of_put p)
+set-planned : (s : Model) (n : Node) (f : FeatureNo) (v : Value) (p : NewLink) → IsLegal s → early_refusal (reading s) (At (at_end n f) (Set v)) ≡ None → lone_put (reading s) (At (at_end n f) (Set v)) ≡ Some p → IsPlanOf false s (At (at_end n f) (Set v)) (of_put p)
 set-planned s n f (value.Object o) p legal early h =
     let r = reading s in
     let e = at_end n f in
     let v = value.Object o in
-    let c = Set n f v in
+    let c = At (at_end n f) (Set v) in
     let k = chosen (displaces r e o) (is_plain_set r e v) (is_some (late_refusal r c)) (put_at r e 0 o) p h in
     let late = nothing (late_refusal r c) k.refused in
     let reference = (plain-not (shape_at r e).is_reference (has_already r e v) k.plain).0 in
@@ -141,12 +142,12 @@ set-planned s n f (value.Object o) p legal early h =
     planned false s c (of_put p) refl legal early late tt (record { whose = refl; found = tt }) refl refl edits lists refl
 set-planned s n f _ p legal early h = absurd (none-some p h)
 
-add-planned : (s : Model) (n : Node) (f : FeatureNo) (v : Value) (i : Option ℕ) (p : NewLink) → IsLegal s → early_refusal (reading s) (Add n f v i) ≡ None → lone_put (reading s) (Add n f v i) ≡ Some p → IsPlanOf false s (Add n f v i) (of_put p)
+add-planned : (s : Model) (n : Node) (f : FeatureNo) (v : Value) (i : Option ℕ) (p : NewLink) → IsLegal s → early_refusal (reading s) (At (at_end n f) (Add v i)) ≡ None → lone_put (reading s) (At (at_end n f) (Add v i)) ≡ Some p → IsPlanOf false s (At (at_end n f) (Add v i)) (of_put p)
 add-planned s n f (value.Object o) i p legal early h =
     let r = reading s in
     let e = at_end n f in
     let v = value.Object o in
-    let c = Add n f v i in
+    let c = At (at_end n f) (Add v i) in
     let at = position_for r e i in
     let k = chosen (displaces r e o) (is_plain_add r e v) (is_some (late_refusal r c)) (put_at r e at o) p h in
     let late = nothing (late_refusal r c) k.refused in
@@ -160,8 +161,8 @@ add-planned s n f (value.Object o) i p legal early h =
 add-planned s n f _ i p legal early h = absurd (none-some p h)
 
 lone-planned : (s : Model) (c : Change) (p : NewLink) → IsLegal s → early_refusal (reading s) c ≡ None → lone_put (reading s) c ≡ Some p → IsPlanOf false s c (of_put p)
-lone-planned s (Set n f v) p legal early h = set-planned s n f v p legal early h
-lone-planned s (Add n f v i) p legal early h = add-planned s n f v i p legal early h
+lone-planned s (At e (Set v)) p legal early h = set-planned s e.node e.feature v p legal early h
+lone-planned s (At e (Add v i)) p legal early h = add-planned s e.node e.feature v i p legal early h
 lone-planned s _ p legal early h = absurd (none-some p h)
 
 -- a put that is found is the whole plan

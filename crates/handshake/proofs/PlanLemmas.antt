@@ -6,7 +6,6 @@ use Rattle.mm_types.specs.Shapes.{shape}
 use Rattle.mm_types.specs.declared.end.End.{End}
 use Rattle.mm_types.specs.declared.numbers.FeatureNo.{FeatureNo}
 use Rattle.mm_types.specs.declared.numbers.Node.{Node}
-use Rattle.mm_types.specs.declared.numbers.Node.TheVariants as node
 use Rattle.mm_types.specs.declared.numbers.ObjectNo.{ObjectNo}
 use Rattle.mm_types.specs.declared.numbers.ResourceNo.{ResourceNo}
 use Rattle.mm_types.specs.declared.value.Value.{Value}
@@ -27,7 +26,8 @@ use Rattle.doc_loader.specs.LoadEdits.{load_edits}
 use Rattle.doc_loader.specs.Loading.{loaded_links, with_links}
 use Rattle.doc_loader.proofs.KindLemmas.{read-kind}
 use Rattle.handshake.specs.declared.change.Change.{Change}
-use Rattle.handshake.specs.declared.change.Change.TheVariants.{Create, Set, Unset, Add, Remove, RemoveValue, Move, Delete, NewResource, Resolve, ResolveAll, Load}
+use Rattle.handshake.specs.declared.change.Change.TheVariants.{At, ResolveAll, Load}
+use Rattle.handshake.specs.declared.act.Act.TheVariants.{Set, Add, Move, Resolve}
 use Rattle.handshake.specs.declared.planned.Planned.{Planned}
 use Rattle.removal.specs.declared.link_end.LinkEnd.{LinkEnd}
 use Rattle.handshake.specs.FeatureChanges.{chain, resolved_by, resolves_all, target_of}
@@ -48,7 +48,7 @@ use Rattle.handshake.specs.declared.target.Target.{Target}
 ---------------------------------------------------------------- new links
 
 -- a set and an addition that are not plain, of an object
-pub set-new : (s : Model) (n : Node) (f : FeatureNo) (o : ObjectNo) → IsLegal s → early_refusal (reading s) (Set n f (value.Object o)) ≡ None → late_refusal (reading s) (Set n f (value.Object o)) ≡ None
+pub set-new : (s : Model) (n : Node) (f : FeatureNo) (o : ObjectNo) → IsLegal s → early_refusal (reading s) (At (at_end n f) (Set (value.Object o))) ≡ None → late_refusal (reading s) (At (at_end n f) (Set (value.Object o))) ≡ None
     → is_plain_set (reading s) (at_end n f) (value.Object o) ≡ false → IsNewLink s (at_end n f) o
 set-new s n f o legal early late h =
     let r = reading s in
@@ -62,7 +62,7 @@ set-new s n f o legal early late h =
       linkable = linkable r e o (subst (λ (b : Bool). (if b then None else link_refusal r e o) ≡ None) both.1 (set-taken r n f (value.Object o) late).allowed);
     }
 
-pub add-new : (s : Model) (n : Node) (f : FeatureNo) (o : ObjectNo) (i : Option ℕ) → early_refusal (reading s) (Add n f (value.Object o) i) ≡ None → late_refusal (reading s) (Add n f (value.Object o) i) ≡ None
+pub add-new : (s : Model) (n : Node) (f : FeatureNo) (o : ObjectNo) (i : Option ℕ) → early_refusal (reading s) (At (at_end n f) (Add (value.Object o) i)) ≡ None → late_refusal (reading s) (At (at_end n f) (Add (value.Object o) i)) ≡ None
     → is_plain_add (reading s) (at_end n f) (value.Object o) ≡ false → IsNewLink s (at_end n f) o
 add-new s n f o i early late h =
     let r = reading s in
@@ -92,7 +92,7 @@ one-put : (s : Model) (legal : IsLegal s) (e : End) (o : ObjectNo) (new : IsNewL
 one-put s legal e o new i u placed makes = record { fits = (new-fits s legal e o new i placed, tt); of_kind = ((refl, refl), tt); no_cycle = (new-outside s legal e o new i placed, tt); makes = makes }
 
 -- of a set of an end that is not plain
-set-puts : (s : Model) (n : Node) (f : FeatureNo) (v : Value) → IsLegal s → early_refusal (reading s) (Set n f v) ≡ None → late_refusal (reading s) (Set n f v) ≡ None → is_plain_set (reading s) (at_end n f) v ≡ false
+set-puts : (s : Model) (n : Node) (f : FeatureNo) (v : Value) → IsLegal s → early_refusal (reading s) (At (at_end n f) (Set v)) ≡ None → late_refusal (reading s) (At (at_end n f) (Set v)) ≡ None → is_plain_set (reading s) (at_end n f) v ≡ false
     → (let t = without_all s.links (names_of (cut_by_set (reading s) (at_end n f) v)) in ArePuts s t (option_to_list (new_put (reading s) (at_end n f) 0 v)) (with_value t (reading s) (at_end n f) None v))
 set-puts s n f (value.Object o) legal early late h =
     let e = at_end n f in
@@ -104,7 +104,7 @@ set-puts s n f (value.Object o) legal early late h =
 set-puts s n f _ legal early late h = no-puts s _
 
 -- the position of an addition is one of the list that is left
-pub add-site : (s : Model) (n : Node) (f : FeatureNo) (o : ObjectNo) (i : Option ℕ) → IsLegal s → (early : early_refusal (reading s) (Add n f (value.Object o) i) ≡ None) (late : late_refusal (reading s) (Add n f (value.Object o) i) ≡ None)
+pub add-site : (s : Model) (n : Node) (f : FeatureNo) (o : ObjectNo) (i : Option ℕ) → IsLegal s → (early : early_refusal (reading s) (At (at_end n f) (Add (value.Object o) i)) ≡ None) (late : late_refusal (reading s) (At (at_end n f) (Add (value.Object o) i)) ≡ None)
     → (h : is_plain_add (reading s) (at_end n f) (value.Object o) ≡ false) → (let xs = end (without_displaced s (at_end n f) o) (at_end n f) in let k = position_for (reading s) (at_end n f) i in (k ≤ length xs) × (k ≡ unwrap_or i (length xs)) × (xs ≡ end s.links (at_end n f)))
 add-site s n f o i legal early late h =
     let r = reading s in
@@ -117,7 +117,7 @@ add-site s n f o i legal early late h =
     let low : position_for r e i ≤ length (r.values e) = grind (arith, nat_tests) in
     (subst (λ (vs : List Value). position_for r e i ≤ length vs) is low, ap (λ (vs : List Value). unwrap_or i (length vs)) is, same)
 
-add-puts : (s : Model) (n : Node) (f : FeatureNo) (v : Value) (i : Option ℕ) → IsLegal s → early_refusal (reading s) (Add n f v i) ≡ None → late_refusal (reading s) (Add n f v i) ≡ None → is_plain_add (reading s) (at_end n f) v ≡ false
+add-puts : (s : Model) (n : Node) (f : FeatureNo) (v : Value) (i : Option ℕ) → IsLegal s → early_refusal (reading s) (At (at_end n f) (Add v i)) ≡ None → late_refusal (reading s) (At (at_end n f) (Add v i)) ≡ None → is_plain_add (reading s) (at_end n f) v ≡ false
     → (let t = without_all s.links (names_of (cut_by_new (reading s) (at_end n f) v)) in ArePuts s t (option_to_list (new_put (reading s) (at_end n f) (position_for (reading s) (at_end n f) i) v)) (with_value t (reading s) (at_end n f) i v))
 add-puts s n f (value.Object o) i legal early late h =
     let r = reading s in
@@ -132,7 +132,7 @@ pub below : (k n : ℕ) → nat_lt k n ≡ true → k < n
 below k n h = grind (arith, nat_tests)
 
 -- of a move of a reference
-move-puts : (s : Model) (n : Node) (f : FeatureNo) (to from : ℕ) → late_refusal (reading s) (Move n f to from) ≡ None → (shape s.metamodel f).is_reference ≡ true
+move-puts : (s : Model) (n : Node) (f : FeatureNo) (to from : ℕ) → late_refusal (reading s) (At (at_end n f) (Move to from)) ≡ None → (shape s.metamodel f).is_reference ≡ true
     → ArePuts s s.links (edit.Shift (at_end n f) to from ∷ []) (shift s.links (at_end n f) to from)
 move-puts s n f to from late reference =
     let e = at_end n f in
@@ -167,40 +167,32 @@ load-puts s k doc legal late read =
 
 are-puts : (s : Model) (c : Change) → resolves_all c ≡ false → IsLegal s → early_refusal (reading s) c ≡ None → late_refusal (reading s) c ≡ None → HasReadDocument s.metamodel c
     → ArePuts s (without_all s.links (names_of (cut_link_ends (reading s) c))) (made_edits (reading s) c) (put_by (without_all s.links (names_of (cut_link_ends (reading s) c))) (reading s) c)
-are-puts s (Create k) one legal early late read = no-puts s s.links
-are-puts s (NewResource u) one legal early late read = no-puts s s.links
-are-puts s (Delete o) one legal early late read = no-puts s _
-are-puts s (Unset n f) one legal early late read = no-puts s _
-are-puts s (Remove n f i) one legal early late read = no-puts s _
-are-puts s (RemoveValue n f v) one legal early late read = no-puts s _
-are-puts s (Set n f v) one legal early late read =
+are-puts s (At e (Set v)) one legal early late read =
     let r = reading s in
-    let e = at_end n f in
     let t : Bool → Links = λ b. without_all s.links (names_of (if b then [] else cut_by_set r e v)) in
     elim (is_plain_set r e v) as (λ b. is_plain_set r e v ≡ b → ArePuts s (t b) (option_to_list (if b then None else new_put r e 0 v)) (if b then t b else with_value (t b) r e None v)) [
       | true ↦ λ plain. no-puts s s.links
-      | false ↦ λ new. set-puts s n f v legal early late new
+      | false ↦ λ new. set-puts s e.node e.feature v legal early late new
     ] refl
-are-puts s (Add n f v i) one legal early late read =
+are-puts s (At e (Add v i)) one legal early late read =
     let r = reading s in
-    let e = at_end n f in
     let t : Bool → Links = λ b. without_all s.links (names_of (if b then [] else cut_by_new r e v)) in
     elim (is_plain_add r e v) as (λ b. is_plain_add r e v ≡ b → ArePuts s (t b) (option_to_list (if b then None else new_put r e (position_for r e i) v)) (if b then t b else with_value (t b) r e i v)) [
       | true ↦ λ plain. no-puts s s.links
-      | false ↦ λ new. add-puts s n f v i legal early late new
+      | false ↦ λ new. add-puts s e.node e.feature v i legal early late new
     ] refl
-are-puts s (Move n f to from) one legal early late read =
-    let e = at_end n f in
-    elim (shape s.metamodel f).is_reference as (λ b. (shape s.metamodel f).is_reference ≡ b → ArePuts s s.links (option_to_list (if b then Some (edit.Shift e to from) else None)) (if b then shift s.links e to from else s.links)) [
-      | true ↦ λ reference. move-puts s n f to from late reference
+are-puts s (At e (Move to from)) one legal early late read =
+    elim (shape s.metamodel e.feature).is_reference as (λ b. (shape s.metamodel e.feature).is_reference ≡ b → ArePuts s s.links (option_to_list (if b then Some (edit.Shift e to from) else None)) (if b then shift s.links e to from else s.links)) [
+      | true ↦ λ reference. move-puts s e.node e.feature to from late reference
       | false ↦ λ _. no-puts s s.links
     ] refl
-are-puts s (Resolve o f i) one legal early late read =
-    resolved-as s legal (at_end (node.Object o) f) i late (λ ts xs us u. ArePuts s (without_all s.links (names_of ts)) xs u)
+are-puts s (At e (Resolve i)) one legal early late read =
+    resolved-as s legal e i late (λ ts xs us u. ArePuts s (without_all s.links (names_of ts)) xs u)
     (λ x is alone. record { fits = (alone-fits s legal _ i x is alone, tt); of_kind = ((refl, refl), tt); no_cycle = (alone-outside s legal _ i x is alone, tt); makes = refl })
     (λ x is g opposite j text stands. joint-puts s legal _ i x is g opposite j text stands)
 are-puts s ResolveAll one legal early late read = absurd (true≢false one)
 are-puts s (Load k doc) one legal early late read = load-puts s k doc legal late read
+are-puts s _ one legal early late read = no-puts s _
 
 ---------------------------------------------------------------- the whole plan
 

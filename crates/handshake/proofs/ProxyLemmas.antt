@@ -29,7 +29,7 @@ use Rattle.web_uris.specs.Addresses.{IsProxyText, IsSteadyProxy}
 use Rattle.web_uris.specs.Joined.{IsWebUri}
 use Rattle.models.specs.Legal.{OfProxies}
 use Rattle.models.specs.Model.{Model, reading}
-use Rattle.models.specs.Reading.{Reading, at_end, first_at, is_repeat, position_for, shape_at}
+use Rattle.models.specs.Reading.{Reading, first_at, is_repeat, position_for, shape_at}
 use Rattle.containment.specs.Forest.{subtree}
 use Rattle.removal.specs.Outer.{gone}
 use Rattle.resource_docs.specs.Read.{OfDocProxies}
@@ -40,14 +40,16 @@ use Rattle.doc_loader.specs.Loading.{attribute_edits, loaded, loaded_links, of_c
 use Rattle.doc_loader.proofs.PairLemmas.{all-append, all-every, all-flat_map_every, all-map}
 use Rattle.doc_loader.proofs.ProxyLemmas.{OfLink, alone-no_proxy, at-no_proxy, far_of, joined-no_proxy, loaded-proxies, read-proxies}
 use Rattle.removal.specs.declared.link_end.LinkEnd.{LinkEnd}
+use Rattle.handshake.specs.declared.act.Act.{Act}
 use Rattle.handshake.specs.declared.change.Change.{Change}
-use Rattle.handshake.specs.declared.change.Change.TheVariants.{Create, Set, Unset, Add, Remove, RemoveValue, Move, Delete, NewResource, Resolve, ResolveAll, Load}
+use Rattle.handshake.specs.declared.change.Change.TheVariants.{At, Create, Delete, NewResource, ResolveAll, Load}
+use Rattle.handshake.specs.declared.act.Act.TheVariants.{Set, Unset, Add, Remove, RemoveValue, Move, Resolve}
 use Rattle.handshake.specs.Displaced.{cut_link_ends, is_plain_add, is_plain_set, link_ends_joined}
 use Rattle.handshake.specs.Proxies.{end_of, sites}
 use Rattle.handshake.specs.ResolvingAll.{Resolution, resolutions}
 use Rattle.handshake.specs.Plans.{HasReadDocument}
 use Rattle.handshake.specs.Laws.{BringsSteadyTexts, KeepsSteady}
-use Rattle.handshake.specs.Effects.{add_value, if_attribute, links_after, links_left, of_object, put_by, put_under, take_value, value_edits, with_value, joined, put_back, with_resolution, without_link_ends}
+use Rattle.handshake.specs.Effects.{act_edits, add_value, if_attribute, joined, links_after, links_left, of_object, put_back, put_by, put_under, take_value, value_edits, with_resolution, with_value, without_link_ends}
 use Rattle.handshake.specs.Resolving.{target_at}
 use Rattle.handshake.specs.declared.target.Target.{Target}
 
@@ -145,17 +147,13 @@ module _ (Holds : List ℕ → Type 0) where
   BringsProxies _ = Unit {0}
 
   put_by-of : (s : Links) (r : Reading) (c : Change) → BringsProxies c → OfProxies Holds s → OfProxies Holds (put_by s r c)
-  put_by-of s r (Set n f v) brings of =
-      let e = at_end n f in
+  put_by-of s r (At e (Set v)) brings of =
       elim (is_plain_set r e v) as (λ b. OfProxies Holds (if b then s else with_value s r e None v)) [ true ↦ of | false ↦ value-of s r e None v of ]
-  put_by-of s r (Add n f v i) brings of =
-      let e = at_end n f in
+  put_by-of s r (At e (Add v i)) brings of =
       elim (is_plain_add r e v) as (λ b. OfProxies Holds (if b then s else with_value s r e i v)) [ true ↦ of | false ↦ value-of s r e i v of ]
-  put_by-of s r (Move n f to from) brings of =
-      let e = at_end n f in
+  put_by-of s r (At e (Move to from)) brings of =
       elim (shape_at r e).is_reference as (λ b. OfProxies Holds (if b then shift s e to from else s)) [ true ↦ shift-of s e to from of | false ↦ of ]
-  put_by-of s r (Resolve o f i) brings of =
-      let e = at_end (node.Object o) f in
+  put_by-of s r (At e (Resolve i)) brings of =
       elim (target_at r e i) as (λ q. OfProxies Holds (option_map_or (joined s r e i) q s)) [ None ↦ of | Some x ↦ joined-of s r e i x of ]
   put_by-of s r ResolveAll brings of = resolutions-of (resolutions r (sites r)) s of
   put_by-of s r (Load k doc) brings of = inserted-of (loaded_links r.metamodel r.next k doc) s (loaded-proxies Holds r.metamodel r.next doc k brings) of
@@ -207,6 +205,15 @@ module _ (Holds : List ℕ → Type 0) where
   taken-of e None = tt
   taken-of e (Some i) = object-of e.node (λ o. TakeValue o e.feature i) (λ o. tt)
 
+  act-of : (r : Reading) (e : End) (a : Act) → AllByRecursion OfEdit (act_edits r e a)
+  act-of r e (Set v) = under-of e.feature (v ∷ []) (shape_at r e).is_unsettable e.node
+  act-of r e Unset = under-of e.feature [] false e.node
+  act-of r e (Add v i) = added-of r e v i
+  act-of r e (Remove i) = taken-of e (Some i)
+  act-of r e (RemoveValue v) = taken-of e (first_at r e v)
+  act-of r e (Move to from) = object-of e.node (λ o. MoveValue o e.feature to from) (λ o. tt)
+  act-of r e (Resolve i) = tt
+
   content-of : (m : Metamodel) (n : ℕ) (o : ObjectNo) (c : Content) → AllByRecursion OfEdit (attribute_edits m n o c)
   content-of m n o c =
       let a = shape m c.feature in
@@ -224,25 +231,13 @@ module _ (Holds : List ℕ → Type 0) where
   BringsUri _ = Unit {0}
 
   edits-of : (r : Reading) (c : Change) → BringsUri c → AllByRecursion OfEdit (value_edits r c)
+  edits-of r (At e (Resolve i)) brings = tt
+  edits-of r (At e a) brings = attribute-of r e (act_edits r e a) (act-of r e a)
   edits-of r (Create c) brings = (tt, tt)
-  edits-of r (Set n f v) brings =
-      let e = at_end n f in
-      let flag = (shape_at r e).is_unsettable in
-      attribute-of r e (put_under f (v ∷ []) flag n) (under-of f (v ∷ []) flag n)
-  edits-of r (Unset n f) brings = attribute-of r (at_end n f) (put_under f [] false n) (under-of f [] false n)
-  edits-of r (Add n f v i) brings = attribute-of r (at_end n f) (add_value r (at_end n f) v i) (added-of r (at_end n f) v i)
-  edits-of r (Remove n f i) brings = attribute-of r (at_end n f) (take_value (at_end n f) i) (taken-of (at_end n f) (Some i))
-  edits-of r (RemoveValue n f v) brings =
-      let e = at_end n f in
-      attribute-of r e (option_map_or (take_value e) (first_at r e v) []) (taken-of e (first_at r e v))
-  edits-of r (Move n f to from) brings =
-      let move : ObjectNo → ValueEdit = λ o. MoveValue o f to from in
-      attribute-of r (at_end n f) (of_object n move) (object-of n move (λ o. tt))
   edits-of r (Delete o) brings = all-map OfEdit DropObject (subtree r o) (all-every (λ p. OfEdit (DropObject p)) (subtree r o) (λ p. tt))
   edits-of r (NewResource u) brings = (brings, tt)
-  edits-of r (Resolve o f i) brings = tt
-  edits-of r ResolveAll brings = tt
   edits-of r (Load k doc) brings = loaded-of r.metamodel r.next doc
+  edits-of r ResolveAll brings = tt
 
   pub uris-after : (v : ValuesState) (r : Reading) (c : Change) → BringsUri c → All Holds v.uris → All Holds (applied v (value_edits r c)).uris
   uris-after v r c brings all = applied-of (value_edits r c) v (edits-of r c brings) all

@@ -8,20 +8,20 @@ use Rattle.mm_types.specs.declared.refused.Refused.{Refused}
 use Rattle.mm_types.specs.declared.refused.Refused.TheVariants.{WrongType, TextLength, Index, Duplicate, Bound, Recursive, Limit, ResourceExists, NotEmpty, NotProxy, Unloaded, Unresolved, Unmatched}
 use Rattle.mm_types.specs.declared.end.End.{End}
 use Rattle.mm_types.specs.declared.numbers.FeatureNo.{FeatureNo}
-use Rattle.mm_types.specs.declared.numbers.Node.TheVariants as node
 use Rattle.mm_types.specs.declared.numbers.ObjectNo.{ObjectNo}
 use Rattle.mm_types.specs.declared.value.Value.{Value}
 use Rattle.mm_types.specs.declared.value.Value.TheVariants as value
 use Rattle.web_uris.specs.Addresses.{uri_part}
 use Rattle.models.specs.Legal.{is_short, is_short_text}
-use Rattle.models.specs.Reading.{Reading, at_end, has_uri, is_repeat, position_for, takes}
+use Rattle.models.specs.Reading.{Reading, has_uri, is_repeat, position_for, takes}
 use Rattle.doc_loader.specs.Loading.{is_empty_resource}
 use Rattle.handshake.specs.Displaced.{has_already}
 use Rattle.handshake.specs.Plans.{is_memory_refusal}
 use Rattle.handshake.specs.Refusals.{count_at, gain_refusal, is_at_limit, is_full_at, is_mistyped, is_recursive, is_there_already, late_refusal, link_refusal, of_either, set_refusal, type_refusal, uri_refusal, target_refusal}
 use Rattle.handshake.specs.declared.change.Change.{Change}
 use Rattle.handshake.specs.FeatureChanges.{resolves_all}
-use Rattle.handshake.specs.declared.change.Change.TheVariants.{Create, Set, Unset, Add, Remove, RemoveValue, Move, Delete, NewResource, Resolve, ResolveAll, Load}
+use Rattle.handshake.specs.declared.change.Change.TheVariants.{At, Create, NewResource, ResolveAll, Load}
+use Rattle.handshake.specs.declared.act.Act.TheVariants.{Set, Add, Remove, RemoveValue, Move, Resolve}
 use Rattle.handshake.specs.Resolving.{is_unmatched, proxy_at, target_at}
 use Rattle.handshake.specs.declared.target.Target.{Target}
 
@@ -112,22 +112,20 @@ module _ (q : Refused → Bool) (never : IsNeverLate q) where
 
   pub late-not : (r : Reading) (c : Change) → IsNot q (late_refusal r c)
   late-not r (Create c) = unless-not q Limit (nat_lt r.next OBJECTS) never.limit
-  late-not r (Set n f v) = later-not q _ _ (type-not r f v) (set-not r (at_end n f) v)
-  late-not r (Unset n f) = refl
-  late-not r (Add n f v i) =
-      let e = at_end n f in
-      later-not q _ _ (type-not r f v)
+  late-not r (At e (Set v)) = later-not q _ _ (type-not r e.feature v) (set-not r e v)
+  late-not r (At e (Add v i)) =
+      later-not q _ _ (type-not r e.feature v)
       (later-not q _ _ (unless-not q Index (nat_le (position_for r e i) (count_at r e)) never.index)
       (either-not q (is_repeat r e v) (Duplicate where_so is_some i) (gain_refusal r e v) (where-not q Duplicate (is_some i) never.duplicate) (gain-not r e v)))
-  late-not r (Remove n f i) = unless-not q Index (nat_lt i (count_at r (at_end n f))) never.index
-  late-not r (RemoveValue n f v) = type-not r f v
-  late-not r (Move n f to from) = unless-not q Index (nat_lt to (count_at r (at_end n f)) && nat_lt from (count_at r (at_end n f))) never.index
-  late-not r (Delete o) = refl
+  late-not r (At e (Remove i)) = unless-not q Index (nat_lt i (count_at r e)) never.index
+  late-not r (At e (RemoveValue v)) = type-not r e.feature v
+  late-not r (At e (Move to from)) = unless-not q Index (nat_lt to (count_at r e) && nat_lt from (count_at r e)) never.index
   late-not r (NewResource u) = uri-not r u
-  late-not r (Resolve o f i) = let e = at_end (node.Object o) f in resolve-not r e i (target_at r e i)
+  late-not r (At e (Resolve i)) = resolve-not r e i (target_at r e i)
   late-not r ResolveAll = refl
   late-not r (Load k doc) =
       later-not q _ _ (unless-not q Limit (nat_le (r.next + length doc.objects) OBJECTS) never.limit) (unless-not q NotEmpty (is_empty_resource r k) never.not_empty)
+  late-not r _ = refl
 
 pub late-not-memory : (r : Reading) (c : Change) → IsNot is_memory_refusal (late_refusal r c)
 late-not-memory r c = late-not is_memory_refusal (record { wrong_type = refl; text_length = refl; index = refl; duplicate = refl; bound = refl; recursive = refl; limit = refl; resource_exists = refl; not_empty = refl; not_proxy = refl; unloaded = refl; unresolved = refl; unmatched = refl }) r c

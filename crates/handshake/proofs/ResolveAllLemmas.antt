@@ -20,7 +20,7 @@ use Rattle.links.specs.declared.plan.Edit.{Edit}
 use Rattle.links.proofs.LegalLemmas.{IsPlanOfKind-append, PlanFits-append, PlanMakesNoCycle-append, applied-append}
 use Rattle.models.specs.Legal.{IsLegal, kinds_of}
 use Rattle.models.specs.Model.{Model, reading, values_at}
-use Rattle.models.specs.Reading.{Reading, has_feature, held_at}
+use Rattle.models.specs.Reading.{Reading, at_end, has_feature, held_at}
 use Rattle.removal.specs.declared.link_end.LinkEnd.{LinkEnd}
 use Rattle.handshake.specs.Displaced.{counter_link_end, link_end_in}
 use Rattle.handshake.specs.Edits.{cut_of, edits_of, joining}
@@ -30,7 +30,8 @@ use Rattle.handshake.specs.Refusals.{early_refusal, resolve_refusal}
 use Rattle.handshake.specs.Resolving.{target_at}
 use Rattle.handshake.specs.ResolvingAll.{Resolution, resolutions, resolved_to, values_left, values_with, with_resolved}
 use Rattle.handshake.specs.FeatureChanges.{resolution_told, resolved}
-use Rattle.handshake.specs.declared.change.Change.TheVariants.{Resolve}
+use Rattle.handshake.specs.declared.change.Change.TheVariants.{At}
+use Rattle.handshake.specs.declared.act.Act.TheVariants.{Resolve}
 use Rattle.handshake.specs.declared.change_kind.FeatureChange.{FeatureChange}
 use Rattle.handshake.specs.declared.site.ProxySite.{ProxySite}
 use Rattle.handshake.specs.declared.target.Target.{Target}
@@ -71,13 +72,13 @@ leads-on s es xs ts us u w ends more one two =
 ---------------------------------------------------------------- one proxy
 
 -- a proxy that can be resolved stands under a feature of an object that lives
-named-there : (r : Reading) (o : ObjectNo) (f : FeatureNo) → has_feature r (node.Object o) f ≡ true → early_refusal r (Resolve o f 0) ≡ None
+named-there : (r : Reading) (o : ObjectNo) (f : FeatureNo) → has_feature r (node.Object o) f ≡ true → early_refusal r (At (at_end (node.Object o) f) (Resolve 0)) ≡ None
 named-there r o f has = by (r.class o) refl has
   where
     refused : Bool → Bool → Option Refused
     refused b c = (NoObject unless b else_by NoResource unless true) else_by NoFeature unless c
 
-    by : (q : Option ClassNo) → r.class o ≡ q → option_map_or (λ c. lookups.has_feature r.metamodel c f) q false ≡ true → early_refusal r (Resolve o f 0) ≡ None
+    by : (q : Option ClassNo) → r.class o ≡ q → option_map_or (λ c. lookups.has_feature r.metamodel c f) q false ≡ true → early_refusal r (At (at_end (node.Object o) f) (Resolve 0)) ≡ None
     by None none h = absurd (false≢true h)
     by (Some c) is h = (λ k. (NoObject unless is_some (is k) else_by NoResource unless true) else_by NoFeature unless has k)
 
@@ -97,12 +98,12 @@ module _ (s : Model) (legal : IsLegal s) (p : ProxySite) (x : Target) (late : re
       Leads s (map cut_of (cut r p b q) ++ option_map_or (joining r e p.index) q []) (option_map_or (resolved e p.index) q [])
       (let t = without_link_ends s.links (cut r p b q) in option_map_or (joined t r e p.index) q t) (values_with r e p.index x)
 
-  pub early : early_refusal (reading s) (Resolve p.object p.feature p.index) ≡ None
+  pub early : early_refusal (reading s) (At (at_end (node.Object p.object) p.feature) (Resolve p.index)) ≡ None
   early = named-there r p.object p.feature (feature-there s legal e p.index (resolvable r e p.index late).target (resolvable r e p.index late).resolvable)
 
   led : Led (shape s.metamodel p.feature).is_reference (target_at r e p.index)
   led =
-      let c = Resolve p.object p.feature p.index in
+      let c = At (at_end (node.Object p.object) p.feature) (Resolve p.index) in
       let after-legal = one-keeps-legal s c refl legal early late tt tt in
       let plan = plan-for s c refl legal early late tt in
       record {
@@ -112,7 +113,7 @@ module _ (s : Model) (legal : IsLegal s) (p : ProxySite) (x : Target) (late : re
         of_kind = plan.of_kind;
         no_cycle = plan.no_cycle;
         makes = plan.makes;
-        replays = resolve-changes s legal p.object p.feature p.index late;
+        replays = resolve-changes s legal e p.index late;
       }
 
   pub one-resolved : (let y : Resolution = record { reads = reading s; site = p; target = x } in Leads s (edits_of y) (resolution_told y) (with_resolution s.links y) (values_with (reading s) (end_of p) p.index x))

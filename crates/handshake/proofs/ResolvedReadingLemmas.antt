@@ -35,7 +35,8 @@ use Rattle.handshake.specs.Refusals.{resolve_refusal}
 use Rattle.handshake.specs.Resolving.{target_at}
 use Rattle.handshake.specs.ResolvingAll.{replaced, values_with}
 use Rattle.handshake.specs.FeatureChanges.{resolved, feature_changes}
-use Rattle.handshake.specs.declared.change.Change.TheVariants.{Resolve}
+use Rattle.handshake.specs.declared.change.Change.TheVariants.{At}
+use Rattle.handshake.specs.declared.act.Act.TheVariants.{Resolve}
 use Rattle.handshake.specs.declared.change_kind.ChangeKind.{ChangeKind}
 use Rattle.handshake.specs.declared.change_kind.ChangeKind.TheVariants.{Resolves}
 use Rattle.handshake.specs.declared.change_kind.FeatureChange.{FeatureChange}
@@ -137,11 +138,11 @@ module _ (s : Model) (legal : IsLegal s) (o : ObjectNo) (f : FeatureNo) (i : ℕ
   e = at_end (node.Object o) f
 
   abbrev t : Model
-  t = after s (Resolve o f i)
+  t = after s (At (at_end (node.Object o) f) (Resolve i))
 
-  values-told : (d : End) → values_at t d ≡ told_in (values_at s) (feature_changes (reading s) (Resolve o f i)) d
+  values-told : (d : End) → values_at t d ≡ told_in (values_at s) (feature_changes (reading s) (At (at_end (node.Object o) f) (Resolve i))) d
   values-told d =
-      subst (λ (u : Links). values_at (with_links s (put_by u (reading s) (Resolve o f i))) d ≡ told_in (values_at s) (feature_changes (reading s) (Resolve o f i)) d) (sym (without_link_ends-names_of s.links (cut_link_ends (reading s) (Resolve o f i))))
+      subst (λ (u : Links). values_at (with_links s (put_by u (reading s) (At (at_end (node.Object o) f) (Resolve i)))) d ≡ told_in (values_at s) (feature_changes (reading s) (At (at_end (node.Object o) f) (Resolve i))) d) (sym (without_link_ends-names_of s.links (cut_link_ends (reading s) (At (at_end (node.Object o) f) (Resolve i)))))
       (resolved-as s legal e i late (λ ts xs us u. values_at (with_links s u) d ≡ told_in (values_at s) us d) (λ x is alone. values-alone s legal e i x is alone d) (λ x is g opposite j text stands. values-joint s legal e i x is g opposite j text stands d))
 
   values-after : (d : End) → values_at t d ≡ values_with (reading s) e i x d
@@ -181,7 +182,7 @@ module _ (s : Model) (legal : IsLegal s) (o : ObjectNo) (f : FeatureNo) (i : ℕ
   contains-other : (n : Node) (h : FeatureNo) → is_containment s.metamodel h ≡ true → values_at t (at_end n h) ≡ values_at s (at_end n h)
   contains-other n h contains = values-after (at_end n h) ∙ contains-with n h contains
 
-  module _ (other : IsLegal (after s (Resolve o f i))) where
+  module _ (other : IsLegal (after s (At (at_end (node.Object o) f) (Resolve i)))) where
     held-still : (p : ObjectNo) (d : End) → holder s.links (node.Object p) ≡ Some d → holder t.links (node.Object p) ≡ Some d
     held-still p d h =
         let there = held s legal p d h in
@@ -206,7 +207,7 @@ module _ (s : Model) (legal : IsLegal s) (o : ObjectNo) (f : FeatureNo) (i : ℕ
     above-same : (n : Node) → above t.links n ≡ above s.links n
     above-same n = above-stays s.metamodel s.values s.values s.links t.links legal other contains-other n
 
-    pub reading-after : reading (after s (Resolve o f i)) ≡ record (reading s) { values = values_with (reading s) (at_end (node.Object o) f) i x }
+    pub reading-after : reading (after s (At (at_end (node.Object o) f) (Resolve i))) ≡ record (reading s) { values = values_with (reading s) (at_end (node.Object o) f) i x }
     reading-after k =
         record {
           metamodel = s.metamodel;

@@ -31,7 +31,8 @@ use Rattle.handshake.specs.ResolvingAll.{Resolution, done, left, left_by, resolu
 use Rattle.handshake.specs.FeatureChange.{happened_all, notice_at, feature_change, told}
 use Rattle.handshake.specs.FeatureChanges.{resolution_told, resolved}
 use Rattle.handshake.specs.Joining.{IsDone, edits_by, joint, joint_of, told_by}
-use Rattle.handshake.specs.declared.change.Change.TheVariants.{Resolve}
+use Rattle.handshake.specs.declared.change.Change.TheVariants.{At}
+use Rattle.handshake.specs.declared.act.Act.TheVariants.{Resolve}
 use Rattle.handshake.specs.declared.change_kind.ChangeKind.TheVariants.{Resolves}
 use Rattle.handshake.specs.declared.joining.Joint.{Joint}
 use Rattle.handshake.specs.declared.joining.Progress.{Progress}
@@ -217,7 +218,7 @@ chain-each (p ∷ ps) s legal =
           let of = resolved-to r p x is in
           let one = one-resolved s legal p x of.late of.found in
           let y : Resolution = record { reads = r; site = p; target = x } in
-          let c = Resolve p.object p.feature p.index in
+          let c = At (at_end (node.Object p.object) p.feature) (Resolve p.index) in
           let t = relinked s (with_resolution s.links y) in
           let ts = resolution_told y in
           let first : told m (held_at r) ts ≡ map (notice_at r) ts =

@@ -7,19 +7,19 @@ use Rattle.mm_types.specs.Same.{node_value, same_end, same_value}
 use Rattle.mm_types.specs.declared.numbers.FeatureNo.{FeatureNo}
 use Rattle.mm_types.specs.declared.numbers.ObjectNo.{ObjectNo}
 use Rattle.mm_types.specs.declared.numbers.Node.{Node}
-use Rattle.mm_types.specs.declared.numbers.Node.TheVariants as node
 use Rattle.mm_types.specs.declared.end.End.{End}
 use Rattle.mm_types.specs.declared.value.Value.{Value}
 use Rattle.mm_types.specs.declared.value.Value.TheVariants as value
 use Rattle.removal.specs.declared.link_end.LinkEnd.{LinkEnd}
 use Rattle.links.specs.Links.{far_end}
 use Rattle.links.specs.Holders.{contained}
-use Rattle.models.specs.Reading.{Reading, at_end, is_repeat, shape_at, first_at, value_at}
+use Rattle.models.specs.Reading.{Reading, is_repeat, shape_at, first_at, value_at}
 use Rattle.removal.specs.TreeLinkEnds.{link_end, tree_link_ends}
 use Rattle.handshake.specs.declared.change.Change.{Change}
 use Rattle.handshake.specs.declared.target.Target.{Target}
 use Rattle.handshake.specs.Resolving.{opposite_end, target_at}
-use Rattle.handshake.specs.declared.change.Change.TheVariants.{Create, Set, Unset, Add, Remove, RemoveValue, Move, Delete, NewResource, Resolve, ResolveAll, Load}
+use Rattle.handshake.specs.declared.change.Change.TheVariants.{At, Delete}
+use Rattle.handshake.specs.declared.act.Act.TheVariants.{Set, Unset, Add, Remove, RemoveValue, Resolve}
 
 -- the same link by its other end, if it has one
 abbrev pub other_side : Node → Value → Option FeatureNo → Option LinkEnd
@@ -118,18 +118,13 @@ abbrev pub cut_by_set : Reading → End → Value → List LinkEnd
 cut_by_set r e (value.Object o) = yields r e o
 cut_by_set r e v = link_ends_at r e
 
--- the links that a change cuts, in order
+-- the links that a change cuts, in order; where all proxies are resolved, each is cut where its object replaces it
 abbrev pub cut_link_ends : Reading → Change → List LinkEnd
-cut_link_ends r (Create c) = []
-cut_link_ends r (Set n f v) = let e = at_end n f in if is_plain_set r e v then [] else cut_by_set r e v
-cut_link_ends r (Unset n f) = let e = at_end n f in if (shape_at r e).is_reference then link_ends_backwards e (r.values e) else []
-cut_link_ends r (Add n f v i) = let e = at_end n f in if is_plain_add r e v then [] else cut_by_new r e v
-cut_link_ends r (Remove n f i) = let e = at_end n f in if (shape_at r e).is_reference then link_end_in r e i else []
-cut_link_ends r (RemoveValue n f v) = let e = at_end n f in if (shape_at r e).is_reference then option_map_or (link_end_in r e) (first_at r e v) [] else []
-cut_link_ends r (Move n f to from) = []
+cut_link_ends r (At e (Set v)) = if is_plain_set r e v then [] else cut_by_set r e v
+cut_link_ends r (At e Unset) = if (shape_at r e).is_reference then link_ends_backwards e (r.values e) else []
+cut_link_ends r (At e (Add v i)) = if is_plain_add r e v then [] else cut_by_new r e v
+cut_link_ends r (At e (Remove i)) = if (shape_at r e).is_reference then link_end_in r e i else []
+cut_link_ends r (At e (RemoveValue v)) = if (shape_at r e).is_reference then option_map_or (link_end_in r e) (first_at r e v) [] else []
+cut_link_ends r (At e (Resolve i)) = if (shape_at r e).is_reference then link_ends_resolved r e i else []
 cut_link_ends r (Delete o) = tree_link_ends r o
-cut_link_ends r (NewResource u) = []
-cut_link_ends r (Resolve o f i) = let e = at_end (node.Object o) f in if (shape_at r e).is_reference then link_ends_resolved r e i else []
--- each proxy is cut where its object replaces it
-cut_link_ends r ResolveAll = []
-cut_link_ends r (Load k doc) = []
+cut_link_ends r _ = []

@@ -2,15 +2,15 @@
 use Rattle.std.specs.Prelude.{ℕ, List, [], ◌++◌, ◌-◌, flat_map, length, map, Option, Some, None, option_map, option_to_list, if◌then◌else◌}
 use Rattle.std.specs.Option.{option_map_or}
 use Rattle.mm_types.specs.declared.end.End.{End}
-use Rattle.mm_types.specs.declared.numbers.Node.TheVariants as node
 use Rattle.mm_types.specs.declared.value.Value.{Value}
 use Rattle.mm_types.specs.declared.value.Value.TheVariants as value
 use Rattle.links.specs.declared.plan.Edit.{Edit}
 use Rattle.links.specs.declared.plan.Edit.TheVariants.{Put, Shift}
 use Rattle.links.specs.Laws.{cut_edit}
-use Rattle.models.specs.Reading.{Reading, at_end, position_for, shape_at}
+use Rattle.models.specs.Reading.{Reading, position_for, shape_at}
 use Rattle.handshake.specs.declared.change.Change.{Change}
-use Rattle.handshake.specs.declared.change.Change.TheVariants.{Create, Set, Unset, Add, Remove, RemoveValue, Move, Delete, NewResource, Resolve, ResolveAll, Load}
+use Rattle.handshake.specs.declared.change.Change.TheVariants.{At, ResolveAll, Load}
+use Rattle.handshake.specs.declared.act.Act.TheVariants.{Set, Add, Move, Resolve}
 use Rattle.handshake.specs.declared.target.Counterpart.{Counterpart}
 use Rattle.handshake.specs.declared.target.Target.{Target}
 use Rattle.removal.specs.declared.link_end.LinkEnd.{LinkEnd}
@@ -30,18 +30,10 @@ new_put r e i v = None
 
 -- the edit behind the cuts, if there is one: it makes a link, or moves what stands in a list. What a single end had is cut by then
 abbrev pub made_edit : Reading → Change → Option Edit
-made_edit r (Create c) = None
-made_edit r (Set n f v) = let e = at_end n f in if is_plain_set r e v then None else new_put r e 0 v
-made_edit r (Unset n f) = None
-made_edit r (Add n f v i) = let e = at_end n f in if is_plain_add r e v then None else new_put r e (position_for r e i) v
-made_edit r (Remove n f i) = None
-made_edit r (RemoveValue n f v) = None
-made_edit r (Move n f to from) = let e = at_end n f in if (shape_at r e).is_reference then Some (Shift e to from) else None
-made_edit r (Delete o) = None
-made_edit r (NewResource u) = None
-made_edit r (Resolve o f i) = None
-made_edit r ResolveAll = None
-made_edit r (Load k doc) = None
+made_edit r (At e (Set v)) = if is_plain_set r e v then None else new_put r e 0 v
+made_edit r (At e (Add v i)) = if is_plain_add r e v then None else new_put r e (position_for r e i) v
+made_edit r (At e (Move to from)) = if (shape_at r e).is_reference then Some (Shift e to from) else None
+made_edit r _ = None
 
 -- the edit that moves a new link from the last index of the opposite end to that of its proxy
 abbrev pub back_edit : Reading → Counterpart → Edit
@@ -59,9 +51,9 @@ edits_of x =
 
 -- a load makes all links of its document; all proxies are resolved one after another
 abbrev pub made_edits : Reading → Change → List Edit
-made_edits r (Load k doc) = load_edits r.metamodel r.next k doc
-made_edits r (Resolve o f i) = let e = at_end (node.Object o) f in option_map_or (joining r e i) (target_at r e i) []
+made_edits r (At e (Resolve i)) = option_map_or (joining r e i) (target_at r e i) []
 made_edits r ResolveAll = flat_map edits_of (resolutions r (sites r))
+made_edits r (Load k doc) = load_edits r.metamodel r.next k doc
 made_edits r c = option_to_list (made_edit r c)
 
 abbrev pub link_edits : Reading → Change → List Edit

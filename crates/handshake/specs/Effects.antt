@@ -12,12 +12,14 @@ use Rattle.mm_values.specs.Values.{applied}
 use Rattle.mm_values.specs.declared.edit.ValueEdit.{ValueEdit}
 use Rattle.mm_values.specs.declared.edit.ValueEdit.TheVariants.{NewObject, DropObject, PutList, InsertValue, RemoveValue as TakeValue, MoveValue, NewUri}
 use Rattle.links.specs.Links.{Links, cut_value, end, put, shift, without_nodes}
-use Rattle.models.specs.Reading.{Reading, at_end, first_at, is_repeat, position_for, shape_at}
+use Rattle.models.specs.Reading.{Reading, first_at, is_repeat, position_for, shape_at}
 use Rattle.models.specs.Model.{Model, reading}
 use Rattle.containment.specs.Forest.{subtree}
 use Rattle.removal.specs.Outer.{gone}
+use Rattle.handshake.specs.declared.act.Act.{Act}
 use Rattle.handshake.specs.declared.change.Change.{Change}
-use Rattle.handshake.specs.declared.change.Change.TheVariants.{Create, Set, Unset, Add, Remove, RemoveValue, Move, Delete, NewResource, Resolve, ResolveAll, Load}
+use Rattle.handshake.specs.declared.change.Change.TheVariants.{At, Create, Delete, NewResource, ResolveAll, Load}
+use Rattle.handshake.specs.declared.act.Act.TheVariants.{Set, Unset, Add, Remove, RemoveValue, Move, Resolve}
 use Rattle.handshake.specs.declared.target.Counterpart.{Counterpart}
 use Rattle.handshake.specs.declared.target.Target.{Target}
 use Rattle.removal.specs.declared.link_end.LinkEnd.{LinkEnd}
@@ -56,19 +58,24 @@ take_value e i = of_object e.node (λ o. TakeValue o e.feature i)
 abbrev pub take_first : Reading → End → Value → List ValueEdit
 take_first r e v = option_map_or (take_value e) (first_at r e v) []
 
+-- what an act makes of the values of an attribute
+abbrev pub act_edits : Reading → End → Act → List ValueEdit
+act_edits r e (Set v) = put_values e (v ∷ []) (shape_at r e).is_unsettable
+act_edits r e Unset = put_values e [] false
+act_edits r e (Add v i) = add_value r e v i
+act_edits r e (Remove i) = take_value e i
+act_edits r e (RemoveValue v) = take_first r e v
+act_edits r e (Move to from) = of_object e.node (λ o. MoveValue o e.feature to from)
+act_edits r e (Resolve i) = []
+
 abbrev pub value_edits : Reading → Change → List ValueEdit
+value_edits r (At e (Resolve i)) = []
+value_edits r (At e a) = if_attribute r e (act_edits r e a)
 value_edits r (Create c) = NewObject c ∷ []
-value_edits r (Set n f v) = let e = at_end n f in if_attribute r e (put_values e (v ∷ []) (shape_at r e).is_unsettable)
-value_edits r (Unset n f) = let e = at_end n f in if_attribute r e (put_values e [] false)
-value_edits r (Add n f v i) = let e = at_end n f in if_attribute r e (add_value r e v i)
-value_edits r (Remove n f i) = let e = at_end n f in if_attribute r e (take_value e i)
-value_edits r (RemoveValue n f v) = let e = at_end n f in if_attribute r e (take_first r e v)
-value_edits r (Move n f to from) = let e = at_end n f in if_attribute r e (of_object n (λ o. MoveValue o f to from))
 value_edits r (Delete o) = map DropObject (subtree r o)
 value_edits r (NewResource u) = NewUri u ∷ []
-value_edits r (Resolve o f i) = []
-value_edits r ResolveAll = []
 value_edits r (Load k doc) = loaded_values r.metamodel r.next doc
+value_edits r ResolveAll = []
 
 ---------------------------------------------------------------- links
 
@@ -98,18 +105,13 @@ with_resolution s x =
 
 -- the link that a change makes, or what it moves
 abbrev pub put_by : Links → Reading → Change → Links
-put_by s r (Create c) = s
-put_by s r (Set n f v) = let e = at_end n f in if is_plain_set r e v then s else with_value s r e None v
-put_by s r (Unset n f) = s
-put_by s r (Add n f v i) = let e = at_end n f in if is_plain_add r e v then s else with_value s r e i v
-put_by s r (Remove n f i) = s
-put_by s r (RemoveValue n f v) = s
-put_by s r (Move n f to from) = let e = at_end n f in if (shape_at r e).is_reference then shift s e to from else s
-put_by s r (Delete o) = s
-put_by s r (NewResource u) = s
-put_by s r (Resolve o f i) = let e = at_end (node.Object o) f in option_map_or (joined s r e i) (target_at r e i) s
+put_by s r (At e (Set v)) = if is_plain_set r e v then s else with_value s r e None v
+put_by s r (At e (Add v i)) = if is_plain_add r e v then s else with_value s r e i v
+put_by s r (At e (Move to from)) = if (shape_at r e).is_reference then shift s e to from else s
+put_by s r (At e (Resolve i)) = option_map_or (joined s r e i) (target_at r e i) s
 put_by s r ResolveAll = fold with_resolution s (resolutions r (sites r))
 put_by s r (Load k doc) = with_links s (loaded_links r.metamodel r.next k doc)
+put_by s r _ = s
 
 -- the links that a change leaves: all but those that name an object that is destroyed, or but those that it cuts
 abbrev pub links_left : Links → Reading → Change → Links

@@ -10,13 +10,14 @@ use Rattle.mm_types.specs.declared.end.End.{End}
 use Rattle.mm_types.specs.declared.value.Value.{Value}
 use Rattle.mm_types.specs.declared.value.Value.TheVariants as value
 use Rattle.notice_chain.specs.declared.notice.Notice.{Notice}
-use Rattle.models.specs.Reading.{Reading, at_end, first_at, held_at, is_repeat, shape_at}
+use Rattle.models.specs.Reading.{Reading, contents_end, first_at, held_at, is_repeat, shape_at}
 use Rattle.resource_docs.specs.declared.doc.Doc.{Doc}
-use Rattle.doc_loader.specs.Loading.{contents_end, roots_loaded}
+use Rattle.doc_loader.specs.Loading.{roots_loaded}
 use Rattle.removal.specs.Losses.{is_lost}
 use Rattle.removal.specs.Outer.{touched_ends}
 use Rattle.handshake.specs.declared.change.Change.{Change}
-use Rattle.handshake.specs.declared.change.Change.TheVariants.{Create, Set, Unset, Add, Remove, RemoveValue, Move, Delete, NewResource, Resolve, ResolveAll, Load}
+use Rattle.handshake.specs.declared.change.Change.TheVariants.{At, Delete, ResolveAll, Load}
+use Rattle.handshake.specs.declared.act.Act.TheVariants.{Set, Unset, Add, Remove, RemoveValue, Move, Resolve}
 use Rattle.handshake.specs.declared.change_kind.ChangeKind.TheVariants.{Gains, GainsAt, Loses, LosesAt, Unsets, Moves, Resolves}
 use Rattle.handshake.specs.declared.change_kind.ChangeKind.{ChangeKind}
 use Rattle.handshake.specs.declared.change_kind.FeatureChange.{FeatureChange}
@@ -100,7 +101,7 @@ destroyed_by _ = None
 
 -- what the proxy finds that a change resolves
 abbrev pub target_of : Reading → Change → Option Target
-target_of r (Resolve o f i) = target_at r (at_end (node.Object o) f) i
+target_of r (At e (Resolve i)) = target_at r e i
 target_of r _ = None
 
 -- the document that a change loads
@@ -144,18 +145,17 @@ resolution_told x = resolved (end_of x.site) x.site.index x.target
 
 -- a change that cuts these links
 abbrev pub feature_changes_with : Reading → Change → List LinkEnd → List FeatureChange
-feature_changes_with r (Create c) ts = []
-feature_changes_with r (Set n f v) ts = set_to r (at_end n f) v ts
-feature_changes_with r (Unset n f) ts = far_losses r ts ++ emptied r (at_end n f)
-feature_changes_with r (Add n f v i) ts = added r (at_end n f) v i ts
-feature_changes_with r (Remove n f i) ts = taken_out r (at_end n f) ts i
-feature_changes_with r (RemoveValue n f v) ts = value_taken_out r (at_end n f) ts v
-feature_changes_with r (Move n f to from) ts = feature_change (at_end n f) (Moves to from) ∷ []
+feature_changes_with r (At e (Set v)) ts = set_to r e v ts
+feature_changes_with r (At e Unset) ts = far_losses r ts ++ emptied r e
+feature_changes_with r (At e (Add v i)) ts = added r e v i ts
+feature_changes_with r (At e (Remove i)) ts = taken_out r e ts i
+feature_changes_with r (At e (RemoveValue v)) ts = value_taken_out r e ts v
+feature_changes_with r (At e (Move to from)) ts = feature_change e (Moves to from) ∷ []
+feature_changes_with r (At e (Resolve i)) ts = option_map_or (resolved e i) (target_at r e i) []
 feature_changes_with r (Delete o) ts = destroyed r o
-feature_changes_with r (NewResource u) ts = []
-feature_changes_with r (Resolve o f i) ts = let e = at_end (node.Object o) f in option_map_or (resolved e i) (target_at r e i) []
 feature_changes_with r ResolveAll ts = flat_map resolution_told (resolutions r (sites r))
 feature_changes_with r (Load k doc) ts = loaded r k doc
+feature_changes_with r _ ts = []
 
 abbrev pub feature_changes : Reading → Change → List FeatureChange
 feature_changes r c = feature_changes_with r c (cut_link_ends r c)

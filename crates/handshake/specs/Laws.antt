@@ -2,19 +2,19 @@
 use Rattle.std.specs.Prelude.{◌≡◌, Bool, true, false, not, nat_le, IsFalse, List, [], ◌∷◌, ◌++◌, None}
 use Rattle.std.specs.List.{AllByRecursion}
 use Rattle.mm_types.specs.declared.end.End.{End}
-use Rattle.mm_types.specs.declared.numbers.FeatureNo.{FeatureNo}
 use Rattle.mm_types.specs.declared.numbers.Node.{Node}
 use Rattle.mm_types.specs.declared.numbers.Node.TheVariants as node
 use Rattle.web_uris.specs.Joined.{IsJoined, IsWebUri}
 use Rattle.resource_docs.specs.Causes.{HasSteadyProxies}
 use Rattle.models.specs.Legal.{IsLegal}
 use Rattle.models.specs.Model.{Model, reading}
-use Rattle.models.specs.Reading.{Reading, at_end, held_at, shape_at}
+use Rattle.models.specs.Reading.{Reading, held_at, shape_at}
 use Rattle.models.specs.Steady.{HasSteadyTexts}
 use Rattle.removal.specs.Outer.{gone}
 use Rattle.notice_chain.specs.Replay.{replayed_all}
 use Rattle.handshake.specs.declared.change.Change.{Change}
-use Rattle.handshake.specs.declared.change.Change.TheVariants.{Delete, Load, NewResource, ResolveAll, Unset}
+use Rattle.handshake.specs.declared.change.Change.TheVariants.{At, Delete, Load, NewResource, ResolveAll}
+use Rattle.handshake.specs.declared.act.Act.TheVariants.{Unset}
 use Rattle.handshake.specs.declared.change_kind.ChangeKind.TheVariants.{Unsets}
 use Rattle.handshake.specs.declared.change_kind.FeatureChange.{FeatureChange}
 use Rattle.removal.specs.declared.link_end.LinkEnd.{LinkEnd}
@@ -64,7 +64,7 @@ ChainReplays = OfAllowed (λ s c. HasReadDocument s.metamodel c → (d : End) �
 
 -- a change that may take several values out of one list, or put several in
 abbrev pub takes_many : Reading → Change → Bool
-takes_many r (Unset n f) = not (shape_at r (at_end n f)).is_single
+takes_many r (At e Unset) = not (shape_at r e).is_single
 takes_many r (Delete o) = true
 takes_many r ResolveAll = true
 takes_many r (Load k doc) = true
@@ -80,11 +80,10 @@ abbrev pub TellsNoEndTwice : Model → Change → Type 0
 TellsNoEndTwice = OfAllowed (λ s c. IsFalse (takes_many (reading s) c) → AreApart (feature_changes (reading s) c))
 
 -- where a list is unset, no far end is told twice, and none of them is the list
-abbrev pub FarEndsAreApart : Model → Node → FeatureNo → Type 0
-FarEndsAreApart s n f =
-    let e = at_end n f in
-    let far = far_losses (reading s) (cut_link_ends (reading s) (Unset n f)) in
-    OfAllowed (λ s c. AreApart (far ++ feature_change e Unsets ∷ [])) s (Unset n f)
+abbrev pub FarEndsAreApart : Model → End → Type 0
+FarEndsAreApart s e =
+    let far = far_losses (reading s) (cut_link_ends (reading s) (At e Unset)) in
+    OfAllowed (λ s c. AreApart (far ++ feature_change e Unsets ∷ [])) s (At e Unset)
 
 -- no two of the names are of one link
 abbrev pub AreDifferent : Reading → List LinkEnd → Type 0

@@ -1,4 +1,3 @@
-pub mod Named
 pub mod Resolving
 pub mod Displaced
 pub mod FeatureChange

@@ -13,10 +13,10 @@ use Rattle.mm_types.specs.declared.numbers.ObjectNo.{ObjectNo}
 use Rattle.mm_types.specs.declared.numbers.ResourceNo.{ResourceNo}
 use Rattle.mm_types.specs.declared.value.Value.TheVariants as value
 use Rattle.models.specs.Model.{Model, attribute_values, reading}
-use Rattle.models.specs.Reading.{Reading}
+use Rattle.models.specs.Reading.{Reading, contents_end}
 use Rattle.resource_docs.specs.Read.{values_in}
 use Rattle.resource_docs.specs.declared.doc.Doc.{Doc}
-use Rattle.doc_loader.specs.Loading.{contents_end, loaded, loaded_value, object_end, roots_loaded}
+use Rattle.doc_loader.specs.Loading.{loaded, loaded_value, object_end, roots_loaded}
 use Rattle.doc_loader.specs.Typed.{class_in}
 use Rattle.handshake.specs.declared.change.Change.TheVariants.{Load}
 use Rattle.handshake.specs.Effects.{after}

@@ -6,9 +6,10 @@ use Rattle.mm_types.specs.declared.value.Value.{Value}
 use Rattle.mm_types.specs.declared.value.Value.TheVariants as value
 use Rattle.links.specs.Plans.{put_edit}
 use Rattle.links.specs.declared.link.NewLink.{NewLink}
-use Rattle.models.specs.Reading.{Reading, at_end, position_for, shape_at}
+use Rattle.models.specs.Reading.{Reading, position_for, shape_at}
 use Rattle.handshake.specs.declared.change.Change.{Change}
-use Rattle.handshake.specs.declared.change.Change.TheVariants.{Set, Add}
+use Rattle.handshake.specs.declared.change.Change.TheVariants.{At}
+use Rattle.handshake.specs.declared.act.Act.TheVariants.{Set, Add}
 use Rattle.handshake.specs.declared.planned.Planned.{Planned}
 use Rattle.handshake.specs.Displaced.{displaces, is_plain_add, is_plain_set}
 use Rattle.handshake.specs.Refusals.{late_refusal}
@@ -35,8 +36,8 @@ lone_add r c e v i = None
 
 -- the put of a set or an addition of an object that nothing refuses, and that displaces nothing
 abbrev pub lone_put : Reading → Change → Option NewLink
-lone_put r (Set n f v) = lone_set r (Set n f v) (at_end n f) v
-lone_put r (Add n f v i) = lone_add r (Add n f v i) (at_end n f) v i
+lone_put r (At e (Set v)) = lone_set r (At e (Set v)) e v
+lone_put r (At e (Add v i)) = lone_add r (At e (Add v i)) e v i
 lone_put r _ = None
 
 -- the plan that puts one link, of which nobody hears

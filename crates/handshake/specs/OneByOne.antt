@@ -4,16 +4,17 @@ use Rattle.mm_types.specs.Conditions.{◌else_by◌}
 use Rattle.notice_chain.specs.declared.notice.Notice.{Notice}
 use Rattle.models.specs.Model.{Model, reading}
 use Rattle.handshake.specs.Effects.{after}
-use Rattle.handshake.specs.Proxies.{sites}
+use Rattle.handshake.specs.Proxies.{end_of, sites}
 use Rattle.handshake.specs.Refusals.{early_refusal, late_refusal}
 use Rattle.handshake.specs.ResolvingAll.{done, left}
 use Rattle.handshake.specs.FeatureChanges.{chain}
 use Rattle.handshake.specs.declared.change.Change.{Change}
-use Rattle.handshake.specs.declared.change.Change.TheVariants.{Resolve, ResolveAll}
+use Rattle.handshake.specs.declared.change.Change.TheVariants.{At, ResolveAll}
+use Rattle.handshake.specs.declared.act.Act.TheVariants.{Resolve}
 use Rattle.handshake.specs.declared.site.ProxySite.{ProxySite}
 
 abbrev pub resolve : ProxySite → Change
-resolve p = Resolve p.object p.feature p.index
+resolve p = At (end_of p) (Resolve p.index)
 
 abbrev pub is_refused : Model → Change → Bool
 is_refused s c = is_some (early_refusal (reading s) c else_by late_refusal (reading s) c)

@@ -16,7 +16,8 @@ use Rattle.doc_loader.specs.Fits.{IsFitting}
 use Rattle.resource_docs.specs.Causes.{IsRead}
 use Rattle.resource_docs.specs.declared.doc.Doc.{Doc}
 use Rattle.handshake.specs.declared.change.Change.{Change}
-use Rattle.handshake.specs.declared.change.Change.TheVariants.{Create, Set, Unset, Add, Remove, RemoveValue, Move, Load, Resolve}
+use Rattle.handshake.specs.declared.change.Change.TheVariants.{At, Create, Load}
+use Rattle.handshake.specs.declared.act.Act.TheVariants.{Resolve}
 use Rattle.handshake.specs.declared.planned.Planned.{Planned}
 use Rattle.handshake.specs.Effects.{after}
 use Rattle.handshake.specs.Refusals.{late_refusal}
@@ -62,12 +63,8 @@ pub record IsPlanOf (is_heard : Bool) (s : Model) (c : Change) (p : Planned) : T
 -- a change that edits no link: it makes an object, or changes an attribute
 abbrev pub edits_values_alone : Metamodel → Change → Bool
 edits_values_alone m (Create c) = true
-edits_values_alone m (Set n f v) = not (shape m f).is_reference
-edits_values_alone m (Unset n f) = not (shape m f).is_reference
-edits_values_alone m (Add n f v i) = not (shape m f).is_reference
-edits_values_alone m (Remove n f i) = not (shape m f).is_reference
-edits_values_alone m (RemoveValue n f v) = not (shape m f).is_reference
-edits_values_alone m (Move n f to from) = not (shape m f).is_reference
+edits_values_alone m (At e (Resolve i)) = false
+edits_values_alone m (At e a) = not (shape m e.feature).is_reference
 edits_values_alone m _ = false
 
 -- the plan that edits values alone, of which nobody hears
@@ -76,7 +73,7 @@ of_values vs = record { removal = None; target = None; resolved = None; edits = 
 
 -- what a proxy finds is looked for with memory, and before all that refuses it
 abbrev pub looks_first : Change → Bool
-looks_first (Resolve o f i) = true
+looks_first (At e (Resolve i)) = true
 looks_first _ = false
 
 -- the plan, or the refusal that planning finds; out of memory where it finds none, or while it looks first

@@ -5,7 +5,7 @@ use Rattle.std.specs.Option.{option_map_or}
 use Rattle.mm_types.specs.Conditions.{◌unless◌, ◌where_so◌, ◌else_by◌}
 use Rattle.mm_types.specs.Ends.{has_value}
 use Rattle.mm_types.specs.Same.{same_feature}
-use Rattle.mm_types.specs.Shapes.{is_full_list}
+use Rattle.mm_types.specs.Shapes.{is_full_list, shape}
 use Rattle.mm_types.specs.declared.limits.TheConstants.{LIST_VALUES, OBJECTS, RESOURCES}
 use Rattle.mm_types.specs.declared.numbers.FeatureNo.{FeatureNo}
 use Rattle.mm_types.specs.declared.numbers.ObjectNo.{ObjectNo}
@@ -13,20 +13,22 @@ use Rattle.mm_types.specs.declared.numbers.ResourceNo.{ResourceNo}
 use Rattle.mm_types.specs.declared.numbers.Node.TheVariants as node
 use Rattle.mm_types.specs.declared.end.End.{End}
 use Rattle.mm_types.specs.declared.refused.Refused.{Refused}
-use Rattle.mm_types.specs.declared.refused.Refused.TheVariants.{WrongType, TextLength, Index, Duplicate, Bound, Recursive, Limit, ResourceExists, NotEmpty, NotProxy, Unloaded, Unresolved, Unmatched}
+use Rattle.mm_types.specs.declared.refused.Refused.TheVariants.{NotSingle, NotMany, WrongType, TextLength, Index, Duplicate, Bound, Recursive, Limit, ResourceExists, NotEmpty, NotProxy, Unloaded, Unresolved, Unmatched}
 use Rattle.mm_types.specs.declared.value.Value.{Value}
 use Rattle.mm_types.specs.declared.value.Value.TheVariants as value
 use Rattle.web_uris.specs.Addresses.{uri_part}
-use Rattle.models.specs.Reading.{Reading, at_end, has_uri, is_repeat, is_within, position_for, shape_at, takes}
+use Rattle.models.specs.Reading.{Reading, has_uri, is_repeat, is_within, position_for, shape_at, takes}
 use Rattle.models.specs.Legal.{is_short, is_short_text}
 use Rattle.doc_loader.specs.Loading.{is_empty_resource}
 use Rattle.resource_docs.specs.declared.doc.Doc.{Doc}
-use Rattle.handshake.specs.Named.{class_refusal, feature_refusal, many_refusal, node_refusal, single_refusal, value_refusal}
+use Rattle.models.specs.Existence.{class_refusal, end_refusal, node_refusal, value_refusal}
+use Rattle.mm_types.specs.Resolved.{Metamodel}
 use Rattle.handshake.specs.Displaced.{has_already}
 use Rattle.handshake.specs.Resolving.{is_unmatched, opposite_end, proxy_at, target_at}
 use Rattle.handshake.specs.declared.change.Change.{Change}
 use Rattle.handshake.specs.declared.target.Target.{Target}
-use Rattle.handshake.specs.declared.change.Change.TheVariants.{Create, Set, Unset, Add, Remove, RemoveValue, Move, Delete, NewResource, Resolve, ResolveAll, Load}
+use Rattle.handshake.specs.declared.change.Change.TheVariants.{At, Create, Delete, NewResource, Load}
+use Rattle.handshake.specs.declared.act.Act.TheVariants.{Set, Unset, Add, Remove, RemoveValue, Move, Resolve}
 
 -- why a value is not one of a feature
 abbrev pub type_refusal : Reading → FeatureNo → Value → Option Refused
@@ -115,37 +117,45 @@ load_refusal r k doc =
     Limit unless nat_le (r.next + length doc.objects) OBJECTS else_by
     NotEmpty unless is_empty_resource r k
 
--- why it is refused before anything is planned
-abbrev pub early_refusal : Reading → Change → Option Refused
-early_refusal r (Create c) = class_refusal r.metamodel c
-early_refusal r (Set n f v) = value_refusal r n f v else_by single_refusal r.metamodel f
-early_refusal r (Unset n f) = feature_refusal r n f
-early_refusal r (Add n f v i) = value_refusal r n f v else_by many_refusal r.metamodel f
-early_refusal r (Remove n f i) = feature_refusal r n f else_by many_refusal r.metamodel f
-early_refusal r (RemoveValue n f v) = value_refusal r n f v else_by many_refusal r.metamodel f
-early_refusal r (Move n f to from) = feature_refusal r n f else_by many_refusal r.metamodel f
-early_refusal r (Delete o) = node_refusal r (node.Object o)
-early_refusal r (NewResource u) = None
-early_refusal r (Resolve o f i) = feature_refusal r (node.Object o) f
-early_refusal r ResolveAll = None
-early_refusal r (Load k doc) = node_refusal r (node.Resource k)
+-- one value is set under a feature of one value, and a list is edited under one of many
+abbrev pub single_refusal : Metamodel → FeatureNo → Option Refused
+single_refusal m f = NotSingle unless (shape m f).is_single
 
--- why one that is not is refused when it is planned
+abbrev pub many_refusal : Metamodel → FeatureNo → Option Refused
+many_refusal m f = NotMany where_so (shape m f).is_single
+
+-- an addition of a value to a list, and a removal of one
+abbrev pub list_refusal : Reading → End → Value → Option Refused
+list_refusal r e v = value_refusal r e v else_by many_refusal r.metamodel e.feature
+
+-- why a change is refused before it is planned: what it names is not there, or is a feature of another kind
+abbrev pub early_refusal : Reading → Change → Option Refused
+early_refusal r (At e (Set v)) = value_refusal r e v else_by single_refusal r.metamodel e.feature
+early_refusal r (At e Unset) = end_refusal r e
+early_refusal r (At e (Add v i)) = list_refusal r e v
+early_refusal r (At e (Remove i)) = end_refusal r e else_by many_refusal r.metamodel e.feature
+early_refusal r (At e (RemoveValue v)) = list_refusal r e v
+early_refusal r (At e (Move to from)) = end_refusal r e else_by many_refusal r.metamodel e.feature
+early_refusal r (At e (Resolve i)) = end_refusal r e
+early_refusal r (Create c) = class_refusal r.metamodel c
+early_refusal r (Delete o) = node_refusal r (node.Object o)
+early_refusal r (Load k doc) = node_refusal r (node.Resource k)
+early_refusal r _ = None
+
+-- why a change that is not refused early is refused when it is planned
 abbrev pub late_refusal : Reading → Change → Option Refused
+late_refusal r (At e (Set v)) =
+    type_refusal r e.feature v else_by
+    set_refusal r e v
+late_refusal r (At e (Add v i)) =
+    type_refusal r e.feature v else_by
+    Index unless nat_le (position_for r e i) (count_at r e) else_by
+    add_refusal r e v i
+late_refusal r (At e (Remove i)) = Index unless nat_lt i (count_at r e)
+late_refusal r (At e (RemoveValue v)) = type_refusal r e.feature v
+late_refusal r (At e (Move to from)) = Index unless (nat_lt to (count_at r e) && nat_lt from (count_at r e))
+late_refusal r (At e (Resolve i)) = resolve_refusal r e i
 late_refusal r (Create c) = Limit unless nat_lt r.next OBJECTS
-late_refusal r (Set n f v) =
-    type_refusal r f v else_by
-    set_refusal r (at_end n f) v
-late_refusal r (Unset n f) = None
-late_refusal r (Add n f v i) =
-    type_refusal r f v else_by
-    Index unless nat_le (position_for r (at_end n f) i) (count_at r (at_end n f)) else_by
-    add_refusal r (at_end n f) v i
-late_refusal r (Remove n f i) = Index unless nat_lt i (count_at r (at_end n f))
-late_refusal r (RemoveValue n f v) = type_refusal r f v
-late_refusal r (Move n f to from) = Index unless (nat_lt to (count_at r (at_end n f)) && nat_lt from (count_at r (at_end n f)))
-late_refusal r (Delete o) = None
 late_refusal r (NewResource u) = uri_refusal r u
-late_refusal r (Resolve o f i) = resolve_refusal r (at_end (node.Object o) f) i
-late_refusal r ResolveAll = None
 late_refusal r (Load k doc) = load_refusal r k doc
+late_refusal r _ = None

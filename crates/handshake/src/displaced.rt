@@ -13,14 +13,16 @@ ghost use Rattle.handshake.specs.Plans.{IsRemovalOf};
 ghost use Rattle.handshake.specs.Resolving.{target_at};
 ghost use Rattle.handshake.specs.Refusals as refusals;
 ghost use Rattle.handshake.specs.FeatureChanges.{target_of};
+ghost use Rattle.handshake.specs.declared.change.Change.TheVariants.{At};
 
+use crate::act::Act;
 use crate::change::Change;
-use crate::link_end::{far_end, is_among, node_value, opposite_end};
+use crate::link_end::{is_among, node_value, opposite_end};
 use crate::target::Target;
 use links::LinkStore;
 use mm_meta::Meta;
 use mm_types::{End, Node, ObjectNo, Value};
-use models::{Found, ModelRef, at_end};
+use models::{Found, ModelRef};
 use removal::{LinkEnd, Removal, tree_link_ends};
 use std::alloc::{AllocError, Global};
 
@@ -155,42 +157,33 @@ pub(crate) fn cut_link_ends<L: LinkStore>(
     ensures { IfOk result (λ ts. ts.items ≡ d.cut_link_ends (reading model.now) change.now) }
 {
     match change {
-        Change::Create(_)
-        | Change::Move { .. }
-        | Change::NewResource(_)
-        | Change::ResolveAll
-        | Change::Load(_, _) => Ok(Vec::new(alloc)),
-        Change::Set {
-            node,
-            feature,
-            value,
-        } => cut_by_set(alloc, model, at_end(node, feature), value),
-        Change::Unset { node, feature } => link_ends_backwards(alloc, model, at_end(node, feature)),
-        Change::Add {
-            node,
-            feature,
-            value,
-            ..
-        } => cut_by_add(alloc, model, at_end(node, feature), value),
-        Change::Remove {
-            node,
-            feature,
-            index,
-        } => link_end_in(alloc, model, at_end(node, feature), Some(*index)),
-        Change::RemoveValue {
-            node,
-            feature,
-            value,
-        } => {
-            let end = at_end(node, feature);
-            link_end_in(alloc, model, end, model.position(end, value))
-        }
+        Change::At(end, act) => cut_by_act(alloc, model, *end, act, target),
         Change::Delete(_) => gone_link_ends(alloc, model, removal),
-        Change::Resolve {
-            object,
-            feature,
-            index,
-        } => link_ends_resolved(alloc, model, far_end(*object, *feature), *index, target),
+        Change::Create(_) | Change::NewResource(_) | Change::ResolveAll | Change::Load(_, _) => {
+            Ok(Vec::new(alloc))
+        }
+    }
+}
+
+/// The links that an act at an end cuts, in order.
+fn cut_by_act<L: LinkStore>(
+    alloc: Global,
+    model: &ModelRef<L>,
+    end: End,
+    act: &Act,
+    target: Option<Target>,
+) -> Result<Vec<LinkEnd>, AllocError>
+    requires found { target ≡ target_of (reading model.now) (At end act.now) }
+    ensures { IfOk result (λ ts. ts.items ≡ d.cut_link_ends (reading model.now) (At end act.now)) }
+{
+    match act {
+        Act::Set(value) => cut_by_set(alloc, model, end, value),
+        Act::Unset => link_ends_backwards(alloc, model, end),
+        Act::Add(value, _) => cut_by_add(alloc, model, end, value),
+        Act::Remove(index) => link_end_in(alloc, model, end, Some(*index)),
+        Act::RemoveValue(value) => link_end_in(alloc, model, end, model.position(end, value)),
+        Act::Move { .. } => Ok(Vec::new(alloc)),
+        Act::Resolve(index) => link_ends_resolved(alloc, model, end, *index, target),
     }
 }
 

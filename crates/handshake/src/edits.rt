@@ -4,7 +4,6 @@ ghost use Rattle.std.specs.Option.{option_map_or};
 ghost use Rattle.mm_types.specs.Shapes.{shape};
 ghost use Rattle.mm_types.specs.declared.value.Value.TheVariants as value;
 ghost use Rattle.models.specs.Model.{reading};
-ghost use Rattle.models.specs.Reading.{at_end};
 ghost use Rattle.handshake.specs.Edits as e;
 ghost use Rattle.mm_values.specs.declared.edit.ValueEdit.TheVariants.{DropObject, MoveValue};
 ghost use Rattle.handshake.specs.Displaced as d;
@@ -14,17 +13,18 @@ ghost use Rattle.doc_loader.specs.Fits.{IsFitting};
 ghost use Rattle.doc_loader.specs.Loading.{loaded_values};
 ghost use Rattle.handshake.specs.Effects.{put_values, value_edits as value_edits_of};
 ghost use Rattle.handshake.specs.FeatureChanges.{destroyed_by, loaded_by, resolves_all, target_of};
-ghost use Rattle.handshake.specs.declared.change.Change.TheVariants.{Add, Set};
+ghost use Rattle.handshake.specs.declared.act.Act.TheVariants.{Add, Set};
+ghost use Rattle.handshake.specs.declared.change.Change.TheVariants.{At};
 
+use crate::act::Act;
 use crate::change::Change;
 use crate::cuts::push_cuts;
 use crate::displaced::{is_plain_add, is_plain_set};
-use crate::link_end::far_end;
 use crate::target::{Counterpart, Target};
 use links::{Edit, LinkStore, Plan};
-use mm_types::{End, FeatureNo, Node, ObjectNo, Seq, Value};
+use mm_types::{End, Node, ObjectNo, Seq, Value};
 use mm_values::{NewValues, ValueEdit, ValuePlan};
-use models::{ModelRef, at_end};
+use models::ModelRef;
 use removal::{LinkEnd, Removal};
 use resource_docs::Doc;
 use std::alloc::{AllocError, Global};
@@ -66,13 +66,8 @@ fn push_made<L: LinkStore>(
     requires one { resolves_all change.now ≡ false }
     ensures { OnOk result (edits.new.items ≡ edits.old.items ++ e.made_edits (reading model.now) change.now) }
 {
-    if let Change::Resolve {
-        object,
-        feature,
-        index,
-    } = change
-    {
-        return push_joining(model, far_end(*object, *feature), *index, target, edits);
+    if let Change::At(end, Act::Resolve(index)) = change {
+        return push_joining(model, *end, *index, target, edits);
     }
     if let Some(edit) = made_edit(model, change) {
         edits.push(edit)?;
@@ -116,34 +111,22 @@ fn made_edit<L: LinkStore>(model: &ModelRef<L>, change: &Change) -> Option<Edit>
     ensures { result ≡ e.made_edit (reading model.now) change.now }
 {
     match change {
-        Change::Set {
-            node,
-            feature,
-            value,
-        } => set_put(model, at_end(node, feature), value),
-        Change::Add {
-            node,
-            feature,
-            value,
-            index,
-        } => add_put(model, at_end(node, feature), value, *index),
-        Change::Move {
-            node,
-            feature,
-            to,
-            from,
-        } if model.meta().is_reference(*feature) => Some(Edit::Shift {
-            end: at_end(node, feature),
-            to: *to,
-            from: *from,
-        }),
+        Change::At(end, Act::Set(value)) => set_put(model, *end, value),
+        Change::At(end, Act::Add(value, index)) => add_put(model, *end, value, *index),
+        Change::At(end, Act::Move { to, from }) if model.meta().is_reference(end.feature) => {
+            Some(Edit::Shift {
+                end: *end,
+                to: *to,
+                from: *from,
+            })
+        }
         _ => None,
     }
 }
 
 /// The edit of a set of a reference, if the link is not there.
 fn set_put<L: LinkStore>(model: &ModelRef<L>, end: End, value: &Value) -> Option<Edit>
-    ensures { result ≡ e.made_edit (reading model.now) (Set end.node end.feature value.now) }
+    ensures { result ≡ e.made_edit (reading model.now) (At end (Set value.now)) }
 {
     if is_plain_set(model, end, value) {
         None
@@ -159,7 +142,7 @@ fn add_put<L: LinkStore>(
     value: &Value,
     index: Option<u32>,
 ) -> Option<Edit>
-    ensures { result ≡ e.made_edit (reading model.now) (Add end.node end.feature value.now index) }
+    ensures { result ≡ e.made_edit (reading model.now) (At end (Add value.now index)) }
 {
     if is_plain_add(model, end, value) {
         None
@@ -218,51 +201,37 @@ fn other_edits<L: LinkStore>(
     ensures { IfOk result (λ p. p ≡ value_edits_of (reading model.now) change) }
 {
     match change {
+        Change::At(end, act) => Ok(edits_at(alloc, model, end, act)),
         Change::Create(class) => Ok(ValuePlan::one(ValueEdit::NewObject(class))),
-        // `drop_edits` makes those of a delete
-        Change::Delete(_) => Ok(ValuePlan::none(alloc)),
         Change::NewResource(uri) => Ok(ValuePlan::one(ValueEdit::NewUri(uri))),
-        Change::Resolve { .. } => Ok(ValuePlan::none(alloc)),
-        Change::ResolveAll => Ok(ValuePlan::none(alloc)),
         Change::Load(_, doc) => load_edits(alloc, model, doc),
-        Change::Set { feature, .. }
-        | Change::Unset { feature, .. }
-        | Change::Add { feature, .. }
-        | Change::Remove { feature, .. }
-        | Change::RemoveValue { feature, .. }
-        | Change::Move { feature, .. }
-            if model.meta().is_reference(feature) => { Ok(ValuePlan::none(alloc)) }
-        Change::Set {
-            node,
-            feature,
-            value,
-        } => Ok(set_edits(alloc, model, node, feature, value)),
-        Change::Unset { node, feature } => {
-            let none = NewValues::from_seq(Seq::new(alloc));
-            Ok(put_list(alloc, node, feature, none, false))
-        }
-        Change::Add {
-            node,
-            feature,
-            value,
-            index,
-        } => Ok(add_value(alloc, model, End { node, feature }, value, index)),
-        Change::Remove {
-            node,
-            feature,
-            index,
-        } => Ok(take_value(alloc, End { node, feature }, index)),
-        Change::RemoveValue {
-            node,
-            feature,
-            value,
-        } => Ok(take_first(alloc, model, End { node, feature }, &value)),
-        Change::Move {
-            node,
-            feature,
-            to,
-            from,
-        } => Ok(move_value(alloc, node, feature, to, from)),
+        // `drop_edits` makes those of a delete
+        Change::Delete(_) | Change::ResolveAll => Ok(ValuePlan::none(alloc)),
+    }
+}
+
+/// What an act makes of values: nothing at a reference.
+fn edits_at<L: LinkStore>(alloc: Global, model: &ModelRef<L>, end: End, act: Act) -> ValuePlan
+    ensures { result ≡ value_edits_of (reading model.now) (At end act) }
+{
+    if model.meta().is_reference(end.feature) {
+        return ValuePlan::none(alloc);
+    }
+    act_edits(alloc, model, end, act)
+}
+
+/// What an act makes of the values of an attribute.
+fn act_edits<L: LinkStore>(alloc: Global, model: &ModelRef<L>, end: End, act: Act) -> ValuePlan
+    ensures { result ≡ effects.act_edits (reading model.now) end act }
+{
+    match act {
+        Act::Set(value) => set_edits(alloc, model, end, value),
+        Act::Unset => put_list(alloc, end, NewValues::from_seq(Seq::new(alloc)), false),
+        Act::Add(value, index) => add_value(alloc, model, end, value, index),
+        Act::Remove(index) => take_value(alloc, end, index),
+        Act::RemoveValue(value) => take_first(alloc, model, end, &value),
+        Act::Move { to, from } => move_value(alloc, end, to, from),
+        Act::Resolve(_) => ValuePlan::none(alloc),
     }
 }
 
@@ -350,13 +319,13 @@ fn take_value(alloc: Global, end: End, index: u32) -> ValuePlan
     }
 }
 
-fn move_value(alloc: Global, node: Node, feature: FeatureNo, to: u32, from: u32) -> ValuePlan
-    ensures { result ≡ effects.of_object node (λ o. MoveValue o feature to from) }
+fn move_value(alloc: Global, end: End, to: u32, from: u32) -> ValuePlan
+    ensures { result ≡ effects.of_object end.node (λ o. MoveValue o end.feature to from) }
 {
-    match node {
+    match end.node {
         Node::Object(object) => ValuePlan::one(ValueEdit::MoveValue {
             object,
-            feature,
+            feature: end.feature,
             to,
             from,
         }),
@@ -365,27 +334,21 @@ fn move_value(alloc: Global, node: Node, feature: FeatureNo, to: u32, from: u32)
 }
 
 /// The edits of a set of an attribute.
-fn set_edits<L: LinkStore>(
-    alloc: Global,
-    model: &ModelRef<L>,
-    node: Node,
-    feature: FeatureNo,
-    value: Value,
-) -> ValuePlan
-    ensures { result ≡ put_values (at_end node feature) (value ∷ []) (shape model.now.metamodel feature).is_unsettable }
+fn set_edits<L: LinkStore>(alloc: Global, model: &ModelRef<L>, end: End, value: Value) -> ValuePlan
+    ensures { result ≡ put_values end (value ∷ []) (shape model.now.metamodel end.feature).is_unsettable }
 {
-    let flag = model.meta().is_unsettable(feature);
-    put_list(alloc, node, feature, NewValues::one(value), flag)
+    let flag = model.meta().is_unsettable(end.feature);
+    put_list(alloc, end, NewValues::one(value), flag)
 }
 
 /// The edits that put a list at an end; none at a resource's, which keeps no values of attributes.
-fn put_list(alloc: Global, node: Node, feature: FeatureNo, list: NewValues, flag: bool) -> ValuePlan
-    ensures { result ≡ put_values (at_end node feature) list flag }
+fn put_list(alloc: Global, end: End, list: NewValues, flag: bool) -> ValuePlan
+    ensures { result ≡ put_values end list flag }
 {
-    match node {
+    match end.node {
         Node::Object(object) => ValuePlan::one(ValueEdit::PutList {
             object,
-            feature,
+            feature: end.feature,
             list,
             flag,
         }),

@@ -4,18 +4,19 @@ ghost use Rattle.std.specs.Option.{option_map_or};
 ghost use Rattle.mm_types.specs.Shapes.{is_containment};
 ghost use Rattle.mm_types.specs.declared.value.Value.TheVariants as value;
 ghost use Rattle.models.specs.Model.{reading};
-ghost use Rattle.models.specs.Reading.{at_end};
 ghost use Rattle.handshake.specs.FeatureChanges as t;
 ghost use Rattle.handshake.specs.FeatureChanges.{destroyed_by, loaded_by, resolves_all, target_of};
+ghost use Rattle.handshake.specs.declared.change.Change.TheVariants.{At};
 
+use crate::act::Act;
 use crate::change::Change;
 use crate::change_kind::{ChangeKind, FeatureChange};
 use crate::displaced::is_plain_set;
-use crate::link_end::{far_end, node_value, opposite_end, turned};
+use crate::link_end::{node_value, opposite_end, turned};
 use crate::target::Target;
 use links::LinkStore;
 use mm_types::{End, ObjectNo, Value};
-use models::{ModelRef, at_end};
+use models::ModelRef;
 use removal::LinkEnd;
 use std::alloc::{AllocError, Global};
 
@@ -35,62 +36,47 @@ pub(crate) fn feature_changes<L: LinkStore>(
     ensures { IfOk result (λ ts. ts.items ≡ t.feature_changes_with (reading model.now) change.now link_ends.now) }
 {
     let mut out = Vec::new(alloc);
-    match change {
-        // `chain` makes the notices of a delete, `loads` those of a load, and `resolving_all` those that resolve all proxies
-        Change::Create(_)
-        | Change::NewResource(_)
-        | Change::Delete(_)
-        | Change::ResolveAll
-        | Change::Load(_, _) => {}
-        Change::Set {
-            node,
-            feature,
-            value,
-        } => push_set(model, at_end(node, feature), value, link_ends, &mut out)?,
-        Change::Unset { node, feature } => {
-            push_far_losses(model, link_ends, &mut out)?;
-            push_emptied(model, at_end(node, feature), &mut out)?;
-        }
-        Change::Add {
-            node,
-            feature,
-            value,
-            index,
-        } => push_added(
-            model,
-            at_end(node, feature),
-            value,
-            *index,
-            link_ends,
-            &mut out,
-        )?,
-        Change::Remove {
-            node,
-            feature,
-            index,
-        } => push_taken_out(model, at_end(node, feature), link_ends, *index, &mut out)?,
-        Change::RemoveValue {
-            node,
-            feature,
-            value,
-        } => push_value_taken_out(model, at_end(node, feature), link_ends, value, &mut out)?,
-        Change::Move {
-            node,
-            feature,
-            to,
-            from,
-        } => push(
-            &mut out,
-            at_end(node, feature),
-            ChangeKind::Moves(*to, *from),
-        )?,
-        Change::Resolve {
-            object,
-            feature,
-            index,
-        } => push_resolved(far_end(*object, *feature), *index, target, &mut out)?,
+    // `chain` makes the notices of a delete, `loads` those of a load, and `resolving_all` those that resolve all proxies
+    if let Change::At(end, act) = change {
+        push_act(model, *end, act, link_ends, target, &mut out)?;
     }
     Ok(out)
+}
+
+/// Adds what an act makes happen, at its end and at others.
+fn push_act<L: LinkStore>(
+    model: &ModelRef<L>,
+    end: End,
+    act: &Act,
+    link_ends: &[LinkEnd],
+    target: Option<Target>,
+    out: &mut Vec<FeatureChange>,
+) -> Result<(), AllocError>
+    requires found { target ≡ target_of (reading model.now) (At end act.now) }
+    ensures { OnOk result (out.new.items ≡ out.old.items ++ t.feature_changes_with (reading model.now) (At end act.now) link_ends.now) }
+{
+    match act {
+        Act::Set(value) => push_set(model, end, value, link_ends, out),
+        Act::Unset => push_unset(model, end, link_ends, out),
+        Act::Add(value, index) => push_added(model, end, value, *index, link_ends, out),
+        Act::Remove(index) => push_taken_out(model, end, link_ends, *index, out),
+        Act::RemoveValue(value) => push_value_taken_out(model, end, link_ends, value, out),
+        Act::Move { to, from } => push(out, end, ChangeKind::Moves(*to, *from)),
+        Act::Resolve(index) => push_resolved(end, *index, target, out),
+    }
+}
+
+/// Adds what happens when a feature is unset: the losses at the far ends, and then the end's own.
+fn push_unset<L: LinkStore>(
+    model: &ModelRef<L>,
+    end: End,
+    link_ends: &[LinkEnd],
+    out: &mut Vec<FeatureChange>,
+) -> Result<(), AllocError>
+    ensures { OnOk result (out.new.items ≡ out.old.items ++ (t.far_losses (reading model.now) link_ends.now ++ t.emptied (reading model.now) end)) }
+{
+    push_far_losses(model, link_ends, out)?;
+    push_emptied(model, end, out)
 }
 
 /// Adds what happens when a proxy is resolved: to the opposite end first.

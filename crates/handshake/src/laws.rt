@@ -2,8 +2,7 @@
 ghost use Rattle.std.specs.Prelude.{◌≡◌, List};
 ghost use Rattle.mm_types.specs.Ends.{Ends};
 ghost use Rattle.mm_types.specs.Resolved.{Metamodel};
-ghost use Rattle.mm_types.specs.declared.numbers.FeatureNo.{FeatureNo};
-ghost use Rattle.mm_types.specs.declared.numbers.Node.{Node};
+ghost use Rattle.mm_types.specs.declared.end.End.{End};
 ghost use Rattle.mm_types.specs.declared.numbers.ResourceNo.{ResourceNo};
 ghost use Rattle.models.specs.Legal.{IsLegal};
 ghost use Rattle.models.specs.Model.{Model};
@@ -45,7 +44,7 @@ pub fn the_chain_of_a_change_replays_it()
 /// said.
 pub fn a_chain_tells_no_end_twice()
     ensures ends { (s : Model) (c : Change) → TellsNoEndTwice s c }
-    ensures far_ends { (s : Model) (n : Node) (f : FeatureNo) → FarEndsAreApart s n f }
+    ensures far_ends { (s : Model) (e : End) → FarEndsAreApart s e }
 {}
 
 /// A change of a legal model, if nothing refuses it, cuts no link twice, by whichever of its ends the link is named.

@@ -4,6 +4,7 @@
 //! tells, and `specs/Displaced.antt` which links a new link displaces.
 #![tactic(auto)]
 
+mod act;
 mod chain;
 mod change;
 mod change_kind;
@@ -30,12 +31,11 @@ mod site;
 mod target;
 mod value_planning;
 
+pub use act::Act;
 pub use change::Change;
 pub use change_kind::{ChangeKind, FeatureChange};
 pub use link_planning::{lone_add, lone_set};
-pub use named::{
-    early_refusal, feature_refusal, list_early_refusal, node_refusal, set_early_refusal,
-};
+pub use named::{early_refusal, list_early_refusal, set_early_refusal};
 pub use planned::{Planned, Resolved};
 pub use planning::plan;
 pub use site::ProxySite;

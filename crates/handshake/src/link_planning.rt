@@ -7,51 +7,46 @@ ghost use Rattle.handshake.specs.Displaced.{displaces, is_plain_add};
 ghost use Rattle.handshake.specs.LonePuts as lone;
 ghost use Rattle.handshake.specs.Plans.{IsPlanOf};
 ghost use Rattle.handshake.specs.Refusals.{early_refusal};
-ghost use Rattle.handshake.specs.declared.change.Change.TheVariants.{Add, Set};
+ghost use Rattle.handshake.specs.declared.act.Act.TheVariants.{Add, Set};
+ghost use Rattle.handshake.specs.declared.change.Change.TheVariants.{At};
 
 use crate::displaced::{displaces, is_plain_add};
 use crate::planning::{add_late_refusal, new_set_refusal};
 use links::{LinkStore, NewLink};
-use mm_types::{End, FeatureNo, Node, ObjectNo, Value};
-use models::{ModelRef, at_end};
+use mm_types::{End, ObjectNo, Value};
+use models::ModelRef;
 
 /// The put of a set of an object, if that is the whole plan: nothing refuses the set, and it displaces no link. Takes no memory.
 #[inline(always)]
-pub fn lone_set<L: LinkStore>(
-    model: &ModelRef<L>,
-    node: Node,
-    feature: FeatureNo,
-    value: &Value,
-) -> Option<NewLink>
-    requires asked { early_refusal (reading model.now) (Set node feature value.now) ≡ None }
-    ensures put { result ≡ lone.lone_put (reading model.now) (Set node feature value.now) }
-    ensures plan { IfSome result (λ p. IsPlanOf false model.now (Set node feature value.now) (lone.of_put p)) }
+pub fn lone_set<L: LinkStore>(model: &ModelRef<L>, end: End, value: &Value) -> Option<NewLink>
+    requires asked { early_refusal (reading model.now) (At end (Set value.now)) ≡ None }
+    ensures put { result ≡ lone.lone_put (reading model.now) (At end (Set value.now)) }
+    ensures plan { IfSome result (λ p. IsPlanOf false model.now (At end (Set value.now)) (lone.of_put p)) }
 {
     model.lemma_is_legal();
-    put_of_set(model, at_end(&node, &feature), value)
+    put_of_set(model, end, value)
 }
 
 /// The put of an addition of an object, as `lone_set` has it. Takes no memory.
 #[inline(always)]
 pub fn lone_add<L: LinkStore>(
     model: &ModelRef<L>,
-    node: Node,
-    feature: FeatureNo,
+    end: End,
     value: &Value,
     index: Option<u32>,
 ) -> Option<NewLink>
-    requires asked { early_refusal (reading model.now) (Add node feature value.now index) ≡ None }
-    ensures put { result ≡ lone.lone_put (reading model.now) (Add node feature value.now index) }
-    ensures plan { IfSome result (λ p. IsPlanOf false model.now (Add node feature value.now index) (lone.of_put p)) }
+    requires asked { early_refusal (reading model.now) (At end (Add value.now index)) ≡ None }
+    ensures put { result ≡ lone.lone_put (reading model.now) (At end (Add value.now index)) }
+    ensures plan { IfSome result (λ p. IsPlanOf false model.now (At end (Add value.now index)) (lone.of_put p)) }
 {
     model.lemma_is_legal();
-    put_of_add(model, at_end(&node, &feature), value, index)
+    put_of_add(model, end, value, index)
 }
 
 #[inline(always)]
 fn put_of_set<L: LinkStore>(model: &ModelRef<L>, end: End, value: &Value) -> Option<NewLink>
     requires single { (shape model.now.metamodel end.feature).is_single ≡ true }
-    ensures { result ≡ lone.lone_set (reading model.now) (Set end.node end.feature value.now) end value.now }
+    ensures { result ≡ lone.lone_set (reading model.now) (At end (Set value.now)) end value.now }
 {
     let Value::Object(object) = value else {
         return None;
@@ -76,7 +71,7 @@ fn put_of_add<L: LinkStore>(
     value: &Value,
     index: Option<u32>,
 ) -> Option<NewLink>
-    ensures { result ≡ lone.lone_add (reading model.now) (Add end.node end.feature value.now index) end value.now index }
+    ensures { result ≡ lone.lone_add (reading model.now) (At end (Add value.now index)) end value.now index }
 {
     let Value::Object(object) = value else {
         return None;

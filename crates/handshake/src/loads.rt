@@ -7,10 +7,10 @@ ghost use Rattle.doc_loader.specs.Fits.{IsNumbered};
 ghost use Rattle.handshake.specs.Refusals as refusals;
 ghost use Rattle.handshake.specs.Reports.{root_notice as root_notice_of};
 
-use doc_loader::{contents_end, loaded};
+use doc_loader::loaded;
 use links::LinkStore;
 use mm_types::{End, ObjectNo, Refused, ResourceNo, Value, limits};
-use models::ModelRef;
+use models::{ModelRef, contents_end};
 use notice_chain::{Chain, Notice, NoticeKind};
 use resource_docs::Doc;
 use std::alloc::{AllocError, Global};

@@ -11,8 +11,10 @@ ghost use Rattle.handshake.specs.Effects.{value_edits as value_edits_of};
 ghost use Rattle.handshake.specs.Plans.{HasFittingDocument, HasReadDocument, IsPlanOf, IsRemovalOf, Plans};
 ghost use Rattle.handshake.specs.Refusals as refusals;
 ghost use Rattle.handshake.specs.FeatureChanges as t;
-ghost use Rattle.handshake.specs.declared.change.Change.TheVariants.{Add};
+ghost use Rattle.handshake.specs.declared.act.Act.TheVariants.{Add};
+ghost use Rattle.handshake.specs.declared.change.Change.TheVariants.{At};
 
+use crate::act::Act;
 use crate::chain::{lost_notices, notices};
 use crate::change::Change;
 use crate::destroyed::removal_of;
@@ -20,17 +22,15 @@ use crate::displaced::{cut_link_ends, has_already};
 use crate::edits::{link_edits, value_edits};
 use crate::feature_change::feature_changes;
 use crate::gains::{gain_refusal, link_refusal};
-use crate::link_end::far_end;
 use crate::loads::{load_refusal, root_notices};
 use crate::planned::Planned;
 use crate::resolving::{resolve_refusal, target_of};
 use crate::resolving_all::all_resolved;
 use crate::target::Target;
-use doc_loader::contents_end;
 use links::{LinkStore, Plan};
 use mm_types::{End, FeatureNo, ObjectNo, Refused, Text, Value, limits};
 use mm_values::ValuePlan;
-use models::{ModelRef, at_end, is_short, is_short_text};
+use models::{ModelRef, contents_end, is_short, is_short_text};
 use notice_chain::Chain;
 use removal::{LinkEnd, Removal};
 use std::alloc::{AllocError, Global};
@@ -155,44 +155,37 @@ pub(crate) fn late_refusal<L: LinkStore>(
     ensures { result ≡ refusals.late_refusal (reading model.now) change.now }
 {
     match change {
+        Change::At(end, act) => act_late_refusal(model, *end, act, target),
         Change::Create(_) => create_late_refusal(model),
-        Change::Unset { .. } | Change::Delete(_) | Change::ResolveAll => None,
         Change::NewResource(uri) => uri_refusal(model, uri),
-        Change::Resolve {
-            object,
-            feature,
-            index,
-        } => resolve_refusal(model, far_end(*object, *feature), *index, target),
         Change::Load(resource, doc) => load_refusal(model, *resource, doc),
-        Change::Set {
-            node,
-            feature,
-            value,
-        } => set_late_refusal(model, at_end(node, feature), value),
-        Change::Add {
-            node,
-            feature,
-            value,
-            index,
-        } => {
-            let end = at_end(node, feature);
+        Change::Delete(_) | Change::ResolveAll => None,
+    }
+}
+
+/// `late_refusal` of what is done at an end.
+fn act_late_refusal<L: LinkStore>(
+    model: &ModelRef<L>,
+    end: End,
+    act: &Act,
+    target: Option<Target>,
+) -> Option<Refused>
+    requires found { target ≡ t.target_of (reading model.now) (At end act.now) }
+    ensures { result ≡ refusals.late_refusal (reading model.now) (At end act.now) }
+{
+    match act {
+        Act::Set(value) => set_late_refusal(model, end, value),
+        Act::Unset => None,
+        Act::Add(value, index) => {
             add_late_refusal(model, end, value, *index, model.is_repeat(end, value))
         }
-        Change::RemoveValue { feature, value, .. } => type_refusal(model, *feature, value),
-        Change::Remove {
-            node,
-            feature,
-            index,
-        } => index_refusal(*index < model.len(at_end(node, feature))),
-        Change::Move {
-            node,
-            feature,
-            to,
-            from,
-        } => {
-            let len = model.len(at_end(node, feature));
+        Act::Remove(index) => index_refusal(*index < model.len(end)),
+        Act::RemoveValue(value) => type_refusal(model, end.feature, value),
+        Act::Move { to, from } => {
+            let len = model.len(end);
             index_refusal(*to < len && *from < len)
         }
+        Act::Resolve(index) => resolve_refusal(model, end, *index, target),
     }
 }
 
@@ -247,7 +240,7 @@ pub(crate) fn add_late_refusal<L: LinkStore>(
     repeats: bool,
 ) -> Option<Refused>
     requires repeats { repeats ≡ is_repeat (reading model.now) end value.now }
-    ensures { result ≡ refusals.late_refusal (reading model.now) (Add end.node end.feature value.now index) }
+    ensures { result ≡ refusals.late_refusal (reading model.now) (At end (Add value.now index)) }
 {
     if let Some(refused) = type_refusal(model, end.feature, value) {
         return Some(refused);

@@ -14,8 +14,9 @@ ghost use Rattle.handshake.specs.Refusals as refusals;
 ghost use Rattle.handshake.specs.Resolving as resolving;
 ghost use Rattle.handshake.specs.FeatureChanges as t;
 
+use crate::act::Act;
 use crate::change::Change;
-use crate::link_end::{far_end, opposite_end};
+use crate::link_end::opposite_end;
 use crate::target::{Counterpart, Target};
 use fragment_paths::object_at;
 use links::LinkStore;
@@ -34,11 +35,7 @@ pub(crate) fn target_of<L: LinkStore>(
     ensures failed { IfErr result (λ _. IsTrue (looks_first change.now)) }
 {
     match change {
-        Change::Resolve {
-            object,
-            feature,
-            index,
-        } => target_at(alloc, model, far_end(*object, *feature), *index),
+        Change::At(end, Act::Resolve(index)) => target_at(alloc, model, *end, *index),
         _ => Ok(None),
     }
 }

@@ -5,18 +5,19 @@ ghost use Rattle.models.specs.Model.{reading};
 ghost use Rattle.handshake.specs.Effects.{value_edits as value_edits_of};
 ghost use Rattle.handshake.specs.Plans.{HasReadDocument, is_memory_refusal, looks_first};
 ghost use Rattle.handshake.specs.Refusals as refusals;
-ghost use Rattle.handshake.specs.declared.change.Change.TheVariants.{Create, Set};
+ghost use Rattle.handshake.specs.declared.act.Act.TheVariants.{Set};
+ghost use Rattle.handshake.specs.declared.change.Change.TheVariants.{At, Create};
 
 use crate::change::Change;
 use crate::destroyed::removal_of;
 use crate::edits::value_edits;
-use crate::named::{class_refusal, set_early_refusal};
+use crate::named::set_early_refusal;
 use crate::planning::{create_late_refusal, late_refusal, set_late_refusal};
 use crate::resolving::target_of;
 use links::LinkStore;
-use mm_types::{ClassNo, FeatureNo, Node, Refused, Value};
+use mm_types::{ClassNo, End, Refused, Value};
 use mm_values::ValuePlan;
-use models::{ModelRef, at_end};
+use models::{ModelRef, class_refusal};
 use std::alloc::Global;
 
 /// The edits of values that a change makes, or the first refusal that planning finds: the part of `plan` that is left of a change that
@@ -45,16 +46,15 @@ pub fn plan_values<L: LinkStore>(
 #[inline(always)]
 pub fn attribute_refusal<L: LinkStore>(
     model: &ModelRef<L>,
-    node: Node,
-    feature: FeatureNo,
+    end: End,
     value: &Value,
 ) -> Option<Refused>
-    ensures { result ≡ (refusals.early_refusal (reading model.now) (Set node feature value.now) else_by refusals.late_refusal (reading model.now) (Set node feature value.now)) }
+    ensures { result ≡ (refusals.early_refusal (reading model.now) (At end (Set value.now)) else_by refusals.late_refusal (reading model.now) (At end (Set value.now))) }
 {
-    if let Some(refused) = set_early_refusal(model, node, feature, value) {
+    if let Some(refused) = set_early_refusal(model, end, value) {
         return Some(refused);
     }
-    set_late_refusal(model, at_end(&node, &feature), value)
+    set_late_refusal(model, end, value)
 }
 
 /// Why an object of a class can't be made, if not for memory: `NoClass`, `Abstract`, or `Limit` if 1,000,000 objects were made. Takes no

@@ -11,10 +11,13 @@ pub use mm_check::check;
 pub use mm_load::load_meta;
 pub use mm_meta::Meta;
 pub use mm_types::{
-    AdapterNo, Class, ClassNo, DataType, DocFault, Enumeration, Feature, FeatureNo, Kind,
+    AdapterNo, Class, ClassNo, DataType, DocFault, End, Enumeration, Feature, FeatureNo, Kind,
     MetaFault, Node, ObjectNo, RawMeta, Refused, ResourceNo, Seq, Text, Value, limits,
 };
 pub use models::Found;
 pub use notice_chain::{NO_INDEX, Notice, NoticeKind, Target};
-pub use repository::{Answer, Command, Failure, FeatureValue, Reply, Repository, laws};
+pub use repository::{
+    Act, Answer, Command, EndRead, Failure, FeatureValue, NodeRead, ObjectRead, Read, Reply,
+    Repository, Tally, laws,
+};
 pub use snapshots::{FeatureState, NodeState, Snapshot, replay};

@@ -3,8 +3,8 @@ use crate::books::{BOOK, NAME, RowRepository, attach, object, one_book, text};
 use crate::replies::{given, made, outcome_text};
 use crate::telling::{Kind, adapter};
 use adapters::{Adapter, Counter};
-use mm_types::{AdapterNo, Node, Refused, ResourceNo};
-use repository::Command;
+use mm_types::{AdapterNo, End, Node, Refused, ResourceNo};
+use repository::{Act, Command, Read, Tally};
 use std::alloc::{AllocError, Global};
 use std::test::Fail;
 
@@ -123,13 +123,13 @@ fn attach_command<A>(no: u32, target: Node, adapter: A) -> Command<A> {
 fn commands<A: Adapter>(alloc: Global, adapter: A) -> Result<Vec<Command<A>>, AllocError> {
     let mut commands = Vec::new(alloc);
     commands.push(attach_command(5, object(0), adapter))?;
-    commands.push(Command::Set {
+    let end = End {
         node: object(0),
         feature: NAME,
-        value: text(alloc, "Emma")?,
-    })?;
-    commands.push(Command::AdapterTold(NO))?;
-    commands.push(Command::AdapterKept(NO))?;
+    };
+    commands.push(Command::At(end, Act::Set(text(alloc, "Emma")?)))?;
+    commands.push(Command::Read(Read::Adapter(NO, Tally::Told)))?;
+    commands.push(Command::Read(Read::Adapter(NO, Tally::Kept)))?;
     commands.push(Command::Detach(NO))?;
     Ok(commands)
 }
@@ -187,8 +187,8 @@ fn refused_commands(alloc: Global) -> Result<Vec<Command<Counter>>, AllocError> 
         attach_command(5, object(0), heard()),
         attach_command(9, object(0), full),
         Command::Detach(AdapterNo(9)),
-        Command::AdapterTold(AdapterNo(9)),
-        Command::AdapterKept(AdapterNo(9)),
+        Command::Read(Read::Adapter(AdapterNo(9), Tally::Told)),
+        Command::Read(Read::Adapter(AdapterNo(9), Tally::Kept)),
     ]?;
     Ok(commands)
 }

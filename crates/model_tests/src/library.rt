@@ -1,7 +1,7 @@
 //! A metamodel of libraries and folders, and steps that change models of it.
 use crate::books::object;
-use mm_types::{ClassNo, FeatureNo, Node, ObjectNo, ResourceNo, Text, Value};
-use repository::Command;
+use mm_types::{ClassNo, End, FeatureNo, Node, ObjectNo, ResourceNo, Text, Value};
+use repository::{Act, Command};
 use std::alloc::{AllocError, Global};
 
 /// Libraries with books, persons who like books, and folders in folders.
@@ -91,21 +91,15 @@ pub(crate) enum Step<'a> {
     ResolveAll,
 }
 
-fn set<A>(number: u32, feature: u32, value: Value) -> Command<A> {
-    Command::Set {
-        node: object(number),
-        feature: FeatureNo(feature),
-        value,
-    }
+/// What is done at a feature of an object.
+fn at<A>(number: u32, feature: u32, act: Act) -> Command<A> {
+    let (node, feature) = (object(number), FeatureNo(feature));
+    Command::At(End { node, feature }, act)
 }
 
 fn add<A>(node: Node, feature: u32, value: Value, index: Option<u32>) -> Command<A> {
-    Command::Add {
-        node,
-        feature: FeatureNo(feature),
-        value,
-        index,
-    }
+    let feature = FeatureNo(feature);
+    Command::At(End { node, feature }, Act::Add(value, index))
 }
 
 fn resource(number: u32) -> Node {
@@ -120,42 +114,23 @@ fn value(number: u32) -> Value {
 pub(crate) fn command<A>(alloc: Global, step: Step<'_>) -> Result<Command<A>, AllocError> {
     Ok(match step {
         Step::New(class) => Command::Create(ClassNo(class)),
-        Step::Set(of, feature, to) => set(of, feature, value(to)),
-        Step::SetNumber(of, feature, to) => set(of, feature, Value::Int(to)),
-        Step::SetNull(of, feature) => set(of, feature, Value::Null),
-        Step::Unset(of, feature) => Command::Unset {
-            node: object(of),
-            feature: FeatureNo(feature),
-        },
+        Step::Set(of, feature, to) => at(of, feature, Act::Set(value(to))),
+        Step::SetNumber(of, feature, to) => at(of, feature, Act::Set(Value::Int(to))),
+        Step::SetNull(of, feature) => at(of, feature, Act::Set(Value::Null)),
+        Step::Unset(of, feature) => at(of, feature, Act::Unset),
         Step::Add(to, feature, one) => add(object(to), feature, value(one), None),
         Step::AddFirst(to, feature, one) => add(object(to), feature, Value::Int(one), Some(0)),
         Step::AddText(to, feature, text) => {
             let text = Value::Text(Text::from_str(alloc, text)?);
             add(object(to), feature, text, None)
         }
-        Step::Remove(of, feature, index) => Command::Remove {
-            node: object(of),
-            feature: FeatureNo(feature),
-            index,
-        },
-        Step::Move(of, feature, to, from) => Command::Move {
-            node: object(of),
-            feature: FeatureNo(feature),
-            to,
-            from,
-        },
+        Step::Remove(of, feature, index) => at(of, feature, Act::Remove(index)),
+        Step::Move(of, feature, to, from) => at(of, feature, Act::Move { to, from }),
         Step::Delete(one) => Command::Delete(ObjectNo(one)),
         Step::Resource(text) => Command::CreateResource(Text::from_str(alloc, text)?),
         Step::AddRoot(to, one) => add(resource(to), CONTENTS, value(one), None),
-        Step::Load(into, text) => Command::Load {
-            resource: ResourceNo(into),
-            text: Text::from_str(alloc, text)?,
-        },
-        Step::Resolve(of, feature, index) => Command::Resolve {
-            object: ObjectNo(of),
-            feature: FeatureNo(feature),
-            index,
-        },
+        Step::Load(into, text) => { Command::Load(ResourceNo(into), Text::from_str(alloc, text)?) }
+        Step::Resolve(of, feature, index) => at(of, feature, Act::Resolve(index)),
         Step::ResolveAll => Command::ResolveAll,
     })
 }

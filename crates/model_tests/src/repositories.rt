@@ -2,21 +2,21 @@
 use crate::books::{BOOK, NAME, RowRepository, object, repository, text};
 use crate::replies::outcomes_text;
 use adapters::Adapter;
-use repository::Command;
+use mm_types::End;
+use repository::{Act, Command, EndRead, Read};
 use std::alloc::{AllocError, Global};
 use std::test::Fail;
 
 /// A book is made, named and read.
 fn commands<A: Adapter>(alloc: Global) -> Result<Vec<Command<A>>, AllocError> {
-    let (node, feature) = (object(0), NAME);
+    let end = End {
+        node: object(0),
+        feature: NAME,
+    };
     let mut commands = Vec::new(alloc);
     commands.push(Command::Create(BOOK))?;
-    commands.push(Command::Set {
-        node,
-        feature,
-        value: text(alloc, "Emma")?,
-    })?;
-    commands.push(Command::Get { node, feature })?;
+    commands.push(Command::At(end, Act::Set(text(alloc, "Emma")?)))?;
+    commands.push(Command::Read(Read::At(end, EndRead::Get)))?;
     Ok(commands)
 }
 

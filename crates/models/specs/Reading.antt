@@ -35,6 +35,14 @@ pub record Reading : Type 0 where
 abbrev pub at_end : Node → FeatureNo → End
 at_end n f = record { node = n; feature = f }
 
+-- the end of a resource that holds its roots (EMF: Resource.getContents), in any model of a metamodel
+abbrev pub contents_end : Metamodel → ResourceNo → End
+contents_end m k = at_end (node.Resource k) (lookups.contents m)
+
+-- and in this one
+abbrev pub roots_end : Reading → ResourceNo → End
+roots_end r k = contents_end r.metamodel k
+
 -- the shape of an end's feature
 abbrev pub shape_at : Reading → End → Shape
 shape_at r e = shape r.metamodel e.feature

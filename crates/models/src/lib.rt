@@ -1,14 +1,18 @@
 //! A model as data: its metamodel, its values and its links together, what its ends hold, and which models are legal.
 //!
-//! `specs/Reading.antt` is what can be read of a model, `specs/Legal.antt` which models are legal. `ModelRef` reads a model in
-//! its parts.
+//! `specs/Reading.antt` is what can be read of a model, `specs/Legal.antt` which models are legal, `specs/Existence.antt` why
+//! what a call names is not there. `ModelRef` reads a model in its parts.
 #![tactic(auto)]
 
+mod ends;
+mod existence;
 mod features;
 mod lists;
 mod model_ref;
 mod reads;
 
+pub use ends::{contents_end, roots_end};
+pub use existence::{class_refusal, end_refusal, node_refusal, object_refusal, value_refusal};
 pub use features::{is_short, is_short_text};
 pub use lists::copied_list;
 pub use model_ref::ModelRef;

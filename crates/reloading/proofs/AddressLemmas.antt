@@ -19,7 +19,7 @@ use Rattle.web_uris.specs.Addresses.{address_text}
 use Rattle.links.specs.Holders.{above, holder}
 use Rattle.models.specs.Legal.{IsLegal}
 use Rattle.models.specs.Model.{Model, reading, values_at}
-use Rattle.models.specs.Reading.{at_end}
+use Rattle.models.specs.Reading.{at_end, contents_end}
 use Rattle.containment.proofs.PartLemmas.{live-made}
 use Rattle.containment.specs.Above.{resource_node, resource_of}
 use Rattle.fragment_paths.proofs.HeldLemmas.{held, held-root}
@@ -29,7 +29,7 @@ use Rattle.fragment_paths.proofs.StayLemmas.{address-finds, one-address}
 use Rattle.fragment_paths.specs.Fragments.{address, fragment, position_in}
 use Rattle.resource_docs.specs.declared.doc.Doc.{Doc}
 use Rattle.round_trip.proofs.ShapeLemmas.{live-inside}
-use Rattle.doc_loader.specs.Loading.{contents_end, is_empty_resource}
+use Rattle.doc_loader.specs.Loading.{is_empty_resource}
 use Rattle.handshake.specs.Effects.{after}
 use Rattle.handshake.specs.Laws.{comes_with}
 use Rattle.handshake.specs.Loaded.{IsLoaded}

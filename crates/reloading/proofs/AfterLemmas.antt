@@ -20,17 +20,18 @@ use Rattle.mm_types.proofs.SameLemmas.{same_end-self, same_end-true}
 use Rattle.links.specs.Links.{far_end}
 use Rattle.models.specs.Legal.{IsLegal}
 use Rattle.models.specs.Model.{Model, model_of, reading, values_at}
-use Rattle.models.specs.Reading.{at_end}
+use Rattle.models.specs.Reading.{at_end, roots_end}
 use Rattle.containment.proofs.DistinctLemmas.{features-distinct}
 use Rattle.containment.proofs.PartLemmas.{kinds-are, values-linked}
 use Rattle.containment.specs.Forest.{object_node}
 use Rattle.fragment_paths.proofs.StayLemmas.{one-address}
-use Rattle.fragment_paths.specs.Fragments.{address, roots_end}
+use Rattle.fragment_paths.specs.Fragments.{address}
 use Rattle.round_trip.proofs.ListLemmas.{each-of, map-each}
 use Rattle.handshake.specs.Effects.{after}
 use Rattle.handshake.specs.Refusals.{early_refusal, late_refusal}
 use Rattle.handshake.specs.Resolving.{counterpart, first_to, target, target_at}
-use Rattle.handshake.specs.declared.change.Change.TheVariants.{Resolve}
+use Rattle.handshake.specs.declared.change.Change.TheVariants.{At}
+use Rattle.handshake.specs.declared.act.Act.TheVariants.{Resolve}
 use Rattle.handshake.specs.declared.target.Counterpart.{Counterpart}
 use Rattle.reloading.specs.Addressed.{By, meant}
 use Rattle.reloading.specs.Alike.{HasSame, HaveSame, IsThere}
@@ -62,12 +63,12 @@ module _ (left : LeftProxy) where
   aim-at = goal-at left
 
   abbrev u : Model
-  u = after (model_of s.metamodel w c) (Resolve p f i)
+  u = after (model_of s.metamodel w c) (At (at_end (node.Object p) f) (Resolve i))
 
-  early : early_refusal (reading t) (Resolve p f i) ≡ None
+  early : early_refusal (reading t) (At (at_end (node.Object p) f) (Resolve i)) ≡ None
   early = early-none left
 
-  late : late_refusal (reading t) (Resolve p f i) ≡ None
+  late : late_refusal (reading t) (At (at_end (node.Object p) f) (Resolve i)) ≡ None
   late = late-none left
 
   found : target_at (reading t) e i ≡ Some (target (reading t) e aim)

@@ -6,8 +6,7 @@ use Rattle.mm_types.specs.declared.numbers.Node.TheVariants as node
 use Rattle.mm_types.specs.declared.numbers.ObjectNo.{ObjectNo}
 use Rattle.mm_types.specs.declared.value.Value.{Value}
 use Rattle.mm_types.specs.declared.value.Value.TheVariants as value
-use Rattle.models.specs.Reading.{Reading, at_end}
-use Rattle.fragment_paths.specs.Fragments.{roots_end}
+use Rattle.models.specs.Reading.{Reading, at_end, roots_end}
 use Rattle.round_trip.proofs.ListLemmas.{each-of, map-each}
 use Rattle.reloading.specs.Addressed.{meant, named}
 use Rattle.reloading.specs.Alike.{Alike, IsThere}

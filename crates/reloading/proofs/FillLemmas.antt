@@ -19,11 +19,10 @@ use Rattle.mm_values.specs.Values.{ValuesState}
 use Rattle.links.specs.Links.{Links}
 use Rattle.models.specs.Legal.{IsLegal}
 use Rattle.models.specs.Model.{Model, model_of, reading, values_at}
-use Rattle.models.specs.Reading.{Reading, at_end, has_resource}
+use Rattle.models.specs.Reading.{Reading, at_end, has_resource, roots_end}
 use Rattle.models.specs.Steady.{HasSteadyTexts}
 use Rattle.containment.proofs.PartLemmas.{live-made}
 use Rattle.containment.specs.Above.{resource_node, resource_of}
-use Rattle.fragment_paths.specs.Fragments.{roots_end}
 use Rattle.doc_writer.specs.Written.{objects_in}
 use Rattle.resource_docs.specs.declared.doc.Doc.{Doc}
 use Rattle.round_trip.specs.Copied.{copied, object_copied}

@@ -23,7 +23,7 @@ use Rattle.links.specs.Holders.{above, holder}
 use Rattle.links.specs.Links.{Links}
 use Rattle.models.specs.Legal.{IsLegal}
 use Rattle.models.specs.Model.{Model, kept_flag, kept_values, model_of, reading, values_at}
-use Rattle.models.specs.Reading.{Reading, at_end, object_of, objects_of}
+use Rattle.models.specs.Reading.{Reading, at_end, contents_end, object_of, objects_of}
 use Rattle.containment.proofs.PartLemmas.{contains-itself, contains-reference, holder-at, kinds-are}
 use Rattle.containment.specs.Above.{resource_of}
 use Rattle.fragment_paths.proofs.HeldLemmas.{held}
@@ -37,7 +37,7 @@ use Rattle.doc_writer.specs.Written.{objects_in}
 use Rattle.resource_docs.specs.Read.{values_in, values_under}
 use Rattle.resource_docs.specs.declared.doc.Doc.{Doc}
 use Rattle.resource_docs.specs.declared.doc.DocObject.{DocObject}
-use Rattle.doc_loader.specs.Loading.{contents_end, loaded, loaded_value}
+use Rattle.doc_loader.specs.Loading.{loaded, loaded_value}
 use Rattle.doc_loader.proofs.SoundLemmas.{at-map}
 use Rattle.round_trip.specs.Copied.{copied, object_copied, renamed, root_copied}
 use Rattle.round_trip.proofs.ContainLemmas.{reference-plain}

@@ -21,7 +21,7 @@ use Rattle.links.specs.Links.{Links, end, text_of}
 use Rattle.links.proofs.SideLemmas.{both_ends_agree}
 use Rattle.models.specs.Legal.{IsLegal, kinds_of}
 use Rattle.models.specs.Model.{Model, model_of, reading, values_at}
-use Rattle.models.specs.Reading.{Reading, at_end, object_of, has_resource, has_uri, is_live}
+use Rattle.models.specs.Reading.{Reading, at_end, has_resource, has_uri, is_live, object_of, roots_end}
 use Rattle.models.specs.Steady.{HasSteadyTexts}
 use Rattle.models.proofs.PlaceLemmas.{has-at, index-at}
 use Rattle.containment.proofs.PartLemmas.{holder-at, kinds-are, live-made, values-linked}
@@ -32,7 +32,7 @@ use Rattle.fragment_paths.proofs.InsideLemmas.{contents-contains}
 use Rattle.fragment_paths.proofs.StayLemmas.{one-address}
 use Rattle.fragment_paths.proofs.UpLemmas.{resource-part, resource-root}
 use Rattle.fragment_paths.specs.Finding.{at}
-use Rattle.fragment_paths.specs.Fragments.{address, roots_end}
+use Rattle.fragment_paths.specs.Fragments.{address}
 use Rattle.doc_writer.specs.Written.{objects_in, written_features}
 use Rattle.doc_loader.specs.Loading.{loaded_value}
 use Rattle.doc_loader.proofs.SideLemmas.{opposite-reference}

@@ -23,14 +23,14 @@ use Rattle.web_uris.specs.Joined.{IsJoined}
 use Rattle.links.specs.Links.{Links, end}
 use Rattle.models.specs.Legal.{IsLegal, is_legal_end, is_short_text}
 use Rattle.models.specs.Model.{Model, model_of, reading, values_at}
-use Rattle.models.specs.Reading.{Reading, has_resource, has_uri}
+use Rattle.models.specs.Reading.{Reading, has_resource, has_uri, roots_end}
 use Rattle.models.specs.Steady.{HasSteadyTexts}
 use Rattle.containment.proofs.PartLemmas.{contains-itself, contains-reference, values-linked}
 use Rattle.fragment_paths.proofs.AddressLemmas.{named-at}
 use Rattle.fragment_paths.proofs.FoundLemmas.{located-object}
 use Rattle.fragment_paths.proofs.ImageLemmas.{address-image}
 use Rattle.fragment_paths.proofs.InsideLemmas.{contents-contains}
-use Rattle.fragment_paths.specs.Fragments.{address, roots_end}
+use Rattle.fragment_paths.specs.Fragments.{address}
 use Rattle.doc_loader.proofs.SoundLemmas.{any-at, map-at}
 use Rattle.round_trip.proofs.ValuesListLemmas.{stands}
 use Rattle.handshake.specs.Effects.{after}

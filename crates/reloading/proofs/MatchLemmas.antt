@@ -37,7 +37,8 @@ use Rattle.doc_parts.proofs.WayLemmas.{position_cons}
 use Rattle.round_trip.proofs.ValuesListLemmas.{stands}
 use Rattle.handshake.specs.Refusals.{early_refusal, is_mistyped, late_refusal, target_refusal}
 use Rattle.handshake.specs.Resolving.{counterpart, first_to, is_unmatched, leads_to, proxy_at, target, target_at}
-use Rattle.handshake.specs.declared.change.Change.TheVariants.{Resolve}
+use Rattle.handshake.specs.declared.change.Change.TheVariants.{At}
+use Rattle.handshake.specs.declared.act.Act.TheVariants.{Resolve}
 use Rattle.handshake.specs.declared.target.Counterpart.{Counterpart}
 use Rattle.reloading.specs.Addressed.{By, meant}
 use Rattle.reloading.specs.Alike.{HasSame}
@@ -222,7 +223,7 @@ module _ (left : LeftProxy) where
       by true (Some k) h = refl
       by false q h = absurd (none-some goal h)
 
-  pub late-none : late_refusal (reading t) (Resolve p f i) ≡ None
+  pub late-none : late_refusal (reading t) (At (at_end (node.Object p) f) (Resolve i)) ≡ None
   late-none =
       let low : nat_lt i (length (values_at t e)) ≡ true = let within = slice_get_within (values_at t e) i (value.Proxy text) here in grind (arith, nat_tests) in
       let typed : is_mistyped (reading t) e (Some (target (reading t) e goal)) ≡ false = λ j. not (reference j) || not (goal-taken j) in
@@ -239,7 +240,7 @@ module _ (left : LeftProxy) where
       Unresolved unless true else_by
       Unmatched where_so unmatched-never j)
 
-  pub early-none : early_refusal (reading t) (Resolve p f i) ≡ None
+  pub early-none : early_refusal (reading t) (At (at_end (node.Object p) f) (Resolve i)) ≡ None
   early-none = λ j.
       (NoObject unless live j else_by
       NoResource unless true) else_by

@@ -3,6 +3,8 @@ use Rattle.std.proofs.Common.{◌≡◌, ℕ, zero, suc, ◌+◌, ◌<◌, Bool,
 use Rattle.std.specs.List.{range_with_len}
 use Rattle.std.proofs.lemmas.Option.{none-some}
 use Rattle.mm_types.specs.Shapes.{shape}
+use Rattle.mm_types.specs.declared.numbers.FeatureNo.{FeatureNo}
+use Rattle.mm_types.specs.declared.numbers.Node.{Node}
 use Rattle.mm_types.specs.declared.numbers.Node.TheVariants as node
 use Rattle.mm_types.specs.declared.numbers.ObjectNo.{ObjectNo}
 use Rattle.mm_values.specs.Values.{ValuesState}
@@ -15,7 +17,8 @@ use Rattle.round_trip.proofs.ValuesListLemmas.{passes-kept, stands}
 use Rattle.handshake.specs.Effects.{after}
 use Rattle.handshake.specs.Proxies.{is_proxy_site, site, sites, sites_of, sites_under}
 use Rattle.handshake.specs.declared.change.Change.{Change}
-use Rattle.handshake.specs.declared.change.Change.TheVariants.{Resolve}
+use Rattle.handshake.specs.declared.change.Change.TheVariants.{At}
+use Rattle.handshake.specs.declared.act.Act.TheVariants.{Resolve}
 use Rattle.handshake.specs.declared.site.ProxySite.{ProxySite}
 use Rattle.reloading.specs.Alike.{Alike}
 use Rattle.reloading.specs.Between.{Between}
@@ -25,7 +28,7 @@ use Rattle.reloading.specs.Reload.{AreResolves}
 use Rattle.reloading.proofs.AfterLemmas.{now-legal}
 use Rattle.reloading.proofs.AlikeLemmas.{alike-of}
 use Rattle.reloading.proofs.LeftLemmas.{none-left}
-use Rattle.reloading.proofs.ResolveLemmas.{left-at, resolves-between}
+use Rattle.reloading.proofs.ResolveLemmas.{left-at, none-at-root, resolves-between}
 
 ---------------------------------------------------------------- a proxy that is left
 
@@ -53,14 +56,19 @@ module _ (s : Model) (legal : IsLegal s) (none : HasNoProxy (reading s)) where
     pub allowed : AreAllowed t cs
     pub alike : Alike (reading s) (reading (after_all t cs))
 
+  -- a proxy is resolved, which is one of an object, and then the rest
+  first-resolved : (n : Node) (f : FeatureNo) (i : ℕ) (cs : List Change) → ((w : ValuesState) (b : Links) → IsLegal (model_of s.metamodel w b) → Between (reading s) (reading (model_of s.metamodel w b)) → AreResolves (model_of s.metamodel w b) cs → AreDone (model_of s.metamodel w b) cs)
+      → (w : ValuesState) (b : Links) → IsLegal (model_of s.metamodel w b) → Between (reading s) (reading (model_of s.metamodel w b)) → AreResolves (model_of s.metamodel w b) (At (at_end n f) (Resolve i) ∷ cs) → AreDone (model_of s.metamodel w b) (At (at_end n f) (Resolve i) ∷ cs)
+  first-resolved (node.Object o) f i cs rest_of w b other between resolves =
+      let u = after (model_of s.metamodel w b) (At (at_end (node.Object o) f) (Resolve i)) in
+      let one = resolves-between s w b legal other none between o f i resolves.0 in
+      let rest = rest_of u.values u.links (now-legal (left-at s w b legal other none between o f i resolves.0)) one.between resolves.1 in
+      record { allowed = (record { early = one.early; late = one.late }, rest.allowed); alike = rest.alike }
+  first-resolved (node.Resource k) f i cs rest_of w b other between resolves = absurd (none-at-root (model_of s.metamodel w b) other k f i resolves.0)
+
   pub all-resolved : (cs : List Change) (w : ValuesState) (b : Links) → IsLegal (model_of s.metamodel w b) → Between (reading s) (reading (model_of s.metamodel w b)) → AreResolves (model_of s.metamodel w b) cs → AreDone (model_of s.metamodel w b) cs
   all-resolved [] w b other between resolves = record { allowed = tt; alike = alike-of (reading s) (reading (model_of s.metamodel w b)) none resolves between }
-  all-resolved (Resolve o f i ∷ cs) w b other between resolves =
-      let t = model_of s.metamodel w b in
-      let u = after t (Resolve o f i) in
-      let one = resolves-between s w b legal other none between o f i resolves.0 in
-      let rest = all-resolved cs u.values u.links (now-legal (left-at s w b legal other none between o f i resolves.0)) one.between resolves.1 in
-      record { allowed = (record { early = one.early; late = one.late }, rest.allowed); alike = rest.alike }
+  all-resolved (At e (Resolve i) ∷ cs) w b other between resolves = first-resolved e.node e.feature i cs (λ v c other between resolves. all-resolved cs v c other between resolves) w b other between resolves
   all-resolved (_ ∷ cs) w b other between resolves = absurd resolves
 
   -- there are resolves that leave no proxy
@@ -74,11 +82,11 @@ module _ (s : Model) (legal : IsLegal s) (none : HasNoProxy (reading s)) where
       let some = some-proxy (reading t) more in
       let p = some.0 in
       let one = resolves-between s w b legal other none between p.object p.feature p.index some.1 in
-      let u = after t (Resolve p.object p.feature p.index) in
+      let u = after t (At (at_end (node.Object p.object) p.feature) (Resolve p.index)) in
       let fewer = one.fewer in
       let less = fell (is_some (shape s.metamodel p.feature).opposite) (proxies_len (reading t)) (proxies_len (reading u)) fewer in
       let rest = some-resolves n u.values u.links (now-legal (left-at s w b legal other none between p.object p.feature p.index some.1)) one.between (omega (arith, low, less)) in
-      (Resolve p.object p.feature p.index ∷ rest.0, (some.1, rest.1)))
+      (At (at_end (node.Object p.object) p.feature) (Resolve p.index) ∷ rest.0, (some.1, rest.1)))
     where
       fell : (b : Bool) (x y : ℕ) → x ≡ (if b then 2 else 1) + y → y < x
       fell true x y h = omega (arith, h)

@@ -32,7 +32,8 @@ use Rattle.handshake.specs.Refusals.{early_refusal, late_refusal}
 use Rattle.handshake.specs.Resolving.{counterpart, first_to, leads_to, target, target_at}
 use Rattle.handshake.specs.FeatureChange.{changed, happened_all, feature_change}
 use Rattle.handshake.specs.FeatureChanges.{resolved, feature_changes}
-use Rattle.handshake.specs.declared.change.Change.TheVariants.{Resolve}
+use Rattle.handshake.specs.declared.change.Change.TheVariants.{At}
+use Rattle.handshake.specs.declared.act.Act.TheVariants.{Resolve}
 use Rattle.handshake.specs.declared.change_kind.ChangeKind.TheVariants.{Resolves}
 use Rattle.handshake.specs.declared.change_kind.FeatureChange.{FeatureChange}
 use Rattle.handshake.specs.declared.target.Counterpart.{Counterpart}
@@ -153,21 +154,21 @@ target-is r e i x h = by (slice_get (r.values e) i) refl h
 
 ---------------------------------------------------------------- a resolve
 
-module _ (s : Model) (legal : IsLegal s) (o : ObjectNo) (f : FeatureNo) (i : ℕ) (early : early_refusal (reading s) (Resolve o f i) ≡ None) (late : late_refusal (reading s) (Resolve o f i) ≡ None) where
+module _ (s : Model) (legal : IsLegal s) (o : ObjectNo) (f : FeatureNo) (i : ℕ) (early : early_refusal (reading s) (At (at_end (node.Object o) f) (Resolve i)) ≡ None) (late : late_refusal (reading s) (At (at_end (node.Object o) f) (Resolve i)) ≡ None) where
   abbrev e : End
   e = at_end (node.Object o) f
 
   abbrev t : Model
-  t = after s (Resolve o f i)
+  t = after s (At (at_end (node.Object o) f) (Resolve i))
 
-  pub resolved-legal : IsLegal (after s (Resolve o f i))
-  resolved-legal = change-keeps-legal s (Resolve o f i) legal early late tt tt
+  pub resolved-legal : IsLegal (after s (At (at_end (node.Object o) f) (Resolve i)))
+  resolved-legal = change-keeps-legal s (At (at_end (node.Object o) f) (Resolve i)) legal early late tt tt
 
   module _ (x : Target) (is : target_at (reading s) (at_end (node.Object o) f) i ≡ Some x) where
     now-held : (d : End) → held_at (reading t) d ≡ happened_at s.metamodel (resolved e i x) d (held_at (reading s) d)
     now-held d =
-        sym (chain-replays s (Resolve o f i) legal early late tt d refl refl)
-        ∙ ap (λ (q : Ends). q d) (replayed_all-told s.metamodel (held_at (reading s)) (feature_changes (reading s) (Resolve o f i)))
+        sym (chain-replays s (At (at_end (node.Object o) f) (Resolve i)) legal early late tt d refl refl)
+        ∙ ap (λ (q : Ends). q d) (replayed_all-told s.metamodel (held_at (reading s)) (feature_changes (reading s) (At (at_end (node.Object o) f) (Resolve i))))
         ∙ ap (λ (q : Option Target). happened_all s.metamodel (held_at (reading s)) (option_map_or (resolved e i) q []) d) is
         ∙ happened_all-at s.metamodel (held_at (reading s)) (resolved e i x) d
 

@@ -12,9 +12,9 @@ use Rattle.mm_values.specs.Values.{ValuesState}
 use Rattle.links.specs.Links.{Links}
 use Rattle.models.specs.Legal.{IsLegal}
 use Rattle.models.specs.Model.{Model, model_of, reading}
-use Rattle.models.specs.Reading.{Reading, at_end, has_resource}
+use Rattle.models.specs.Reading.{Reading, at_end, has_resource, roots_end}
 use Rattle.containment.specs.Above.{resource_of}
-use Rattle.fragment_paths.specs.Fragments.{address, roots_end}
+use Rattle.fragment_paths.specs.Fragments.{address}
 use Rattle.doc_writer.specs.Written.{objects_in}
 use Rattle.doc_parts.proofs.WayLemmas.{position_cons}
 use Rattle.reloading.specs.Images.{image, value_image}

@@ -5,8 +5,8 @@ use Rattle.mm_types.specs.declared.numbers.ObjectNo.{ObjectNo}
 use Rattle.mm_types.specs.declared.numbers.ResourceNo.{ResourceNo}
 use Rattle.mm_types.specs.declared.numbers.Node.TheVariants as node
 use Rattle.mm_types.specs.declared.value.Value.{Value}
-use Rattle.models.specs.Reading.{Reading, at_end, has_uri}
-use Rattle.fragment_paths.specs.Fragments.{address, roots_end}
+use Rattle.models.specs.Reading.{Reading, at_end, has_uri, roots_end}
+use Rattle.fragment_paths.specs.Fragments.{address}
 use Rattle.reloading.specs.Addressed.{Named, named}
 
 -- the object p of t has the class, the values and the set flags of the object o of s, values being compared by name

@@ -6,9 +6,9 @@ use Rattle.mm_types.specs.declared.numbers.Node.TheVariants as node
 use Rattle.mm_types.specs.declared.numbers.ObjectNo.{ObjectNo}
 use Rattle.mm_types.specs.declared.numbers.ResourceNo.{ResourceNo}
 use Rattle.mm_types.specs.declared.value.Value.{Value}
-use Rattle.models.specs.Reading.{Reading, at_end}
+use Rattle.models.specs.Reading.{Reading, at_end, roots_end}
 use Rattle.containment.specs.Above.{resource_of}
-use Rattle.fragment_paths.specs.Fragments.{address, roots_end}
+use Rattle.fragment_paths.specs.Fragments.{address}
 use Rattle.doc_writer.specs.Written.{objects_in}
 use Rattle.doc_loader.specs.Loading.{loaded, loaded_value}
 use Rattle.round_trip.specs.Copied.{renamed, root_copied}

@@ -22,7 +22,8 @@ use Rattle.handshake.specs.Plans.{HasReadDocument}
 use Rattle.handshake.specs.Refusals.{early_refusal, late_refusal}
 use Rattle.handshake.specs.Resolving.{proxy_at}
 use Rattle.handshake.specs.ResolvingAll as all
-use Rattle.handshake.specs.declared.change.Change.TheVariants.{Load, Resolve, ResolveAll}
+use Rattle.handshake.specs.declared.change.Change.TheVariants.{At, Load, ResolveAll}
+use Rattle.handshake.specs.declared.act.Act.TheVariants.{Resolve}
 use Rattle.reloading.specs.Alike.{Alike}
 use Rattle.reloading.specs.Between.{Between}
 use Rattle.reloading.specs.Images.{HasImages}
@@ -37,7 +38,7 @@ pub record HasOwnAddresses (r : Reading) : Type 0 where
 
 -- resolving a proxy leaves each object its address
 abbrev pub ResolvesKeepAddresses : Model → ObjectNo → FeatureNo → ℕ → Type 0
-ResolvesKeepAddresses s o f i = OfAllowed (λ s c. (x : ObjectNo) → address (reading (after s c)) x ≡ address (reading s) x) s (Resolve o f i)
+ResolvesKeepAddresses s o f i = OfAllowed (λ s c. (x : ObjectNo) → address (reading (after s c)) x ≡ address (reading s) x) s (At (at_end (node.Object o) f) (Resolve i))
 
 -- a load leaves each object that has an address that address
 abbrev pub LoadsKeepAddresses : Model → ResourceNo → Doc → Type 0
@@ -56,10 +57,10 @@ LoadsSaved s w b =
 
 -- nothing refuses to resolve a proxy; the model is between as before, and one proxy fewer is left, or two of a link with an opposite
 pub record IsResolvedBetween (r : Reading) (t : Model) (o : ObjectNo) (f : FeatureNo) (i : ℕ) : Type 0 where
-  pub early : early_refusal (reading t) (Resolve o f i) ≡ None
-  pub late : late_refusal (reading t) (Resolve o f i) ≡ None
-  pub between : Between r (reading (after t (Resolve o f i)))
-  pub fewer : proxies_len (reading t) ≡ (if is_some (shape t.metamodel f).opposite then 2 else 1) + proxies_len (reading (after t (Resolve o f i)))
+  pub early : early_refusal (reading t) (At (at_end (node.Object o) f) (Resolve i)) ≡ None
+  pub late : late_refusal (reading t) (At (at_end (node.Object o) f) (Resolve i)) ≡ None
+  pub between : Between r (reading (after t (At (at_end (node.Object o) f) (Resolve i))))
+  pub fewer : proxies_len (reading t) ≡ (if is_some (shape t.metamodel f).opposite then 2 else 1) + proxies_len (reading (after t (At (at_end (node.Object o) f) (Resolve i))))
 
 -- so it is of each proxy of a model that is between one without proxies and that
 abbrev pub ResolvesBetween : Model → ValuesState → Links → Type 0

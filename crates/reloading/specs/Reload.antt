@@ -8,7 +8,8 @@ use Rattle.models.specs.Steady.{HasSteadyTexts}
 use Rattle.handshake.specs.Effects.{after}
 use Rattle.handshake.specs.Resolving.{proxy_at}
 use Rattle.handshake.specs.declared.change.Change.{Change}
-use Rattle.handshake.specs.declared.change.Change.TheVariants.{Resolve}
+use Rattle.handshake.specs.declared.change.Change.TheVariants.{At}
+use Rattle.handshake.specs.declared.act.Act.TheVariants.{Resolve}
 use Rattle.reloading.specs.Alike.{Alike}
 use Rattle.reloading.specs.Laws.{IsAllResolved}
 use Rattle.reloading.specs.Orders.{AreAllowed, IsOrder, IsSaved, Task, after_all, changes}
@@ -17,7 +18,7 @@ use Rattle.reloading.specs.Proxies.{HasNoProxy}
 -- each change resolves a proxy that stands there in its turn, and none stands anywhere after the last
 abbrev pub AreResolves : Model → List Change → Type 0
 AreResolves t [] = HasNoProxy (reading t)
-AreResolves t (Resolve o f i ∷ cs) = (is_some (proxy_at (reading t) (at_end (node.Object o) f) i) ≡ true) × AreResolves (after t (Resolve o f i)) cs
+AreResolves t (At e (Resolve i) ∷ cs) = (is_some (proxy_at (reading t) e i) ≡ true) × AreResolves (after t (At e (Resolve i))) cs
 AreResolves t (c ∷ cs) = ⊥
 
 -- an empty model after the loads of what was saved

@@ -18,7 +18,7 @@ use Rattle.notice_chain.specs.declared.target.Target.{Target}
 use Rattle.adapter_list.specs.Refusals.{attach_refusal, but_memory, watch_refusal}
 use Rattle.models.specs.Model.{Model, reading}
 use Rattle.models.specs.Reading.{is_node_live, is_resource_there}
-use Rattle.handshake.specs.Named.{node_refusal}
+use Rattle.models.specs.Existence.{node_refusal}
 use Rattle.handshake.specs.Plans.{is_memory_refusal}
 use Rattle.repository.specs.declared.command.Command.{Command}
 use Rattle.repository.specs.declared.command.Command.TheVariants.{Attach, Detach, Unwatch, Watch}

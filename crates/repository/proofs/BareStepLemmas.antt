@@ -18,8 +18,10 @@ use Rattle.models.specs.Reading.{has_uri}
 use Rattle.notice_chain.specs.View.{View}
 use Rattle.resource_docs.specs.declared.doc.Doc.{Doc}
 use Rattle.handshake.specs.Effects.{after}
-use Rattle.handshake.specs.Named.{node_refusal}
-use Rattle.handshake.specs.declared.change.Change.TheVariants.{Load, NewResource, Resolve, ResolveAll}
+use Rattle.models.specs.Existence.{node_refusal}
+use Rattle.handshake.specs.declared.change.Change.TheVariants.{At, Load, NewResource, ResolveAll}
+use Rattle.handshake.specs.declared.act.Act.TheVariants.{Resolve}
+use Rattle.mm_types.specs.declared.end.End.{End}
 use Rattle.reloading.specs.Orders.{IsAllowed}
 use Rattle.repository.specs.Loads.{load_of, load_refusal, reads_into}
 use Rattle.repository.specs.Reload.{bare}
@@ -32,8 +34,8 @@ use Rattle.repository.specs.declared.command.Command.TheVariants as command
 abbrev pub IsStep : Model → Command View → Model → Type 0
 IsStep t c u = step (bare t) c ≡ record { outcome = Ok (reply (reads (bare t)) [] c); after = bare u }
 
-pub resolved : (t : Model) (o : ObjectNo) (f : FeatureNo) (i : ℕ) → IsAllowed t (Resolve o f i) → IsStep t (command.Resolve o f i) (after t (Resolve o f i))
-resolved t o f i ok = ap (step_unless (bare t) (command.Resolve o f i)) (λ j. ok.early j else_by ok.late j else_by (AdapterFull where_so false))
+pub resolved : (t : Model) (e : End) (i : ℕ) → IsAllowed t (At e (Resolve i)) → IsStep t (command.At e (Resolve i)) (after t (At e (Resolve i)))
+resolved t e i ok = ap (step_unless (bare t) (command.At e (Resolve i))) (λ j. ok.early j else_by ok.late j else_by (AdapterFull where_so false))
 
 pub all-resolved : (t : Model) → IsStep t command.ResolveAll (after t ResolveAll)
 all-resolved t = refl

@@ -18,7 +18,7 @@ use Rattle.notice_chain.specs.declared.target.Target.{Target}
 use Rattle.adapter_list.specs.Hearing.{is_touched, ordinals_from, touched}
 use Rattle.adapter_list.specs.Rounds.{delivered_from}
 use Rattle.containment.specs.Forest.{is_node_among}
-use Rattle.models.specs.Reading.{Reading, at_end}
+use Rattle.models.specs.Reading.{Reading}
 use Rattle.removal.specs.Outer.{gone}
 use Rattle.removal.specs.Ranks.{is_in}
 use Rattle.removal.specs.Removals.{IsRemoval}
@@ -27,7 +27,8 @@ use Rattle.handshake.specs.Plans.{IsRemovalOf}
 use Rattle.handshake.specs.Refusals.{late_refusal}
 use Rattle.handshake.specs.FeatureChanges.{destroyed_by, resolved_by, target_of}
 use Rattle.handshake.specs.declared.change.Change.{Change}
-use Rattle.handshake.specs.declared.change.Change.TheVariants.{Create, Set, Unset, Add, Remove, RemoveValue, Move, Delete, NewResource, Resolve, Load, ResolveAll}
+use Rattle.handshake.specs.declared.change.Change.TheVariants.{At, Delete, ResolveAll}
+use Rattle.handshake.specs.declared.act.Act.TheVariants.{Resolve}
 use Rattle.handshake.specs.declared.planned.Resolved.{Resolved}
 use Rattle.handshake.specs.declared.target.Target.{Target as Found}
 use Rattle.handshake.proofs.KnownLemmas.{resolvable}
@@ -155,16 +156,8 @@ whole-answer r rs text c early q x y is allowed removed found resolved = by c is
     by : (d : Change) → IsEarlyAnswer (is_answered_late d) (answer_of r rs (command_of text d)) early → late_refusal r d ≡ None → option_map (λ (z : Removal). z.object) q ≡ destroyed_by d → IfSome q (IsRemoval r) → x ≡ target_of r d → y ≡ resolved_by r d
         → unwrap_or early (planned_answer q x y) ≡ answer_of r rs (command_of text d)
     by (Delete o) none allowed whose found nothing nowhere = later _ _ none ((λ i. planned_answer q (nothing i) (nowhere i)) ∙ ap answer.Destroyed (of-objects length 0 r q o whose found))
-    by (Resolve o f i) none allowed whose found target nowhere =
-        let known = resolvable r (at_end (node.Object o) f) i allowed in
+    by (At e (Resolve i)) none allowed whose found target nowhere =
+        let known = resolvable r e i allowed in
         later _ _ none (ap (λ (z : Option Found). planned_answer q z y) (target ∙ known.is) ∙ ap (λ (z : Option Found). answer.Object (option_map_or (λ (w : Found). w.object) z (record { 0 = 0 }))) (sym known.is))
     by ResolveAll none allowed whose found nothing counted = later _ _ none (λ i. planned_answer q (nothing i) (counted i))
-    by (Create k) some allowed whose found target counted = known _ _ some
-    by (Set n f v) some allowed whose found target counted = known _ _ some
-    by (Unset n f) some allowed whose found target counted = known _ _ some
-    by (Add n f v i) some allowed whose found target counted = known _ _ some
-    by (Remove n f i) some allowed whose found target counted = known _ _ some
-    by (RemoveValue n f v) some allowed whose found target counted = known _ _ some
-    by (Move n f to from) some allowed whose found target counted = known _ _ some
-    by (NewResource u) some allowed whose found target counted = known _ _ some
-    by (Load k doc) some allowed whose found target counted = known _ _ some
+    by _ some allowed whose found target counted = known _ _ some

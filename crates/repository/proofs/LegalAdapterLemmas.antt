@@ -20,7 +20,7 @@ use Rattle.adapter_list.specs.Targets.{IsOnce}
 use Rattle.adapter_list.proofs.GoingLemmas.{once-filter, one-fewer}
 use Rattle.adapter_list.proofs.WatchLemmas.{once-last}
 use Rattle.models.specs.Reading.{Reading}
-use Rattle.handshake.specs.Named.{node_refusal}
+use Rattle.models.specs.Existence.{node_refusal}
 use Rattle.handshake.proofs.KnownLemmas.{none-else_by, none-unless}
 use Rattle.repository.specs.declared.command.Command.TheVariants.{Attach, Watch}
 use Rattle.repository.specs.State.{State, IsLegal, IsLegalAdapter, is_there, reads}

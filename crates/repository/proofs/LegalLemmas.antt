@@ -21,15 +21,17 @@ use Rattle.models.specs.Legal as models
 use Rattle.models.specs.Model.{Model, reading}
 use Rattle.models.specs.Reading.{Reading, at_end, first_at, is_repeat, position_for}
 use Rattle.handshake.specs.Effects as effects
-use Rattle.handshake.specs.Effects.{of_object, put_under, take_value}
-use Rattle.handshake.specs.Named.{node_refusal}
+use Rattle.handshake.specs.Effects.{act_edits, of_object, put_under, take_value}
+use Rattle.models.specs.Existence.{node_refusal}
+use Rattle.handshake.specs.declared.act.Act.{Act}
+use Rattle.handshake.specs.declared.act.Act.TheVariants as act
 use Rattle.handshake.specs.declared.change.Change.{Change}
 use Rattle.handshake.specs.declared.change.Change.TheVariants as change
 use Rattle.handshake.proofs.KnownLemmas.{none-else_by}
 use Rattle.handshake.proofs.AllLemmas.{change-keeps-legal}
 use Rattle.handshake.proofs.LegalLemmas.{left-object, left-uris}
 use Rattle.repository.specs.declared.command.Command.{Command}
-use Rattle.repository.specs.declared.command.Command.TheVariants.{Create, Set, Unset, Add, Remove, RemoveValue, Move, Delete, Attach, Watch, Unwatch, Detach, Get, IsSet, Container, Contents, Class, AdapterTold, AdapterKept, CreateResource, Resolve, Load, ResolveAll, Resource, Validate, Fragment, ObjectAt, Save, Snapshot}
+use Rattle.repository.specs.declared.command.Command.TheVariants.{At, Create, Delete, CreateResource, Load, ResolveAll, Attach, Watch, Unwatch, Detach}
 use Rattle.repository.specs.State.{State, IsLegal, is_there, reads}
 use Rattle.repository.specs.Refusals.{chain, early_refusal, late_refusal, resource_refusal}
 use Rattle.repository.specs.Run.{Executed, IsWanting, is_memory}
@@ -98,6 +100,17 @@ found-keeps : (s : Model) (n : Node) (e : End) (i : Option ℕ) → Keeps s n (o
 found-keeps s n e None = none-keeps s n
 found-keeps s n e (Some i) = remove-keeps s n e i
 
+-- what an act makes of an attribute
+act-keeps : (s : Model) (n : Node) (e : End) (a : Act) → Keeps s n (act_edits (reading s) e a)
+act-keeps s n e (act.Set v) = put-keeps s n e.node e.feature (v ∷ []) (shape s.metamodel e.feature).is_unsettable
+act-keeps s n e act.Unset = put-keeps s n e.node e.feature [] false
+act-keeps s n e (act.Add v i) =
+    either-keeps s n (is_repeat (reading s) e v) _ _ (none-keeps s n) (insert-keeps s n e.node e.feature (position_for (reading s) e i) v (shape s.metamodel e.feature).is_unique)
+act-keeps s n e (act.Remove i) = remove-keeps s n e i
+act-keeps s n e (act.RemoveValue v) = found-keeps s n e (first_at (reading s) e v)
+act-keeps s n e (act.Move to from) = move-keeps s n e.node e.feature to from
+act-keeps s n e (act.Resolve i) = none-keeps s n
+
 -- with one URI more
 more-resources : (us : List (List ℕ)) (u : List ℕ) (k : ℕ) → IsTrue (nat_lt k (length us)) → IsTrue (nat_lt k (length (with_uri us u)))
 more-resources us u k h =
@@ -108,23 +121,15 @@ more-resources us u k h =
 
 -- a node that is there is there after every change that does not destroy it
 change-keeps-node : (s : Model) (c : Change) (n : Node) → goes_with (reading s) c n ≡ false → IsTrue (is_there (reading s) n) → IsTrue (is_there (reading (effects.after s c)) n)
+change-keeps-node s (change.At e (act.Resolve i)) n stays h = h
+change-keeps-node s (change.At e a) n stays h = either-keeps s n (shape s.metamodel e.feature).is_reference _ _ (none-keeps s n) (act-keeps s n e a) h
 change-keeps-node s (change.Delete o) (node.Object p) stays h =
     ap (λ (q : Option ObjectState). is_object q && true) (left-object s.values (subtree (reading s) o) p stays) ∙ h
 change-keeps-node s (change.Delete o) (node.Resource k) stays h = subst (λ (us : List (List ℕ)). IsTrue (nat_lt k.0 (length us))) (sym (left-uris s.values (subtree (reading s) o))) h
 change-keeps-node s (change.Create c) (node.Object o) stays h = both-true _ true (push-live s.values.objects _ o.0 (first-true _ true h)) refl
 change-keeps-node s (change.Create c) (node.Resource r) stays h = h
-change-keeps-node s (change.Set m f v) n stays h = either-keeps s n (shape s.metamodel f).is_reference _ _ (none-keeps s n) (put-keeps s n m f (v ∷ []) (shape s.metamodel f).is_unsettable) h
-change-keeps-node s (change.Unset m f) n stays h = either-keeps s n (shape s.metamodel f).is_reference _ _ (none-keeps s n) (put-keeps s n m f [] false) h
-change-keeps-node s (change.Add m f v i) n stays h =
-    let r = reading s in
-    let e = at_end m f in
-    either-keeps s n (shape s.metamodel f).is_reference _ _ (none-keeps s n) (either-keeps s n (is_repeat r e v) _ _ (none-keeps s n) (insert-keeps s n m f (position_for r e i) v (shape s.metamodel f).is_unique)) h
-change-keeps-node s (change.Remove m f i) n stays h = either-keeps s n (shape s.metamodel f).is_reference _ _ (none-keeps s n) (remove-keeps s n (at_end m f) i) h
-change-keeps-node s (change.RemoveValue m f v) n stays h = either-keeps s n (shape s.metamodel f).is_reference _ _ (none-keeps s n) (found-keeps s n (at_end m f) (first_at (reading s) (at_end m f) v)) h
-change-keeps-node s (change.Move m f to from) n stays h = either-keeps s n (shape s.metamodel f).is_reference _ _ (none-keeps s n) (move-keeps s n m f to from) h
 change-keeps-node s (change.NewResource u) (node.Object o) stays h = h
 change-keeps-node s (change.NewResource u) (node.Resource k) stays h = more-resources s.values.uris u k.0 h
-change-keeps-node s (change.Resolve o f i) n stays h = h
 change-keeps-node s change.ResolveAll n stays h = h
 change-keeps-node s (change.Load k doc) (node.Object o) stays h = ap (λ (b : Bool). b && true) (loaded-live s.metamodel s.values doc o.0 (first-true _ true h))
 change-keeps-node s (change.Load k doc) (node.Resource j) stays h = subst (λ (us : List (List ℕ)). IsTrue (nat_lt j.0 (length us))) (sym (loaded-uris s.metamodel (length s.values.objects) s.values doc)) h
@@ -145,16 +150,10 @@ is_gone_with r (Delete o) n = gone r o n
 is_gone_with r _ n = false
 
 keeps-node : (s : State) (c : Command View) (n : Node) → is_gone_with (reads s) c n ≡ false → IsTrue (is_there (reads s) n) → IsTrue (is_there (reading (model_after s.model c)) n)
+keeps-node s (At e a) n stays h = change-keeps-node s.model (change.At e a) n refl h
 keeps-node s (Create c) n stays h = change-keeps-node s.model (change.Create c) n refl h
-keeps-node s (Set m f v) n stays h = change-keeps-node s.model (change.Set m f v) n refl h
-keeps-node s (Unset m f) n stays h = change-keeps-node s.model (change.Unset m f) n refl h
-keeps-node s (Add m f v i) n stays h = change-keeps-node s.model (change.Add m f v i) n refl h
-keeps-node s (Remove m f i) n stays h = change-keeps-node s.model (change.Remove m f i) n refl h
-keeps-node s (RemoveValue m f v) n stays h = change-keeps-node s.model (change.RemoveValue m f v) n refl h
-keeps-node s (Move m f to from) n stays h = change-keeps-node s.model (change.Move m f to from) n refl h
 keeps-node s (Delete o) n stays h = change-keeps-node s.model (change.Delete o) n stays h
 keeps-node s (CreateResource t) n stays h = resource-keeps-node s.model (joined [] t) n h
-keeps-node s (Resolve o f i) n stays h = change-keeps-node s.model (change.Resolve o f i) n refl h
 keeps-node s (Load k text) n stays h = load-keeps-node s.model k (reads_into (reads s) k text) n h
 keeps-node s ResolveAll n stays h = change-keeps-node s.model change.ResolveAll n refl h
 keeps-node s _ n stays h = h
@@ -173,35 +172,13 @@ load-legal s k text (Ok doc) is legal early late = change-keeps-legal s.model (c
 load-legal s k text (Err f) is legal early late = legal
 
 model-legal : (s : State) (c : Command View) → models.IsLegal s.model → early_refusal (reads s) s.adapters c ≡ None → late_refusal (reads s) s.adapters c ≡ None → models.IsLegal (model_after s.model c)
+model-legal s (At e a) legal early late = change-keeps-legal s.model (change.At e a) legal early late tt tt
 model-legal s (Create c) legal early late = change-keeps-legal s.model (change.Create c) legal early late tt tt
-model-legal s (Set n f v) legal early late = change-keeps-legal s.model (change.Set n f v) legal early late tt tt
-model-legal s (Unset n f) legal early late = change-keeps-legal s.model (change.Unset n f) legal early late tt tt
-model-legal s (Add n f v i) legal early late = change-keeps-legal s.model (change.Add n f v i) legal early late tt tt
-model-legal s (Remove n f i) legal early late = change-keeps-legal s.model (change.Remove n f i) legal early late tt tt
-model-legal s (RemoveValue n f v) legal early late = change-keeps-legal s.model (change.RemoveValue n f v) legal early late tt tt
-model-legal s (Move n f to from) legal early late = change-keeps-legal s.model (change.Move n f to from) legal early late tt tt
 model-legal s (Delete o) legal early late = change-keeps-legal s.model (change.Delete o) legal early late tt tt
 model-legal s (CreateResource t) legal early late = resource-legal s t (joined [] t) refl legal late
-model-legal s (Resolve o f i) legal early late = change-keeps-legal s.model (change.Resolve o f i) legal early late tt tt
 model-legal s (Load k text) legal early late = load-legal s k text (reads_into (reads s) k text) refl legal early late
 model-legal s ResolveAll legal early late = change-keeps-legal s.model change.ResolveAll legal early late tt tt
-model-legal s (Attach number target deep view) legal early late = legal
-model-legal s (Watch number target deep) legal early late = legal
-model-legal s (Unwatch number target) legal early late = legal
-model-legal s (Detach number) legal early late = legal
-model-legal s (Get n f) legal early late = legal
-model-legal s (IsSet n f) legal early late = legal
-model-legal s (Container o) legal early late = legal
-model-legal s (Resource o) legal early late = legal
-model-legal s (Contents n) legal early late = legal
-model-legal s (Validate o) legal early late = legal
-model-legal s (Fragment o) legal early late = legal
-model-legal s (ObjectAt t) legal early late = legal
-model-legal s (Save k) legal early late = legal
-model-legal s (Class o) legal early late = legal
-model-legal s (Snapshot n) legal early late = legal
-model-legal s (AdapterTold number) legal early late = legal
-model-legal s (AdapterKept number) legal early late = legal
+model-legal s _ legal early late = legal
 
 ---------------------------------------------------------------- a command that nothing refuses
 

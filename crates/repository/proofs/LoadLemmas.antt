@@ -16,11 +16,11 @@ use Rattle.resource_docs.specs.Causes.{IsRead, parsed, reads_bytes, reads_if}
 use Rattle.resource_docs.specs.Texts.{base_of}
 use Rattle.resource_docs.specs.declared.doc.Doc.{Doc}
 use Rattle.doc_loader.specs.Loading.{is_empty_resource}
-use Rattle.handshake.specs.Named.{node_refusal}
+use Rattle.models.specs.Existence.{node_refusal}
 use Rattle.handshake.specs.Laws.{BringsSteadyTexts}
 use Rattle.handshake.specs.Plans.{HasReadDocument, IsDocument, is_memory_refusal}
 use Rattle.handshake.specs.declared.change.Change.{Change}
-use Rattle.handshake.specs.declared.change.Change.TheVariants.{Create, Set, Unset, Add, Remove, RemoveValue, Move, Delete, NewResource, Resolve, Load, ResolveAll}
+use Rattle.handshake.specs.declared.change.Change.TheVariants.{NewResource, Load}
 use Rattle.repository.specs.Loads.{load_refusal, reads_into, uri_at}
 use Rattle.repository.specs.Proper.{IsProper}
 use Rattle.repository.specs.Run.{Executed, is_plain}
@@ -46,17 +46,7 @@ text-read r k text doc is = record { uri = uri_at r k; read = bytes-read r.metam
 -- a proper change brings a document that reading gives
 pub proper-read : (r : Reading) (text : List ℕ) (c : Change) → IsProper r text c → HasReadDocument r.metamodel c
 proper-read r text (Load k doc) proper = text-read r k text doc proper.0
-proper-read r text (Create c) proper = tt
-proper-read r text (Set n f v) proper = tt
-proper-read r text (Unset n f) proper = tt
-proper-read r text (Add n f v i) proper = tt
-proper-read r text (Remove n f i) proper = tt
-proper-read r text (RemoveValue n f v) proper = tt
-proper-read r text (Move n f to from) proper = tt
-proper-read r text (Delete o) proper = tt
-proper-read r text (NewResource u) proper = tt
-proper-read r text (Resolve o f i) proper = tt
-proper-read r text ResolveAll proper = tt
+proper-read r text _ proper = tt
 
 -- joining leaves the texts that a proper change brings as they are
 pub proper-steady : (r : Reading) (text : List ℕ) (c : Change) → IsProper r text c → BringsSteadyTexts c

@@ -2,15 +2,14 @@
 use Rattle.std.proofs.Common.{◌≡◌, ℕ, Bool, true, false, not, List, [], ◌∷◌, Option, Some, None, is_some, if◌then◌else◌, refl, sym, ap, subst, ◌∙◌}
 use Rattle.std.proofs.Math.Bool.{or-false}
 use Rattle.std.proofs.lemmas.Option.{none-some}
-use Rattle.mm_types.specs.declared.numbers.FeatureNo.{FeatureNo}
-use Rattle.mm_types.specs.declared.numbers.Node.{Node}
+use Rattle.mm_types.specs.declared.end.End.{End}
 use Rattle.mm_types.specs.declared.value.Value.{Value}
 use Rattle.mm_types.specs.declared.value.Value.TheVariants as value
 use Rattle.links.specs.Laws.{touches_containment}
 use Rattle.links.specs.LegalSets.{Kinds}
 use Rattle.links.specs.Plans.{IsEditOfKind, put_edit}
 use Rattle.models.specs.Model.{Model, reading}
-use Rattle.models.specs.Reading.{Reading, at_end, is_repeat, position_for, shape_at}
+use Rattle.models.specs.Reading.{Reading, is_repeat, position_for, shape_at}
 use Rattle.notice_chain.specs.Listed.{Above, Listed}
 use Rattle.adapter_list.specs.Hearing.{AreKnown}
 use Rattle.adapter_list.specs.declared.hearers.Hearers.{Hearers}
@@ -19,7 +18,8 @@ use Rattle.handshake.specs.LonePuts.{lone_put, of_put, put_at}
 use Rattle.handshake.specs.Plans.{IsPlanOf}
 use Rattle.handshake.specs.Refusals.{early_refusal, late_refusal}
 use Rattle.handshake.specs.declared.change.Change.{Change}
-use Rattle.handshake.specs.declared.change.Change.TheVariants.{Add, Set}
+use Rattle.handshake.specs.declared.change.Change.TheVariants.{At}
+use Rattle.handshake.specs.declared.act.Act.TheVariants.{Add, Set}
 use Rattle.links.specs.declared.link.NewLink.{NewLink}
 use Rattle.handshake.proofs.CutLinkEndLemmas.{plain-not}
 use Rattle.repository.specs.Answers.{answer_of}
@@ -34,33 +34,32 @@ not-plain false true c x p h = absurd (none-some p h)
 not-plain false false c x p h = refl
 
 -- what is added is not there
-new-added : (r : Reading) (n : Node) (f : FeatureNo) (v : Value) (i : Option ℕ) (p : NewLink) → lone_put r (Add n f v i) ≡ Some p → is_repeat r (at_end n f) v ≡ false
-new-added r n f (value.Object o) i p h =
-    let e = at_end n f in
+new-added : (r : Reading) (e : End) (v : Value) (i : Option ℕ) (p : NewLink) → lone_put r (At e (Add v i)) ≡ Some p → is_repeat r e v ≡ false
+new-added r e (value.Object o) i p h =
     let v = value.Object o in
-    (plain-not (shape_at r e).is_reference (is_repeat r e v) (not-plain (displaces r e o) (is_plain_add r e v) (is_some (late_refusal r (Add n f v i))) (put_at r e (position_for r e i) o) p h)).1
-new-added r n f _ i p h = absurd (none-some p h)
+    (plain-not (shape_at r e).is_reference (is_repeat r e v) (not-plain (displaces r e o) (is_plain_add r e v) (is_some (late_refusal r (At e (Add v i)))) (put_at r e (position_for r e i) o) p h)).1
+new-added r e _ i p h = absurd (none-some p h)
 
-pub add-answered : (r : Reading) (rs : List Listed) (n : Node) (f : FeatureNo) (v : Value) (i : Option ℕ) (p : NewLink) → lone_put r (Add n f v i) ≡ Some p → answer.Flag true ≡ answer_of r rs (command_of [] (Add n f v i))
-add-answered r rs n f v i p h = ap (λ (b : Bool). answer.Flag (not b)) (sym (new-added r n f v i p h))
+pub add-answered : (r : Reading) (rs : List Listed) (e : End) (v : Value) (i : Option ℕ) (p : NewLink) → lone_put r (At e (Add v i)) ≡ Some p → answer.Flag true ≡ answer_of r rs (command_of [] (At e (Add v i)))
+add-answered r rs e v i p h = ap (λ (b : Bool). answer.Flag (not b)) (sym (new-added r e v i p h))
 
 -- an addition that is one put, of which nobody hears, by what its parts give
-pub add-alone : (s : State) (m : Model) (n : Node) (f : FeatureNo) (v : Value) (i : Option ℕ) (q : Option NewLink) (p : NewLink) → m ≡ s.model → s.adapters ≡ [] → early_refusal (reading m) (Add n f v i) ≡ None → q ≡ lone_put (reading m) (Add n f v i) → q ≡ Some p
-    → IsPlanOf false m (Add n f v i) (of_put p) → IsPutAlone s (Add n f v i) p (answer.Flag true)
-add-alone s m n f v i q p is none early found some plan =
-    let c : Change = Add n f v i in
+pub add-alone : (s : State) (m : Model) (e : End) (v : Value) (i : Option ℕ) (q : Option NewLink) (p : NewLink) → m ≡ s.model → s.adapters ≡ [] → early_refusal (reading m) (At e (Add v i)) ≡ None → q ≡ lone_put (reading m) (At e (Add v i)) → q ≡ Some p
+    → IsPlanOf false m (At e (Add v i)) (of_put p) → IsPutAlone s (At e (Add v i)) p (answer.Flag true)
+add-alone s m e v i q p is none early found some plan =
+    let c : Change = At e (Add v i) in
     record {
       asked = subst (λ (x : Model). early_refusal (reading x) c ≡ None) is early;
       proper = tt;
       planned = subst (λ (x : Model). IsPlanOf false x c (of_put p)) is plan;
-      answered = add-answered (reads s) s.adapters n f v i p (subst (λ (x : Model). lone_put (reading x) c ≡ Some p) is (sym found ∙ some));
+      answered = add-answered (reads s) s.adapters e v i p (subst (λ (x : Model). lone_put (reading x) c ≡ Some p) is (sym found ∙ some));
       unheard = none;
     }
 
 -- a set, likewise
-pub set-alone : (s : State) (m : Model) (n : Node) (f : FeatureNo) (v : Value) (p : NewLink) → m ≡ s.model → s.adapters ≡ [] → early_refusal (reading m) (Set n f v) ≡ None → IsPlanOf false m (Set n f v) (of_put p) → IsPutAlone s (Set n f v) p answer.Done
-set-alone s m n f v p is none early plan =
-    let c : Change = Set n f v in
+pub set-alone : (s : State) (m : Model) (e : End) (v : Value) (p : NewLink) → m ≡ s.model → s.adapters ≡ [] → early_refusal (reading m) (At e (Set v)) ≡ None → IsPlanOf false m (At e (Set v)) (of_put p) → IsPutAlone s (At e (Set v)) p answer.Done
+set-alone s m e v p is none early plan =
+    let c : Change = At e (Set v) in
     record {
       asked = subst (λ (x : Model). early_refusal (reading x) c ≡ None) is early;
       proper = tt;

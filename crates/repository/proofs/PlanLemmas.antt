@@ -21,15 +21,17 @@ use Rattle.adapter_list.specs.Refusals.{IsChainRefusal}
 use Rattle.models.specs.Legal.{is_short_text}
 use Rattle.models.specs.Model.{Model, reading}
 use Rattle.models.specs.Reading.{Reading, has_feature, is_node_live, is_resource_there, is_value_live}
-use Rattle.handshake.specs.Named.{feature_refusal, many_refusal, node_refusal, value_refusal}
+use Rattle.models.specs.Existence.{end_refusal, node_refusal, value_refusal}
+use Rattle.mm_types.specs.declared.end.End.{End}
 use Rattle.handshake.specs.Effects as effects
 use Rattle.handshake.specs.Plans.{is_memory_refusal, looks_first}
-use Rattle.handshake.specs.Refusals.{early_refusal, late_refusal, uri_refusal}
+use Rattle.handshake.specs.Refusals.{early_refusal, late_refusal, many_refusal, uri_refusal}
 use Rattle.handshake.specs.FeatureChanges.{chain}
 use Rattle.mm_types.specs.declared.document_fault.DocFault.{DocFault}
 use Rattle.resource_docs.specs.declared.doc.Doc.{Doc}
 use Rattle.handshake.specs.declared.change.Change.{Change}
-use Rattle.handshake.specs.declared.change.Change.TheVariants.{Create, Set, Unset, Add, Remove, RemoveValue, Move, Delete, NewResource, Resolve, Load, ResolveAll}
+use Rattle.handshake.specs.declared.change.Change.TheVariants.{At, Create, Delete, NewResource, Load, ResolveAll}
+use Rattle.handshake.specs.declared.act.Act.TheVariants.{Set, Unset, Add, Remove, RemoveValue, Move, Resolve}
 use Rattle.repository.specs.Answers.{answer_of}
 use Rattle.repository.specs.declared.command.Command.TheVariants as command
 use Rattle.repository.specs.declared.reply.Answer.{Answer}
@@ -92,19 +94,11 @@ module _ (s : State) (k : ResourceNo) where
 -- where nothing is found before planning
 refusal-planned : (s : State) (text : List ℕ) (c : Change) → IsProper (reads s) text c → early_refusal (reads s) c ≡ None → refusal_of s (command_of text c) ≡ (late_refusal (reads s) c else_by full s c)
 unfolding full asked_of loaded_as
-refusal-planned s text (Create c) brought early = rw early refl
-refusal-planned s text (Set n f v) brought early = rw early refl
-refusal-planned s text (Unset n f) brought early = rw early refl
-refusal-planned s text (Add n f v i) brought early = rw early refl
-refusal-planned s text (Remove n f i) brought early = rw early refl
-refusal-planned s text (RemoveValue n f v) brought early = rw early refl
-refusal-planned s text (Move n f to from) brought early = rw early refl
-refusal-planned s text (Delete o) brought early = rw early refl
 refusal-planned s text (NewResource u) web early =
     ap (asked_of s u) (joined-web [] u web) ∙ ap (λ (o : Option Refused). o else_by full s (NewResource u)) (uri-refused (reads s) u)
-refusal-planned s text (Resolve o f i) brought early = rw early refl
 refusal-planned s text (Load k doc) proper early = ap (loaded_as s k) proper.0 ∙ rw early refl
 refusal-planned s text ResolveAll brought early = refl
+refusal-planned s text _ brought early = rw early refl
 
 -- a condition that is none of these is none of them behind another that is none
 ---------------------------------------------------------------- what is found first is not out of memory
@@ -115,28 +109,27 @@ no_memory = is_memory_refusal
 node-not-memory : (r : Reading) (n : Node) → IsNot no_memory (node_refusal r n)
 node-not-memory r n = later-not no_memory _ _ (unless-not no_memory NoObject (is_node_live r n) refl) (unless-not no_memory NoResource (is_resource_there r n) refl)
 
-pub feature-not-memory : (r : Reading) (n : Node) (f : FeatureNo) → IsNot no_memory (feature_refusal r n f)
-feature-not-memory r n f = later-not no_memory _ _ (node-not-memory r n) (unless-not no_memory NoFeature (has_feature r n f) refl)
+pub end-not-memory : (r : Reading) (e : End) → IsNot no_memory (end_refusal r e)
+end-not-memory r e = later-not no_memory _ _ (node-not-memory r e.node) (unless-not no_memory NoFeature (has_feature r e.node e.feature) refl)
 
-value-not-memory : (r : Reading) (n : Node) (f : FeatureNo) (v : Value) → IsNot no_memory (value_refusal r n f v)
-value-not-memory r n f v = later-not no_memory _ _ (unless-not no_memory NoObject (is_node_live r n && is_value_live r v) refl) (feature-not-memory r n f)
+value-not-memory : (r : Reading) (e : End) (v : Value) → IsNot no_memory (value_refusal r e v)
+value-not-memory r e v = later-not no_memory _ _ (unless-not no_memory NoObject (is_node_live r e.node && is_value_live r v) refl) (end-not-memory r e)
 
 many-not-memory : (r : Reading) (f : FeatureNo) (o : Option Refused) → IsNot no_memory o → IsNot no_memory (o else_by many_refusal r.metamodel f)
 many-not-memory r f o h = later-not no_memory _ _ h (where-not no_memory NotMany (shape r.metamodel f).is_single refl)
 
 early-not-memory : (r : Reading) (c : Change) → IsNot no_memory (early_refusal r c)
+early-not-memory r (At e (Set v)) = later-not no_memory _ _ (value-not-memory r e v) (unless-not no_memory NotSingle (shape r.metamodel e.feature).is_single refl)
+early-not-memory r (At e Unset) = end-not-memory r e
+early-not-memory r (At e (Add v i)) = many-not-memory r e.feature (value_refusal r e v) (value-not-memory r e v)
+early-not-memory r (At e (Remove i)) = many-not-memory r e.feature (end_refusal r e) (end-not-memory r e)
+early-not-memory r (At e (RemoveValue v)) = many-not-memory r e.feature (value_refusal r e v) (value-not-memory r e v)
+early-not-memory r (At e (Move to from)) = many-not-memory r e.feature (end_refusal r e) (end-not-memory r e)
+early-not-memory r (At e (Resolve i)) = end-not-memory r e
 early-not-memory r (Create c) = later-not no_memory _ _ (unless-not no_memory NoClass (is_some (lookups.class r.metamodel c)) refl) (unless-not no_memory Abstract (lookups.is_concrete r.metamodel c) refl)
-early-not-memory r (Set n f v) = later-not no_memory _ _ (value-not-memory r n f v) (unless-not no_memory NotSingle (shape r.metamodel f).is_single refl)
-early-not-memory r (Unset n f) = feature-not-memory r n f
-early-not-memory r (Add n f v i) = many-not-memory r f (value_refusal r n f v) (value-not-memory r n f v)
-early-not-memory r (Remove n f i) = many-not-memory r f (feature_refusal r n f) (feature-not-memory r n f)
-early-not-memory r (RemoveValue n f v) = many-not-memory r f (value_refusal r n f v) (value-not-memory r n f v)
-early-not-memory r (Move n f to from) = many-not-memory r f (feature_refusal r n f) (feature-not-memory r n f)
 early-not-memory r (Delete o) = node-not-memory r (node.Object o)
-early-not-memory r (NewResource u) = refl
-early-not-memory r (Resolve o f i) = feature-not-memory r (node.Object o) f
 early-not-memory r (Load k doc) = node-not-memory r (node.Resource k)
-early-not-memory r ResolveAll = refl
+early-not-memory r _ = refl
 
 ---------------------------------------------------------------- what is found later is not plain
 
@@ -153,66 +146,27 @@ not-plain s text c brought early =
     ∙ ap not (later-not is_plain (late_refusal (reads s) c) (full s c) (late-not-plain (reads s) c) (full-not-plain s c))
 
 may-want : (s : State) (text : List ℕ) (c : Change) → IsProper (reads s) text c → early_refusal (reads s) c ≡ None → IsTrue (may_want_memory s (command_of text c))
-may-want s text (Create c) brought early = not-plain s text (Create c) brought early
-may-want s text (Set n f v) brought early = not-plain s text (Set n f v) brought early
-may-want s text (Unset n f) brought early = not-plain s text (Unset n f) brought early
-may-want s text (Add n f v i) brought early = not-plain s text (Add n f v i) brought early
-may-want s text (Remove n f i) brought early = not-plain s text (Remove n f i) brought early
-may-want s text (RemoveValue n f v) brought early = not-plain s text (RemoveValue n f v) brought early
-may-want s text (Move n f to from) brought early = not-plain s text (Move n f to from) brought early
-may-want s text (Delete o) brought early = not-plain s text (Delete o) brought early
-may-want s text (NewResource u) brought early = not-plain s text (NewResource u) brought early
-may-want s text (Resolve o f i) brought early = not-plain s text (Resolve o f i) brought early
-may-want s text (Load k doc) brought early = not-plain s text (Load k doc) brought early
-may-want s text ResolveAll brought early = not-plain s text ResolveAll brought early
+may-want s text (At e a) brought early = not-plain s text (At e a) brought early
+may-want s text c brought early = not-plain s text c brought early
 
 ---------------------------------------------------------------- what is executed
 
 refused_as : (s : State) (text : List ℕ) (c : Change) (r : Refused) → is_memory_refusal r ≡ false → refusal_of s (command_of text c) ≡ Some r → Executed s (command_of text c) (Err (record { refused = r; given_back = None })) s
-refused_as s text (Create c) r other found = rw other (ap (step_unless s (command_of text (Create c))) found)
-refused_as s text (Set n f v) r other found = rw other (ap (step_unless s (command_of text (Set n f v))) found)
-refused_as s text (Unset n f) r other found = rw other (ap (step_unless s (command_of text (Unset n f))) found)
-refused_as s text (Add n f v i) r other found = rw other (ap (step_unless s (command_of text (Add n f v i))) found)
-refused_as s text (Remove n f i) r other found = rw other (ap (step_unless s (command_of text (Remove n f i))) found)
-refused_as s text (RemoveValue n f v) r other found = rw other (ap (step_unless s (command_of text (RemoveValue n f v))) found)
-refused_as s text (Move n f to from) r other found = rw other (ap (step_unless s (command_of text (Move n f to from))) found)
-refused_as s text (Delete o) r other found = rw other (ap (step_unless s (command_of text (Delete o))) found)
-refused_as s text (NewResource u) r other found = rw other (ap (step_unless s (command_of text (NewResource u))) found)
-refused_as s text (Resolve o f i) r other found = rw other (ap (step_unless s (command_of text (Resolve o f i))) found)
-refused_as s text (Load k doc) r other found = rw other (ap (step_unless s (command_of text (Load k doc))) found)
-refused_as s text ResolveAll r other found = rw other (ap (step_unless s (command_of text ResolveAll)) found)
+refused_as s text (At e a) r other found = rw other (ap (step_unless s (command_of text (At e a))) found)
+refused_as s text c r other found = rw other (ap (step_unless s (command_of text c)) found)
 
 -- what is found first
 found-first : (s : State) (text : List ℕ) (c : Change) (r : Refused) → early_refusal (reads s) c ≡ Some r → refusal_of s (command_of text c) ≡ Some r
-found-first s text (Create c) r e = rw e refl
-found-first s text (Set n f v) r e = rw e refl
-found-first s text (Unset n f) r e = rw e refl
-found-first s text (Add n f v i) r e = rw e refl
-found-first s text (Remove n f i) r e = rw e refl
-found-first s text (RemoveValue n f v) r e = rw e refl
-found-first s text (Move n f to from) r e = rw e refl
-found-first s text (Delete o) r e = rw e refl
 found-first s text (NewResource u) r e = absurd (none-some r e)
-found-first s text (Resolve o f i) r e = rw e refl
-found-first s text (Load k doc) r e = rw e refl
 found-first s text ResolveAll r e = absurd (none-some r e)
+found-first s text _ r e = rw e refl
 
 pub early_err : (s : State) (text : List ℕ) (c : Change) (r : Refused) → early_refusal (reads s) c ≡ Some r → Executed s (command_of text c) (Err (record { refused = r; given_back = None })) s
 early_err s text c r e = refused_as s text c r (subst (IsNot no_memory) e (early-not-memory (reads s) c)) (found-first s text c r e)
 
 pub out_of_memory : (s : State) (text : List ℕ) (c : Change) → IsProper (reads s) text c → early_refusal (reads s) c ≡ None → Executed s (command_of text c) (Err (record { refused = Memory; given_back = None })) s
-out_of_memory s text (Create c) brought early = record { may = may-want s text (Create c) brought early; outcome = refl; state = refl }
-out_of_memory s text (Set n f v) brought early = record { may = may-want s text (Set n f v) brought early; outcome = refl; state = refl }
-out_of_memory s text (Unset n f) brought early = record { may = may-want s text (Unset n f) brought early; outcome = refl; state = refl }
-out_of_memory s text (Add n f v i) brought early = record { may = may-want s text (Add n f v i) brought early; outcome = refl; state = refl }
-out_of_memory s text (Remove n f i) brought early = record { may = may-want s text (Remove n f i) brought early; outcome = refl; state = refl }
-out_of_memory s text (RemoveValue n f v) brought early = record { may = may-want s text (RemoveValue n f v) brought early; outcome = refl; state = refl }
-out_of_memory s text (Move n f to from) brought early = record { may = may-want s text (Move n f to from) brought early; outcome = refl; state = refl }
-out_of_memory s text (Delete o) brought early = record { may = may-want s text (Delete o) brought early; outcome = refl; state = refl }
-out_of_memory s text (NewResource u) brought early = record { may = may-want s text (NewResource u) brought early; outcome = refl; state = refl }
-out_of_memory s text (Resolve o f i) brought early = record { may = may-want s text (Resolve o f i) brought early; outcome = refl; state = refl }
-out_of_memory s text (Load k doc) brought early = record { may = may-want s text (Load k doc) brought early; outcome = refl; state = refl }
-out_of_memory s text ResolveAll brought early = record { may = may-want s text ResolveAll brought early; outcome = refl; state = refl }
+out_of_memory s text (At e a) brought early = record { may = may-want s text (At e a) brought early; outcome = refl; state = refl }
+out_of_memory s text c brought early = record { may = may-want s text c brought early; outcome = refl; state = refl }
 
 -- what planning answers in place of a plan is such a refusal
 pub plan_refusal : (s : Model) (c : Change) (r : Refused) → (IsFalse (is_memory_refusal r && looks_first c) → late_refusal (reading s) c ≡ (if is_memory_refusal r then None else Some r)) → IsPlanRefusal s c r
@@ -289,21 +243,12 @@ releases_of s c ns = released (going_with (reads s) s.adapters c) (tell_chain (r
 
 done_change : (s : State) (text : List ℕ) (c : Change) → IsProper (reads s) text c → done s (command_of text c) ≡ replied s c (chain (reads s) c) (effects.after s.model c) (answer_of (reads s) s.adapters (command_of text c)) (releases_of s c (chain (reads s) c))
 unfolding done_of done_loaded
-done_change s text (Create k) brought = refl
-done_change s text (Set n f v) brought = refl
-done_change s text (Unset n f) brought = refl
-done_change s text (Add n f v i) brought = refl
-done_change s text (Remove n f i) brought = refl
-done_change s text (RemoveValue n f v) brought = refl
-done_change s text (Move n f to from) brought = refl
-done_change s text (Delete o) brought = refl
 done_change s text (NewResource u) web = ap (λ (o : Option (List ℕ)). done_of s u (option_map NewResource o)) (joined-web [] u web)
 done_change s text (Load k doc) proper =
     let c = Load k doc in
     ap (done_loaded s k) proper.0
     ∙ ap (λ (a : Answer). replied s c (chain (reads s) c) (effects.after s.model c) a (releases_of s c (chain (reads s) c))) (sym (ap (λ (x : Result Doc DocFault). answer.Loaded (objects_of x)) proper.0))
-done_change s text (Resolve o f i) brought = refl
-done_change s text ResolveAll brought = refl
+done_change s text _ brought = refl
 
 -- a change that was made, with the notices that somebody may hear
 pub changed : (s : State) (text : List ℕ) (c : Change) (made : List Notice) → IsProper (reads s) text c → early_refusal (reads s) c ≡ None → late_refusal (reads s) c ≡ None → Heard (reads s).above made (chain (reads s) c) s.adapters → is_chain_full (reads s).above made s.adapters ≡ false

@@ -5,6 +5,7 @@ use Rattle.std.specs.List.{IsDistinct}
 use Rattle.std.proofs.lemmas.List.Elements.{All-contains}
 use Rattle.mm_types.specs.Shapes.{shape}
 use Rattle.mm_types.specs.declared.numbers.FeatureNo.{FeatureNo}
+use Rattle.mm_types.specs.declared.numbers.Node.{Node}
 use Rattle.mm_types.specs.declared.numbers.Node.TheVariants as node
 use Rattle.mm_types.specs.declared.numbers.ObjectNo.{ObjectNo}
 use Rattle.mm_types.specs.declared.numbers.ResourceNo.{ResourceNo}
@@ -24,7 +25,8 @@ use Rattle.round_trip.proofs.ValuesListLemmas.{stands}
 use Rattle.handshake.specs.Effects.{after}
 use Rattle.handshake.specs.Resolving.{proxy_at}
 use Rattle.handshake.specs.declared.change.Change.{Change}
-use Rattle.handshake.specs.declared.change.Change.TheVariants.{Load, NewResource, Resolve}
+use Rattle.handshake.specs.declared.change.Change.TheVariants.{At, Load, NewResource}
+use Rattle.handshake.specs.declared.act.Act.TheVariants.{Resolve}
 use Rattle.reloading.specs.Alike.{Alike}
 use Rattle.reloading.specs.Between.{Between}
 use Rattle.reloading.specs.Laws.{IsResolvedBetween}
@@ -40,7 +42,7 @@ use Rattle.reloading.proofs.MakeLemmas.{made-so-far, room, uri-new, uri-short}
 use Rattle.reloading.proofs.OrdersLemmas.{at-first, loads-give-between}
 use Rattle.reloading.proofs.AgainLemmas as reloads_of
 use Rattle.reloading.proofs.AgainLemmas.{same-metamodel}
-use Rattle.reloading.proofs.ResolveLemmas.{left-at, resolves-between}
+use Rattle.reloading.proofs.ResolveLemmas.{left-at, none-at-root, resolves-between}
 use Rattle.reloading.proofs.ResolveAllLemmas.{resolves-all}
 use Rattle.reloading.proofs.SoFarLemmas.{HasSoFar, numbered}
 use Rattle.repository.specs.Loads.{reads_into, uri_at}
@@ -49,6 +51,7 @@ use Rattle.repository.specs.State as legal_state
 use Rattle.repository.specs.State.{State, reads}
 use Rattle.repository.specs.Step.{Stepped}
 use Rattle.repository.specs.declared.command.Command.{Command}
+use Rattle.repository.specs.Commands.{resolve}
 use Rattle.repository.specs.declared.command.Command.TheVariants as command
 use Rattle.repository.specs.Reload.{AllDone, AreLoads, AreResolves, AreTexts, IsAllResolved, IsDone, IsReloaded, LoadsGiveBetween, ReloadsInAnyOrder, ResolvesAll, ResolvesBetween, bare, commands, reloaded}
 use Rattle.repository.proofs.BareStepLemmas.{IsStep, filled, made, resolved}
@@ -125,33 +128,49 @@ module _ (s : Model) (legal : IsLegal s) (none : HasNoProxy (reading s)) where
     one : IsResolvedBetween (reading s) before o f i
     one = resolves-between s w b legal other none between o f i there
 
-    then-legal : IsLegal (after before (Resolve o f i))
+    abbrev change : Change
+    change = At (at_end (node.Object o) f) (Resolve i)
+
+    then-legal : IsLegal (after before change)
     then-legal = now-legal (left-at s w b legal other none between o f i there)
 
-    stepped : IsStep before (command.Resolve o f i) (after before (Resolve o f i))
-    stepped = resolved before o f i (record { early = one.early; late = one.late })
+    stepped : IsStep before (resolve o f i) (after before change)
+    stepped = resolved before (at_end (node.Object o) f) i (record { early = one.early; late = one.late })
 
-  all-resolved : (cs : List (Command View)) (w : ValuesState) (b : Links) → IsLegal (model_of s.metamodel w b) → Between (reading s) (reading (model_of s.metamodel w b)) → AreResolves (bare (model_of s.metamodel w b)) cs → AreDone (bare (model_of s.metamodel w b)) cs
-  all-resolved [] w b other between resolves = record { done = tt; alike = alike-of (reading s) (reading (model_of s.metamodel w b)) none resolves between }
-  all-resolved (command.Resolve o f i ∷ cs) w b other between resolves =
-      let u = after (model_of s.metamodel w b) (Resolve o f i) in
+  -- a proxy is resolved, which is one of an object, and then the rest
+  first-resolved : (n : Node) (f : FeatureNo) (i : ℕ) (cs : List (Command View))
+      → ((w : ValuesState) (b : Links) → IsLegal (model_of s.metamodel w b) → Between (reading s) (reading (model_of s.metamodel w b)) → AreResolves (bare (model_of s.metamodel w b)) cs → AreDone (bare (model_of s.metamodel w b)) cs)
+      → (w : ValuesState) (b : Links) → IsLegal (model_of s.metamodel w b) → Between (reading s) (reading (model_of s.metamodel w b)) → AreResolves (bare (model_of s.metamodel w b)) (command.At (at_end n f) (Resolve i) ∷ cs) → AreDone (bare (model_of s.metamodel w b)) (command.At (at_end n f) (Resolve i) ∷ cs)
+  first-resolved (node.Object o) f i cs rest_of w b other between resolves =
+      let u = after (model_of s.metamodel w b) (At (at_end (node.Object o) f) (Resolve i)) in
       let is = stepped w b other between o f i resolves.0 in
-      let rest = all-resolved cs u.values u.links (then-legal w b other between o f i resolves.0) (one w b other between o f i resolves.0).between (subst (λ (y : Stepped). AreResolves y.after cs) is resolves.1) in
+      let rest = rest_of u.values u.links (then-legal w b other between o f i resolves.0) (one w b other between o f i resolves.0).between (subst (λ (y : Stepped). AreResolves y.after cs) is resolves.1) in
       record {
         done = subst (λ (y : Stepped). AllDone (y.outcome ∷ (run y.after cs).outcomes)) (sym is) (tt, rest.done);
         alike = subst (λ (y : Stepped). Alike (reading s) (reads (run y.after cs).after)) (sym is) rest.alike;
       }
+  first-resolved (node.Resource k) f i cs rest_of w b other between resolves = absurd (none-at-root (model_of s.metamodel w b) other k f i resolves.0)
+
+  all-resolved : (cs : List (Command View)) (w : ValuesState) (b : Links) → IsLegal (model_of s.metamodel w b) → Between (reading s) (reading (model_of s.metamodel w b)) → AreResolves (bare (model_of s.metamodel w b)) cs → AreDone (bare (model_of s.metamodel w b)) cs
+  all-resolved [] w b other between resolves = record { done = tt; alike = alike-of (reading s) (reading (model_of s.metamodel w b)) none resolves between }
+  all-resolved (command.At e (Resolve i) ∷ cs) w b other between resolves = first-resolved e.node e.feature i cs (λ v c other between resolves. all-resolved cs v c other between resolves) w b other between resolves
   all-resolved (_ ∷ cs) w b other between resolves = absurd resolves
 
   -- resolves of a model are such commands
+  first-command : (n : Node) (f : FeatureNo) (i : ℕ) (cs : List Change)
+      → ((w : ValuesState) (b : Links) → IsLegal (model_of s.metamodel w b) → Between (reading s) (reading (model_of s.metamodel w b)) → models.AreResolves (model_of s.metamodel w b) cs → (rs : List (Command View)) × AreResolves (bare (model_of s.metamodel w b)) rs)
+      → (w : ValuesState) (b : Links) → IsLegal (model_of s.metamodel w b) → Between (reading s) (reading (model_of s.metamodel w b)) → models.AreResolves (model_of s.metamodel w b) (At (at_end n f) (Resolve i) ∷ cs) → (rs : List (Command View)) × AreResolves (bare (model_of s.metamodel w b)) rs
+  first-command (node.Object o) f i cs rest_of w b other between resolves =
+      let u = after (model_of s.metamodel w b) (At (at_end (node.Object o) f) (Resolve i)) in
+      let is = stepped w b other between o f i resolves.0 in
+      let rest = rest_of u.values u.links (then-legal w b other between o f i resolves.0) (one w b other between o f i resolves.0).between resolves.1 in
+      (resolve o f i ∷ rest.0, (resolves.0, subst (λ (y : Stepped). AreResolves y.after rest.0) (sym is) rest.1))
+  first-command (node.Resource k) f i cs rest_of w b other between resolves = absurd (none-at-root (model_of s.metamodel w b) other k f i resolves.0)
+
   as-commands : (cs : List Change) (w : ValuesState) (b : Links) → IsLegal (model_of s.metamodel w b) → Between (reading s) (reading (model_of s.metamodel w b)) → models.AreResolves (model_of s.metamodel w b) cs
       → (rs : List (Command View)) × AreResolves (bare (model_of s.metamodel w b)) rs
   as-commands [] w b other between resolves = ([], resolves)
-  as-commands (Resolve o f i ∷ cs) w b other between resolves =
-      let u = after (model_of s.metamodel w b) (Resolve o f i) in
-      let is = stepped w b other between o f i resolves.0 in
-      let rest = as-commands cs u.values u.links (then-legal w b other between o f i resolves.0) (one w b other between o f i resolves.0).between resolves.1 in
-      (command.Resolve o f i ∷ rest.0, (resolves.0, subst (λ (y : Stepped). AreResolves y.after rest.0) (sym is) rest.1))
+  as-commands (At e (Resolve i) ∷ cs) w b other between resolves = first-command e.node e.feature i cs (λ v c other between resolves. as-commands cs v c other between resolves) w b other between resolves
   as-commands (_ ∷ cs) w b other between resolves = absurd resolves
 
 pub resolves-stay-between : (s : State) (w : ValuesState) (b : Links) → ResolvesBetween s w b

@@ -26,7 +26,7 @@ use Rattle.web_uris.specs.Joined.{joined}
 use Rattle.models.specs.Legal as models
 use Rattle.models.specs.Model.{Model, reading}
 use Rattle.models.specs.Reading.{Reading, all_features_of, at_end, held_at, is_within}
-use Rattle.handshake.specs.Named.{node_refusal}
+use Rattle.models.specs.Existence.{node_refusal}
 use Rattle.handshake.specs.FeatureChange.{has_flag}
 use Rattle.handshake.specs.FeatureChanges as planned_chain
 use Rattle.handshake.specs.declared.change.Change.{Change}
@@ -38,7 +38,7 @@ use Rattle.repository.specs.Enough.{is_deep_of}
 use Rattle.repository.specs.State.{State, is_there, reads}
 use Rattle.repository.specs.Step.{model_after}
 use Rattle.repository.specs.declared.command.Command.{Command}
-use Rattle.repository.specs.declared.command.Command.TheVariants.{Create, Set, Unset, Add, Remove, RemoveValue, Move, Delete, Attach, Watch, Unwatch, Detach, Get, IsSet, Container, Contents, Class, AdapterTold, AdapterKept, CreateResource, Resolve, Load, ResolveAll, Resource, Validate, Fragment, ObjectAt, Save, Snapshot}
+use Rattle.repository.specs.declared.command.Command.TheVariants.{At, Create, Delete, CreateResource, Load, ResolveAll}
 use Rattle.repository.proofs.AttachedLemmas.{AreOfNoFeature}
 use Rattle.repository.proofs.LoadLemmas.{text-read}
 use Rattle.repository.proofs.PlanLemmas.{uri-allowed}
@@ -74,35 +74,13 @@ pub command-replays : (s : State) (c : Command View) → models.IsLegal s.model 
     → (d : End) → IsThere s.model d.node → IsThere (model_after s.model c) d.node
     → replayed_all (has_flag s.model.metamodel) (held_at (reads s)) (chain (reads s) c) d ≡ held_at (reading (model_after s.model c)) d
 unfolding Replays
+command-replays s (At e a) legal early late d before later = chain-replays s.model (change.At e a) legal early late tt d refl refl
 command-replays s (Create c) legal early late d before later = chain-replays s.model (change.Create c) legal early late tt d refl refl
-command-replays s (Set n f v) legal early late d before later = chain-replays s.model (change.Set n f v) legal early late tt d refl refl
-command-replays s (Unset n f) legal early late d before later = chain-replays s.model (change.Unset n f) legal early late tt d refl refl
-command-replays s (Add n f v i) legal early late d before later = chain-replays s.model (change.Add n f v i) legal early late tt d refl refl
-command-replays s (Remove n f i) legal early late d before later = chain-replays s.model (change.Remove n f i) legal early late tt d refl refl
-command-replays s (RemoveValue n f v) legal early late d before later = chain-replays s.model (change.RemoveValue n f v) legal early late tt d refl refl
-command-replays s (Move n f to from) legal early late d before later = chain-replays s.model (change.Move n f to from) legal early late tt d refl refl
 command-replays s (Delete o) legal early late d before later = chain-replays s.model (change.Delete o) legal early late tt d (goes-none s.model o d.node later) refl
 command-replays s (CreateResource t) legal early late d before later = resource-replays s t (joined [] t) legal late d
-command-replays s (Resolve o f i) legal early late d before later = chain-replays s.model (change.Resolve o f i) legal early late tt d refl refl
 command-replays s (Load k text) legal early late d before later = load-replays s k text (reads_into (reads s) k text) refl legal early late d before
 command-replays s ResolveAll legal early late d before later = chain-replays s.model change.ResolveAll legal early late tt d refl refl
-command-replays s (Attach number target deep view) legal early late d before later = refl
-command-replays s (Watch number target deep) legal early late d before later = refl
-command-replays s (Unwatch number target) legal early late d before later = refl
-command-replays s (Detach number) legal early late d before later = refl
-command-replays s (Get n f) legal early late d before later = refl
-command-replays s (IsSet n f) legal early late d before later = refl
-command-replays s (Container o) legal early late d before later = refl
-command-replays s (Resource o) legal early late d before later = refl
-command-replays s (Contents n) legal early late d before later = refl
-command-replays s (Validate o) legal early late d before later = refl
-command-replays s (Fragment o) legal early late d before later = refl
-command-replays s (ObjectAt t) legal early late d before later = refl
-command-replays s (Save k) legal early late d before later = refl
-command-replays s (Class o) legal early late d before later = refl
-command-replays s (Snapshot n) legal early late d before later = refl
-command-replays s (AdapterTold number) legal early late d before later = refl
-command-replays s (AdapterKept number) legal early late d before later = refl
+command-replays s _ legal early late d before later = refl
 
 ---------------------------------------------------------------- what is heard of it
 

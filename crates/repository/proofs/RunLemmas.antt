@@ -2,7 +2,7 @@
 use Rattle.std.proofs.Common.{◌≡◌, Bool, true, false, List, [], ◌∷◌, ◌++◌, Option, Some, None, Ok, Err, refl, sym, ap, subst, ◌∙◌, if◌then◌else◌, ℕ, option_map}
 use Rattle.std.specs.Prelude.{MatchBool, Result}
 use Rattle.repository.specs.declared.command.Command.{Command}
-use Rattle.repository.specs.declared.command.Command.TheVariants.{Create, Set, Unset, Add, Remove, RemoveValue, Move, Delete, Attach, Watch, Unwatch, Detach, Get, IsSet, Container, Contents, Class, AdapterTold, AdapterKept, CreateResource, Resolve, Load, ResolveAll, Resource, Validate, Fragment, ObjectAt, Save, Snapshot}
+use Rattle.repository.specs.declared.command.Command.TheVariants.{CreateResource, Load}
 use Rattle.repository.specs.State.{State, reads}
 use Rattle.repository.specs.Loads.{load_of, reads_into}
 use Rattle.mm_types.specs.declared.document_fault.DocFault.{DocFault}
@@ -61,35 +61,9 @@ load-metamodel s k (Err f) = refl
 
 -- no command changes the metamodel
 done-metamodel : (s : State) (c : Command View) → (done s c).after.model.metamodel ≡ s.model.metamodel
-done-metamodel s (Create c) = refl
-done-metamodel s (Set n f v) = refl
-done-metamodel s (Unset n f) = refl
-done-metamodel s (Add n f v i) = refl
-done-metamodel s (Remove n f i) = refl
-done-metamodel s (RemoveValue n f v) = refl
-done-metamodel s (Move n f to from) = refl
-done-metamodel s (Delete o) = refl
 done-metamodel s (CreateResource t) = resource-metamodel s (joined [] t)
-done-metamodel s (Resolve o f i) = refl
 done-metamodel s (Load k text) = load-metamodel s.model k (reads_into (reads s) k text)
-done-metamodel s ResolveAll = refl
-done-metamodel s (Attach number target deep view) = refl
-done-metamodel s (Watch number target deep) = refl
-done-metamodel s (Unwatch number target) = refl
-done-metamodel s (Detach number) = refl
-done-metamodel s (Get n f) = refl
-done-metamodel s (IsSet n f) = refl
-done-metamodel s (Container o) = refl
-done-metamodel s (Resource o) = refl
-done-metamodel s (Contents n) = refl
-done-metamodel s (Validate o) = refl
-done-metamodel s (Fragment o) = refl
-done-metamodel s (ObjectAt t) = refl
-done-metamodel s (Save k) = refl
-done-metamodel s (Class o) = refl
-done-metamodel s (Snapshot n) = refl
-done-metamodel s (AdapterTold number) = refl
-done-metamodel s (AdapterKept number) = refl
+done-metamodel s _ = refl
 
 step-metamodel : (s : State) (c : Command View) → (step s c).after.model.metamodel ≡ s.model.metamodel
 step-metamodel s c = elim (refusal_of s c) as (λ r. (step_unless s c r).after.model.metamodel ≡ s.model.metamodel) [ Some r ↦ refl | None ↦ done-metamodel s c ]

@@ -13,7 +13,8 @@ use Rattle.handshake.specs.Plans.{edits_values_alone}
 use Rattle.handshake.specs.Refusals.{early_refusal, late_refusal}
 use Rattle.handshake.specs.FeatureChanges.{chain}
 use Rattle.handshake.specs.declared.change.Change.{Change}
-use Rattle.handshake.specs.declared.change.Change.TheVariants.{Create, Set, Unset, Add, Remove, RemoveValue, Move, Delete}
+use Rattle.handshake.specs.declared.change.Change.TheVariants.{At, Create, Delete}
+use Rattle.handshake.specs.declared.act.Act.TheVariants.{Resolve}
 use Rattle.repository.specs.Answers.{IsEarlyAnswer, answer_of, is_answered_late}
 use Rattle.repository.specs.Leaving.{going_with}
 use Rattle.repository.specs.Proper.{IsProper}
@@ -27,13 +28,9 @@ use Rattle.repository.proofs.PlanLemmas.{changed_to}
 -- it is answered before it is planned
 pub early-whole : (r : Reading) (rs : List Listed) (text : List ℕ) (c : Change) (q : Option Answer) (d : Answer) → edits_values_alone r.metamodel c ≡ true
     → IsEarlyAnswer (is_answered_late c) (answer_of r rs (command_of text c)) q → unwrap_or q d ≡ answer_of r rs (command_of text c)
+early-whole r rs text (At e (Resolve i)) q d h is = absurd (false≢true h)
+early-whole r rs text (At e a) q d h is = ap (λ (x : Option Answer). unwrap_or x d) is
 early-whole r rs text (Create k) q d h is = ap (λ (x : Option Answer). unwrap_or x d) is
-early-whole r rs text (Set n f v) q d h is = ap (λ (x : Option Answer). unwrap_or x d) is
-early-whole r rs text (Unset n f) q d h is = ap (λ (x : Option Answer). unwrap_or x d) is
-early-whole r rs text (Add n f v i) q d h is = ap (λ (x : Option Answer). unwrap_or x d) is
-early-whole r rs text (Remove n f i) q d h is = ap (λ (x : Option Answer). unwrap_or x d) is
-early-whole r rs text (RemoveValue n f v) q d h is = ap (λ (x : Option Answer). unwrap_or x d) is
-early-whole r rs text (Move n f to from) q d h is = ap (λ (x : Option Answer). unwrap_or x d) is
 early-whole r rs text _ q d h is = absurd (false≢true h)
 
 -- no adapter, no target that goes

@@ -13,6 +13,14 @@ use Rattle.containment.specs.Above.{resource_of}
 use Rattle.containment.specs.Forest.{container, contents, subtree}
 use Rattle.repository.specs.declared.command.Command.{Command}
 use Rattle.repository.specs.declared.command.Command.TheVariants as command
+use Rattle.repository.specs.declared.read.Read.{Read}
+use Rattle.repository.specs.declared.read.Read.TheVariants as asks
+use Rattle.repository.specs.declared.read.EndRead.TheVariants.{Get, IsSet}
+use Rattle.repository.specs.declared.read.ObjectRead.TheVariants.{Class, Container, Resource, Validate, Fragment}
+use Rattle.repository.specs.declared.read.NodeRead.TheVariants.{Contents, Snapshot}
+use Rattle.repository.specs.declared.read.Tally.TheVariants.{Told, Kept}
+use Rattle.handshake.specs.declared.act.Act.{Act}
+use Rattle.handshake.specs.declared.act.Act.TheVariants as act
 use Rattle.repository.specs.declared.reply.Answer.{Answer}
 use Rattle.repository.specs.declared.reply.Answer.TheVariants as answer
 use Rattle.repository.specs.declared.reply.FeatureValue.{FeatureValue}
@@ -61,43 +69,50 @@ abbrev pub short_features : Reading → ObjectNo → List FeatureNo
 short_features r o = filter (λ f. is_too_few r (at_end (node.Object o) f)) (all_features_of r (node.Object o))
 
 -- an `add` answers whether the list changed, what takes a value out or moves it answers the value, `remove_value` whether it was there,
--- `delete` how many objects it destroyed, `resolve` the object that the proxy finds, `load` how many objects it made, and `resolve_all` how
--- many proxies it resolved and how many stand afterwards
+-- and `resolve` the object that the proxy finds
+abbrev pub act_answer : Reading → End → Act → Answer
+act_answer r e (act.Set v) = answer.Done
+act_answer r e act.Unset = answer.Done
+act_answer r e (act.Add v i) = answer.Flag (not (is_repeat r e v))
+act_answer r e (act.Remove i) = answer.Value (value_in (r.values e) i)
+act_answer r e (act.RemoveValue v) = answer.Flag (has_value (r.values e) v)
+act_answer r e (act.Move to from) = answer.Value (value_in (r.values e) from)
+act_answer r e (act.Resolve i) = answer.Object (option_map_or (λ x. x.object) (target_at r e i) (record { 0 = 0 }))
+
+abbrev pub read_answer : Reading → List Listed → Read → Answer
+read_answer r rs (asks.At e Get) = got_answer (got r e)
+read_answer r rs (asks.At e IsSet) = answer.Flag (is_set r e)
+read_answer r rs (asks.Of o Class) = answer.Class (unwrap_or (r.class o) (record { 0 = 0 }))
+read_answer r rs (asks.Of o Container) = answer.Container (container r o)
+read_answer r rs (asks.Of o Resource) = answer.Within (resource_of r.above o)
+read_answer r rs (asks.Of o Validate) = answer.Features (short_features r o)
+read_answer r rs (asks.Of o Fragment) = answer.Fragment (unwrap_or (fragment r o) [])
+read_answer r rs (asks.Under n Contents) = answer.Objects (contents r n)
+read_answer r rs (asks.Under n Snapshot) = answer.Snapshot (snapshot_of r n)
+read_answer r rs (asks.Save k) = answer.Document (saved r k)
+read_answer r rs (asks.ObjectAt t) = answer.Found (at r t)
+read_answer r rs (asks.Adapter number Told) = answer.Count (count_of rs number (λ v. v.told))
+read_answer r rs (asks.Adapter number Kept) = answer.Count (count_of rs number (λ v. length v.kept))
+
+-- `delete` answers how many objects it destroyed, `load` how many it made, and `resolve_all` how many proxies it resolved and how many stand
+-- afterwards
 abbrev pub answer_of : Reading → List Listed → Command View → Answer
+answer_of r rs (command.At e a) = act_answer r e a
 answer_of r rs (command.Create c) = answer.Object (record { 0 = r.next })
-answer_of r rs (command.Set n f v) = answer.Done
-answer_of r rs (command.Unset n f) = answer.Done
-answer_of r rs (command.Add n f v i) = answer.Flag (not (is_repeat r (at_end n f) v))
-answer_of r rs (command.Remove n f i) = answer.Value (value_in (r.values (at_end n f)) i)
-answer_of r rs (command.RemoveValue n f v) = answer.Flag (has_value (r.values (at_end n f)) v)
-answer_of r rs (command.Move n f to from) = answer.Value (value_in (r.values (at_end n f)) from)
 answer_of r rs (command.Delete o) = answer.Destroyed (length (subtree r o))
 answer_of r rs (command.CreateResource t) = answer.Resource (record { 0 = length r.uris })
-answer_of r rs (command.Resolve o f i) = answer.Object (option_map_or (λ x. x.object) (target_at r (at_end (node.Object o) f) i) (record { 0 = 0 }))
 answer_of r rs (command.Load k text) = answer.Loaded (objects_of (reads_into r k text))
 answer_of r rs command.ResolveAll = answer.Resolved (done r) (left r)
 answer_of r rs (command.Attach number target deep view) = answer.Done
 answer_of r rs (command.Watch number target deep) = answer.Flag (not (is_target number target rs))
 answer_of r rs (command.Unwatch number target) = answer.Flag (is_target number target rs)
 answer_of r rs (command.Detach number) = answer.Done
-answer_of r rs (command.Get n f) = got_answer (got r (at_end n f))
-answer_of r rs (command.IsSet n f) = answer.Flag (is_set r (at_end n f))
-answer_of r rs (command.Container o) = answer.Container (container r o)
-answer_of r rs (command.Resource o) = answer.Within (resource_of r.above o)
-answer_of r rs (command.Contents n) = answer.Objects (contents r n)
-answer_of r rs (command.Validate o) = answer.Features (short_features r o)
-answer_of r rs (command.Fragment o) = answer.Fragment (unwrap_or (fragment r o) [])
-answer_of r rs (command.ObjectAt t) = answer.Found (at r t)
-answer_of r rs (command.Save k) = answer.Document (saved r k)
-answer_of r rs (command.Class o) = answer.Class (unwrap_or (r.class o) (record { 0 = 0 }))
-answer_of r rs (command.Snapshot n) = answer.Snapshot (snapshot_of r n)
-answer_of r rs (command.AdapterTold number) = answer.Count (count_of rs number (λ v. v.told))
-answer_of r rs (command.AdapterKept number) = answer.Count (count_of rs number (λ v. length v.kept))
+answer_of r rs (command.Read q) = read_answer r rs q
 
 -- what can be answered before a change is planned: all but how much a deletion destroys, what a proxy finds, and how many are resolved
 abbrev pub is_answered_late : Change → Bool
 is_answered_late (change.Delete o) = true
-is_answered_late (change.Resolve o f i) = true
+is_answered_late (change.At e (act.Resolve i)) = true
 is_answered_late change.ResolveAll = true
 is_answered_late _ = false
 

@@ -25,6 +25,8 @@ use Rattle.repository.specs.State.{State, IsLegal, empty_state, reads}
 use Rattle.repository.specs.Step.{step}
 use Rattle.repository.specs.Views.{Outcome}
 use Rattle.repository.specs.declared.command.Command.{Command}
+use Rattle.handshake.specs.declared.act.Act.TheVariants.{Resolve}
+use Rattle.repository.specs.Commands.{resolve}
 use Rattle.repository.specs.declared.command.Command.TheVariants as command
 use Rattle.repository.specs.declared.reply.Answer.{Answer}
 use Rattle.repository.specs.declared.reply.Answer.TheVariants as answer
@@ -43,7 +45,7 @@ pub record AreTexts (r : Reading) (texts : ResourceNo → List ℕ) : Type 0 whe
 -- each command resolves a proxy that stands there in its turn, and none stands anywhere after the last
 abbrev pub AreResolves : State → List (Command View) → Type 0
 AreResolves t [] = HasNoProxy (reads t)
-AreResolves t (command.Resolve o f i ∷ cs) = (is_some (proxy_at (reads t) (at_end (node.Object o) f) i) ≡ true) × AreResolves (step t (command.Resolve o f i)).after cs
+AreResolves t (command.At e (Resolve i) ∷ cs) = (is_some (proxy_at (reads t) e i) ≡ true) × AreResolves (step t (command.At e (Resolve i))).after cs
 AreResolves t (c ∷ cs) = ⊥
 
 -- an outcome is no refusal
@@ -83,9 +85,9 @@ bare t = record { model = t; adapters = [] }
 
 -- nothing refuses to resolve a proxy; the state is between as before, and one proxy fewer is left, or two of a link with an opposite
 pub record IsResolvedBetween (r : Reading) (t : State) (o : ObjectNo) (f : FeatureNo) (i : ℕ) : Type 0 where
-  pub done : IsDone (step t (command.Resolve o f i)).outcome
-  pub between : Between r (reads (step t (command.Resolve o f i)).after)
-  pub fewer : proxies_len (reads t) ≡ (if is_some (shape t.model.metamodel f).opposite then 2 else 1) + proxies_len (reads (step t (command.Resolve o f i)).after)
+  pub done : IsDone (step t (resolve o f i)).outcome
+  pub between : Between r (reads (step t (resolve o f i)).after)
+  pub fewer : proxies_len (reads t) ≡ (if is_some (shape t.model.metamodel f).opposite then 2 else 1) + proxies_len (reads (step t (resolve o f i)).after)
 
 -- an answer counts the proxies that are left
 abbrev pub CountsLeft : Answer → ℕ → Type 0

@@ -6,6 +6,10 @@ use Rattle.mm_types.specs.declared.refused.Refused.TheVariants.{NoObject, NoReso
 use Rattle.notice_chain.specs.View.{View}
 use Rattle.repository.specs.declared.command.Command.{Command}
 use Rattle.repository.specs.declared.command.Command.TheVariants as command
+use Rattle.repository.specs.declared.read.Read.{Read}
+use Rattle.repository.specs.declared.read.Read.TheVariants as asks
+use Rattle.repository.specs.declared.read.EndRead.TheVariants.{IsSet}
+use Rattle.repository.specs.declared.read.ObjectRead.TheVariants.{Class, Container, Resource}
 use Rattle.repository.specs.declared.reply.Answer.{Answer}
 use Rattle.repository.specs.declared.reply.Reply.{Reply}
 use Rattle.repository.specs.State.{State}
@@ -31,37 +35,19 @@ is_plain NoAdapter = true
 is_plain AdapterTaken = true
 is_plain _ = false
 
+-- a read copies something, or looks for it with memory
+abbrev pub read_takes_memory : Read → Bool
+read_takes_memory (asks.At e IsSet) = false
+read_takes_memory (asks.Of o Class) = false
+read_takes_memory (asks.Of o Container) = false
+read_takes_memory (asks.Of o Resource) = false
+read_takes_memory (asks.Adapter number q) = false
+read_takes_memory _ = true
+
 -- a command makes or copies something, and so takes memory
 abbrev pub takes_memory : Command View → Bool
-takes_memory (command.Create c) = true
-takes_memory (command.Set n f v) = true
-takes_memory (command.Unset n f) = true
-takes_memory (command.Add n f v i) = true
-takes_memory (command.Remove n f i) = true
-takes_memory (command.RemoveValue n f v) = true
-takes_memory (command.Move n f to from) = true
-takes_memory (command.Delete o) = true
-takes_memory (command.CreateResource t) = true
-takes_memory (command.Resolve o f i) = true
-takes_memory (command.Load k text) = true
-takes_memory command.ResolveAll = true
-takes_memory (command.Attach number target deep view) = true
-takes_memory (command.Watch number target deep) = true
-takes_memory (command.Unwatch number target) = true
-takes_memory (command.Detach number) = true
-takes_memory (command.Get n f) = true
-takes_memory (command.IsSet n f) = false
-takes_memory (command.Container o) = false
-takes_memory (command.Resource o) = false
-takes_memory (command.Contents n) = true
-takes_memory (command.Validate o) = true
-takes_memory (command.Fragment o) = true
-takes_memory (command.ObjectAt t) = true
-takes_memory (command.Save k) = true
-takes_memory (command.Class o) = false
-takes_memory (command.Snapshot n) = true
-takes_memory (command.AdapterTold number) = false
-takes_memory (command.AdapterKept number) = false
+takes_memory (command.Read q) = read_takes_memory q
+takes_memory _ = true
 
 -- a command may be answered out of memory: it takes memory, and no refusal applies that is found without
 abbrev pub may_want_memory : State → Command View → Bool
@@ -81,6 +67,10 @@ change_outcome (Err r) = Err (record { refused = r; given_back = None })
 abbrev pub read_outcome : {X : Type 0} → (X → Answer) → Result X Refused → Outcome
 read_outcome f (Ok x) = Ok (record { answer = f x; told = []; released = [] })
 read_outcome f (Err r) = Err (record { refused = r; given_back = None })
+
+-- the outcome of a read whose answer is known
+abbrev pub answered_outcome : Result Answer Refused → Outcome
+answered_outcome = read_outcome (λ a. a)
 
 -- a command was done: its outcome and the state after it are the step's, or it is answered out of memory
 abbrev pub Executed : State → Command View → Outcome → State → Type 0

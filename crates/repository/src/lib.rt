@@ -8,11 +8,14 @@ pub mod laws;
 mod leaving;
 mod lone_puts;
 mod preparing;
+mod read;
 mod remembered;
 mod replies;
 mod reply;
 mod repository;
 
 pub use command::Command;
+pub use handshake::Act;
+pub use read::{EndRead, NodeRead, ObjectRead, Read, Tally};
 pub use reply::{Answer, Failure, FeatureValue, Reply};
 pub use repository::Repository;

@@ -3,12 +3,11 @@ ghost use Rattle.std.specs.FinMap as map;
 ghost use Rattle.std.specs.Prelude.{◌≡◌, ◌∷◌, [], OnErr, OnOk, if◌then◌else◌, is_some};
 ghost use Rattle.mm_values.specs.Room.{values_of};
 ghost use Rattle.mm_values.specs.Values.{applied};
-ghost use Rattle.models.specs.Reading.{at_end};
 ghost use Rattle.handshake.specs.Effects.{put_values};
 
 use fragment_paths::PathCache;
 use links::NewLink;
-use mm_types::{FeatureNo, Node, Value};
+use mm_types::{End, Node, Value};
 use mm_values::{NewValues, Values};
 use std::alloc::AllocError;
 
@@ -27,16 +26,15 @@ pub(crate) fn forget_put(paths: &mut PathCache, put: NewLink)
 #[inline(always)]
 pub(crate) fn put_value(
     values: &mut Values,
-    node: Node,
-    feature: FeatureNo,
+    end: End,
     value: Value,
     flag: bool,
 ) -> Result<(), AllocError>
-    ensures ok { OnOk result (values_of values.new ≡ applied (values_of values.old) (put_values (at_end node feature) (value ∷ []) flag)) }
+    ensures ok { OnOk result (values_of values.new ≡ applied (values_of values.old) (put_values end (value ∷ []) flag)) }
     ensures err { OnErr result (values_of values.new ≡ values_of values.old) }
 {
-    match node {
-        Node::Object(object) => values.try_put(object, feature, NewValues::one(value), flag),
+    match end.node {
+        Node::Object(object) => values.try_put(object, end.feature, NewValues::one(value), flag),
         Node::Resource(_) => Ok(()),
     }
 }

@@ -12,22 +12,23 @@ ghost use Rattle.adapter_list.specs.Hearing.{AreKnown};
 ghost use Rattle.adapter_list.specs.Refusals.{IsChainRefusal};
 ghost use Rattle.adapter_list.specs.Rounds.{RoundFits, round_of};
 ghost use Rattle.notice_chain.specs.Listed.{is_chain_full};
-ghost use Rattle.repository.specs.Answers.{IsEarlyAnswer, answer_of, is_answered_late, planned_answer as planned_answer_of};
+ghost use Rattle.repository.specs.Answers.{IsEarlyAnswer, act_answer, answer_of, is_answered_late, planned_answer as planned_answer_of};
 ghost use Rattle.repository.specs.Leaving.{HasRoom, going_with, spots_in};
 ghost use Rattle.repository.specs.Proper.{IsProper};
 ghost use Rattle.repository.specs.Refusals.{IsPlanRefusal};
 ghost use Rattle.repository.specs.Views.{command_of};
+ghost use Rattle.handshake.specs.declared.change.Change.TheVariants.{At};
 ghost use Rattle.repository.specs.declared.reply.Answer.TheVariants as answer;
 
 use crate::leaving::{Leaving, room_for, spots_gone};
 use crate::reply::Answer;
 use adapter_list::{AdapterList, Hearers, Round};
 use adapters::Adapter;
-use handshake::{Change, Planned, Resolved, Target, plan, plan_values};
+use handshake::{Act, Change, Planned, Resolved, Target, plan, plan_values};
 use links::LinkStore;
-use mm_types::{AdapterNo, End, FeatureNo, Node, ObjectNo, Refused, ResourceNo};
+use mm_types::{AdapterNo, End, Node, ObjectNo, Refused, ResourceNo};
 use mm_values::{ValuePlan, Values};
-use models::{ModelRef, at_end, copied};
+use models::{ModelRef, copied};
 use removal::Removal;
 use std::alloc::{AllocError, Global};
 
@@ -134,33 +135,30 @@ fn early_answer<L: LinkStore>(
 {
     model.lemma_is_legal();
     match change {
-        Change::Delete(_) | Change::Resolve { .. } | Change::ResolveAll => Ok(None),
+        Change::At(end, act) => early_act_answer(alloc, model, *end, act),
         Change::Create(_) => Ok(Some(Answer::Object(next_object(model)))),
         Change::NewResource(_) => Ok(Some(Answer::Resource(ResourceNo(model.resources() as u32)))),
         Change::Load(_, doc) => Ok(Some(Answer::Loaded(doc.objects.len() as u64))),
-        Change::Set { .. } | Change::Unset { .. } => Ok(Some(Answer::Done)),
-        Change::Add {
-            node,
-            feature,
-            value,
-            ..
-        } => Ok(Some(Answer::Flag(!model.is_repeat(at_end(node, feature), value)))),
-        Change::RemoveValue {
-            node,
-            feature,
-            value,
-        } => Ok(Some(Answer::Flag(model.has(at_end(node, feature), value)))),
-        Change::Remove {
-            node,
-            feature,
-            index,
-        } => Ok(Some(value_answer(alloc, model, at_end(node, feature), *index)?)),
-        Change::Move {
-            node,
-            feature,
-            from,
-            ..
-        } => Ok(Some(value_answer(alloc, model, at_end(node, feature), *from)?)),
+        Change::Delete(_) | Change::ResolveAll => Ok(None),
+    }
+}
+
+/// `early_answer` of what is done at an end.
+fn early_act_answer<L: LinkStore>(
+    alloc: Global,
+    model: &ModelRef<L>,
+    end: End,
+    act: &Act,
+) -> Result<Option<Answer>, AllocError>
+    ensures { IfOk result (IsEarlyAnswer (is_answered_late (At end act.now)) (act_answer (reading model.now) end act.now)) }
+{
+    match act {
+        Act::Set(_) | Act::Unset => Ok(Some(Answer::Done)),
+        Act::Add(value, _) => Ok(Some(Answer::Flag(!model.is_repeat(end, value)))),
+        Act::Remove(index) => Ok(Some(value_answer(alloc, model, end, *index)?)),
+        Act::RemoveValue(value) => Ok(Some(Answer::Flag(model.has(end, value)))),
+        Act::Move { from, .. } => Ok(Some(value_answer(alloc, model, end, *from)?)),
+        Act::Resolve(_) => Ok(None),
     }
 }
 

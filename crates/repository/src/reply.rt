@@ -1,4 +1,6 @@
 //! What a command gives.
+ghost use Rattle.std.specs.Prelude.{◌≡◌};
+
 use adapters::Adapter;
 use mm_types::{AdapterNo, ClassNo, FeatureNo, ObjectNo, Refused, ResourceNo, Seq, Text, Value};
 use notice_chain::Notice;
@@ -54,6 +56,20 @@ pub enum FeatureValue {
     One(Value),
     /// The values of a feature of many, in order.
     Many(Seq<Value>),
+}
+
+impl FeatureValue {
+    ghost use Rattle.repository.specs.Answers.{got_answer};
+
+    /// As the answer of a command.
+    pub(crate) fn into_answer(self) -> Answer
+        ensures { result ≡ got_answer self }
+    {
+        match self {
+            FeatureValue::One(value) => Answer::Value(value),
+            FeatureValue::Many(values) => Answer::Values(values),
+        }
+    }
 }
 
 /// What a command that is done gives.

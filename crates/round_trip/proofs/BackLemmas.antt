@@ -24,11 +24,10 @@ use Rattle.mm_types.specs.declared.value.Value.TheVariants as value
 use Rattle.links.specs.LegalSets as sets
 use Rattle.models.specs.Legal.{IsLegal}
 use Rattle.models.specs.Model.{Model, reading, values_at}
-use Rattle.models.specs.Reading.{at_end, objects_of}
+use Rattle.models.specs.Reading.{at_end, objects_of, roots_end}
 use Rattle.models.specs.Steady.{HasSteadyTexts}
 use Rattle.models.proofs.PlaceLemmas.{values-few}
 use Rattle.fragment_paths.specs.Finding.{roots}
-use Rattle.fragment_paths.specs.Fragments.{roots_end}
 use Rattle.mm_types.specs.SameValues.{same_value-true}
 use Rattle.mm_types.specs.Same.{same_value}
 use Rattle.web_uris.specs.declared.path.Path.{Path}

@@ -20,7 +20,7 @@ use Rattle.mm_types.specs.declared.numbers.ResourceNo.{ResourceNo}
 use Rattle.mm_types.specs.declared.value.Value.TheVariants as value
 use Rattle.models.specs.Legal.{IsLegal}
 use Rattle.models.specs.Model.{Model, reading, values_at}
-use Rattle.models.specs.Reading.{Reading}
+use Rattle.models.specs.Reading.{Reading, roots_end}
 use Rattle.containment.proofs.PartLemmas.{all-objects, contains-itself, contains-reference, holder-at}
 use Rattle.containment.proofs.TreeLemmas.{enough-levels, some-made, subtree-parts}
 use Rattle.containment.specs.Forest.{contents, subtree, tree}
@@ -28,7 +28,7 @@ use Rattle.web_uris.specs.Paths.{new_path}
 use Rattle.fragment_paths.proofs.ObjectLemmas as ends
 use Rattle.fragment_paths.proofs.UpLemmas.{path-root}
 use Rattle.fragment_paths.specs.Finding.{roots}
-use Rattle.fragment_paths.specs.Fragments.{path_of, roots_end}
+use Rattle.fragment_paths.specs.Fragments.{path_of}
 use Rattle.mm_types.specs.declared.limits.TheConstants.{DOCUMENT_FORMAT}
 use Rattle.doc_parts.proofs.DataLemmas.{list_of-items_of}
 use Rattle.doc_parts.proofs.DepthLemmas.{parts_within}

@@ -16,7 +16,7 @@ use Rattle.links.proofs.AboveLemmas.{above_held}
 use Rattle.links.specs.Holders.{above, holder}
 use Rattle.models.specs.Legal.{IsLegal}
 use Rattle.models.specs.Model.{Model, reading, values_at}
-use Rattle.models.specs.Reading.{at_end, is_within}
+use Rattle.models.specs.Reading.{at_end, is_within, roots_end}
 use Rattle.containment.proofs.MemberLemmas.{all-among, flat_map-from, same-object, subtree-has}
 use Rattle.containment.proofs.PartLemmas.{IsPart, all-objects, contents-parts, holder-at}
 use Rattle.containment.specs.Above.{resource_of}
@@ -25,7 +25,7 @@ use Rattle.fragment_paths.proofs.HeldLemmas.{held, root-found}
 use Rattle.fragment_paths.proofs.InsideLemmas.{contents-contains, each-inside}
 use Rattle.fragment_paths.proofs.UpLemmas.{resource-part, resource-root}
 use Rattle.fragment_paths.specs.Finding.{roots}
-use Rattle.fragment_paths.specs.Fragments.{position_in, roots_end}
+use Rattle.fragment_paths.specs.Fragments.{position_in}
 use Rattle.doc_writer.specs.Written.{objects_in}
 use Rattle.round_trip.proofs.ValuesListLemmas.{among-found, found-among, in-all}
 

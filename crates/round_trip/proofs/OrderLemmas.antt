@@ -16,7 +16,7 @@ use Rattle.links.specs.Holders.{holder}
 use Rattle.links.specs.Links.{end}
 use Rattle.models.specs.Legal.{IsLegal}
 use Rattle.models.specs.Model.{Model, reading, values_at}
-use Rattle.models.specs.Reading.{object_of, objects_of}
+use Rattle.models.specs.Reading.{object_of, objects_of, roots_end}
 use Rattle.containment.specs.Forest.{contents, subtree, tree}
 use Rattle.containment.proofs.DistinctLemmas.{distinct-++, objects-distinct, subtree-distinct}
 use Rattle.containment.proofs.MemberLemmas.{all-among, flat_map-from, same-object}
@@ -25,7 +25,7 @@ use Rattle.web_uris.specs.Paths.{with_step}
 use Rattle.web_uris.specs.declared.path.Path.{Path}
 use Rattle.web_uris.specs.declared.path.Step.{Step}
 use Rattle.fragment_paths.specs.Finding.{roots}
-use Rattle.fragment_paths.specs.Fragments.{path_of, position_in, roots_end, step_into}
+use Rattle.fragment_paths.specs.Fragments.{path_of, position_in, step_into}
 use Rattle.fragment_paths.proofs.HeldLemmas.{held}
 use Rattle.fragment_paths.proofs.UpLemmas.{path-part, path-root}
 use Rattle.doc_writer.specs.Written.{objects_in}

@@ -12,7 +12,7 @@ use Rattle.repository.specs.State.{State}
 use Rattle.repository.specs.Step.{joins}
 use Rattle.repository.specs.Views.{Outcome, brought}
 use Rattle.repository.specs.declared.command.Command.{Command}
-use Rattle.repository.specs.declared.command.Command.TheVariants.{ResolveAll, Create, Set, Unset, Add, Remove, RemoveValue, Move, Delete, Attach, Watch, Unwatch, Detach, Get, IsSet, Container, Contents, Class, AdapterTold, AdapterKept, CreateResource, Resolve, Load, Resource, Validate, Fragment, ObjectAt, Save, Snapshot}
+use Rattle.repository.specs.declared.command.Command.TheVariants.{Attach}
 use Rattle.repository.specs.declared.reply.Answer.{Answer}
 use Rattle.repository.proofs.RunLemmas.{refused-nothing}
 use Rattle.script_lines.specs.declared.form.Form.{Form}
@@ -32,35 +32,8 @@ unheard-pool pool c f (Err e) alone = refl
 
 -- what was brought and is put back leaves the pool as it was
 undone : (before : Pool) (c : Command View) → IsBrought before c → option_map_or (with_box (taken before c)) (option_zip (brought_no c) (brought c)) (taken before c) ≡ before
-undone before (Create c) h = refl
-undone before (Set n f v) h = refl
-undone before (Unset n f) h = refl
-undone before (Add n f v index) h = refl
-undone before (Remove n f i) h = refl
-undone before (RemoveValue n f v) h = refl
-undone before (Move n f to from) h = refl
-undone before (CreateResource t) h = refl
-undone before (Resolve o f i) h = refl
-undone before ResolveAll h = refl
-undone before (Load k text) h = refl
 undone before (Attach number target deep view) h = put-back before number view (All-head (λ (a : Listed). box_of before a.no ≡ Ok a.view) (record { no = number; targets = record { node = target; deep = deep } ∷ []; view = view }) [] h)
-undone before (Watch number target deep) h = refl
-undone before (Unwatch number target) h = refl
-undone before (Detach number) h = refl
-undone before (Get n f) h = refl
-undone before (IsSet n f) h = refl
-undone before (Container o) h = refl
-undone before (Resource o) h = refl
-undone before (Contents n) h = refl
-undone before (Delete o) h = refl
-undone before (Validate o) h = refl
-undone before (Fragment o) h = refl
-undone before (ObjectAt t) h = refl
-undone before (Save k) h = refl
-undone before (Class o) h = refl
-undone before (Snapshot n) h = refl
-undone before (AdapterTold number) h = refl
-undone before (AdapterKept number) h = refl
+undone before _ h = refl
 
 pub returned-after : (before : Pool) (s t : State) (c : Command View) (o : Outcome) → IsBrought before c → Executed s c o t → returned (taken before c) (brought_no c) o ≡ pool_after before c o
 returned-after before s t c (Ok r) h x = refl
@@ -69,37 +42,13 @@ returned-after before s t c (Err f) h x =
 
 -- what a form brings is in the pool
 pub bind-given : (s : Session) (f : Form) → IsGiven s.pool (bind s f)
-bind-given s (asks.New class) = All-nil (λ (a : Listed). box_of s.pool a.no ≡ Ok a.view)
-bind-given s (asks.Set n feature v) = All-nil (λ (a : Listed). box_of s.pool a.no ≡ Ok a.view)
-bind-given s (asks.Unset n feature) = All-nil (λ (a : Listed). box_of s.pool a.no ≡ Ok a.view)
-bind-given s (asks.Add n feature v index) = All-nil (λ (a : Listed). box_of s.pool a.no ≡ Ok a.view)
-bind-given s (asks.Remove n feature i) = All-nil (λ (a : Listed). box_of s.pool a.no ≡ Ok a.view)
-bind-given s (asks.RemoveValue n feature v) = All-nil (λ (a : Listed). box_of s.pool a.no ≡ Ok a.view)
-bind-given s (asks.Move n feature to from) = All-nil (λ (a : Listed). box_of s.pool a.no ≡ Ok a.view)
-bind-given s (asks.Resource t) = All-nil (λ (a : Listed). box_of s.pool a.no ≡ Ok a.view)
-bind-given s (asks.Resolve o feature i) = All-nil (λ (a : Listed). box_of s.pool a.no ≡ Ok a.view)
-bind-given s asks.ResolveAll = All-nil (λ (a : Listed). box_of s.pool a.no ≡ Ok a.view)
-bind-given s (asks.Load k text) = All-nil (λ (a : Listed). box_of s.pool a.no ≡ Ok a.view)
 bind-given s (asks.Attach number target deep) =
     elim (box_of s.pool number) as (λ r. box_of s.pool number ≡ r → IsGiven s.pool (attach_request r number target deep)) [
       | Ok v ↦ λ e. All-cons (λ (a : Listed). box_of s.pool a.no ≡ Ok a.view) _ [] e (All-nil (λ (a : Listed). box_of s.pool a.no ≡ Ok a.view))
       | Err r ↦ λ e. tt
     ] refl
-bind-given s (asks.Watch number target deep) = All-nil (λ (a : Listed). box_of s.pool a.no ≡ Ok a.view)
-bind-given s (asks.Unwatch number target) = All-nil (λ (a : Listed). box_of s.pool a.no ≡ Ok a.view)
-bind-given s (asks.Detach number) = All-nil (λ (a : Listed). box_of s.pool a.no ≡ Ok a.view)
-bind-given s (asks.Get n feature) = All-nil (λ (a : Listed). box_of s.pool a.no ≡ Ok a.view)
-bind-given s (asks.IsSet n feature) = All-nil (λ (a : Listed). box_of s.pool a.no ≡ Ok a.view)
-bind-given s (asks.Container o) = All-nil (λ (a : Listed). box_of s.pool a.no ≡ Ok a.view)
-bind-given s (asks.Within o) = All-nil (λ (a : Listed). box_of s.pool a.no ≡ Ok a.view)
-bind-given s (asks.Contents n) = All-nil (λ (a : Listed). box_of s.pool a.no ≡ Ok a.view)
-bind-given s (asks.Delete o) = All-nil (λ (a : Listed). box_of s.pool a.no ≡ Ok a.view)
-bind-given s (asks.Validate o) = All-nil (λ (a : Listed). box_of s.pool a.no ≡ Ok a.view)
-bind-given s (asks.Fragment o) = All-nil (λ (a : Listed). box_of s.pool a.no ≡ Ok a.view)
-bind-given s (asks.At t) = All-nil (λ (a : Listed). box_of s.pool a.no ≡ Ok a.view)
-bind-given s (asks.Save k) = All-nil (λ (a : Listed). box_of s.pool a.no ≡ Ok a.view)
-bind-given s (asks.Class o) = All-nil (λ (a : Listed). box_of s.pool a.no ≡ Ok a.view)
 bind-given s (asks.Seen number) = tt
+bind-given s _ = All-nil (λ (a : Listed). box_of s.pool a.no ≡ Ok a.view)
 
 -- what is said of an added text may be said in another way
 pub adds-run : {E : Type 0} (r : Result Turn E) (old new : List ℕ) (P Q : Printed → Type 0) → ((p : Printed) → P p → Q p) → IfOk r (λ t. Adds old new t P) → IfOk r (λ t. Adds old new t Q)

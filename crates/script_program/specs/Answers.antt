@@ -13,6 +13,7 @@ use Rattle.notice_chain.specs.declared.notice.Notice.{Notice}
 use Rattle.repository.specs.Views.{Outcome}
 use Rattle.repository.specs.declared.command.Command.{Command}
 use Rattle.repository.specs.declared.command.Command.TheVariants as command
+use Rattle.repository.specs.declared.read.Read.TheVariants as read
 use Rattle.repository.specs.declared.reply.Answer.{Answer}
 use Rattle.repository.specs.declared.reply.Answer.TheVariants as answer
 use Rattle.script_lines.specs.declared.grammar.TheConstants.{NEWLINE}
@@ -23,35 +24,9 @@ use Rattle.script_program.specs.declared.bind.TheConstants.{NOTHING}
 
 -- the feature that a command names; one of no metamodel where it names none
 abbrev pub feature_of : Command View → FeatureNo
-feature_of (command.Set n f v) = f
-feature_of (command.Unset n f) = f
-feature_of (command.Add n f v index) = f
-feature_of (command.Remove n f i) = f
-feature_of (command.RemoveValue n f v) = f
-feature_of (command.Move n f to from) = f
-feature_of (command.Resolve o f i) = f
-feature_of (command.Get n f) = f
-feature_of (command.IsSet n f) = f
-feature_of (command.Create c) = record { 0 = NOTHING }
-feature_of (command.CreateResource t) = record { 0 = NOTHING }
-feature_of command.ResolveAll = record { 0 = NOTHING }
-feature_of (command.Load k text) = record { 0 = NOTHING }
-feature_of (command.Attach number target deep view) = record { 0 = NOTHING }
-feature_of (command.Watch number target deep) = record { 0 = NOTHING }
-feature_of (command.Unwatch number target) = record { 0 = NOTHING }
-feature_of (command.Detach number) = record { 0 = NOTHING }
-feature_of (command.Container o) = record { 0 = NOTHING }
-feature_of (command.Resource o) = record { 0 = NOTHING }
-feature_of (command.Contents n) = record { 0 = NOTHING }
-feature_of (command.Delete o) = record { 0 = NOTHING }
-feature_of (command.Validate o) = record { 0 = NOTHING }
-feature_of (command.Fragment o) = record { 0 = NOTHING }
-feature_of (command.ObjectAt t) = record { 0 = NOTHING }
-feature_of (command.Save k) = record { 0 = NOTHING }
-feature_of (command.Class o) = record { 0 = NOTHING }
-feature_of (command.Snapshot n) = record { 0 = NOTHING }
-feature_of (command.AdapterTold number) = record { 0 = NOTHING }
-feature_of (command.AdapterKept number) = record { 0 = NOTHING }
+feature_of (command.At e a) = e.feature
+feature_of (command.Read (read.At e q)) = e.feature
+feature_of _ = record { 0 = NOTHING }
 
 -- how many proxies were resolved, and how many are left
 abbrev pub resolved_text : ℕ → ℕ → List ℕ

@@ -3,6 +3,7 @@ use Rattle.std.specs.Prelude.{ℕ, Bool, List, Option, option_and_then, unwrap_o
 use Rattle.std.specs.Str.{bytes_eq}
 use Rattle.mm_types.specs.Lookups as lookups
 use Rattle.mm_types.specs.Resolved.{Metamodel}
+use Rattle.mm_types.specs.declared.end.End.{End}
 use Rattle.mm_types.specs.declared.numbers.AdapterNo.{AdapterNo}
 use Rattle.mm_types.specs.declared.numbers.ClassNo.{ClassNo}
 use Rattle.mm_types.specs.declared.numbers.FeatureNo.{FeatureNo}
@@ -13,10 +14,15 @@ use Rattle.mm_types.specs.declared.refused.Refused.{Refused}
 use Rattle.mm_types.specs.declared.value.Value.{Value}
 use Rattle.mm_types.specs.declared.value.Value.TheVariants as value
 use Rattle.notice_chain.specs.View.{View}
+use Rattle.models.specs.Reading.{at_end}
+use Rattle.handshake.specs.declared.act.Act.TheVariants as act
 use Rattle.repository.specs.State.{State, reads}
 use Rattle.repository.specs.Views.{command_view}
 use Rattle.repository.specs.declared.command.Command.{Command}
 use Rattle.repository.specs.declared.command.Command.TheVariants as command
+use Rattle.repository.specs.Commands as commands
+use Rattle.repository.specs.declared.read.Read.TheVariants as read
+use Rattle.repository.specs.declared.read.EndRead.TheVariants.{Get, IsSet}
 use Rattle.script_lines.specs.declared.form.Form.{Form}
 use Rattle.script_lines.specs.declared.form.Form.TheVariants as asks
 use Rattle.script_lines.specs.declared.written_value.WrittenValue.{WrittenValue}
@@ -56,32 +62,18 @@ named_value s n name v = value_in s.model.metamodel (feature_number s n name) v
 abbrev pub create_command : {A : Type 0} → Metamodel → List ℕ → Command A
 create_command m name = command.Create (class_number m name)
 
-abbrev pub set_command : {A : Type 0} → State → Node → List ℕ → WrittenValue → Command A
-set_command s n name v = command.Set n (feature_number s n name) (named_value s n name v)
+-- the end of a named feature of a node
+abbrev pub named_end : State → Node → List ℕ → End
+named_end s n name = at_end n (feature_number s n name)
 
-abbrev pub unset_command : {A : Type 0} → State → Node → List ℕ → Command A
-unset_command s n name = command.Unset n (feature_number s n name)
+abbrev pub set_command : {A : Type 0} → State → Node → List ℕ → WrittenValue → Command A
+set_command s n name v = command.At (named_end s n name) (act.Set (named_value s n name v))
 
 abbrev pub add_command : {A : Type 0} → State → Node → List ℕ → WrittenValue → Option ℕ → Command A
-add_command s n name v index = command.Add n (feature_number s n name) (named_value s n name v) index
-
-abbrev pub remove_command : {A : Type 0} → State → Node → List ℕ → ℕ → Command A
-remove_command s n name i = command.Remove n (feature_number s n name) i
+add_command s n name v index = command.At (named_end s n name) (act.Add (named_value s n name v) index)
 
 abbrev pub removevalue_command : {A : Type 0} → State → Node → List ℕ → WrittenValue → Command A
-removevalue_command s n name v = command.RemoveValue n (feature_number s n name) (named_value s n name v)
-
-abbrev pub move_command : {A : Type 0} → State → Node → List ℕ → ℕ → ℕ → Command A
-move_command s n name to from = command.Move n (feature_number s n name) to from
-
-abbrev pub resolve_command : {A : Type 0} → State → ObjectNo → List ℕ → ℕ → Command A
-resolve_command s o name i = command.Resolve o (feature_number s (node.Object o) name) i
-
-abbrev pub get_command : {A : Type 0} → State → Node → List ℕ → Command A
-get_command s n name = command.Get n (feature_number s n name)
-
-abbrev pub isset_command : {A : Type 0} → State → Node → List ℕ → Command A
-isset_command s n name = command.IsSet n (feature_number s n name)
+removevalue_command s n name v = command.At (named_end s n name) (act.RemoveValue (named_value s n name v))
 
 -- an adapter of the pool is attached; where it can't be, the repository isn't asked
 abbrev pub attach_request : Result View Refused → AdapterNo → Node → Bool → Request View
@@ -91,12 +83,12 @@ attach_request (Err r) number target deep = request.Refuse r
 abbrev pub bind : Session → Form → Request View
 bind s (asks.New class) = request.Execute (create_command s.state.model.metamodel class)
 bind s (asks.Set n feature v) = request.Execute (set_command s.state n feature v)
-bind s (asks.Unset n feature) = request.Execute (unset_command s.state n feature)
+bind s (asks.Unset n feature) = request.Execute (command.At (named_end s.state n feature) act.Unset)
 bind s (asks.Add n feature v index) = request.Execute (add_command s.state n feature v index)
-bind s (asks.Remove n feature i) = request.Execute (remove_command s.state n feature i)
+bind s (asks.Remove n feature i) = request.Execute (command.At (named_end s.state n feature) (act.Remove i))
 bind s (asks.RemoveValue n feature v) = request.Execute (removevalue_command s.state n feature v)
-bind s (asks.Move n feature to from) = request.Execute (move_command s.state n feature to from)
-bind s (asks.Resolve o feature i) = request.Execute (resolve_command s.state o feature i)
+bind s (asks.Move n feature to from) = request.Execute (command.At (named_end s.state n feature) (act.Move to from))
+bind s (asks.Resolve o feature i) = request.Execute (command.At (named_end s.state (node.Object o) feature) (act.Resolve i))
 bind s asks.ResolveAll = request.Execute command.ResolveAll
 bind s (asks.Load k text) = request.Execute (command.Load k text)
 bind s (asks.Resource t) = request.Execute (command.CreateResource t)
@@ -104,17 +96,17 @@ bind s (asks.Attach number target deep) = attach_request (box_of s.pool number) 
 bind s (asks.Watch number target deep) = request.Execute (command.Watch number target deep)
 bind s (asks.Unwatch number target) = request.Execute (command.Unwatch number target)
 bind s (asks.Detach number) = request.Execute (command.Detach number)
-bind s (asks.Get n feature) = request.Execute (get_command s.state n feature)
-bind s (asks.IsSet n feature) = request.Execute (isset_command s.state n feature)
-bind s (asks.Container o) = request.Execute (command.Container o)
-bind s (asks.Within o) = request.Execute (command.Resource o)
-bind s (asks.Contents n) = request.Execute (command.Contents n)
+bind s (asks.Get n feature) = request.Execute (command.Read (read.At (named_end s.state n feature) Get))
+bind s (asks.IsSet n feature) = request.Execute (command.Read (read.At (named_end s.state n feature) IsSet))
+bind s (asks.Container o) = request.Execute (commands.container o)
+bind s (asks.Within o) = request.Execute (commands.resource o)
+bind s (asks.Contents n) = request.Execute (commands.contents n)
 bind s (asks.Delete o) = request.Execute (command.Delete o)
-bind s (asks.Validate o) = request.Execute (command.Validate o)
-bind s (asks.Fragment o) = request.Execute (command.Fragment o)
-bind s (asks.At t) = request.Execute (command.ObjectAt t)
-bind s (asks.Save k) = request.Execute (command.Save k)
-bind s (asks.Class o) = request.Execute (command.Class o)
+bind s (asks.Validate o) = request.Execute (commands.validate o)
+bind s (asks.Fragment o) = request.Execute (commands.fragment o)
+bind s (asks.At t) = request.Execute (commands.object_at t)
+bind s (asks.Save k) = request.Execute (commands.save k)
+bind s (asks.Class o) = request.Execute (commands.class o)
 bind s (asks.Seen number) = request.Seen number
 
 -- the pool when what a request brings is out

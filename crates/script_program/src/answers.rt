@@ -12,7 +12,7 @@ use mm_meta::Meta;
 use mm_types::{AdapterNo, FeatureNo, Node, Refused, Value};
 use models::Found;
 use notice_chain::Notice;
-use repository::{Answer, Command, Failure, Reply};
+use repository::{Answer, Command, Failure, Read, Reply};
 use script_output::{Output, literal_name};
 use std::alloc::AllocError;
 
@@ -21,15 +21,7 @@ pub(crate) fn feature_of<A>(command: &Command<A>) -> FeatureNo
     ensures { (heard : A → View) → result ≡ a.feature_of (command_view heard command.now) }
 {
     match command {
-        Command::Set { feature, .. } => *feature,
-        Command::Unset { feature, .. } => *feature,
-        Command::Add { feature, .. } => *feature,
-        Command::Remove { feature, .. } => *feature,
-        Command::RemoveValue { feature, .. } => *feature,
-        Command::Move { feature, .. } => *feature,
-        Command::Resolve { feature, .. } => *feature,
-        Command::Get { feature, .. } => *feature,
-        Command::IsSet { feature, .. } => *feature,
+        Command::At(end, _) | Command::Read(Read::At(end, _)) => end.feature,
         _ => FeatureNo(NOTHING),
     }
 }

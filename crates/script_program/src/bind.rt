@@ -1,16 +1,18 @@
 //! What a form asks for.
 ghost use Rattle.std.specs.Prelude.{◌≡◌};
+ghost use Rattle.repository.specs.declared.command.Command.TheVariants as command;
 ghost use Rattle.script_program.specs.Bind as b;
 ghost use Rattle.script_program.specs.Pool.{box_of};
 ghost use Rattle.script_program.specs.Session.{session};
+ghost use Rattle.script_program.specs.declared.request.Request.TheVariants as request;
 
 use crate::pool::Pool;
 use crate::request::Request;
 use adapters::Adapter;
 use links::LinkStore;
 use mm_meta::Meta;
-use mm_types::{AdapterNo, ClassNo, FeatureNo, Node, ObjectNo, Value};
-use repository::{Command, Repository};
+use mm_types::{AdapterNo, ClassNo, End, FeatureNo, Node, Value};
+use repository::{Act, Command, EndRead, NodeRead, ObjectRead, Read, Repository};
 use script_lines::{Form, Name, WrittenValue};
 use script_output::enum_of;
 
@@ -35,7 +37,9 @@ pub(crate) fn bind<L: LinkStore, A: Adapter>(
             feature,
             value,
         } => Request::Execute(set_command(repository, node, feature, value)),
-        Form::Unset { node, feature } => Request::Execute(unset_command(repository, node, feature)),
+        Form::Unset { node, feature } => {
+            Request::Execute(Command::At(named_end(repository, node, feature), Act::Unset))
+        }
         Form::Add {
             node,
             feature,
@@ -46,7 +50,10 @@ pub(crate) fn bind<L: LinkStore, A: Adapter>(
             node,
             feature,
             index,
-        } => Request::Execute(remove_command(repository, node, feature, index)),
+        } => Request::Execute(Command::At(
+            named_end(repository, node, feature),
+            Act::Remove(index),
+        )),
         Form::RemoveValue {
             node,
             feature,
@@ -57,14 +64,20 @@ pub(crate) fn bind<L: LinkStore, A: Adapter>(
             feature,
             to,
             from,
-        } => Request::Execute(move_command(repository, node, feature, to, from)),
+        } => Request::Execute(Command::At(
+            named_end(repository, node, feature),
+            Act::Move { to, from },
+        )),
         Form::Resource(text) => Request::Execute(Command::CreateResource(text)),
-        Form::Load { resource, text } => Request::Execute(Command::Load { resource, text }),
+        Form::Load { resource, text } => Request::Execute(Command::Load(resource, text)),
         Form::Resolve {
             object,
             feature,
             index,
-        } => Request::Execute(resolve_command(repository, object, feature, index)),
+        } => Request::Execute(Command::At(
+            named_end(repository, Node::Object(object), feature),
+            Act::Resolve(index),
+        )),
         Form::ResolveAll => Request::Execute(Command::ResolveAll),
         Form::Attach { no, target, deep } => attach_request(pool, no, target, deep),
         Form::Watch { no, target, deep } => {
@@ -72,19 +85,30 @@ pub(crate) fn bind<L: LinkStore, A: Adapter>(
         }
         Form::Unwatch { no, target } => Request::Execute(Command::Unwatch { no, target }),
         Form::Detach(no) => Request::Execute(Command::Detach(no)),
-        Form::Get { node, feature } => Request::Execute(get_command(repository, node, feature)),
-        Form::IsSet { node, feature } => Request::Execute(isset_command(repository, node, feature)),
-        Form::Container(object) => Request::Execute(Command::Container(object)),
-        Form::Within(object) => Request::Execute(Command::Resource(object)),
-        Form::Contents(node) => Request::Execute(Command::Contents(node)),
+        Form::Get { node, feature } => {
+            read_request(Read::At(named_end(repository, node, feature), EndRead::Get))
+        }
+        Form::IsSet { node, feature } => {
+            read_request(Read::At(named_end(repository, node, feature), EndRead::IsSet))
+        }
+        Form::Container(object) => read_request(Read::Of(object, ObjectRead::Container)),
+        Form::Within(object) => read_request(Read::Of(object, ObjectRead::Resource)),
+        Form::Contents(node) => read_request(Read::Under(node, NodeRead::Contents)),
         Form::Delete(object) => Request::Execute(Command::Delete(object)),
-        Form::Validate(object) => Request::Execute(Command::Validate(object)),
-        Form::Fragment(object) => Request::Execute(Command::Fragment(object)),
-        Form::At(text) => Request::Execute(Command::ObjectAt(text)),
-        Form::Save(resource) => Request::Execute(Command::Save(resource)),
-        Form::Class(object) => Request::Execute(Command::Class(object)),
+        Form::Validate(object) => read_request(Read::Of(object, ObjectRead::Validate)),
+        Form::Fragment(object) => read_request(Read::Of(object, ObjectRead::Fragment)),
+        Form::At(text) => read_request(Read::ObjectAt(text)),
+        Form::Save(resource) => read_request(Read::Save(resource)),
+        Form::Class(object) => read_request(Read::Of(object, ObjectRead::Class)),
         Form::Seen(no) => Request::Seen(no),
     }
+}
+
+/// The request that a read is executed.
+fn read_request<A>(read: Read) -> Request<A>
+    ensures { result ≡ request.Execute (command.Read read) }
+{
+    Request::Execute(Command::Read(read))
 }
 
 fn attach_request<A: Adapter>(
@@ -121,24 +145,9 @@ fn set_command<L: LinkStore, A: Adapter>(
 ) -> Command<A>
     ensures { result ≡ b.set_command repository.now node name.entry written.entry }
 {
-    let feature = feature_number(repository, node, name.as_str());
-    let value = value_in(repository.meta(), feature, written);
-    Command::Set {
-        node,
-        feature,
-        value,
-    }
-}
-
-fn unset_command<L: LinkStore, A: Adapter>(
-    repository: &Repository<L, A>,
-    node: Node,
-    name: Name<'_>,
-) -> Command<A>
-    ensures { result ≡ b.unset_command repository.now node name.entry }
-{
-    let feature = feature_number(repository, node, name.as_str());
-    Command::Unset { node, feature }
+    let end = named_end(repository, node, name);
+    let value = value_in(repository.meta(), end.feature, written);
+    Command::At(end, Act::Set(value))
 }
 
 fn add_command<L: LinkStore, A: Adapter>(
@@ -150,30 +159,9 @@ fn add_command<L: LinkStore, A: Adapter>(
 ) -> Command<A>
     ensures { result ≡ b.add_command repository.now node name.entry written.entry index }
 {
-    let feature = feature_number(repository, node, name.as_str());
-    let value = value_in(repository.meta(), feature, written);
-    Command::Add {
-        node,
-        feature,
-        value,
-        index,
-    }
-}
-
-fn remove_command<L: LinkStore, A: Adapter>(
-    repository: &Repository<L, A>,
-    node: Node,
-    name: Name<'_>,
-    index: u32,
-) -> Command<A>
-    ensures { result ≡ b.remove_command repository.now node name.entry index }
-{
-    let feature = feature_number(repository, node, name.as_str());
-    Command::Remove {
-        node,
-        feature,
-        index,
-    }
+    let end = named_end(repository, node, name);
+    let value = value_in(repository.meta(), end.feature, written);
+    Command::At(end, Act::Add(value, index))
 }
 
 fn removevalue_command<L: LinkStore, A: Adapter>(
@@ -184,69 +172,21 @@ fn removevalue_command<L: LinkStore, A: Adapter>(
 ) -> Command<A>
     ensures { result ≡ b.removevalue_command repository.now node name.entry written.entry }
 {
-    let feature = feature_number(repository, node, name.as_str());
-    let value = value_in(repository.meta(), feature, written);
-    Command::RemoveValue {
-        node,
-        feature,
-        value,
-    }
+    let end = named_end(repository, node, name);
+    let value = value_in(repository.meta(), end.feature, written);
+    Command::At(end, Act::RemoveValue(value))
 }
 
-fn move_command<L: LinkStore, A: Adapter>(
+/// The end of a named feature of a node.
+fn named_end<L: LinkStore, A: Adapter>(
     repository: &Repository<L, A>,
     node: Node,
     name: Name<'_>,
-    to: u32,
-    from: u32,
-) -> Command<A>
-    ensures { result ≡ b.move_command repository.now node name.entry to from }
+) -> End
+    ensures { result ≡ b.named_end repository.now node name.entry }
 {
     let feature = feature_number(repository, node, name.as_str());
-    Command::Move {
-        node,
-        feature,
-        to,
-        from,
-    }
-}
-
-fn resolve_command<L: LinkStore, A: Adapter>(
-    repository: &Repository<L, A>,
-    object: ObjectNo,
-    name: Name<'_>,
-    index: u32,
-) -> Command<A>
-    ensures { result ≡ b.resolve_command repository.now object name.entry index }
-{
-    let feature = feature_number(repository, Node::Object(object), name.as_str());
-    Command::Resolve {
-        object,
-        feature,
-        index,
-    }
-}
-
-fn get_command<L: LinkStore, A: Adapter>(
-    repository: &Repository<L, A>,
-    node: Node,
-    name: Name<'_>,
-) -> Command<A>
-    ensures { result ≡ b.get_command repository.now node name.entry }
-{
-    let feature = feature_number(repository, node, name.as_str());
-    Command::Get { node, feature }
-}
-
-fn isset_command<L: LinkStore, A: Adapter>(
-    repository: &Repository<L, A>,
-    node: Node,
-    name: Name<'_>,
-) -> Command<A>
-    ensures { result ≡ b.isset_command repository.now node name.entry }
-{
-    let feature = feature_number(repository, node, name.as_str());
-    Command::IsSet { node, feature }
+    End { node, feature }
 }
 
 pub(crate) fn class_number(meta: &Meta, name: &str) -> ClassNo

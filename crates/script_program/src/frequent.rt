@@ -6,7 +6,7 @@ ghost use Rattle.mm_types.specs.declared.numbers.Node.TheVariants as node;
 ghost use Rattle.notice_chain.specs.View.{View};
 ghost use Rattle.repository.specs.Run.{change_outcome, read_outcome};
 ghost use Rattle.repository.specs.declared.command.Command.{Command};
-ghost use Rattle.repository.specs.declared.command.Command.TheVariants as command;
+ghost use Rattle.repository.specs.Commands.{container};
 ghost use Rattle.repository.specs.declared.reply.Answer.{Answer};
 ghost use Rattle.script_lines.specs.Frequent.{frequent_line};
 ghost use Rattle.script_lines.specs.Values.{value_in};
@@ -25,8 +25,8 @@ use crate::pool::Pool;
 use crate::turn::Turn;
 use adapters::Adapter;
 use links::LinkStore;
-use mm_types::{FeatureNo, Node, ObjectNo, Refused, Value};
-use repository::{Command, Repository};
+use mm_types::{End, FeatureNo, Node, ObjectNo, Refused, Value};
+use repository::{Act, Command, EndRead, Read, Repository};
 use script_lines::{Frequent, Name, Word, WrittenValue, value_of};
 use script_output::Output;
 use std::alloc::{AllocError, Global};
@@ -51,10 +51,12 @@ fn run_read<L: LinkStore, A: Adapter>(
 {
     let node = Node::Object(object);
     let feature = feature_number(repository, node, name);
+    let end = End { node, feature };
     if repository.meta().is_single(feature) {
-        run_get(repository, output, node, feature)
+        run_get(repository, output, end)
     } else {
-        run_command(repository, pool, output, Command::Get { node, feature })
+        let read = Read::At(end, EndRead::Get);
+        run_command(repository, pool, output, Command::Read(read))
     }
 }
 
@@ -87,7 +89,7 @@ fn run_container<L: LinkStore, A: Adapter>(
     object: ObjectNo,
 ) -> Result<Turn, AllocError>
     ensures { (pool : PoolView)
-        → IfOk result (λ t. Adds output.old output.new t (λ p. RunsCommand (session repository.now pool) (command.Container object) p (session repository.now pool))) }
+        → IfOk result (λ t. Adds output.old output.new t (λ p. RunsCommand (session repository.now pool) (container object) p (session repository.now pool))) }
 {
     match repository.e_container(object) {
         Ok(container) => {
@@ -191,23 +193,14 @@ fn run_edit<L: LinkStore, A: Adapter>(
         Edit::Set => match repository.set_unheard(node, feature, value) {
             Ok(outcome) => print_change(output, outcome, "ok\n"),
             Err(value) => {
-                let command = Command::Set {
-                    node,
-                    feature,
-                    value,
-                };
+                let command = Command::At(End { node, feature }, Act::Set(value));
                 run_command(repository, pool, output, command)
             }
         },
         Edit::Add => match repository.add_unheard(node, feature, value, None) {
             Ok(outcome) => print_change(output, outcome, "true\n"),
             Err(value) => {
-                let command = Command::Add {
-                    node,
-                    feature,
-                    value,
-                    index: None,
-                };
+                let command = Command::At(End { node, feature }, Act::Add(value, None));
                 run_command(repository, pool, output, command)
             }
         },

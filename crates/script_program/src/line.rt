@@ -4,7 +4,7 @@ ghost use Rattle.mm_types.specs.Shapes.{shape};
 ghost use Rattle.notice_chain.specs.View.{View};
 ghost use Rattle.repository.specs.Run.{change_outcome};
 ghost use Rattle.repository.specs.Views.{command_view, outcome_view};
-ghost use Rattle.repository.specs.declared.command.Command.TheVariants.{Get};
+ghost use Rattle.repository.specs.Commands.{get};
 ghost use Rattle.script_lines.specs.Forms as forms;
 ghost use Rattle.script_lines.specs.Source.{bytes_of};
 ghost use Rattle.script_lines.specs.declared.line.Line.TheVariants as asked;
@@ -23,8 +23,8 @@ use crate::request::Request;
 use crate::turn::Turn;
 use adapters::Adapter;
 use links::LinkStore;
-use mm_types::{AdapterNo, FeatureNo, Node, Refused};
-use repository::{Command, Failure, Reply, Repository};
+use mm_types::{AdapterNo, End, Refused};
+use repository::{Command, EndRead, Failure, Read, Reply, Repository};
 use script_lines::{Line, Source, frequent_of, text_line_of};
 use script_output::Output;
 use std::alloc::{AllocError, Global};
@@ -64,16 +64,15 @@ fn number_of<A>(command: &Command<A>) -> Option<AdapterNo>
 pub(crate) fn run_get<L: LinkStore, A: Adapter>(
     repository: &Repository<L, A>,
     output: &mut Output,
-    node: Node,
-    feature: FeatureNo,
+    end: End,
 ) -> Result<Turn, AllocError>
-    requires single { (shape repository.now.model.metamodel feature).is_single ≡ true }
+    requires single { (shape repository.now.model.metamodel end.feature).is_single ≡ true }
     ensures { (pool : PoolView)
-        → IfOk result (λ t. Adds output.old output.new t (λ p. RunsCommand (session repository.now pool) (Get node feature) p (session repository.now pool))) }
+        → IfOk result (λ t. Adds output.old output.new t (λ p. RunsCommand (session repository.now pool) (get end.node end.feature) p (session repository.now pool))) }
 {
-    match repository.value(node, feature) {
+    match repository.value(end.node, end.feature) {
         Ok(value) => {
-            print_found(output, repository.meta(), feature, value)?;
+            print_found(output, repository.meta(), end.feature, value)?;
             Ok(Turn::Done)
         }
         Err(refused) => {
@@ -137,8 +136,8 @@ fn run_request<L: LinkStore, A: Adapter>(
         p (session repository.new pool.new))) }
 {
     match request {
-        Request::Execute(Command::Get { node, feature }) if repository.meta().is_single(feature) =>
-            { run_get(repository, output, node, feature) }
+        Request::Execute(Command::Read(Read::At(end, EndRead::Get)))
+            if repository.meta().is_single(end.feature) => { run_get(repository, output, end) }
         Request::Execute(command) => run_command(repository, pool, output, command),
         Request::Seen(no) => run_seen(repository, output, no),
         Request::Refuse(refused) => {

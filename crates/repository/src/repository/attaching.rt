@@ -5,7 +5,8 @@ ghost use Rattle.notice_chain.specs.Listed.{adapter};
 ghost use Rattle.repository.specs.Run.{Executed, change_outcome, read_outcome};
 ghost use Rattle.repository.specs.Step.{closed};
 ghost use Rattle.repository.specs.Views.{changed_view, outcome_view};
-ghost use Rattle.repository.specs.declared.command.Command.TheVariants.{AdapterKept, AdapterTold, Attach, Detach, Unwatch, Watch};
+ghost use Rattle.repository.specs.declared.command.Command.TheVariants.{Attach, Detach, Unwatch, Watch};
+ghost use Rattle.repository.specs.Commands as commands;
 ghost use Rattle.repository.specs.Leaving.{LetsGo};
 ghost use Rattle.repository.specs.declared.reply.Answer.TheVariants as answer;
 
@@ -15,9 +16,9 @@ use crate::replies::reply;
 use crate::reply::{Answer, Failure, Reply};
 use adapter_list::{AttachRefused, Release};
 use adapters::Adapter;
-use handshake::node_refusal;
 use links::LinkStore;
 use mm_types::{AdapterNo, Node, Refused, Seq};
+use models::node_refusal;
 use std::mem;
 
 impl<L: LinkStore, A: Adapter> Repository<L, A> {
@@ -128,7 +129,7 @@ impl<L: LinkStore, A: Adapter> Repository<L, A> {
     /// How many notices an adapter was told. Takes no memory. Refused with `NoAdapter` if the number is not attached.
     #[tactic(auto, using(crate::proofs::QuietLemmas::told_done))]
     pub fn adapter_told(&self, no: AdapterNo) -> Result<u64, Refused>
-        ensures read { Executed self.now (AdapterTold no) (read_outcome answer.Count result) self.now }
+        ensures read { Executed self.now (commands.adapter_told no) (read_outcome answer.Count result) self.now }
         ensures count { result ≡ ok_or (option_map (λ a. a.view.told) (adapter no self.now.adapters)) NoAdapter }
     {
         match self.adapters.told(no) {
@@ -140,7 +141,7 @@ impl<L: LinkStore, A: Adapter> Repository<L, A> {
     /// How many notices an adapter keeps. Takes no memory. Refused with `NoAdapter` if the number is not attached.
     #[tactic(auto, using(crate::proofs::QuietLemmas::kept_done))]
     pub fn adapter_kept(&self, no: AdapterNo) -> Result<u64, Refused>
-        ensures read { Executed self.now (AdapterKept no) (read_outcome answer.Count result) self.now }
+        ensures read { Executed self.now (commands.adapter_kept no) (read_outcome answer.Count result) self.now }
         ensures count { result ≡ ok_or (option_map (λ a. length a.view.kept) (adapter no self.now.adapters)) NoAdapter }
     {
         match self.adapters.kept_len(no) {

@@ -7,7 +7,9 @@ ghost use Rattle.handshake.specs.Refusals.{early_refusal as early_refusal_of};
 ghost use Rattle.repository.specs.Run.{Executed, change_outcome};
 ghost use Rattle.repository.specs.State.{reads};
 ghost use Rattle.repository.specs.Views.{changed_view, command_of};
-ghost use Rattle.repository.specs.declared.command.Command.TheVariants.{Create, Delete, Set, Unset};
+ghost use Rattle.repository.specs.Commands as commands;
+ghost use Rattle.repository.specs.declared.command.Command.TheVariants.{At, Create, Delete};
+ghost use Rattle.handshake.specs.declared.act.Act.TheVariants.{Set};
 ghost use Rattle.repository.specs.Proper.{IsProper};
 
 use super::Repository;
@@ -17,9 +19,9 @@ use crate::remembered::forget_touched;
 use crate::replies::{replied_done, replied_object};
 use crate::reply::Reply;
 use adapters::Adapter;
-use handshake::{Change, early_refusal};
+use handshake::{Act, Change, early_refusal};
 use links::LinkStore;
-use mm_types::{ClassNo, FeatureNo, Node, ObjectNo, Refused, Seq, Value};
+use mm_types::{ClassNo, End, FeatureNo, Node, ObjectNo, Refused, Seq, Value};
 
 impl<L: LinkStore, A: Adapter> Repository<L, A> {
     /// Makes an object of a class, each of whose attributes has its default (EMF: EFactory.create). Notifies nobody.
@@ -49,19 +51,16 @@ impl<L: LinkStore, A: Adapter> Repository<L, A> {
         feature: FeatureNo,
         value: Value,
     ) -> Result<Reply<A>, Refused>
-        ensures { Executed self.old (Set node feature value) (change_outcome (changed_view A.heard result)) self.new }
+        ensures { Executed self.old (commands.set node feature value) (change_outcome (changed_view A.heard result)) self.new }
     {
+        let end = End { node, feature };
         if self.adapters.len() == 0 {
             if self.meta.is_reference(feature) {
-                return self.set_link(node, feature, value);
+                return self.set_link(end, value);
             }
-            return replied_done(self.alloc, self.set_value(node, feature, value));
+            return replied_done(self.alloc, self.set_value(end, value));
         }
-        self.change(Change::Set {
-            node,
-            feature,
-            value,
-        })
+        self.change(Change::At(end, Act::Set(value)))
     }
 
     /// Takes a feature of an object back to its default (EMF: EObject.eUnset), a reference to null, and its opposite with it; a list is
@@ -70,9 +69,9 @@ impl<L: LinkStore, A: Adapter> Repository<L, A> {
     ///
     /// Refused, the first that applies: `NoObject`, `NoResource`, `NoFeature`, `AdapterFull`, `Memory`.
     pub fn e_unset(&mut self, node: Node, feature: FeatureNo) -> Result<Reply<A>, Refused>
-        ensures { Executed self.old (Unset node feature) (change_outcome (changed_view A.heard result)) self.new }
+        ensures { Executed self.old (commands.unset node feature) (change_outcome (changed_view A.heard result)) self.new }
     {
-        self.change(Change::Unset { node, feature })
+        self.change(Change::At(End { node, feature }, Act::Unset))
     }
 
     /// Destroys an object and all that is below it, and takes them out of every end that holds them (EMF: EcoreUtil.delete, recursively).
@@ -127,22 +126,13 @@ impl<L: LinkStore, A: Adapter> Repository<L, A> {
     }
 
     /// A set of a reference, if no adapter is attached.
-    fn set_link(
-        &mut self,
-        node: Node,
-        feature: FeatureNo,
-        value: Value,
-    ) -> Result<Reply<A>, Refused>
+    fn set_link(&mut self, end: End, value: Value) -> Result<Reply<A>, Refused>
         requires unheard { self.old.adapters ≡ [] }
-        ensures { Executed self.old (Set node feature value) (change_outcome (changed_view A.heard result)) self.new }
+        ensures { Executed self.old (At end (Set value)) (change_outcome (changed_view A.heard result)) self.new }
     {
-        match self.set_lone_link(node, feature, &value) {
+        match self.set_lone_link(end, &value) {
             Some(outcome) => replied_done(self.alloc, outcome),
-            None => self.carry_out(Change::Set {
-                node,
-                feature,
-                value,
-            }),
+            None => self.carry_out(Change::At(end, Act::Set(value))),
         }
     }
 

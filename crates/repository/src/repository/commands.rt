@@ -1,63 +1,32 @@
 //! Commands as values.
 ghost use Rattle.std.specs.Prelude.{◌≡◌, length, map, IfOk, IfErr, OnErr};
-ghost use Rattle.repository.specs.Run.{AllExecuted, Executed, IsRun};
-ghost use Rattle.repository.specs.Views.{command_view, outcome_view};
+ghost use Rattle.repository.specs.Run.{AllExecuted, Executed, IsRun, answered_outcome, change_outcome};
+ghost use Rattle.repository.specs.Views.{changed_view, command_view, outcome_view};
+ghost use Rattle.repository.specs.declared.command.Command.TheVariants as command;
+ghost use Rattle.repository.specs.declared.command.Command.TheVariants.{At};
+ghost use Rattle.repository.specs.declared.read.Read.TheVariants as asks;
 
 use super::Repository;
 use crate::command::Command;
-use crate::replies::{
-    outcome, replied, replied_class, replied_container, replied_count, replied_document,
-    replied_features, replied_flag, replied_found, replied_fragment, replied_objects,
-    replied_resource, replied_snapshot,
-};
-use crate::reply::{Failure, Reply};
+use crate::read::{EndRead, NodeRead, ObjectRead, Read, Tally};
+use crate::replies::{outcome, replied};
+use crate::reply::{Answer, Failure, Reply};
 use adapters::Adapter;
+use handshake::{Act, Change};
 use links::LinkStore;
+use mm_types::{End, ObjectNo, Refused};
 
 impl<L: LinkStore, A: Adapter> Repository<L, A> {
     /// Does a command.
     pub fn execute(&mut self, command: Command<A>) -> Result<Reply<A>, Failure<A>>
         ensures { Executed self.old (command_view A.heard command) (outcome_view A.heard result) self.new }
     {
-        let alloc = self.alloc;
         match command {
+            Command::At(end, act) => outcome(self.act(end, act)),
             Command::Create(class) => outcome(self.create(class)),
-            Command::Set {
-                node,
-                feature,
-                value,
-            } => outcome(self.e_set(node, feature, value)),
-            Command::Unset { node, feature } => outcome(self.e_unset(node, feature)),
-            Command::Add {
-                node,
-                feature,
-                value,
-                index,
-            } => outcome(self.add(node, feature, value, index)),
-            Command::Remove {
-                node,
-                feature,
-                index,
-            } => outcome(self.remove(node, feature, index)),
-            Command::RemoveValue {
-                node,
-                feature,
-                value,
-            } => outcome(self.remove_value(node, feature, value)),
-            Command::Move {
-                node,
-                feature,
-                to,
-                from,
-            } => outcome(self.move_to(node, feature, to, from)),
             Command::Delete(object) => outcome(self.delete(object)),
             Command::CreateResource(text) => outcome(self.create_resource(text.as_str())),
-            Command::Resolve {
-                object,
-                feature,
-                index,
-            } => outcome(self.resolve(object, feature, index)),
-            Command::Load { resource, text } => {
+            Command::Load(resource, text) => {
                 outcome(self.load(resource, text.as_str().as_bytes()))
             }
             Command::ResolveAll => outcome(self.resolve_all()),
@@ -70,27 +39,62 @@ impl<L: LinkStore, A: Adapter> Repository<L, A> {
             Command::Watch { no, target, deep } => outcome(self.watch(no, target, deep)),
             Command::Unwatch { no, target } => outcome(self.unwatch(no, target)),
             Command::Detach(no) => outcome(self.detach(no)),
-            Command::Get { node, feature } => outcome(replied(alloc, self.e_get(node, feature))),
-            Command::IsSet { node, feature } => {
-                outcome(replied_flag(alloc, self.e_is_set(node, feature)))
+            Command::Read(Read::Of(object, ObjectRead::Fragment)) => {
+                outcome(self.fragment_reply(object))
             }
-            Command::Container(object) => {
-                outcome(replied_container(alloc, self.e_container(object)))
-            }
-            Command::Resource(object) => outcome(replied_resource(alloc, self.e_resource(object))),
-            Command::Contents(node) => outcome(replied_objects(alloc, self.e_contents(node))),
-            Command::Validate(object) => outcome(replied_features(alloc, self.validate(object))),
-            Command::Fragment(object) => {
-                outcome(replied_fragment(alloc, self.remembered_fragment(object)))
-            }
-            Command::ObjectAt(text) => {
-                outcome(replied_found(alloc, self.object_at(text.as_str())))
-            }
-            Command::Save(resource) => outcome(replied_document(alloc, self.save(resource))),
-            Command::Class(object) => outcome(replied_class(alloc, self.e_class(object))),
-            Command::Snapshot(node) => outcome(replied_snapshot(alloc, self.snapshot(node))),
-            Command::AdapterTold(no) => outcome(replied_count(alloc, self.adapter_told(no))),
-            Command::AdapterKept(no) => outcome(replied_count(alloc, self.adapter_kept(no))),
+            Command::Read(read) => outcome(replied(self.alloc, self.read(read))),
+        }
+    }
+
+    /// Changes what a feature of a node has, as the call of the act's name does: `e_set`, `e_unset`, `add`, `remove`, `remove_value`,
+    /// `move_to` or `resolve`. Refused as that call is.
+    pub fn act(&mut self, end: End, act: Act) -> Result<Reply<A>, Refused>
+        ensures { Executed self.old (At end act) (change_outcome (changed_view A.heard result)) self.new }
+    {
+        match act {
+            Act::Set(value) => self.e_set(end.node, end.feature, value),
+            Act::Add(value, index) => self.add(end.node, end.feature, value, index),
+            act => self.change(Change::At(end, act)),
+        }
+    }
+
+    /// Answers what is asked, as the call of its name does: `e_get`, `e_is_set`, `e_class`, `e_container`, `e_resource`, `validate`,
+    /// `fragment`, `e_contents`, `snapshot`, `save`, `object_at`, `adapter_told` or `adapter_kept`. Refused as that call is.
+    pub fn read(&self, read: Read) -> Result<Answer, Refused>
+        ensures { Executed self.now (command.Read read) (answered_outcome result) self.now }
+    {
+        match read {
+            Read::At(end, read) => self.read_end(end, read),
+            Read::Of(object, read) => self.read_object(object, read),
+            Read::Under(node, NodeRead::Contents) => Ok(Answer::Objects(self.e_contents(node)?)),
+            Read::Under(node, NodeRead::Snapshot) => Ok(Answer::Snapshot(self.snapshot(node)?)),
+            Read::Save(resource) => Ok(Answer::Document(self.save(resource)?)),
+            Read::ObjectAt(address) => Ok(Answer::Found(self.object_at(address.as_str())?)),
+            Read::Adapter(no, Tally::Told) => Ok(Answer::Count(self.adapter_told(no)?)),
+            Read::Adapter(no, Tally::Kept) => Ok(Answer::Count(self.adapter_kept(no)?)),
+        }
+    }
+
+    /// The part of `read` that asks about a feature of a node.
+    fn read_end(&self, end: End, read: EndRead) -> Result<Answer, Refused>
+        ensures { Executed self.now (command.Read (asks.At end read)) (answered_outcome result) self.now }
+    {
+        match read {
+            EndRead::Get => Ok(self.e_get(end.node, end.feature)?.into_answer()),
+            EndRead::IsSet => Ok(Answer::Flag(self.e_is_set(end.node, end.feature)?)),
+        }
+    }
+
+    /// The part of `read` that asks about an object.
+    fn read_object(&self, object: ObjectNo, read: ObjectRead) -> Result<Answer, Refused>
+        ensures { Executed self.now (command.Read (asks.Of object read)) (answered_outcome result) self.now }
+    {
+        match read {
+            ObjectRead::Class => Ok(Answer::Class(self.e_class(object)?)),
+            ObjectRead::Container => Ok(Answer::Container(self.e_container(object)?)),
+            ObjectRead::Resource => Ok(Answer::Within(self.e_resource(object)?)),
+            ObjectRead::Validate => Ok(Answer::Features(self.validate(object)?)),
+            ObjectRead::Fragment => Ok(Answer::Fragment(self.fragment(object)?)),
         }
     }
 

@@ -1,19 +1,21 @@
 //! Fragments, addresses and the texts of resources.
 ghost use Rattle.std.specs.Prelude.{◌≡◌, IfOk, Some};
 ghost use Rattle.fragment_paths.specs.Fragments.{fragment as fragment_in};
-ghost use Rattle.repository.specs.Run.{Executed, read_outcome};
+ghost use Rattle.repository.specs.Commands as commands;
+ghost use Rattle.repository.specs.Run.{Executed, change_outcome, read_outcome};
 ghost use Rattle.repository.specs.State.{reads};
-ghost use Rattle.repository.specs.declared.command.Command.TheVariants.{Fragment, ObjectAt, Save};
+ghost use Rattle.repository.specs.Views.{changed_view};
 ghost use Rattle.repository.specs.declared.reply.Answer.TheVariants as answer;
 
 use super::Repository;
+use crate::replies::reply;
+use crate::reply::{Answer, Reply};
 use adapters::Adapter;
 use doc_writer::write_doc;
 use fragment_paths::{object_at, write};
-use handshake::node_refusal;
 use links::LinkStore;
 use mm_types::{Node, ObjectNo, Refused, ResourceNo, Text};
-use models::is_short_text;
+use models::{is_short_text, node_refusal, object_refusal};
 use std::alloc::AllocError;
 use web_uris::split_address;
 
@@ -23,7 +25,7 @@ impl<L: LinkStore, A: Adapter> Repository<L, A> {
     ///
     /// Refused, the first that applies: `NoObject` if none lives, `Dangling` if the object is in no resource, `Memory`.
     pub fn fragment(&self, object: ObjectNo) -> Result<Text, Refused>
-        ensures { Executed self.now (Fragment object) (read_outcome answer.Fragment result) self.now }
+        ensures { Executed self.now (commands.fragment object) (read_outcome answer.Fragment result) self.now }
     {
         self.fragment_now(object)
     }
@@ -31,12 +33,11 @@ impl<L: LinkStore, A: Adapter> Repository<L, A> {
     /// The same, and that what is returned is the fragment.
     #[tactic(auto, using(crate::proofs::DocumentLemmas::fragment_read))]
     fn fragment_now(&self, object: ObjectNo) -> Result<Text, Refused>
-        ensures executed { Executed self.now (Fragment object) (read_outcome answer.Fragment result) self.now }
+        ensures executed { Executed self.now (commands.fragment object) (read_outcome answer.Fragment result) self.now }
         ensures found { IfOk result (λ t. fragment_in (reads self.now) object ≡ Some t) }
     {
-        let model = self.model();
-        if model.class(object).is_none() {
-            return Err(Refused::NoObject);
+        if let Some(refused) = object_refusal(&self.model(), object) {
+            return Err(refused);
         }
         match self.fragment_of(object)? {
             Some(fragment) => Ok(fragment),
@@ -59,8 +60,8 @@ impl<L: LinkStore, A: Adapter> Repository<L, A> {
 
     /// The same as `fragment`. Besides, the answer is remembered while no containing link changes, for up to 1,024 objects, so that it need
     /// not be computed again.
-    pub(super) fn remembered_fragment(&mut self, object: ObjectNo) -> Result<Text, Refused>
-        ensures { Executed self.old (Fragment object) (read_outcome answer.Fragment result) self.new }
+    fn remembered_fragment(&mut self, object: ObjectNo) -> Result<Text, Refused>
+        ensures { Executed self.old (commands.fragment object) (read_outcome answer.Fragment result) self.new }
     {
         let fragment = self.fragment_now(object)?;
         if self.paths.get(object).is_none() {
@@ -69,13 +70,21 @@ impl<L: LinkStore, A: Adapter> Repository<L, A> {
         Ok(fragment)
     }
 
+    /// What `remembered_fragment` answers, as a reply.
+    pub(super) fn fragment_reply(&mut self, object: ObjectNo) -> Result<Reply<A>, Refused>
+        ensures { Executed self.old (commands.fragment object) (change_outcome (changed_view A.heard result)) self.new }
+    {
+        let fragment = self.remembered_fragment(object)?;
+        Ok(reply(self.alloc, Answer::Fragment(fragment)))
+    }
+
     /// The object at an address, the URI of a resource, `#` and a fragment (EMF: ResourceSet.getEObject, without loading); `None` if no
     /// resource has the URI, or nothing is there.
     ///
     /// Refused, the first that applies: `TextLength` above 65,535 bytes, `BadUri` if the text has no `#`, `Memory`.
     #[tactic(auto, using(crate::proofs::DocumentLemmas::object_found))]
     pub fn object_at(&self, address: &str) -> Result<Option<ObjectNo>, Refused>
-        ensures { Executed self.now (ObjectAt address.now) (read_outcome answer.Found result) self.now }
+        ensures { Executed self.now (commands.object_at address.now) (read_outcome answer.Found result) self.now }
     {
         if !is_short_text(address) {
             return Err(Refused::TextLength);
@@ -92,9 +101,9 @@ impl<L: LinkStore, A: Adapter> Repository<L, A> {
     ///
     /// Refused, the first that applies: `NoResource`, `Dangling` if an object that is referred to is in no resource, `TooDeep` if objects
     /// are nested more than 40 deep, `Memory`.
-    #[tactic(auto, using(crate::proofs::DocumentLemmas::resource_saved))]
+    #[tactic(auto, using(crate::proofs::QuietLemmas::save_done))]
     pub fn save(&self, resource: ResourceNo) -> Result<Text, Refused>
-        ensures { Executed self.now (Save resource) (read_outcome answer.Document result) self.now }
+        ensures { Executed self.now (commands.save resource) (read_outcome answer.Document result) self.now }
     {
         let model = self.model();
         if let Some(refused) = node_refusal(&model, Node::Resource(resource)) {

@@ -2,15 +2,17 @@
 ghost use Rattle.std.specs.Prelude.{◌≡◌, []};
 ghost use Rattle.repository.specs.Run.{Executed, change_outcome};
 ghost use Rattle.repository.specs.Views.{changed_view};
-ghost use Rattle.repository.specs.declared.command.Command.TheVariants as command;
+ghost use Rattle.handshake.specs.declared.act.Act.TheVariants.{Add};
+ghost use Rattle.repository.specs.Commands as commands;
+ghost use Rattle.repository.specs.declared.command.Command.TheVariants.{At};
 
 use super::Repository;
 use crate::replies::replied_added;
 use crate::reply::Reply;
 use adapters::Adapter;
-use handshake::Change;
+use handshake::{Act, Change};
 use links::LinkStore;
-use mm_types::{FeatureNo, Node, Refused, Value};
+use mm_types::{End, FeatureNo, Node, Refused, Value};
 
 impl<L: LinkStore, A: Adapter> Repository<L, A> {
     /// Adds a value to a list, before the one at an index, or at the end (EMF: EList.add). A reference's opposite follows, what the new
@@ -29,17 +31,13 @@ impl<L: LinkStore, A: Adapter> Repository<L, A> {
         value: Value,
         index: Option<u32>,
     ) -> Result<Reply<A>, Refused>
-        ensures { Executed self.old (command.Add node feature value index) (change_outcome (changed_view A.heard result)) self.new }
+        ensures { Executed self.old (commands.add node feature value index) (change_outcome (changed_view A.heard result)) self.new }
     {
+        let end = End { node, feature };
         if self.adapters.len() == 0 && self.meta.is_reference(feature) {
-            return self.add_link(node, feature, value, index);
+            return self.add_link(end, value, index);
         }
-        self.change(Change::Add {
-            node,
-            feature,
-            value,
-            index,
-        })
+        self.change(Change::At(end, Act::Add(value, index)))
     }
 
     /// Takes the value at an index out of a list, and returns it (EMF: EList.remove). A link is cut at both ends. Notifies the adapters at
@@ -53,13 +51,9 @@ impl<L: LinkStore, A: Adapter> Repository<L, A> {
         feature: FeatureNo,
         index: u32,
     ) -> Result<Reply<A>, Refused>
-        ensures { Executed self.old (command.Remove node feature index) (change_outcome (changed_view A.heard result)) self.new }
+        ensures { Executed self.old (commands.remove node feature index) (change_outcome (changed_view A.heard result)) self.new }
     {
-        self.change(Change::Remove {
-            node,
-            feature,
-            index,
-        })
+        self.change(Change::At(End { node, feature }, Act::Remove(index)))
     }
 
     /// Takes the first occurrence of a value out of a list, and returns whether there was one (EMF: EList.remove). If there was none,
@@ -73,13 +67,9 @@ impl<L: LinkStore, A: Adapter> Repository<L, A> {
         feature: FeatureNo,
         value: Value,
     ) -> Result<Reply<A>, Refused>
-        ensures { Executed self.old (command.RemoveValue node feature value) (change_outcome (changed_view A.heard result)) self.new }
+        ensures { Executed self.old (commands.remove_value node feature value) (change_outcome (changed_view A.heard result)) self.new }
     {
-        self.change(Change::RemoveValue {
-            node,
-            feature,
-            value,
-        })
+        self.change(Change::At(End { node, feature }, Act::RemoveValue(value)))
     }
 
     /// Moves the value at `from` of a list, so that it is then at `to`, and returns it (EMF: EList.move). Notifies the adapters at the list
@@ -94,35 +84,19 @@ impl<L: LinkStore, A: Adapter> Repository<L, A> {
         to: u32,
         from: u32,
     ) -> Result<Reply<A>, Refused>
-        ensures { Executed self.old (command.Move node feature to from) (change_outcome (changed_view A.heard result)) self.new }
+        ensures { Executed self.old (commands.move node feature to from) (change_outcome (changed_view A.heard result)) self.new }
     {
-        self.change(Change::Move {
-            node,
-            feature,
-            to,
-            from,
-        })
+        self.change(Change::At(End { node, feature }, Act::Move { to, from }))
     }
 
     /// An addition to a reference, if no adapter is attached.
-    fn add_link(
-        &mut self,
-        node: Node,
-        feature: FeatureNo,
-        value: Value,
-        index: Option<u32>,
-    ) -> Result<Reply<A>, Refused>
+    fn add_link(&mut self, end: End, value: Value, index: Option<u32>) -> Result<Reply<A>, Refused>
         requires unheard { self.old.adapters ≡ [] }
-        ensures { Executed self.old (command.Add node feature value index) (change_outcome (changed_view A.heard result)) self.new }
+        ensures { Executed self.old (At end (Add value index)) (change_outcome (changed_view A.heard result)) self.new }
     {
-        match self.add_lone_link(node, feature, &value, index) {
+        match self.add_lone_link(end, &value, index) {
             Some(outcome) => replied_added(self.alloc, outcome),
-            None => self.carry_out(Change::Add {
-                node,
-                feature,
-                value,
-                index,
-            }),
+            None => self.carry_out(Change::At(end, Act::Add(value, index))),
         }
     }
 }

@@ -9,11 +9,10 @@ ghost use Rattle.repository.specs.declared.command.Command.TheVariants.{Load};
 use super::Repository;
 use crate::reply::Reply;
 use adapters::Adapter;
-use doc_loader::contents_end;
 use handshake::Change;
 use links::LinkStore;
 use mm_types::{DocFault, Refused, ResourceNo};
-use models::ModelRef;
+use models::{ModelRef, contents_end};
 use resource_docs::read_doc;
 
 impl<L: LinkStore, A: Adapter> Repository<L, A> {

@@ -5,21 +5,19 @@ ghost use Rattle.mm_types.specs.declared.refused.Refused.TheVariants.{NoObject};
 ghost use Rattle.mm_types.specs.declared.value.Value.TheVariants.{Null};
 ghost use Rattle.models.specs.Found.{found_value};
 ghost use Rattle.repository.specs.Answers.{got_answer};
+ghost use Rattle.repository.specs.Commands as commands;
 ghost use Rattle.repository.specs.Reads.{IsValueRefusal};
 ghost use Rattle.repository.specs.Run.{Executed, read_outcome};
 ghost use Rattle.repository.specs.State.{reads};
-ghost use Rattle.repository.specs.declared.command.Command.TheVariants as command;
-ghost use Rattle.repository.specs.declared.command.Command.TheVariants.{Class, Container, Contents, Get, IsSet, Resource};
 ghost use Rattle.repository.specs.declared.reply.Answer.TheVariants as answer;
 
 use super::Repository;
 use crate::reply::FeatureValue;
 use adapters::Adapter;
 use containment::{container, contents, holder_resource};
-use handshake::{feature_refusal, node_refusal};
 use links::LinkStore;
 use mm_types::{ClassNo, End, FeatureNo, Node, ObjectNo, Refused, ResourceNo, Seq};
-use models::{Found, copied, copied_list};
+use models::{Found, copied, copied_list, end_refusal, node_refusal, object_refusal};
 use snapshots::Snapshot;
 
 impl<L: LinkStore, A: Adapter> Repository<L, A> {
@@ -29,13 +27,13 @@ impl<L: LinkStore, A: Adapter> Repository<L, A> {
     /// Refused, the first that applies: `NoObject`, `NoResource`, `NoFeature`, `Memory`.
     #[tactic(auto, using(crate::proofs::QuietLemmas::get_done))]
     pub fn e_get(&self, node: Node, feature: FeatureNo) -> Result<FeatureValue, Refused>
-        ensures { Executed self.now (Get node feature) (read_outcome got_answer result) self.now }
+        ensures { Executed self.now (commands.get node feature) (read_outcome got_answer result) self.now }
     {
         let model = self.model();
-        if let Some(refused) = feature_refusal(&model, node, feature) {
+        let end = End { node, feature };
+        if let Some(refused) = end_refusal(&model, end) {
             return Err(refused);
         }
-        let end = End { node, feature };
         if model.meta().is_single(feature) {
             let value = copied(self.alloc, model.value_at(end))?;
             return Ok(FeatureValue::One(value));
@@ -49,17 +47,18 @@ impl<L: LinkStore, A: Adapter> Repository<L, A> {
     /// Refused, the first that applies: `NoObject`, `NoResource`, `NoFeature`, `NotSingle` if the feature has a list.
     #[tactic(auto, using(crate::proofs::QuietLemmas::get_done))]
     pub fn value(&self, node: Node, feature: FeatureNo) -> Result<Option<Found<'_>>, Refused>
-        ensures ok { IfOk result (λ v. Executed self.now (Get node feature) (read_outcome answer.Value (Ok (unwrap_or (option_map found_value v) Null))) self.now) }
+        ensures ok { IfOk result (λ v. Executed self.now (commands.get node feature) (read_outcome answer.Value (Ok (unwrap_or (option_map found_value v) Null))) self.now) }
         ensures err { IfErr result (λ r. IsValueRefusal self.now node feature r) }
     {
         let model = self.model();
-        if let Some(refused) = feature_refusal(&model, node, feature) {
+        let end = End { node, feature };
+        if let Some(refused) = end_refusal(&model, end) {
             return Err(refused);
         }
         if !model.meta().is_single(feature) {
             return Err(Refused::NotSingle);
         }
-        Ok(model.value_at(End { node, feature }))
+        Ok(model.value_at(end))
     }
 
     /// Whether a feature of an object is set (EMF: EObject.eIsSet): a list if it has values, an unsettable feature if `e_set` was the last
@@ -68,26 +67,27 @@ impl<L: LinkStore, A: Adapter> Repository<L, A> {
     /// Refused, the first that applies: `NoObject`, `NoResource`, `NoFeature`.
     #[tactic(auto, using(crate::proofs::QuietLemmas::is_set_done))]
     pub fn e_is_set(&self, node: Node, feature: FeatureNo) -> Result<bool, Refused>
-        ensures read { Executed self.now (IsSet node feature) (read_outcome answer.Flag result) self.now }
+        ensures read { Executed self.now (commands.is_set node feature) (read_outcome answer.Flag result) self.now }
         ensures kind { IfErr result (λ r. is_memory_refusal r ≡ false) }
     {
         let model = self.model();
-        if let Some(refused) = feature_refusal(&model, node, feature) {
+        let end = End { node, feature };
+        if let Some(refused) = end_refusal(&model, end) {
             return Err(refused);
         }
-        Ok(model.is_set(End { node, feature }))
+        Ok(model.is_set(end))
     }
 
     /// The object that contains an object (EMF: EObject.eContainer); `None` if none does. Takes no memory. Refused with `NoObject` if none
     /// lives.
     #[tactic(auto, using(crate::proofs::QuietLemmas::container_done))]
     pub fn e_container(&self, object: ObjectNo) -> Result<Option<ObjectNo>, Refused>
-        ensures read { Executed self.now (Container object) (read_outcome answer.Container result) self.now }
+        ensures read { Executed self.now (commands.container object) (read_outcome answer.Container result) self.now }
         ensures kind { IfErr result (λ r. is_memory_refusal r ≡ false) }
     {
         let model = self.model();
-        if model.class(object).is_none() {
-            return Err(Refused::NoObject);
+        if let Some(refused) = object_refusal(&model, object) {
+            return Err(refused);
         }
         Ok(container(&model, object))
     }
@@ -96,12 +96,12 @@ impl<L: LinkStore, A: Adapter> Repository<L, A> {
     /// Refused with `NoObject` if none lives.
     #[tactic(auto, using(crate::proofs::QuietLemmas::resource_done))]
     pub fn e_resource(&self, object: ObjectNo) -> Result<Option<ResourceNo>, Refused>
-        ensures read { Executed self.now (Resource object) (read_outcome answer.Within result) self.now }
+        ensures read { Executed self.now (commands.resource object) (read_outcome answer.Within result) self.now }
         ensures kind { IfErr result (λ r. is_memory_refusal r ≡ false) }
     {
         let model = self.model();
-        if model.class(object).is_none() {
-            return Err(Refused::NoObject);
+        if let Some(refused) = object_refusal(&model, object) {
+            return Err(refused);
         }
         Ok(holder_resource(model.store(), object))
     }
@@ -112,7 +112,7 @@ impl<L: LinkStore, A: Adapter> Repository<L, A> {
     /// Refused, the first that applies: `NoObject`, `NoResource`, `Memory`.
     #[tactic(auto, using(crate::proofs::QuietLemmas::contents_done))]
     pub fn e_contents(&self, node: Node) -> Result<Seq<ObjectNo>, Refused>
-        ensures { Executed self.now (Contents node) (read_outcome answer.Objects result) self.now }
+        ensures { Executed self.now (commands.contents node) (read_outcome answer.Objects result) self.now }
     {
         let model = self.model();
         if let Some(refused) = node_refusal(&model, node) {
@@ -128,7 +128,7 @@ impl<L: LinkStore, A: Adapter> Repository<L, A> {
     /// Refused, the first that applies: `NoObject`, `NoResource`, `Memory`.
     #[tactic(auto, using(crate::proofs::QuietLemmas::snapshot_done))]
     pub fn snapshot(&self, node: Node) -> Result<Snapshot, Refused>
-        ensures { Executed self.now (command.Snapshot node) (read_outcome answer.Snapshot result) self.now }
+        ensures { Executed self.now (commands.snapshot node) (read_outcome answer.Snapshot result) self.now }
     {
         let model = self.model();
         if let Some(refused) = node_refusal(&model, node) {
@@ -141,7 +141,7 @@ impl<L: LinkStore, A: Adapter> Repository<L, A> {
     /// The class of an object (EMF: EObject.eClass). Takes no memory. Refused with `NoObject` if none lives.
     #[tactic(auto, using(crate::proofs::QuietLemmas::class_done))]
     pub fn e_class(&self, object: ObjectNo) -> Result<ClassNo, Refused>
-        ensures read { Executed self.now (Class object) (read_outcome answer.Class result) self.now }
+        ensures read { Executed self.now (commands.class object) (read_outcome answer.Class result) self.now }
         ensures class { result ≡ ok_or ((reads self.now).class object) NoObject }
     {
         match self.values.class(object) {

@@ -1,14 +1,15 @@
 //! Proxies, and the objects that they find.
 ghost use Rattle.repository.specs.Run.{Executed, change_outcome};
 ghost use Rattle.repository.specs.Views.{changed_view};
-ghost use Rattle.repository.specs.declared.command.Command.TheVariants.{Resolve, ResolveAll};
+ghost use Rattle.repository.specs.Commands as commands;
+ghost use Rattle.repository.specs.declared.command.Command.TheVariants.{ResolveAll};
 
 use super::Repository;
 use crate::reply::Reply;
 use adapters::Adapter;
-use handshake::Change;
+use handshake::{Act, Change};
 use links::LinkStore;
-use mm_types::{FeatureNo, ObjectNo, Refused};
+use mm_types::{End, FeatureNo, Node, ObjectNo, Refused};
 
 impl<L: LinkStore, A: Adapter> Repository<L, A> {
     /// Puts an object instead of the proxy at an index of a reference, 0 in a single one: the object at the proxy's address (EMF:
@@ -25,13 +26,10 @@ impl<L: LinkStore, A: Adapter> Repository<L, A> {
         feature: FeatureNo,
         index: u32,
     ) -> Result<Reply<A>, Refused>
-        ensures { Executed self.old (Resolve object feature index) (change_outcome (changed_view A.heard result)) self.new }
+        ensures { Executed self.old (commands.resolve object feature index) (change_outcome (changed_view A.heard result)) self.new }
     {
-        self.change(Change::Resolve {
-            object,
-            feature,
-            index,
-        })
+        let node = Node::Object(object);
+        self.change(Change::At(End { node, feature }, Act::Resolve(index)))
     }
 
     /// Resolves all proxies, one after another, by object number, by feature in the order of all features, and by index (EMF:

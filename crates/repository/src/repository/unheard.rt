@@ -9,7 +9,9 @@ ghost use Rattle.repository.specs.Puts.{IsPutAlone};
 ghost use Rattle.repository.specs.Run.{Executed, read_outcome};
 ghost use Rattle.repository.specs.State.{reads};
 ghost use Rattle.repository.specs.Views.{command_of};
-ghost use Rattle.repository.specs.declared.command.Command.TheVariants.{Add, Create, Set};
+ghost use Rattle.handshake.specs.declared.act.Act.TheVariants.{Add, Set};
+ghost use Rattle.repository.specs.Commands as commands;
+ghost use Rattle.repository.specs.declared.command.Command.TheVariants.{At, Create};
 ghost use Rattle.repository.specs.declared.reply.Answer.{Answer};
 ghost use Rattle.repository.specs.declared.reply.Answer.TheVariants as answer;
 
@@ -21,7 +23,7 @@ use handshake::{
     attribute_refusal, create_refusal, list_early_refusal, lone_add, lone_set, set_early_refusal,
 };
 use links::{LinkStore, NewLink};
-use mm_types::{ClassNo, FeatureNo, Node, ObjectNo, Refused, Value};
+use mm_types::{ClassNo, End, FeatureNo, Node, ObjectNo, Refused, Value};
 
 impl<L: LinkStore, A: Adapter> Repository<L, A> {
     /// Makes an object as `create` does, and returns it, or the refusal. `None` if an adapter is attached; then nothing was done, and
@@ -45,16 +47,17 @@ impl<L: LinkStore, A: Adapter> Repository<L, A> {
         feature: FeatureNo,
         value: Value,
     ) -> Result<Result<(), Refused>, Value>
-        ensures done { IfOk result (λ r. Executed self.old (Set node feature value) (read_outcome (λ u. answer.Done) r) self.new) }
+        ensures done { IfOk result (λ r. Executed self.old (commands.set node feature value) (read_outcome (λ u. answer.Done) r) self.new) }
         ensures left { IfErr result (λ v. (v ≡ value) × (self.new ≡ self.old)) }
     {
         if self.adapters.len() > 0 {
             return Err(value);
         }
+        let end = End { node, feature };
         if !self.meta.is_reference(feature) {
-            return Ok(self.set_value(node, feature, value));
+            return Ok(self.set_value(end, value));
         }
-        match self.set_lone_link(node, feature, &value) {
+        match self.set_lone_link(end, &value) {
             Some(done) => Ok(done),
             None => Err(value),
         }
@@ -71,13 +74,13 @@ impl<L: LinkStore, A: Adapter> Repository<L, A> {
         value: Value,
         index: Option<u32>,
     ) -> Result<Result<(), Refused>, Value>
-        ensures done { IfOk result (λ r. Executed self.old (Add node feature value index) (read_outcome (λ u. answer.Flag true) r) self.new) }
+        ensures done { IfOk result (λ r. Executed self.old (commands.add node feature value index) (read_outcome (λ u. answer.Flag true) r) self.new) }
         ensures left { IfErr result (λ v. (v ≡ value) × (self.new ≡ self.old)) }
     {
         if self.adapters.len() > 0 || !self.meta.is_reference(feature) {
             return Err(value);
         }
-        match self.add_lone_link(node, feature, &value, index) {
+        match self.add_lone_link(End { node, feature }, &value, index) {
             Some(done) => Ok(done),
             None => Err(value),
         }
@@ -103,22 +106,17 @@ impl<L: LinkStore, A: Adapter> Repository<L, A> {
 
     /// The part of `e_set` of an attribute, if no adapter is attached.
     #[inline(always)]
-    pub(super) fn set_value(
-        &mut self,
-        node: Node,
-        feature: FeatureNo,
-        value: Value,
-    ) -> Result<(), Refused>
-        requires attribute { (shape self.old.model.metamodel feature).is_reference ≡ false }
+    pub(super) fn set_value(&mut self, end: End, value: Value) -> Result<(), Refused>
+        requires attribute { (shape self.old.model.metamodel end.feature).is_reference ≡ false }
         requires unheard { self.old.adapters ≡ [] }
-        ensures { Executed self.old (Set node feature value) (read_outcome (λ u. answer.Done) result) self.new }
+        ensures { Executed self.old (At end (Set value)) (read_outcome (λ u. answer.Done) result) self.new }
     {
         let model = self.model();
-        if let Some(refused) = attribute_refusal(&model, node, feature, &value) {
+        if let Some(refused) = attribute_refusal(&model, end, &value) {
             return Err(refused);
         }
-        let flag = model.meta().is_unsettable(feature);
-        match put_value(&mut self.values, node, feature, value, flag) {
+        let flag = model.meta().is_unsettable(end.feature);
+        match put_value(&mut self.values, end, value, flag) {
             Ok(()) => {}
             Err(_) => return Err(Refused::Memory),
         }
@@ -128,22 +126,17 @@ impl<L: LinkStore, A: Adapter> Repository<L, A> {
     /// The part of `e_set` of a reference, if no adapter is attached. `None` if more is to be done than to put one link; then nothing was
     /// done, and no refusal applies that needs no memory.
     #[inline(always)]
-    pub(super) fn set_lone_link(
-        &mut self,
-        node: Node,
-        feature: FeatureNo,
-        value: &Value,
-    ) -> Option<Result<(), Refused>>
+    pub(super) fn set_lone_link(&mut self, end: End, value: &Value) -> Option<Result<(), Refused>>
         requires unheard { self.old.adapters ≡ [] }
         ensures { MatchOption result
-            ((self.new ≡ self.old) × (early_refusal_of (reads self.old) (change.Set node feature value.now) ≡ None))
-            (λ r. Executed self.old (Set node feature value.now) (read_outcome (λ u. answer.Done) r) self.new) }
+            ((self.new ≡ self.old) × (early_refusal_of (reads self.old) (change.At end (Set value.now)) ≡ None))
+            (λ r. Executed self.old (At end (Set value.now)) (read_outcome (λ u. answer.Done) r) self.new) }
     {
         let model = self.model();
-        if let Some(refused) = set_early_refusal(&model, node, feature, value) {
+        if let Some(refused) = set_early_refusal(&model, end, value) {
             return Some(Err(refused));
         }
-        let put = lone_set(&model, node, feature, value)?;
+        let put = lone_set(&model, end, value)?;
         Some(self.put_alone(put))
     }
 
@@ -151,21 +144,20 @@ impl<L: LinkStore, A: Adapter> Repository<L, A> {
     #[inline(always)]
     pub(super) fn add_lone_link(
         &mut self,
-        node: Node,
-        feature: FeatureNo,
+        end: End,
         value: &Value,
         index: Option<u32>,
     ) -> Option<Result<(), Refused>>
         requires unheard { self.old.adapters ≡ [] }
         ensures { MatchOption result
-            ((self.new ≡ self.old) × (early_refusal_of (reads self.old) (change.Add node feature value.now index) ≡ None))
-            (λ r. Executed self.old (Add node feature value.now index) (read_outcome (λ u. answer.Flag true) r) self.new) }
+            ((self.new ≡ self.old) × (early_refusal_of (reads self.old) (change.At end (Add value.now index)) ≡ None))
+            (λ r. Executed self.old (At end (Add value.now index)) (read_outcome (λ u. answer.Flag true) r) self.new) }
     {
         let model = self.model();
-        if let Some(refused) = list_early_refusal(&model, node, feature, value) {
+        if let Some(refused) = list_early_refusal(&model, end, value) {
             return Some(Err(refused));
         }
-        let put = lone_add(&model, node, feature, value, index)?;
+        let put = lone_add(&model, end, value, index)?;
         Some(self.put_alone(put))
     }
 

@@ -6,8 +6,8 @@ ghost use Rattle.mm_types.specs.declared.value.Value.TheVariants.{Null};
 ghost use Rattle.models.specs.Found.{found_value};
 ghost use Rattle.models.specs.Model.{reading};
 ghost use Rattle.repository.specs.Answers as a;
+ghost use Rattle.repository.specs.Commands as commands;
 ghost use Rattle.repository.specs.Run.{Executed, read_outcome};
-ghost use Rattle.repository.specs.declared.command.Command.TheVariants.{Validate};
 ghost use Rattle.repository.specs.declared.reply.Answer.TheVariants as answer;
 
 use super::Repository;
@@ -15,7 +15,7 @@ use adapters::Adapter;
 use links::LinkStore;
 use mm_meta::Meta;
 use mm_types::{End, FeatureNo, Node, ObjectNo, Refused, Seq, Value};
-use models::{Found, ModelRef, is_same};
+use models::{Found, ModelRef, is_same, object_refusal};
 use std::alloc::{AllocError, Global};
 
 impl<L: LinkStore, A: Adapter> Repository<L, A> {
@@ -26,11 +26,11 @@ impl<L: LinkStore, A: Adapter> Repository<L, A> {
     /// Refused, the first that applies: `NoObject` if none lives, `Memory`.
     #[tactic(auto, using(crate::proofs::QuietLemmas::validate_done))]
     pub fn validate(&self, object: ObjectNo) -> Result<Seq<FeatureNo>, Refused>
-        ensures { Executed self.now (Validate object) (read_outcome answer.Features result) self.now }
+        ensures { Executed self.now (commands.validate object) (read_outcome answer.Features result) self.now }
     {
         let model = self.model();
-        if model.class(object).is_none() {
-            return Err(Refused::NoObject);
+        if let Some(refused) = object_refusal(&model, object) {
+            return Err(refused);
         }
         let features = short_features(self.alloc, &model, object)?;
         Ok(Seq::from_vec(features))

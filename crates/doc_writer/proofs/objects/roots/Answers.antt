@@ -2,10 +2,9 @@ use Rattle.std.proofs.Common.{ℕ, List, ◌<◌, ◌≤◌, ap, subst, ◌∙�
 use Rattle.std.specs.List.{list_all}
 use Rattle.mm_types.specs.declared.numbers.ObjectNo.{ObjectNo}
 use Rattle.models.specs.Model.{reading}
-use Rattle.models.specs.Reading.{is_live}
+use Rattle.models.specs.Reading.{is_live, roots_end}
 use Rattle.containment.proofs.ForestLemmas.{objects-end, objects-step}
 use Rattle.fragment_paths.specs.Finding.{roots}
-use Rattle.fragment_paths.specs.Fragments.{roots_end}
 use Rattle.doc_writer.proofs.RootLemmas.{pushed-at, roots-live}
 use Rattle.doc_writer.proofs.objects.roots.Goals as goal
 

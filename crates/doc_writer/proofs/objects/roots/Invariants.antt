@@ -1,8 +1,7 @@
 use Rattle.std.proofs.Common.{◌≡◌, ◌++◌, drop}
 use Rattle.models.specs.Model.{reading}
-use Rattle.models.specs.Reading.{objects_of}
+use Rattle.models.specs.Reading.{objects_of, roots_end}
 use Rattle.fragment_paths.specs.Finding.{roots}
-use Rattle.fragment_paths.specs.Fragments.{roots_end}
 use Rattle.doc_writer.proofs.objects.roots.Given as goal
 
 abbrev pub invariant-positions : goal.invariant-positions

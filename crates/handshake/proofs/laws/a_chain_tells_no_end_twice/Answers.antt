@@ -6,4 +6,4 @@ pub returns-clause-ends : goal.returns-clause-ends
 returns-clause-ends c = λ s change legal early late few. feature_changes-apart s change legal early late few
 
 pub returns-clause-far_ends : goal.returns-clause-far_ends
-returns-clause-far_ends c = λ s n f legal early late. unset-apart s n f Unsets legal
+returns-clause-far_ends c = λ s e legal early late. unset-apart s e.node e.feature Unsets legal

@@ -1,7 +1,6 @@
 use Rattle.std.proofs.Common.{◌≡◌, IfOk, [], None, ap, map, option_map, subst, sym, ◌∙◌, if◌then◌else◌}
 use Rattle.std.specs.List.{enumerate_from}
 use Rattle.models.specs.Model.{Model, reading}
-use Rattle.doc_loader.specs.Loading.{contents_end}
 use Rattle.handshake.specs.Refusals.{late_refusal}
 use Rattle.handshake.specs.Reports.{root_notice}
 use Rattle.handshake.specs.FeatureChanges.{chain}
@@ -9,6 +8,7 @@ use Rattle.handshake.proofs.ApartLemmas.{made-chain, nothing-loaded}
 use Rattle.handshake.proofs.DestroyLemmas.{destroyed-heard, nothing-destroyed}
 use Rattle.handshake.proofs.LoadChainLemmas.{loaded-heard}
 use Rattle.handshake.proofs.planning.heard_chain.Goals as goal
+use Rattle.models.specs.Reading.{contents_end}
 
 pub returns-in-Some : goal.returns-in-Some
 returns-in-Some g c =

@@ -3,7 +3,9 @@ use Rattle.std.proofs.lemmas.List.Elements.{All-nil}
 use Rattle.mm_types.specs.declared.numbers.Node.TheVariants as node
 use Rattle.notice_chain.specs.Listed.{Listed}
 use Rattle.repository.specs.Run.{read_outcome}
-use Rattle.repository.specs.declared.command.Command.TheVariants.{Set, Add}
+use Rattle.notice_chain.specs.View.{View}
+use Rattle.repository.specs.Commands.{set, add}
+use Rattle.repository.specs.declared.command.Command.{Command}
 use Rattle.repository.specs.declared.reply.Answer.TheVariants as answer
 use Rattle.script_program.specs.Pool.{box_of}
 use Rattle.script_program.specs.Script.{RunsCommand, command_printed}
@@ -16,7 +18,7 @@ returns-in-Ok g c =
     let n = node.Object c.args.asked.object in
     let s : Session = session c.args.repository.now c.args.pool.now in
     let t : Session = session c.set_unheard.new.self c.args.pool.now in
-    let k = Set n c.bound-value.result.0 c.bound-value.result.1 in
+    let k : Command View = set n c.bound-value.result.0 c.bound-value.result.1 in
     let o = read_outcome (λ u. answer.Done) c.in-Ok.outcome in
     rw (c.in-Set.is, ← c.bound-value.ensures.value, ← c.bound-value.ensures.feature)
     (adds-run c.print_change.result _ _ (λ p. p ≡ command_printed s.state.model.metamodel k o) (λ p. RunsCommand s k p t)
@@ -35,7 +37,7 @@ returns-in-Ok-add_unheard g c =
     let n = node.Object c.args.asked.object in
     let s : Session = session c.args.repository.now c.args.pool.now in
     let t : Session = session c.add_unheard.new.self c.args.pool.now in
-    let k = Add n c.bound-value.result.0 c.bound-value.result.1 None in
+    let k : Command View = add n c.bound-value.result.0 c.bound-value.result.1 None in
     let a = answer.Flag true in
     let o = read_outcome (λ u. a) c.in-Ok-add_unheard.outcome in
     rw (c.in-Add.is, ← c.bound-value.ensures.value, ← c.bound-value.ensures.feature)

@@ -1,17 +1,16 @@
 use Rattle.std.proofs.Common.{◌≡◌, ◌∙◌, ◌∷◌, [], Bool, Option, None, false, not, if◌then◌else◌, refl, sym, ap, subst}
 use Rattle.mm_types.specs.Resolved.{Metamodel}
 use Rattle.mm_types.specs.Shapes.{shape}
-use Rattle.mm_types.specs.declared.numbers.FeatureNo.{FeatureNo}
-use Rattle.mm_types.specs.declared.numbers.Node.{Node}
+use Rattle.mm_types.specs.declared.end.End.{End}
 use Rattle.mm_types.specs.declared.refused.Refused.{Refused}
 use Rattle.mm_types.specs.declared.value.Value.{Value}
 use Rattle.mm_values.specs.Room.{values_of}
 use Rattle.models.specs.Model.{Model, model_of}
-use Rattle.models.specs.Reading.{at_end}
 use Rattle.handshake.specs.Effects.{put_values}
 use Rattle.handshake.specs.Plans.{IsPlanOf, of_values}
 use Rattle.handshake.specs.declared.change.Change.{Change}
-use Rattle.handshake.specs.declared.change.Change.TheVariants.{Set}
+use Rattle.handshake.specs.declared.change.Change.TheVariants.{At}
+use Rattle.handshake.specs.declared.act.Act.TheVariants.{Set}
 use Rattle.handshake.proofs.ValueLemmas.{values-planned}
 use Rattle.repository.specs.Repository.{state}
 use Rattle.repository.specs.State.{IsLegal, State, reads}
@@ -25,24 +24,24 @@ use Rattle.repository.proofs.ValueLemmas.{changed-unheard}
 use Rattle.repository.proofs.repository.Repository.set_value.Goals as goal
 
 -- the plan of a set of an attribute is the edit of one value
-flagged : (s : State) (m : Model) (n : Node) (f : FeatureNo) (v : Value) (flag : Bool) (q : Option Refused) → IsLegal s → m ≡ s.model → FoundOf m (Set n f v) q → q ≡ None → flag ≡ (shape m.metamodel f).is_unsettable → (shape s.model.metamodel f).is_reference ≡ false
-    → IsPlanOf false s.model (Set n f v) (of_values (put_values (at_end n f) (v ∷ []) flag))
-flagged s m n f v flag q legal is found known flag_is attribute =
-    let free = free-as-found s m (Set n f v) q is found known in
-    let same = flag_is ∙ ap (λ (m : Model). (shape m.metamodel f).is_unsettable) is in
-    values-planned s.model (Set n f v) _ (ap not attribute) legal.model free.0 free.1 (λ i. if sym attribute i then [] else put_values (at_end n f) (v ∷ []) (same i))
+flagged : (s : State) (m : Model) (e : End) (v : Value) (flag : Bool) (q : Option Refused) → IsLegal s → m ≡ s.model → FoundOf m (At e (Set v)) q → q ≡ None → flag ≡ (shape m.metamodel e.feature).is_unsettable → (shape s.model.metamodel e.feature).is_reference ≡ false
+    → IsPlanOf false s.model (At e (Set v)) (of_values (put_values e (v ∷ []) flag))
+flagged s m e v flag q legal is found known flag_is attribute =
+    let free = free-as-found s m (At e (Set v)) q is found known in
+    let same = flag_is ∙ ap (λ (m : Model). (shape m.metamodel e.feature).is_unsettable) is in
+    values-planned s.model (At e (Set v)) _ (ap not attribute) legal.model free.0 free.1 (λ i. if sym attribute i then [] else put_values e (v ∷ []) (same i))
 
 pub returns-in-Some : goal.returns-in-Some
 returns-in-Some g c =
     let s : State = state g.L.LinkStore.links c.self.inside in
-    let change : Change = Set c.args.node c.args.feature c.args.value in
+    let change : Change = At c.args.end (Set c.args.value) in
     let is : c.model-model.result ≡ s.model = c.model-model.ensures ∙ ap (λ (t : State). t.model) (sym c.self.view_is) in
     rw (← c.self.view_is) (refused-as-found s c.model-model.result change _ c.in-Some.refused tt is c.attribute_refusal.ensures c.in-Some.is)
 
 pub returns-in-Err : goal.returns-in-Err
 returns-in-Err g c =
     let s : State = state g.L.LinkStore.links c.self.inside in
-    let change : Change = Set c.args.node c.args.feature c.args.value in
+    let change : Change = At c.args.end (Set c.args.value) in
     let is : c.model-model.result ≡ s.model = c.model-model.ensures ∙ ap (λ (t : State). t.model) (sym c.self.view_is) in
     let free = free-as-found s c.model-model.result change _ is c.attribute_refusal.ensures c.in_default.is in
     rw (← c.self.view_is, c.in-Err.ensures.err) (out_of_memory s [] change tt free.0)
@@ -54,12 +53,12 @@ invariant_of-self g c = refused g.L.LinkStore.links g.L.LinkStore.kinds c.self.i
 pub returns : goal.returns
 returns g c =
     let s : State = state g.L.LinkStore.links c.self.inside in
-    let change : Change = Set c.args.node c.args.feature c.args.value in
+    let change : Change = At c.args.end (Set c.args.value) in
     let is : c.model-model.result ≡ s.model = c.model-model.ensures ∙ ap (λ (t : State). t.model) (sym c.self.view_is) in
     let free = free-as-found s c.model-model.result change _ is c.attribute_refusal.ensures c.in_default.is in
     let none : s.adapters ≡ [] = subst (λ (t : State). t.adapters ≡ []) (sym c.self.view_is) c.requires.unheard in
-    let plan = flagged s c.model-model.result c.args.node c.args.feature c.args.value c.is_unsettable-flag.result _ c.self.invariant.legal is c.attribute_refusal.ensures c.in_default.is (c.is_unsettable-flag.ensures ∙ ap (λ (m : Metamodel). (shape m c.args.feature).is_unsettable) c.meta.ensures)
-    (subst (λ (t : State). (shape t.model.metamodel c.args.feature).is_reference ≡ false) (sym c.self.view_is) c.requires.attribute) in
+    let plan = flagged s c.model-model.result c.args.end c.args.value c.is_unsettable-flag.result _ c.self.invariant.legal is c.attribute_refusal.ensures c.in_default.is (c.is_unsettable-flag.ensures ∙ ap (λ (m : Metamodel). (shape m c.args.end.feature).is_unsettable) c.meta.ensures)
+    (subst (λ (t : State). (shape t.model.metamodel c.args.end.feature).is_reference ≡ false) (sym c.self.view_is) c.requires.attribute) in
     let values = c.in-Ok.ensures.ok ∙ plan.values_made in
     let t : State = record { model = model_of c.self.inside.meta (values_of c.put_value.new.values) (g.L.LinkStore.links c.self.inside.store); adapters = c.self.inside.adapters.0 } in
     rw (← c.self.view_is)
@@ -69,7 +68,7 @@ returns g c =
 pub invariant_of-self-2 : goal.invariant_of-self-2
 invariant_of-self-2 g c =
     let seen : c.model-model.result ≡ (state g.L.LinkStore.links c.self.inside).model = c.model-model.ensures ∙ ap (λ (t : State). t.model) (sym c.self.view_is) in
-    let plan = flagged _ c.model-model.result c.args.node c.args.feature c.args.value c.is_unsettable-flag.result _ c.self.invariant.legal seen c.attribute_refusal.ensures c.in_default.is (c.is_unsettable-flag.ensures ∙ ap (λ (m : Metamodel). (shape m c.args.feature).is_unsettable) c.meta.ensures)
-    (subst (λ (t : State). (shape t.model.metamodel c.args.feature).is_reference ≡ false) (sym c.self.view_is) c.requires.attribute) in
-    let legal = stepped-legal _ _ (command_of [] (Set c.args.node c.args.feature c.args.value)) _ (subst IsLegal c.self.view_is c.self.invariant.legal) (returns g c) in
-    made g.L.LinkStore.links g.L.LinkStore.kinds c.self.inside c.put_value.new.values (Set c.args.node c.args.feature c.args.value) _ plan c.in-Ok.ensures.ok (proper-steady (reads (state g.L.LinkStore.links c.self.inside)) [] (Set c.args.node c.args.feature c.args.value) tt) legal c.self.invariant
+    let plan = flagged _ c.model-model.result c.args.end c.args.value c.is_unsettable-flag.result _ c.self.invariant.legal seen c.attribute_refusal.ensures c.in_default.is (c.is_unsettable-flag.ensures ∙ ap (λ (m : Metamodel). (shape m c.args.end.feature).is_unsettable) c.meta.ensures)
+    (subst (λ (t : State). (shape t.model.metamodel c.args.end.feature).is_reference ≡ false) (sym c.self.view_is) c.requires.attribute) in
+    let legal = stepped-legal _ _ (command_of [] (At c.args.end (Set c.args.value))) _ (subst IsLegal c.self.view_is c.self.invariant.legal) (returns g c) in
+    made g.L.LinkStore.links g.L.LinkStore.kinds c.self.inside c.put_value.new.values (At c.args.end (Set c.args.value)) _ plan c.in-Ok.ensures.ok (proper-steady (reads (state g.L.LinkStore.links c.self.inside)) [] (At c.args.end (Set c.args.value)) tt) legal c.self.invariant

@@ -1,0 +1,38 @@
+-- Why what a call names is not there: an object, a resource, a class, or a feature. None of these is looked for with memory.
+use Rattle.std.specs.Prelude.{◌&&◌, Option, is_some}
+use Rattle.mm_types.specs.Conditions.{◌unless◌, ◌else_by◌}
+use Rattle.mm_types.specs.Lookups as lookups
+use Rattle.mm_types.specs.Resolved.{Metamodel}
+use Rattle.mm_types.specs.declared.numbers.ClassNo.{ClassNo}
+use Rattle.mm_types.specs.declared.numbers.FeatureNo.{FeatureNo}
+use Rattle.mm_types.specs.declared.numbers.ObjectNo.{ObjectNo}
+use Rattle.mm_types.specs.declared.numbers.Node.{Node}
+use Rattle.mm_types.specs.declared.end.End.{End}
+use Rattle.mm_types.specs.declared.refused.Refused.{Refused}
+use Rattle.mm_types.specs.declared.refused.Refused.TheVariants.{NoObject, NoResource, NoClass, Abstract, NoFeature}
+use Rattle.mm_types.specs.declared.value.Value.{Value}
+use Rattle.models.specs.Reading.{Reading, has_feature, is_live, is_node_live, is_resource_there, is_value_live}
+
+abbrev pub class_refusal : Metamodel → ClassNo → Option Refused
+class_refusal m c =
+    NoClass unless is_some (lookups.class m c) else_by
+    Abstract unless lookups.is_concrete m c
+
+abbrev pub object_refusal : Reading → ObjectNo → Option Refused
+object_refusal r o = NoObject unless is_live r o
+
+abbrev pub node_refusal : Reading → Node → Option Refused
+node_refusal r n =
+    NoObject unless is_node_live r n else_by
+    NoResource unless is_resource_there r n
+
+abbrev pub end_refusal : Reading → End → Option Refused
+end_refusal r e =
+    node_refusal r e.node else_by
+    NoFeature unless has_feature r e.node e.feature
+
+-- an end, and an object as a value for it: the value lives, before the resource is looked for
+abbrev pub value_refusal : Reading → End → Value → Option Refused
+value_refusal r e v =
+    NoObject unless (is_node_live r e.node && is_value_live r v) else_by
+    end_refusal r e

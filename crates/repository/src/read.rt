@@ -1,0 +1,61 @@
+//! The reads of a repository, as values: what is named, and what is asked of it.
+use mm_types::{AdapterNo, End, Node, ObjectNo, ResourceNo, Text};
+
+/// A read of the repository, as a value.
+#[derive(Drop)]
+pub enum Read {
+    /// Asks about a feature of a node.
+    At(End, EndRead),
+    /// Asks about an object.
+    Of(ObjectNo, ObjectRead),
+    /// Asks about a node and what is below it.
+    Under(Node, NodeRead),
+    /// Asks for the text of a resource (EMF: Resource.save).
+    Save(ResourceNo),
+    /// Asks for the object at an address (EMF: ResourceSet.getEObject, without loading).
+    ObjectAt(Text),
+    /// Asks how many notices of an adapter there are.
+    Adapter(AdapterNo, Tally),
+}
+
+/// What is asked about a feature of a node.
+#[derive(Clone, Copy, Drop)]
+pub enum EndRead {
+    /// What it has (EMF: EObject.eGet; MOF 2.5.1: Reflection, Object.get).
+    Get,
+    /// Whether it is set (EMF: EObject.eIsSet; MOF 2.5.1: Reflection, Object.isSet).
+    IsSet,
+}
+
+/// What is asked about an object.
+#[derive(Clone, Copy, Drop)]
+pub enum ObjectRead {
+    /// Its class (EMF: EObject.eClass; MOF 2.5.1: Reflection, Element.getMetaClass).
+    Class,
+    /// The object that contains it (EMF: EObject.eContainer; MOF 2.5.1: Reflection, Object.container).
+    Container,
+    /// The resource that it is in, through however many objects (EMF: EObject.eResource).
+    Resource,
+    /// Which of its features have fewer values than they should (EMF: Diagnostician.validate, of multiplicities).
+    Validate,
+    /// Its fragment in its resource (EMF: Resource.getURIFragment).
+    Fragment,
+}
+
+/// What is asked about a node and what is below it.
+#[derive(Clone, Copy, Drop)]
+pub enum NodeRead {
+    /// The objects that the node directly contains (EMF: EObject.eContents).
+    Contents,
+    /// All that the node and each node below it have.
+    Snapshot,
+}
+
+/// Which notices of an adapter are counted.
+#[derive(Clone, Copy, Drop)]
+pub enum Tally {
+    /// All that it was told.
+    Told,
+    /// Those that it keeps.
+    Kept,
+}
