@@ -25,6 +25,11 @@ module _ {A : Type 0} where
       ap (λ k. k ∷ places_of places zs) r
   places_of-set places (z ∷ zs) (suc i) x y e p = ap (λ rs. places z.adapter ∷ rs) (places_of-set places zs i x y e p)
 
+  pub places_of-same : (places : A → ℕ) (xs : List (Attached A)) (i : ℕ) (x y : Attached A) → x ≡ get_or xs i x → places y.adapter ≡ places x.adapter → places_of places (set xs i y) ≡ places_of places xs
+  places_of-same places [] i x y e p = refl
+  places_of-same places (z ∷ zs) zero x y e p = ap (λ k. k ∷ places_of places zs) (p ∙ ap (λ (w : Attached A). places w.adapter) e)
+  places_of-same places (z ∷ zs) (suc i) x y e p = ap (λ rs. places z.adapter ∷ rs) (places_of-same places zs i x y e p)
+
 module _ {X Y : Type 0} (f : X → Y) where
   pub prefix_len-map : (p : Y → Bool) (xs : List X) → prefix_len p (map f xs) ≡ prefix_len (λ x. p (f x)) xs
   prefix_len-map p [] = refl

@@ -1,5 +1,5 @@
 -- What reserving a chain gives: its round fits the adapters and their places, or the first adapter that refuses decides.
-use Rattle.std.specs.Prelude.{◌≡◌, ℕ, ◌≤◌, false, List, slice_index, Result, IfErr, IfOk, OnOk}
+use Rattle.std.specs.Prelude.{◌≡◌, ℕ, ◌≤◌, false, List, slice_index, Result, Ok, Err, IfErr, IfOk, OnOk}
 use Rattle.mm_types.specs.declared.refused.Refused.{Refused}
 use Rattle.mm_types.specs.declared.refused.Refused.TheVariants.{AdapterFull}
 use Rattle.notice_chain.specs.Listed.{Above, Listed, is_chain_full}
@@ -18,3 +18,8 @@ pub record IsReserved (up : Above) (chain : List Notice) (old new : List Listed 
   pub first : IfErr result (λ e. e ≡ AdapterFull → (k : ℕ) × IsFirstFull old.0 new.1 (round_copies up chain old.0) k)
   pub no_fewer : (k : ℕ) → slice_index old.1 k ≤ slice_index new.1 k
   pub still_fits : (r : RoundView) → RoundFits old.0 old.1 r → RoundFits new.0 new.1 r
+
+-- a round, if its places are reserved
+abbrev pub reserved_round : {U : Type 0} → RoundView → Result U Refused → Result RoundView Refused
+reserved_round r (Ok u) = Ok r
+reserved_round r (Err e) = Err e

@@ -8,6 +8,7 @@ ghost use Rattle.mmrepo_lib.specs.Nodes as node;
 ghost use Rattle.mmrepo_lib.specs.Values as value;
 
 mod names;
+mod reload;
 mod stop;
 mod tally;
 
@@ -16,6 +17,7 @@ use mmrepo_lib::{
     Repository, ResourceNo, SlotStore, Text, Value, check, load_meta,
 };
 use names::Names;
+use reload::load_again;
 use std::alloc::Global;
 use std::io;
 use std::io::Write;
@@ -30,6 +32,8 @@ const LIBRARY: &str = r#"{"classes":[
 {"name":"Book","features":[
   {"name":"title","kind":"attribute","type":"EString"},
   {"name":"library","kind":"reference","type":"Library","opposite":"books"}]}]}"#;
+
+const LIBRARY_URI: &str = "http://m.example/library";
 
 const TALLY: AdapterNo = AdapterNo(1);
 
@@ -96,11 +100,21 @@ fn save<L: LinkStore, W: Write>(
     names: Names,
     library: ObjectNo,
 ) -> Result<(), Stop> {
-    let resource = resource_in(repository.create_resource("http://m.example/library")?)?;
+    let resource = resource_in(repository.create_resource(LIBRARY_URI)?)?;
     let node = Node::Resource(resource);
     repository.add(node, names.contents, Value::Object(library), None)?;
     let document = repository.save(resource)?;
     writeln!(writer, "{}", document.as_str())?;
+    Ok(())
+}
+
+/// Prints how many objects the only resource of a repository directly contains.
+fn print_count<L: LinkStore, W: Write>(
+    writer: &mut W,
+    repository: &Repository<L, Tally>,
+) -> Result<(), Stop> {
+    let roots = repository.e_contents(Node::Resource(ResourceNo(0)))?;
+    writeln!(writer, "loaded again, roots: {}", roots.as_slice().len())?;
     Ok(())
 }
 
@@ -135,12 +149,20 @@ fn metamodel(alloc: Global) -> Result<Box<Meta>, Stop> {
     Ok(Box::new(alloc, meta)?)
 }
 
-fn start(rt: &HostRuntime) -> Result<(), Stop> {
-    let alloc = rt.alloc();
+/// An empty repository over the metamodel.
+fn empty(alloc: Global) -> Result<Box<Repository<SlotStore, Tally>>, Stop> {
     let meta = metamodel(alloc)?;
     let repository = Repository::<SlotStore, Tally>::new(alloc, Box::into_inner(meta));
-    let mut repository = Box::new(alloc, repository)?;
-    session(alloc, &mut io::writer(rt), &mut repository)
+    Ok(Box::new(alloc, repository)?)
+}
+
+fn start(rt: &HostRuntime) -> Result<(), Stop> {
+    let alloc = rt.alloc();
+    let mut repository = empty(alloc)?;
+    session(alloc, &mut io::writer(rt), &mut repository)?;
+    let mut second = empty(alloc)?;
+    load_again(&repository, &mut second, LIBRARY_URI)?;
+    print_count(&mut io::writer(rt), &second)
 }
 
 fn main(rt: HostRuntime) -> ExitCode {

@@ -63,7 +63,7 @@ all_both : {X : Type 0} (P Q : X → Type 0) (xs : List X) → AllByRecursion P 
 all_both P Q [] a b = tt
 all_both P Q (x ∷ xs) a b = ((a.0, b.0), all_both P Q xs a.1 b.1)
 
-all_filter : {X : Type 0} (P : X → Type 0) (p : X → Bool) (xs : List X) → AllByRecursion P xs → AllByRecursion P (filter p xs)
+pub all_filter : {X : Type 0} (P : X → Type 0) (p : X → Bool) (xs : List X) → AllByRecursion P xs → AllByRecursion P (filter p xs)
 all_filter P p [] all = tt
 all_filter P p (x ∷ xs) all =
     elim (p x) as (λ b. AllByRecursion P (if b then x ∷ filter p xs else filter p xs)) [ true ↦ (all.0, all_filter P p xs all.1) | false ↦ all_filter P p xs all.1 ]
@@ -88,7 +88,7 @@ pub apart_append : (ts us : List FeatureChange) → AreApart ts → AreApart us 
 apart_append [] us a b away = b
 apart_append (t ∷ ts) us a b away = (all_append (λ (u : FeatureChange). t.at ≡ u.at → ⊥) ts us a.0 away.0, apart_append ts us a.1 b away.1)
 
-apart_filter : (p : FeatureChange → Bool) (ts : List FeatureChange) → AreApart ts → AreApart (filter p ts)
+pub apart_filter : (p : FeatureChange → Bool) (ts : List FeatureChange) → AreApart ts → AreApart (filter p ts)
 apart_filter p [] apart = tt
 apart_filter p (t ∷ ts) apart =
     elim (p t) as (λ b. AreApart (if b then t ∷ filter p ts else filter p ts)) [ true ↦ (all_filter (λ (u : FeatureChange). t.at ≡ u.at → ⊥) p ts apart.0, apart_filter p ts apart.1) | false ↦ apart_filter p ts apart.1 ]
@@ -480,7 +480,7 @@ map-append : (f : FeatureChange → Notice) (ts us : List FeatureChange) → map
 map-append f [] us = refl
 map-append f (t ∷ ts) us = ap (λ (ns : List Notice). f t ∷ ns) (map-append f ts us)
 
-apart-front : (ts us : List FeatureChange) → AreApart (ts ++ us) → AreApart ts
+pub apart-front : (ts us : List FeatureChange) → AreApart (ts ++ us) → AreApart ts
 apart-front [] us apart = tt
 apart-front (t ∷ ts) us apart = (all_front (λ (u : FeatureChange). t.at ≡ u.at → ⊥) ts us apart.0, apart-front ts us apart.1)
 

@@ -63,7 +63,7 @@ without-filter (w ∷ ws) v distinct =
     suc-same : (j k : ℕ) → suc j ≡ suc k → j ≡ k
     suc-same j k h = omega (arith, h)
 
-one-in : (vs : List Value) (k : ℕ) (v : Value) → length vs ≤ 1 → slice_get vs k ≡ Some v → vs ≡ v ∷ []
+pub one-in : (vs : List Value) (k : ℕ) (v : Value) → length vs ≤ 1 → slice_get vs k ≡ Some v → vs ≡ v ∷ []
 one-in [] k v few at = absurd (none-some v at)
 one-in (w ∷ []) zero v few at = ap (λ (x : Value). x ∷ []) (same_Some w v at)
 one-in (w ∷ []) (suc k) v few at = absurd (none-some v at)

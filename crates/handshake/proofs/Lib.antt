@@ -37,6 +37,7 @@ pub mod FollowLemmas
 mod JoinedLemmas
 mod LeadLemmas
 mod ProgressLemmas
+mod SingleLemmas
 mod StepLemmas
 pub mod UnderwayLemmas
 pub mod ResolveAllLemmas

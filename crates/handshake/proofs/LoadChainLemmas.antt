@@ -103,7 +103,7 @@ module _ (s : Model) (k : ResourceNo) (doc : Doc) (legal : IsLegal s) (late : la
   reference : (shape s.metamodel roots.feature).is_reference ≡ true
   reference = ap (λ (a : Shape). a.is_reference) (contents-shape s.metamodel)
 
-  roots-many : (shape s.metamodel roots.feature).is_single ≡ false
+  pub roots-many : (shape s.metamodel roots.feature).is_single ≡ false
   roots-many = ap (λ (a : Shape). a.is_single) (contents-shape s.metamodel)
 
   roots-before : held_at (reading s) roots ≡ record { values = []; flag = false }

@@ -1,6 +1,8 @@
 -- What holds of every change of a legal model that nothing refuses.
-use Rattle.std.specs.Prelude.{◌≡◌, Bool, true, false, not, nat_le, IsFalse, List, [], ◌∷◌, ◌++◌, None}
+use Rattle.std.specs.Prelude.{◌≡◌, Bool, true, false, not, nat_le, IsFalse, List, [], ◌∷◌, ◌++◌, filter, None}
 use Rattle.std.specs.List.{AllByRecursion}
+use Rattle.mm_types.specs.Resolved.{Metamodel}
+use Rattle.mm_types.specs.Shapes.{shape}
 use Rattle.mm_types.specs.declared.end.End.{End}
 use Rattle.mm_types.specs.declared.numbers.Node.{Node}
 use Rattle.mm_types.specs.declared.numbers.Node.TheVariants as node
@@ -78,6 +80,14 @@ AreApart (t ∷ ts) = AllByRecursion (λ (u : FeatureChange). t.at ≡ u.at → 
 -- but a list that is unset, which is told last, value by value, the lists that hold what is destroyed, and that of the roots of a load
 abbrev pub TellsNoEndTwice : Model → Change → Type 0
 TellsNoEndTwice = OfAllowed (λ s c. IsFalse (takes_many (reading s) c) → AreApart (feature_changes (reading s) c))
+
+-- a feature change is at a single end
+abbrev pub is_of_single : Metamodel → FeatureChange → Bool
+is_of_single m t = (shape m t.at.feature).is_single
+
+-- no single end is told twice, whatever the change
+abbrev pub TellsNoSingleEndTwice : Model → Change → Type 0
+TellsNoSingleEndTwice = OfAllowed (λ s c. AreApart (filter (is_of_single s.metamodel) (feature_changes (reading s) c)))
 
 -- where a list is unset, no far end is told twice, and none of them is the list
 abbrev pub FarEndsAreApart : Model → End → Type 0

@@ -8,7 +8,7 @@ ghost use Rattle.models.specs.Legal.{IsLegal};
 ghost use Rattle.models.specs.Model.{Model};
 ghost use Rattle.resource_docs.specs.declared.doc.Doc.{Doc};
 ghost use Rattle.notice_chain.specs.Replay.{replayed_all};
-ghost use Rattle.handshake.specs.Laws.{ChainReplays, CutsNoLinkTwice, FarEndsAreApart, KeepsLegal, KeepsSteady, TellsNoEndTwice};
+ghost use Rattle.handshake.specs.Laws.{ChainReplays, CutsNoLinkTwice, FarEndsAreApart, KeepsLegal, KeepsSteady, TellsNoEndTwice, TellsNoSingleEndTwice};
 ghost use Rattle.handshake.specs.Loaded.{LoadsEnds};
 ghost use Rattle.handshake.specs.OneByOne.{ResolvesEach};
 ghost use Rattle.handshake.specs.FeatureChange.{happened_all, has_flag, told};
@@ -39,10 +39,11 @@ pub fn the_chain_of_a_change_replays_it()
     ensures { (s : Model) (c : Change) → ChainReplays s c }
 {}
 
-/// A change of a legal model, if nothing refuses it, tells no end twice, unless it is an unset of a list, a deletion, a load, or the one
-/// that resolves all proxies. An unset of a list tells no far end twice, and the list is none of the far ends. Of the others nothing is
-/// said.
+/// A change of a legal model, if nothing refuses it, tells no single end twice. It tells no end twice at all, unless it is an unset of a
+/// list, a deletion, a load, or the change that resolves all proxies. An unset of a list tells no far end twice, and the list is none of
+/// the far ends.
 pub fn a_chain_tells_no_end_twice()
+    ensures single_ends { (s : Model) (c : Change) → TellsNoSingleEndTwice s c }
     ensures ends { (s : Model) (c : Change) → TellsNoEndTwice s c }
     ensures far_ends { (s : Model) (e : End) → FarEndsAreApart s e }
 {}

@@ -1,10 +1,11 @@
 //! Each adapter is dropped once: after it was detached, after its target was destroyed, after its owner was closed, and with its owner,
 //! which is a list or a repository.
-use crate::books::watched;
+use crate::books::{object, watched};
 use crate::counted::{Counted, Drops, NO_DROPS, counted_box};
 use crate::telling::{Kind, three};
 use adapters::{Adapter, Counter};
 use mm_types::{AdapterNo, ObjectNo};
+use repository::Command;
 use std::alloc::{AllocError, Global};
 use std::cell::Cell;
 use std::rc::Rc;
@@ -112,6 +113,8 @@ fn a_dropped_list_drops_its_adapters(rt: HostRuntime) -> Result<(), Fail> {
     assert_eq!(rt; drops.get().all, 0);
     drop(list);
     assert_eq!(rt; drops.get().all, 3);
+    // No one was told of it: only `detach`, `release` and `close` notify.
+    assert_eq!(rt; drops.get().removed, 0);
     Ok(())
 }
 
@@ -123,5 +126,36 @@ fn a_dropped_repository_drops_its_adapters(rt: HostRuntime) -> Result<(), Fail> 
     assert_eq!(rt; drops.get().all, 0);
     drop(repository);
     assert_eq!(rt; drops.get().all, 3);
+    assert_eq!(rt; drops.get().removed, 0);
+    Ok(())
+}
+
+/// Commands that attach two adapters.
+fn attaching<A: Adapter>(
+    alloc: Global,
+    first: A,
+    second: A,
+) -> Result<Vec<Command<A>>, AllocError> {
+    let mut commands = Vec::new(alloc);
+    for (no, adapter) in [(1, first), (2, second)] {
+        commands.push(Command::Attach {
+            no: AdapterNo(no),
+            target: object(0),
+            deep: true,
+            adapter,
+        })?;
+    }
+    Ok(commands)
+}
+
+#[test]
+fn commands_that_are_not_run_drop_their_adapters(rt: HostRuntime) -> Result<(), Fail> {
+    let drops = Rc::new(rt.alloc(), Cell::new(NO_DROPS))?;
+    let (first, second) = (counter(&drops)?, counter(&drops)?);
+    let commands = attaching(rt.alloc(), first, second)?;
+    assert_eq!(rt; drops.get().all, 0);
+    drop(commands);
+    assert_eq!(rt; drops.get().all, 2);
+    assert_eq!(rt; drops.get().removed, 0);
     Ok(())
 }

@@ -31,6 +31,8 @@ mod drops;
 #[cfg(test)]
 mod following;
 #[cfg(test)]
+mod kept;
+#[cfg(test)]
 mod latest;
 #[cfg(test)]
 mod left_proxies;
@@ -84,3 +86,5 @@ mod telling;
 mod three_resources;
 #[cfg(test)]
 mod unique_lists;
+#[cfg(test)]
+mod views;

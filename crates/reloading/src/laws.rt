@@ -34,9 +34,9 @@ pub fn what_was_saved_is_loaded_as_it_was()
     ensures { (s : Model) (w : ValuesState) (b : Links) → LoadsSaved s w b }
 {}
 
-/// All that was saved, of a model without proxies, loaded into a new model: its resources are made, and their documents loaded, in any
-/// order in which none is loaded before it is made. Nothing but memory refuses any of these changes, and what they leave is between what
-/// was saved and itself.
+/// All that was saved, of a model without proxies in which no text of a reference is longer than 65,535 bytes, loaded into a new model: its
+/// resources are made, and their documents loaded, in any order in which none is loaded before it is made. Nothing but memory refuses any
+/// of these changes, and what they leave is between what was saved and itself.
 pub fn loads_in_any_order_give_what_stands_between()
     ensures { (s : Model) → LoadsGiveBetween s }
 {}
@@ -62,9 +62,9 @@ pub fn without_proxies_models_between_are_alike()
     ensures { (s t : Reading) → HasNoProxy s → HasNoProxy t → Between s t → Alike s t }
 {}
 
-/// All that was saved, of a model without proxies, loaded into a new model in any order, and then proxies resolved in any order until none
-/// is left: nothing but memory refuses any of these changes, and what comes out is alike to what was saved. There are such resolves, and to
-/// resolve all proxies in their order is one way.
+/// All that was saved, of a model without proxies in which no text of a reference is longer than 65,535 bytes, loaded into a new model in
+/// any order, and then proxies resolved in any order until none is left: nothing but memory refuses any of these changes, and what comes
+/// out is alike to what was saved. There are resolves that leave none, and to resolve all proxies in their order is one way.
 pub fn what_was_saved_is_had_again_in_any_order()
     ensures { (s : Model) → ReloadsInAnyOrder s }
 {}

@@ -18,7 +18,7 @@ pub mod RememberedLemmas
 mod InsideLemmas
 mod KeptNodeLemmas
 mod LonePutLemmas
-mod AttachedLemmas
+mod HeardLemmas
 mod ReplayLemmas
 mod ThereLemmas
 mod EnoughLemmas

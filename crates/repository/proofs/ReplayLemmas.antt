@@ -39,7 +39,7 @@ use Rattle.repository.specs.State.{State, is_there, reads}
 use Rattle.repository.specs.Step.{model_after}
 use Rattle.repository.specs.declared.command.Command.{Command}
 use Rattle.repository.specs.declared.command.Command.TheVariants.{At, Create, Delete, CreateResource, Load, ResolveAll}
-use Rattle.repository.proofs.AttachedLemmas.{AreOfNoFeature}
+use Rattle.repository.proofs.HeardLemmas.{AreOfNoFeature}
 use Rattle.repository.proofs.LoadLemmas.{text-read}
 use Rattle.repository.proofs.PlanLemmas.{uri-allowed}
 use Rattle.snapshots.specs.Replayed.{end_of}

@@ -14,11 +14,14 @@ use Rattle.notice_chain.specs.Listed.{Listed, adapter}
 use Rattle.notice_chain.specs.Replay.{replayed_all}
 use Rattle.notice_chain.specs.View.{View}
 use Rattle.handshake.specs.FeatureChange.{has_flag}
+use Rattle.notice_chain.specs.declared.notice.Notice.{Notice}
+use Rattle.repository.specs.Heard.{handed_out, handed_out_by, told_by_all, told_to}
 use Rattle.repository.specs.Refusals.{chain}
 use Rattle.repository.specs.Run.{run}
 use Rattle.repository.specs.State.{State, IsLegal, is_there, reads}
-use Rattle.repository.specs.Step.{refusal_of, step}
+use Rattle.repository.specs.Step.{closed, refusal_of, step}
 use Rattle.repository.specs.declared.command.Command.{Command}
+use Rattle.repository.specs.declared.command.Command.TheVariants.{Detach}
 use Rattle.snapshots.specs.Replayed.{replayed_notices, state_at}
 use Rattle.snapshots.specs.Snapshots.{node_state, snapshot_of}
 
@@ -57,14 +60,33 @@ HasDeepTarget number target s = IsTrue (is_deep_target number target s)
 abbrev pub IsAtOrBelow : Node → Node → State → Type 0
 IsAtOrBelow target n s = is_within (reads s) target n ≡ true
 
--- A node is a deep target of an adapter without a bound in each state of a run, whatever other targets come and go, and a second node is
--- that target or below it in each. Then the snapshot of the target at the begin, replayed with the notices that the adapter has kept since, has of the second node what the
--- snapshot at the end has.
+-- what notices make of the snapshot of a target, of one node, is what the snapshot at the end of a run has of it
+abbrev pub AreEnough : State → List (Command View) → Node → Node → List Notice → Type 0
+AreEnough s cs target n ns = state_at n (replayed_notices (snapshot_of (reads s) target) ns) ≡ state_at n (snapshot_of (reads (run s cs).after) target)
+
+-- An adapter is attached, a node is a deep target of it in each state of a run, whatever other targets come and go, and a second node is
+-- that target or below it in each.
+abbrev pub OfWatched : State → List (Command View) → AdapterNo → Node → Listed → Node → Type 0 → Type 0
+OfWatched s cs number target a n Holds =
+    IsLegal s → adapter number s.adapters ≡ Some a → AllAlong (HasDeepTarget number target) s cs → AllAlong (IsAtOrBelow target n) s cs → Holds
+
+-- what the replies told the adapter is enough, whatever its room
+abbrev pub ToldIsEnough : State → List (Command View) → AdapterNo → Node → Listed → Node → Type 0
+ToldIsEnough s cs number target a n = OfWatched s cs number target a n (AreEnough s cs target n (told_to number (told_by_all (run s cs).outcomes)))
+
+-- a view without a bound on its room has kept enough since another view, which it was
+abbrev pub KeepsEnough : State → List (Command View) → Node → Node → View → View → Type 0
+KeepsEnough s cs target n v w = v.room ≡ None → AreEnough s cs target n (drop (length v.kept) w.kept)
+
+-- what the adapter has kept since is enough, if its room has no bound: while it is attached, ..
 abbrev pub NoticesAreEnough : State → List (Command View) → AdapterNo → Node → Listed → Listed → Node → Type 0
-NoticesAreEnough s cs number target a b n =
-    IsLegal s
-    → adapter number s.adapters ≡ Some a → a.view.room ≡ None
-    → AllAlong (HasDeepTarget number target) s cs
-    → AllAlong (IsAtOrBelow target n) s cs
-    → adapter number (run s cs).after.adapters ≡ Some b
-    → state_at n (replayed_notices (snapshot_of (reads s) target) (drop (length a.view.kept) b.view.kept)) ≡ state_at n (snapshot_of (reads (run s cs).after) target)
+NoticesAreEnough s cs number target a b n = OfWatched s cs number target a n (adapter number (run s cs).after.adapters ≡ Some b → KeepsEnough s cs target n a.view b.view)
+
+-- .. when it is detached, ..
+abbrev pub DetachedKeepsEnough : State → List (Command View) → AdapterNo → Node → Listed → View → Node → Type 0
+DetachedKeepsEnough s cs number target a w n =
+    OfWatched s cs number target a n (handed_out number (handed_out_by (step (run s cs).after (Detach number)).outcome) ≡ Some w → KeepsEnough s cs target n a.view w)
+
+-- .. and when the repository is closed
+abbrev pub ClosedKeepsEnough : State → List (Command View) → AdapterNo → Node → Listed → View → Node → Type 0
+ClosedKeepsEnough s cs number target a w n = OfWatched s cs number target a n (handed_out number (closed (run s cs).after) ≡ Some w → KeepsEnough s cs target n a.view w)

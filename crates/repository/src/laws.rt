@@ -11,7 +11,8 @@ ghost use Rattle.notice_chain.specs.View.{View};
 ghost use Rattle.reloading.specs.Alike.{Alike};
 ghost use Rattle.reloading.specs.Between.{Between};
 ghost use Rattle.reloading.specs.Proxies.{HasNoProxy};
-ghost use Rattle.repository.specs.Enough.{ChainReplays, HasEachNode, NoticesAreEnough};
+ghost use Rattle.repository.specs.Enough.{ChainReplays, ClosedKeepsEnough, DetachedKeepsEnough, HasEachNode, NoticesAreEnough, ToldIsEnough};
+ghost use Rattle.repository.specs.Heard.{HearsItsReply};
 ghost use Rattle.repository.specs.Laws.{KeepsLegal};
 ghost use Rattle.repository.specs.Reload.{LoadsGiveBetween, ReloadsInAnyOrder, ResolvesAll, ResolvesBetween};
 ghost use Rattle.repository.specs.Run.{Executed};
@@ -42,14 +43,26 @@ pub fn a_snapshot_has_each_node()
     ensures { (s : Model) (target n : Node) → HasEachNode s target n }
 {}
 
-/// Notices are enough. Let a node be a deep target of an adapter without a bound, from here to now. For each node that is the target or
-/// below it all along, replaying what the adapter has kept since on the snapshot from here gives what the snapshot has now.
-pub fn notices_are_enough()
-    ensures { (s : State) (cs : List (Command View)) (number : AdapterNo) (target : Node) (a b : Listed) (n : Node) → NoticesAreEnough s cs number target a b n }
+/// An adapter that is attached before a command has heard after it what the reply tells it, in order and nothing else: while it is still
+/// attached, and when the reply hands it out.
+pub fn an_adapter_hears_what_the_reply_tells_it()
+    ensures { (s : State) (c : Command View) (number : AdapterNo) (a : Listed) → HearsItsReply s c number a }
 {}
 
-/// All that was saved, of a state without proxies, comes back into a new repository over the same metamodel. Its resources are created and
-/// their texts loaded, in any order in which none is loaded before it is created. Nothing but memory refuses any of these commands, and the
+/// Notices are enough. Let a node be a deep target of an adapter from here to now, and take the snapshot of the target from here. For each
+/// node that is the target or below it all along, the snapshot replayed with the notices since has what the snapshot has now. The notices
+/// are those that the replies told the adapter, whatever its room. If its room has no bound, they are also those that it has kept since:
+/// while it is attached, and once `detach` or `close` hands it out.
+pub fn notices_are_enough()
+    ensures kept { (s : State) (cs : List (Command View)) (number : AdapterNo) (target : Node) (a b : Listed) (n : Node) → NoticesAreEnough s cs number target a b n }
+    ensures told { (s : State) (cs : List (Command View)) (number : AdapterNo) (target : Node) (a : Listed) (n : Node) → ToldIsEnough s cs number target a n }
+    ensures detached { (s : State) (cs : List (Command View)) (number : AdapterNo) (target : Node) (a : Listed) (w : View) (n : Node) → DetachedKeepsEnough s cs number target a w n }
+    ensures closed { (s : State) (cs : List (Command View)) (number : AdapterNo) (target : Node) (a : Listed) (w : View) (n : Node) → ClosedKeepsEnough s cs number target a w n }
+{}
+
+/// All that was saved, of a state without proxies, comes back into a new repository over the same metamodel, if the text of no reference is
+/// longer than 65,535 bytes. Its resources are created and their texts loaded, in any order in which none is loaded before it is created.
+/// The texts are those that `Repository::save` returns. Nothing but memory refuses any of these commands, and the
 /// new state is legal and between what was saved and itself: it has the same objects at the same addresses, and some references are still
 /// proxies.
 pub fn loads_in_any_order_give_what_stands_between()
@@ -73,7 +86,8 @@ pub fn without_proxies_what_stands_between_is_alike()
     ensures { (s t : Reading) → HasNoProxy s → HasNoProxy t → Between s t → Alike s t }
 {}
 
-/// What was saved comes back. All resources of a state without proxies were saved. In a new repository over the same metamodel they are
+/// What was saved comes back. All resources of a state without proxies were saved, and the text of no reference is longer than 65,535
+/// bytes. In a new repository over the same metamodel they are
 /// created and loaded, both in any order, and then proxies are resolved, all at once or one after another in any order until none is left.
 /// Nothing but memory refuses any of these commands, and the two states are alike: they have the same addresses, and at each address the
 /// same class, values, flags and ends, with objects compared by their addresses.

@@ -88,8 +88,8 @@ pub(crate) fn prepare_values<L: LinkStore>(
     Ok((answer.unwrap_or(Answer::Done), values))
 }
 
-/// Takes all memory that a plan needs, all places that the adapters need, and room for what is told of the targets that go. Nothing
-/// changes.
+/// Takes all memory that a plan needs, room for what is told of the targets that go, and at last all places that the adapters need, in
+/// attach order. Nothing changes.
 pub(crate) fn reserve<L: LinkStore, A: Adapter>(
     alloc: Global,
     store: &mut L,
@@ -118,8 +118,9 @@ pub(crate) fn reserve<L: LinkStore, A: Adapter>(
 {
     store.reserve_for(&planned.edits)?;
     values.reserve_for(&planned.values)?;
-    let round = adapters.reserve_known(store, &planned.chain, hearers)?;
+    let round = adapters.round(store, planned.chain.as_slice(), hearers)?;
     let leaving = room_for(alloc, spots, round.told_len())?;
+    adapters.reserve_round(&round)?;
     Ok((round, leaving))
 }
 

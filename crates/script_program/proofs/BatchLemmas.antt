@@ -2,11 +2,13 @@
 use Rattle.std.proofs.Common.{◌∙◌, ◌≡◌, ◌⊎◌, ◌++◌, ℕ, true, false, inl, inr, List, [], Option, None, Some, ap, append-nil, subst, sym}
 use Rattle.std.specs.Prelude.{IfSome}
 use Rattle.std.specs.Io.KnownBytes.{Appends}
+use Rattle.repository.specs.State.{State}
 use Rattle.script_lines.specs.Lines.{lines}
-use Rattle.script_program.specs.Batch.{PrintsDressed, PrintsDressedFront, PrintsInputDressed, PrintsInputDressedFront}
+use Rattle.script_program.specs.Batch.{EndsAnywhere, EndsIn, PrintsDressed, PrintsDressedFront, PrintsInputDressed, PrintsInputDressedFront}
 use Rattle.script_program.specs.Dressed.{plain}
 use Rattle.script_program.specs.Script.{Prints, PrintsFront, PrintsInput, PrintsInputFront, RunsLines}
 use Rattle.script_program.specs.Session.{Session}
+use Rattle.script_program.specs.declared.dress.Dress.{Dress}
 use Rattle.script_program.specs.declared.summary.Summary.{Summary}
 use Rattle.script_streams.specs.Streams.{AppendsFront}
 use Rattle.script_program.proofs.DressLemmas.{plain_text}
@@ -17,7 +19,7 @@ no_rest rest (inl e) = e
 no_rest rest (inr e) = cc
 
 -- a run whose answers are dressed plainly runs all lines, and writes their text
-pub plain_run : (s : Session) (old new : Option (List ℕ)) (bytes : List ℕ) (summary : Summary) → PrintsDressed plain s old new bytes summary → Prints s old new bytes summary
+pub plain_run : (s : Session) (old new : Option (List ℕ)) (bytes : List ℕ) (summary : Summary) → PrintsDressed plain s EndsAnywhere old new bytes summary → Prints s old new bytes summary
 plain_run s old new bytes summary h =
     let all : lines bytes ≡ h.first = h.ran.runs.lines_are ∙ (ap (λ r. h.first ++ r) (no_rest h.ran.rest h.ran.ends) ∙ append-nil h.first) in
     record {
@@ -43,7 +45,12 @@ some_weaker : {X : Type 0} (P Q : X → Type 0) (o : Option X) → ((x : X) → 
 some_weaker P Q None f h = tt
 some_weaker P Q (Some x) f h = f x h
 
-pub plain_input : (input : Option (List ℕ)) (s : Session) (old new : Option (List ℕ)) (summary : Summary) → PrintsInputDressed plain input s old new summary → PrintsInput input s old new summary
+-- a run that ends in a state ends
+pub ends_anywhere : (d : Dress) (input : Option (List ℕ)) (s : Session) (q : State) (old new : Option (List ℕ)) (summary : Summary) → PrintsInputDressed d input s (EndsIn q) old new summary → PrintsInputDressed d input s EndsAnywhere old new summary
+ends_anywhere d input s q old new summary h =
+    some_weaker _ _ input (λ bytes p. (p.0, record { first = p.1.first; printed = p.1.printed; after = p.1.after; left = tt; ran = p.1.ran; counted = p.1.counted; written = p.1.written })) h
+
+pub plain_input : (input : Option (List ℕ)) (s : Session) (old new : Option (List ℕ)) (summary : Summary) → PrintsInputDressed plain input s EndsAnywhere old new summary → PrintsInput input s old new summary
 plain_input input s old new summary h = some_weaker _ _ input (λ bytes p. (p.0, plain_run s old new bytes summary p.1)) h
 
 pub plain_input_front : (input : Option (List ℕ)) (s : Session) (old new : Option (List ℕ)) → PrintsInputDressedFront plain input s old new → PrintsInputFront input s old new

@@ -5,7 +5,7 @@ use Rattle.std.specs.Io.KnownBytes.{Appends}
 use Rattle.std.proofs.KnownBytes.{Appends-nil, Appends-trans}
 use Rattle.script_lines.specs.Forms.{form}
 use Rattle.script_lines.specs.Lines.{lines}
-use Rattle.script_program.specs.Batch.{PrintsDressed, PrintsDressedFront}
+use Rattle.script_program.specs.Batch.{EndsIn, PrintsDressed, PrintsDressedFront}
 use Rattle.script_program.specs.Dressed.{dressed_from, plain}
 use Rattle.script_program.specs.Session.{Session}
 use Rattle.script_program.specs.Script.{Adds, RunsLine}
@@ -66,6 +66,6 @@ module _ (z : Session) (bytes : List ℕ) (old : Option (List ℕ)) where
     broken after wrote = front_of plain z bytes rest s w.number w.printed summary old after w.so_far (subst (AppendsFront old after) (sym w.answers) (front_after old now after w.front block w.written wrote))
 
     -- all lines were run, and the block is written
-    pub done : (after : Option (List ℕ)) → length rest ≡ 0 → Appends now after block → PrintsDressed plain z old after bytes summary
-    done after none wrote = whole_of plain z bytes rest s w.number w.printed summary old after w.so_far (inl (ap lines (nil_from_length rest none)))
-        (subst (Appends old after) (sym w.answers) (Appends-trans old now after w.front block w.written wrote))
+    pub done : (after : Option (List ℕ)) → length rest ≡ 0 → Appends now after block → PrintsDressed plain z (EndsIn s.state) old after bytes summary
+    done after none wrote = whole_of plain z bytes (EndsIn s.state) rest s w.number w.printed summary old after w.so_far (inl (ap lines (nil_from_length rest none)))
+        (subst (Appends old after) (sym w.answers) (Appends-trans old now after w.front block w.written wrote)) refl

@@ -7,7 +7,7 @@ use Rattle.std.specs.Io.KnownBytes.{Appends}
 use Rattle.std.proofs.KnownBytes.{Appends-nil, Appends-trans}
 use Rattle.script_lines.specs.Forms.{form}
 use Rattle.script_lines.specs.Lines.{lines}
-use Rattle.script_program.specs.Batch.{AnswersFront, AnswersLine, PrintsDressed, PrintsDressedFront, RunsFirst}
+use Rattle.script_program.specs.Batch.{AnswersFront, AnswersLine, EndsIn, PrintsDressed, PrintsDressedFront, RunsFirst}
 use Rattle.script_program.specs.Dressed.{dressed_from, dressed_line, is_fault, is_stopped, kept}
 use Rattle.script_program.specs.Script.{RunsLine, RunsLines}
 use Rattle.script_program.specs.Session.{Session}
@@ -116,12 +116,13 @@ module _ (d : Dress) (z : Session) (bytes : List ℕ) where
       → RunsFirst d z bytes g.done (lines rest) printed s
   first_run rest s number printed summary g = record { lines_are = sym g.all; ran = g.ran; none_behind = g.none_behind }
 
-  pub whole_of : (rest : List ℕ) (s : Session) (number : ℕ) (printed : List Printed) (summary : Summary) (old new : Option (List ℕ)) → (g : Ran d z bytes rest s number printed summary)
-      → ((lines rest ≡ []) ⊎ (is_stopped d printed ≡ true)) → Appends old new (dressed_from d 1 g.done printed) → PrintsDressed d z old new bytes summary
-  whole_of rest s number printed summary old new g ends wrote = record {
+  pub whole_of : (Left : Session → Type 0) (rest : List ℕ) (s : Session) (number : ℕ) (printed : List Printed) (summary : Summary) (old new : Option (List ℕ)) → (g : Ran d z bytes rest s number printed summary)
+      → ((lines rest ≡ []) ⊎ (is_stopped d printed ≡ true)) → Appends old new (dressed_from d 1 g.done printed) → Left s → PrintsDressed d z Left old new bytes summary
+  whole_of Left rest s number printed summary old new g ends wrote left = record {
     first = g.done;
     printed = printed;
     after = s;
+    left = left;
     ran = record { rest = lines rest; runs = first_run rest s number printed summary g; ends = ends };
     counted = g.counted;
     written = subst (λ ps. Appends old new (dressed_from d 1 g.done ps)) (sym g.none_behind) wrote;
@@ -140,9 +141,9 @@ module _ (d : Dress) (z : Session) (bytes : List ℕ) where
 
   -- all lines were run
   pub finish : (rest : List ℕ) (s : Session) (number : ℕ) (printed : List Printed) (summary : Summary) (old new : Option (List ℕ))
-      → GoesOn d z bytes rest s number printed summary old new → length rest ≡ 0 → PrintsDressed d z old new bytes summary
+      → GoesOn d z bytes rest s number printed summary old new → length rest ≡ 0 → PrintsDressed d z (EndsIn s.state) old new bytes summary
   finish rest s number printed summary old new on none =
-      whole_of rest s number printed summary old new on.so_far (inl (ap lines (nil_from_length rest none))) on.written
+      whole_of (EndsIn s.state) rest s number printed summary old new on.so_far (inl (ap lines (nil_from_length rest none))) on.written refl
 
   -- no line was run
   pub silent : (old : Option (List ℕ)) → PrintsDressedFront d z old old bytes
@@ -174,16 +175,16 @@ module _ (d : Dress) (z : Session) (bytes : List ℕ) where
     -- it ends the run
     pub ended : (u : Session) (turn : Turn) → GoesOn d z bytes rest s number printed summary old mid → lines rest ≡ line ∷ lines more → length more < length rest
         → AnswersLine d (number + 1) line s mid new turn u → (d.stop && is_fault turn) ≡ true
-        → PrintsDressed d z old new bytes (with_turn summary turn)
+        → PrintsDressed d z (EndsIn u.state) old new bytes (with_turn summary turn)
     unfolding one_more
     ended u turn on cut shorter one stop =
         let p = one.printed in
         let is : p.turn ≡ turn = one.counted in
-        let whole = whole_of more u (number + 1) (printed ++ p ∷ []) (with_turn summary p.turn) old new
+        let whole = whole_of (EndsIn u.state) more u (number + 1) (printed ++ p ∷ []) (with_turn summary p.turn) old new
         (one_more d z bytes rest more line s u number printed summary p on.so_far on.going cut shorter one.ran)
         (inr (stopped_last d printed p on.going ∙ (ap (λ t. d.stop && is_fault t) is ∙ stop)))
-        (subst (Appends old new) (sym (line_behind d z bytes rest s number printed summary line p on.so_far)) (Appends-trans old mid new _ _ on.written one.written)) in
-        subst (λ t. PrintsDressed d z old new bytes (with_turn summary t)) is whole
+        (subst (Appends old new) (sym (line_behind d z bytes rest s number printed summary line p on.so_far)) (Appends-trans old mid new _ _ on.written one.written)) refl in
+        subst (λ t. PrintsDressed d z (EndsIn u.state) old new bytes (with_turn summary t)) is whole
 
     -- its answer is written in part, or nothing of it
     pub stopped : GoesOn d z bytes rest s number printed summary old mid → lines rest ≡ line ∷ lines more → length more < length rest

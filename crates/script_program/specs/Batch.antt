@@ -2,6 +2,7 @@
 use Rattle.std.specs.Prelude.{◌≡◌, ◌≤◌, ◌⊎◌, ℕ, true, List, [], ◌++◌, length, Option, IfSome}
 use Rattle.std.specs.Io.KnownBytes.{Appends}
 use Rattle.mm_types.specs.declared.limits.TheConstants.{INPUT_BYTES}
+use Rattle.repository.specs.State.{State}
 use Rattle.script_lines.specs.Forms.{form}
 use Rattle.script_lines.specs.Lines.{lines}
 use Rattle.script_program.specs.Dressed.{dressed, dressed_line, is_stopped, kept}
@@ -39,11 +40,20 @@ pub record RunsBatch (d : Dress) (s : Session) (bytes : List ℕ) (first : List 
   pub runs : RunsFirst d s bytes first rest printed t
   pub ends : (rest ≡ []) ⊎ (is_stopped d printed ≡ true)
 
--- A script was run to the end of its run, its answers were written as they are dressed, and the counts are theirs.
-pub record PrintsDressed (d : Dress) (s : Session) (old new : Option (List ℕ)) (bytes : List ℕ) (summary : Summary) : Type 0 where
+-- a session ends in a repository of this state; and a session may end in any
+abbrev pub EndsIn : State → Session → Type 0
+EndsIn q t = t.state ≡ q
+
+abbrev pub EndsAnywhere : Session → Type 0
+EndsAnywhere t = Unit {0}
+
+-- A script was run to the end of its run, its answers were written as they are dressed, the counts are theirs, and something holds of the
+-- session that is left.
+pub record PrintsDressed (d : Dress) (s : Session) (Left : Session → Type 0) (old new : Option (List ℕ)) (bytes : List ℕ) (summary : Summary) : Type 0 where
   pub first : List (List ℕ)
   pub printed : List Printed
   pub after : Session
+  pub left : Left after
   pub ran : RunsBatch d s bytes first printed after
   pub counted : summary_of printed ≡ summary
   pub written : Appends old new (dressed d first printed)
@@ -58,8 +68,8 @@ pub record PrintsDressedFront (d : Dress) (s : Session) (old new : Option (List 
   pub written : AppendsFront old new (dressed d first printed)
 
 -- Known input is no longer than it may be, and it was run to the end of its run.
-abbrev pub PrintsInputDressed : Dress → Option (List ℕ) → Session → Option (List ℕ) → Option (List ℕ) → Summary → Type 0
-PrintsInputDressed d input s old new summary = IfSome input (λ bytes. (length bytes ≤ INPUT_BYTES) × PrintsDressed d s old new bytes summary)
+abbrev pub PrintsInputDressed : Dress → Option (List ℕ) → Session → (Session → Type 0) → Option (List ℕ) → Option (List ℕ) → Summary → Type 0
+PrintsInputDressed d input s Left old new summary = IfSome input (λ bytes. (length bytes ≤ INPUT_BYTES) × PrintsDressed d s Left old new bytes summary)
 
 -- The first lines of known input were run.
 abbrev pub PrintsInputDressedFront : Dress → Option (List ℕ) → Session → Option (List ℕ) → Option (List ℕ) → Type 0

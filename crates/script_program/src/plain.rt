@@ -4,7 +4,7 @@ ghost use Rattle.std.specs.Io.KnownBytes.{Appends};
 ghost use Rattle.mm_types.specs.declared.limits.TheConstants.{INPUT_BYTES};
 ghost use Rattle.script_streams.specs.Faults.{IsWriteOrMemory};
 ghost use Rattle.script_streams.specs.Streams.{AppendsFront};
-ghost use Rattle.script_program.specs.Batch.{PrintsDressed, PrintsDressedFront};
+ghost use Rattle.script_program.specs.Batch.{EndsIn, PrintsDressed, PrintsDressedFront};
 ghost use Rattle.script_program.specs.Dressed.{plain};
 ghost use Rattle.script_program.specs.Session.{session};
 
@@ -45,7 +45,7 @@ pub(crate) fn run_plain<W: Write, L: LinkStore, A: Adapter>(
     input: &[u8],
 ) -> Result<Summary, RunFault>
     requires { length input.now ≤ INPUT_BYTES }
-    ensures ok { IfOk result (λ s. PrintsDressed plain (session repository.old pool.old) (W.contents writer.old) (W.contents writer.new) input.now s) }
+    ensures ok { IfOk result (λ s. PrintsDressed plain (session repository.old pool.old) (EndsIn repository.new) (W.contents writer.old) (W.contents writer.new) input.now s) }
     ensures err { OnErr result (PrintsDressedFront plain (session repository.old pool.old) (W.contents writer.old) (W.contents writer.new) input.now) }
     ensures kind { IfErr result (λ e. IsWriteOrMemory e) }
 {

@@ -3,7 +3,7 @@ ghost use Rattle.std.specs.Prelude.{◌≡◌, ◌≤◌, ◌<◌, ◌⊎◌, If
 ghost use Rattle.std.specs.Io.KnownBytes.{IsAtEnd, Keeps};
 ghost use Rattle.script_lines.specs.Source.{bytes_of};
 ghost use Rattle.script_streams.specs.Faults.{IsReadOrTooLong, IsWriteOrMemory};
-ghost use Rattle.script_program.specs.Batch.{AnswersFront, AnswersLine, PrintsDressed, PrintsDressedFront, PrintsInputDressed, PrintsInputDressedFront};
+ghost use Rattle.script_program.specs.Batch.{AnswersFront, AnswersLine, EndsAnywhere, EndsIn, PrintsDressed, PrintsDressedFront, PrintsInputDressed, PrintsInputDressedFront};
 ghost use Rattle.script_program.specs.Script.{PrintsInput, PrintsInputFront};
 ghost use Rattle.script_program.specs.Session.{first_session, session, session_with};
 
@@ -63,7 +63,7 @@ fn run_lines<W: Write, L: LinkStore, A: Adapter>(
     input: &[u8],
 ) -> Result<Summary, RunFault>
     requires { length input.now ≤ INPUT_BYTES }
-    ensures ok { IfOk result (λ s. PrintsDressed dress (session repository.old pool.old) (W.contents writer.old) (W.contents writer.new) input.now s) }
+    ensures ok { IfOk result (λ s. PrintsDressed dress (session repository.old pool.old) (EndsIn repository.new) (W.contents writer.old) (W.contents writer.new) input.now s) }
     ensures err { OnErr result (PrintsDressedFront dress (session repository.old pool.old) (W.contents writer.old) (W.contents writer.new) input.now) }
     ensures kind { IfErr result (λ e. IsWriteOrMemory e) }
 {
@@ -102,7 +102,7 @@ fn run_input<W: Write, L: LinkStore, A: Adapter>(
     input: &[u8],
 ) -> Result<Summary, RunFault>
     requires { length input.now ≤ INPUT_BYTES }
-    ensures ok { IfOk result (PrintsDressed dress (session_with A.heard repository.old boxes.items) (W.contents writer.old) (W.contents writer.new) input.now) }
+    ensures ok { IfOk result (PrintsDressed dress (session_with A.heard repository.old boxes.items) (EndsIn repository.new) (W.contents writer.old) (W.contents writer.new) input.now) }
     ensures err { OnErr result (PrintsDressedFront dress (session_with A.heard repository.old boxes.items) (W.contents writer.old) (W.contents writer.new) input.now) }
     ensures kind { IfErr result (λ e. IsWriteOrMemory e) }
 {
@@ -126,14 +126,15 @@ pub fn run_over<R: Read, W: Write, L: LinkStore, A: Adapter>(
     boxes: Vec<A>,
     dress: Dress,
 ) -> Result<Summary, RunFault>
-    // All the input was read, and what was written is what its lines print, as it is dressed.
-    ensures ok { IfOk result (PrintsInputDressed dress (R.remaining reader.old) (session_with A.heard repository.old boxes.items) (W.contents writer.old) (W.contents writer.new)) }
+    // All the input was read, what was written is what its lines print, as it is dressed, and the repository is left as they leave it.
+    ensures ok { IfOk result (PrintsInputDressed dress (R.remaining reader.old) (session_with A.heard repository.old boxes.items) (EndsIn repository.new) (W.contents writer.old) (W.contents writer.new)) }
     ensures end { OnOk result (IsAtEnd (R.remaining reader.new)) }
     // If a write fails or the run is out of memory, what was written is a front of what the first lines print.
     ensures stopped { IfErr result (λ e. IsWriteOrMemory e
         → PrintsInputDressedFront dress (R.remaining reader.old) (session_with A.heard repository.old boxes.items) (W.contents writer.old) (W.contents writer.new)) }
-    // After a fault in reading nothing was written.
+    // After a fault in reading nothing was written, and nothing was run.
     ensures unread { IfErr result (λ e. IsReadOrTooLong e → Keeps (W.contents writer.old) (W.contents writer.new)) }
+    ensures unrun { IfErr result (λ e. IsReadOrTooLong e → repository.new ≡ repository.old) }
     // `TooLong` is returned only if the input is too long.
     ensures long { IsErrOf result RunFault.TooLong → IfSome (R.remaining reader.old) (λ input. INPUT_BYTES < length input) }
 {
@@ -156,7 +157,7 @@ pub fn run_dressed<R: Read, W: Write, L: LinkStore, A: Adapter>(
     dress: Dress,
 ) -> Result<Summary, RunFault>
     // All the input was read, and what was written is what its lines print, as it is dressed.
-    ensures ok { IfOk result (PrintsInputDressed dress (R.remaining reader.old) (first_session A.heard meta boxes.items) (W.contents writer.old) (W.contents writer.new)) }
+    ensures ok { IfOk result (PrintsInputDressed dress (R.remaining reader.old) (first_session A.heard meta boxes.items) EndsAnywhere (W.contents writer.old) (W.contents writer.new)) }
     ensures end { OnOk result (IsAtEnd (R.remaining reader.new)) }
     // If a write fails or the run is out of memory, what was written is a front of what the first lines print.
     ensures stopped { IfErr result (λ e. IsWriteOrMemory e

@@ -1,5 +1,5 @@
 //! Releasing targets, and closing.
-ghost use Rattle.std.specs.Prelude.{◌≡◌, ◌≤◌, ◌∷◌, [], is_some, length, map, vec_len, vec_capacity};
+ghost use Rattle.std.specs.Prelude.{◌≡◌, ◌≤◌, ◌∷◌, [], None, is_some, length, map, vec_len, vec_capacity};
 ghost use Rattle.notice_chain.specs.Listed.{HaveTargets, is_target};
 ghost use Rattle.notice_chain.specs.View.{hear_all};
 ghost use Rattle.notice_chain.specs.Released.{all_released, released as released_of, removing};
@@ -19,14 +19,19 @@ use std::mem;
 
 impl<A: Adapter> AdapterList<A> {
     /// Takes one target from an adapter: it is notified of that, its last notice from there, and no longer has it. Gives that
-    /// notice, and the adapter if that was its last target; `None`, and nothing changes, if the node is no target of it. Takes no
-    /// memory (EMF: `eAdapters().remove`).
+    /// notice, and the adapter if that was its last target; `None`, and nothing changes, places included, if the node is no target of
+    /// it. Takes no memory (EMF: `eAdapters().remove`).
     pub fn detach(&mut self, no: AdapterNo, target: Node) -> Option<Detached<A>>
         ensures some { is_some result ≡ is_target no target self.old.0 }
+        ensures none { result ≡ None → self.new ≡ self.old }
         ensures others { self.new.0 ≡ (released_of ((no, target) ∷ []) self.old.0).others }
         ensures told { told_in no result ≡ (released_of ((no, target) ∷ []) self.old.0).told }
         ensures released { views_in A.heard result ≡ map (λ v. v.1) (released_of ((no, target) ∷ []) self.old.0).views }
     {
+        self.lemma_keeps_rules();
+        if !self.is_target(no, target) {
+            return None;
+        }
         let (mut going, mut room) = self.take_apart();
         let detached = going.detach(no, target, &mut room);
         *self = going.into_list(room);

@@ -1,10 +1,11 @@
 //! Which adapters hear a notice, what is reserved for a chain, and its delivery.
-ghost use Rattle.std.specs.Prelude.{◌≡◌, ◌<◌, ◌++◌, length, slice_index, All, OnOk, IfOk};
+ghost use Rattle.std.specs.Prelude.{◌≡◌, ◌<◌, ◌++◌, List, length, slice_index, All, OnOk, IfOk};
 ghost use Rattle.links.specs.Holders.{HasNoCycle, above};
 ghost use Rattle.links.specs.LegalSets.{IsLegalSet};
-ghost use Rattle.notice_chain.specs.Listed.{audience_numbers};
+ghost use Rattle.notice_chain.specs.Listed.{Above, audience_numbers};
+ghost use Rattle.notice_chain.specs.declared.notice.Notice.{Notice};
 ghost use Rattle.adapter_list.specs.Hearing.{AreKnown, copies_at};
-ghost use Rattle.adapter_list.specs.Reserved.{IsReserved};
+ghost use Rattle.adapter_list.specs.Reserved.{IsReserved, reserved_round};
 ghost use Rattle.adapter_list.specs.Targets.{targets_at};
 ghost use Rattle.adapter_list.specs.Rounds.{RoundFits, round_of, delivered, tell_at, told_by, use_place};
 
@@ -51,29 +52,24 @@ impl<A: Adapter> AdapterList<A> {
         ensures { IsReserved (above (L.links store.now)) chain.now self.old self.new result }
     {
         let mut hearers = Hearers::new(self.alloc);
-        self.reserve_known(store, chain, &mut hearers)
-    }
-
-    /// The same, if it is known who hears some node: its hearers aren't looked for again. In `hearers` is remembered who hears the
-    /// node of the last notice.
-    pub fn reserve_known<L: LinkStore>(
-        &mut self,
-        store: &L,
-        chain: &Chain,
-        hearers: &mut Hearers,
-    ) -> Result<Round, Refused>
-        requires legal { IsLegalSet (L.links store.now) }
-        requires no_cycle { HasNoCycle (L.links store.now) }
-        requires known { AreKnown (above (L.links store.now)) self.old.0 hearers.old }
-        ensures known { AreKnown (above (L.links store.now)) self.old.0 hearers.new }
-        ensures reserved { IsReserved (above (L.links store.now)) chain.now self.old self.new result }
-    {
-        self.lemma_keeps_rules();
-        let Ok(round) = self.round(store, chain.as_slice(), hearers) else {
+        let Ok(round) = self.round(store, chain.as_slice(), &mut hearers) else {
             return Err(Refused::Memory);
         };
-        match self.reserve_places(round.copies()) {
+        match self.reserve_round(&round) {
             Ok(()) => Ok(round),
+            Err(refused) => Err(refused),
+        }
+    }
+
+    /// Reserves for each adapter places for the copies of a round that it gets, and one more for each of its targets. The round is that of
+    /// a chain (`round`), and nothing is allocated but what the adapters reserve, in attach order. Refused as `reserve_all`.
+    pub fn reserve_round(&mut self, round: &Round) -> Result<(), Refused>
+        requires round { (up : Above) × (chain : List Notice) × (round.now ≡ round_of up chain self.old.0) }
+        ensures { (up : Above) (chain : List Notice) → round.now ≡ round_of up chain self.old.0 → IsReserved up chain self.old self.new (reserved_round round.now result) }
+    {
+        self.lemma_keeps_rules();
+        match self.reserve_places(round.copies()) {
+            Ok(()) => Ok(()),
             Err(reason) => Err(refusal(reason)),
         }
     }
@@ -107,8 +103,10 @@ impl<A: Adapter> AdapterList<A> {
         one.adapter.notify_changed(notice);
     }
 
-    /// The round of a chain. Notices of one notifier that follow each other have their hearers found once.
-    fn round<L: LinkStore>(
+    /// The copies of the notices of a chain for the adapters that hear them. Notices of one notifier that follow each other have their
+    /// hearers found once, and those of the node in `hearers` are not looked for again. In `hearers` is remembered who hears the node of the
+    /// last notice. Errs only if memory is refused.
+    pub fn round<L: LinkStore>(
         &self,
         store: &L,
         chain: &[Notice],

@@ -1,5 +1,5 @@
 //! Giving an attached adapter one target more.
-ghost use Rattle.std.specs.Prelude.{◌≡◌, ◌<◌, None, Some, false, not, length, nat_lt, position, slice_index, take, OnErr, OnOk, IfOk, IfErr, if◌then◌else◌};
+ghost use Rattle.std.specs.Prelude.{◌≡◌, ◌<◌, ◌≤◌, ℕ, None, Some, false, true, not, length, nat_lt, position, slice_index, take, OnErr, OnOk, IfOk, IfErr, if◌then◌else◌};
 ghost use Rattle.std.specs.Option.{option_map_or};
 ghost use Rattle.mm_types.specs.declared.limits.TheConstants.{TARGETS};
 ghost use Rattle.notice_chain.specs.Listed.{adapter, has_no, is_target, targets_len, watched};
@@ -17,17 +17,20 @@ use std::alloc::AllocError;
 
 impl<A: Adapter> AdapterList<A> {
     /// Gives an adapter a target, the last of its targets, and reserves one of its places for its last notice from it. False, and nothing
-    /// changes, if the node is a target of it; whether that one is deep stays as it is.
+    /// changes, if the node is a target of it; whether that target is deep stays as it is.
     ///
     /// Refused, in this order, with Limit if there are 100,000 targets, NoAdapter if the number is not attached and AdapterFull
-    /// if the adapter can't count a last notice from each target; or with Memory if memory is refused. The adapters have heard
-    /// and keep what they did.
+    /// if the adapter can't count a last notice from each target; or with Memory if memory is refused. After a refusal the adapters
+    /// have heard and keep what they did, and no adapter has fewer places.
     pub fn watch(&mut self, no: AdapterNo, node: Node, deep: bool) -> Result<bool, Refused>
         ensures added { IfOk result (λ added. added ≡ not (is_target no node self.old.0)) }
         ensures ok { OnOk result (self.new.0 ≡ (if is_target no node self.old.0 then self.old.0 else watched no (record { node = node; deep = deep }) self.old.0)) }
         ensures allowed { OnOk result (watch_refusal self.old.0 no node ≡ None) }
         ensures reason { IfErr result (λ e. but_memory e ≡ watch_refusal self.old.0 no node) }
+        ensures unchanged { OnOk result (is_target no node self.old.0 ≡ true → self.new ≡ self.old) }
         ensures kept { OnErr result (self.new.0 ≡ self.old.0) }
+        ensures as_many { OnErr result (length self.new.1 ≡ length self.old.1) }
+        ensures no_fewer { OnErr result ((k : ℕ) → slice_index self.old.1 k ≤ slice_index self.new.1 k) }
     {
         if self.is_target(no, node) {
             return Ok(false);
@@ -65,6 +68,8 @@ impl<A: Adapter> AdapterList<A> {
         ensures allowed { OnOk result (target_refusal (adapter no self.old.0) ≡ None) }
         ensures reason { IfErr result (λ e. but_memory e ≡ target_refusal (adapter no self.old.0)) }
         ensures kept { OnErr result (self.new.0 ≡ self.old.0) }
+        ensures as_many { OnErr result (length self.new.1 ≡ length self.old.1) }
+        ensures no_fewer { OnErr result ((k : ℕ) → slice_index self.old.1 k ≤ slice_index self.new.1 k) }
     {
         self.lemma_keeps_rules();
         let count = self.targets_of(ordinal);
@@ -92,6 +97,7 @@ impl<A: Adapter> AdapterList<A> {
         requires spare { targets_at self.old.0 ordinal < slice_index self.old.1 ordinal }
         ensures ok { OnOk result (self.new.0 ≡ watched no (record { node = node; deep = deep }) self.old.0) }
         ensures kept { OnErr result (self.new.0 ≡ self.old.0) }
+        ensures places { OnErr result (self.new.1 ≡ self.old.1) }
     {
         let index = self.index_before(ordinal, node);
         let one = &mut self.attached[ordinal];

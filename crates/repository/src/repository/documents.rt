@@ -1,5 +1,7 @@
 //! Fragments, addresses and the texts of resources.
-ghost use Rattle.std.specs.Prelude.{◌≡◌, IfOk, Some};
+ghost use Rattle.std.specs.Prelude.{◌≡◌, IfOk, Some, true};
+ghost use Rattle.std.specs.Str.{is_utf8};
+ghost use Rattle.doc_writer.specs.Saved.{IsReadAs};
 ghost use Rattle.fragment_paths.specs.Fragments.{fragment as fragment_in};
 ghost use Rattle.repository.specs.Commands as commands;
 ghost use Rattle.repository.specs.Run.{Executed, change_outcome, read_outcome};
@@ -103,7 +105,10 @@ impl<L: LinkStore, A: Adapter> Repository<L, A> {
     /// are nested more than 40 deep, `Memory`.
     #[tactic(auto, using(crate::proofs::QuietLemmas::save_done))]
     pub fn save(&self, resource: ResourceNo) -> Result<Text, Refused>
-        ensures { Executed self.now (commands.save resource) (read_outcome answer.Document result) self.now }
+        ensures executed { Executed self.now (commands.save resource) (read_outcome answer.Document result) self.now }
+        // The text is read back as the document: the premise of what is proved of reloading.
+        ensures reads { IfOk result (λ t. IsReadAs (reads self.now) resource t) }
+        ensures utf8 { IfOk result (λ t. is_utf8 t ≡ true) }
     {
         let model = self.model();
         if let Some(refused) = node_refusal(&model, Node::Resource(resource)) {

@@ -4,8 +4,8 @@ use Rattle.links.specs.Links.{Links}
 use Rattle.adapter_list.specs.Hearing.{AreKnown}
 use Rattle.repository.proofs.preparing.reserve.Goals as goal
 
-pub reserve_known-requires-clause-no_cycle : goal.reserve_known-requires-clause-no_cycle
-reserve_known-requires-clause-no_cycle g c = subst HasNoCycle (sym c.reserve_for.ensures.links) c.requires.no_cycle
+pub round-requires-clause-no_cycle : goal.round-requires-clause-no_cycle
+round-requires-clause-no_cycle g c = subst HasNoCycle (sym c.reserve_for.ensures.links) c.requires.no_cycle
 
-pub reserve_known-requires-clause-known : goal.reserve_known-requires-clause-known
-reserve_known-requires-clause-known g c = subst (λ (l : Links). AreKnown (above l) c.args.adapters.now.0 c.args.hearers.now) (sym c.reserve_for.ensures.links) c.requires.known
+pub round-requires-clause-known : goal.round-requires-clause-known
+round-requires-clause-known g c = subst (λ (l : Links). AreKnown (above l) c.args.adapters.now.0 c.args.hearers.now) (sym c.reserve_for.ensures.links) c.requires.known

@@ -8,7 +8,7 @@ use Rattle.notice_chain.specs.declared.target.Target.{Target}
 use Rattle.adapter_list.specs.Targets.{AreSetAt, entries, entries_in, targets_at}
 use Rattle.adapter_list.specs.declared.attached.Attached.{Attached}
 use Rattle.adapter_list.specs.declared.target_lists.Entry.{Entry}
-use Rattle.adapter_list.proofs.ListedLemmas.{slice_index-map}
+use Rattle.adapter_list.proofs.ListedLemmas.{places_of-same, slice_index-map}
 use Rattle.adapter_list.proofs.ReleaseLemmas.{from_err, from_ok}
 use Rattle.adapter_list.proofs.TableLemmas.{on_err-all}
 use Rattle.adapter_list.proofs.TargetLemmas.{targets_at-here}
@@ -82,6 +82,24 @@ returns-in_err-insert-clause-kept g c =
     let one = c.index_mut-one.result.now in
     let after : Attached g.row.A.Denot = record { no = one.no; targets = c.reserve.new.self; adapter = one.adapter } in
     on_err-all c.from_residual-in_err-insert.result (listed-same g.A.Adapter.heard items c.args.ordinal one after c.index_mut-one.ensures.value refl c.reserve.ensures.items refl ∙ ap (λ v. v.0) c.self.view_is)
+
+pub returns-in_err-reserve-clause-places : goal.returns-in_err-reserve-clause-places
+returns-in_err-reserve-clause-places g c =
+    let one = c.index_mut-one.result.now in
+    let after : Attached g.row.A.Denot = record { no = one.no; targets = c.reserve.new.self; adapter = one.adapter } in
+    on_err-all c.from_residual.result (places_of-same g.A.Adapter.places c.self.inside.attached.items c.args.ordinal one after c.index_mut-one.ensures.value refl ∙ ap (λ v. v.1) c.self.view_is)
+
+pub returns-in_err-reserve_mark-clause-places : goal.returns-in_err-reserve_mark-clause-places
+returns-in_err-reserve_mark-clause-places g c =
+    let one = c.index_mut-one.result.now in
+    let after : Attached g.row.A.Denot = record { no = one.no; targets = c.reserve.new.self; adapter = one.adapter } in
+    on_err-all c.from_residual-in_err-reserve_mark.result (places_of-same g.A.Adapter.places c.self.inside.attached.items c.args.ordinal one after c.index_mut-one.ensures.value refl ∙ ap (λ v. v.1) c.self.view_is)
+
+pub returns-in_err-insert-clause-places : goal.returns-in_err-insert-clause-places
+returns-in_err-insert-clause-places g c =
+    let one = c.index_mut-one.result.now in
+    let after : Attached g.row.A.Denot = record { no = one.no; targets = c.reserve.new.self; adapter = one.adapter } in
+    on_err-all c.from_residual-in_err-insert.result (places_of-same g.A.Adapter.places c.self.inside.attached.items c.args.ordinal one after c.index_mut-one.ensures.value refl ∙ ap (λ v. v.1) c.self.view_is)
 
 pub returns-clause-ok : goal.returns-clause-ok
 returns-clause-ok g c =

@@ -1,0 +1,26 @@
+//! A model of one resource is kept as a text, and comes back in another repository.
+ghost use Rattle.std.specs.Prelude.{◌≡◌, ◌∷◌, [], OnOk};
+ghost use Rattle.mmrepo_lib.specs.Steps.{Alike, IsSaved, empty_state, reads};
+
+use mmrepo_lib::{Adapter, LinkStore, Refused, Repository, ResourceNo, laws};
+
+/// Loads the only resource of a repository, as it is saved, into an empty repository over the same metamodel, and resolves its proxies.
+/// Then both have the same objects at the same addresses, if no proxy was in the first one and no text of a reference is too long.
+pub(crate) fn load_again<L: LinkStore, A: Adapter>(
+    first: &Repository<L, A>,
+    second: &mut Repository<L, A>,
+    uri: &str,
+) -> Result<(), Refused>
+    ensures { OnOk result (second.old ≡ empty_state first.now.model.metamodel
+        → (reads first.now).uris ≡ uri.now ∷ [] → IsSaved (reads first.now)
+        → Alike (reads first.now) (reads second.new)) }
+{
+    laws::what_was_saved_is_had_again_in_any_order();
+    first.lemma_is_legal();
+    first.has_steady_texts();
+    let text = first.save(ResourceNo(0))?;
+    second.create_resource(uri)?;
+    second.load(ResourceNo(0), text.as_str().as_bytes())?;
+    second.resolve_all()?;
+    Ok(())
+}
