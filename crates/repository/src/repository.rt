@@ -7,6 +7,7 @@ mod attaching;
 mod changes;
 mod commands;
 mod documents;
+mod list_reads;
 mod lists;
 mod loads;
 mod reads;
