@@ -7,6 +7,7 @@ pub mod Turns
 pub mod Dressed
 pub mod Edits
 pub mod Script
+pub mod Lists
 pub mod Batch
 pub mod Live
 pub mod Lost

@@ -5,6 +5,8 @@ ghost use Rattle.script_program.specs.Script.{RunsLine};
 ghost use Rattle.script_program.specs.Session.{first_session, session};
 ghost use Rattle.script_program.specs.Turns.{printed};
 
+mod calls;
+
 use crate::line::run_line;
 use crate::pool::Pool;
 use crate::turn::Turn;

@@ -41,7 +41,7 @@ pub(crate) fn turn_of_refusal(refused: Refused) -> Turn
 }
 
 /// How the outcome of a command is counted.
-fn turn_of<A>(outcome: &Result<Reply<A>, Failure<A>>) -> Turn
+pub(crate) fn turn_of<A>(outcome: &Result<Reply<A>, Failure<A>>) -> Turn
     ensures { (heard : A → View) → result ≡ outcome_turn (outcome_view heard outcome.now) }
 {
     match outcome {

@@ -1,0 +1,102 @@
+//! Calls that no line of a script makes: reads of lists that fetch no list, and documents of any length.
+ghost use Rattle.std.specs.Prelude.{◌≡◌, IfOk};
+ghost use Rattle.notice_chain.specs.View.{View};
+ghost use Rattle.repository.specs.Run.{change_outcome};
+ghost use Rattle.repository.specs.Views.{changed_view, outcome_view};
+ghost use Rattle.repository.specs.declared.command.Command.TheVariants.{Load};
+ghost use Rattle.script_program.specs.Lists.{list_len_printed, list_value_printed};
+ghost use Rattle.script_program.specs.Script.{RunsCommand};
+ghost use Rattle.script_program.specs.Session.{session};
+ghost use Rattle.script_program.specs.Turns.{printed};
+
+use super::Interpreter;
+use crate::answers::{print_found, print_outcome, print_refusal};
+use crate::bind::{NOTHING, feature_number};
+use crate::line::turn_of;
+use crate::turn::Turn;
+use adapters::Adapter;
+use links::LinkStore;
+use mm_types::{FeatureNo, Node, Refused, ResourceNo};
+use repository::{Failure, Reply};
+use std::alloc::AllocError;
+
+/// What becomes of a command that brings no adapter.
+fn outcome_of<A>(reply: Result<Reply<A>, Refused>) -> Result<Reply<A>, Failure<A>>
+    ensures { (heard : A → View) → outcome_view heard result ≡ change_outcome (changed_view heard reply) }
+{
+    match reply {
+        Ok(reply) => Ok(reply),
+        Err(refused) => Err(Failure {
+            refused,
+            given_back: None,
+        }),
+    }
+}
+
+impl<L: LinkStore, A: Adapter> Interpreter<L, A> {
+    /// Reads how many values a list has, and says how the read is counted. The number, or the refusal, is the text from then on.
+    ///
+    /// Errs only if memory is refused for the text.
+    pub fn list_len(&mut self, node: Node, feature: &str) -> Result<Turn, AllocError>
+        ensures kept { session self.new.repository self.new.pool ≡ session self.old.repository self.old.pool }
+        ensures text { IfOk result (λ t. printed self.new.output t ≡ list_len_printed self.old.repository node feature.now) }
+    {
+        self.output.clear();
+        let feature = feature_number(&self.repository, node, feature);
+        match self.repository.list_len(node, feature) {
+            Ok(len) => {
+                self.output.natural(u64::from(len))?;
+                self.output.line_end()?;
+                Ok(Turn::Done)
+            }
+            Err(refused) => {
+                print_refusal(&mut self.output, refused)?;
+                Ok(Turn::Refused)
+            }
+        }
+    }
+
+    /// Reads the value at an index of a list, and says how the read is counted. The value, as `get` prints one, or the refusal, is the text
+    /// from then on.
+    ///
+    /// Errs only if memory is refused for the text.
+    pub fn list_value(&mut self, node: Node, feature: &str, index: u32) -> Result<Turn, AllocError>
+        ensures kept { session self.new.repository self.new.pool ≡ session self.old.repository self.old.pool }
+        ensures text { IfOk result (λ t. printed self.new.output t ≡ list_value_printed self.old.repository node feature.now index) }
+    {
+        self.output.clear();
+        let feature = feature_number(&self.repository, node, feature);
+        match self.repository.list_value(node, feature, index) {
+            Ok(found) => {
+                print_found(
+                    &mut self.output,
+                    self.repository.meta(),
+                    feature,
+                    Some(found),
+                )?;
+                Ok(Turn::Done)
+            }
+            Err(refused) => {
+                print_refusal(&mut self.output, refused)?;
+                Ok(Turn::Refused)
+            }
+        }
+    }
+
+    /// Loads a document into a resource, as a line with `load` does, but from bytes of any length, newlines among them. What it prints is
+    /// the text from then on.
+    ///
+    /// Errs only if memory is refused for the text; nothing is said of the interpreter then.
+    pub fn load(&mut self, resource: ResourceNo, document: &[u8]) -> Result<Turn, AllocError>
+        ensures { IfOk result (λ t. RunsCommand (session self.old.repository self.old.pool) (Load resource document.now) (printed self.new.output t)
+            (session self.new.repository self.new.pool)) }
+    {
+        self.output.clear();
+        let outcome = outcome_of(self.repository.load(resource, document));
+        let meta = self.repository.meta();
+        print_outcome(&mut self.output, meta, FeatureNo(NOTHING), &outcome)?;
+        let turn = turn_of(&outcome);
+        self.pool.give_back(None, outcome);
+        Ok(turn)
+    }
+}
