@@ -13,12 +13,29 @@ static const char *failed;
 
 #define EXPECT(holds) (failed = failed == NULL && !(holds) ? #holds : failed)
 
+static const char TAGS[] =
+    "{\"classes\":[{\"name\":\"Shelf\",\"features\":["
+    "{\"name\":\"label\",\"kind\":\"attribute\",\"type\":\"EString\"},"
+    "{\"name\":\"tags\",\"kind\":\"attribute\",\"type\":\"EString\",\"upper\":-1}]}]}";
+
 static uint32_t open_text(mmrepo_session *session, const char *document) {
     return mmrepo_open(session, document, strlen(document));
 }
 
 static uint32_t line(mmrepo_session *session, const char *text) {
     return mmrepo_line(session, text, strlen(text));
+}
+
+static uint32_t length(mmrepo_session *session, bool is_resource, uint32_t number, const char *name) {
+    return mmrepo_list_length(session, is_resource, number, name, strlen(name));
+}
+
+static uint32_t value(mmrepo_session *session, bool is_resource, uint32_t number, const char *name, uint32_t index) {
+    return mmrepo_list_value(session, is_resource, number, name, strlen(name), index);
+}
+
+static uint32_t load(mmrepo_session *session, uint32_t resource, const char *document) {
+    return mmrepo_load(session, resource, document, strlen(document));
 }
 
 /* Whether the text of a session is this one. */
@@ -133,6 +150,77 @@ static void what_is_too_long_is_refused(mmrepo_session *session) {
     free(spaces);
 }
 
+static void a_list_is_read_value_by_value(mmrepo_session *session) {
+    open_text(session, TAGS);
+    line(session, "new Shelf");
+    EXPECT(length(session, false, 0, "tags") == MMREPO_OK);
+    EXPECT(has_text(session, "0\n"));
+    line(session, "add #0 tags \"a b\"");
+    line(session, "add #0 tags \"c\"");
+    EXPECT(length(session, false, 0, "tags") == MMREPO_OK);
+    EXPECT(has_text(session, "2\n"));
+    EXPECT(value(session, false, 0, "tags", 0) == MMREPO_OK);
+    EXPECT(has_text(session, "\"a b\"\n"));
+    EXPECT(value(session, false, 0, "tags", 1) == MMREPO_OK);
+    EXPECT(has_text(session, "\"c\"\n"));
+    EXPECT(value(session, false, 0, "tags", 2) == MMREPO_REFUSED);
+    EXPECT(has_text(session, "refused 10 INDEX\n"));
+    EXPECT(value(session, false, 0, "tags", UINT32_MAX) == MMREPO_REFUSED);
+    line(session, "resource \"http://m.example/a\"");
+    line(session, "add r0 contents #0");
+    EXPECT(length(session, true, 0, "contents") == MMREPO_OK);
+    EXPECT(has_text(session, "1\n"));
+    EXPECT(value(session, true, 0, "contents", 0) == MMREPO_OK);
+    EXPECT(has_text(session, "#0\n"));
+}
+
+static void a_read_of_no_list_is_refused(mmrepo_session *session) {
+    EXPECT(length(session, false, 0, "tags") == MMREPO_CLOSED);
+    EXPECT(value(session, false, 0, "tags", 0) == MMREPO_CLOSED);
+    open_text(session, TAGS);
+    line(session, "new Shelf");
+    EXPECT(length(session, false, 1, "tags") == MMREPO_REFUSED);
+    EXPECT(has_text(session, "refused 1 NO_OBJECT\n"));
+    EXPECT(length(session, true, 0, "contents") == MMREPO_REFUSED);
+    EXPECT(has_text(session, "refused 2 NO_RESOURCE\n"));
+    EXPECT(value(session, false, 0, "nothing", 0) == MMREPO_REFUSED);
+    EXPECT(has_text(session, "refused 5 NO_FEATURE\n"));
+    EXPECT(value(session, false, 0, "label", 0) == MMREPO_REFUSED);
+    EXPECT(has_text(session, "refused 7 NOT_MANY\n"));
+    EXPECT(length(session, false, 0, "\xff") == MMREPO_BAD);
+    EXPECT(has_text(session, "refused 7 NOT_MANY\n"));
+    EXPECT(value(session, false, 0, "\xff", 0) == MMREPO_BAD);
+}
+
+static void a_document_is_loaded(mmrepo_session *session) {
+    EXPECT(load(session, 0, "{}") == MMREPO_CLOSED);
+    open_text(session, TAGS);
+    EXPECT(load(session, 0, "{}") == MMREPO_REFUSED);
+    EXPECT(has_text(session, "refused 2 NO_RESOURCE\n"));
+    line(session, "resource \"http://m.example/a\"");
+    line(session, "attach A9 r0 deep");
+    EXPECT(load(session, 0, "{\"format\":2,\n\"roots\":[{\"class\":\"Shelf\",\n\"features\":{}}]}\n") == MMREPO_OK);
+    EXPECT(has_text(session, "loaded 1\ntold A9 ADD r0.contents null #0 0\n"));
+    EXPECT(load(session, 0, "{\"format\":2,\"roots\":[]}") == MMREPO_REFUSED);
+    EXPECT(has_text(session, "refused 17 NOT_EMPTY\n"));
+    line(session, "resource \"http://m.example/b\"");
+    EXPECT(load(session, 1, "") == MMREPO_REFUSED);
+    EXPECT(has_text(session, "refused 18 DOCUMENT 1 SYNTAX\n"));
+}
+
+static void a_document_may_be_longer_than_a_line(mmrepo_session *session) {
+    const char document[] = "{\"format\":2,\"roots\":[{\"class\":\"Shelf\",\"features\":{}}]}";
+    size_t size = MMREPO_INPUT_BYTES + sizeof document;
+    char *spaces = malloc(size);
+    memset(spaces, ' ', size);
+    memcpy(spaces, document, sizeof document - 1);
+    open_text(session, TAGS);
+    line(session, "resource \"http://m.example/a\"");
+    EXPECT(mmrepo_load(session, 0, spaces, size) == MMREPO_OK);
+    EXPECT(has_text(session, "loaded 1\n"));
+    free(spaces);
+}
+
 static void run(const char *name, void (*test)(mmrepo_session *)) {
     mmrepo_session session = MMREPO_CLOSED_SESSION;
     failed = NULL;
@@ -153,5 +241,9 @@ int main(void) {
     RUN(a_session_opens_anew);
     RUN(sessions_are_apart);
     RUN(what_is_too_long_is_refused);
+    RUN(a_list_is_read_value_by_value);
+    RUN(a_read_of_no_list_is_refused);
+    RUN(a_document_is_loaded);
+    RUN(a_document_may_be_longer_than_a_line);
     return 0;
 }

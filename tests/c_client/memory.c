@@ -36,7 +36,10 @@ static const char SHELVES[] =
 static const char *const LINES[] = {
     "new Shelf", "new Shelf", "attach A1 #0 deep", "add #0 inner #1", "set #1 label \"novels\"", "get #1 label",
     "resource \"http://m.example/a\"", "add r0 contents #0", "save r0", "fragment #1", "contents #0", "seen A1", "delete #0",
+    "resource \"http://m.example/b\"",
 };
+
+static const char DOCUMENT[] = "{\"format\":2,\"roots\":[{\"class\":\"Shelf\",\"features\":{\"label\":\"novels\"}}]}";
 
 enum { LINE_COUNT = sizeof LINES / sizeof LINES[0] };
 
@@ -50,14 +53,26 @@ static bool says_lost(mmrepo_session *session) {
     return size == sizeof LOST_TEXT - 1 && memcmp(text, LOST_TEXT, size) == 0;
 }
 
-/* Runs a line, and counts what it answers. */
-static void run_line(mmrepo_session *session, const char *line) {
-    uint32_t status = mmrepo_line(session, line, strlen(line));
+/* Counts what a call answers. */
+static void count(mmrepo_session *session, uint32_t status) {
     lines_refused += status == MMREPO_MEMORY;
     lines_lost += status == MMREPO_LOST;
     wrong_answers += status == MMREPO_BAD || status == MMREPO_BLANK || status == MMREPO_CLOSED || status == MMREPO_TOO_LONG;
     wrong_answers += session->is_open == (status == MMREPO_MEMORY);
     wrong_answers += status == MMREPO_LOST && !says_lost(session);
+}
+
+/* Makes the calls that no line makes. */
+static void run_calls(mmrepo_session *session) {
+    if (session->is_open) {
+        count(session, mmrepo_load(session, 1, DOCUMENT, sizeof DOCUMENT - 1));
+    }
+    if (session->is_open) {
+        count(session, mmrepo_list_length(session, true, 1, "contents", 8));
+    }
+    if (session->is_open) {
+        count(session, mmrepo_list_value(session, true, 1, "contents", 8, 0));
+    }
 }
 
 /* Runs a session whose allocation of the number is refused. Answers whether it asked for so many. */
@@ -69,8 +84,9 @@ static bool run(unsigned long number) {
     opens_refused += status == MMREPO_MEMORY;
     wrong_answers += status != MMREPO_OK && status != MMREPO_MEMORY;
     for (int i = 0; i < LINE_COUNT && session.is_open; i++) {
-        run_line(&session, LINES[i]);
+        count(&session, mmrepo_line(&session, LINES[i], strlen(LINES[i])));
     }
+    run_calls(&session);
     mmrepo_close(&session);
     wrong_ends += blocks != 0;
     blocks = 0;

@@ -79,6 +79,22 @@ uint32_t mmrepo_open(mmrepo_session *session, const char *document, size_t size)
    MMREPO_TOO_LONG leave the session and its text as they are. After MMREPO_MEMORY the session is closed. */
 uint32_t mmrepo_line(mmrepo_session *session, const char *line, size_t size);
 
+/* Reads how many values a list has: the list of that name of the object of a number, or the `contents` of the resource of a number. The
+   number is the text of the session from then on. No line of a script does it.
+   Answers MMREPO_OK; or MMREPO_REFUSED if there is no such list, and the text says why. MMREPO_CLOSED, where the session is closed, and
+   MMREPO_BAD, where the name is not UTF-8, leave the session and its text as they are. After MMREPO_MEMORY the session is closed. */
+uint32_t mmrepo_list_length(mmrepo_session *session, bool is_resource, uint32_t number, const char *name, size_t size);
+
+/* Reads the value at an index of a list, counted from 0. The value, as `get` prints one, is the text of the session from then on.
+   Answers what mmrepo_list_length does; MMREPO_REFUSED also past the last value. */
+uint32_t mmrepo_list_value(mmrepo_session *session, bool is_resource, uint32_t number, const char *name, size_t size, uint32_t index);
+
+/* Loads a document into the resource of a number, as the line `load` does. The document may have any number of bytes, and newlines. What is
+   printed is the text of the session from then on.
+   Answers MMREPO_OK, MMREPO_REFUSED or MMREPO_LOST. MMREPO_CLOSED, where the session is closed, leaves it as it is. After MMREPO_MEMORY the
+   session is closed. */
+uint32_t mmrepo_load(mmrepo_session *session, uint32_t resource, const char *document, size_t size);
+
 /* Copies the text of the session to `text`, or as much of it as the size of that has room for. A text of some lines has a newline
    behind each; it ends with no zero byte. Answers how many bytes the text has: 0 if no line was run, or if the session is closed. */
 size_t mmrepo_text(mmrepo_session *session, char *text, size_t size);

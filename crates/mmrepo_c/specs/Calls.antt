@@ -1,22 +1,28 @@
 -- What the calls of C answer, and what they leave in the handle.
-use Rattle.std.specs.Prelude.{◌≡◌, ◌<◌, ◌≤◌, ◌⊎◌, ℕ, List, [], length, Option, Some, None, Result, Ok, Err}
+use Rattle.std.specs.Prelude.{◌≡◌, ◌<◌, ◌≤◌, ◌⊎◌, ℕ, Bool, true, false, IsUtf8, List, [], length, Option, Some, None, Result, Ok, Err}
 use Rattle.mm_types.specs.Raw.{RawMetamodel}
 use Rattle.mm_types.specs.Resolved.{Metamodel, resolved}
 use Rattle.mm_types.specs.WellFormed.{WellFormed}
 use Rattle.mm_types.specs.declared.limits.TheConstants.{INPUT_BYTES}
+use Rattle.mm_types.specs.declared.numbers.Node.{Node}
+use Rattle.mm_types.specs.declared.numbers.Node.TheVariants as node
+use Rattle.mm_types.specs.declared.numbers.ResourceNo.{ResourceNo}
 use Rattle.mm_types.specs.declared.meta_fault.MetaFault.{MetaFault}
 use Rattle.mm_types.specs.declared.meta_fault.MetaFault.TheVariants.{Memory}
 use Rattle.mm_load.specs.Loaded.{loaded}
 use Rattle.mm_check.specs.Checks.{Checks}
 use Rattle.script_lines.specs.Forms.{form}
-use Rattle.script_program.specs.Script.{RunsLine}
-use Rattle.script_program.specs.Turns.{printed}
+use Rattle.repository.specs.declared.command.Command.TheVariants.{Load}
+use Rattle.script_program.specs.Lists.{list_len_printed, list_value_printed}
+use Rattle.script_program.specs.Script.{RunsCommand, RunsLine}
+use Rattle.script_program.specs.Session.{Session}
+use Rattle.script_program.specs.Turns.{Printed, printed}
 use Rattle.script_program.specs.declared.turn.Turn.{Turn}
 use Rattle.mmrepo_c.specs.Filled.{filled}
-use Rattle.mmrepo_c.specs.Sessions.{Begins, answer, running}
+use Rattle.mmrepo_c.specs.Sessions.{Begins, Reads, answer, running}
 use Rattle.mmrepo_c.specs.Statuses.{fault_status, line_status}
 use Rattle.mmrepo_c.specs.declared.session.Session.{Session as Held}
-use Rattle.mmrepo_c.specs.declared.status.TheConstants.{OK, CLOSED, TOO_LONG, MEMORY}
+use Rattle.mmrepo_c.specs.declared.status.TheConstants.{OK, BAD, CLOSED, TOO_LONG, MEMORY}
 
 -- why a document is refused: its first fault, or memory
 abbrev pub IsRefusedFor : List ℕ → MetaFault → Type 0
@@ -53,6 +59,42 @@ abbrev pub Answers : Option Held → List ℕ → ℕ → Option Held → Type 0
 Answers None line status new = (status ≡ CLOSED) × (new ≡ None)
 Answers (Some h) line status new =
     ((INPUT_BYTES < length line) × (status ≡ TOO_LONG) × (new ≡ Some h)) ⊎ ((length line ≤ INPUT_BYTES) × AnswersLine h line status new)
+
+-- a read was made: its text is the answer of the session after it; where memory was refused to the text, the handle is closed
+abbrev pub ReadsSession : Held → (Session → Printed) → ℕ → Option Held → Type 0
+ReadsSession h asked status None = status ≡ MEMORY
+ReadsSession h asked status (Some t) = (turn : Turn) × (status ≡ line_status turn) × Reads (running h) asked (printed (answer t) turn) (running t)
+
+-- what a read of a list of this name answers in a handle, and the handle after it
+abbrev pub ReadsList : Option Held → List ℕ → (Session → Printed) → ℕ → Option Held → Type 0
+ReadsList None name asked status new = (status ≡ CLOSED) × (new ≡ None)
+ReadsList (Some h) name asked status new = (¬ IsUtf8 name × (status ≡ BAD) × (new ≡ Some h)) ⊎ (IsUtf8 name × ReadsSession h asked status new)
+
+-- the resource of a number, and the node
+abbrev pub resource_of : ℕ → ResourceNo
+resource_of number = record { 0 = number }
+
+abbrev pub node_of : Bool → ℕ → Node
+node_of true number = node.Resource (resource_of number)
+node_of false number = node.Object (record { 0 = number })
+
+-- how many values a list has
+abbrev pub asked_len : Node → List ℕ → Session → Printed
+asked_len n name s = list_len_printed s.state n name
+
+-- the value at an index of a list
+abbrev pub asked_value : Node → List ℕ → ℕ → Session → Printed
+asked_value n name i s = list_value_printed s.state n name i
+
+-- a document was loaded as a command; where memory was refused to the call, the handle is closed
+abbrev pub LoadsDocument : Held → ResourceNo → List ℕ → ℕ → Option Held → Type 0
+LoadsDocument h k text status None = status ≡ MEMORY
+LoadsDocument h k text status (Some t) = (turn : Turn) × (status ≡ line_status turn) × RunsCommand (running h) (Load k text) (printed (answer t) turn) (running t)
+
+-- what a load answers in a handle, and the handle after it
+abbrev pub Loads : Option Held → ResourceNo → List ℕ → ℕ → Option Held → Type 0
+Loads None k text status new = (status ≡ CLOSED) × (new ≡ None)
+Loads (Some h) k text status new = LoadsDocument h k text status new
 
 -- the text of the last answer
 abbrev pub text_of : Option Held → List ℕ

@@ -4,6 +4,7 @@ use Rattle.mm_types.specs.Resolved.{Metamodel}
 use Rattle.notice_chain.specs.View.{View}
 use Rattle.repository.specs.State.{empty_state}
 use Rattle.script_program.specs.Session.{Session, session}
+use Rattle.script_program.specs.Turns.{Printed}
 use Rattle.mmrepo_c.specs.declared.session.Session.{Session as Held}
 use Rattle.mmrepo_c.specs.declared.session.TheConstants.{BOXES}
 
@@ -27,3 +28,8 @@ AreUnheard heard boxes = map (λ a. Some (heard a)) boxes ≡ replicate BOXES (S
 pub record Begins (m : Metamodel) (h : Held) : Type 0 where
   pub runs : running h ≡ session (empty_state m) (replicate BOXES (Some unheard))
   pub silent : answer h ≡ []
+
+-- what is asked of a session was printed, and the session is as it was
+pub record Reads (s : Session) (asked : Session → Printed) (p : Printed) (t : Session) : Type 0 where
+  pub printed : p ≡ asked s
+  pub kept : t ≡ s

@@ -8,6 +8,7 @@
 ghost use Rattle.std.specs.Prelude.{◌≡◌, None};
 ghost use Rattle.mmrepo_c.specs.Calls as c;
 
+mod calls;
 mod fill;
 mod handle;
 mod loose;
@@ -16,14 +17,17 @@ mod pointer;
 mod session;
 mod status;
 
+use crate::calls::{node_of, put_back};
 use crate::fill::fill;
 use crate::opening::begun;
-use crate::status::{CLOSED, MEMORY, OK, TOO_LONG, fault_status, line_status};
+use crate::status::{BAD, CLOSED, MEMORY, OK, TOO_LONG, fault_status, line_status};
 pub use handle::Handle;
+use mm_types::ResourceNo;
 use mm_types::limits::INPUT_BYTES;
 pub use pointer::SessionPointer;
 pub use session::Session;
 use std::alloc::Global;
+use std::str;
 
 /// Opens a session: an empty repository over the metamodel of a document. What the handle had before is closed. Its adapters, A1 to
 /// A1000, count what they hear and keep nothing of it.
@@ -69,6 +73,78 @@ pub extern "C" fn mmrepo_line(alloc: Global, handle: &mut Handle, line: &[u8]) -
         }
         Err(_) => MEMORY,
     }
+}
+
+/// Reads how many values a list has: a list of an object, or the `contents` of a resource. The number is the text of the session from then
+/// on.
+///
+/// Returns `OK`; or `REFUSED` if there is no such list, and the refusal is the text. `CLOSED` if the handle is closed. `BAD` if the name is
+/// not UTF-8: the session is as it was. `MEMORY` if memory is refused for the text: the session is closed.
+#[unsafe(no_mangle)]
+pub extern "C" fn mmrepo_list_length(
+    alloc: Global,
+    handle: &mut Handle,
+    is_resource: bool,
+    number: u32,
+    feature: &[u8],
+) -> u32
+    ensures { c.ReadsList handle.old.pointer.held feature.now (c.asked_len (c.node_of is_resource number) feature.now) result handle.new.pointer.held }
+{
+    let Some(mut session) = handle.take(alloc) else {
+        return CLOSED;
+    };
+    let Ok(name) = str::from_utf8(feature) else {
+        *handle = Handle::of(session);
+        return BAD;
+    };
+    let outcome = session.list_len(node_of(is_resource, number), name);
+    put_back(handle, session, outcome)
+}
+
+/// Reads the value at an index of a list, which is counted from 0. The value is the text of the session from then on.
+///
+/// Returns what `mmrepo_list_length` does; the refusal is `INDEX` past the last value.
+#[unsafe(no_mangle)]
+pub extern "C" fn mmrepo_list_value(
+    alloc: Global,
+    handle: &mut Handle,
+    is_resource: bool,
+    number: u32,
+    feature: &[u8],
+    index: u32,
+) -> u32
+    ensures { c.ReadsList handle.old.pointer.held feature.now (c.asked_value (c.node_of is_resource number) feature.now index) result handle.new.pointer.held }
+{
+    let Some(mut session) = handle.take(alloc) else {
+        return CLOSED;
+    };
+    let Ok(name) = str::from_utf8(feature) else {
+        *handle = Handle::of(session);
+        return BAD;
+    };
+    let outcome = session.list_value(node_of(is_resource, number), name, index);
+    put_back(handle, session, outcome)
+}
+
+/// Loads a document into a resource, as the line `load` does, but from bytes of any length, newlines among them. What it prints is the text
+/// of the session from then on.
+///
+/// Returns `OK`, `REFUSED` or `LOST` as `mmrepo_line` does. `CLOSED` if the handle is closed. `MEMORY` if memory is refused to the call
+/// itself: the session is closed.
+#[unsafe(no_mangle)]
+pub extern "C" fn mmrepo_load(
+    alloc: Global,
+    handle: &mut Handle,
+    resource: u32,
+    document: &[u8],
+) -> u32
+    ensures { c.Loads handle.old.pointer.held (c.resource_of resource) document.now result handle.new.pointer.held }
+{
+    let Some(mut session) = handle.take(alloc) else {
+        return CLOSED;
+    };
+    let outcome = session.load(ResourceNo(resource), document);
+    put_back(handle, session, outcome)
 }
 
 /// Copies the text of the last answer, or as much of it as there is room for. Returns how many bytes the text has: none if no line was

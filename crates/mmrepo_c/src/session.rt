@@ -1,13 +1,16 @@
 //! A session: the lines of a script are run over a metamodel.
 ghost use Rattle.std.specs.Prelude.{◌≡◌, IfOk};
+ghost use Rattle.repository.specs.declared.command.Command.TheVariants.{Load};
 ghost use Rattle.script_lines.specs.Forms as forms;
-ghost use Rattle.script_program.specs.Script.{RunsLine};
+ghost use Rattle.script_program.specs.Lists.{list_len_printed, list_value_printed};
+ghost use Rattle.script_program.specs.Script.{RunsCommand, RunsLine};
 ghost use Rattle.script_program.specs.Turns.{printed};
-ghost use Rattle.mmrepo_c.specs.Sessions.{AreUnheard, Begins, answer, running};
+ghost use Rattle.mmrepo_c.specs.Sessions.{AreUnheard, Begins, Reads, answer, running};
 
 use adapters::{Adapter, Counter};
 use link_store::SlotStore;
 use mm_meta::Meta;
+use mm_types::{Node, ResourceNo};
 use script_program::{Interpreter, Turn};
 use std::alloc::{AllocError, Global};
 
@@ -50,7 +53,33 @@ impl Session {
         self.interpreter.answer(line)
     }
 
-    /// What the last line printed.
+    /// Reads how many values a list has, and says how the read is counted. Errs only if memory is refused for the text.
+    pub(crate) fn list_len(&mut self, node: Node, feature: &str) -> Result<Turn, AllocError>
+        ensures { IfOk result (λ t. Reads (running self.old) (λ s. list_len_printed s.state node feature.now) (printed (answer self.new) t) (running self.new)) }
+    {
+        self.interpreter.list_len(node, feature)
+    }
+
+    /// Reads the value at an index of a list, and says how the read is counted. Errs only if memory is refused for the text.
+    pub(crate) fn list_value(
+        &mut self,
+        node: Node,
+        feature: &str,
+        index: u32,
+    ) -> Result<Turn, AllocError>
+        ensures { IfOk result (λ t. Reads (running self.old) (λ s. list_value_printed s.state node feature.now index) (printed (answer self.new) t) (running self.new)) }
+    {
+        self.interpreter.list_value(node, feature, index)
+    }
+
+    /// Loads a document, and says how that is counted. Errs only if memory is refused to the call itself.
+    pub(crate) fn load(&mut self, resource: ResourceNo, document: &[u8]) -> Result<Turn, AllocError>
+        ensures { IfOk result (λ t. RunsCommand (running self.old) (Load resource document.now) (printed (answer self.new) t) (running self.new)) }
+    {
+        self.interpreter.load(resource, document)
+    }
+
+    /// What the last call printed.
     pub(crate) fn text(&self) -> &[u8]
         ensures { result.now ≡ answer self.now }
     {
