@@ -9,11 +9,15 @@ from contextlib import contextmanager
 from pathlib import Path
 
 TOP = Path(__file__).resolve().parent.parent.parent
-CLIENT = TOP / 'clients/python'
+ENGINE = os.environ.get('TEST_ENGINE', 'program')
+ROOM = os.environ.get('TEST_ROOM', '')  # a folder with the package as it is installed, where there is the library
+CLIENT = TOP / 'clients/python' if ENGINE == 'program' else Path(ROOM)
 PROGRAM = Path(os.environ.get('MMREPO') or TOP / 'crates/mmrepo/out/mmrepo').resolve()
 LIBRARY = TOP / 'examples/library.json'
 
 sys.path.insert(0, str(CLIENT))
+os.environ['MMREPO_ENGINE'] = ENGINE
+os.environ['MMREPO'] = str(PROGRAM)
 
 from mmrepo import Refused, Repository  # noqa: E402
 
@@ -67,9 +71,10 @@ class ClientTest(unittest.TestCase):
         path.write_bytes(content if isinstance(content, bytes) else content.encode())
         return path
 
-    def opened(self, metamodel=LIBRARY, program=PROGRAM):
-        """A repository."""
-        repo = Repository(metamodel, program)
+    def opened(self, metamodel=LIBRARY):
+        """A repository over the engine that is tested."""
+        repo = Repository(metamodel)
+        assert repo.engine == ENGINE
         self.addCleanup(repo.close)
         return repo
 

@@ -11,10 +11,8 @@ PAGE = (TOP / 'docs/PYTHON.md').read_text()
 
 
 def block(language):
-    """The text of the one block of a language."""
-    found = re.findall(rf'^```{language}\n(.*?)^```$', PAGE, re.M | re.S)
-    assert len(found) == 1, f'{len(found)} blocks of {language}'
-    return found[0]
+    """The text of the first block of a language."""
+    return re.search(rf'^```{language}\n(.*?)^```$', PAGE, re.M | re.S)[1]
 
 
 class Page(ClientTest):

@@ -182,8 +182,9 @@ class Documents(LibraryTest):
             with self.subTest(text), self.refused(18, 'DOCUMENT', cause):
                 town.load(text)
         self.assertEqual(town.contents, [])
-        with self.assertRaises(ValueError):
-            town.load(' ' * 16_777_216)
+        if self.repo._session.engine.load is None:
+            with self.assertRaises(ValueError):
+                town.load(' ' * 16_777_216)
         self.assertEqual(town.load(TOWN), 4)
 
     def test_explained(self):

@@ -224,7 +224,7 @@ class Completing(LibraryTest):
 
     def setUp(self):
         super().setUp()
-        self.drawing = Drawing(self.repo._session.program, self.repo.metamodel)
+        self.drawing = Drawing(self.repo._session, self.repo.metamodel)
         self.completion = Completion(self.repo.metamodel, self.drawing.class_of, ['tree', 'quit'])
         self.made('Book', 'Library')
 
@@ -249,7 +249,7 @@ class Completing(LibraryTest):
     def test_many_objects(self):
         library, = self.made('Library')
         library.books.extend(self.made(*['Book'] * 30))
-        lines = self.drawing.answered(self.repo._session.program.exchange(f'get {library._word} books')[0])
+        lines = self.drawing.answered(self.repo._session.raw(f'get {library._word} books')[0])
         self.assertEqual((len(lines), lines[-1]), (21, '  .. and 10 more'))
         for answer in ('ok', 'true', '["#1"]', '', 'proxy "x"', '[]', 'r0', '#1 #2'):
             self.assertEqual(self.drawing.answered(answer), [])

@@ -10,27 +10,27 @@ class Together(LibraryTest):
 
     def setUp(self):
         super().setUp()
-        self.program = self.repo._session.program
+        self.session = self.repo._session
 
     def test_answers(self):
         """More lines than a pipe holds, and longer answers than a pipe holds."""
         lines = ['new Book', 'set #0 name "' + 'x' * 60_000 + '"', '', 'nonsense', 'new Nothing']
         lines += ['get #0 name'] * 200 + [f'set #0 pages {page}' for page in range(20_000)] + ['get #0 pages']
-        answers = self.program.exchange_all(lines)
+        answers = self.session.raw_all(lines)
         self.assertEqual(answers[:5], [['#0'], ['ok'], [], ['bad line'], ['refused 3 NO_CLASS']])
         self.assertEqual(answers[5:205], [['"' + 'x' * 60_000 + '"']] * 200)
         self.assertEqual(answers[205:], [['ok']] * 20_000 + [['19999']])
-        self.assertEqual(self.program.exchange_all([]), [])
+        self.assertEqual(self.session.raw_all([]), [])
 
     def test_nothing_is_sent(self):
         for wrong in ('new Book\n', 'x' * 16_777_217):
             with self.assertRaises(ValueError):
-                self.program.exchange_all(['new Book', wrong])
-        self.assertEqual(self.program.exchange('new Book'), ['#0'])
+                self.session.raw_all(['new Book', wrong])
+        self.assertEqual(self.session.raw('new Book'), ['#0'])
 
     def test_dies(self):
         repo = Repository(LIBRARY, self.fake('for line in list(zip(range(3), lines())): say("ok\\n\\n")'))
         with self.assertRaises(ProgramEnded):
-            repo._session.program.exchange_all(['set #0 pages 1'] * 5)
+            repo._session.raw_all(['set #0 pages 1'] * 5)
         with self.assertRaises(RepositoryClosed):
-            repo._session.program.exchange_all(['set #0 pages 1'])
+            repo._session.raw_all(['set #0 pages 1'])

@@ -1,8 +1,8 @@
 """Views: callables that are handed notices."""
 
-from support import ClientTest, LibraryTest
+from support import LIBRARY, ClientTest, LibraryTest
 
-from mmrepo import Kind, Notice, Proxy
+from mmrepo import Kind, Notice, Proxy, Repository
 
 VIEWS = 992  # A9 to A1000
 
@@ -280,7 +280,8 @@ class Spoken(ClientTest):
             'attach A9 r0 flat': 'ok',
             'resolveall': 'resolved 1 left 2\ntold A9 RESOLVE r0.contents proxy "http://m.example/b c#/" #0 3',
         }
-        repo = self.opened(program=self.fake(f'for line in lines(): say({answers!r}[line[:-1]] + "\\n\\n")'))
+        repo = Repository(LIBRARY, self.fake(f'for line in lines(): say({answers!r}[line[:-1]] + "\\n\\n")'))
+        self.addCleanup(repo.close)
         heard = []
         book, town = repo.create('Book'), repo.resource('http://m.example/a')
         view = repo.attach(heard.append, book)

@@ -5,6 +5,7 @@
         book.name = "Emma"
 """
 
+from .batches import Batch
 from .errors import (
     BadLine,
     CallableFailed,
@@ -13,6 +14,7 @@ from .errors import (
     MmrepoError,
     NotLoaded,
     NotOpened,
+    NotOwner,
     NotSaved,
     NotStarted,
     ProgramEnded,
@@ -30,12 +32,13 @@ from .notices import Kind, Notice, View
 from .objects import EObject
 from .repository import Repository, Resolved
 from .resources import Resource
+from .snapshots import Snapshot
 from .values import Literal, Proxy, Value
 from .xmi import ToolFailed
 
 __all__ = [
-    'BadLine', 'CallableFailed', 'EAttribute', 'EClass', 'EClassifier', 'EDataType', 'EEnum', 'EObject', 'EReference',
+    'BadLine', 'Batch', 'CallableFailed', 'EAttribute', 'EClass', 'EClassifier', 'EDataType', 'EEnum', 'EObject', 'EReference',
     'EStructuralFeature', 'FeatureList', 'Finding', 'Folder', 'IndexRefused', 'Kind', 'Literal', 'Metamodel', 'MetamodelRefused',
-    'MmrepoError', 'NotLoaded', 'NotOpened', 'NotSaved', 'NotStarted', 'Notice', 'ProgramEnded', 'ProgramError', 'Proxy', 'Refused', 'ReplyCut',
-    'ReplyNotUnderstood', 'Repository', 'RepositoryClosed', 'Resolved', 'Resource', 'ToolFailed', 'Value', 'View',
+    'MmrepoError', 'NotLoaded', 'NotOpened', 'NotOwner', 'NotSaved', 'NotStarted', 'Notice', 'ProgramEnded', 'ProgramError', 'Proxy', 'Refused', 'ReplyCut',
+    'ReplyNotUnderstood', 'Repository', 'RepositoryClosed', 'Resolved', 'Resource', 'Snapshot', 'ToolFailed', 'Value', 'View',
 ]

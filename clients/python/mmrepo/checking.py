@@ -83,9 +83,9 @@ def _short(part: Part, file: Checked) -> Iterator[Placed]:
     if not file.bounded:
         return
     first = first_number(file.loaded.resource)
-    answers = part.repo._session.program.exchange_all([f'validate #{first + met.number}' for met in file.bounded])
+    answers = part.repo._session.answers([f'validate #{first + met.number}' for met in file.bounded])
     for met, answer in zip(file.bounded, answers):
-        names = answer[0][1:-1].split(' ')
+        names = answer[1:-1].split(' ')
         for feature in met.shape.bounded:
             if feature.name in names:
                 place = place_text((met.place, feature.name, None))

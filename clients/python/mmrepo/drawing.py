@@ -7,7 +7,7 @@ from typing import Dict, Iterator, List, Optional, Tuple
 
 from .errors import shown
 from .metamodel import EAttribute, EClass, EReference, Metamodel
-from .process import Program
+from .session import Session
 from .values import value_of
 
 OBJECT = re.compile(r'#(?:0|[1-9][0-9]*)')
@@ -17,16 +17,16 @@ ANSWERED = 20  # objects that are drawn below an answer
 
 
 class Drawing:
-    """Asks a program for what is drawn."""
+    """Asks a session for what is drawn."""
 
-    def __init__(self, program: Program, metamodel: Metamodel) -> None:
-        self._program, self._metamodel = program, metamodel
+    def __init__(self, session: Session, metamodel: Metamodel) -> None:
+        self._session, self._metamodel = session, metamodel
         self._classes: Dict[str, EClass] = {}
         self.uris: Dict[str, str] = {}  # of resources, by their words
 
     def _ask(self, line: str) -> str:
         """The first line of an answer."""
-        return (self._program.exchange(line) or [''])[0]
+        return (self._session.raw(line) or [''])[0]
 
     def class_of(self, word: str) -> Optional[EClass]:
         """The class of an object; None if there is no object of the word."""

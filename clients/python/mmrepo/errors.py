@@ -8,6 +8,7 @@ if TYPE_CHECKING:
     from .findings import Finding
     from .folders import Folder
 
+REFUSED = 'metamodel refused: '  # before the fault, in what the program says
 SOME = 10  # findings that a message shows
 SHOWN = 200  # the most characters of a line that a message shows
 
@@ -110,7 +111,8 @@ class ReplyNotUnderstood(ProgramError):
 
 
 class CallableFailed(MmrepoError):
-    """A callable that was attached raised an error, which is the `__cause__`. The process is ended.
+    """A callable that was attached raised an error, which is the `__cause__`. The command was done, all others were handed their notices,
+    and the repository goes on.
 
     `callable` is what was called, and `notice` what it was handed.
     """
@@ -164,6 +166,10 @@ def _counted(findings: Sequence[Finding]) -> str:
     """How many findings there are, and the first of them."""
     more = '' if len(findings) <= SOME else f'\n.. and {len(findings) - SOME} more'
     return f'{len(findings)} finding{"" if len(findings) == 1 else "s"}\n' + '\n'.join(it.line for it in findings[:SOME]) + more
+
+
+class NotOwner(MmrepoError):
+    """A repository was used by a thread other than the one that opened it, or by the child of a fork. Nothing was done."""
 
 
 class RepositoryClosed(MmrepoError):

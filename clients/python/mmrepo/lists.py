@@ -3,17 +3,20 @@
 from __future__ import annotations
 
 import operator
-from typing import TYPE_CHECKING, Any, Iterable, Iterator, List, Optional, Sequence, Union, overload
+from typing import TYPE_CHECKING, Any, Iterable, Iterator, List, Optional, Sequence, TypeVar, Union, overload
 
 from .metamodel import EStructuralFeature
-from .values import Value, place_word
+from .values import LONGEST_NUMBER, place_word
 
 if TYPE_CHECKING:
     from .objects import EObject, Node
 
 
-class FeatureList(Sequence[Any]):
-    """The list of a feature of a node. It keeps no values: each use asks the program for all of them, or changes some.
+T = TypeVar('T')
+
+
+class FeatureList(Sequence[T]):
+    """The list of a feature of a node. It keeps no values: each use asks the repository for some or all of them, or changes some.
 
     A place is counted from 0, or from the end where it is below 0. A refused command raises a Refused, and has changed
     nothing: BOUND if the list is full, TYPE if the feature can't have a value. There is no assignment to a place, since the
@@ -33,34 +36,46 @@ class FeatureList(Sequence[Any]):
         """Whether it is the list of a node under a name."""
         return self._node is node and self._name == name
 
+    def __reduce_ex__(self, protocol: Any) -> Any:
+        """A TypeError: a pickle of it would be of no use without its repository."""
+        raise TypeError('list(..) gives the values, which are parts of a repository: `save` of a resource gives a text to keep')
+
     # What it has
 
-    def _values(self) -> List[Any]:
+    def _values(self) -> List[T]:
         """All values, at this moment."""
         return self._node._session.values(f'get {self._node._word} {self._name}')
 
     def __len__(self) -> int:
-        return len(self._values())
+        return self._node._session.list_length(self._node._word, self._name)
 
-    def __iter__(self) -> Iterator[Any]:
+    def __iter__(self) -> Iterator[T]:
         """Goes through the values that there are when it begins."""
         return iter(self._values())
 
-    def __reversed__(self) -> Iterator[Any]:
+    def __reversed__(self) -> Iterator[T]:
         return reversed(self._values())
 
     def __contains__(self, value: object) -> bool:
         return value in self._values()
 
     @overload
-    def __getitem__(self, place: int) -> Any: ...
+    def __getitem__(self, place: int) -> T: ...
 
     @overload
-    def __getitem__(self, place: slice) -> List[Any]: ...
+    def __getitem__(self, place: slice) -> List[T]: ...
 
     def __getitem__(self, place: Union[int, slice]) -> Any:
         """The value at a place, or a list of the values of a slice; an IndexError if there is no such place."""
-        return self._values()[place]
+        session = self._node._session
+        if isinstance(place, slice) or session.engine.list_value is None:
+            return self._values()[place]
+        place = operator.index(place)
+        if place < 0:
+            place += len(self)
+        if not 0 <= place <= LONGEST_NUMBER:
+            raise IndexError(f'there is no place {place}')
+        return session.list_value(self._node._word, self._name, place)
 
     def index(self, value: Any, *bounds: int) -> int:
         """The first place of a value; a ValueError if the list does not have it."""
@@ -94,32 +109,36 @@ class FeatureList(Sequence[Any]):
         place = operator.index(place)
         return place_word(place if place >= 0 else place + len(self))
 
-    def append(self, value: Value) -> bool:
+    def append(self, value: T) -> bool:
         """Puts a value at the end. False: the list has it already and repeats none, so nothing has changed."""
-        return self._node._session.flag(self._give('add', self._word(value)))
+        node = self._node
+        session = node._session
+        return session.flag(f'add {node._word} {self._name} {session.value_word(value, self._feature)}')
 
-    def extend(self, values: Iterable[Value]) -> None:
-        """Appends values, one command each. If one is refused those before it stay."""
-        for value in list(values):
-            self.append(value)
+    def extend(self, values: Iterable[T]) -> None:
+        """Appends values, one command each, which are sent at once. If one is refused all others are put in, and the first refusal is
+        raised."""
+        with self._node._session.batch() as batch:
+            for value in values:
+                batch.append(self, value)
 
-    def __iadd__(self, values: Iterable[Value]) -> FeatureList:
+    def __iadd__(self, values: Iterable[T]) -> FeatureList[T]:
         self.extend(values)
         return self
 
-    def insert(self, place: int, value: Value) -> None:
+    def insert(self, place: int, value: T) -> None:
         """Puts a value before the one at a place, or at the end if it is the place behind the last.
 
         An IndexError comes for a place beyond it; DUPLICATE is refused if the list has the value and repeats none.
         """
         self._node._session.flag(self._give('add', f'{self._word(value)} {self._place(place)}'))
 
-    def remove(self, value: Value) -> None:
+    def remove(self, value: T) -> None:
         """Takes a value out, where it comes first; a ValueError if the list does not have it."""
         if not self._node._session.flag(self._give('removevalue', self._word(value))):
             raise ValueError(f'{value!r} is not in the list')
 
-    def pop(self, place: int = -1) -> Any:
+    def pop(self, place: int = -1) -> T:
         """Takes the value at a place out, and gives it; an IndexError if there is none."""
         return self._node._session.value(self._give('remove', self._place(place)))
 
@@ -139,7 +158,7 @@ class FeatureList(Sequence[Any]):
         """Takes all values out, by one command, the last one first."""
         self._node._session.done(f'unset {self._node._word} {self._name}')
 
-    def move(self, to: int, place: int) -> Any:
+    def move(self, to: int, place: int) -> T:
         """Takes the value at a place out, and puts it in at the place `to` of what remains; gives the value."""
         return self._node._session.value(self._give('move', f'{self._place(to)} {self._place(place)}'))
 

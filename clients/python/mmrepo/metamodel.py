@@ -35,13 +35,10 @@ class EStructuralFeature:
         self.name: str = document['name']
         self.eContainingClass = owner
         self.eType = types[document['type']]
+        self.is_enumeration = isinstance(self.eType, EEnum)
         self.lower: int = document.get('lower', 0)
         self.upper: int = document.get('upper', 1)
-
-    @property
-    def many(self) -> bool:
-        """Whether the values are a list."""
-        return self.upper != 1
+        self.many = self.upper != 1
 
     @property
     def required(self) -> bool:
@@ -96,6 +93,7 @@ class EClass(EClassifier):
         self.eSuperTypes: List[EClass] = []
         self.eStructuralFeatures: List[EStructuralFeature] = []
         self._all: Optional[Dict[str, EStructuralFeature]] = None
+        self.attributes: Optional[Dict[str, EStructuralFeature]] = None  # those that objects have as attributes, once one was asked for
 
     def eAllStructuralFeatures(self) -> List[EStructuralFeature]:
         """All features, own and inherited, in the order of docs/METAMODEL.md."""
@@ -104,6 +102,20 @@ class EClass(EClassifier):
     def findEStructuralFeature(self, name: str) -> Optional[EStructuralFeature]:
         """The feature of a name, own or inherited, or None."""
         return self._features().get(name)
+
+    def eAllSuperTypes(self) -> List[EClass]:
+        """The classes above it, each once."""
+        found: List[EClass] = []
+        waiting = list(self.eSuperTypes)
+        for above in waiting:
+            if above not in found:
+                found.append(above)
+                waiting.extend(above.eSuperTypes)
+        return found
+
+    def isSubTypeOf(self, other: EClass) -> bool:
+        """Whether it is a class, or one below it."""
+        return self is other or other in self.eAllSuperTypes()
 
     def _features(self) -> Dict[str, EStructuralFeature]:
         """All features by name. Supertypes are gone through without recursion: a chain of them may have 1,000 classes."""

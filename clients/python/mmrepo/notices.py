@@ -6,9 +6,9 @@ import enum
 import heapq
 import re
 from collections import deque
-from typing import TYPE_CHECKING, Any, Callable, Deque, Dict, List, NamedTuple, Optional, Tuple, Union
+from typing import TYPE_CHECKING, Any, Callable, Deque, Dict, List, NamedTuple, Optional, Set, Tuple, Union
 
-from .values import Named, value_at
+from .values import Named, is_number, value_at, value_of
 
 if TYPE_CHECKING:
     from .objects import EObject
@@ -50,11 +50,30 @@ class Notice(NamedTuple):
     position: int
 
 
+_KINDS = dict(Kind.__members__)
+_notice = tuple.__new__
+_known: Set[str] = set()  # features that were told of before, whose names are names
+MANY = 10_000  # so many of them are kept
+
 Hearer = Callable[[Notice], Any]
 
 
 def told_of(line: str, named: Named) -> Tuple[str, Notice]:
     """The adapter and the notice of a `told` line; a ValueError if it is none."""
+    words = line.split(' ')
+    if len(words) == 7 and '"' not in line:
+        _, adapter, name, where, before, after, place = words
+        kind = _KINDS.get(name)
+        notifier, _, feature = where.partition('.')
+        if kind is not None and feature in _known and notifier[0] != 'A':
+            old, new = value_of(before, named), value_of(after, named)
+            if place == '-1' or is_number(place):
+                return adapter, _notice(Notice, (kind, named(notifier), feature, old, new, int(place)))
+    return _told_of(line, named)
+
+
+def _told_of(line: str, named: Named) -> Tuple[str, Notice]:
+    """That of any line: a text in it may have spaces."""
     head = _HEAD.match(line)
     if head is None:
         raise ValueError('no notice')
@@ -68,6 +87,8 @@ def told_of(line: str, named: Named) -> Tuple[str, Notice]:
     place = _PLACE.fullmatch(line, at)
     if place is None:
         raise ValueError('no position')
+    if feature is not None and len(_known) < MANY:
+        _known.add(feature)
     return adapter, Notice(Kind[kind], named(notifier), feature, old, new, int(place.group(1)))
 
 
@@ -118,12 +139,15 @@ class Views:
         self._next = FIRST_ADAPTER
         self.waiting: Deque[Tuple[View, Notice]] = deque()
 
-    def add(self, session: Session, hearer: Hearer) -> View:
-        """A view with the lowest free number."""
+    def lowest(self) -> int:
+        """The lowest free number."""
+        return self._free[0] if self._free else self._next
+
+    def add(self, session: Session, number: int, hearer: Hearer) -> View:
+        """A view with that number."""
         if self._free:
-            number = heapq.heappop(self._free)
+            heapq.heappop(self._free)
         else:
-            number = self._next
             self._next += 1
         view = View(session, f'A{number}', hearer)
         self._attached[view._word] = view
@@ -141,16 +165,17 @@ class Views:
             raise ValueError(f'no view {word} is attached')
         return view
 
-    def hear(self, line: str, named: Named) -> None:
-        """Takes a line that stands behind an answer; a ValueError if it is no notice and releases no view."""
-        if line.startswith('told '):
-            word, notice = told_of(line, named)
-            self.waiting.append((self.named(word), notice))
-            return
-        released = _RELEASED.fullmatch(line)
-        if released is None:
-            raise ValueError('no notice')
-        self.release(self.named(released.group(1))._word)
+    def hear(self, lines: List[str], named: Named) -> None:
+        """Takes lines that stand behind an answer; a ValueError if one is no notice and releases no view."""
+        for line in lines:
+            if line[:5] == 'told ':
+                word, notice = told_of(line, named)
+                self.waiting.append((self._attached.get(word) or self.named(word), notice))
+                continue
+            released = _RELEASED.fullmatch(line)
+            if released is None:
+                raise ValueError('no notice')
+            self.release(self.named(released.group(1))._word)
 
 
 def depth(deep: bool) -> str:

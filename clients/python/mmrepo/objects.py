@@ -2,17 +2,20 @@
 
 from __future__ import annotations
 
-from typing import TYPE_CHECKING, Any, Iterable, Iterator, List, Optional, Union
+from typing import TYPE_CHECKING, Any, Dict, Iterable, Iterator, List, Optional, Union
 
 from .lists import FeatureList
-from .metamodel import EClass, EStructuralFeature
-from .values import Value, name_word, place_word
+from .metamodel import EClass, EReference, EStructuralFeature
+from .values import GREATEST_INTEGER, LEAST_INTEGER, Value, data_word, name_word, place_word
 
 if TYPE_CHECKING:
     from .resources import Resource
     from .session import Session
 
 FeatureName = Union[str, EStructuralFeature]
+
+
+NOT_COPIED = 'it is a part of a repository: `copy` of a repository copies an object, and `save` of a resource gives a text to keep'
 
 
 class Node:
@@ -23,15 +26,24 @@ class Node:
     _word: str
 
     def __init__(self, session: Session, word: str) -> None:
-        object.__setattr__(self, '_session', session)
-        object.__setattr__(self, '_word', word)
+        _keep_session(self, session)
+        _keep_word(self, word)
+
+    def __reduce_ex__(self, protocol: Any) -> Any:
+        """A TypeError: a pickle of it would be of no use without its repository."""
+        raise TypeError(NOT_COPIED)
+
+
+# A slot is set by its own function, since an object takes each attribute for a feature.
+_keep_session, _keep_word = Node._session.__set__, Node._word.__set__  # type: ignore[attr-defined]
 
 
 class EObject(Node):
     """An object. Its features are attributes, and items under their names.
 
-    A feature that is named as something of this class, as `delete`, is an item alone. Each method is one command of the
-    program, and a command that is refused raises a Refused: NO_OBJECT if the object is deleted.
+    A feature that is named as something of this class, as `delete`, is an item alone. Most methods are one command of the
+    repository, and a command that is refused raises a Refused: NO_OBJECT if the object is deleted. `number` is its number, unless its
+    class has a feature of that name.
     """
 
     __slots__ = ('_class',)
@@ -39,14 +51,15 @@ class EObject(Node):
 
     def __init__(self, session: Session, word: str, eclass: Optional[EClass]) -> None:
         """`create` of a repository makes objects."""
-        super().__init__(session, word)
-        object.__setattr__(self, '_class', eclass)
+        _keep_session(self, session)
+        _keep_word(self, word)
+        _keep_class(self, eclass)
 
     # What a feature has
 
     def eGet(self, feature: FeatureName) -> Any:
         """The value of a feature of one value: a Value. Of a list a FeatureList, which asks at each use what it has."""
-        name = _name_of(feature)
+        name = name_of(feature)
         found = self.eClass.findEStructuralFeature(name)
         if found is not None and found.many:
             return FeatureList(self, found.name, found)
@@ -54,21 +67,16 @@ class EObject(Node):
 
     def eSet(self, feature: FeatureName, value: Value) -> None:
         """Sets a feature of one value. None is null; the name of a literal sets a feature of an enumeration."""
-        name = _name_of(feature)
-        if isinstance(value, FeatureList) and value.is_of(self, name):
-            return  # `book.tags += [..]` has changed the list, and assigns it to itself
-        if isinstance(value, (list, FeatureList)):
-            raise TypeError(f'a list is no value: change {name} by its methods')
-        word = self._session.value_word(value, self.eClass.findEStructuralFeature(name))
-        self._session.done(f'set {self._word} {name_word(name)} {word}')
+        name = name_word(name_of(feature))
+        self._set(name, self.eClass.findEStructuralFeature(name), value)
 
     def eIsSet(self, feature: FeatureName) -> bool:
         """Whether a feature is set, as `isset` of docs/SCRIPT.md has it."""
-        return self._session.flag(f'isset {self._word} {name_word(_name_of(feature))}')
+        return self._session.flag(f'isset {self._word} {name_word(name_of(feature))}')
 
     def eUnset(self, feature: FeatureName) -> None:
         """Takes a feature back to its default, and empties a list."""
-        self._session.done(f'unset {self._word} {name_word(_name_of(feature))}')
+        self._session.done(f'unset {self._word} {name_word(name_of(feature))}')
 
     def __getitem__(self, name: str) -> Any:
         """The value of a feature, as `eGet` gives it."""
@@ -84,13 +92,38 @@ class EObject(Node):
 
     def __getattr__(self, name: str) -> Any:
         """The value of a feature. An AttributeError comes if the class has no feature of the name."""
-        self._check_feature(name)
-        return self.eGet(name)
+        eclass = self._class or self.eClass
+        feature = (eclass.attributes or _attributes(eclass)).get(name)
+        if feature is None:
+            if name == 'number':
+                return int(self._word[1:])
+            self._check_feature(name)
+            raise AttributeError(name)
+        if feature.many:
+            return FeatureList(self, name, feature)
+        return self._session.value(f'get {self._word} {name}')
 
     def __setattr__(self, name: str, value: Any) -> None:
         """Sets a feature. An AttributeError comes if the class has no feature of the name, or if the name is one of EObject."""
-        self._check_feature(name)
-        self.eSet(name, value)
+        eclass = self._class or self.eClass
+        feature = (eclass.attributes or _attributes(eclass)).get(name)
+        if feature is None:
+            self._check_feature(name)
+        self._set(name, feature, value)
+
+    def _set(self, name: str, feature: Optional[EStructuralFeature], value: Any) -> None:
+        """Sets the feature of a name, which the class may lack."""
+        if type(value) is str and feature is not None:
+            self._session.done(f'set {self._word} {name} {data_word(value, feature.is_enumeration)}')
+            return
+        if type(value) is int and LEAST_INTEGER <= value <= GREATEST_INTEGER:
+            self._session.done(f'set {self._word} {name} {value}')
+            return
+        if isinstance(value, FeatureList) and value.is_of(self, name):
+            return  # `book.tags += [..]` has changed the list, and assigns it to itself
+        if isinstance(value, (list, FeatureList)):
+            raise TypeError(f'a list is no value: change {name} by its methods')
+        self._session.done(f'set {self._word} {name_word(name)} {self._session.value_word(value, feature)}')
 
     def __delattr__(self, name: str) -> None:
         """Unsets a feature. An AttributeError comes as it does for setting one."""
@@ -125,6 +158,20 @@ class EObject(Node):
         """The object that contains it, or None."""
         return self._session.optional(f'container {self._word}')
 
+    def eContainmentFeature(self) -> Optional[EReference]:
+        """The reference of its container that contains it, or None."""
+        container = self.eContainer()
+        if container is None:
+            return None
+        found = [it for it in container.eClass.eAllStructuralFeatures() if isinstance(it, EReference) and it.containment]
+        if len(found) > 1:
+            found = [it for it in found if self._session.contains(container, it, self)]
+        return found[0]
+
+    def eContainingFeature(self) -> Optional[EReference]:
+        """The same: a repository has no feature that stands for others."""
+        return self.eContainmentFeature()
+
     @property
     def eContents(self) -> List[EObject]:
         """The objects that it directly contains, by feature in the order of all features of its class."""
@@ -158,7 +205,7 @@ class EObject(Node):
 
         The refusals are those of `resolve` in docs/SCRIPT.md, as UNLOADED and UNRESOLVED.
         """
-        return self._session.object(f'resolve {self._word} {name_word(_name_of(feature))} {place_word(place)}')
+        return self._session.object(f'resolve {self._word} {name_word(name_of(feature))} {place_word(place)}')
 
     def delete(self) -> int:
         """Destroys it and all that is below it, and takes them out of every end that holds them. Gives how many went."""
@@ -168,6 +215,36 @@ class EObject(Node):
         return f'<{"EObject" if self._class is None else self._class.name} {self._word}>'
 
 
-def _name_of(feature: FeatureName) -> str:
+_keep_class = EObject._class.__set__  # type: ignore[union-attr]
+
+
+def new_object(session: Session, word: str, eclass: Optional[EClass]) -> EObject:
+    """An object, as the class makes one, and in less time."""
+    made = _new(EObject)
+    _keep_session(made, session)
+    _keep_word(made, word)
+    _keep_class(made, eclass)
+    return made
+
+
+def name_object(made: EObject, word: str) -> None:
+    """Gives an object that a batch has made its word."""
+    _keep_word(made, word)
+
+
+_new = object.__new__
+_HIDDEN = frozenset(dir(EObject))  # names that are no attributes for features
+
+
+def _attributes(eclass: EClass) -> Dict[str, EStructuralFeature]:
+    """The features that are attributes of an object, by their names."""
+    found = eclass.attributes
+    if found is None:
+        features = eclass.eAllStructuralFeatures()
+        found = eclass.attributes = {it.name: it for it in features if it.name not in _HIDDEN and not it.name.startswith('__')}
+    return found
+
+
+def name_of(feature: FeatureName) -> str:
     """The name of a feature, which is given by it or as itself."""
     return feature.name if isinstance(feature, EStructuralFeature) else feature

@@ -1,4 +1,4 @@
-"""The process of the program: a line goes to it, and the lines of its answer come back."""
+"""The process of the program: a line goes to it, and the text of its answer comes back."""
 
 from __future__ import annotations
 
@@ -6,49 +6,51 @@ import os
 import shutil
 import subprocess
 import tempfile
-from typing import List, Optional, Sequence, Tuple
+from pathlib import Path
+from typing import List, Optional, Sequence, Tuple, Union
 
-from .errors import (
-    MetamodelRefused,
-    MmrepoError,
-    NotStarted,
-    ProgramEnded,
-    ReplyCut,
-    ReplyNotUnderstood,
-    RepositoryClosed,
-    shown,
-)
+from .engines import PROGRAM, Engine
+from .errors import REFUSED, MetamodelRefused, MmrepoError, NotStarted, ProgramEnded, ReplyCut, ReplyNotUnderstood, shown
 
 LONGEST_LINE = 16_777_216  # bytes
 TOGETHER = 32_768  # bytes of lines that are sent at once: a pipe of Linux holds twice as many, so the writing never waits for an answer
+AT_ONCE = 65_536  # bytes that are read at once
 SECONDS_TO_END = 60  # how long a program that takes no more lines may take to end
-REFUSED = 'metamodel refused: '
+
+_BESIDE = Path(__file__).resolve().parent / 'bin/mmrepo'
 
 
 def program_file(given: Optional[str]) -> str:
-    """The file of the program: the one given, else that of the environment's MMREPO, else `mmrepo` on the PATH."""
-    name = given or os.environ.get('MMREPO') or 'mmrepo'
+    """The file of the program: the one given, else that of the environment's MMREPO, else the one that is installed with this package,
+    else `mmrepo` on the PATH."""
+    name = given or os.environ.get('MMREPO') or (str(_BESIDE) if _BESIDE.is_file() else 'mmrepo')
     found = shutil.which(name)
     if found is None:
         raise NotStarted(f'no program {name}: name it by program=, by MMREPO in the environment, or put mmrepo on the PATH')
     return found
 
 
-class Program:
+class Program(Engine):
     """A program that runs in its live mode over a metamodel."""
+
+    name = PROGRAM
+    may_hang = True
 
     def __init__(self, file: str, metamodel: str) -> None:
         """Starts it. A NotStarted comes if the system does not run the file; a MetamodelRefused for a fault of the metamodel."""
+        super().__init__()
         self._metamodel = metamodel
-        self._closed: Optional[str] = None  # why it takes no more lines
         self._said = tempfile.TemporaryFile()
         self._said_before = 0  # how many bytes there were of what it said before
         self._sent = 0  # how many lines it was sent
+        self._data: Union[bytes, bytearray] = b''  # what was read
+        self._at = 0  # where the next answer begins in it
+        self._known = 0  # up to here it does not end
         command = [file, '--meta', os.path.abspath(metamodel), '--live', '--explain']
         try:
             # In a session of its own no Ctrl-C of a terminal ends it, and a file, other than a pipe, is never full.
             self._process = subprocess.Popen(
-                command, stdin=subprocess.PIPE, stdout=subprocess.PIPE, stderr=self._said, start_new_session=True
+                command, stdin=subprocess.PIPE, stdout=subprocess.PIPE, stderr=self._said, start_new_session=True, bufsize=0
             )
         except (OSError, ValueError) as found:
             self._said.close()
@@ -59,15 +61,9 @@ class Program:
         if self.exchange(''):
             raise self.not_understood('', 'an answer to an empty line')
 
-    def exchange(self, line: str) -> List[str]:
-        """The lines of the answer to a line, without the empty one behind them.
-
-        A ValueError comes before anything is sent if the line is too long, if it has a newline, or if it has half of a
-        surrogate pair.
-        """
-        data = _data_of(line)
-        if self._closed is not None:
-            raise RepositoryClosed(self._closed)
+    def exchange(self, line: str) -> str:
+        """The text that a line prints."""
+        data = data_of(line) + b'\n'
         try:
             self._send(line, 1, data)
             return self._answer(line)
@@ -76,11 +72,10 @@ class Program:
             self.end(f'the exchange of a line failed: {shown(line)}')
             raise
 
-    def exchange_all(self, lines: Sequence[str]) -> List[List[str]]:
-        """The answers to several lines, as `exchange` gives each. The lines are sent many at once, which takes a fraction of
-        the time. The errors are those of `exchange`."""
-        waiting = [(line, _data_of(line)) for line in lines]
-        answers: List[List[str]] = []
+    def exchange_all(self, lines: Sequence[str]) -> List[str]:
+        """The texts that lines print. The lines are sent many at once, which takes a fraction of the time."""
+        waiting = [(line, data_of(line) + b'\n') for line in lines]
+        answers: List[str] = []
         at = 0
         while at < len(waiting):
             end, size = at + 1, len(waiting[at][1])
@@ -91,11 +86,11 @@ class Program:
             at = end
         return answers
 
-    def _exchange_some(self, lines: Sequence[Tuple[str, bytes]]) -> List[List[str]]:
+    def _exchange_some(self, lines: Sequence[Tuple[str, bytes]]) -> List[str]:
         """Sends some lines at once, and reads the answer to each."""
-        if self._closed is not None:
-            raise RepositoryClosed(self._closed)
         first = lines[0][0]
+        if self.is_shut:
+            self.exchange(first)
         try:
             self._send(first, len(lines), b''.join(data for _, data in lines))
             return [self._answer(line) for line, _ in lines]
@@ -106,27 +101,45 @@ class Program:
     def _send(self, line: str, count: int, data: bytes) -> None:
         """Sends the bytes of lines, which begin with a line."""
         try:
-            self._input.write(data)
-            self._input.flush()
+            sent = self._input.write(data)
+            while sent < len(data):
+                sent += self._input.write(memoryview(data)[sent:])
         except OSError:
             raise self._failure(line, False) from None
         self._sent += count
 
-    def _answer(self, line: str) -> List[str]:
+    def _answer(self, line: str) -> str:
         """Reads up to the empty line behind the answer to a line."""
-        lines: List[str] = []
-        while True:
-            found = self._output.readline()
-            if found == b'\n':
-                return lines
-            if not found.endswith(b'\n'):
-                raise self._failure(line, bool(lines or found))
-            try:
-                lines.append(found[:-1].decode('utf-8'))
-            except UnicodeDecodeError:
-                raise self.not_understood(line, repr(found)) from None
+        end = self._end()
+        while end is None:
+            more = os.read(self._output.fileno(), AT_ONCE)
+            if not more:
+                raise self._failure(line, len(self._data) > self._at)
+            if self._at == len(self._data):
+                self._data, self._at, self._known = more, 0, 0
+            else:
+                if isinstance(self._data, bytes):
+                    self._data = bytearray(self._data)
+                self._data += more
+            end = self._end()
+        found = self._data[self._at:end]
+        self._at = self._known = end + 1
+        try:
+            return found.decode('utf-8')
+        except UnicodeDecodeError:
+            raise self.not_understood(line, repr(bytes(found))) from None
 
-    def explained(self) -> List[str]:
+    def _end(self) -> Optional[int]:
+        """Where the empty line behind the next answer begins in what was read; None if it was not read."""
+        if self._data[self._at:self._at + 1] == b'\n':
+            return self._at
+        end = self._data.find(b'\n\n', self._known)
+        if end < 0:
+            self._known = max(self._at, len(self._data) - 1)
+            return None
+        return end + 1
+
+    def explained(self, line: str, uri: Optional[str]) -> List[str]:
         """What `--explain` says of the line that was sent last, without its number: nothing for most lines."""
         start = f'line {self._sent}: '
         if self.exchange(''):  # once this line is answered, all has been said of the one before it
@@ -167,8 +180,7 @@ class Program:
 
     def end(self, why: str) -> None:
         """Ends the process at once. Further lines raise a RepositoryClosed with the reason."""
-        if self._closed is None:
-            self._closed = why
+        self.shut(why)
         self._process.kill()
         self._process.wait()
         for stream in (self._input, self._output, self._said):
@@ -177,11 +189,18 @@ class Program:
             except OSError:
                 pass  # what was not written yet has no reader
 
+    def abandon(self) -> None:
+        """Leaves the process to the one that was forked: only the streams are closed here."""
+        super().abandon()
+        self._process.returncode = 0
+        for stream in (self._input, self._output, self._said):
+            stream.close()
+
     def close(self) -> None:
         """Ends the input, and waits for the program; a ProgramEnded comes if it ends with another status than 0."""
-        if self._closed is not None:
+        if self.is_shut:
             return
-        self._closed = 'the repository is closed'
+        self.shut('the repository is closed')
         try:
             self._process.communicate(timeout=SECONDS_TO_END)
         except subprocess.TimeoutExpired:
@@ -191,11 +210,11 @@ class Program:
             raise ProgramEnded('the program ended, when it was closed', status, said)
 
 
-def _data_of(line: str) -> bytes:
-    """The bytes of a line with its newline; a ValueError if the program can't read it as one line."""
+def data_of(line: str) -> bytes:
+    """The bytes of a line, without a newline; a ValueError if they can't be read as one line."""
     data = line.encode('utf-8')
     if len(data) > LONGEST_LINE:
         raise ValueError(f'a line has at most {LONGEST_LINE} bytes, and this one {len(data)}')
     if b'\n' in data:
         raise ValueError('a line has no newline')
-    return data + b'\n'
+    return data

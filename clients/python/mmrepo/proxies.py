@@ -37,7 +37,7 @@ def proxies_of(session: Session, first: int, links: Sequence[Link]) -> List[Foun
     """The proxies at the links of a document, whose first object has a number."""
     words = [f'#{first + link.number}' for link in links]
     asked = list(dict.fromkeys(f'get {word} {link.feature.name}' for word, link in zip(words, links)))
-    answers = {line: answer[0] for line, answer in zip(asked, session.program.exchange_all(asked))}
+    answers = dict(zip(asked, session.answers(asked)))
     read: Dict[str, List[object]] = {}
     found: List[Found] = []
     for word, link in zip(words, links):
@@ -59,9 +59,9 @@ class Judge:
 
     def findings(self, proxies: Sequence[Found]) -> Iterator[Tuple[Found, Finding]]:
         """Resolves each proxy, and gives each that is refused with a finding."""
-        answers = self._session.program.exchange_all([it.command for it in proxies])
+        answers = self._session.answers([it.command for it in proxies])
         for proxy, answer in zip(proxies, answers):
-            refused = _REFUSED.fullmatch(answer[0])
+            refused = _REFUSED.fullmatch(answer)
             if refused is None or refused[1] == RESOLVED:
                 continue
             yield proxy, Finding(self._own, *self._why(proxy, refused[1]))

@@ -5,17 +5,20 @@ from __future__ import annotations
 import os
 from pathlib import Path
 from types import TracebackType
-from typing import List, NamedTuple, Optional, Sequence, Type, Union
+from typing import Any, Dict, List, NamedTuple, Optional, Sequence, Type, Union
 
+from .batches import Batch
+from .copying import copied
+from .engines import start
 from .errors import NotOpened
 from .folders import Folder, save_all
 from .loading import XMI_FILES, several
 from .metamodel import EClass, Metamodel
 from .notices import Hearer, View, depth
 from .objects import EObject
-from .process import Program, program_file
 from .resources import Resource
 from .session import Session
+from .snapshots import Snapshot, snapshot_of
 from .uris import BASE
 from .values import name_word, text_word
 
@@ -33,33 +36,87 @@ class Repository:
     Each call is a command of docs/SCRIPT.md. A command that is refused raises a Refused, and has changed nothing.
     """
 
-    def __init__(self, metamodel: Union[str, os.PathLike], program: Union[None, str, os.PathLike] = None) -> None:
-        """Starts the program over the file of a metamodel. The program is the one given, else that of the environment's
-        MMREPO, else `mmrepo` on the PATH.
+    def __init__(
+        self, metamodel: Union[str, os.PathLike], program: Union[None, str, os.PathLike] = None,
+        library: Union[None, str, os.PathLike] = None,
+    ) -> None:
+        """Opens a repository over the file of a metamodel, in this process by the shared library, or in a process of the program.
+
+        The library is the one given, else that of the environment's MMREPO_LIBRARY, else the one beside this package. The program is
+        taken if one is given, and if there is no library: it is the one given, else that of the environment's MMREPO, else the one
+        beside this package, else `mmrepo` on the PATH.
 
         An OSError comes if the file can't be read, a MetamodelRefused for a fault of the metamodel, and a NotStarted if
-        there is no program.
+        there is no library and no program.
         """
         path = os.fspath(metamodel)
         with open(path, 'rb') as file:
             document = file.read()
         self._file = os.path.abspath(path)
-        running = Program(program_file(None if program is None else os.fspath(program)), path)
+        engine = start(path, document, None if program is None else os.fspath(program), None if library is None else os.fspath(library))
         try:
-            self._session = Session(running, Metamodel(document))
+            self._session = Session(engine, Metamodel(document))
         except BaseException:
-            running.end('the metamodel was not read')
+            engine.end('the metamodel was not read')
             raise
+
+    @property
+    def engine(self) -> str:
+        """What answers: `extension` and `ctypes` for the library in this process, by the extension module and by ctypes, or `program`."""
+        return self._session.engine.name
 
     @property
     def metamodel(self) -> Metamodel:
         """The classes and enumerations."""
         return self._session.metamodel
 
-    def create(self, eclass: Union[str, EClass]) -> EObject:
-        """Makes an object of a class. It is refused if there is no such class (NO_CLASS) or it is abstract (ABSTRACT)."""
-        name = name_word(eclass.name if isinstance(eclass, EClass) else eclass)
-        return self._session.object(f'new {name}', self.metamodel.classes.get(name))
+    def create(self, eclass: Union[str, EClass], /, **features: Any) -> EObject:
+        """Makes an object of a class, with values of features: one value, or several of a list.
+
+        It is refused if there is no such class (NO_CLASS) or it is abstract (ABSTRACT). If a value is refused, the object is deleted.
+        """
+        name = eclass.name if isinstance(eclass, EClass) else eclass
+        known = self._session.metamodel.classes.get(name)
+        made = self._session.object(f'new {name if known else name_word(name)}', known)
+        if features:
+            try:
+                self._give(made, features)
+            except BaseException:
+                made.delete()
+                raise
+        return made
+
+    def _give(self, made: EObject, features: Dict[str, Any]) -> None:
+        """Gives features of an object their values."""
+        for name, value in features.items():
+            feature = made.eClass.findEStructuralFeature(name)
+            if feature is not None and feature.many:
+                made.eGet(feature).extend(value)
+            else:
+                made.eSet(name, value)
+
+    def batch(self) -> Batch:
+        """Commands that are collected, and sent at once: `with repo.batch() as batch: batch.create("Book", pages=3)`."""
+        return self._session.batch()
+
+    def objects(self, eclass: Union[None, str, EClass] = None) -> List[EObject]:
+        """The objects that live, by their numbers: all, or those of a class and of the classes below it. A KeyError comes if there is no
+        such class."""
+        return self._session.objects(self.metamodel.classes[eclass] if isinstance(eclass, str) else eclass)
+
+    def copy(self, node: EObject) -> EObject:
+        """A copy of an object with all that is below it, in no container.
+
+        A reference to an object that is copied leads to its copy. Another one leads to the same object; it is left out if it has an
+        opposite. A ValueError comes if an object has a proxy.
+        """
+        self._session.check_node(node)
+        return copied(self._session, node)
+
+    def snapshot(self, node: Union[EObject, Resource]) -> Snapshot:
+        """What a node and each node below it have: a dict of the features by their names. `replay` of it brings it up to date by a notice."""
+        self._session.check_node(node)
+        return snapshot_of(self._session, node)
 
     def resource(self, uri: str) -> Resource:
         """Makes a resource of a URI of http or https. It is refused for another text (BAD_URI) and for a URI that a
@@ -116,20 +173,18 @@ class Repository:
         if not callable(hearer):
             raise TypeError(f'{hearer!r} is not callable')
         self._session.check_node(node)
-        view = self._session.views.add(self._session, hearer)
-        try:
-            self._session.done(f'attach {view._word} {node._word} {depth(deep)}')
-        except BaseException:
-            self._session.views.release(view._word)
-            raise
-        return view
+        return self._session.attach(node, hearer, depth(deep))
 
     def close(self) -> None:
         """Ends the process. Nothing is told; further calls raise a RepositoryClosed, but a further `close` does nothing.
 
         A ProgramEnded comes if the program ends with another status than 0.
         """
-        self._session.program.close()
+        self._session.close()
+
+    def __reduce_ex__(self, protocol: Any) -> Any:
+        """A TypeError: a repository is of one process."""
+        raise TypeError('a repository stays in its process: `save` of each resource gives a text to keep')
 
     def __enter__(self) -> Repository:
         return self
@@ -141,4 +196,4 @@ class Repository:
         if kind is None:
             self.close()
         else:
-            self._session.program.end('the repository is closed')
+            self._session.end('the repository is closed')

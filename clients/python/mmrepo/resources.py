@@ -16,7 +16,7 @@ if TYPE_CHECKING:
 class Resource(Node):
     """A resource: objects that are its roots, and all that they contain.
 
-    `uri` is the text that it was made of. `path` is its file if it is one of a folder that was opened, and None otherwise.
+    `uri` is its URI, as the repository has it: `HTTP://M.example` is `http://m.example/`. `path` is its file if it is one of a folder that was opened, and None otherwise.
     """
 
     __slots__ = ('uri', 'path')
@@ -56,12 +56,10 @@ class Resource(Node):
     def load(self, text: str) -> int:
         """Makes what a document says (docs/DOCUMENTS.md), all of it or nothing, and gives how many objects were made.
 
-        It is refused if the resource has roots (NOT_EMPTY), and if the document can't be read (DOCUMENT, with a cause). A
-        ValueError comes, and nothing is sent, if the line of the command is longer than 16,777,216 bytes.
+        It is refused if the resource has roots (NOT_EMPTY), and if the document can't be read (DOCUMENT, with a cause). In the process
+        a document may have any length; to a program a line of at most 16,777,216 bytes is sent, and a ValueError comes for more.
         """
-        # The document goes on one line. A newline may stand between tokens, and so may a tab; inside of a text of the
-        # document neither may.
-        return self._session.counts(f'load {self._word} ' + text.replace('\n', '\t'), 'loaded')[0]
+        return self._session.load(self._word, text)
 
     def save(self) -> str:
         """The document of the resource, in one line. It is refused as `save` of docs/SCRIPT.md is, as DANGLING."""

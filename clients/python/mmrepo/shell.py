@@ -33,10 +33,10 @@ class Shell:
     def __init__(self, repo: Repository, folder: Optional[Folder], out: Callable[[str], None], says: Callable[[str], None]) -> None:
         """Answers go to `out`, and what is wrong to `says`."""
         self._repo, self._folder, self._out, self._says = repo, folder, out, says
-        self._program = repo._session.program
+        self._session = repo._session
         self._is_warned = False
         self.is_over = False
-        self.drawing = Drawing(self._program, repo.metamodel)
+        self.drawing = Drawing(self._session, repo.metamodel)
         self.drawing.uris.update((it._word, it.uri) for it in repo.resources)
         self.own: Dict[str, Callable[[Sequence[str]], None]] = {
             'tree': self._tree, 'show': self._show, 'changed': self._changed, 'saveall': self._save_all, 'help': self._help,
@@ -57,12 +57,12 @@ class Shell:
     def scripted(self, line: str, number: Optional[int] = None) -> List[str]:
         """The lines that a script prints for a line. What is wrong with it is said, with the number that it has."""
         try:
-            answers = self._program.exchange(line)
+            answers = self._session.raw(line)
         except ValueError as error:
             self._says(_numbered(number, 'it is not UTF-8' if isinstance(error, UnicodeError) else str(error)))
             return ['bad line']
         if answers and answers[0].startswith(('refused ', 'bad line')):
-            for said in self._program.explained():
+            for said in self._session.explained(line):
                 self._says(_numbered(number, said))
         words = line.split(None, 1)
         if len(words) == 2 and words[0] == 'resource' and answers[0].startswith('r') and not answers[0].startswith('refused'):

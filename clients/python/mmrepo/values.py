@@ -2,9 +2,10 @@
 
 from __future__ import annotations
 
-import json
 import re
 from dataclasses import dataclass
+from json.decoder import scanstring  # type: ignore[attr-defined]
+from json.encoder import encode_basestring  # type: ignore[attr-defined]
 from typing import TYPE_CHECKING, Any, Callable, Dict, List, Tuple, Union
 
 if TYPE_CHECKING:
@@ -17,8 +18,7 @@ _NAME = re.compile(r'[A-Za-z_][A-Za-z0-9_]*')
 _WORD = re.compile(r'[^ "\]]+')
 _INTEGER = re.compile(r'0|-?[1-9][0-9]*')
 _CONSTANTS: Dict[str, Any] = {'null': None, 'true': True, 'false': False}
-_encode = json.JSONEncoder(ensure_ascii=False).encode
-_decode = json.JSONDecoder().raw_decode
+_encode: Callable[[str], str] = encode_basestring
 
 
 class Literal(str):
@@ -49,6 +49,11 @@ class Proxy:
 
 Value = Union[None, bool, int, str, Literal, Proxy, 'EObject']
 Named = Callable[[str], Any]  # what a word such as `#3`, `r0` or `A9` names
+
+
+def is_number(text: str) -> bool:
+    """Whether a text is a number as a word has it: digits of ASCII, of which the first is no 0 unless it is alone."""
+    return text.isdigit() and text.isascii() and (text[0] != '0' or text == '0')
 
 
 def is_name(text: str) -> bool:
@@ -103,7 +108,7 @@ def data_word(value: Any, is_enumeration: bool) -> str:
 def value_at(text: str, at: int, named: Named) -> Tuple[Any, int]:
     """The value that begins at a place of an answer, and the place behind it; a ValueError if there is none."""
     if text.startswith('"', at):
-        return _decode(text, at)
+        return scanstring(text, at + 1)
     found = _WORD.match(text, at)
     if found is None:
         raise ValueError('no value')
@@ -115,7 +120,7 @@ def value_at(text: str, at: int, named: Named) -> Tuple[Any, int]:
     if word[0] == ':':
         return Literal(name_word(word[1:])), end
     if word == 'proxy' and text.startswith(' "', end):
-        address, end = _decode(text, end + 1)
+        address, end = scanstring(text, end + 2)
         return Proxy(address), end
     if _INTEGER.fullmatch(word) is None:
         raise ValueError(f'{word} is no value')
@@ -124,6 +129,12 @@ def value_at(text: str, at: int, named: Named) -> Tuple[Any, int]:
 
 def value_of(text: str, named: Named) -> Any:
     """The one value of an answer."""
+    if text.isdigit() and text.isascii() and (text[0] != '0' or text == '0'):
+        return int(text)
+    if text[:1] == '#':
+        return named(text)
+    if text == 'null':
+        return None
     value, end = value_at(text, 0, named)
     if end != len(text):
         raise ValueError('more than a value')
@@ -135,6 +146,10 @@ def values_of(text: str, named: Named) -> List[Any]:
     values: List[Any] = []
     if text == '[]':
         return values
+    if text[:2] == '[#' and text[-1:] == ']':  # all are objects, since a text or a proxy among them would have a quotation mark
+        words = text[1:-1].split(' ')
+        if '"' not in text and all(word[:1] == '#' for word in words):
+            return [named(word) for word in words]
     at = 0
     while text.startswith(' ' if values else '[', at):
         value, at = value_at(text, at + 1, named)

@@ -1,0 +1,114 @@
+"""The engines of a repository: a process of the program, or the shared library in this process."""
+
+from __future__ import annotations
+
+import os
+from pathlib import Path
+from typing import Any, Callable, List, Optional, Sequence
+from weakref import WeakSet
+
+from .errors import NotOwner, NotStarted, RepositoryClosed
+
+LIBRARY, ENGINE = 'MMREPO_LIBRARY', 'MMREPO_ENGINE'  # in the environment
+EXTENSION, CTYPES, PROGRAM = 'extension', 'ctypes', 'program'  # the names of engines
+FORKED = 'the repository belongs to the process that was forked'
+
+_HERE = Path(__file__).resolve().parent
+
+
+class Engine:
+    """What answers lines. The text of an answer has a newline behind each of its lines."""
+
+    name: str
+    may_hang = False  # whether an answer may never come
+    is_shut = False  # whether each call raises an error
+    list_length: Optional[Callable[[bool, int, str], str]] = None
+    """How many values a list has: of a resource or not, by its number, under a name. None: it has no such call, and neither the next two."""
+    list_value: Optional[Callable[[bool, int, str, int], str]] = None
+    """The value at an index of a list."""
+    load: Optional[Callable[[int, bytes], str]] = None
+    """Loads a document into the resource of a number."""
+
+    def __init__(self) -> None:
+        _open.add(self)
+
+    def exchange(self, line: str) -> str:
+        """The text that a line prints.
+
+        A ValueError comes, and nothing is sent, for a line that is too long, has a newline or half of a surrogate pair.
+        """
+        raise NotImplementedError
+
+    def exchange_all(self, lines: Sequence[str]) -> List[str]:
+        """The texts that lines print."""
+        exchange = self.exchange
+        return [exchange(line) for line in lines]
+
+    def explained(self, line: str, uri: Optional[str]) -> List[str]:
+        """What `--explain` says of the line that was given last, without its number. `uri` is that of the resource of a `load`."""
+        raise NotImplementedError
+
+    def end(self, why: str) -> None:
+        """Ends it at once. Further lines raise a RepositoryClosed with the reason."""
+        raise NotImplementedError
+
+    def close(self) -> None:
+        """Ends it in order."""
+        raise NotImplementedError
+
+    def abandon(self) -> None:
+        """Leaves it to the process that was forked."""
+        self.refuse(lambda: NotOwner(FORKED))
+
+    def refuse(self, error: Callable[[], Exception]) -> None:
+        """Has all further calls raise an error."""
+        def refused(*_: Any) -> Any:
+            raise error()
+
+        self.is_shut = True
+        self.exchange = refused  # type: ignore[method-assign]
+        if self.load is not None:
+            self.list_length = self.list_value = self.load = refused
+
+    def shut(self, why: str) -> None:
+        """Has all further calls raise a RepositoryClosed, unless they raise an error already."""
+        if not self.is_shut:
+            self.refuse(lambda: RepositoryClosed(why))
+
+
+_open: WeakSet[Engine] = WeakSet()
+
+
+def _after_fork() -> None:
+    """In the child of a fork: no repository of the parent is its own."""
+    for engine in list(_open):
+        engine.abandon()
+
+
+os.register_at_fork(after_in_child=_after_fork)
+
+
+def start(metamodel: str, document: bytes, program: Optional[str], library: Optional[str]) -> Engine:
+    """The engine of a repository over a metamodel.
+
+    It is the library if one is given, else the program if one is given, else the library that MMREPO_LIBRARY names, or that is beside this
+    package, else the program. MMREPO_ENGINE in the environment demands an engine by its name, unless one is given.
+    """
+    from .inprocess import InProcess
+    from .process import Program, program_file
+    wanted = None if program else os.environ.get(ENGINE) or None
+    if wanted not in (None, EXTENSION, CTYPES, PROGRAM):
+        raise NotStarted(f'no engine {wanted}: {ENGINE} is {EXTENSION}, {CTYPES} or {PROGRAM}')
+    if library or program is None and wanted != PROGRAM:
+        file = library or os.environ.get(LIBRARY) or (None if LIBRARY in os.environ else _beside())
+        if file is not None:
+            return InProcess(file, metamodel, document, wanted)
+        if wanted is not None:
+            raise NotStarted(f'no library: name it by library= or by {LIBRARY} in the environment')
+    return Program(program_file(program), metamodel)
+
+
+def _beside() -> Optional[str]:
+    """The library that is installed with this package."""
+    file = _HERE / 'libmmrepo.so'
+    return str(file) if file.is_file() else None

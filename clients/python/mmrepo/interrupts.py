@@ -1,0 +1,57 @@
+"""Ctrl-C: it waits while a session has sent a command and has not read the answer to its end."""
+
+from __future__ import annotations
+
+import signal
+import threading
+import time
+from types import FrameType
+from typing import TYPE_CHECKING, Any, Callable, Optional
+from weakref import WeakSet
+
+if TYPE_CHECKING:
+    from .session import Session
+
+PATIENCE = 1.0  # seconds that a program has to answer, once Ctrl-C was pressed
+
+_watched: WeakSet[Session] = WeakSet()  # the sessions of the main thread, in which Python handles signals
+
+
+class Handler:
+    """Handles a Ctrl-C in place of another handler, which it calls when no session is busy."""
+
+    def __init__(self, before: Callable[[int, Optional[FrameType]], Any]) -> None:
+        self.before = before
+        self._until = 0.0  # the moment until which a program may take to answer
+
+    def __call__(self, number: int, frame: Optional[FrameType]) -> None:
+        """Leaves it to a session that is busy. A further one is not held back from a program that takes long, which may never answer."""
+        for session in _watched:
+            if session.is_busy_in(frame) and not (session.interrupted and session.engine.may_hang and time.monotonic() > self._until):
+                if session.interrupted is None:
+                    session.interrupted, self._until = self, time.monotonic() + PATIENCE
+                return
+        self.before(number, frame)
+
+    def deliver(self) -> None:
+        """Handles a Ctrl-C that has waited: mostly by a KeyboardInterrupt."""
+        self.before(signal.SIGINT, None)
+
+
+def watch(session: Session) -> None:
+    """Has a Ctrl-C wait for a session. A handler of Python that is set already is called later; where there is none, nothing is done."""
+    if threading.current_thread() is not threading.main_thread():
+        return
+    current = signal.getsignal(signal.SIGINT)
+    if callable(current):
+        if not isinstance(current, Handler):
+            signal.signal(signal.SIGINT, Handler(current))
+        _watched.add(session)
+
+
+def leave(session: Session) -> None:
+    """Ends that. With the last session the handler from before is set again."""
+    _watched.discard(session)
+    current = signal.getsignal(signal.SIGINT)
+    if isinstance(current, Handler) and not _watched and threading.current_thread() is threading.main_thread():
+        signal.signal(signal.SIGINT, current.before)

@@ -1,0 +1,99 @@
+"""Commands that are collected in a batch."""
+
+import time
+
+from support import LibraryTest
+
+from mmrepo import Refused
+
+MANY = 100_000
+SECONDS = 10  # for many objects: a bound for a machine that does other work; bench/python_client measures
+
+
+class Batches(LibraryTest):
+    """`batch` of a repository."""
+
+    def test_answers(self):
+        library, = self.made('Library')
+        batch = self.repo.batch()
+        first = batch.create('Book', name='Emma', pages=3, tags=['a', 'b'], genre='POEM')
+        second = batch.create('Book', next=first)
+        batch.append(library.books, second)
+        batch.append(library.books, second)
+        batch.set(first, 'pages', 4)
+        batch.set(first, library.eClass.findEStructuralFeature('name'), 'Persuasion')
+        batch.unset(first, 'tags')
+        batch.delete(second)
+        self.assertEqual(batch.send(), [first, second, True, False, None, None, None, 1])
+        self.assertEqual((first.name, first.pages, list(first.tags), first.genre), ('Persuasion', 4, [], 'POEM'))
+        self.assertEqual(batch.answers, [first, second, True, False, None, None, None, 1])
+        self.assertEqual(list(library.books), [])
+        self.assertIs(self.repo._session.named(first._word), first)
+        self.assertEqual(batch.send(), [])
+
+    def test_with(self):
+        with self.repo.batch() as batch:
+            books = [batch.create('Book', pages=page) for page in range(10)]
+        self.assertEqual([book.pages for book in books], list(range(10)))
+        with self.assertRaises(ZeroDivisionError):
+            with self.repo.batch() as batch:
+                batch.set(books[0], 'pages', 7)
+                1 / 0
+        self.assertEqual(books[0].pages, 0)
+
+    def test_refused(self):
+        book, = self.made('Book')
+        with self.assertRaises(Refused) as found:
+            with self.repo.batch() as batch:
+                batch.set(book, 'pages', 'many')
+                batch.set(book, 'pages', 7)
+                batch.set(book, 'nothing', 7)
+        self.assertEqual((found.exception.name, found.exception.command), ('TYPE', 'set #0 pages "many"'))
+        self.assertEqual([getattr(it, 'name', it) for it in batch.answers], ['TYPE', None, 'NO_FEATURE'])
+        self.assertEqual(book.pages, 7)
+
+    def test_nothing_is_sent(self):
+        other = self.opened().create('Book')
+        batch = self.repo.batch()
+        for wrong in ('Nothing', 'Named'):
+            with self.assertRaises(ValueError):
+                batch.create(wrong)
+        with self.assertRaises(ValueError):
+            batch.create('Book', next=other)
+        with self.assertRaises(TypeError):
+            batch.create('Book', name=3.5)
+
+    def test_views(self):
+        library, = self.made('Library')
+        heard = []
+        self.repo.attach(heard.append, library)
+        with self.repo.batch() as batch:
+            for page in range(3):
+                book = batch.create('Book', library=library)
+                batch.set(book, 'pages', page)
+        self.assertEqual([(it.kind.name, it.notifier is library) for it in heard], [('ADD', True), ('SET', False)] * 3)
+
+    def test_many(self):
+        began = time.perf_counter()
+        with self.repo.batch() as batch:
+            books = [batch.create('Book', name='A book', pages=page) for page in range(MANY)]
+        self.assertLess(time.perf_counter() - began, SECONDS)
+        self.assertEqual((books[-1]._word, books[-1].name, books[-1].pages), (f'#{MANY - 1}', 'A book', MANY - 1))
+
+    def test_extend(self):
+        library, = self.made('Library')
+        books = self.made(*['Book'] * 2_000)
+        library.books.extend(books)
+        self.assertEqual(list(library.books), books)
+        with self.refused(8, 'TYPE'):
+            books[0].tags.extend(['a', 3, 'b'])
+        self.assertEqual(list(books[0].tags), ['a', 'b'])
+
+    def test_create_with_features(self):
+        library = self.repo.create('Library', name='Town')
+        book = self.repo.create('Book', name='Emma', library=library, tags=['a', 'b'])
+        self.assertEqual((book.name, list(book.tags), list(library.books)), ('Emma', ['a', 'b'], [book]))
+        with self.refused(8, 'TYPE'):
+            self.repo.create('Book', name='Emma', pages='many')
+        with self.refused(1, 'NO_OBJECT'):
+            self.repo._session.value('get #2 name')

@@ -1,0 +1,156 @@
+"""Which engine a repository takes, and what is the same over each of them."""
+
+import json
+import os
+import time
+from pathlib import Path
+from unittest import mock
+
+from support import CLIENT, ENGINE, LIBRARY, PROGRAM, ClientTest, LibraryTest
+
+from mmrepo import MetamodelRefused, NotStarted, Refused, Repository
+
+VALUES = 10_000
+SECONDS = 5  # for all places of a long list: a bound for a machine that does other work
+
+
+class Choice(ClientTest):
+    """`engine` of a repository."""
+
+    def engine(self, *given, **environment):
+        """The engine of a repository, in an environment."""
+        environment = {'MMREPO_ENGINE': '', **environment}
+        with mock.patch.dict(os.environ, environment), Repository(LIBRARY, *given) as repo:
+            return repo.engine
+
+    def test_by_default(self):
+        """The library beside the package is taken first, and the extension module if it is there."""
+        has_extension = (CLIENT / 'mmrepo/_native.abi3.so').exists()
+        wanted = 'program' if ENGINE == 'program' else 'extension' if has_extension else 'ctypes'
+        self.assertEqual(self.engine(), wanted)
+
+    def test_a_program_that_is_given(self):
+        self.assertEqual(self.engine(PROGRAM), 'program')
+        self.assertEqual(self.engine(PROGRAM, MMREPO_ENGINE='ctypes'), 'program')
+
+    def test_environment(self):
+        self.assertEqual(self.engine(MMREPO_LIBRARY=''), 'program')
+        self.assertEqual(self.engine(MMREPO_ENGINE='program'), 'program')
+        with self.assertRaises(NotStarted):
+            self.engine(MMREPO_ENGINE='magic')
+        with self.assertRaises(NotStarted):
+            self.engine(MMREPO_ENGINE='ctypes', MMREPO_LIBRARY='/none')
+        with self.assertRaises(NotStarted):
+            self.engine(None, '/none')
+        with self.assertRaises(NotStarted):
+            self.engine(None, self.file('library.so', 'no library'))
+
+    def test_a_library_that_is_given(self):
+        if ENGINE == 'program':
+            return
+        library = CLIENT / 'mmrepo/libmmrepo.so'
+        self.assertEqual(self.engine(None, library, MMREPO_ENGINE='ctypes'), 'ctypes')
+        self.assertEqual(self.engine(None, library, MMREPO_ENGINE=ENGINE, MMREPO_LIBRARY='/none'), ENGINE)
+        self.assertEqual(self.engine(MMREPO_ENGINE=ENGINE, MMREPO_LIBRARY=str(library)), ENGINE)
+
+
+class Refusals(ClientTest):
+    """What is refused is explained in the same words by each engine."""
+
+    def test_metamodel(self):
+        for document, fault, explained in (
+            ('{"classes":[{"nam":"A"}]}', '2 LAYOUT', ('classes[0]: the key "name" is absent', 'classes[0]: unknown key "nam"; is "name" meant?')),
+            ('{"classes":[{"name":"A","supers":["B"]},{"name":"B","supers":["A"]}]}', '7 CYCLE class 0', None),
+            ('', '1 SYNTAX', None),
+        ):
+            with self.subTest(document), self.assertRaises(MetamodelRefused) as found:
+                self.opened(self.file('meta.json', document))
+            self.assertEqual(found.exception.fault, fault)
+            if explained is not None:
+                self.assertEqual(found.exception.explained, explained)
+
+    def test_document(self):
+        town = self.opened().resource('http://m.example/a')
+        with self.assertRaises(Refused) as found:
+            town.load('{"format":2,\n"roots":[{"class":"Book","features":{"pages":"1","titel":"Emma"}}]}')
+        self.assertEqual((found.exception.name, found.exception.cause), ('DOCUMENT', (5, 'FEATURE')))
+        self.assertEqual(found.exception.explained, ('roots[0].features: "titel" is no feature of Book',))
+
+    def test_without_a_program(self):
+        if ENGINE == 'program':
+            return
+        with mock.patch.dict(os.environ, {'MMREPO': '/none'}):
+            with self.assertRaises(MetamodelRefused) as found:
+                self.opened(self.file('meta.json', '{"classes":[{"nam":"A"}]}'))
+            self.assertEqual((found.exception.fault, found.exception.explained), ('2 LAYOUT', ()))
+            with self.assertRaises(Refused) as found:
+                self.opened().resource('http://m.example/a').load('{}')
+            self.assertEqual(found.exception.explained, ())
+
+    def test_lines(self):
+        book = self.opened().create('Book')
+        for call in (lambda: book.eSet('name', 'a\ud800'), lambda: book.eSet('name', 'x' * 16_777_217)):
+            with self.assertRaises(ValueError):
+                call()
+        book.name = 'a\nb\x00ü\U0001f600'
+        self.assertEqual(book.name, 'a\nb\x00ü\U0001f600')
+
+
+class Lists(LibraryTest):
+    """Reads of long lists."""
+
+    def test_places(self):
+        library, = self.made('Library')
+        with self.repo.batch() as batch:
+            books = [batch.create('Book', library=library) for _ in range(VALUES)]
+        began = time.perf_counter()
+        count = VALUES if self.repo._session.engine.list_value is not None else 20
+        self.assertTrue(all(library.books[place] is books[place] for place in range(count)))
+        self.assertEqual(len(library.books), VALUES)
+        self.assertLess(time.perf_counter() - began, SECONDS)
+        self.assertIs(library.books[-1], books[-1])
+        self.assertIs(library.books[-VALUES], books[0])
+        self.assertEqual(library.books[2:4], books[2:4])
+        for place in (VALUES, -VALUES - 1, 2**32, -2**40):
+            with self.assertRaises(IndexError):
+                library.books[place]
+
+    def test_values(self):
+        book, = self.made('Book')
+        book.tags.extend(['a b', '"', 'é'])
+        self.assertEqual([book.tags[place] for place in range(3)], ['a b', '"', 'é'])
+        self.assertEqual((len(book.tags), 'é' in book.tags, 'x' in book.tags), (3, True, False))
+        book.delete()
+        for call in (lambda: book.tags[0], lambda: len(book.tags)):
+            with self.refused(1, 'NO_OBJECT'):
+                call()
+
+    def test_resource(self):
+        town = self.repo.resource('http://m.example/a')
+        books = self.made('Book', 'Book')
+        town.contents.extend(books)
+        self.assertEqual((len(town.contents), town.contents[1], books[0] in town.contents), (2, books[1], True))
+
+    def test_long_document(self):
+        """A document of more bytes than a line has is saved and loaded again."""
+        town, copy = self.repo.resource('http://m.example/a'), self.repo.resource('http://m.example/b')
+        with self.repo.batch() as batch:
+            for _ in range(300):
+                batch.append(town.contents, batch.create('Book', name='x' * 60_000))
+        text = town.save()
+        self.assertGreater(len(text), 16_777_216)
+        self.assertEqual(len(json.loads(text)['roots']), 300)
+        if self.repo._session.engine.load is None:
+            with self.assertRaises(ValueError):
+                copy.load(text)
+        else:
+            self.assertEqual(copy.load(text), 300)
+            self.assertEqual(copy.save(), text)
+
+
+class Files(ClientTest):
+    """The package that is tested is the one that is installed."""
+
+    def test_package(self):
+        import mmrepo
+        self.assertEqual(Path(mmrepo.__file__).parent, CLIENT / 'mmrepo')
