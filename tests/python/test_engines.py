@@ -111,6 +111,10 @@ class Lists(LibraryTest):
         self.assertIs(library.books[-1], books[-1])
         self.assertIs(library.books[-VALUES], books[0])
         self.assertEqual(library.books[2:4], books[2:4])
+        self.assertTrue(all(book in library.books for book in books[:50]))
+        other = self.repo.create('Book')
+        for absent in (other, library, None, 3, '#1', self.opened().create('Book')):
+            self.assertNotIn(absent, library.books)
         for place in (VALUES, -VALUES - 1, 2**32, -2**40):
             with self.assertRaises(IndexError):
                 library.books[place]
@@ -124,6 +128,12 @@ class Lists(LibraryTest):
         for call in (lambda: book.tags[0], lambda: len(book.tags)):
             with self.refused(1, 'NO_OBJECT'):
                 call()
+
+    def test_proxies(self):
+        town, book = self.repo.resource('http://m.example/a'), self.repo.create('Book')
+        town.load('{"format":2,"roots":[{"class":"Person","features":{"likes":["b#/0","/1"]}},{"class":"Book","features":{}}]}')
+        person, liked = town.contents
+        self.assertEqual((liked in person.likes, book in person.likes, person.likes[0] in person.likes), (True, False, True))
 
     def test_resource(self):
         town = self.repo.resource('http://m.example/a')

@@ -5,7 +5,7 @@ from __future__ import annotations
 import operator
 from typing import TYPE_CHECKING, Any, Iterable, Iterator, List, Optional, Sequence, TypeVar, Union, overload
 
-from .metamodel import EStructuralFeature
+from .metamodel import EAttribute, EStructuralFeature
 from .values import LONGEST_NUMBER, place_word
 
 if TYPE_CHECKING:
@@ -57,7 +57,14 @@ class FeatureList(Sequence[T]):
         return reversed(self._values())
 
     def __contains__(self, value: object) -> bool:
-        return value in self._values()
+        word = getattr(value, '_word', None)
+        if word is None or isinstance(self._feature, EAttribute):
+            return value in self._values()
+        node = self._node
+        text = node._session.ask(f'get {node._word} {self._name}', str)
+        if '"' in text:  # of a proxy
+            return value in self._values()
+        return getattr(value, '_session', None) is node._session and word in text[1:-1].split(' ')
 
     @overload
     def __getitem__(self, place: int) -> T: ...
