@@ -120,7 +120,9 @@ class Opening(FolderTest):
         self.write('bad.json', '{"format":2,"roots":[{"class":"Book","features":{"titel":"x"}},{"class":"Boook","features":{}}]}')
         self.write('feature.json', '{"format":2,"roots":[{"class":"Book","features":{"titel":"x"}}]}')
         self.write('latin.json', b'{"format":2,"roots":[{"class":"Book","features":{"name":"\xe9"}}]}')
-        self.write('long.json', b' ' * 16_777_216)
+        is_short = self.repo._session.engine.load is None  # whether a document has to be a line
+        if is_short:
+            self.write('long.json', b' ' * 16_777_216)
         self.write('lost.json', '{"format":2,"roots":[{"class":"Person","features":{"likes":["nope.json#/","bad.json#/","town.json#/",'
                    '"town.json#//@books.7","http://m.example/x#/","town.json#//@books.0","town.json#/0/@books.0"],"favourite":"/1"}},'
                    '{"class":"Book","features":{"next":"town.json#//@books.1"}}]}')
@@ -130,7 +132,7 @@ class Opening(FolderTest):
             'bad.json: roots[1]: "Boook" is no class; is "Book" meant?',
             'feature.json: roots[0].features: "titel" is no feature of Book',
             'latin.json: from byte 58 on the document is no JSON: it is not UTF-8',
-            'long.json: it has 16777216 bytes; a document that is loaded has at most 16777204 (docs/FOLDERS.md)',
+            *['long.json: it has 16777216 bytes; a document that is loaded has at most 16777204 (docs/FOLDERS.md)'] * is_short,
             f'{likes}[0]: "nope.json#/" leads to no file of the folder',
             f'{likes}[1]: "bad.json#/" leads to bad.json, which is not loaded',
             f'{likes}[2]: "town.json#/" leads to a Library, and a Book is wanted',
@@ -140,7 +142,7 @@ class Opening(FolderTest):
             'lost.json: roots[1].features.next: "town.json#//@books.1" does not name it back: its prev lacks "lost.json#/1"',
         ])
         self.assertEqual([it.kind for it in folder.findings], [
-            'CLASS', 'FEATURE', 'SYNTAX', 'LONG', 'UNLOADED', 'UNREAD', 'TYPE', 'UNRESOLVED', 'OUTSIDE', 'DUPLICATE', 'UNMATCHED',
+            'CLASS', 'FEATURE', 'SYNTAX', *['LONG'] * is_short, 'UNLOADED', 'UNREAD', 'TYPE', 'UNRESOLVED', 'OUTSIDE', 'DUPLICATE', 'UNMATCHED',
         ])
         self.assertEqual([it.path.name for it in folder.resources], ['alone.json', 'lost.json', 'b.json', 'town.json'])
 
@@ -365,13 +367,14 @@ class Saving(FolderTest):
         self.assertEqual(self.opened().save_all(), [])
 
     def test_a_long_document(self):
-        """It is written, and is not read again by a line."""
+        """It is written, and is read again in the process, but not by a line."""
         for index in range(280):
             self.library.books.append(self.repo.create('Book'))
             self.library.books[-1].name = str(index) + 'x' * 60_000
         self.assertEqual(self.repo.save_all(), [self.top / 'town.json'])
         with self.opened() as other:
-            self.assertEqual([it.kind for it in other.open(self.top).findings], ['UNREAD', 'UNREAD', 'UNREAD', 'LONG'])
+            found = [it.kind for it in other.open(self.top).findings]
+            self.assertEqual(found, ['UNREAD', 'UNREAD', 'UNREAD', 'LONG'] if other._session.engine.load is None else [])
 
 
 class Uris(LibraryTest):

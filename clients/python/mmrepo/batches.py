@@ -2,6 +2,7 @@
 
 from __future__ import annotations
 
+import gc
 from types import TracebackType
 from typing import TYPE_CHECKING, Any, List, Optional, Tuple, Type, Union
 
@@ -105,11 +106,14 @@ class Batch:
 
         If an object is not made, its Refused is raised, and nothing else is sent.
         """
-        calls = self._calls
+        calls, is_collecting = self._calls, gc.isenabled()
+        gc.disable()  # what is made here stays, and looking through it again and again takes as long as all else
         try:
             self._session.make(self._objects)
             outcomes = self._session.outcomes(self._lines())
         finally:
+            if is_collecting:
+                gc.enable()
             self._objects, self._calls = [], []
             self._verbs, self._nodes, self._tails = [], [], []
         self.answers = [outcomes[it] if isinstance(it, int) else it for it in calls]

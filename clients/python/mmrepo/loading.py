@@ -70,7 +70,7 @@ class Loader:
         except OSError as error:
             raise _NotLoaded(Finding(name, 'FILE', '', reason(error))) from None
         document, notes = self._converted(name, content) if self.is_xmi(name) else (content, [])
-        if len(document) > LONGEST_LINE - COMMAND:
+        if len(document) > LONGEST_LINE - COMMAND and self.repo._session.engine.load is None:
             raise _NotLoaded(Finding(name, 'LONG', '', TOO_LONG % len(document)))
         try:
             text = document.decode('utf-8')
