@@ -66,7 +66,7 @@ class Engine:
             raise error()
 
         self.is_shut = True
-        self.exchange = refused  # type: ignore[method-assign]
+        self.exchange = refused  # type: ignore
         if self.load is not None:
             self.list_length = self.list_value = self.load = refused
 

@@ -151,7 +151,7 @@ class InProcess(Engine):
         status = self._session.open(document)
         if status != OK:
             raise self._refusal(metamodel, status)
-        self.exchange = self._session.line  # type: ignore[method-assign]
+        self.exchange = self._session.line  # type: ignore
         if library.has_calls:
             self.list_length, self.list_value, self.load = self._session.list_length, self._session.list_value, self._session.load
 

@@ -35,7 +35,7 @@ class Node:
 
 
 # A slot is set by its own function, since an object takes each attribute for a feature.
-_keep_session, _keep_word = Node._session.__set__, Node._word.__set__  # type: ignore[attr-defined]
+_keep_session, _keep_word = Node._session.__set__, Node._word.__set__  # type: ignore[attr-defined,misc]
 
 
 class EObject(Node):
@@ -215,7 +215,7 @@ class EObject(Node):
         return f'<{"EObject" if self._class is None else self._class.name} {self._word}>'
 
 
-_keep_class = EObject._class.__set__  # type: ignore[union-attr]
+_keep_class = EObject._class.__set__  # type: ignore[union-attr,misc]
 
 
 def new_object(session: Session, word: str, eclass: Optional[EClass]) -> EObject:

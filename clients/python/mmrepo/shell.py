@@ -13,6 +13,7 @@ from .drawing import LINES, Drawing, text_of
 from .errors import MmrepoError, NotSaved, NotStarted
 from .folders import Folder
 from .loading import XMI_FILES
+from .process import program_file
 from .repository import Repository
 from .uris import BASE
 
@@ -142,7 +143,7 @@ def main(words: argparse.Namespace) -> int:
     sys.stdout.reconfigure(errors='backslashreplace')
     sys.stderr.reconfigure(errors='backslashreplace')
     try:
-        repo = Repository(words.metamodel)
+        repo = Repository(words.metamodel, _program())
         folder = repo.open(words.path, words.base, words.ecore, False, words.suffix or XMI_FILES) if words.path else None
         lines = _lines_of(words.script) if words.script else None
     except (OSError, ValueError, MmrepoError) as error:
@@ -157,12 +158,20 @@ def main(words: argparse.Namespace) -> int:
             _run_prompt(shell, repo)
         repo.close()
     except KeyboardInterrupt:
-        print('error: interrupted in the middle of an answer: the program is ended', file=sys.stderr)
+        print('error: interrupted', file=sys.stderr)
         return ENDED
     except (MmrepoError, NotStarted) as error:
         print(f'error: {error}', file=sys.stderr)
         return ENDED
     return 0
+
+
+def _program() -> Optional[str]:
+    """The program, which explains lines that are wrong; None if there is the library alone."""
+    try:
+        return program_file(None)
+    except NotStarted:
+        return None
 
 
 def _lines_of(file: str) -> Iterator[str]:
@@ -202,14 +211,12 @@ def _run_prompt(shell: Shell, repo: Repository) -> None:
     try:
         while not shell.is_over:
             try:
-                line = input('> ') if is_terminal else _next_line()
+                shell.answer(input('> ') if is_terminal else _next_line())
             except EOFError:
                 shell.end()
                 break
             except KeyboardInterrupt:
-                print()  # what was typed is thrown away
-                continue
-            shell.answer(line)
+                print()  # what was typed is thrown away; a line that was given is answered
     finally:
         remember()
 

@@ -3,6 +3,7 @@
 from __future__ import annotations
 
 import argparse
+import builtins
 import keyword
 import sys
 from typing import Iterator, List
@@ -50,7 +51,7 @@ def stubs(metamodel: Metamodel) -> Iterator[str]:
 
 def _type(name: str) -> str:
     """The name of a class or an enumeration in the stubs."""
-    taken = keyword.iskeyword(name) or name in ('Repository', 'EObject', 'FeatureList', 'Proxy', 'mmrepo') or hasattr(__builtins__, name)
+    taken = keyword.iskeyword(name) or name in ('Repository', 'EObject', 'FeatureList', 'Proxy', 'mmrepo') or hasattr(builtins, name)
     return f'{name}_' if taken else name
 
 
