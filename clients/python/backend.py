@@ -32,9 +32,10 @@ def project() -> Project:
 
 
 def modules() -> Dict[str, bytes]:
-    """The files of the package, by their names in a wheel."""
-    names = sorted(it for it in (HERE / 'mmrepo').iterdir() if it.suffix == '.py' or it.name == 'py.typed')
-    return {f'mmrepo/{it.name}': it.read_bytes() for it in names}
+    """The files of the package, by their names in a wheel. What is built of C, and a program, are not among them."""
+    top = HERE / 'mmrepo'
+    files = sorted(it for it in top.rglob('*') if it.is_file() and it.suffix not in ('.pyc', '.so') and it.parent != top / 'bin')
+    return {it.relative_to(HERE).as_posix(): it.read_bytes() for it in files}
 
 
 def metadata(notes: str = '') -> str:

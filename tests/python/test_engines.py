@@ -45,6 +45,12 @@ class Choice(ClientTest):
         with self.assertRaises(NotStarted):
             self.engine(None, self.file('library.so', 'no library'))
 
+    def test_a_library_of_another_system(self):
+        with mock.patch('mmrepo.engines._beside', lambda: str(self.file('libmmrepo.so', 'of another system'))):
+            self.assertEqual(self.engine(), 'program')
+            with self.assertRaises(NotStarted):
+                self.engine(MMREPO_ENGINE='ctypes')
+
     def test_a_library_that_is_given(self):
         if ENGINE == 'program':
             return

@@ -100,10 +100,15 @@ def start(metamodel: str, document: bytes, program: Optional[str], library: Opti
     if wanted not in (None, EXTENSION, CTYPES, PROGRAM):
         raise NotStarted(f'no engine {wanted}: {ENGINE} is {EXTENSION}, {CTYPES} or {PROGRAM}')
     if library or program is None and wanted != PROGRAM:
-        file = library or os.environ.get(LIBRARY) or (None if LIBRARY in os.environ else _beside())
+        named = library or os.environ.get(LIBRARY)
+        file = named or (None if LIBRARY in os.environ else _beside())
         if file is not None:
-            return InProcess(file, metamodel, document, wanted)
-        if wanted is not None:
+            try:
+                return InProcess(file, metamodel, document, wanted)
+            except NotStarted:
+                if named or wanted is not None:
+                    raise  # the one beside the package may be of another system, and then the program is taken
+        elif wanted is not None:
             raise NotStarted(f'no library: name it by library= or by {LIBRARY} in the environment')
     return Program(program_file(program), metamodel)
 
