@@ -1,4 +1,4 @@
-"""Faults: of a metamodel, of a callable, and of a program that dies or answers nonsense. After the last two the process is ended."""
+"""Faults: of a metamodel, of a callable, and of a program that dies or answers nonsense. After the last the process is ended."""
 
 import os
 import pickle

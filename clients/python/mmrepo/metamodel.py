@@ -144,7 +144,7 @@ class Metamodel:
     """The classes and enumerations of a document, by name, each in the order of the document."""
 
     def __init__(self, document: bytes) -> None:
-        """Reads a document that the program accepted."""
+        """Reads a document that the engine accepted."""
         read = json.loads(document)
         self.enums: Dict[str, EEnum] = {it['name']: EEnum(it['name'], it['literals']) for it in read.get('enums', [])}
         self.classes: Dict[str, EClass] = {

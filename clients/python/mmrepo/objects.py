@@ -19,7 +19,7 @@ NOT_COPIED = 'it is a part of a repository: `copy` of a repository copies an obj
 
 
 class Node:
-    """An object or a resource. It is known by its number; all that it has is asked of the program."""
+    """An object or a resource. It is known by its number; all that it has is asked of the engine."""
 
     __slots__ = ('_session', '_word', '__weakref__')
     _session: Session

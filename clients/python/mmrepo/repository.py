@@ -1,4 +1,4 @@
-"""A repository: what a program has in its live mode."""
+"""A repository: what a session of the library, or a program in its live mode, has."""
 
 from __future__ import annotations
 
@@ -31,7 +31,7 @@ class Resolved(NamedTuple):
 
 
 class Repository:
-    """Objects of a metamodel, in a process of the program. It is for one thread, and lives until it is closed.
+    """Objects of a metamodel. It is for the thread that opens it, and lives until it is closed.
 
     Each call is a command of docs/SCRIPT.md. A command that is refused raises a Refused, and has changed nothing.
     """
@@ -168,7 +168,7 @@ class Repository:
         one of the nodes below it, after the command that told them.
 
         A callable may give commands; the notices of a command that it gives are handed out after those that wait. An error
-        in it ends the process, and raises a CallableFailed.
+        in it raises a CallableFailed, when all notices are handed out.
         """
         if not callable(hearer):
             raise TypeError(f'{hearer!r} is not callable')
@@ -176,7 +176,7 @@ class Repository:
         return self._session.attach(node, hearer, depth(deep))
 
     def close(self) -> None:
-        """Ends the process. Nothing is told; further calls raise a RepositoryClosed, but a further `close` does nothing.
+        """Ends its engine. Nothing is told; further calls raise a RepositoryClosed, but a further `close` does nothing.
 
         A ProgramEnded comes if the program ends with another status than 0.
         """
@@ -192,7 +192,7 @@ class Repository:
     def __exit__(
         self, kind: Optional[Type[BaseException]], error: Optional[BaseException], trace: Optional[TracebackType]
     ) -> None:
-        """Closes it. After an error the process is ended at once, and the error stays the one that is raised."""
+        """Closes it. After an error it is ended at once, and the error stays the one that is raised."""
         if kind is None:
             self.close()
         else:
