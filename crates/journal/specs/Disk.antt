@@ -1,0 +1,47 @@
+-- What the calls of a disk make of its file, and what a crash may leave of it.
+use Rattle.std.specs.Prelude.{◌<◌, ◌≡◌, ◌⊎◌, ℕ, ◌+◌, ◌≤◌, max, List, ◌++◌, length, take, drop, Result, IsErrOf}
+use Rattle.journal.specs.declared.disk.DiskFault.{DiskFault}
+use Rattle.journal.specs.declared.disk.DiskFault.TheVariants.{Failed, Full}
+
+-- These bytes took the place of those from an offset on, and more at the end of the file if they reach beyond it.
+abbrev pub Overwrites : ℕ → List ℕ → List ℕ → List ℕ → Type 0
+Overwrites at bytes old new = new ≡ take at old ++ bytes ++ drop (at + length bytes) old
+
+-- A write of `n` bytes at an offset was cut short. Nothing is known of the bytes of that range, nor of how far the file grew.
+pub record Torn (at n : ℕ) (old new : List ℕ) : Type 0 where
+  pub front : take at new ≡ take at old
+  pub back : drop (at + n) new ≡ drop (at + n) old
+  pub at_least : length old ≤ length new
+  pub at_most : length new ≤ max (length old) (at + n)
+
+-- A cut to a length was cut short: the file lost some of what it was to lose.
+pub record PartlyCut (len : ℕ) (old new : List ℕ) : Type 0 where
+  pub at_least : len ≤ length new
+  pub front : take (length new) old ≡ new
+
+-- each file that may be left is one that might have been left before, after a step
+abbrev pub Follows : (List ℕ → List ℕ → Type 0) → (List ℕ → Type 0) → (List ℕ → Type 0) → Type 0
+Follows step old new = (c : List ℕ) → new c → (d : List ℕ) × old d × step d c
+
+-- nothing but these bytes may be left
+abbrev pub IsDurable : List ℕ → (List ℕ → Type 0) → Type 0
+IsDurable bytes may_leave = (c : List ℕ) → may_leave c → c ≡ bytes
+
+-- The clock of a disk moved on. What may have been left since a moment may have been left before, or it may be left now.
+pub record Elapses (before now : ℕ) (past since : ℕ → List ℕ → Type 0) (may_leave : List ℕ → Type 0) : Type 0 where
+  pub later : before ≤ now
+  pub no_other : (t : ℕ) (c : List ℕ) → t ≤ before → since t c → past t c ⊎ may_leave c
+  pub kept : (t : ℕ) (c : List ℕ) → t ≤ before → past t c → since t c
+
+-- From `old` to `new`, a crash at any moment leaves a file that has P. And what may have been left since a moment before `old` had been left
+-- by then, or it has P.
+pub record LeavesOnly {D : Type 0} (moment : D → ℕ) (left_since : D → ℕ → List ℕ → Type 0) (old new : D) (P : List ℕ → Type 0) : Type 0 where
+  pub later : moment old ≤ moment new
+  pub each : (c : List ℕ) → left_since new (moment old) c → P c
+  pub before : (t : ℕ) (c : List ℕ) → t ≤ moment old → left_since new t c → left_since old t c ⊎ P c
+
+-- `Failed` is returned only if the disk has failed, and `Full` never.
+pub record HasCause {T : Type 0} (before now : ℕ) (result : Result T DiskFault) : Type 0 where
+  pub later : before ≤ now
+  pub failed : IsErrOf result Failed → before < now
+  pub not_full : IsErrOf result Full → ⊥

@@ -1,0 +1,66 @@
+-- The lines that a file stands for, whatever a crash left of it.
+use Rattle.std.specs.Prelude.{◌≡◌, ◌≢◌, ◌<◌, ℕ, List, [], ◌∷◌, ◌++◌, length, Option, Some, None, if◌then◌else◌, ◌==◌}
+use Rattle.std.specs.Borrow.{Bor}
+use Rattle.std.specs.List.{All}
+use Rattle.journal.specs.declared.entries.TheConstants.{MARK, NEWLINE}
+
+-- a byte is put before the first line, if there is a line
+abbrev pub with_byte : ℕ → List (List ℕ) → List (List ℕ)
+with_byte c [] = []
+with_byte c (l ∷ ls) = (c ∷ l) ∷ ls
+
+-- the lines that a newline ends, each without it
+abbrev pub ended : List ℕ → List (List ℕ)
+ended [] = []
+ended (c ∷ cs) = if c == NEWLINE then [] ∷ ended cs else with_byte c (ended cs)
+
+-- the lines before the first that does not begin with the mark, each without its mark
+abbrev pub marked : List (List ℕ) → List (List ℕ)
+marked [] = []
+marked ([] ∷ ls) = []
+marked ((c ∷ l) ∷ ls) = if c == MARK then l ∷ marked ls else []
+
+-- the lines that a file stands for
+abbrev pub recovered : List ℕ → List (List ℕ)
+recovered file = marked (ended file)
+
+abbrev pub IsLine : List ℕ → Type 0
+IsLine l = All (λ c. c ≢ NEWLINE) l
+
+-- a line as a file has it
+abbrev pub entry : List ℕ → List ℕ
+entry l = MARK ∷ l ++ NEWLINE ∷ []
+
+abbrev pub entries : List (List ℕ) → List ℕ
+entries [] = []
+entries (l ∷ ls) = MARK ∷ l ++ NEWLINE ∷ entries ls
+
+-- the entries of some lines, and the newline of an empty line, which has no mark
+abbrev pub at_rest : List (List ℕ) → List ℕ
+at_rest ls = entries ls ++ NEWLINE ∷ []
+
+-- the bytes are the entries of some lines
+abbrev pub AreEntries : List ℕ → Type 0
+AreEntries bytes = bytes ≡ entries (recovered bytes)
+
+-- Some bytes are a line, its newline, and a rest.
+pub record IsCut (bytes line rest : List ℕ) : Type 0 where
+  pub bytes_are : bytes ≡ line ++ NEWLINE ∷ rest
+  pub in_line : IsLine line
+
+-- the first line and the rest are returned, or nothing if no newline ends a line
+abbrev pub CutsLine : Option (Bor (List ℕ) × Bor (List ℕ)) → List ℕ → Type 0
+CutsLine None bytes = ended bytes ≡ []
+CutsLine (Some p) bytes = IsCut bytes p.0.now p.1.now
+
+-- Some bytes are the entry of a line, and a rest.
+pub record IsEntry (bytes line rest : List ℕ) : Type 0 where
+  pub bytes_are : bytes ≡ MARK ∷ line ++ NEWLINE ∷ rest
+  pub in_line : IsLine line
+  pub lines_are : recovered bytes ≡ line ∷ recovered rest
+  pub shorter : length rest < length bytes
+
+-- the line of the first entry and the rest are returned, or nothing if the bytes stand for no line
+abbrev pub CutsEntry : Option (Bor (List ℕ) × Bor (List ℕ)) → List ℕ → Type 0
+CutsEntry None bytes = recovered bytes ≡ []
+CutsEntry (Some p) bytes = IsEntry bytes p.0.now p.1.now

@@ -1,0 +1,84 @@
+//! A file as a journal sees it: the bytes that it has, and what a crash may leave of it.
+ghost use Rattle.std.specs.Prelude.{◌≡◌, ◌≤◌, List, ℕ, length, take, OnOk};
+ghost use Rattle.journal.specs.declared.disk.DiskFault.TheVariants.{Memory};
+ghost use Rattle.journal.specs.Disk.{Elapses, Follows, HasCause, IsDurable, Overwrites, PartlyCut, Torn};
+
+use std::alloc::{AllocError, AllocFailed};
+
+/// Why a call of a journal, or of its disk, fails.
+#[derive(Clone, Copy, Debug, PartialEq, Eq)]
+pub enum DiskFault {
+    /// Memory was refused.
+    Memory,
+    /// A call of the system failed.
+    Failed,
+    /// The file is as long as it may be.
+    Full,
+}
+
+impl From<AllocError> for DiskFault {
+    ghost from_gives = { λ _ fault. fault ≡ Memory };
+
+    fn from(_error: AllocError) -> Self {
+        DiskFault::Memory
+    }
+}
+
+impl<T: Drop> From<AllocFailed<T>> for DiskFault {
+    ghost from_gives = { λ _ fault. fault ≡ Memory };
+
+    fn from(_error: AllocFailed<T>) -> Self {
+        DiskFault::Memory
+    }
+}
+
+/// A file that is written, cut and synced. A call that fails leaves the file in doubt: it is to be opened again.
+///
+/// The clauses speak of a crash at each moment, between two calls or inside one. Until a sync, a crash may leave any bytes in the range of a
+/// write, and any length from that of a cut on.
+pub trait Disk {
+    /// The bytes of the file, as a program reads them that asks now.
+    ghost seen: { Self → List ℕ };
+
+    /// A crash now may leave a file of these bytes.
+    ghost may_leave: { Self → List ℕ → Type 0 };
+
+    /// The number of a moment. It never falls.
+    ghost moment: { Self → ℕ };
+
+    /// A crash at that moment or at one that followed might have left a file of these bytes.
+    ghost left_since: { Self → ℕ → List ℕ → Type 0 };
+
+    /// How many calls of the disk failed.
+    ghost faults: { Self → ℕ };
+
+    /// Writes bytes from an offset on, over those that the file has and beyond its end.
+    fn write_at(&mut self, at: usize, bytes: &[u8]) -> Result<(), DiskFault>
+        requires { at ≤ length (seen self.old) }
+        ensures written { OnOk result (Overwrites at bytes.now (seen self.old) (seen self.new)) }
+        ensures crash { Follows (Torn at (length bytes.now)) (may_leave self.old) (may_leave self.new) }
+        ensures time { Elapses (moment self.old) (moment self.new) (left_since self.old) (left_since self.new) (may_leave self.new) }
+        ensures cause { HasCause (faults self.old) (faults self.new) result };
+
+    /// Cuts the file to a length.
+    fn cut(&mut self, len: usize) -> Result<(), DiskFault>
+        requires { len ≤ length (seen self.old) }
+        ensures cut { OnOk result (seen self.new ≡ take len (seen self.old)) }
+        ensures crash { Follows (PartlyCut len) (may_leave self.old) (may_leave self.new) }
+        ensures time { Elapses (moment self.old) (moment self.new) (left_since self.old) (left_since self.new) (may_leave self.new) }
+        ensures cause { HasCause (faults self.old) (faults self.new) result };
+
+    /// Puts the file on the disk: from then on a crash leaves what the file has.
+    fn sync(&mut self) -> Result<(), DiskFault>
+        ensures durable { OnOk result (IsDurable (seen self.old) (may_leave self.new)) }
+        ensures seen { seen self.new ≡ seen self.old }
+        ensures crash { (c : List ℕ) → may_leave self.new c → may_leave self.old c }
+        ensures time { Elapses (moment self.old) (moment self.new) (left_since self.old) (left_since self.new) (may_leave self.new) }
+        ensures cause { HasCause (faults self.old) (faults self.new) result };
+
+    /// What a crash now may leave, it may have left since any moment up to now.
+    ghost counts_now: { (file : Self) (t : ℕ) (c : List ℕ) → t ≤ moment file → may_leave file c → left_since file t c };
+
+    /// Since this moment, only what a crash now may leave.
+    ghost only_now: { (file : Self) (c : List ℕ) → left_since file (moment file) c → may_leave file c };
+}

@@ -1,0 +1,56 @@
+//! The entry of a line in a file: a mark, the line, and a newline.
+ghost use Rattle.std.specs.Prelude.{◌≡◌, ◌++◌, [], ◌∷◌, drop, length, take, OnOk, OnErr};
+ghost use Rattle.journal.specs.Lines.{CutsEntry, CutsLine, entries, entry, recovered};
+
+use memchr::memchr;
+use std::alloc::AllocError;
+
+/// The first byte of an entry. A line without it does not count.
+pub(crate) const MARK: u8 = b' ';
+
+/// The last byte of an entry.
+pub(crate) const NEWLINE: u8 = b'\n';
+
+/// The bytes before the first newline, and those after it. Without a newline there is no line.
+fn cut_line(bytes: &[u8]) -> Option<(&[u8], &[u8])>
+    ensures { CutsLine result bytes.now }
+{
+    match memchr(NEWLINE, bytes) {
+        Some(n) => Some((&bytes[..n], &bytes[n + 1..])),
+        None => None,
+    }
+}
+
+/// The first line that the bytes of a file stand for, and the bytes after its entry. `None` if they stand for no line.
+pub fn next_entry(bytes: &[u8]) -> Option<(&[u8], &[u8])>
+    ensures { CutsEntry result bytes.now }
+{
+    match bytes {
+        [MARK, rest @ ..] => cut_line(rest),
+        _ => None,
+    }
+}
+
+/// How many bytes the entries have that a file begins with.
+pub(crate) fn entries_len(bytes: &[u8]) -> usize
+    ensures split { bytes.now ≡ entries (recovered bytes.now) ++ drop result bytes.now }
+    ensures len { result ≡ length (entries (recovered bytes.now)) }
+    ensures rest { recovered (drop result bytes.now) ≡ [] }
+{
+    let mut rest = bytes;
+    'entries: while let Some((_, more)) = next_entry(rest) {
+        rest = more;
+    }
+    bytes.len() - rest.len()
+}
+
+/// Appends the entry of a line. If memory is refused, a front of the entry may have been appended.
+pub(crate) fn put_entry(pending: &mut Vec<u8>, line: &[u8]) -> Result<(), AllocError>
+    ensures ok { OnOk result (pending.new.items ≡ pending.old.items ++ entry line.now) }
+    ensures err { OnErr result (take (length pending.old.items) pending.new.items ≡ pending.old.items) }
+{
+    pending.push(MARK)?;
+    pending.extend_from_slice(line)?;
+    pending.push(NEWLINE)?;
+    Ok(())
+}

@@ -1,0 +1,175 @@
+//! Lines are noted, and then committed. A line is acknowledged when it is committed: from then on a crash at any moment leaves a file that
+//! has it.
+ghost use Rattle.std.specs.Prelude.{◌≡◌, ◌<◌, ◌≤◌, ◌^◌, ◌++◌, [], ◌∷◌, drop, length, true, IfErr, IfOk, IsErrOf, OnErr, OnOk};
+ghost use Rattle.journal.specs.Disk.{IsDurable, LeavesOnly};
+ghost use Rattle.journal.specs.Journal.{IsBeforeOrAfter, IsSettled, StandsFor, disk_of, kept, noted};
+ghost use Rattle.journal.specs.Lines.{IsLine, at_rest, entries, recovered};
+
+use crate::disk::{Disk, DiskFault};
+use crate::entries::{MARK, NEWLINE, entries_len, put_entry};
+use std::alloc::{AllocError, Global};
+
+/// A file whose entries have this many bytes gets no more.
+const MAX_BYTES: usize = 1 << 62;
+
+/// A file of lines, and the lines that were noted since the last commit.
+#[derive(Drop)]
+pub struct Journal<D: Disk> {
+    disk: D,
+    /// How many bytes the entries of the file have.
+    end: usize,
+    /// The entries of the lines that were noted.
+    pending: Vec<u8>,
+}
+
+/// Puts a text of entries after those of a file: first all of it but its first mark, and the mark when that is on the disk.
+fn append<D: Disk>(disk: &mut D, end: usize, text: &[u8]) -> Result<(), DiskFault>
+    requires file { D.seen disk.old ≡ at_rest (recovered (D.seen disk.old)) }
+    requires end { end ≡ length (entries (recovered (D.seen disk.old))) }
+    requires durable { IsDurable (D.seen disk.old) (D.may_leave disk.old) }
+    requires room { end < 2 ^ 62 }
+    requires text { text.now ≡ at_rest (recovered text.now) }
+    requires some { 1 < length text.now }
+    ensures written { OnOk result (D.seen disk.new ≡ at_rest (recovered (D.seen disk.old) ++ recovered text.now)) }
+    ensures durable { OnOk result (IsDurable (D.seen disk.new) (D.may_leave disk.new)) }
+    ensures any_moment { LeavesOnly D.moment D.left_since disk.old disk.new
+        (IsBeforeOrAfter (recovered (D.seen disk.old)) (recovered text.now)) }
+    ensures failed { IsErrOf result DiskFault.Failed → D.faults disk.old < D.faults disk.new }
+    ensures full { IsErrOf result DiskFault.Full → ⊥ }
+{
+    disk.write_at(end + 1, &text[1..])?;
+    // A torn write may leave whole lines that nobody sent, so the mark that makes them count is written when the text can't be torn any more.
+    disk.sync()?;
+    disk.write_at(end, &[MARK])?;
+    disk.sync()
+}
+
+/// Cuts off what a file has after its entries, and ends it with an empty line.
+fn repair<D: Disk>(disk: &mut D, end: usize) -> Result<(), DiskFault>
+    requires split { D.seen disk.old ≡ entries (recovered (D.seen disk.old)) ++ drop end (D.seen disk.old) }
+    requires end { end ≡ length (entries (recovered (D.seen disk.old))) }
+    requires rest { recovered (drop end (D.seen disk.old)) ≡ [] }
+    requires durable { IsDurable (D.seen disk.old) (D.may_leave disk.old) }
+    ensures at_rest { OnOk result (D.seen disk.new ≡ at_rest (recovered (D.seen disk.old))) }
+    ensures durable { OnOk result (IsDurable (D.seen disk.new) (D.may_leave disk.new)) }
+    ensures any_moment { LeavesOnly D.moment D.left_since disk.old disk.new (StandsFor (recovered (D.seen disk.old))) }
+    ensures failed { IsErrOf result DiskFault.Failed → D.faults disk.old < D.faults disk.new }
+    ensures full { IsErrOf result DiskFault.Full → ⊥ }
+{
+    disk.cut(end)?;
+    // If the newline were torn into a mark, the lines after it would count: so they have to be gone from the disk by then.
+    disk.sync()?;
+    disk.write_at(end, &[NEWLINE])?;
+    disk.sync()
+}
+
+/// Whether the bytes from an offset on are a newline and no more.
+fn is_ended(bytes: &[u8], end: usize) -> bool
+    requires { end ≤ length bytes.now }
+    ensures { result ≡ true → drop end bytes.now ≡ NEWLINE ∷ [] }
+{
+    bytes.len() - end == 1 && bytes[end] == NEWLINE
+}
+
+/// Repairs the end of a file that has these bytes. A file that needs no repair is not written.
+fn settle<D: Disk>(disk: &mut D, bytes: &[u8], end: usize) -> Result<(), DiskFault>
+    requires bytes { D.seen disk.old ≡ bytes.now }
+    requires split { bytes.now ≡ entries (recovered bytes.now) ++ drop end bytes.now }
+    requires end { end ≡ length (entries (recovered bytes.now)) }
+    requires rest { recovered (drop end bytes.now) ≡ [] }
+    requires durable { IsDurable (D.seen disk.old) (D.may_leave disk.old) }
+    ensures at_rest { OnOk result (D.seen disk.new ≡ at_rest (recovered bytes.now)) }
+    ensures durable { OnOk result (IsDurable (D.seen disk.new) (D.may_leave disk.new)) }
+    ensures any_moment { LeavesOnly D.moment D.left_since disk.old disk.new (StandsFor (recovered bytes.now)) }
+    ensures failed { IsErrOf result DiskFault.Failed → D.faults disk.old < D.faults disk.new }
+    ensures full { IsErrOf result DiskFault.Full → ⊥ }
+{
+    if is_ended(bytes, end) {
+        return Ok(());
+    }
+    repair(disk, end)
+}
+
+/// Opens the journal in a file that has these bytes: any bytes, and so whatever a crash left. The file keeps the lines that it stands for, and
+/// what it has after them is cut off. An empty file stands for no line.
+///
+/// Errs with `Failed` if the disk fails. An error returns the disk too; a crash at any moment of the call leaves the same lines.
+pub fn open<D: Disk>(alloc: Global, mut disk: D, bytes: &[u8]) -> Result<Journal<D>, (DiskFault, D)>
+    requires bytes { D.seen disk ≡ bytes.now }
+    // After a restart, what is read is what is on the disk.
+    requires durable { IsDurable (D.seen disk) (D.may_leave disk) }
+    ensures settled { IfOk result (λ journal. IsSettled D.seen D.may_leave journal) }
+    ensures kept { IfOk result (λ journal. kept D.seen journal ≡ recovered bytes.now) }
+    ensures noted { IfOk result (λ journal. noted journal ≡ []) }
+    ensures any_moment { IfOk result (λ journal. LeavesOnly D.moment D.left_since disk (disk_of journal) (StandsFor (recovered bytes.now))) }
+    ensures any_moment_err { IfErr result (λ e. LeavesOnly D.moment D.left_since disk e.1 (StandsFor (recovered bytes.now))) }
+    ensures failed { IfErr result (λ e. e.0 ≡ DiskFault.Failed → D.faults disk < D.faults e.1) }
+    ensures full { IfErr result (λ e. e.0 ≡ DiskFault.Full → ⊥) }
+{
+    let end = entries_len(bytes);
+    if let Err(fault) = settle(&mut disk, bytes, end) {
+        return Err((fault, disk));
+    }
+    Ok(Journal {
+        disk,
+        end,
+        pending: Vec::new(alloc),
+    })
+}
+
+impl<D: Disk> Journal<D> {
+    /// Notes a line for the next commit. If memory is refused, nothing is noted.
+    pub fn note(&mut self, line: &[u8]) -> Result<(), AllocError>
+        requires line { IsLine line.now }
+        requires settled { IsSettled D.seen D.may_leave self.old }
+        ensures settled { IsSettled D.seen D.may_leave self.new }
+        ensures ok { OnOk result (noted self.new ≡ noted self.old ++ line.now ∷ []) }
+        ensures err { OnErr result (noted self.new ≡ noted self.old) }
+        ensures disk { disk_of self.new ≡ disk_of self.old }
+    {
+        let len = self.pending.len();
+        match put_entry(&mut self.pending, line) {
+            Ok(()) => Ok(()),
+            Err(error) => {
+                self.pending.truncate(len);
+                Err(error)
+            }
+        }
+    }
+
+    /// Puts the lines that were noted on the disk, all of them or none. `Ok` acknowledges them: from then on a crash leaves a file that has
+    /// them. After an error the file is to be opened again.
+    ///
+    /// Errs with `Failed` if the disk fails, and with `Full` if the entries of the file have 2^62 bytes.
+    pub fn commit(&mut self) -> Result<(), DiskFault>
+        requires { IsSettled D.seen D.may_leave self.old }
+        ensures settled { OnOk result (IsSettled D.seen D.may_leave self.new) }
+        ensures kept { OnOk result (kept D.seen self.new ≡ kept D.seen self.old ++ noted self.old) }
+        ensures noted { OnOk result (noted self.new ≡ []) }
+        // A crash at any moment leaves the lines from before the call, alone or with all that were noted.
+        ensures any_moment { LeavesOnly D.moment D.left_since (disk_of self.old) (disk_of self.new)
+            (IsBeforeOrAfter (kept D.seen self.old) (noted self.old)) }
+        // An error is never its own.
+        ensures failed { IsErrOf result DiskFault.Failed → D.faults (disk_of self.old) < D.faults (disk_of self.new) }
+        ensures full { IsErrOf result DiskFault.Full → 2 ^ 62 ≤ length (entries (kept D.seen self.old)) }
+    {
+        if self.pending.is_empty() {
+            return Ok(());
+        }
+        if self.end >= MAX_BYTES {
+            return Err(DiskFault::Full);
+        }
+        self.pending.push(NEWLINE)?;
+        append(&mut self.disk, self.end, &self.pending)?;
+        self.end += self.pending.len() - 1;
+        self.pending.clear();
+        Ok(())
+    }
+
+    /// The disk of the journal. Lines that were noted and not committed are lost.
+    pub fn into_disk(self) -> D
+        ensures { result ≡ disk_of self }
+    {
+        self.disk
+    }
+}
