@@ -1,0 +1,15 @@
+-- A file of the system, by what was done to it.
+use Rattle.std.specs.Prelude.{Bool, true, false, List, Result, Ok, Err}
+use Rattle.journal.specs.declared.disk.DiskFault.{DiskFault}
+use Rattle.journal.specs.declared.disk.DiskFault.TheVariants.{Failed}
+use Rattle.file_disk.specs.Events.{Event}
+use Rattle.file_disk.specs.declared.file.FileDisk.{FileDisk}
+
+-- what was done to the file
+abbrev pub events_of : FileDisk → List Event
+events_of disk = disk.record.events
+
+-- what a call returns
+abbrev pub outcome_of : Bool → Result (Unit {0}) DiskFault
+outcome_of true = Ok tt
+outcome_of false = Err Failed

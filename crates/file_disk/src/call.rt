@@ -1,0 +1,14 @@
+//! The calls of the system on a file.
+
+/// A call of the system on a file, and whether it succeeded.
+#[derive(Clone, Copy)]
+pub enum Call<'a> {
+    /// The file was synced and then read: it has these bytes.
+    Opened(&'a [u8]),
+    /// Bytes were written from an offset on.
+    Written(usize, &'a [u8], bool),
+    /// The file was cut to a length.
+    Cut(usize, bool),
+    /// The file was synced.
+    Synced(bool),
+}

@@ -1,0 +1,35 @@
+//! What was asked of a file, as clauses read it.
+ghost use Rattle.std.specs.Prelude.{◌≡◌, List, [], ◌∷◌};
+ghost use Rattle.std.specs.Borrow.{ftrue};
+ghost use Rattle.std.specs.Coded.{coded_list};
+ghost use Rattle.file_disk.specs.Events.{Event, event_code};
+
+use crate::call::Call;
+use std::marker::Model;
+
+/// The calls that were made of a file, the newest first. Only clauses read them: a record has no bytes, and its methods do nothing.
+#[derive(Drop)]
+pub struct Record {
+    pub ghost events: { List Event } by { coded_list event_code },
+}
+
+impl Model for Record {
+    ghost also_owns = { λ _. ftrue };
+}
+
+impl Record {
+    ghost use Rattle.file_disk.specs.Calls.{event_of};
+
+    pub(crate) fn new() -> Record
+        ensures { result.events ≡ [] }
+    {
+        Record {}
+    }
+
+    /// The record with one more call.
+    pub(crate) fn with(&self, _call: &Call<'_>) -> Record
+        ensures { result.events ≡ event_of _call.now ∷ self.now.events }
+    {
+        Record {}
+    }
+}
