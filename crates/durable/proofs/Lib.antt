@@ -1,0 +1,4 @@
+mod DialogueLemmas
+mod InputLemmas
+mod RunLemmas
+mod TwinLemmas

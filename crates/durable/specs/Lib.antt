@@ -1,0 +1,4 @@
+pub mod Answered
+pub mod Outboxes
+pub mod Printed
+pub mod Waiting

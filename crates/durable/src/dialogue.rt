@@ -1,0 +1,68 @@
+//! Lines are run as they come in.
+ghost use Rattle.std.specs.Prelude.{◌≡◌, ◌<◌, [], true, false, length, OnErr, OnOk, OnSome};
+ghost use Rattle.std.specs.Io.Buffered.{reader_remaining};
+ghost use Rattle.std.specs.Io.KnownBytes.{IsAtEnd};
+ghost use Rattle.journal.specs.Disk.{LeavesOnly};
+ghost use Rattle.durable.specs.Answered.{EndsIn, LeavesIn, StopsIn};
+ghost use Rattle.durable.specs.Outboxes.{IsAtRest, disk_under, held_by, kept_by, noted_by, writer_of};
+
+use crate::outbox::Outbox;
+use crate::session::Session;
+use journal::Disk;
+use script_streams::{LineEnd, RunFault, read_line_waiting};
+use std::alloc::Global;
+use std::io::{BufReader, Read, Write};
+
+/// Whether no line was read: the input is at its end.
+fn is_over(end: LineEnd, line: &[u8]) -> bool
+    ensures none { result ≡ true → length line.now ≡ 0 }
+    ensures last { result ≡ true → end ≡ LineEnd.Input }
+    ensures some { result ≡ false → end ≡ LineEnd.Input → 0 < length line.now }
+{
+    match end {
+        LineEnd::Input => line.is_empty(),
+        LineEnd::Newline => false,
+    }
+}
+
+/// Runs the lines of an input in turn, and answers each: with what it prints, and an empty line. Before each read that may wait, the lines
+/// that are to be kept are put on the disk, and then their answers are written. So lines that come in together are put there together.
+///
+/// Errs with `Read` if a read errs, with `TooLong` if a line has more than `INPUT_BYTES` bytes or the input more than `u64::MAX - 1` lines,
+/// with `Journal` if the disk fails or the file is full, with `Write` if a write or a flush errs or a write takes no byte, and with `Memory`
+/// if memory is refused to the run itself.
+pub fn run_dialogue<R: Read, S: Session, D: Disk, W: Write>(
+    alloc: Global,
+    reader: &mut BufReader<R>,
+    session: &mut S,
+    outbox: &mut Outbox<D, W>,
+) -> Result<(), RunFault>
+    requires at_rest { IsAtRest D.seen D.may_leave outbox.old }
+    requires noted { noted_by outbox.old ≡ [] }
+    requires held { held_by outbox.old ≡ [] }
+    // All lines were run and answered, and those to be kept are on the disk.
+    ensures ok { OnOk result (EndsIn S.runs (reader_remaining R.remaining reader.old) session.old (kept_by D.seen outbox.old)
+        (W.contents (writer_of outbox.old)) (W.contents (writer_of outbox.new)) (kept_by D.seen outbox.new) session.new) }
+    ensures end { OnOk result (OnSome (reader_remaining R.remaining reader.old) (IsAtEnd (reader_remaining R.remaining reader.new))) }
+    ensures at_rest { OnOk result (IsAtRest D.seen D.may_leave outbox.new) }
+    // Whatever stops the run, and so also if each call fails because the machine does: what was answered is in each file that may be left.
+    ensures stopped { OnErr result (StopsIn S.runs (reader_remaining R.remaining reader.old) session.old (kept_by D.seen outbox.old)
+        (W.contents (writer_of outbox.old)) (W.contents (writer_of outbox.new)) (D.may_leave (disk_under outbox.new))) }
+    // A crash at any moment leaves the lines from before, and those to be kept of the first lines.
+    ensures any_moment { LeavesOnly D.moment D.left_since (disk_under outbox.old) (disk_under outbox.new)
+        (LeavesIn S.runs (reader_remaining R.remaining reader.old) session.old (kept_by D.seen outbox.old)) }
+{
+    let mut line = Vec::new(alloc);
+    let mut number = 0;
+    'lines: while number < u64::MAX {
+        let end = read_line_waiting(reader, outbox, &mut line)?;
+        let over = is_over(end, line.as_slice());
+        if over {
+            return outbox.settle();
+        }
+        outbox.take(session, line.as_slice())?;
+        outbox.settle_if_full()?;
+        number += 1;
+    }
+    Err(RunFault::TooLong)
+}

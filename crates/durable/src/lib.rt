@@ -1,0 +1,13 @@
+//! Lines are run, and a line is answered when the lines that are to be kept are on the disk.
+#![tactic(auto)]
+
+mod dialogue;
+pub mod laws;
+mod outbox;
+mod recovery;
+mod session;
+
+pub use dialogue::run_dialogue;
+pub use outbox::Outbox;
+pub use recovery::{ReplayFault, replay};
+pub use session::{Session, Turn, Twin};

@@ -1,0 +1,47 @@
+//! The lines of a journal are run again.
+ghost use Rattle.std.specs.Prelude.{◌≡◌, IsErrOf, OnOk};
+ghost use Rattle.journal.specs.Lines.{recovered};
+ghost use Rattle.durable.specs.Printed.{Refuses, RunsKept};
+ghost use Rattle.durable.specs.declared.recovery.ReplayFault.TheVariants.{Memory};
+
+use crate::session::Session;
+use journal::next_entry;
+use std::alloc::{AllocError, Global};
+
+/// Why the lines of a journal are not run again.
+#[derive(Clone, Copy, Debug, PartialEq, Eq)]
+pub enum ReplayFault {
+    /// Memory was refused.
+    Memory,
+    /// A line was not done: these are not the lines that a session of this kind kept.
+    Refused,
+}
+
+impl From<AllocError> for ReplayFault {
+    ghost from_gives = { λ _ fault. fault ≡ Memory };
+
+    fn from(_error: AllocError) -> Self {
+        ReplayFault::Memory
+    }
+}
+
+/// Runs the lines that the bytes of a file stand for, each of which must be done and be kept again.
+pub fn replay<S: Session>(alloc: Global, session: &mut S, file: &[u8]) -> Result<(), ReplayFault>
+    ensures ok { OnOk result (RunsKept S.runs session.old (recovered file.now) session.new) }
+    ensures refused { IsErrOf result ReplayFault.Refused → Refuses S.runs session.old (recovered file.now) }
+{
+    let mut text = Vec::new(alloc);
+    let mut rest = file;
+    'lines: while let Some((line, more)) = next_entry(rest) {
+        text.clear();
+        let turn = session.answer(line, &mut text)?;
+        if turn.is_lost() {
+            return Err(ReplayFault::Memory);
+        }
+        if !turn.is_kept() {
+            return Err(ReplayFault::Refused);
+        }
+        rest = more;
+    }
+    Ok(())
+}

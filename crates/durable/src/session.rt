@@ -1,0 +1,66 @@
+//! What runs lines.
+ghost use Rattle.std.specs.Prelude.{◌≡◌, true, false, List, ℕ, IfOk};
+ghost use Rattle.durable.specs.Printed.{AddsRun, Printed, is_kept as is_kept_turn, is_lost as is_lost_turn};
+
+use std::alloc::AllocError;
+
+/// An answer ends with an empty line.
+pub(crate) const NEWLINE: u8 = b'\n';
+
+/// How a line ended.
+#[derive(Clone, Copy, Debug, PartialEq, Eq)]
+pub enum Turn {
+    /// It was done, and is to be kept.
+    Kept,
+    /// It is not to be kept: it was refused or is bad, it only asks, or it concerns this session alone.
+    Other,
+    /// It was refused for memory.
+    Lost,
+}
+
+impl Turn {
+    pub(crate) fn is_kept(self) -> bool
+        ensures { result ≡ is_kept_turn self }
+    {
+        matches!(self, Turn::Kept)
+    }
+
+    pub(crate) fn is_lost(self) -> bool
+        ensures { result ≡ is_lost_turn self }
+    {
+        matches!(self, Turn::Lost)
+    }
+}
+
+/// Runs lines in turn.
+pub trait Session {
+    /// The session runs a line: what that prints and how it ends, and the session after it.
+    ghost runs: { Self → List ℕ → Printed → Self → Type 0 };
+
+    /// Runs a line, and appends what it prints to a text. Errs only if memory is refused for that.
+    fn answer(&mut self, line: &[u8], text: &mut Vec<u8>) -> Result<Turn, AllocError>
+        ensures { IfOk result (λ turn. AddsRun runs self.old line.now text.old.items text.new.items turn self.new) };
+}
+
+/// A session that comes back from the lines that were kept: a second session, its twin, runs these alone.
+pub trait Twin: Session {
+    /// The two are the same but for what concerns one session alone.
+    ghost alike: { Self → Self → Type 0 };
+
+    /// The session has nothing that concerns it alone.
+    ghost is_alone: { Self → Type 0 };
+
+    /// A line that is not to be kept changes nothing but what concerns its session alone.
+    ghost others: { (s t x : Self) (l : List ℕ) (p : Printed) → Self.Session.runs s l p t → is_kept_turn p.turn ≡ false → alike s x → alike t x };
+
+    /// A line that is kept does the same to both.
+    ghost kept: { (s t x y : Self) (l : List ℕ) (p q : Printed) → Self.Session.runs s l p t → is_kept_turn p.turn ≡ true → alike s x
+        → Self.Session.runs x l q y → is_kept_turn q.turn ≡ true → alike t y };
+
+    /// A session that has nothing of its own refuses no line that is kept, but for memory.
+    ghost done: { (s t x y : Self) (l : List ℕ) (p q : Printed) → Self.Session.runs s l p t → is_kept_turn p.turn ≡ true → alike s x → is_alone x
+        → Self.Session.runs x l q y → is_kept_turn q.turn ≡ false → is_lost_turn q.turn ≡ true };
+
+    /// And a line that is kept leaves it so.
+    ghost alone: { (x y : Self) (l : List ℕ) (q : Printed) → is_alone x → Self.Session.runs x l q y → is_kept_turn q.turn ≡ true → is_alone y };
+}
