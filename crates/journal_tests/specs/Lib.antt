@@ -1,0 +1,2 @@
+pub mod Torn
+pub mod Settled

@@ -1,0 +1,189 @@
+//! Dialogues over a disk that stops.
+ghost use Rattle.std.specs.Prelude.{⊤};
+
+use crate::journals::lines_of;
+use crate::torn_disk::TornDisk;
+use crate::waiting::Pieces;
+use durable::{Outbox, Session, Turn, replay, run_dialogue};
+use journal::open;
+use script_streams::RunFault;
+use std::alloc::{AllocError, Global};
+use std::io::BufReader;
+use std::process::Abort;
+use std::test::Fail;
+
+/// Counts the lines that begin with `+`: these are kept. It prints a digit for `?`, and refuses any other line.
+#[derive(Drop)]
+struct Counter {
+    count: u8,
+}
+
+impl Session for Counter {
+    ghost runs = { λ _ _ _ _. ⊤ };
+
+    fn answer(&mut self, line: &[u8], text: &mut Vec<u8>) -> Result<Turn, AllocError> {
+        match line.first() {
+            Some(b'+') => {
+                text.extend_from_slice(b"ok\n")?;
+                self.count = self.count.saturating_add(1);
+                Ok(Turn::Kept)
+            }
+            Some(b'?') => {
+                text.extend_from_slice(&[self.count.saturating_add(b'0'), b'\n'])?;
+                Ok(Turn::Other)
+            }
+            _ => {
+                text.extend_from_slice(b"no\n")?;
+                Ok(Turn::Other)
+            }
+        }
+    }
+}
+
+const INPUT: &[u8] = b"+a\n?c\n+b\n!d\n+e\n";
+
+/// What is written for it.
+const WRITTEN: &[u8] = b"ok\n\n1\n\nok\n\nno\n\nok\n\n";
+
+/// What the file has then.
+const FILE: &[u8] = b" +a\n +b\n +e\n\n";
+
+/// How many calls of the disk a new file takes.
+const NEW: u64 = 4;
+
+/// The lines that are kept of its first lines, so many of them kept.
+fn lines_kept(count: u8) -> &'static [u8] {
+    match count {
+        0 => b"",
+        1 => b"+a|",
+        2 => b"+a|+b|",
+        _ => b"+a|+b|+e|",
+    }
+}
+
+/// How many lines are kept of those whose answers were written whole.
+fn answered(written: usize) -> u8 {
+    match written {
+        0..=3 => 0,
+        4..=10 => 1,
+        11..=18 => 2,
+        _ => 3,
+    }
+}
+
+/// What is left of a dialogue.
+#[derive(Drop)]
+struct Left {
+    fault: Option<RunFault>,
+    written: Vec<u8>,
+    file: Vec<u8>,
+    calls_left: u64,
+}
+
+/// Runs a dialogue over a new file on a disk that makes so many calls. The input comes in by so many bytes a read.
+fn run(alloc: Global, size: usize, calls: u64, seed: u64) -> Result<Left, Fail> {
+    let disk = TornDisk::new(alloc, b"", calls, seed)?;
+    let Ok(journal) = open(alloc, disk, b"") else {
+        return Err(Fail::from(AllocError));
+    };
+    let mut outbox = Outbox::new(alloc, journal, Vec::new(alloc));
+    let mut reader = BufReader::new(alloc, Pieces::new(INPUT, size))?;
+    let mut session = Counter { count: 0 };
+    let fault = run_dialogue(alloc, &mut reader, &mut session, &mut outbox).err();
+    let (journal, written) = outbox.into_parts();
+    let mut disk = journal.into_disk();
+    let file = disk.left()?;
+    Ok(Left {
+        fault,
+        written,
+        file,
+        calls_left: disk.calls_left(),
+    })
+}
+
+/// How many lines of a file a new session runs, if it refuses none.
+fn replayed(alloc: Global, file: &[u8]) -> Option<u8> {
+    let mut session = Counter { count: 0 };
+    match replay(alloc, &mut session, file) {
+        Ok(()) => Some(session.count),
+        Err(_) => None,
+    }
+}
+
+#[test]
+fn a_dialogue_answers_each_line(rt: HostRuntime) -> Result<(), Fail> {
+    let left = run(rt.alloc(), 3, 100, 1)?;
+    assert_eq!(rt; left.fault, None);
+    assert_eq!(rt; left.written.as_slice(), WRITTEN);
+    assert_eq!(rt; left.file.as_slice(), FILE);
+    assert_eq!(rt; replayed(rt.alloc(), left.file.as_slice()), Some(3));
+    Ok(())
+}
+
+#[test]
+fn lines_that_come_in_together_are_put_on_the_disk_together(rt: HostRuntime) -> Result<(), Fail> {
+    // A commit makes four calls.
+    let one_by_one = run(rt.alloc(), 3, 100, 1)?;
+    assert_eq!(rt; one_by_one.calls_left, 100 - NEW - 12);
+    let together = run(rt.alloc(), 15, 100, 1)?;
+    assert_eq!(rt; together.calls_left, 100 - NEW - 4);
+    assert_eq!(rt; together.written.as_slice(), WRITTEN);
+    Ok(())
+}
+
+/// Stops a dialogue after so many calls of the disk: what was answered is in the file, and what comes back from it.
+fn check(
+    rt: &impl Abort,
+    alloc: Global,
+    size: usize,
+    more: u8,
+    calls: u64,
+    seed: u64,
+) -> Result<(), Fail> {
+    let left = run(alloc, size, calls, seed)?;
+    assert!(rt;
+        left.fault == Some(RunFault::Journal),
+        "after {calls} calls, with {seed}"
+    );
+    assert!(rt;
+        WRITTEN.starts_with(left.written.as_slice()),
+        "after {calls} calls, with {seed}"
+    );
+    let kept = answered(left.written.len());
+    let lines = lines_of(alloc, left.file.as_slice())?;
+    let has_more = lines.as_slice() != lines_kept(kept);
+    let count = if has_more {
+        kept.saturating_add(more)
+    } else {
+        kept
+    };
+    assert!(rt;
+        lines.as_slice() == lines_kept(count),
+        "after {calls} calls, with {seed}"
+    );
+    assert!(rt;
+        replayed(alloc, left.file.as_slice()) == Some(count),
+        "after {calls} calls, with {seed}"
+    );
+    Ok(())
+}
+
+#[test]
+fn what_was_answered_comes_back(rt: HostRuntime) -> Result<(), Fail> {
+    for seed in 0..100u64 {
+        for calls in NEW..NEW + 12 {
+            check(&rt, rt.alloc(), 3, 1, calls, seed)?;
+        }
+        for calls in NEW..NEW + 4 {
+            check(&rt, rt.alloc(), 15, 3, calls, seed)?;
+        }
+    }
+    Ok(())
+}
+
+#[test]
+fn a_line_that_is_not_done_again_is_refused(rt: HostRuntime) {
+    assert_eq!(rt; replayed(rt.alloc(), b" +a\n no\n +b\n\n"), None);
+    // What does not count is not run.
+    assert_eq!(rt; replayed(rt.alloc(), b" +a\n\n no\n"), Some(1));
+}

@@ -1,0 +1,169 @@
+//! A disk that stops, and what it leaves then.
+ghost use Rattle.std.specs.Prelude.{◌≡◌, IfOk};
+
+use journal::{Disk, DiskFault};
+use std::alloc::{AllocError, Global};
+
+/// A disk that makes a number of calls, and fails at all that follow. A call that fails may be done in part, and so may those since the last
+/// sync. Its clauses say nothing of a crash: a test looks at what is left.
+#[derive(Drop)]
+pub(crate) struct TornDisk {
+    alloc: Global,
+    bytes: Vec<u8>,
+    synced: Vec<u8>,
+    /// The bytes from here to `to` were written since the last sync.
+    from: usize,
+    to: usize,
+    calls_left: u64,
+    has_failed: bool,
+    random: u64,
+}
+
+/// A byte in the range of a torn write: the old one, the new one, a mark or a newline.
+fn torn(old: Option<u8>, new: Option<u8>, pick: u64) -> u8 {
+    match pick {
+        0 => old.unwrap_or(b'\n'),
+        1 => new.unwrap_or(b' '),
+        2 => b' ',
+        _ => b'\n',
+    }
+}
+
+impl TornDisk {
+    ghost use Rattle.journal_tests.specs.Torn.{torn_bytes};
+
+    /// A disk with these bytes, all of them synced, that makes so many calls.
+    pub(crate) fn new(
+        alloc: Global,
+        bytes: &[u8],
+        calls: u64,
+        seed: u64,
+    ) -> Result<TornDisk, AllocError>
+        ensures { IfOk result (λ disk. torn_bytes disk ≡ bytes.now) }
+    {
+        let held = bytes.to_vec(alloc)?;
+        let synced = bytes.to_vec(alloc)?;
+        Ok(TornDisk {
+            alloc,
+            bytes: held,
+            synced,
+            from: usize::MAX,
+            to: 0,
+            calls_left: calls,
+            has_failed: false,
+            random: seed,
+        })
+    }
+
+    /// How many calls it still makes.
+    pub(crate) fn calls_left(&self) -> u64 {
+        self.calls_left
+    }
+
+    fn draw(&mut self) -> u64 {
+        self.random = self
+            .random
+            .wrapping_mul(6_364_136_223_846_793_005)
+            .wrapping_add(1_442_695_040_888_963_407);
+        self.random >> 33
+    }
+
+    /// Whether byte `k` may be torn.
+    fn is_torn(&self, k: usize) -> bool {
+        k >= self.synced.len() || (k >= self.from && k < self.to)
+    }
+
+    /// What a crash now may leave, drawn at random.
+    pub(crate) fn left(&mut self) -> Result<Vec<u8>, AllocError> {
+        let mut image = Vec::new(self.alloc);
+        let short = self.bytes.len().min(self.synced.len());
+        let long = self.bytes.len().max(self.synced.len());
+        let lengths = long.saturating_sub(short).saturating_add(1);
+        let more = (self.draw() as usize).checked_rem(lengths);
+        let len = short.saturating_add(more.unwrap_or(0));
+        for k in 0..len {
+            let old = self.synced.get(k).copied();
+            let new = self.bytes.get(k).copied();
+            let pick = self.draw() % 4;
+            let byte = if self.is_torn(k) {
+                torn(old, new, pick)
+            } else {
+                old.unwrap_or(b'\n')
+            };
+            image.push(byte)?;
+        }
+        Ok(image)
+    }
+}
+
+impl TornDisk {
+    ghost use Rattle.journal.specs.Disk.{HasCause};
+    ghost use Rattle.journal_tests.specs.Torn.{torn_faults};
+
+    /// Makes a call, or fails.
+    fn spend(&mut self) -> Result<(), DiskFault>
+        ensures bytes { self.new.bytes ≡ self.old.bytes }
+        ensures cause { HasCause (torn_faults self.old) (torn_faults self.new) result }
+    {
+        if self.calls_left > 0 {
+            self.calls_left -= 1;
+            return Ok(());
+        }
+        if self.has_failed {
+            return Err(DiskFault::Memory);
+        }
+        self.has_failed = true;
+        Err(DiskFault::Failed)
+    }
+
+    /// The bytes from one offset to another are written and not synced.
+    fn touch(&mut self, from: usize, to: usize)
+        ensures bytes { self.new.bytes ≡ self.old.bytes }
+        ensures faults { torn_faults self.new ≡ torn_faults self.old }
+    {
+        self.from = self.from.min(from);
+        self.to = self.to.max(to);
+    }
+}
+
+impl Disk for TornDisk {
+    ghost use Rattle.journal_tests.specs.Torn.{torn_bytes, torn_faults};
+
+    ghost seen = { torn_bytes };
+
+    ghost may_leave = { λ _ _. ⊥ };
+
+    ghost moment = { λ _. 0 };
+
+    ghost left_since = { λ _ _ _. ⊥ };
+
+    ghost faults = { torn_faults };
+
+    ghost counts_now = { λ disk t c le left. left };
+
+    ghost only_now = { λ disk c left. left };
+
+    fn write_at(&mut self, at: usize, bytes: &[u8]) -> Result<(), DiskFault> {
+        let mut next = self.bytes[..at].to_vec(self.alloc)?;
+        next.extend_from_slice(bytes)?;
+        if bytes.len() < self.bytes.len() - at {
+            next.extend_from_slice(&self.bytes[at + bytes.len()..])?;
+        }
+        self.bytes = next;
+        self.touch(at, at.saturating_add(bytes.len()));
+        self.spend()
+    }
+
+    fn cut(&mut self, len: usize) -> Result<(), DiskFault> {
+        self.bytes.truncate(len);
+        self.spend()
+    }
+
+    fn sync(&mut self) -> Result<(), DiskFault> {
+        self.spend()?;
+        self.synced = self.bytes.to_vec(self.alloc)?;
+        self.from = usize::MAX;
+        self.to = 0;
+        Ok(())
+    }
+}
