@@ -28,9 +28,9 @@ fn is_over(end: LineEnd, line: &[u8]) -> bool
 /// Runs the lines of an input in turn, and answers each: with what it prints, and an empty line. Before each read that may wait, the lines
 /// that are to be kept are put on the disk, and then their answers are written. So lines that come in together are put there together.
 ///
-/// Errs with `Read` if a read errs, with `TooLong` if a line has more than `INPUT_BYTES` bytes or the input more than `u64::MAX - 1` lines,
-/// with `Journal` if the disk fails or the file is full, with `Write` if a write or a flush errs or a write takes no byte, and with `Memory`
-/// if memory is refused to the run itself.
+/// Errs with `Read` if a read errs, with `TooLong` if a line has more than `INPUT_BYTES` bytes or the input more than
+/// `u64::MAX - 1` lines, with `Journal` if the disk fails or the file is full, with `Write` if a write or a flush errs or a write
+/// takes no byte, and with `Memory` if memory is refused to the run itself.
 pub fn run_dialogue<R: Read, S: Session, D: Disk, W: Write>(
     alloc: Global,
     reader: &mut BufReader<R>,

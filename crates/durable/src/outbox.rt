@@ -79,8 +79,8 @@ impl<D: Disk, W: Write> Outbox<D, W> {
 
     /// Puts the lines that were noted on the disk, and then writes the answers that were held back.
     ///
-    /// Errs with `Journal` if the disk fails or the file is full, with `Write` if a write or the flush fails, and with `Memory` if memory is
-    /// refused.
+    /// Errs with `Journal` if the disk fails or the file is full, with `Write` if a write or the flush fails, and with `Memory` if
+    /// memory is refused.
     pub fn settle(&mut self) -> Result<(), RunFault>
         requires { IsAtRest D.seen D.may_leave self.old }
         ensures ok { OnOk result (Gives W.contents D.seen D.may_leave self.old self.new) }

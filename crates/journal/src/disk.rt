@@ -34,8 +34,8 @@ impl<T: Drop> From<AllocFailed<T>> for DiskFault {
 
 /// A file that is written, cut and synced. A call that fails leaves the file in doubt: it is to be opened again.
 ///
-/// The clauses speak of a crash at each moment, between two calls or inside one. Until a sync, a crash may leave any bytes in the range of a
-/// write, and any length from that of a cut on.
+/// The clauses speak of a crash at each moment, between two calls or inside one. Until a sync, a crash may leave any bytes in the
+/// range of a write, and any length from that of a cut on.
 pub trait Disk {
     /// The bytes of the file, as a program reads them that asks now.
     ghost seen: { Self → List ℕ };

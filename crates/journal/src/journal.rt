@@ -38,7 +38,8 @@ fn append<D: Disk>(disk: &mut D, end: usize, text: &[u8]) -> Result<(), DiskFaul
     ensures full { IsErrOf result DiskFault.Full → ⊥ }
 {
     disk.write_at(end + 1, &text[1..])?;
-    // A torn write may leave whole lines that nobody sent, so the mark that makes them count is written when the text can't be torn any more.
+    // A torn write may leave whole lines that nobody sent. So the mark that makes them count is written when the text can't be torn
+    // any more.
     disk.sync()?;
     disk.write_at(end, &[MARK])?;
     disk.sync()
@@ -90,8 +91,8 @@ fn settle<D: Disk>(disk: &mut D, bytes: &[u8], end: usize) -> Result<(), DiskFau
     repair(disk, end)
 }
 
-/// Opens the journal in a file that has these bytes: any bytes, and so whatever a crash left. The file keeps the lines that it stands for, and
-/// what it has after them is cut off. An empty file stands for no line.
+/// Opens the journal in a file that has these bytes: any bytes, and so whatever a crash left. The file keeps the lines that it
+/// stands for, and what it has after them is cut off. An empty file stands for no line.
 ///
 /// Errs with `Failed` if the disk fails. An error returns the disk too; a crash at any moment of the call leaves the same lines.
 pub fn open<D: Disk>(alloc: Global, mut disk: D, bytes: &[u8]) -> Result<Journal<D>, (DiskFault, D)>

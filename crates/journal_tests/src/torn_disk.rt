@@ -4,8 +4,8 @@ ghost use Rattle.std.specs.Prelude.{◌≡◌, IfOk};
 use journal::{Disk, DiskFault};
 use std::alloc::{AllocError, Global};
 
-/// A disk that makes a number of calls, and fails at all that follow. A call that fails may be done in part, and so may those since the last
-/// sync. Its clauses say nothing of a crash: a test looks at what is left.
+/// A disk that makes a number of calls, and fails at all that follow. A call that fails may be done in part, and so may those since
+/// the last sync. Its clauses say nothing of a crash: a test looks at what is left.
 #[derive(Drop)]
 pub(crate) struct TornDisk {
     alloc: Global,
