@@ -1,7 +1,7 @@
 //! A journal is opened, written and crashed.
 ghost use Rattle.std.specs.Prelude.{◌≡◌, true};
 ghost use Rattle.journal.specs.Lines.{IsLine};
-ghost use Rattle.journal_tests.specs.Settled.{IsTornSettled};
+ghost use Rattle.journal.specs.Journal.{IsSettled};
 
 use crate::torn_disk::TornDisk;
 use journal::{Journal, next_entry, open};
@@ -29,8 +29,8 @@ fn is_line(line: &[u8]) -> bool
 
 /// Notes a line.
 fn note(journal: &mut Journal<TornDisk>, line: &[u8]) -> Result<(), AllocError>
-    requires { IsTornSettled journal.old }
-    ensures { IsTornSettled journal.new }
+    requires { IsSettled (λ disk. disk.bytes.items) (λ _ _. ⊥) journal.old }
+    ensures { IsSettled (λ disk. disk.bytes.items) (λ _ _. ⊥) journal.new }
 {
     if is_line(line) {
         journal.note(line)
@@ -41,7 +41,7 @@ fn note(journal: &mut Journal<TornDisk>, line: &[u8]) -> Result<(), AllocError>
 
 /// Commits three times, and returns how many commits succeeded.
 fn commits(journal: &mut Journal<TornDisk>) -> Result<usize, AllocError>
-    requires { IsTornSettled journal.old }
+    requires { IsSettled (λ disk. disk.bytes.items) (λ _ _. ⊥) journal.old }
 {
     note(journal, b"new Book")?;
     note(journal, b"set #0 name \"Emma\"")?;

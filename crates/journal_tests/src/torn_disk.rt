@@ -1,5 +1,6 @@
 //! A disk that stops, and what it leaves then.
-ghost use Rattle.std.specs.Prelude.{◌≡◌, IfOk};
+ghost use Rattle.std.specs.Prelude.{◌≡◌, IfOk, if◌then◌else◌};
+ghost use Rattle.journal.specs.Disk.{HasCause};
 
 use journal::{Disk, DiskFault};
 use std::alloc::{AllocError, Global};
@@ -30,8 +31,6 @@ fn torn(old: Option<u8>, new: Option<u8>, pick: u64) -> u8 {
 }
 
 impl TornDisk {
-    ghost use Rattle.journal_tests.specs.Torn.{torn_bytes};
-
     /// A disk with these bytes, all of them synced, that makes so many calls.
     pub(crate) fn new(
         alloc: Global,
@@ -39,7 +38,7 @@ impl TornDisk {
         calls: u64,
         seed: u64,
     ) -> Result<TornDisk, AllocError>
-        ensures { IfOk result (λ disk. torn_bytes disk ≡ bytes.now) }
+        ensures { IfOk result (λ disk. disk.bytes.items ≡ bytes.now) }
     {
         let held = bytes.to_vec(alloc)?;
         let synced = bytes.to_vec(alloc)?;
@@ -94,16 +93,11 @@ impl TornDisk {
         }
         Ok(image)
     }
-}
-
-impl TornDisk {
-    ghost use Rattle.journal.specs.Disk.{HasCause};
-    ghost use Rattle.journal_tests.specs.Torn.{torn_faults};
 
     /// Makes a call, or fails.
     fn spend(&mut self) -> Result<(), DiskFault>
         ensures bytes { self.new.bytes ≡ self.old.bytes }
-        ensures cause { HasCause (torn_faults self.old) (torn_faults self.new) result }
+        ensures cause { HasCause (if self.old.has_failed then 1 else 0) (if self.new.has_failed then 1 else 0) result }
     {
         if self.calls_left > 0 {
             self.calls_left -= 1;
@@ -119,7 +113,7 @@ impl TornDisk {
     /// The bytes from one offset to another are written and not synced.
     fn touch(&mut self, from: usize, to: usize)
         ensures bytes { self.new.bytes ≡ self.old.bytes }
-        ensures faults { torn_faults self.new ≡ torn_faults self.old }
+        ensures faults { self.new.has_failed ≡ self.old.has_failed }
     {
         self.from = self.from.min(from);
         self.to = self.to.max(to);
@@ -127,9 +121,7 @@ impl TornDisk {
 }
 
 impl Disk for TornDisk {
-    ghost use Rattle.journal_tests.specs.Torn.{torn_bytes, torn_faults};
-
-    ghost seen = { torn_bytes };
+    ghost seen = { λ disk. disk.bytes.items };
 
     ghost may_leave = { λ _ _. ⊥ };
 
@@ -137,7 +129,7 @@ impl Disk for TornDisk {
 
     ghost left_since = { λ _ _ _. ⊥ };
 
-    ghost faults = { torn_faults };
+    ghost faults = { λ disk. if disk.has_failed then 1 else 0 };
 
     ghost counts_now = { λ disk t c le left. left };
 

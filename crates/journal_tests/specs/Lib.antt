@@ -1,2 +1,0 @@
-pub mod Torn
-pub mod Settled
