@@ -14,6 +14,7 @@ pub mod ResourceLemmas
 pub mod DocumentLemmas
 pub mod ReadLemmas
 pub mod RunLemmas
+pub mod AloneLemmas
 pub mod RememberedLemmas
 mod InsideLemmas
 mod KeptNodeLemmas

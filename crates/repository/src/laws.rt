@@ -11,6 +11,7 @@ ghost use Rattle.notice_chain.specs.View.{View};
 ghost use Rattle.reloading.specs.Alike.{Alike};
 ghost use Rattle.reloading.specs.Between.{Between};
 ghost use Rattle.reloading.specs.Proxies.{HasNoProxy};
+ghost use Rattle.repository.specs.Alone.{ComesBack, IsAloneToo, KeepsModel};
 ghost use Rattle.repository.specs.Enough.{ChainReplays, ClosedKeepsEnough, DetachedKeepsEnough, HasEachNode, NoticesAreEnough, ToldIsEnough};
 ghost use Rattle.repository.specs.Heard.{HearsItsReply};
 ghost use Rattle.repository.specs.Laws.{KeepsLegal};
@@ -20,6 +21,7 @@ ghost use Rattle.repository.specs.State.{State};
 ghost use Rattle.repository.specs.Views.{brought};
 ghost use Rattle.repository.specs.declared.command.Command.{Command};
 ghost use Rattle.repository.specs.declared.reply.Failure.{Failure};
+ghost use Rattle.repository.specs.declared.reply.Reply.{Reply};
 
 /// Every command of a legal state, done or refused, leaves a legal one.
 pub fn keeps_legal()
@@ -93,4 +95,12 @@ pub fn without_proxies_what_stands_between_is_alike()
 /// same class, values, flags and ends, with objects compared by their addresses.
 pub fn what_was_saved_is_had_again_in_any_order()
     ensures { (s : State) → ReloadsInAnyOrder s }
+{}
+
+/// Adapters have no part in what a change makes of the model: a change that is done is done without them too, and leaves the same model. Any
+/// other command leaves the model as it was.
+pub fn adapters_have_no_part()
+    ensures alone { (s : State) (c : Command View) → IsAloneToo s c }
+    ensures again { (s t : State) (c : Command View) (r : Reply View) → ComesBack s c r t }
+    ensures kept { (s : State) (c : Command View) → KeepsModel s c }
 {}

@@ -1,0 +1,75 @@
+-- What adapters have no part in.
+use Rattle.std.proofs.Common.{◌≡◌, Bool, true, false, List, [], Option, Some, None, Ok, Err, refl, ap, sym, ◌∙◌}
+use Rattle.mm_types.specs.Conditions.{◌where_so◌, ◌else_by◌}
+use Rattle.mm_types.specs.declared.refused.Refused.{Refused}
+use Rattle.notice_chain.specs.Listed.{Listed}
+use Rattle.notice_chain.specs.View.{View}
+use Rattle.repository.specs.Alone.{ComesBack, IsAloneToo, KeepsModel, is_change}
+use Rattle.repository.specs.Refusals.{early_refusal, late_refusal}
+use Rattle.repository.specs.Reload.{bare}
+use Rattle.repository.specs.State.{State, reads}
+use Rattle.repository.specs.Step.{Stepped, adapters_after, done, refusal_of, refused, reply, step, step_unless}
+use Rattle.repository.specs.declared.command.Command.{Command}
+use Rattle.repository.specs.declared.command.Command.TheVariants as command
+use Rattle.repository.specs.declared.reply.Reply.{Reply}
+
+-- where nothing refuses, nothing does if the last condition is not looked at
+none_of : (a b : Option Refused) (r : Refused) (t : Bool) → (a else_by b else_by (r where_so t)) ≡ None → (a else_by b else_by (r where_so false)) ≡ None
+none_of (Some x) b r t h = absurd (cc h)
+none_of None (Some y) r t h = absurd (cc h)
+none_of None None r t h = refl
+
+both : (s : State) (c : Command View) → refusal_of s c ≡ None → refusal_of (bare s.model) c ≡ None → adapters_after (reads s) [] c ≡ []
+    → (refusal_of (bare s.model) c ≡ None) × ((step (bare s.model) c).after ≡ bare (step s c).after.model)
+both s c h k nobody = (
+  k,
+  ap (λ (o : Option Refused). (step_unless (bare s.model) c o).after) k
+      ∙ ap (λ (rs : List Listed). let t : State = record { model = (done s c).after.model; adapters = rs } in t) nobody
+      ∙ sym (ap (λ (o : Option Refused). bare (step_unless s c o).after.model) h),
+)
+
+pub alone_too : (s : State) (c : Command View) → IsAloneToo s c
+alone_too s (command.At e a) is h = both s (command.At e a) h (none_of (early_refusal (reads s) [] (command.At e a)) (late_refusal (reads s) [] (command.At e a)) _ _ h) refl
+alone_too s (command.Create c) is h = both s (command.Create c) h (none_of (early_refusal (reads s) [] (command.Create c)) (late_refusal (reads s) [] (command.Create c)) _ _ h) refl
+alone_too s (command.Delete o) is h = both s (command.Delete o) h (none_of (early_refusal (reads s) [] (command.Delete o)) (late_refusal (reads s) [] (command.Delete o)) _ _ h) refl
+alone_too s (command.CreateResource t) is h = both s (command.CreateResource t) h (none_of (early_refusal (reads s) [] (command.CreateResource t)) (late_refusal (reads s) [] (command.CreateResource t)) _ _ h) refl
+alone_too s (command.Load k text) is h = both s (command.Load k text) h (none_of (early_refusal (reads s) [] (command.Load k text)) (late_refusal (reads s) [] (command.Load k text)) _ _ h) refl
+alone_too s command.ResolveAll is h = both s command.ResolveAll h (none_of (early_refusal (reads s) [] command.ResolveAll) (late_refusal (reads s) [] command.ResolveAll) _ _ h) refl
+alone_too s (command.Attach number target deep view) is h = absurd (cc is)
+alone_too s (command.Watch number target deep) is h = absurd (cc is)
+alone_too s (command.Unwatch number target) is h = absurd (cc is)
+alone_too s (command.Detach number) is h = absurd (cc is)
+alone_too s (command.Read q) is h = absurd (cc is)
+
+kept : (s : State) (c : Command View) (o : Option Refused) → (done s c).after.model ≡ s.model → (step_unless s c o).after.model ≡ s.model
+kept s c (Some r) h = refl
+kept s c None h = h
+
+pub keeps_model : (s : State) (c : Command View) → KeepsModel s c
+keeps_model s (command.At e a) is = absurd (cc is)
+keeps_model s (command.Create c) is = absurd (cc is)
+keeps_model s (command.Delete o) is = absurd (cc is)
+keeps_model s (command.CreateResource t) is = absurd (cc is)
+keeps_model s (command.Load k text) is = absurd (cc is)
+keeps_model s command.ResolveAll is = absurd (cc is)
+keeps_model s (command.Attach number target deep view) is = kept s (command.Attach number target deep view) (refusal_of s (command.Attach number target deep view)) refl
+keeps_model s (command.Watch number target deep) is = kept s (command.Watch number target deep) (refusal_of s (command.Watch number target deep)) refl
+keeps_model s (command.Unwatch number target) is = kept s (command.Unwatch number target) (refusal_of s (command.Unwatch number target)) refl
+keeps_model s (command.Detach number) is = kept s (command.Detach number) (refusal_of s (command.Detach number)) refl
+keeps_model s (command.Read q) is = kept s (command.Read q) (refusal_of s (command.Read q)) refl
+
+again : (s : State) (c : Command View) (r : Reply View) (t : State) (o : Option Refused) → refusal_of s c ≡ o → is_change c ≡ true
+    → (let y : Stepped = record { outcome = Ok r; after = t } in step s c ≡ y)
+    → (q : Reply View) × (let y : Stepped = record { outcome = Ok q; after = bare t.model } in step (bare s.model) c ≡ y)
+again s c r t (Some e) eq is x =
+    absurd (let h : refused s c e ≡ step s c = sym (ap (step_unless s c) eq) in cc (ap (λ (y : Stepped). y.outcome) (h ∙ x)))
+again s c r t None eq is x =
+    let k = alone_too s c is eq in
+    let q = reply (reads (bare s.model)) [] c in
+    let is_done : step (bare s.model) c ≡ done (bare s.model) c = ap (step_unless (bare s.model) c) k.0 in
+    let leaves : (done (bare s.model) c).after ≡ bare t.model =
+    sym (ap (λ (y : Stepped). y.after) is_done) ∙ k.1 ∙ ap (λ (y : Stepped). bare y.after.model) x in
+    (q, is_done ∙ ap (λ (a : State). let y : Stepped = record { outcome = Ok q; after = a } in y) leaves)
+
+pub comes_back : (s : State) (c : Command View) (r : Reply View) (t : State) → ComesBack s c r t
+comes_back s c r t is x = again s c r t (refusal_of s c) refl is x

@@ -1,0 +1,40 @@
+-- What adapters have no part in: what a change makes of the model.
+use Rattle.std.specs.Prelude.{◌≡◌, Bool, true, false, None, Ok}
+use Rattle.notice_chain.specs.View.{View}
+use Rattle.repository.specs.Reload.{bare}
+use Rattle.repository.specs.Run.{Executed}
+use Rattle.repository.specs.State.{State}
+use Rattle.repository.specs.Step.{refusal_of, step}
+use Rattle.repository.specs.declared.command.Command.{Command}
+use Rattle.repository.specs.declared.command.Command.TheVariants as command
+use Rattle.repository.specs.declared.reply.Reply.{Reply}
+
+-- a command asks for a change of the model
+abbrev pub is_change : Command View → Bool
+is_change (command.At e a) = true
+is_change (command.Create c) = true
+is_change (command.Delete o) = true
+is_change (command.CreateResource t) = true
+is_change (command.Load k text) = true
+is_change command.ResolveAll = true
+is_change (command.Attach number target deep view) = false
+is_change (command.Watch number target deep) = false
+is_change (command.Unwatch number target) = false
+is_change (command.Detach number) = false
+is_change (command.Read q) = false
+
+-- a change that is done is done without adapters too, and leaves the same model
+abbrev pub IsAloneToo : State → Command View → Type 0
+IsAloneToo s c =
+    is_change c ≡ true → refusal_of s c ≡ None
+    → (refusal_of (bare s.model) c ≡ None) × ((step (bare s.model) c).after ≡ bare (step s c).after.model)
+
+-- any other command leaves the model
+abbrev pub KeepsModel : State → Command View → Type 0
+KeepsModel s c = is_change c ≡ false → (step s c).after.model ≡ s.model
+
+-- a change that was done comes back without adapters: it is done there too, and what it leaves has the same model
+abbrev pub ComesBack : State → Command View → Reply View → State → Type 0
+ComesBack s c r t =
+    is_change c ≡ true → Executed s c (Ok r) t
+    → (q : Reply View) × (step (bare s.model) c ≡ record { outcome = Ok q; after = bare t.model })
