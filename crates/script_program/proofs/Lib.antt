@@ -7,3 +7,6 @@ mod LostLemmas
 mod PlainLemmas
 mod BatchLemmas
 mod LiveLemmas
+mod KeptLemmas
+mod DurableLemmas
+mod HeadLemmas

@@ -12,3 +12,4 @@ pub mod Batch
 pub mod Live
 pub mod Lost
 pub mod Summary
+pub mod Kept

@@ -1,10 +1,12 @@
 //! The program's command line.
 ghost use Rattle.std.specs.Prelude.{◌≡◌, Some, false, true, IfOk, IfErr, codes};
 ghost use Rattle.clap.specs.Words.{app_of, first_of, found_of, kind_of, matches_of, rows_of, rule_of, takes, with_rule};
-ghost use Rattle.script_program.specs.CommandLine.{AreGiven, flag as flag_rule, is_set as sets, meta as meta_rule, program, script as script_rule, texts};
+ghost use Rattle.script_program.specs.CommandLine.{AreGiven, file as file_rule, flag as flag_rule, is_set as sets, meta as meta_rule, program, texts};
 
 use crate::dress::Dress;
-use crate::help::{ABOUT, ECHO, EXPLAIN, EXPLAINED, LIVE, NUMBER, STOP, STRICT, VERSION};
+use crate::help::{
+    ABOUT, ECHO, EXPLAIN, EXPLAINED, JOURNAL, LIVE, NUMBER, SCRIPT, STOP, STRICT, VERSION,
+};
 use clap::error::ErrorKind;
 use clap::{Arg, ArgAction, ArgMatches, Command, Error};
 use std::alloc::{AllocError, Global};
@@ -22,6 +24,8 @@ pub struct Options<'a> {
     pub strict: bool,
     /// Whether each line is answered before the next is read, `--live`.
     pub live: bool,
+    /// The file that keeps the lines that change the model, `--journal`.
+    pub journal: Option<&'a str>,
     /// Whether it says on standard error what to mend, `--explain`.
     pub explain: bool,
 }
@@ -39,15 +43,15 @@ fn meta<'a>(alloc: Global) -> Arg<'a>
         .action(ArgAction::Set)
 }
 
-/// `--script FILE`.
-fn script<'a>(alloc: Global) -> Arg<'a>
-    ensures rule { rule_of result ≡ script_rule }
+/// An option that takes a file, and may be left out.
+fn file<'a>(alloc: Global, name: &'a str, help: &'a str) -> Arg<'a>
+    ensures rule { rule_of result ≡ file_rule name.entry.now }
     ensures local { result.global ≡ false }
 {
-    Arg::new(alloc, "script")
-        .long("script")
+    Arg::new(alloc, name)
+        .long(name)
         .value_name("FILE")
-        .help("The script, instead of standard input")
+        .help(help)
         .action(ArgAction::Set)
 }
 
@@ -71,12 +75,13 @@ fn command<'a>(alloc: Global) -> Result<Command<'a>, AllocError>
         .about(ABOUT)
         .after_help(EXPLAINED)
         .arg(meta(alloc))?
-        .arg(script(alloc))?
+        .arg(file(alloc, "script", SCRIPT))?
         .arg(flag(alloc, "echo", ECHO))?
         .arg(flag(alloc, "number", NUMBER))?
         .arg(flag(alloc, "stop", STOP))?
         .arg(flag(alloc, "strict", STRICT))?
         .arg(flag(alloc, "live", LIVE))?
+        .arg(file(alloc, "journal", JOURNAL))?
         .arg(flag(alloc, "explain", EXPLAIN))
 }
 
@@ -110,6 +115,7 @@ pub fn options_of<'a>(alloc: Global, words: &'a [&'a str]) -> Result<Options<'a>
         },
         strict: is_set(&matches, "strict"),
         live: is_set(&matches, "live"),
+        journal: matches.get_str("journal"),
         explain: is_set(&matches, "explain"),
     })
 }

@@ -7,6 +7,9 @@ pub(crate) const VERSION: &str = "1.0";
 pub(crate) const ABOUT: &str =
     "Runs a script over a repository of objects whose classes a metamodel gives.";
 
+/// What `--help` says of `--script`.
+pub(crate) const SCRIPT: &str = "The script, instead of standard input";
+
 /// What `--help` says of `--echo`.
 pub(crate) const ECHO: &str = "Writes each line before its answer, as `> LINE`";
 
@@ -23,6 +26,10 @@ pub(crate) const STRICT: &str = "Exits with status 4 if a line was refused or ba
 /// What `--help` says of `--live`.
 pub(crate) const LIVE: &str =
     "Answers each line before it reads the next, with an empty line behind";
+
+/// What `--help` says of `--journal`.
+pub(crate) const JOURNAL: &str =
+    "Keeps the lines that change the model in a file, and begins with those kept (with --live)";
 
 /// What `--help` says of `--explain`.
 pub(crate) const EXPLAIN: &str = "Says on standard error what to mend";
@@ -71,5 +78,6 @@ adapter that was released. A line that can't be done prints why, as `refused 8 T
 nothing; a line that does not parse prints `bad line`; an empty line prints nothing.
 
 Example: printf 'new Book\\nset #0 name \"Emma\"\\nget #0 name\\n' | mmrepo --meta library.json
-Exit status: 0 the script was run, 1 the metamodel is refused, 2 wrong arguments, 3 the run stopped
-because a stream failed, the input is too long or memory was refused, 4 as --strict says.";
+Exit status: 0 the script was run, 1 the metamodel or the journal is refused, 2 wrong arguments,
+3 the run stopped because a stream or the journal failed, the input is too long or memory was
+refused, 4 as --strict says.";

@@ -1,8 +1,10 @@
 //! Laws of the definitions, each the contract of a function that does nothing.
-ghost use Rattle.std.specs.Prelude.{◌≡◌, ◌++◌, [], List, ℕ, length, map, true};
+ghost use Rattle.std.specs.Prelude.{◌≡◌, ◌++◌, [], List, ℕ, Some, length, map, true};
 ghost use Rattle.script_lines.specs.Lines.{lines};
 ghost use Rattle.script_program.specs.Batch.{RunsBatch};
 ghost use Rattle.script_program.specs.Dressed.{dressed, plain, until_fault};
+ghost use Rattle.durable.specs.Printed.{Refuses};
+ghost use Rattle.script_program.specs.Kept.{RunsJournaled, kept_lines, replayed};
 ghost use Rattle.script_program.specs.Live.{live_text, with_empty_line};
 ghost use Rattle.script_program.specs.Lost.{AreCommands, lost_lines, script};
 ghost use Rattle.script_program.specs.Session.{Session};
@@ -49,4 +51,13 @@ pub fn a_live_run_writes_the_script_with_empty_lines()
     ensures texts { (printed : List Printed) → live_text printed ≡ texts (map with_empty_line printed) }
     ensures script { (s t : Session) (bytes : List ℕ) (printed : List Printed) → RunsLines s (lines bytes) printed t
         → live_text (script s bytes (lost_lines printed)) ≡ live_text printed }
+{}
+
+/// What was kept comes back. The lines that a journal keeps of a run, run again without adapters from the model before it, are all done and
+/// leave the model that all lines of the run left. A session without adapters that has that model refuses none of them but for memory.
+pub fn what_was_kept_comes_back()
+    ensures again { (s t : Session) (ls : List (List ℕ)) (printed : List Printed) → RunsLines s ls printed t
+        → replayed s.state.model (kept_lines ls printed) ≡ Some t.state.model }
+    ensures done { (s t x : Session) (ls : List (List ℕ)) (printed : List Printed) → RunsLines s ls printed t → x.state.model ≡ s.state.model
+        → x.state.adapters ≡ [] → Refuses RunsJournaled x (kept_lines ls printed) → ⊥ }
 {}

@@ -33,5 +33,6 @@ returns-clause-value c =
       stop = c.is_set-3.ensures ∙ ap (is_set (codes "stop")) rows;
       strict = c.is_set-4.ensures ∙ ap (is_set (codes "strict")) rows;
       live = c.is_set-5.ensures ∙ ap (is_set (codes "live")) rows;
+      journal = ap (first_of (codes "journal")) (sym rows) ∙ (sym (first_value-rows found (codes "journal")) ∙ sym c.get_str-3.ensures);
       explain = c.is_set-6.ensures ∙ ap (is_set (codes "explain")) rows;
     }

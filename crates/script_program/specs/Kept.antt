@@ -1,0 +1,171 @@
+-- The lines that a journal keeps, and what they make when they are run again.
+use Rattle.std.specs.Prelude.{◌≡◌, ◌⊎◌, ◌++◌, ℕ, Bool, true, false, List, [], ◌∷◌, Option, Some, None, Ok, Err, option_and_then, if◌then◌else◌}
+use Rattle.std.specs.Borrow.{Bor}
+use Rattle.std.specs.Io.KnownBytes.{Appends}
+use Rattle.mm_types.specs.Resolved.{Metamodel}
+use Rattle.models.specs.Model.{Model}
+use Rattle.notice_chain.specs.View.{View}
+use Rattle.repository.specs.Reload.{bare}
+use Rattle.repository.specs.State.{empty_state}
+use Rattle.repository.specs.Step.{step}
+use Rattle.repository.specs.Views.{Outcome}
+use Rattle.script_lines.specs.Forms.{form}
+use Rattle.script_lines.specs.declared.form.Form.{Form}
+use Rattle.script_lines.specs.declared.form.Form.TheVariants as asks
+use Rattle.script_lines.specs.declared.line.Line.{Line}
+use Rattle.script_lines.specs.declared.line.Line.TheVariants as line
+use Rattle.script_streams.specs.Streams.{AppendsFront}
+use Rattle.journal.specs.Journal.{StandsFor}
+use Rattle.journal.specs.Lines.{recovered}
+use Rattle.durable.specs.Printed as durable
+use Rattle.durable.specs.declared.session.Turn.{Turn as JournalTurn}
+use Rattle.durable.specs.declared.session.Turn.TheVariants as journaled
+use Rattle.script_program.specs.Bind.{bind}
+use Rattle.script_program.specs.Live.{live_text}
+use Rattle.script_program.specs.Script.{RunsLine, RunsLines}
+use Rattle.script_program.specs.Session.{Session, session}
+use Rattle.script_program.specs.Turns.{Printed}
+use Rattle.script_program.specs.declared.journaled.Journaled.{Journaled}
+use Rattle.script_program.specs.declared.request.Request.{Request}
+use Rattle.script_program.specs.declared.request.Request.TheVariants as request
+use Rattle.script_program.specs.declared.turn.Turn.{Turn}
+use Rattle.script_program.specs.declared.turn.Turn.TheVariants as turned
+
+-- a form asks for a change of the model
+abbrev pub asks_change : Form → Bool
+asks_change (asks.New class) = true
+asks_change (asks.Set n feature v) = true
+asks_change (asks.Unset n feature) = true
+asks_change (asks.Add n feature v index) = true
+asks_change (asks.Remove n feature i) = true
+asks_change (asks.RemoveValue n feature v) = true
+asks_change (asks.Move n feature to from) = true
+asks_change (asks.Resolve o feature i) = true
+asks_change asks.ResolveAll = true
+asks_change (asks.Load k text) = true
+asks_change (asks.Resource t) = true
+asks_change (asks.Delete o) = true
+asks_change (asks.Attach number target deep) = false
+asks_change (asks.Watch number target deep) = false
+asks_change (asks.Unwatch number target) = false
+asks_change (asks.Detach number) = false
+asks_change (asks.Get n feature) = false
+asks_change (asks.IsSet n feature) = false
+asks_change (asks.Container o) = false
+asks_change (asks.Within o) = false
+asks_change (asks.Contents n) = false
+asks_change (asks.Validate o) = false
+asks_change (asks.Fragment o) = false
+asks_change (asks.At t) = false
+asks_change (asks.Save k) = false
+asks_change (asks.Class o) = false
+asks_change (asks.Seen number) = false
+
+abbrev pub line_asks : Line → Bool
+line_asks line.Blank = false
+line_asks line.Bad = false
+line_asks (line.Form f) = asks_change f
+
+-- how a line counts for a journal, by whether it asks for a change
+abbrev pub journal_turn : Bool → Turn → JournalTurn
+journal_turn asked turned.Blank = journaled.Other
+journal_turn asked turned.Bad = journaled.Other
+journal_turn asked turned.Done = if asked then journaled.Kept else journaled.Other
+journal_turn asked turned.Refused = journaled.Other
+journal_turn asked turned.Lost = journaled.Lost
+
+-- what a line printed, as a journal counts it
+abbrev pub journal_printed : List ℕ → Printed → durable.Printed
+journal_printed l p = record { text = p.text; turn = journal_turn (line_asks (form l)) p.turn }
+
+-- the session of an interpreter
+abbrev pub session_of : {L A : Type 0} → Journaled L A → Session
+session_of j = session j.interpreter.repository j.interpreter.pool
+
+-- A line was run.
+pub record RunsJournaled (s : Session) (l : List ℕ) (p : durable.Printed) (t : Session) : Type 0 where
+  pub printed : Printed
+  pub ran : RunsLine s (form l) printed t
+  pub counted : p ≡ journal_printed l printed
+
+-- those lines of some that are kept, by what they printed
+abbrev pub kept_lines : List (List ℕ) → List Printed → List (List ℕ)
+kept_lines [] ps = []
+kept_lines (l ∷ ls) [] = []
+kept_lines (l ∷ ls) (p ∷ ps) = durable.kept_line l (journal_printed l p) ++ kept_lines ls ps
+
+abbrev pub model_if_done : Outcome → Model → Option Model
+model_if_done (Ok r) m = Some m
+model_if_done (Err f) m = None
+
+-- the model that a command leaves of a repository without adapters, if it is done
+abbrev pub model_after_request : Model → Request View → Option Model
+model_after_request m (request.Execute c) = let one = step (bare m) c in model_if_done one.outcome one.after.model
+model_after_request m (request.Seen number) = None
+model_after_request m (request.Refuse r) = None
+
+abbrev pub model_after_line : Model → Line → Option Model
+model_after_line m line.Blank = None
+model_after_line m line.Bad = None
+model_after_line m (line.Form f) = if asks_change f then model_after_request m (bind (session (bare m) []) f) else None
+
+-- the model that lines leave, run in turn by a repository without adapters, if each asks for a change and is done
+abbrev pub replayed : Model → List (List ℕ) → Option Model
+replayed m [] = Some m
+replayed m (l ∷ ls) = option_and_then (λ n. replayed n ls) (model_after_line m (form l))
+
+-- the model that the lines of a journal leave, run from the empty repository on; its first line is its head
+abbrev pub model_of : Metamodel → List (List ℕ) → Option Model
+model_of m [] = None
+model_of m (head ∷ ls) = replayed (empty_state m).model ls
+
+-- a file is a journal, whose lines leave this model
+abbrev pub Recalls : Metamodel → Model → List ℕ → Type 0
+Recalls m model file = model_of m (recovered file) ≡ Some model
+
+-- the lines of a journal once it has been begun: its head alone if there was none
+abbrev pub begun : List ℕ → List (List ℕ) → List (List ℕ)
+begun head [] = head ∷ []
+begun head (l ∷ ls) = l ∷ ls
+
+-- what a file has behind its head was found, or that it has no line
+abbrev pub FindsLines : Option (Bor (List ℕ)) → List ℕ → List ℕ → Type 0
+FindsLines None bytes head = recovered bytes ≡ []
+FindsLines (Some rest) bytes head = recovered bytes ≡ head ∷ recovered rest.now
+
+-- a file stands for these lines, or for those of the journal when it has been begun
+abbrev pub IsBegunOrNot : List ℕ → List (List ℕ) → List ℕ → Type 0
+IsBegunOrNot head ls file = StandsFor ls file ⊎ StandsFor (begun head ls) file
+
+-- A run came to its end: all lines were run and answered, and the journal leaves the model that they left.
+pub record EndsJournaled (m : Metamodel) (s : Session) (ls : List (List ℕ)) (old new : Option (List ℕ)) (kept : List (List ℕ)) (t : Session) : Type 0 where
+  pub printed : List Printed
+  pub ran : RunsLines s ls printed t
+  pub written : Appends old new (live_text printed)
+  pub recalled : model_of m kept ≡ Some t.state.model
+
+-- A run stopped. What is written is a front of the answers to the first lines. Whatever a crash leaves is a journal of the model that these
+-- lines left, or of the one that lines after them left, which were run and not answered.
+pub record StopsJournaled (m : Metamodel) (s : Session) (ls : List (List ℕ)) (old new : Option (List ℕ)) (may_leave : List ℕ → Type 0) : Type 0 where
+  pub first : List (List ℕ)
+  pub next : List (List ℕ)
+  pub rest : List (List ℕ)
+  pub lines_are : ls ≡ first ++ (next ++ rest)
+  pub printed : List Printed
+  pub after : Session
+  pub ran : RunsLines s first printed after
+  pub printed_next : List Printed
+  pub after_next : Session
+  pub ran_next : RunsLines after next printed_next after_next
+  pub written : AppendsFront old new (live_text printed)
+  pub left : (c : List ℕ) → may_leave c → Recalls m after.state.model c ⊎ Recalls m after_next.state.model c
+
+-- A file is a journal of the model that the first lines left.
+pub record LeavesJournaled (m : Metamodel) (s : Session) (ls : List (List ℕ)) (file : List ℕ) : Type 0 where
+  pub first : List (List ℕ)
+  pub rest : List (List ℕ)
+  pub lines_are : ls ≡ first ++ rest
+  pub printed : List Printed
+  pub after : Session
+  pub ran : RunsLines s first printed after
+  pub recalled : Recalls m after.state.model file

@@ -1,0 +1,52 @@
+//! A live run whose changes a journal keeps.
+ghost use Rattle.std.specs.Prelude.{◌≡◌, [], Some, IfSome, OnErr, OnOk, OnSome};
+ghost use Rattle.std.specs.Io.Buffered.{reader_remaining};
+ghost use Rattle.std.specs.Io.KnownBytes.{IsAtEnd};
+ghost use Rattle.mm_types.specs.Resolved.{Metamodel};
+ghost use Rattle.script_lines.specs.Lines.{lines};
+ghost use Rattle.journal.specs.Disk.{LeavesOnly};
+ghost use Rattle.durable.specs.Outboxes.{IsAtRest, disk_under, held_by, kept_by, noted_by, writer_of};
+ghost use Rattle.script_program.specs.Kept.{EndsJournaled, LeavesJournaled, StopsJournaled, model_of, session_of};
+
+use crate::journaled::Journaled;
+use adapters::Adapter;
+use durable::{Outbox, run_dialogue};
+use journal::Disk;
+use links::LinkStore;
+use script_streams::RunFault;
+use std::alloc::Global;
+use std::io::{BufReader, Read, Write};
+
+/// Runs a script live, as `run_live` does, and keeps each line that changes the model in a journal before it is answered.
+///
+/// What was answered is kept: after a crash at any moment, the journal is that of the model of all lines that were answered, and perhaps
+/// of some that followed them and were not. Lines that come in together are kept together, all of them or none.
+///
+/// Errs with `Read` if a read errs, with `TooLong` if a line has more than `INPUT_BYTES` bytes or the script more than
+/// `u64::MAX - 1` lines, with `Journal` if the disk fails or the journal is full, with `Write` if a write or a flush errs or a write
+/// takes no byte, and with `Memory` if memory is refused to the run itself.
+pub fn run_journal<R: Read, D: Disk, W: Write, L: LinkStore, A: Adapter>(
+    alloc: Global,
+    reader: &mut BufReader<R>,
+    session: &mut Journaled<L, A>,
+    outbox: &mut Outbox<D, W>,
+) -> Result<(), RunFault>
+    requires at_rest { IsAtRest D.seen D.may_leave outbox.old }
+    requires noted { noted_by outbox.old ≡ [] }
+    requires held { held_by outbox.old ≡ [] }
+    ensures ok { (m : Metamodel) → model_of m (kept_by D.seen outbox.old) ≡ Some (session_of session.old).state.model
+        → OnOk result (IfSome (reader_remaining R.remaining reader.old) (λ input. EndsJournaled m (session_of session.old) (lines input)
+        (W.contents (writer_of outbox.old)) (W.contents (writer_of outbox.new)) (kept_by D.seen outbox.new) (session_of session.new))) }
+    ensures end { OnOk result (OnSome (reader_remaining R.remaining reader.old) (IsAtEnd (reader_remaining R.remaining reader.new))) }
+    ensures at_rest { OnOk result (IsAtRest D.seen D.may_leave outbox.new) }
+    // Whatever stops the run, and so also if each call fails because the machine does: what was answered is in each file that may be left.
+    ensures stopped { (m : Metamodel) → model_of m (kept_by D.seen outbox.old) ≡ Some (session_of session.old).state.model
+        → OnErr result (IfSome (reader_remaining R.remaining reader.old) (λ input. StopsJournaled m (session_of session.old) (lines input)
+        (W.contents (writer_of outbox.old)) (W.contents (writer_of outbox.new)) (D.may_leave (disk_under outbox.new)))) }
+    // A crash at any moment of the run leaves a journal of the model that the first lines left.
+    ensures any_moment { (m : Metamodel) → model_of m (kept_by D.seen outbox.old) ≡ Some (session_of session.old).state.model
+        → LeavesOnly D.moment D.left_since (disk_under outbox.old) (disk_under outbox.new)
+        (λ file. IfSome (reader_remaining R.remaining reader.old) (λ input. LeavesJournaled m (session_of session.old) (lines input) file)) }
+{
+    run_dialogue(alloc, reader, session, outbox)
+}

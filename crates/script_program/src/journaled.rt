@@ -1,0 +1,111 @@
+//! Lines whose changes a journal keeps.
+ghost use Rattle.std.specs.Prelude.{◌≡◌, IfOk};
+ghost use Rattle.script_lines.specs.Forms.{form};
+ghost use Rattle.script_program.specs.Kept.{asks_change, journal_turn, line_asks, session_of};
+ghost use Rattle.script_program.specs.Session.{first_session};
+
+use crate::interpreter::Interpreter;
+use crate::turn::Turn;
+use adapters::Adapter;
+use durable::Session;
+use links::LinkStore;
+use mm_meta::Meta;
+use script_lines::{Form, Line, parse_line};
+use std::alloc::{AllocError, Global};
+
+/// An interpreter whose lines are counted by what a journal keeps of them: those that asked for a change of the model, which was done.
+#[derive(Drop)]
+pub struct Journaled<L: LinkStore, A: Adapter> {
+    alloc: Global,
+    interpreter: Interpreter<L, A>,
+    /// How many lines it has run.
+    lines: u64,
+    /// Whether one of them was refused, or bad.
+    is_faulty: bool,
+}
+
+/// Whether a form asks for a change of the model.
+fn is_change(form: &Form<'_>) -> bool
+    ensures { result ≡ asks_change form.now }
+{
+    match form {
+        Form::New { .. }
+        | Form::Set { .. }
+        | Form::Unset { .. }
+        | Form::Add { .. }
+        | Form::Remove { .. }
+        | Form::RemoveValue { .. }
+        | Form::Move { .. }
+        | Form::Resource(_)
+        | Form::Resolve { .. }
+        | Form::ResolveAll
+        | Form::Load { .. }
+        | Form::Delete(_) => true,
+        _ => false,
+    }
+}
+
+/// Whether a line asks for a change of the model. Errs only if memory is refused for the text that the line writes as a value.
+fn asks_for_change(alloc: Global, line: &[u8]) -> Result<bool, AllocError>
+    ensures { IfOk result (λ b. b ≡ line_asks (form line.now)) }
+{
+    match parse_line(alloc, line)? {
+        Line::Form(form) => Ok(is_change(&form)),
+        _ => Ok(false),
+    }
+}
+
+/// How a line that was run counts for a journal. Errs as `asks_for_change` does.
+fn turn_of(alloc: Global, line: &[u8], turn: Turn) -> Result<durable::Turn, AllocError>
+    ensures { IfOk result (λ t. t ≡ journal_turn (line_asks (form line.now)) turn) }
+{
+    match turn {
+        Turn::Done => {
+            if asks_for_change(alloc, line)? {
+                Ok(durable::Turn::Kept)
+            } else {
+                Ok(durable::Turn::Other)
+            }
+        }
+        Turn::Lost => Ok(durable::Turn::Lost),
+        _ => Ok(durable::Turn::Other),
+    }
+}
+
+impl<L: LinkStore, A: Adapter> Journaled<L, A> {
+    /// An interpreter over an empty repository of a metamodel. The n-th of the boxes, from 1 on, is An. Errs only if memory is refused.
+    pub fn new(alloc: Global, meta: Meta, boxes: Vec<A>) -> Result<Self, AllocError>
+        ensures { IfOk result (λ j. session_of j ≡ first_session A.heard meta boxes.items) }
+    {
+        Ok(Journaled {
+            alloc,
+            interpreter: Interpreter::new(alloc, meta, boxes)?,
+            lines: 0,
+            is_faulty: false,
+        })
+    }
+
+    /// How many lines it has run.
+    pub fn lines(&self) -> u64 {
+        self.lines
+    }
+
+    /// Whether a line was refused, or bad.
+    pub fn is_faulty(&self) -> bool {
+        self.is_faulty
+    }
+}
+
+impl<L: LinkStore, A: Adapter> Session for Journaled<L, A> {
+    ghost use Rattle.script_program.specs.Kept.{RunsJournaled};
+
+    ghost runs = { λ j l p k. RunsJournaled (session_of j) l p (session_of k) };
+
+    fn answer(&mut self, line: &[u8], text: &mut Vec<u8>) -> Result<durable::Turn, AllocError> {
+        let turn = self.interpreter.answer(line)?;
+        text.extend_from_slice(self.interpreter.text())?;
+        self.lines = self.lines.saturating_add(1);
+        self.is_faulty = self.is_faulty || turn.is_fault();
+        turn_of(self.alloc, line, turn)
+    }
+}
