@@ -1,4 +1,4 @@
-"""The commands of the package: `python3 -m mmrepo check META PATH..`, `shell META [PATH]` and `stubs META`."""
+"""The commands of the package: `python3 -m mmrepo check META PATH..`, `shell META [PATH]`, `edit META [PATH..]` and `stubs META`."""
 
 from __future__ import annotations
 
@@ -6,10 +6,12 @@ import argparse
 import sys
 
 from . import check, shell, stubs
+from .editor import command as edit
 
 COMMANDS = {
     'check': (check, 'checks each document of folders'),
     'shell': (shell, 'a prompt for the lines of a script'),
+    'edit': (edit, 'an editor in the browser'),
     'stubs': (stubs, 'writes the classes of a metamodel for type checkers'),
 }
 

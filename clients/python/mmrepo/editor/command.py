@@ -1,0 +1,86 @@
+"""`python3 -m mmrepo edit META [PATH..]`: edits models in the browser. docs/EDITOR.md is the page on it."""
+
+from __future__ import annotations
+
+import argparse
+import os
+import re
+import sys
+import threading
+import webbrowser
+from typing import List, Sequence
+
+from ..errors import MmrepoError
+from ..folders import Folder
+from ..loading import XMI_FILES
+from ..repository import Repository
+from ..uris import BASE
+from .files import Files, Given
+from .model import Model
+from .server import Server
+
+WRONG_USE = 2
+_PLAIN = re.compile(r'[A-Za-z0-9_-]+')
+
+
+def add_arguments(parser: argparse.ArgumentParser) -> None:
+    """The arguments of the command."""
+    parser.add_argument('metamodel', metavar='META', help='the file of the metamodel')
+    parser.add_argument('paths', nargs='*', metavar='PATH', help='folders, which are opened; one that is not there is made')
+    parser.add_argument('--port', type=int, default=0, metavar='N', help='the port of the server (a free one)')
+    parser.add_argument('--no-browser', action='store_true', help='opens no browser')
+    parser.add_argument('--base', default=BASE, metavar='URI', help=f'the URI of the folder ({BASE})')
+    parser.add_argument('--ecore', action='append', default=[], metavar='FILE', help='an Ecore file of the metamodel: *.xmi are read too')
+    parser.add_argument('--suffix', action='append', default=[], metavar='TEXT', help='the ending of XMI files, in place of .xmi')
+
+
+def main(words: argparse.Namespace) -> int:
+    """Opens the folders, and serves the page until Ctrl-C."""
+    sys.stdout.reconfigure(errors='backslashreplace')
+    sys.stderr.reconfigure(errors='backslashreplace')
+    try:
+        repo = Repository(words.metamodel)
+        model = _model(repo, words)
+        server = Server(model, words.port)
+    except (OSError, OverflowError, ValueError, MmrepoError) as error:
+        print(f'error: {error}', file=sys.stderr)
+        return WRONG_USE
+    print(server.address, flush=True)
+    if not words.no_browser:
+        threading.Thread(target=webbrowser.open, args=(server.address,), daemon=True).start()
+    try:
+        server.serve_forever()
+    except KeyboardInterrupt:
+        pass
+    model.events.end()
+    server.server_close()
+    _say_unsaved(model)
+    return 0
+
+
+def _model(repo: Repository, words: argparse.Namespace) -> Model:
+    """The model of the folders, or an empty one without a file."""
+    for path in words.paths:
+        os.makedirs(path, exist_ok=True)
+    suffixes = tuple(words.suffix) or XMI_FILES
+    folders: List[Folder] = [repo.open(path, base, words.ecore, False, suffixes) for path, base in zip(words.paths, bases(words))]
+    if not folders:
+        repo.resource(words.base + 'model.json')
+    return Model(repo, Files(repo, Given(os.path.abspath(words.metamodel), tuple(words.ecore), suffixes), folders))
+
+
+def bases(words: argparse.Namespace) -> Sequence[str]:
+    """The URI of each folder: that of `--base`; of several folders each has its own below that, so that they refer to one another as
+    the folders beside each other do."""
+    if len(words.paths) < 2:
+        return [words.base]
+    names = [os.path.basename(os.path.abspath(path)) for path in words.paths]
+    plain = len(set(names)) == len(names) and all(_PLAIN.fullmatch(name) for name in names)
+    return [f'{words.base}{name if plain else number}/' for number, name in enumerate(names)]
+
+
+def _say_unsaved(model: Model) -> None:
+    """Says what was edited and not saved."""
+    names = [it['name'] for it in model.files.listed() if it['resource'] in model.changed]
+    if names:
+        print(f'not saved: {", ".join(names)}', file=sys.stderr)

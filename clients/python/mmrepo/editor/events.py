@@ -1,0 +1,43 @@
+"""What happened, in order: each event has a number, and a window that was away gets what it has missed."""
+
+from __future__ import annotations
+
+import json
+import threading
+from collections import deque
+from typing import Any, Deque, Dict, List, Optional, Tuple
+
+KEPT = 10_000  # events that a window may have missed
+
+
+class Events:
+    """The last events. It is for several threads."""
+
+    def __init__(self) -> None:
+        self._condition = threading.Condition()
+        self._kept: Deque[Tuple[int, str]] = deque(maxlen=KEPT)
+        self._is_over = False
+        self.number = 0  # of the last event
+
+    def tell(self, event: Dict[str, Any]) -> int:
+        """Adds an event, and gives its number."""
+        with self._condition:
+            self.number += 1
+            self._kept.append((self.number, json.dumps({'number': self.number, **event}, separators=(',', ':'))))
+            self._condition.notify_all()
+            return self.number
+
+    def after(self, number: int, seconds: float) -> Optional[List[Tuple[int, str]]]:
+        """The events behind one, each with its number: none, if there is none within so many seconds. None if they are not kept any
+        more, or if nothing will follow."""
+        with self._condition:
+            self._condition.wait_for(lambda: self.number > number or self._is_over, seconds)
+            if self._is_over or number > self.number or number < self.number - len(self._kept):
+                return None
+            return [it for it in self._kept if it[0] > number] if self.number > number else []
+
+    def end(self) -> None:
+        """Nothing more happens."""
+        with self._condition:
+            self._is_over = True
+            self._condition.notify_all()

@@ -1,0 +1,69 @@
+"""Finds objects: by class and text, and for a reference those that conform."""
+
+from __future__ import annotations
+
+from typing import Any, Callable, Dict, Iterator, List, Optional, Tuple
+
+from ..metamodel import EReference, EStructuralFeature
+from .forms import Id
+from .mirror import Entry, Mirror
+
+FOUND, PICKED = 200, 50  # hits that are shown
+
+
+def hit(mirror: Mirror, number: Id) -> Dict[str, Any]:
+    """An object as a hit: its label, its class, and the way to it."""
+    entry = mirror.nodes[number]
+    path = mirror.path(number)
+    return {
+        'object': number, 'label': mirror.label(number), 'class': entry.shape.name if entry.shape else None, 'path': path,
+        'way': [mirror.label(it) for it in path[1:-1]],
+    }
+
+
+def search(mirror: Mirror, text: str, eclass: Optional[str]) -> Dict[str, Any]:
+    """The objects of a class, or of one below it, that have a text in an attribute; and how many there are."""
+    begun = text.casefold()
+    found = [
+        number for number, entry in _objects(mirror)
+        if (eclass is None or mirror.shapes.conforms(_class(entry), eclass)) and (not begun or _has(entry, begun))
+    ]
+    return {'hits': [hit(mirror, it) for it in found[:FOUND]], 'count': len(found)}
+
+
+def picks(mirror: Mirror, node: Id, feature: EStructuralFeature, text: str) -> Dict[str, Any]:
+    """The objects that a reference of a node can take, whose label has a text: first those that begin so."""
+    assert isinstance(feature, EReference)
+    value = mirror.nodes[node].values.get(feature.name, ())
+    taken = set(value) if feature.many else {value}
+    begun = text.casefold()
+    found: List[Tuple[bool, int]] = []
+    for number, entry in _objects(mirror):
+        if number not in taken and mirror.shapes.conforms(_class(entry), feature.eType.name):
+            label = mirror.label(number).casefold()
+            if begun in label:
+                found.append((not label.startswith(begun), number))
+    found.sort()
+    return {'hits': [hit(mirror, number) for _, number in found[:PICKED]], 'count': len(found)}
+
+
+def _objects(mirror: Mirror) -> Iterator[Tuple[int, Entry]]:
+    """All objects."""
+    return ((number, entry) for number, entry in mirror.nodes.items() if isinstance(number, int))
+
+
+def _class(entry: Entry) -> str:
+    """The name of the class of an object."""
+    assert entry.shape is not None
+    return entry.shape.name
+
+
+def _has(entry: Entry, begun: str) -> bool:
+    """Whether an attribute of an object has a text."""
+    assert entry.shape is not None
+    is_link: Callable[[str], bool] = lambda name: entry.shape.forms[name].refers  # noqa: E731
+    return any(
+        begun in str(it).casefold()
+        for name, value in entry.values.items() if not is_link(name)
+        for it in (value if isinstance(value, list) else (value,))
+    )

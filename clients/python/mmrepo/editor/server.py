@@ -1,0 +1,129 @@
+"""The server: connections of this machine alone, at most so many, and none that takes for ever."""
+
+from __future__ import annotations
+
+import json
+import secrets
+import socket
+import sys
+import threading
+import time
+from http.server import ThreadingHTTPServer
+from pathlib import Path
+from typing import Any, Dict, Tuple
+
+from .connection import SECONDS, Connection
+from .model import Model
+
+HOST = '127.0.0.1'
+CONNECTIONS = 200  # that are open at one time
+WINDOWS = 5  # that listen to events: a browser opens six connections to a server, and one is for calls
+KINDS = {'.html': 'text/html; charset=utf-8', '.css': 'text/css; charset=utf-8', '.mjs': 'text/javascript; charset=utf-8',
+         '.svg': 'image/svg+xml'}
+
+
+class Server(ThreadingHTTPServer):
+    """Serves the page of a model, to whom knows the token."""
+
+    daemon_threads = True
+    request_queue_size = 200
+
+    def __init__(self, model: Model, port: int) -> None:
+        """Takes a port; 0 is a free one. An OSError comes if it is not free."""
+        super().__init__((HOST, port), Connection)
+        self.model = model
+        self.token = secrets.token_urlsafe(24)
+        self.page = read_page()
+        self._lock = threading.Lock()
+        # The connections whose request has not come in, until when it may, and whether it is the first one.
+        self._coming: Dict[socket.socket, Tuple[float, bool]] = {}
+        self._open = self._listening = 0
+
+    @property
+    def address(self) -> str:
+        """The address of the page."""
+        return f'http://{HOST}:{self.server_port}/{self.token}/'
+
+    # Connections
+
+    def process_request(self, request: Any, client_address: Any) -> None:
+        """Answers a connection in a thread of its own; one that is too many is told so."""
+        with self._lock:
+            is_taken = self._open < CONNECTIONS
+            self._open += is_taken
+        if is_taken:
+            super().process_request(request, client_address)
+            return
+        _say(request, '503 Service Unavailable', 'BUSY', 'too many connections are open')
+        super().shutdown_request(request)
+
+    def process_request_thread(self, request: Any, client_address: Any) -> None:
+        """Counts a connection until it ends."""
+        try:
+            super().process_request_thread(request, client_address)
+        finally:
+            self.ready(request)
+            with self._lock:
+                self._open -= 1
+
+    def begin(self, connection: socket.socket, is_first: bool) -> None:
+        """A request is waited for."""
+        with self._lock:
+            self._coming[connection] = time.monotonic() + SECONDS, is_first
+
+    def ready(self, connection: socket.socket) -> None:
+        """The request has come in."""
+        with self._lock:
+            self._coming.pop(connection, None)
+
+    def service_actions(self) -> None:
+        """Ends the connections whose requests do not come in. One that had an answer before is ended without a word, since a browser
+        keeps it for a request that may never come."""
+        now = time.monotonic()
+        with self._lock:
+            late = [(it, is_first) for it, (end, is_first) in self._coming.items() if end < now]
+            for it, _ in late:
+                del self._coming[it]
+        for it, is_first in late:
+            if is_first:
+                _say(it, '408 Request Timeout', 'LATE', f'the request did not come in within {SECONDS} seconds')
+            _end(it)
+
+    def listens(self, step: int) -> bool:
+        """Counts a stream of events that begins or ends; False if it is one too many."""
+        with self._lock:
+            if step > 0 and self._listening >= WINDOWS:
+                return False
+            self._listening += step
+            return True
+
+    def handle_error(self, request: Any, client_address: Any) -> None:
+        """Says what failed in the editor itself, without the address; a connection that breaks off is none of it."""
+        kind, error, _ = sys.exc_info()
+        if not isinstance(error, (ConnectionError, socket.timeout)):
+            print(f'error: {kind.__name__ if kind else ""}: {error}', file=sys.stderr)
+
+
+def _say(connection: socket.socket, status: str, name: str, text: str) -> None:
+    """Answers a connection from outside of its thread."""
+    body = json.dumps({'refused': name, 'text': text}) + '\n'
+    head = f'HTTP/1.1 {status}\r\nContent-Type: application/json\r\nContent-Length: {len(body)}\r\nConnection: close\r\n\r\n'
+    try:
+        connection.settimeout(1)
+        connection.sendall((head + body).encode())
+    except OSError:
+        pass  # nobody is there any more
+
+
+def _end(connection: socket.socket) -> None:
+    """Ends a connection; the thread that reads from it finds nothing more."""
+    try:
+        connection.shutdown(socket.SHUT_RDWR)
+    except OSError:
+        pass  # nobody is there any more
+
+
+def read_page() -> Dict[str, Tuple[str, bytes]]:
+    """The files of the page, which are all that is served: each with its kind and content."""
+    files = sorted((Path(__file__).parent / 'page').iterdir())
+    return {file.name: (KINDS[file.suffix], file.read_bytes()) for file in files if file.suffix in KINDS}
