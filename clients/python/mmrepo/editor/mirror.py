@@ -8,7 +8,8 @@ from ..metamodel import Metamodel
 from ..notices import Kind, Notice
 from .forms import CONTENTS, ROOTS, Form, Id, Shape, Shapes, encoded, id_of
 
-Told = Tuple[str, Id, str, Any, Any, int]  # the kind, the node, the feature, the value before and after, and the position
+# The kind, the node, the feature, the value before and after, the position, and the class of the node: None for a resource.
+Told = Tuple[str, Id, str, Any, Any, int, Optional[str]]
 
 
 class Entry:
@@ -76,7 +77,8 @@ class Mirror:
         entry = self.nodes.get(node)
         form = (entry.form(feature) if entry else None) or self.shapes.of(notice.notifier.eClass.name).forms[feature]
         old = notice.old if notice.kind is Kind.MOVE else encoded(form, notice.old)
-        return notice.kind.name, node, feature, old, encoded(form, notice.new), notice.position
+        kind = entry.shape.name if entry and entry.shape else None
+        return notice.kind.name, node, feature, old, encoded(form, notice.new), notice.position, kind
 
     def replay(self, notices: Sequence[Told]) -> Changes:
         """Takes the notices of a command in."""
@@ -94,7 +96,7 @@ class Mirror:
 
     def _move(self, told: Told, come: Dict[int, Tuple[Id, str]], lost: List[int]) -> None:
         """Follows an object that leaves a container, and one that gets one."""
-        kind, node, feature, old, new, _ = told
+        kind, node, feature, old, new = told[:5]
         if kind == 'MOVE' or old == new:
             return
         if isinstance(old, int):
@@ -154,7 +156,7 @@ class Mirror:
 
 def _apply(entry: Entry, form: Form, told: Told) -> None:
     """Changes the one end that a notice names. What it can't be true of is passed over."""
-    kind, _, name, old, new, at = told
+    kind, _, name, old, new, at, _ = told
     if kind in ('SET', 'UNSET') or kind == 'RESOLVE' and at < 0:
         entry.put(form, new)
         if form.unsettable:
