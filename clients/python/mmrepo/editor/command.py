@@ -8,6 +8,7 @@ import re
 import sys
 import threading
 import webbrowser
+from contextlib import closing
 from typing import List, Sequence
 
 from ..errors import MmrepoError
@@ -40,22 +41,37 @@ def main(words: argparse.Namespace) -> int:
     sys.stderr.reconfigure(errors='backslashreplace')
     try:
         repo = Repository(words.metamodel)
-        model = _model(repo, words)
-        server = Server(model, words.port)
-    except (OSError, OverflowError, ValueError, MmrepoError) as error:
-        print(f'error: {error}', file=sys.stderr)
-        return WRONG_USE
-    print(server.address, flush=True)
-    if not words.no_browser:
-        threading.Thread(target=webbrowser.open, args=(server.address,), daemon=True).start()
+    except (OSError, ValueError, MmrepoError) as error:
+        return _wrong(error)
+    with closing(repo):
+        try:
+            model = _model(repo, words)
+            server = Server(model, words.port)
+        except (OSError, OverflowError, ValueError, MmrepoError) as error:
+            return _wrong(error)
+        with server:
+            _serve(server, not words.no_browser)
+        with model.lock:  # no connection is in the middle of a call
+            _say_unsaved(model)
+            return 0
+
+
+def _wrong(error: BaseException) -> int:
+    """Says why the editor does not begin."""
+    print(f'error: {error}', file=sys.stderr)
+    return WRONG_USE
+
+
+def _serve(server: Server, has_browser: bool) -> None:
+    """Serves the page until Ctrl-C."""
     try:
+        print(server.address, flush=True)
+        if has_browser:
+            threading.Thread(target=webbrowser.open, args=(server.address,), daemon=True).start()
         server.serve_forever()
     except KeyboardInterrupt:
         pass
-    model.events.end()
-    server.server_close()
-    _say_unsaved(model)
-    return 0
+    server.model.events.end()
 
 
 def _model(repo: Repository, words: argparse.Namespace) -> Model:

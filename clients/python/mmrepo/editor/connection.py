@@ -46,7 +46,7 @@ class Connection(BaseHTTPRequestHandler):
     server: Server
     protocol_version = 'HTTP/1.1'
     server_version, sys_version = 'mmrepo', ''
-    timeout = SECONDS
+    timeout = SECONDS + 5  # of a socket; that of a request is looked at by the server, which says so
     wbufsize = -1  # so that an answer is one write
     disable_nagle_algorithm = True
     _is_first = True
@@ -171,6 +171,8 @@ class Connection(BaseHTTPRequestHandler):
         """Answers what is wrong as JSON, and ends the connection."""
         text = json.dumps({'refused': HTTPStatus(code).name, 'text': message or HTTPStatus(code).phrase})
         self.close_connection = True
+        if self.request_version == 'HTTP/0.9':  # so it is if the first line is not understood
+            self.request_version = 'HTTP/1.0'
         self._send(HTTPStatus(code), 'application/json', text.encode() + b'\n', {'Connection': 'close'})
 
     def _events(self, after: Any) -> None:
@@ -198,7 +200,7 @@ class Connection(BaseHTTPRequestHandler):
             self.wfile.flush()
             events = self.server.model.events.after(sent, BEAT)
             if events is None:
-                self.wfile.write(b'event: lost\ndata: 0\n\n')
+                self.wfile.write(b'' if self.server.model.events.is_over else b'event: lost\ndata: 0\n\n')
                 break
             for sent, text in events:
                 self.wfile.write(f'id: {sent}\ndata: {text}\n\n'.encode())

@@ -9,6 +9,7 @@ from ..errors import Refused
 from ..metamodel import EAttribute, EReference, EStructuralFeature
 from ..objects import EObject
 from ..repository import Repository
+from ..values import GREATEST_INTEGER, LEAST_INTEGER
 from .forms import CONTENTS, Id
 from .mirror import Mirror
 from .reading import object_of
@@ -163,9 +164,10 @@ class Edits:
         assert isinstance(feature, EAttribute)
         if feature.eType.name in NUMBERS and not isinstance(value, bool):
             found = _WHOLE.fullmatch(str(value))
-            if found is None:
+            number = int(found[1] + found[2]) if found else None
+            if number is None or not LEAST_INTEGER <= number <= GREATEST_INTEGER:
                 raise NotDone('TYPE', f'TYPE: {feature.name} takes {wanted(feature)}')
-            return int(found[1] + found[2])
+            return number
         if not isinstance(value, bool if feature.eType.name == 'EBoolean' else str):
             raise NotDone('TYPE', f'TYPE: {feature.name} takes {wanted(feature)}')
         return value

@@ -16,7 +16,7 @@ class Events:
     def __init__(self) -> None:
         self._condition = threading.Condition()
         self._kept: Deque[Tuple[int, str]] = deque(maxlen=KEPT)
-        self._is_over = False
+        self.is_over = False
         self.number = 0  # of the last event
 
     def tell(self, event: Dict[str, Any]) -> int:
@@ -29,15 +29,15 @@ class Events:
 
     def after(self, number: int, seconds: float) -> Optional[List[Tuple[int, str]]]:
         """The events behind one, each with its number: none, if there is none within so many seconds. None if they are not kept any
-        more, or if nothing will follow."""
+        more, or if nothing follows."""
         with self._condition:
-            self._condition.wait_for(lambda: self.number > number or self._is_over, seconds)
-            if self._is_over or number > self.number or number < self.number - len(self._kept):
+            self._condition.wait_for(lambda: self.number > number or self.is_over, seconds)
+            if self.is_over or number > self.number or number < self.number - len(self._kept):
                 return None
             return [it for it in self._kept if it[0] > number] if self.number > number else []
 
     def end(self) -> None:
         """Nothing more happens."""
         with self._condition:
-            self._is_over = True
+            self.is_over = True
             self._condition.notify_all()

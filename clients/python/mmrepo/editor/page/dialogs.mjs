@@ -107,6 +107,8 @@ export function fill(title, fields, yes, send) {
 export function showLines(title, first, lines, buttons = []) {
   const { box, body, foot } = makeDialog(title);
   body.append(element('p', {}, first), element('ul', { class: 'lines' }, ...lines.map((it) => element('li', {}, it))));
-  foot.append(...buttons, element('button', { type: 'button', class: 'primary', onclick: () => box.close() }, 'Close'));
+  const close = element('button', { type: 'button', class: 'primary', onclick: () => box.close() }, 'Close');
+  foot.append(...buttons, close);
+  close.focus();
   return box;
 }

@@ -145,6 +145,7 @@ class ReferenceField {
   constructor(row) {
     this.row = row;
     this.element = element('div', { class: 'reference' });
+    this.shown = ''; // what the element was made for
     this.pick = row.feature.contains || row.feature.holds ? null : pickButton(row, 'pick', `Choose ${row.feature.name}`, 'set');
     this.pick?.setAttribute('id', row.name);
   }
@@ -156,6 +157,11 @@ class ReferenceField {
 
   update() {
     const value = this.row.value();
+    const key = JSON.stringify([value, typeof value === 'number' && this.row.model.label(value)]);
+    if (key === this.shown) {
+      return;
+    }
+    this.shown = key;
     const none = this.row.feature.contains ? element('span', { class: 'none' }, 'none: make it in the tree') : element('span', { class: 'none' }, 'null');
     this.element.replaceChildren(...[value === null ? none : valueElement(this.row, value, 0), this.pick].filter((it) => it !== null));
   }

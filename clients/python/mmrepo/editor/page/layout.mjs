@@ -10,7 +10,7 @@
 /** The middle of each box, the points of each line, and the size. @typedef {{boxes: Spot[], lines: Point[][], width: number, height: number}} Layout */
 
 const GAP = 36; // between boxes
-const LAYERS = 76; // between layers
+const LAYERS = 100; // between layers
 const WIDEST = 1500; // of the rows of boxes without lines
 const SWEEPS = 12;
 
@@ -36,7 +36,8 @@ export function layOut(picture, sizes) {
   setPlaces(layers, spots);
   const width = Math.max(0, ...spots.filter((_, at) => !lone.has(at)).map((it) => it.x + it.width / 2));
   const size = placeLone([...lone].map((it) => spots[it]), Math.max(width, Math.min(WIDEST, 900)), Math.max(0, ...layers.flat().map((it) => spots[it].y + spots[it].height / 2)));
-  const lines = chains.map((chain, at) => (kept[at].isTurned ? [...chain].reverse() : chain).map((it) => ({ x: spots[it].x, y: spots[it].y })));
+  const ways = setPorts(chains, spots);
+  const lines = ways.map((way, at) => (kept[at].isTurned ? way.reverse() : way));
   return { boxes: spots.slice(0, sizes.length), lines, width: Math.max(width, size.width), height: size.height };
 }
 
@@ -201,6 +202,36 @@ function pull(layer, spots, side) {
     left[at] = Math.min(left[at], left[at + 1] - gap(at));
   }
   layer.forEach((it, at) => (spots[it].x = (left[at] + right[at]) / 2));
+}
+
+/**
+ * Gives each line its own place at the lower side of the box that it begins at, and at the upper side of the one where it ends, in the order
+ * in which its next points are.
+ * @param {number[][]} chains
+ * @param {Spot[]} spots
+ * @returns {Point[][]}
+ */
+function setPorts(chains, spots) {
+  const ways = chains.map((chain) => chain.map((it) => ({ x: spots[it].x, y: spots[it].y })));
+  for (const side of [0, 1]) {
+    /** @type {Map<number, number[]>} */
+    const lines = new Map();
+    chains.forEach((chain, line) => {
+      const box = side === 0 ? chain[0] : chain[chain.length - 1];
+      lines.set(box, [...(lines.get(box) ?? []), line]);
+    });
+    for (const [box, some] of lines) {
+      const next = (/** @type {number} */ line) => spots[side === 0 ? chains[line][1] : chains[line][chains[line].length - 2]].x;
+      some.sort((one, other) => next(one) - next(other) || one - other);
+      const { x, y, width, height } = spots[box];
+      some.forEach((line, at) => {
+        const port = ways[line][side === 0 ? 0 : ways[line].length - 1];
+        port.x = x - width / 2 + (width * (at + 1)) / (some.length + 1);
+        port.y = side === 0 ? y + height / 2 : y - height / 2;
+      });
+    }
+  }
+  return ways;
 }
 
 /**

@@ -16,6 +16,7 @@ export class ListField {
   constructor(row) {
     this.row = row;
     this.most = SOME;
+    this.shown = ''; // what the list was made for
     this.isHeld = row.feature.contains;
     this.list = element('ol', { class: 'values', 'aria-labelledby': `${row.name}-label` });
     this.more = element('button', { type: 'button', class: 'small more', onclick: () => this.showMore() });
@@ -34,6 +35,12 @@ export class ListField {
 
   update() {
     const values = this.row.value();
+    const { model, feature } = this.row;
+    const key = JSON.stringify([this.most, values.length, values.slice(0, this.most).map((/** @type {any} */ it) => (feature.refers && typeof it === 'number' ? [it, model.label(it)] : it))]);
+    if (key === this.shown) {
+      return;
+    }
+    this.shown = key;
     const focused = this.list.contains(document.activeElement) ? document.activeElement?.getAttribute('data-key') : null;
     this.list.replaceChildren(...values.slice(0, this.most).map((/** @type {any} */ it, /** @type {number} */ at) => this.item(it, at, values.length)));
     const left = values.length - this.most;

@@ -2,7 +2,7 @@
 /** The page: joins its parts, and hears the events. */
 
 import { byId, element } from './dom.mjs';
-import { say, showLines } from './dialogs.mjs';
+import { showLines } from './dialogs.mjs';
 import { TreeEdits } from './edits.mjs';
 import { Files } from './files.mjs';
 import { Model } from './model.mjs';
@@ -67,7 +67,6 @@ function connected(state) {
 function findings(lines) {
   const says = `${lines.length} ${lines.length === 1 ? 'finding' : 'findings'}`;
   byId('findings').replaceChildren(element('button', { type: 'button', class: 'small', onclick: () => showLines('Findings', 'This was found when the folders were opened:', lines) }, says));
-  say(`${says} when the folders were opened: see below.`);
 }
 
 /** Has the border between the tree and the properties be moved, by a pointer and by keys. */

@@ -16,6 +16,9 @@ import { call } from './server.mjs';
 const ROW = 18; // height of a row
 const HEAD = 28;
 const SIDE = 12; // space beside a text
+const PORT = 34; // between two lines at a box
+const MOST_PORTS = 14;
+const SPREAD = [0.5, 0.34, 0.62];
 const FEW = 40; // classes that are drawn at once; of more a part is drawn, around one class
 
 /**
@@ -26,11 +29,15 @@ const FEW = 40; // classes that are drawn at once; of more a part is drawn, arou
  */
 export function drawPicture(text, press) {
   const picture = readMermaid(text);
-  const made = layOut(picture, picture.boxes.map(sizeOf));
+  const made = layOut(picture, picture.boxes.map((it) => sizeOf(it, picture.lines)));
   const places = new Map(picture.boxes.map((it, at) => [it.name, made.boxes[at]]));
-  const lines = picture.lines.map((it, at) => drawLine(it, made.lines[at], places));
+  const lines = picture.lines.map((it, at) => drawLine(it, made.lines[at], places, SPREAD[at % SPREAD.length]));
   const boxes = picture.boxes.map((it, at) => drawBox(it, made.boxes[at], press));
-  const [width, height] = [Math.ceil(made.width + 24), Math.ceil(made.height + 12)];
+  const loops = picture.lines.filter((it) => it.from === it.to).map((it) => {
+    const box = places.get(it.from);
+    return box ? box.x + box.width / 2 + 30 + widthOf(it.label) : 0;
+  });
+  const [width, height] = [Math.ceil(Math.max(made.width, ...loops) + 24), Math.ceil(made.height + 12)];
   return drawn('svg', { class: 'picture', viewBox: `0 0 ${width} ${height}`, width, height, role: 'img', 'aria-label': `A picture of ${picture.boxes.length} boxes` }, markers(), ...lines, ...boxes);
 }
 
@@ -53,14 +60,18 @@ function widthOf(text, isBold = false) {
 }
 
 /**
- * The size of a box.
+ * The size of a box: it has room for its texts, and for the lines at its upper and lower side.
  * @param {Box} box
+ * @param {Line[]} lines
  * @returns {{width: number, height: number}}
  */
-function sizeOf(box) {
-  const width = Math.max(70, widthOf(box.title, true), widthOf(`«${box.above}»`), ...box.rows.map((it) => widthOf(it)));
+function sizeOf(box, lines) {
+  const others = lines.filter((it) => it.from !== it.to);
+  const ports = Math.max(others.filter((it) => it.from === box.name).length, others.filter((it) => it.to === box.name).length);
+  const text = Math.max(46, widthOf(box.title, true), widthOf(`«${box.above}»`), ...box.rows.map((it) => widthOf(it)));
   const head = HEAD + (box.above ? 14 : 0);
-  return { width: Math.ceil(width + 2 * SIDE), height: head + (box.rows.length > 0 ? box.rows.length * ROW + 10 : 0) };
+  const width = Math.max(text + 2 * SIDE, (Math.min(ports, MOST_PORTS) + 1) * PORT);
+  return { width: Math.ceil(width), height: head + (box.rows.length > 0 ? box.rows.length * ROW + 10 : 0) };
 }
 
 /**
@@ -90,9 +101,10 @@ function drawBox(box, at, press) {
  * @param {Line} line
  * @param {Point[]} points
  * @param {Map<string, Spot>} places
+ * @param {number} spread the part of a short line at which its label is, so that those of neighbours do not lie on each other
  * @returns {SVGElement}
  */
-function drawLine(line, points, places) {
+function drawLine(line, points, places, spread) {
   const [from, to] = [places.get(line.from), places.get(line.to)];
   if (!from || !to) {
     return drawn('g');
@@ -102,29 +114,16 @@ function drawLine(line, points, places) {
     const way = `M${right} ${y - 12}h22v24h-22`;
     return drawn('g', { class: `edge ${line.kind}` }, drawn('path', { d: way }), drawn('text', { x: right + 26, y: y + 4, class: 'self' }, line.label));
   }
-  const whole = [border(from, points[1]), ...points.slice(1, -1), border(to, points[points.length - 2])];
-  const half = Math.floor((whole.length - 1) / 2);
-  const label = between(whole[half], whole[half + 1], 0.5);
-  const near = between(whole[0], whole[1], Math.min(0.4, 20 / distance(whole[0], whole[1])));
-  const last = whole.length - 1;
-  const far = between(whole[last], whole[last - 1], Math.min(0.4, 20 / distance(whole[last], whole[last - 1])));
+  const half = Math.floor((points.length - 1) / 2);
+  const label = between(points[half], points[half + 1], points.length > 2 ? 0.5 : spread);
+  const last = points.length - 1;
+  const near = between(points[0], points[1], Math.min(0.4, 22 / distance(points[0], points[1])));
+  const far = between(points[last], points[last - 1], Math.min(0.4, 22 / distance(points[last], points[last - 1])));
   return drawn(
-    'g', { class: `edge ${line.kind}` }, drawn('path', { d: `M${whole.map((it) => `${round(it.x)} ${round(it.y)}`).join('L')}` }),
+    'g', { class: `edge ${line.kind}` }, drawn('path', { d: `M${points.map((it) => `${round(it.x)} ${round(it.y)}`).join('L')}` }),
     drawn('text', { x: label.x, y: label.y + 4 }, line.label),
     drawn('text', { x: near.x + 8, y: near.y + 4, class: 'end' }, line.near), drawn('text', { x: far.x + 8, y: far.y + 4, class: 'end' }, line.far),
   );
-}
-
-/**
- * Where a line from the middle of a box to a point leaves the box.
- * @param {Spot} box
- * @param {Point} point
- * @returns {Point}
- */
-function border(box, point) {
-  const [dx, dy] = [point.x - box.x, point.y - box.y];
-  const part = Math.min(dx === 0 ? Infinity : box.width / 2 / Math.abs(dx), dy === 0 ? Infinity : box.height / 2 / Math.abs(dy), 1);
-  return { x: box.x + dx * part, y: box.y + dy * part };
 }
 
 /** @param {Point} one @param {Point} other @param {number} part @returns {Point} */

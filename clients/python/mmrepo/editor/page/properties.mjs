@@ -164,7 +164,7 @@ export class Row {
   /** What the feature has. @returns {any} */
   value() {
     const state = this.model.nodes.get(this.id);
-    return state ? this.model.get(state, this.feature) : null;
+    return state ? this.model.get(state, this.feature) : this.feature.many ? [] : null;
   }
 
   /** Shows what the feature has now. */

@@ -20,6 +20,8 @@ import { CONTENTS } from './metamodel.mjs';
  * @property {number} size how many siblings there are
  */
 
+/** An element of a row, and what it was made for. @typedef {{key: string, made: HTMLElement}} Drawn */
+
 export const HEIGHT = 28; // of a row
 const SPARE = 6; // rows that are drawn above and below those that are seen
 
@@ -47,9 +49,10 @@ export class Tree {
     top.append(this.inner);
     this.isStale = this.isWaiting = false;
     this.letters = '';
+    /** @type {Map<Id, Drawn>} */
+    this.drawn = new Map();
     top.addEventListener('scroll', () => this.draw(), { passive: true });
     top.addEventListener('click', (event) => this.press(event));
-    top.addEventListener('dblclick', (event) => this.toggle(this.rowAt(event)?.id ?? null));
     new ResizeObserver(() => this.draw()).observe(top);
     model.users.push(() => this.used());
     model.hearers.push((touched) => this.hear(touched));
@@ -125,7 +128,7 @@ export class Tree {
 
   // What is drawn
 
-  /** Draws the rows that are seen. */
+  /** Draws the rows that are seen. An element stays as long as it shows what its row is. */
   draw() {
     if (this.isStale) {
       this.remake();
@@ -133,74 +136,81 @@ export class Tree {
     this.inner.style.height = `${this.rows.length * HEIGHT}px`;
     const first = Math.max(0, Math.floor(this.top.scrollTop / HEIGHT) - SPARE);
     const shown = this.shown();
-    this.inner.replaceChildren(...shown.map((row, at) => this.drawRow(row, first + at)));
-    const isSeen = shown.some((row) => row.id === this.selected);
-    change(this.top, { 'aria-activedescendant': isSeen ? `row-${this.selected}` : undefined });
+    const before = this.drawn;
+    this.drawn = new Map(shown.map((row, at) => [row.id, this.drawRow(row, first + at, before.get(row.id))]));
+    for (const [id, one] of before) {
+      this.drawn.get(id)?.made === one.made || one.made.remove();
+    }
+    let last = null;
+    for (const { made } of this.drawn.values()) {
+      if (made.parentElement !== this.inner || made.previousElementSibling !== last) {
+        this.inner.insertBefore(made, last ? last.nextSibling : this.inner.firstChild);
+      }
+      last = made;
+    }
+    change(this.top, { 'aria-activedescendant': this.selected !== null && this.drawn.has(this.selected) ? `row-${this.selected}` : undefined });
   }
 
   /**
-   * The element of a row.
+   * The element of a row: the one that there is, if it shows the same.
    * @param {Row} row
    * @param {number} at its number from the top
-   * @returns {HTMLElement}
+   * @param {Drawn | undefined} before
+   * @returns {Drawn}
    */
-  drawRow(row, at) {
+  drawRow(row, at, before) {
+    const says = this.says(row);
+    const key = JSON.stringify([says, row.level, row.place, row.size]);
+    const one = before?.key === key ? before : { key, made: this.makeRow(row, says) };
+    const isSelected = row.id === this.selected;
+    one.made.dataset.at = String(at);
+    one.made.style.transform = `translateY(${at * HEIGHT}px)`;
+    one.made.classList.toggle('selected', isSelected);
+    one.made.classList.toggle('marked', row.id === this.marked);
+    one.made.setAttribute('aria-selected', String(isSelected));
+    return one;
+  }
+
+  /**
+   * What a row shows.
+   * @param {Row} row
+   */
+  says(row) {
     const state = this.model.need(row.id);
     const hasParts = this.model.hasParts(row.id);
-    const isSelected = row.id === this.selected;
-    const isOpen = this.open.has(row.id);
-    const problem = this.model.problems.has(row.id);
-    const kind = state ? state.class : typeof row.id === 'string' ? null : '';
+    return {
+      label: this.model.label(row.id), kind: state ? state.class : typeof row.id === 'string' ? null : '', isOpen: hasParts ? this.open.has(row.id) : null,
+      isWrong: this.model.problems.has(row.id), isChanged: typeof row.id === 'string' && this.model.changed.has(row.id),
+      canAdd: !!state && this.model.metamodel.partsOf(state.class).length > 0,
+      where: row.holder === null || row.feature === CONTENTS ? '' : row.feature.many ? `${row.feature.name} ${row.index}` : row.feature.name,
+    };
+  }
+
+  /**
+   * Makes the element of a row.
+   * @param {Row} row
+   * @param {ReturnType<Tree['says']>} says
+   * @returns {HTMLElement}
+   */
+  makeRow(row, { label, kind, isOpen, isWrong, isChanged, canAdd, where }) {
+    const spoken = `${label}, ${kind ?? 'file'}${isWrong ? ', has problems' : ''}${isChanged ? ', edited' : ''}`;
     const made = element(
       'div',
       {
-        id: `row-${row.id}`, role: 'treeitem', 'data-id': row.id, 'data-at': at,
-        class: `row${isSelected ? ' selected' : ''}${row.id === this.marked ? ' marked' : ''}`,
-        'aria-level': row.level, 'aria-posinset': row.place, 'aria-setsize': row.size, 'aria-selected': String(isSelected),
-        'aria-expanded': hasParts ? String(isOpen) : undefined, 'aria-label': this.spoken(row, kind, problem),
+        id: `row-${row.id}`, role: 'treeitem', class: 'row', 'aria-level': row.level, 'aria-posinset': row.place, 'aria-setsize': row.size,
+        'aria-expanded': isOpen === null ? undefined : String(isOpen), 'aria-label': spoken,
       },
-      element('span', { class: 'twist' }, hasParts && icon(isOpen ? 'open' : 'closed')),
+      element('span', { class: 'twist' }, isOpen !== null && icon(isOpen ? 'open' : 'closed')),
       badge(kind === '' ? '?' : kind),
-      element('span', { class: 'label' }, this.model.label(row.id)),
+      element('span', { class: 'label' }, label),
       element('span', { class: 'kind' }, kind || ''),
-      problem && element('span', { class: 'problem', title: 'it has problems' }, icon('warning')),
-      this.isChanged(row.id) && element('span', { class: 'changed', title: 'it was edited since it was saved' }, '●'),
-      element('span', { class: 'where' }, row.holder === null || row.feature === CONTENTS ? '' : this.where(row)),
-      isSelected && state && this.model.metamodel.partsOf(state.class).length > 0 && iconButton('add', 'New child', (event) => this.add(row.id, /** @type {HTMLElement} */ (event.currentTarget)), { tabindex: -1 }),
+      isWrong && element('span', { class: 'problem', title: 'it has problems' }, icon('warning')),
+      isChanged && element('span', { class: 'changed', title: 'it was edited since it was saved' }, '●'),
+      element('span', { class: 'where' }, where),
+      canAdd && iconButton('add', 'New child', (event) => this.add(row.id, /** @type {HTMLElement} */ (event.currentTarget)), { tabindex: -1 }),
     );
-    made.style.transform = `translateY(${at * HEIGHT}px)`;
     made.style.setProperty('--level', String(row.level - 1));
     return made;
-  }
-
-  /**
-   * What is read of a row.
-   * @param {Row} row
-   * @param {string | null} kind
-   * @param {boolean} problem
-   * @returns {string}
-   */
-  spoken(row, kind, problem) {
-    const file = this.isChanged(row.id) ? ', edited' : '';
-    return `${this.model.label(row.id)}, ${kind ?? 'file'}${problem ? ', has problems' : ''}${file}`;
-  }
-
-  /**
-   * The feature and the index of a row.
-   * @param {Row} row
-   * @returns {string}
-   */
-  where(row) {
-    return row.feature.many ? `${row.feature.name} ${row.index}` : row.feature.name;
-  }
-
-  /**
-   * Whether a node is a resource that was edited.
-   * @param {Id} id
-   * @returns {boolean}
-   */
-  isChanged(id) {
-    return typeof id === 'string' && this.model.changed.has(id);
   }
 
   // What is selected
@@ -268,7 +278,7 @@ export class Tree {
   }
 
   /**
-   * A click opens or closes a node at its mark, and selects it elsewhere.
+   * A click opens or closes a node at its mark, and selects it elsewhere; there a second one opens or closes it.
    * @param {MouseEvent} event
    */
   press(event) {
@@ -277,7 +287,7 @@ export class Tree {
     if (row && target.closest('.twist') && this.model.hasParts(row.id)) {
       this.toggle(row.id);
     } else if (row && !target.closest('button')) {
-      this.select(row.id);
+      event.detail % 2 === 0 ? this.toggle(row.id) : this.select(row.id);
     }
   }
 
