@@ -3,6 +3,7 @@
 from __future__ import annotations
 
 import argparse
+import gc
 import os
 import re
 import sys
@@ -76,13 +77,17 @@ def _serve(server: Server, has_browser: bool) -> None:
 
 def _model(repo: Repository, words: argparse.Namespace) -> Model:
     """The model of the folders, or an empty one without a file."""
+    gc.disable()  # what is read stays: to look through it again and again would make each edit wait now and then
     for path in words.paths:
         os.makedirs(path, exist_ok=True)
     suffixes = tuple(words.suffix) or XMI_FILES
     folders: List[Folder] = [repo.open(path, base, words.ecore, False, suffixes) for path, base in zip(words.paths, bases(words))]
     if not folders:
         repo.resource(words.base + 'model.json')
-    return Model(repo, Files(repo, Given(os.path.abspath(words.metamodel), tuple(words.ecore), suffixes), folders))
+    model = Model(repo, Files(repo, Given(os.path.abspath(words.metamodel), tuple(words.ecore), suffixes), folders))
+    gc.freeze()
+    gc.enable()
+    return model
 
 
 def bases(words: argparse.Namespace) -> Sequence[str]:
