@@ -154,7 +154,12 @@ class BrowserTest(EditorTest):
     def open(self, *words, **options):
         """Starts an editor, and opens its page in the window."""
         self.browser.go(self.start(*words, **options))
+        self.addCleanup(self.check_console)
         self.settle()
+
+    def check_console(self):
+        """No script has failed. A call that is refused, and a server that is gone, are told there too."""
+        self.assertEqual([it for it in self.browser.log() if 'Failed to load resource' not in it], [])
 
     def js(self, code, *words):
         """What a piece of code gives in the page."""
