@@ -282,7 +282,7 @@ class Streams(ServerTest):
 
     def test_refused_edits(self):
         """What is refused changes nothing, and no window hears of it."""
-        self.assertEqual(self.call('new', class_='Person', node=0, feature='books'), 'TYPE: books takes a Book')
+        self.assertEqual(self.call('new', class_='Person', node=0, feature='books'), 'TYPE: books takes objects of class Book')
         self.assertEqual(self.call('new', class_='Named', node=0, feature='books'), 'ABSTRACT: the class is abstract')
         self.assertEqual(self.call('set', object=1, feature='library', value=None), 'HELD: library is changed in the tree, so that no object is lost: delete, drag, or make a new one')
         self.assertRegex(self.call('unset', object=0, feature='books'), '^HELD: ')

@@ -53,11 +53,11 @@ def in_words(refused: Refused, attempt: Attempt) -> str:
 def wanted(feature: Optional[EStructuralFeature]) -> str:
     """What values a feature takes."""
     if feature is None:
-        return 'an object'
+        return 'objects'
     kind = feature.eType
     if isinstance(kind, EEnum):
         return f'one of {", ".join(kind.eLiterals)}'
-    return RANGES.get(kind.name) or f'a {kind.name}'
+    return RANGES.get(kind.name) or f'objects of class {kind.name}'
 
 
 def _bound(attempt: Attempt) -> str:

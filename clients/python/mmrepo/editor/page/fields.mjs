@@ -184,7 +184,7 @@ export function pickButton(row, shown, label, verb) {
   };
   return iconButton(shown, label, (event) => {
     const anchor = /** @type {HTMLElement} */ (event.currentTarget);
-    openPicker(anchor, `${label}: a ${row.feature.type}`, source, (value) => row.edit(verb, { value }));
+    openPicker(anchor, `${label} (${row.feature.type})`, source, (value) => row.edit(verb, { value }));
   });
 }
 

@@ -11,7 +11,8 @@
 
 const GAP = 36; // between boxes
 const LAYERS = 100; // between layers
-const WIDEST = 1500; // of the rows of boxes without lines
+const ASIDE = 110; // between columns of boxes without lines: a line of a box to itself has its label there
+const LEAST = 600; // height of a column
 const SWEEPS = 12;
 
 /**
@@ -34,11 +35,13 @@ export function layOut(picture, sizes) {
     order(layers, spots, sweep % 2 === 0 ? 'up' : 'down');
   }
   setPlaces(layers, spots);
-  const width = Math.max(0, ...spots.filter((_, at) => !lone.has(at)).map((it) => it.x + it.width / 2));
-  const size = placeLone([...lone].map((it) => spots[it]), Math.max(width, Math.min(WIDEST, 900)), Math.max(0, ...layers.flat().map((it) => spots[it].y + spots[it].height / 2)));
+  const joined = spots.filter((_, at) => !lone.has(at));
+  const width = Math.max(0, ...joined.map((it) => it.x + it.width / 2));
+  const height = Math.max(0, ...joined.map((it) => it.y + it.height / 2));
+  const size = placeLone([...lone].map((it) => spots[it]), width, height);
   const ways = setPorts(chains, spots);
   const lines = ways.map((way, at) => (kept[at].isTurned ? way.reverse() : way));
-  return { boxes: spots.slice(0, sizes.length), lines, width: Math.max(width, size.width), height: size.height };
+  return { boxes: spots.slice(0, sizes.length), lines, ...size };
 }
 
 /**
@@ -235,23 +238,24 @@ function setPorts(chains, spots) {
 }
 
 /**
- * Puts boxes without lines in rows below the others.
+ * Puts boxes without lines in columns on the right of the others. Gives the whole size.
  * @param {Spot[]} lone
- * @param {number} widest
- * @param {number} above
+ * @param {number} width of the others
+ * @param {number} height of the others
  * @returns {{width: number, height: number}}
  */
-function placeLone(lone, widest, above) {
-  let [left, top, tall, width] = [GAP / 2, above + GAP, 0, 0];
+function placeLone(lone, width, height) {
+  const tall = Math.max(height, LEAST);
+  let [left, top, wide, low] = [width + (width > 0 ? ASIDE : GAP / 2), GAP / 2, 0, height];
   for (const spot of lone) {
-    if (left + spot.width > widest && left > GAP) {
-      [left, top, tall] = [GAP / 2, top + tall + GAP, 0];
+    if (top + spot.height > tall && top > GAP) {
+      [left, top, wide] = [left + wide + ASIDE, GAP / 2, 0];
     }
     spot.x = left + spot.width / 2;
     spot.y = top + spot.height / 2;
-    left += spot.width + GAP;
-    tall = Math.max(tall, spot.height);
-    width = Math.max(width, left);
+    top += spot.height + GAP;
+    low = Math.max(low, top - GAP);
+    wide = Math.max(wide, spot.width);
   }
-  return { width, height: lone.length > 0 ? top + tall + GAP / 2 : above + GAP / 2 };
+  return { width: lone.length > 0 ? left + wide : width, height: low + GAP / 2 };
 }

@@ -63,7 +63,7 @@ class Picker {
     const { offsetWidth: width, offsetHeight: height } = this.box;
     const below = at.bottom + 4 + height <= innerHeight || at.top < height;
     this.box.style.left = `${Math.max(8, Math.min(at.left, innerWidth - width - 8))}px`;
-    this.box.style.top = `${Math.max(8, below ? Math.min(at.bottom + 4, innerHeight - height - 8) : at.top - height - 4)}px`;
+    this.box.style.top = `${Math.max(8, Math.min(below ? at.bottom + 4 : at.top - height - 4, innerHeight - height - 8))}px`;
   }
 
   /** Asks for what there is to pick. An answer that comes too late is left out. */

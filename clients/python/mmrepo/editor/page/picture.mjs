@@ -38,7 +38,7 @@ export function drawPicture(text, press) {
     return box ? box.x + box.width / 2 + 30 + widthOf(it.label) : 0;
   });
   const [width, height] = [Math.ceil(Math.max(made.width, ...loops) + 24), Math.ceil(made.height + 12)];
-  return drawn('svg', { class: 'picture', viewBox: `0 0 ${width} ${height}`, width, height, role: 'img', 'aria-label': `A picture of ${picture.boxes.length} boxes` }, markers(), ...lines, ...boxes);
+  return drawn('svg', { class: 'picture', viewBox: `0 0 ${width} ${height}`, width, height, role: 'img', 'aria-label': `A picture of ${picture.boxes.length} boxes` }, markers(), ...lines.map((it) => it[0]), ...boxes, ...lines.map((it) => it[1]));
 }
 
 /** @type {CanvasRenderingContext2D | null} */
@@ -97,33 +97,42 @@ function drawBox(box, at, press) {
 }
 
 /**
- * A line with its label and what is at its ends.
+ * A line, and its label with what is at its ends.
  * @param {Line} line
  * @param {Point[]} points
  * @param {Map<string, Spot>} places
  * @param {number} spread the part of a short line at which its label is, so that those of neighbours do not lie on each other
- * @returns {SVGElement}
+ * @returns {[SVGElement, SVGElement]}
  */
 function drawLine(line, points, places, spread) {
   const [from, to] = [places.get(line.from), places.get(line.to)];
   if (!from || !to) {
-    return drawn('g');
+    return [drawn('g'), drawn('g')];
   }
   if (from === to) {
     const [right, y] = [from.x + from.width / 2, from.y];
     const way = `M${right} ${y - 12}h22v24h-22`;
-    return drawn('g', { class: `edge ${line.kind}` }, drawn('path', { d: way }), drawn('text', { x: right + 26, y: y + 4, class: 'self' }, line.label));
+    return edge(line, way, drawn('text', { x: right + 26, y: y + 4, class: 'self' }, line.label));
   }
   const half = Math.floor((points.length - 1) / 2);
   const label = between(points[half], points[half + 1], points.length > 2 ? 0.5 : spread);
   const last = points.length - 1;
   const near = between(points[0], points[1], Math.min(0.4, 22 / distance(points[0], points[1])));
   const far = between(points[last], points[last - 1], Math.min(0.4, 22 / distance(points[last], points[last - 1])));
-  return drawn(
-    'g', { class: `edge ${line.kind}` }, drawn('path', { d: `M${points.map((it) => `${round(it.x)} ${round(it.y)}`).join('L')}` }),
-    drawn('text', { x: label.x, y: label.y + 4 }, line.label),
+  return edge(
+    line, `M${points.map((it) => `${round(it.x)} ${round(it.y)}`).join('L')}`, drawn('text', { x: label.x, y: label.y + 4 }, line.label),
     drawn('text', { x: near.x + 8, y: near.y + 4, class: 'end' }, line.near), drawn('text', { x: far.x + 8, y: far.y + 4, class: 'end' }, line.far),
   );
+}
+
+/**
+ * @param {Line} line
+ * @param {string} way
+ * @param {...SVGElement} texts
+ * @returns {[SVGElement, SVGElement]}
+ */
+function edge(line, way, ...texts) {
+  return [drawn('g', { class: `edge ${line.kind}` }, drawn('path', { d: way })), drawn('g', { class: 'edge' }, ...texts)];
 }
 
 /** @param {Point} one @param {Point} other @param {number} part @returns {Point} */
