@@ -53,7 +53,7 @@ class Words(ClientTest):
 
     def test_pictures(self):
         """They are there, and small."""
-        named = re.findall(r'!\[[^\]]+\]\(([\w.]+\.png)\)', PAGE)
+        named = re.findall(r'!\[[^\]]+\]\(([\w-]+\.png)\)', PAGE)
         self.assertEqual(len(named), 2)
         for name in named:
             data = (TOP / 'docs' / name).read_bytes()
