@@ -10,12 +10,16 @@ from selenium.webdriver.common.action_chains import ActionChains
 from selenium.webdriver.common.by import By
 from selenium.webdriver.common.keys import Keys
 from selenium.webdriver.chrome.service import Service
+from selenium.webdriver.support.ui import Select
 
 OPTIONS = (
     '--headless=new', '--no-sandbox', '--disable-gpu', '--disable-dev-shm-usage', '--disable-extensions', '--no-first-run', '--mute-audio',
     '--disable-background-networking', '--disable-renderer-backgrounding', '--disable-backgrounding-occluded-windows',
-    '--disable-background-timer-throttling', '--hide-scrollbars', '--force-device-scale-factor=1',
+    '--disable-background-timer-throttling', '--hide-scrollbars', '--force-device-scale-factor=1', '--force-prefers-reduced-motion',
 )
+
+
+SIZE = (1280, 860)  # of the page
 
 
 class Commands:
@@ -58,6 +62,17 @@ class Commands:
         self.driver.close()
         self.driver.switch_to.window(self.driver.window_handles[0])
 
+    def begin(self):
+        """Has one window alone, as it is at first, with an empty page and nothing on its console."""
+        while len(self.driver.window_handles) > 1:
+            self.driver.switch_to.window(self.driver.window_handles[-1])
+            self.driver.close()
+        self.driver.switch_to.window(self.driver.window_handles[0])
+        self.driver.get('about:blank')
+        self.size(*SIZE)
+        self.scheme('light')
+        self.log()
+
     def run(self, code, *words):
         """What the body of an asynchronous function gives."""
         whole = f'const done = arguments[arguments.length - 1]; const words = [...arguments].slice(0, -1); (async () => {{ {code} }})()'
@@ -80,6 +95,10 @@ class Commands:
     def type(self, selector, *words):
         """Types texts and keys, as `Keys.ENTER`, into an element."""
         self.find(selector).send_keys(*[_key(it) for it in words])
+
+    def choose(self, selector, text):
+        """Chooses the option with a text."""
+        Select(self.find(selector)).select_by_visible_text(text)
 
     def keys(self, *words):
         """Types into what has the focus. `Ctrl+x` holds a key down."""

@@ -1,12 +1,15 @@
 """What the tests of the editor share: servers, and a browser that is driven."""
 
+import atexit
 import json
 import os
 import shutil
 import signal
+import socket
 import subprocess
 import sys
 import tempfile
+import threading
 import time
 import unittest
 import urllib.error
@@ -142,14 +145,72 @@ class EditorTest(ClientTest):
         return path
 
 
-class BrowserTest(EditorTest):
-    """A test in a browser, which the tests of a class share."""
+class Way:
+    """A way from the browser to a server, which can be cut."""
 
-    @classmethod
-    def setUpClass(cls):
-        super().setUpClass()
-        cls.browser = Browser()
-        cls.addClassCleanup(cls.browser.end)
+    def __init__(self, address):
+        self._server = address.split('/')[2].encode()
+        self._listening = socket.create_server(('127.0.0.1', 0))
+        self._here = f'127.0.0.1:{self._listening.getsockname()[1]}'.encode()
+        self.address = address.replace(self._server.decode(), self._here.decode())
+        self._open = []
+        self._is_cut = False
+        threading.Thread(target=self._accept, daemon=True).start()
+
+    def _accept(self):
+        """Takes connections until it ends."""
+        with suppress(OSError):
+            while True:
+                near = self._listening.accept()[0]
+                if self._is_cut:
+                    near.close()
+                    continue
+                host, port = self._server.split(b':')
+                far = socket.create_connection((host.decode(), int(port)))
+                self._open += [near, far]
+                threading.Thread(target=self._pump, args=(near, far), daemon=True).start()
+                threading.Thread(target=self._pump, args=(far, near), daemon=True).start()
+
+    def _pump(self, one, other):
+        """Gives what one says to the other. The server knows its own Host and Origin alone."""
+        with one, suppress(OSError):
+            while True:
+                data = one.recv(65536)
+                if not data:
+                    break
+                other.sendall(data.replace(self._here, self._server))
+        with suppress(OSError):
+            other.shutdown(socket.SHUT_RDWR)
+
+    def cut(self, is_cut):
+        """Breaks all connections, and takes no new ones; or takes some again."""
+        self._is_cut = is_cut
+        while is_cut and self._open:
+            with suppress(OSError):
+                self._open.pop().shutdown(socket.SHUT_RDWR)
+
+    def end(self):
+        """Takes no more connections."""
+        self.cut(True)
+        self._listening.close()
+
+
+@lru_cache()
+def the_browser():
+    """The browser, which all tests share. It ends with the process of the tests."""
+    browser = Browser()
+    atexit.register(browser.end)
+    return browser
+
+
+class BrowserTest(EditorTest):
+    """A test in a browser."""
+
+    def setUp(self):
+        super().setUp()
+        self.browser = the_browser()
+        self.browser.begin()
+        self.addCleanup(self.browser.begin)
 
     def open(self, *words, **options):
         """Starts an editor, and opens its page in the window."""

@@ -1,7 +1,7 @@
 // @ts-nocheck
-// An edit at random, by what the page has for it: `words` has a seed. It runs in a page, as the body of a function, and says what it did.
+// Edits at random, by what the page has for them: `words` has a list of seeds. It runs in a page, as the body of a function.
 
-let state = words[0];
+let state = 0;
 const random = (size) => {
   state = (state + 0x6d2b79f5) | 0;
   let mixed = Math.imul(state ^ (state >>> 15), 1 | state);
@@ -68,34 +68,41 @@ const field = async (id) => {
   return `field ${id}.${feature.name}`;
 };
 
-const ids = [...model.nodes.keys()];
-const objects = ids.filter((it) => typeof it === 'number');
-const kind = random(20);
-if (kind < 11 && objects.length > 0) {
-  return field(pick(objects));
-}
-if (kind < 15 || objects.length < 5) {
-  const node = pick(ids);
-  const parts = model.metamodel.partsOf(model.nodes.get(node).class).filter((it) => !edits.isFull(node, it));
-  const feature = parts.length > 0 ? pick(parts) : null;
-  const classes = feature ? model.metamodel.concrete(feature.type) : [];
-  if (classes.length > 0) {
-    await edits.make(node, feature, pick(classes));
+const edit = async () => {
+  const ids = [...model.nodes.keys()];
+  const objects = ids.filter((it) => typeof it === 'number');
+  const kind = random(20);
+  if (kind < 11 && objects.length > 0) {
+    return field(pick(objects));
   }
-  return `new in ${node}`;
+  if (kind < 15 || objects.length < 5) {
+    const node = pick(ids);
+    const parts = model.metamodel.partsOf(model.nodes.get(node).class).filter((it) => !edits.isFull(node, it));
+    const feature = parts.length > 0 ? pick(parts) : null;
+    const classes = feature ? model.metamodel.concrete(feature.type) : [];
+    if (classes.length > 0) {
+      await edits.make(node, feature, pick(classes));
+    }
+    return `new in ${node}`;
+  }
+  if (kind < 18) {
+    const what = pick(objects);
+    const places = ids.flatMap((id) => model.metamodel.partsOf(model.nodes.get(id).class)
+      .filter((it) => model.metamodel.conforms(model.nodes.get(what).class, it.type)).map((it) => [id, it]));
+    const [node, feature] = pick(places);
+    const count = (model.nodes.get(node).values[feature.name] ?? []).length ?? 0;
+    await edits.place(what, node, feature, random(2) === 0 ? undefined : random(count + 1));
+    return `place ${what} in ${node}.${feature.name}`;
+  }
+  const gone = pick(objects);
+  const below = await mmrepo.call('below', { object: gone });
+  if (below.count <= 4) {
+    await mmrepo.call('delete', { object: gone }).catch(() => null);
+  }
+  return `delete ${gone}`;
+};
+
+for (const seed of words[0]) {
+  state = seed;
+  await edit();
 }
-if (kind < 18) {
-  const what = pick(objects);
-  const places = ids.flatMap((id) => model.metamodel.partsOf(model.nodes.get(id).class)
-    .filter((it) => model.metamodel.conforms(model.nodes.get(what).class, it.type)).map((it) => [id, it]));
-  const [node, feature] = pick(places);
-  const count = (model.nodes.get(node).values[feature.name] ?? []).length ?? 0;
-  await edits.place(what, node, feature, random(2) === 0 ? undefined : random(count + 1));
-  return `place ${what} in ${node}.${feature.name}`;
-}
-const gone = pick(objects);
-const below = await mmrepo.call('below', { object: gone });
-if (below.count <= 4) {
-  await mmrepo.call('delete', { object: gone }).catch(() => null);
-}
-return `delete ${gone}`;

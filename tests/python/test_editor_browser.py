@@ -4,7 +4,7 @@ import json
 import time
 from pathlib import Path
 
-from editor_support import BrowserTest, with_browser
+from editor_support import BrowserTest, Way, with_browser
 from support import KINDS
 
 TOWN = {'format': 2, 'roots': [{'class': 'Library', 'features': {
@@ -84,7 +84,7 @@ class Tree(TownTest):
         self.until("document.querySelector('#hits .count')?.textContent === '1 found'")
         self.assertEqual(self.texts('.hit .label'), ['Emma'])
         self.js("document.querySelector('#search-text').value = '';")
-        self.browser.type('#search-class', 'Person')
+        self.browser.choose('#search-class', 'Person')
         self.until("document.querySelector('#hits .count')?.textContent === '4 found'")
         self.assertEqual(self.texts('.hit .label'), ['Dora', 'Ann', 'Bob', 'Cid'])
         self.browser.click('#hits li:nth-child(3) .hit')
@@ -198,7 +198,7 @@ class Properties(TownTest):
 
     def test_enumeration_and_lists(self):
         self.select(EMMA)
-        self.browser.type('#f-genre', 'POEM')
+        self.browser.choose('#f-genre', 'POEM')
         self.until('mmrepo.model.nodes.get(2).values.genre === "POEM"')
         self.browser.type('#f-tags', 'new', 'Keys.ENTER')
         self.until('mmrepo.model.nodes.get(2).values.tags.length === 3')
@@ -323,9 +323,6 @@ class Views(TownTest):
         """What one does the other shows, without asking for what it has."""
         first = self.browser.name()
         second = self.browser.window(self.address)
-        self.addCleanup(lambda: self.browser.switch(first))
-        self.addCleanup(self.browser.close)
-        self.addCleanup(lambda: self.browser.switch(second))
         self.settle()
         self.select(EMMA)
         asked = self.js('return [...mmrepo.model.asked];')
@@ -356,15 +353,31 @@ class Views(TownTest):
         self.assertEqual(self.until("document.querySelector('dialog h2')?.textContent"), 'Not equal')
         self.assertEqual(self.texts('dialog .lines li'), ['Heard (2).pages: here the default, there 474'])
 
-    def test_stream_that_breaks(self):
-        """A window that was away gets what it has missed; one that missed too much begins again."""
+    def test_away(self):
+        """A window that was away says so, and gets what it has missed, without asking for what it has."""
+        way = Way(self.address)
+        self.addCleanup(way.end)
+        self.browser.go(way.address)
+        self.settle()
+        self.select(EMMA)
+        asked = self.js('return [...mmrepo.model.asked];')
         self.js('mmrepo.marked = true;')
-        self.browser.run('''const Source = window.EventSource; return 0;''')
-        self.call('set', object=EMMA, feature='name', value='A')
-        self.until('mmrepo.model.nodes.get(2).values.name === "A"')
-        self.assertTrue(self.js('return mmrepo.marked;'))
+        way.cut(True)
+        self.until("document.querySelector('#connection').className === 'waiting'", seconds=30)
+        for number in range(20):
+            self.call('set', object=EMMA, feature='name', value=f'Missed {number}')
+        self.call('add', object=EMMA, feature='tags', value='missed', at=0)
+        self.assertEqual(self.js('return mmrepo.model.number;'), 0)
+        self.browser.type('#f-pages', '0', 'Keys.ENTER')
+        self.assertEqual(self.refusal('pages'), 'the editor does not answer: it was ended, or this window is offline')
+        way.cut(False)
+        self.until("document.querySelector('#f-name').value === 'Missed 19'", seconds=30)
+        self.assertEqual(self.js('return [mmrepo.marked, mmrepo.model.nodes.get(2).values.tags, [...mmrepo.model.asked]];'), [True, ['missed', 'love', 'england'], asked])
+        self.until("document.querySelector('#connection').className === 'open'")
+
+    def test_server_that_ends(self):
         self.stop()
-        self.until("document.querySelector('#connection').className === 'waiting' || document.querySelector('#connection').className === 'ended'")
+        self.until("['waiting', 'ended'].includes(document.querySelector('#connection').className)")
 
 
 @with_browser
@@ -463,12 +476,12 @@ class Files(TownTest):
         self.until("document.querySelectorAll('.picture .box').length === 6")
         self.assertEqual(sorted(self.texts('.picture .title')), sorted(['Genre', 'Named', 'Library', 'Book', 'Person', 'Folder']))
         self.assertEqual(self.js("return document.querySelectorAll('.picture .edge.inherits').length;"), 3)
-        self.browser.type('dialog select:nth-of-type(2)', 'around Folder')
+        self.browser.choose('dialog select:nth-of-type(2)', 'around Folder')
         self.until("document.querySelectorAll('.picture .box').length === 1")
-        self.browser.type('dialog select:nth-of-type(1)', 'the selection')
+        self.browser.choose('dialog select:nth-of-type(1)', 'the selection: Town library')
         self.until("document.querySelectorAll('.picture .box').length === 6")
         self.assertIn('//@books.0 : Book', self.texts('.picture .title'))
-        self.browser.click('.picture .box:last-of-type .title')
+        self.browser.click('.picture .box.go .title')
         self.until("!document.querySelector('dialog')")
 
 
@@ -478,7 +491,6 @@ class Layouts(TownTest):
 
     def test_narrow(self):
         self.browser.size(360, 640)
-        self.addCleanup(lambda: self.browser.size(1280, 860))
         self.select(EMMA)
         self.assertEqual(self.js('return [document.documentElement.scrollWidth, document.querySelector("#tree").clientHeight > 100];'), [360, True])
         self.assertEqual(self.js('''return [...document.querySelectorAll('.feature input, .feature textarea, .feature select')]
@@ -486,7 +498,6 @@ class Layouts(TownTest):
 
     def test_contrast(self):
         """Texts on their grounds, in both schemes: at least 4.5 to 1, as WCAG has it for AA."""
-        self.addCleanup(lambda: self.browser.scheme('light'))
         self.select(EMMA)
         for scheme in ('light', 'dark'):
             self.browser.scheme(scheme)

@@ -86,8 +86,6 @@ class Pictures(BrowserTest):
 
     def test_pictures(self):
         """One of an edit that is refused, and one of the metamodel, in the dark."""
-        self.addCleanup(lambda: self.browser.size(1280, 860))
-        self.addCleanup(lambda: self.browser.scheme('light'))
         self.browser.size(*SIZE)
         self.write('town.json', TOWN)
         self.open(self.write('more/village.json', VILLAGE))

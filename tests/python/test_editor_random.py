@@ -10,8 +10,10 @@ from pathlib import Path
 from editor_support import ECORE_JAR, MODEL_JAR, WORKBENCH_JAR, BrowserTest, with_browser
 from support import TOP
 
-EDITS = int(os.environ.get('EDITOR_EDITS', 300))
+EDITS = int(os.environ.get('EDITOR_EDITS', 150))  # on each of the two models
+TOGETHER = 5  # edits in a window, before the other one goes on
 SEED = int(os.environ.get('EDITOR_SEED', 1))
+SMALL = (640, 420)  # of the page: what is painted takes most of the time
 CODE = (Path(__file__).parent / 'random_edits.mjs').read_text()
 
 # Opens all nodes, and waits until they are known.
@@ -114,17 +116,18 @@ class RandomTest(BrowserTest):
 
     def edit(self, models, meta):
         """Edits over two windows, and compares what they know with a fresh one and with the saved documents."""
+        self.browser.size(*SMALL)
         self.open(models, meta=meta)
         first = self.browser.name()
         second = self.browser.window(self.address)
-        self.addCleanup(lambda: self.browser.switch(first))
+        self.browser.size(*SMALL)
         self.settle()
         for name in (first, second):
             self.browser.switch(name)
             self.js(OPEN_ALL, 0)
-        for number in range(EDITS):
-            self.browser.switch(first if number % 2 else second)
-            self.js(CODE, SEED * 1_000_003 + number)
+        for number in range(0, EDITS, TOGETHER):
+            self.browser.switch(second if number // TOGETHER % 2 else first)
+            self.js(CODE, [SEED * 1_000_003 + it for it in range(number, min(number + TOGETHER, EDITS))])
         number = self.call('start')['number']
         self.assertGreater(number, EDITS // 3)
         self.compare(models, number, [first, second])

@@ -85,7 +85,7 @@ class Ecore(BrowserTest):
         texts = {it: it.read_bytes() for it in files}
         self.open(models, '--ecore', ecore[0], '--suffix', '.ecore', meta=self.meta(ecore))
         self.assertEqual([it for it in self.rows() if not it.startswith(' ')], [it.name for it in files])
-        self.browser.type('#search-class', 'EClass')
+        self.browser.choose('#search-class', 'EClass')
         self.browser.type('#search-text', 'EModelElement', 'Keys.ENTER')
         self.until("document.querySelector('#hits .count')?.textContent === '1 found'")
         self.browser.click('.hit')

@@ -77,8 +77,11 @@ def answer(model: Model, body: Any) -> Any:
         value = body.get(name.rstrip('?'))
         if not (value is None and name.endswith('?')) and not KINDS[name.rstrip('?')](value):
             raise BadCall(f'{body["do"]}: the argument {name.rstrip("?")!r} is absent or of the wrong kind')
+    given = {**words, **{key: value for key, value in body.items() if key != 'do'}}
+    if call.do in ALONE:
+        return call.do(model, given)
     with model.lock:
-        return call.do(model, {**words, **{key: value for key, value in body.items() if key != 'do'}})
+        return call.do(model, given)
 
 
 def _edit(does: Callable[[Model, Dict[str, Any]], Any]) -> Callable[[Model, Dict[str, Any]], Any]:
@@ -119,15 +122,18 @@ def _import(model: Model, it: Dict[str, Any]) -> Any:
         raise BadCall('import: the data is not base64') from None
     made = model.files.converted(it['name'], content)
     name = it['name'] if it['name'].endswith('.json') else it['name'].rpartition('.')[0] + '.json'
-    return {**model.load(it['folder'], name, made.document.decode('utf-8')), 'notes': made.notes}
+    with model.lock:
+        return {**model.load(it['folder'], name, made.document.decode('utf-8')), 'notes': made.notes}
 
 
 def _export(model: Model, it: Dict[str, Any]) -> Any:
     """A resource as a file that goes out."""
-    resource = model.resource(it['node'])
-    if resource is None:
-        raise NotDone('NO_RESOURCE', f'NO_RESOURCE: there is no resource {it["node"]}')
-    return model.files.exported(resource, it['xmi'])
+    with model.lock:
+        resource = model.resource(it['node'])
+        if resource is None:
+            raise NotDone('NO_RESOURCE', f'NO_RESOURCE: there is no resource {it["node"]}')
+        document = model.files.document(resource)
+    return model.files.exported(resource, document, it['xmi'])
 
 
 def _draw(model: Model, it: Dict[str, Any]) -> Any:
@@ -136,10 +142,12 @@ def _draw(model: Model, it: Dict[str, Any]) -> Any:
     try:
         if node is None:
             return {'text': pictures.picture_of_classes(file, it['class'], min(it['steps'] or 1, 10))}
-        if node not in model.mirror.nodes:
-            raise NotDone('NO_OBJECT', 'NO_OBJECT: the object is deleted')
-        names = {resource._word: model.files.name(resource) for resource in model.repo.resources}
-        return pictures.picture_of_objects(model.mirror, names, file, node)
+        with model.lock:
+            if node not in model.mirror.nodes:
+                raise NotDone('NO_OBJECT', 'NO_OBJECT: the object is deleted')
+            names = {resource._word: model.files.name(resource) for resource in model.repo.resources}
+            document, kept = pictures.document_of_objects(model.mirror, names, node)
+        return pictures.picture_of_objects(file, document, kept)
     except ToolFailed as failed:
         raise NotDone('TOOL', f'TOOL: {failed}') from None
 
@@ -175,3 +183,5 @@ CALLS: Dict[str, Call] = {
     'export': Call('node xmi', _export),
     'draw': Call('node? class? steps?', _draw),
 }
+# The calls that run a tool: they take the model for themselves only while they need it.
+ALONE = (_import, _export, _draw)

@@ -11,7 +11,7 @@ from http.server import BaseHTTPRequestHandler
 from typing import TYPE_CHECKING, Any, Dict, NamedTuple, Optional
 from urllib.parse import parse_qs, urlsplit
 
-from ..errors import MmrepoError
+from ..errors import MmrepoError, Refused
 from .calls import BadCall, answer
 from .edits import NotDone
 
@@ -152,6 +152,8 @@ class Connection(BaseHTTPRequestHandler):
             self.send_error(HTTPStatus.BAD_REQUEST, str(bad))
         except (ValueError, RecursionError):
             self.send_error(HTTPStatus.BAD_REQUEST, 'the body is no JSON')
+        except Refused as refused:
+            self._json(HTTPStatus.CONFLICT, {'refused': refused.name, 'text': str(refused)})
         except MmrepoError as error:
             self._json(HTTPStatus.INTERNAL_SERVER_ERROR, {'refused': 'ENDED', 'text': f'the model is closed: {error}'})
 

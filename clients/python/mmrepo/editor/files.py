@@ -16,6 +16,7 @@ from ..resources import Resource
 from ..uris import name_of
 from ..xmi import Converted, ToolFailed, Xmi
 from .edits import NotDone
+from .words import PLAIN
 
 BY_FORCE = {'CHANGED', 'LEFT_OUT'}  # the findings that saving by force overcomes
 NO_ECORE = 'the model is not one of Ecore files: start the editor with --ecore FILE to read and write XMI'
@@ -111,13 +112,16 @@ class Files:
 
     # What goes out
 
-    def exported(self, resource: Resource, is_xmi: bool) -> Dict[str, Any]:
+    def document(self, resource: Resource) -> str:
+        """The document of a resource."""
+        try:
+            return resource.save()
+        except Refused as refused:
+            raise NotDone(refused.name, f'{refused.name}: {PLAIN.get(refused.name, "the resource is not written")}') from None
+
+    def exported(self, resource: Resource, document: str, is_xmi: bool) -> Dict[str, Any]:
         """The text of a resource, and a name for its file."""
         stem = os.path.basename(self.name(resource)).rpartition('.')[0] or 'model'
-        try:
-            document = resource.save()
-        except Refused as refused:
-            raise NotDone(refused.name, f'{refused.name}: the resource can\'t be written') from None
         if not is_xmi:
             return {'name': f'{stem}.json', 'text': document + '\n'}
         if not self.given.ecore:

@@ -8,7 +8,7 @@ import subprocess
 import sys
 import tempfile
 from pathlib import Path
-from typing import Dict, List, Optional, Sequence
+from typing import Any, Dict, List, Optional, Sequence, Tuple
 
 from ..xmi import tool_file
 from .documents import Place, fragments, places_of, written
@@ -25,10 +25,10 @@ def picture_of_classes(metamodel: str, around: Optional[str], steps: int) -> str
     return _drawn([metamodel] + (['--around', around, '--steps', str(steps)] if around is not None else []))
 
 
-def picture_of_objects(mirror: Mirror, names: Dict[Id, str], metamodel: str, node: Id) -> Dict[str, object]:
-    """The diagram of a node and the objects below it, of which the first ones are drawn; and how many there are."""
+def document_of_objects(mirror: Mirror, names: Dict[Id, str], node: Id) -> Tuple[Dict[str, Any], Dict[int, str]]:
+    """The document of a node and of the first objects below it, and the fragment of each."""
     roots = [node] if isinstance(node, int) else list(mirror.nodes[node].values.get(CONTENTS, ()))
-    found = _nearest(mirror, roots)
+    found = set(_nearest(mirror, roots))
     kept = {number: fragment for number, fragment in fragments(mirror, roots[:OBJECTS]) if number in found}
     places: Dict[int, Place] = {}
 
@@ -41,7 +41,11 @@ def picture_of_objects(mirror: Mirror, names: Dict[Id, str], metamodel: str, nod
         place = places.get(number)
         return f'{names[place.resource]}#{place.fragment}' if place else 'nowhere#/'
 
-    document = written(mirror, roots[:OBJECTS], refer, kept)
+    return written(mirror, roots[:OBJECTS], refer, kept), kept
+
+
+def picture_of_objects(metamodel: str, document: Dict[str, Any], kept: Dict[int, str]) -> Dict[str, Any]:
+    """The diagram of a document, with its objects by their fragments."""
     with tempfile.TemporaryDirectory() as room:
         file = Path(room, 'document.json')
         file.write_text(json.dumps(document), encoding='utf-8')

@@ -69,9 +69,10 @@ class TextField {
     this.fit();
   }
 
-  /** Sends what is typed. */
+  /** Sends what is typed. What is typed in the meantime stays, and is sent later. */
   async send() {
-    if (this.isTyped && (await this.row.edit('set', { value: this.input.value }))) {
+    const sent = this.input.value;
+    if (this.isTyped && (await this.row.edit('set', { value: sent })) && this.input.value === sent) {
       this.isTyped = false;
       this.update();
     }

@@ -111,12 +111,14 @@ export class ListField {
     return element('div', { class: 'adding' }, this.input, element('button', { type: 'button', class: 'small', onclick: () => this.send() }, icon('add'), 'Add'));
   }
 
-  /** Sends what is typed. It stays if it is refused. */
+  /** Sends what is typed. It comes back if it is refused, unless more was typed in the meantime. */
   async send() {
     const typed = this.input.value;
+    const isText = this.input.tagName === 'INPUT';
+    this.input.value = isText ? '' : typed;
     const done = await this.row.edit('add', { value: this.row.feature.type === 'EBoolean' ? typed === 'true' : typed });
-    if (done && this.input.tagName === 'INPUT') {
-      this.input.value = '';
+    if (!done && isText && this.input.value === '') {
+      this.input.value = typed;
     }
   }
 
