@@ -375,8 +375,9 @@ class Command(EditorTest):
 
     def test_installed(self):
         """A package that is installed has the page."""
-        if subprocess.run([sys.executable, '-c', 'import setuptools'], stderr=subprocess.DEVNULL).returncode != 0:
-            self.skipTest('setuptools is not installed')
+        code = 'import setuptools; assert int(setuptools.__version__.split(".")[0]) >= 61'
+        if subprocess.run([sys.executable, '-c', code], stderr=subprocess.DEVNULL).returncode != 0:
+            self.skipTest('setuptools 61 is not installed')
         source, target = Path(self.room.name, 'source'), Path(self.room.name, 'target')
         shutil.copytree(CLIENT, source, ignore=shutil.ignore_patterns('__pycache__', 'build', '*.egg-info'))
         command = [sys.executable, '-c', 'from setuptools import setup; setup()', '--quiet', 'build', '--build-lib', str(target)]

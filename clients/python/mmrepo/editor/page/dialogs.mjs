@@ -11,7 +11,8 @@ const SECONDS = 8; // that a message stays
  * @param {boolean} [isWrong]
  */
 export function say(text, isWrong = false) {
-  const made = element('div', { class: `message${isWrong ? ' wrong' : ''}`, role: isWrong ? 'alert' : 'status' }, isWrong && icon('warning'), element('span', {}, text));
+  const kind = isWrong ? { class: 'message wrong', role: 'alert' } : { class: 'message', role: 'status' };
+  const made = element('div', kind, isWrong && icon('warning'), element('span', {}, text));
   const close = () => made.remove();
   made.append(iconButton('close', 'Close the message', close));
   byId('messages').append(made);

@@ -74,6 +74,26 @@ export function change(made, properties) {
 }
 
 /**
+ * An option of a `select`.
+ * @param {any} value
+ * @param {string} text
+ * @param {boolean} [isSelected]
+ * @returns {HTMLOptionElement}
+ */
+export function option(value, text, isSelected = false) {
+  return element('option', { value, selected: isSelected }, text);
+}
+
+/**
+ * A count for a reader, as `100,000`.
+ * @param {number} count
+ * @returns {string}
+ */
+export function counted(count) {
+  return count.toLocaleString('en');
+}
+
+/**
  * An icon, which says nothing to a reader.
  * @param {string} name
  * @returns {SVGElement}

@@ -1,7 +1,7 @@
 // @ts-check
 /** Edits the tree: new objects, deleting, and moving to a different place. */
 
-import { element } from './dom.mjs';
+import { counted, element } from './dom.mjs';
 import { drags } from './drag.mjs';
 import { attempt, confirm, say } from './dialogs.mjs';
 import { known, openPicker } from './picker.mjs';
@@ -12,7 +12,10 @@ import { goByKeys } from './keys.mjs';
 /** @typedef {import('./tree.mjs').Tree} Tree */
 /** @typedef {import('./tree.mjs').Row} Row */
 /** @typedef {import('./metamodel.mjs').Feature} Feature */
-/** Where something goes: the container, its feature if it is known, and the index. @typedef {{node: Id, feature: Feature | null, at?: number}} Place */
+/**
+ * Where something goes: the container, its feature if it is known, and the index.
+ * @typedef {{node: Id, feature: Feature | null, at?: number}} Place
+ */
 
 export class TreeEdits {
   /** @param {Tree} tree */
@@ -100,8 +103,9 @@ export class TreeEdits {
     const found = await attempt(() => call('below', { object: id }));
     const label = `${this.model.nodes.get(id)?.class ?? ''} “${this.model.label(id)}”`;
     const count = found?.count ?? 0;
-    const says = count > 1 ? `${count.toLocaleString('en')} objects go: it and all that is below it.` : 'One object goes.';
-    if (found && (await confirm('Delete', [`Delete ${label}?`, `${says} References to what goes are taken out.`], count > 1 ? `Delete ${count.toLocaleString('en')} objects` : 'Delete'))) {
+    const says = count > 1 ? `${counted(count)} objects go: it and all that is below it.` : 'One object goes.';
+    const yes = count > 1 ? `Delete ${counted(count)} objects` : 'Delete';
+    if (found && (await confirm('Delete', [`Delete ${label}?`, `${says} References to what goes are taken out.`], yes))) {
       await attempt(() => call('delete', { object: id }));
       this.tree.select(row?.holder ?? null);
     }

@@ -1,7 +1,7 @@
 // @ts-check
 /** The fields of features of one value. */
 
-import { badge, element, icon, iconButton } from './dom.mjs';
+import { badge, element, icon, iconButton, option } from './dom.mjs';
 import { openPicker } from './picker.mjs';
 import { call } from './server.mjs';
 
@@ -122,7 +122,7 @@ class ChoiceField {
   constructor(row) {
     this.row = row;
     const literals = row.model.metamodel.enums.get(row.feature.type) ?? [];
-    this.input = element('select', { id: row.name, onchange: () => this.send() }, ...literals.map((it) => element('option', { value: it }, it)));
+    this.input = element('select', { id: row.name, onchange: () => this.send() }, ...literals.map((it) => option(it, it)));
     this.element = element('div', {}, this.input);
   }
 
@@ -163,8 +163,9 @@ class ReferenceField {
       return;
     }
     this.shown = key;
-    const none = this.row.feature.contains ? element('span', { class: 'none' }, 'none: make it in the tree') : element('span', { class: 'none' }, 'null');
-    this.element.replaceChildren(...[value === null ? none : valueElement(this.row, value, 0), this.pick].filter((it) => it !== null));
+    const none = element('span', { class: 'none' }, this.row.feature.contains ? 'none: make it in the tree' : 'null');
+    const shown = value === null ? none : valueElement(this.row, value, 0);
+    this.element.replaceChildren(...(this.pick ? [shown, this.pick] : [shown]));
   }
 }
 
@@ -200,7 +201,9 @@ export function valueElement(row, value, at) {
   if (typeof value === 'number') {
     const state = row.model.need(value);
     const go = () => row.panel.go(value);
-    return element('button', { type: 'button', class: 'object', onclick: go, title: 'Show it in the tree' }, badge(state ? state.class : '?'), element('span', { class: 'label' }, row.model.label(value)));
+    const label = element('span', { class: 'label' }, row.model.label(value));
+    const words = { type: 'button', class: 'object', onclick: go, title: 'Show it in the tree' };
+    return element('button', words, badge(state ? state.class : '?'), label);
   }
   return element(
     'span', { class: 'proxy' }, element('span', { class: 'address', title: value }, value),

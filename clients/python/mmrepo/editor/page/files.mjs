@@ -1,7 +1,7 @@
 // @ts-check
 /** Files: saving, new ones, and XMI and documents that come in and go out. */
 
-import { byId, element } from './dom.mjs';
+import { byId, element, option } from './dom.mjs';
 import { attempt, confirm, fill, say, showLines } from './dialogs.mjs';
 import { Refused, call } from './server.mjs';
 
@@ -66,14 +66,15 @@ export class Files {
 
   /** The field for the folder, if there are several. @returns {HTMLElement[]} */
   folderField() {
-    this.folder = element('select', { id: 'folder' }, ...this.folders.map((it, at) => element('option', { value: at }, it)));
+    this.folder = element('select', { id: 'folder' }, ...this.folders.map((it, at) => option(at, it)));
     return this.folders.length > 1 ? [element('label', { for: 'folder' }, 'Folder'), this.folder] : [];
   }
 
   /** Makes a new file. */
   make() {
     const name = element('input', { id: 'file-name', type: 'text', value: 'new.json', spellcheck: 'false' });
-    fill('New file', [...this.folderField(), element('label', { for: 'file-name' }, 'Name, as town.json or sub/town.json'), name], 'Make', async () => {
+    const label = element('label', { for: 'file-name' }, 'Name, as town.json or sub/town.json');
+    fill('New file', [...this.folderField(), label, name], 'Make', async () => {
       this.check();
       const made = await call('new file', { folder: Number(this.folder.value), name: name.value });
       this.tree.open.add(made.resource);
@@ -98,7 +99,8 @@ export class Files {
       if (!chosen || chosen.size > LONGEST) {
         throw new Refused('FILE', chosen ? 'The file is too long: it has more than 17,000,000 bytes' : 'Choose a file');
       }
-      const made = await call('import', { folder: Number(this.folder.value), name: chosen.name, data: base64(new Uint8Array(await chosen.arrayBuffer())) });
+      const data = base64(new Uint8Array(await chosen.arrayBuffer()));
+      const made = await call('import', { folder: Number(this.folder.value), name: chosen.name, data });
       made.notes.length > 0 && showLines('Imported', `${made.count} objects came in. This was left out or bent:`, made.notes);
       this.tree.open.add(made.resource);
       setTimeout(() => this.tree.reveal([made.resource]), 60);
@@ -108,8 +110,9 @@ export class Files {
   /** Gives a file out, which the browser saves. */
   giveOut() {
     const path = this.selectedFile();
-    const kind = element('select', { id: 'kind' }, this.hasEcore && element('option', { value: 'xmi' }, 'XMI'), element('option', { value: 'json' }, 'document (.json)'));
-    const which = element('select', { id: 'which' }, ...this.model.files.map((it) => element('option', { value: it.resource, selected: it.resource === path }, it.name)));
+    const kind = element('select', { id: 'kind' }, this.hasEcore && option('xmi', 'XMI'), option('json', 'document (.json)'));
+    const options = this.model.files.map((it) => option(it.resource, it.name, it.resource === path));
+    const which = element('select', { id: 'which' }, ...options);
     fill('Export', [element('label', { for: 'which' }, 'File'), which, element('label', { for: 'kind' }, 'As'), kind], 'Export', async () => {
       const made = await call('export', { node: which.value, xmi: kind.value === 'xmi' });
       const url = URL.createObjectURL(new Blob([made.text], { type: 'application/octet-stream' }));

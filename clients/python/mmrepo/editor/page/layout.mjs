@@ -6,8 +6,14 @@
 
 /** @typedef {import('./mermaid.mjs').Picture} Picture */
 /** @typedef {{x: number, y: number}} Point */
-/** A box or a point of a line: its size, its layer, and its middle. @typedef {{width: number, height: number, layer: number, x: number, y: number, up: number[], down: number[]}} Spot */
-/** The middle of each box, the points of each line, and the size. @typedef {{boxes: Spot[], lines: Point[][], width: number, height: number}} Layout */
+/**
+ * A box or a point of a line: its size, its layer, its middle, and its neighbours in the layers above and below.
+ * @typedef {{width: number, height: number, layer: number, x: number, y: number, up: number[], down: number[]}} Spot
+ */
+/**
+ * The middle of each box, the points of each line, and the size.
+ * @typedef {{boxes: Spot[], lines: Point[][], width: number, height: number}} Layout
+ */
 
 const GAP = 36; // between boxes
 const LAYERS = 100; // between layers

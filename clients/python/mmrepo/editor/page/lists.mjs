@@ -1,7 +1,7 @@
 // @ts-check
 /** The fields of features that are many-valued. */
 
-import { element, icon, iconButton } from './dom.mjs';
+import { counted, element, icon, iconButton, option } from './dom.mjs';
 import { drags } from './drag.mjs';
 import { pickButton, valueElement } from './fields.mjs';
 
@@ -36,16 +36,18 @@ export class ListField {
   update() {
     const values = this.row.value();
     const { model, feature } = this.row;
-    const key = JSON.stringify([this.most, values.length, values.slice(0, this.most).map((/** @type {any} */ it) => (feature.refers && typeof it === 'number' ? [it, model.label(it)] : it))]);
+    /** @type {any[]} */
+    const some = values.slice(0, this.most);
+    const key = JSON.stringify([values.length, some.map((it) => (feature.refers && typeof it === 'number' ? [it, model.label(it)] : it))]);
     if (key === this.shown) {
       return;
     }
     this.shown = key;
     const focused = this.list.contains(document.activeElement) ? document.activeElement?.getAttribute('data-key') : null;
-    this.list.replaceChildren(...values.slice(0, this.most).map((/** @type {any} */ it, /** @type {number} */ at) => this.item(it, at, values.length)));
+    this.list.replaceChildren(...some.map((it, at) => this.item(it, at, values.length)));
     const left = values.length - this.most;
     this.more.hidden = left <= 0;
-    this.more.textContent = `${Math.min(left, SOME)} more of ${values.length.toLocaleString('en')}`;
+    this.more.textContent = `${Math.min(left, SOME)} more of ${counted(values.length)}`;
     focused && this.list.querySelector(`[data-key="${focused}"]`)?.focus();
   }
 
@@ -106,9 +108,10 @@ export class ListField {
     const literals = row.model.metamodel.enums.get(row.feature.type) ?? (row.feature.type === 'EBoolean' ? ['false', 'true'] : null);
     const key = (/** @type {KeyboardEvent} */ event) => event.key === 'Enter' && (event.preventDefault(), this.send());
     this.input = literals
-      ? element('select', { id: row.name }, ...literals.map((it) => element('option', { value: it }, it)))
+      ? element('select', { id: row.name }, ...literals.map((it) => option(it, it)))
       : element('input', { id: row.name, type: 'text', placeholder: `a new value of ${row.feature.name}`, spellcheck: 'false', onkeydown: key });
-    return element('div', { class: 'adding' }, this.input, element('button', { type: 'button', class: 'small', onclick: () => this.send() }, icon('add'), 'Add'));
+    const add = element('button', { type: 'button', class: 'small', onclick: () => this.send() }, icon('add'), 'Add');
+    return element('div', { class: 'adding' }, this.input, add);
   }
 
   /** Sends what is typed. It comes back if it is refused, unless more was typed in the meantime. */

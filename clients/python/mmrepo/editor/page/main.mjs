@@ -34,7 +34,7 @@ function begin(start) {
   const pictures = new Pictures(model, () => tree.selected, go);
   const search = new Search(model, (path) => tree.reveal(path));
   const problems = new Problems(model, (path) => tree.reveal(path));
-  byId('new-child').addEventListener('click', (/** @type {MouseEvent} */ event) => edits.add(tree.selected, /** @type {HTMLElement} */ (event.currentTarget)));
+  byId('new-child').addEventListener('click', () => edits.add(tree.selected, byId('new-child')));
   byId('delete').addEventListener('click', () => edits.delete());
   byId('picture').addEventListener('click', () => pictures.open());
   byId('verify').addEventListener('click', () => showVerified(model));
@@ -52,7 +52,10 @@ function begin(start) {
  * @param {'open' | 'waiting' | 'lost' | 'ended'} state
  */
 function connected(state) {
-  const says = { open: 'connected', waiting: 'the editor does not answer: trying again', lost: 'too much was missed', ended: 'this window hears nothing: load it again' };
+  const says = {
+    open: 'connected', waiting: 'the editor does not answer: trying again', lost: 'too much was missed',
+    ended: 'this window hears nothing: load it again',
+  };
   byId('connection').textContent = says[state];
   byId('connection').className = state;
   if (state === 'lost') {
@@ -66,7 +69,8 @@ function connected(state) {
  */
 function findings(lines) {
   const says = `${lines.length} ${lines.length === 1 ? 'finding' : 'findings'}`;
-  byId('findings').replaceChildren(element('button', { type: 'button', class: 'small', onclick: () => showLines('Findings', 'This was found when the folders were opened:', lines) }, says));
+  const show = () => showLines('Findings', 'This was found when the folders were opened:', lines);
+  byId('findings').replaceChildren(element('button', { type: 'button', class: 'small', onclick: show }, says));
 }
 
 /** Has the border between the tree and the properties be moved, by a pointer and by keys. */

@@ -1,7 +1,7 @@
 // @ts-check
 /** A list from which one thing is picked, filtered as one types: the combobox pattern of ARIA. */
 
-import { badge, change, element } from './dom.mjs';
+import { badge, change, counted, element } from './dom.mjs';
 
 /**
  * Something to pick: its label, its class if it has one, and a text behind it.
@@ -76,7 +76,7 @@ class Picker {
       this.at = 0;
       const left = found.count - found.choices.length;
       const none = 'error' in found ? found.error.message : 'nothing conforms';
-      this.more.textContent = found.count === 0 ? none : left > 0 ? `${left.toLocaleString('en')} more: type to filter` : '';
+      this.more.textContent = found.count === 0 ? none : left > 0 ? `${counted(left)} more: type to filter` : '';
       this.draw();
       this.position();
     }

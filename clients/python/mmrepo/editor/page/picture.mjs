@@ -1,7 +1,7 @@
 // @ts-check
 /** Pictures of the metamodel and of objects: the text of `tools/diagram` as SVG. */
 
-import { drawn, element, icon, iconButton } from './dom.mjs';
+import { drawn, element, icon, iconButton, option } from './dom.mjs';
 import { attempt, makeDialog } from './dialogs.mjs';
 import { layOut } from './layout.mjs';
 import { readMermaid } from './mermaid.mjs';
@@ -38,7 +38,11 @@ export function drawPicture(text, press) {
     return box ? box.x + box.width / 2 + 30 + widthOf(it.label) : 0;
   });
   const [width, height] = [Math.ceil(Math.max(made.width, ...loops) + 24), Math.ceil(made.height + 12)];
-  return drawn('svg', { class: 'picture', viewBox: `0 0 ${width} ${height}`, width, height, role: 'img', 'aria-label': `A picture of ${picture.boxes.length} boxes` }, markers(), ...lines.map((it) => it[0]), ...boxes, ...lines.map((it) => it[1]));
+  const says = `A picture of ${picture.boxes.length} boxes`;
+  return drawn(
+    'svg', { class: 'picture', viewBox: `0 0 ${width} ${height}`, width, height, role: press ? 'group' : 'img', 'aria-label': says },
+    markers(), ...lines.map((it) => it[0]), ...boxes, ...lines.map((it) => it[1]),
+  );
 }
 
 /** @type {CanvasRenderingContext2D | null} */
@@ -86,9 +90,10 @@ function drawBox(box, at, press) {
   const texts = box.rows.map((row, number) => drawn('text', { x: SIDE, y: head + 18 + number * ROW, class: 'line' }, row));
   const go = press && (() => press(box.title));
   const key = (/** @type {KeyboardEvent} */ event) => event.key === 'Enter' && go?.();
+  const place = `translate(${at.x - at.width / 2} ${at.y - at.height / 2})`;
+  const button = go ? { tabindex: 0, role: 'button', 'aria-label': box.title, onclick: go, onkeydown: key } : {};
   return drawn(
-    'g',
-    { class: `box ${box.above}${go ? ' go' : ''}`, transform: `translate(${at.x - at.width / 2} ${at.y - at.height / 2})`, tabindex: go ? 0 : undefined, role: go ? 'button' : undefined, 'aria-label': go ? box.title : undefined, onclick: go, onkeydown: go && key },
+    'g', { class: `box ${box.above}${go ? ' go' : ''}`, transform: place, ...button },
     drawn('rect', { width: at.width, height: at.height, rx: 6 }),
     drawn('path', { class: 'head', d: `M0 6a6 6 0 0 1 6-6h${at.width - 12}a6 6 0 0 1 6 6v${head - 6}h${-at.width}z` }),
     ...(box.above ? [drawn('text', { x: at.width / 2, y: 15, class: 'above' }, `«${box.above}»`)] : []),
@@ -152,10 +157,12 @@ function round(number) {
 
 /** The ends of lines. @returns {SVGElement} */
 function markers() {
-  const marker = (/** @type {string} */ id, /** @type {string} */ d, /** @type {number} */ at) => drawn(
-    'marker', { id, viewBox: '0 0 20 12', markerWidth: 20, markerHeight: 12, refX: at, refY: 6, orient: 'auto-start-reverse', markerUnits: 'userSpaceOnUse' }, drawn('path', { d }),
+  const size = { viewBox: '0 0 20 12', markerWidth: 20, markerHeight: 12, refX: 18, refY: 6, markerUnits: 'userSpaceOnUse' };
+  const marker = (/** @type {string} */ id, /** @type {string} */ d) => (
+    drawn('marker', { id, orient: 'auto-start-reverse', ...size }, drawn('path', { d }))
   );
-  return drawn('defs', {}, marker('inherits', 'M2 1L18 6L2 11z', 18), marker('contains', 'M2 6L10 1.5L18 6L10 10.5z', 18), marker('refers', 'M8 1L18 6L8 11', 18));
+  const diamond = marker('contains', 'M2 6L10 1.5L18 6L10 10.5z');
+  return drawn('defs', {}, marker('inherits', 'M2 1L18 6L2 11z'), diamond, marker('refers', 'M8 1L18 6L8 11'));
 }
 
 /** A dialog with pictures of the metamodel and of what is selected. */
@@ -182,18 +189,21 @@ export class Pictures {
     this.says = element('p', { class: 'says', role: 'status' });
     this.what = element(
       'select', { 'aria-label': 'What is drawn', onchange: () => this.draw() },
-      element('option', { value: '' }, 'the metamodel'), id !== null && element('option', { value: 'selected' }, `the selection: ${this.model.label(id)}`),
+      option('', 'the metamodel'), id !== null && option('selected', `the selection: ${this.model.label(id)}`),
     );
     this.around = element(
       'select', { 'aria-label': 'Around a class', onchange: () => this.draw() },
-      names.length <= FEW && element('option', { value: '' }, 'all classes'), ...[...names].sort().map((it) => element('option', { value: it }, `around ${it}`)),
+      names.length <= FEW && option('', 'all classes'), ...[...names].sort().map((it) => option(it, `around ${it}`)),
     );
     const state = id === null ? undefined : this.model.nodes.get(id);
     if (names.length > FEW && state?.class) {
       this.around.value = state.class;
     }
     const zoom = (/** @type {number} */ by) => () => this.scale(this.zoom * by);
-    foot.append(this.what, this.around, this.says, iconButton('zoomout', 'Smaller', zoom(1 / 1.25)), iconButton('zoomin', 'Larger', zoom(1.25)), element('button', { type: 'button', onclick: () => this.fit() }, icon('picture'), 'Fit'));
+    foot.append(
+      this.what, this.around, this.says, iconButton('zoomout', 'Smaller', zoom(1 / 1.25)), iconButton('zoomin', 'Larger', zoom(1.25)),
+      element('button', { type: 'button', onclick: () => this.fit() }, icon('picture'), 'Fit'),
+    );
     body.append(this.room);
     return this.draw();
   }

@@ -141,7 +141,8 @@ export class Row {
     this.unset = iconButton('unset', `Take ${feature.name} back to its default`, () => this.edit('unset'));
     /** @type {Field} */
     this.field = feature.many ? new ListField(this) : fieldOf(this);
-    const label = element('label', { for: this.name, id: `${this.name}-label` }, feature.name, feature.lower > 0 && element('span', { class: 'must', title: 'it has to have a value' }, '*'));
+    const must = feature.lower > 0 && element('span', { class: 'must', title: 'it has to have a value' }, '*');
+    const label = element('label', { for: this.name, id: `${this.name}-label` }, feature.name, must);
     this.element = element(
       'div', { class: 'feature', 'data-feature': feature.name },
       element('div', { class: 'name' }, label, element('span', { class: 'type' }, typeText(feature))),

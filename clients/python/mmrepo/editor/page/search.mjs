@@ -1,7 +1,7 @@
 // @ts-check
 /** Search by text and class, and the list of problems: rows that lead to objects of the tree. */
 
-import { badge, byId, element } from './dom.mjs';
+import { badge, byId, counted, element, option } from './dom.mjs';
 import { attempt } from './dialogs.mjs';
 import { call } from './server.mjs';
 
@@ -20,9 +20,7 @@ export class Search {
     this.text = byId('search-text');
     this.kind = byId('search-class');
     this.hits = byId('hits');
-    this.kind.append(
-      element('option', { value: '' }, 'any class'), ...[...model.metamodel.classes.keys()].sort().map((it) => element('option', { value: it }, it)),
-    );
+    this.kind.append(option('', 'any class'), ...[...model.metamodel.classes.keys()].sort().map((it) => option(it, it)));
     this.text.addEventListener('input', () => this.soon());
     this.kind.addEventListener('change', () => this.search());
     byId('search').addEventListener('submit', (/** @type {Event} */ event) => {
@@ -52,7 +50,7 @@ export class Search {
     if (!isLate) {
       this.hits.hidden = !found;
       byId('tree').classList.toggle('beside', !!found);
-      found && showHits(this.hits, found.hits, `${found.count.toLocaleString('en')} found`, (path) => this.reveal(path));
+      found && showHits(this.hits, found.hits, `${counted(found.count)} found`, (path) => this.reveal(path));
     }
   }
 }
@@ -109,9 +107,9 @@ export class Problems {
   /** @param {boolean} isList whether the list may have changed */
   update(isList) {
     const { count, short, proxies } = this.model.counts;
-    const parts = [short && `${short.toLocaleString('en')} too short`, proxies && `${proxies.toLocaleString('en')} ${proxies === 1 ? 'proxy' : 'proxies'} left`];
-    const says = count === 0 ? 'No problems' : `${count.toLocaleString('en')} ${count === 1 ? 'object' : 'objects'} with problems: ${parts.filter(Boolean).join(', ')}`;
-    byId('problem-count').textContent = says;
+    const parts = [short && `${counted(short)} too short`, proxies && `${counted(proxies)} ${proxies === 1 ? 'proxy' : 'proxies'} left`];
+    const says = `${counted(count)} ${count === 1 ? 'object' : 'objects'} with problems: ${parts.filter(Boolean).join(', ')}`;
+    byId('problem-count').textContent = count === 0 ? 'No problems' : says;
     this.button.classList.toggle('some', count > 0);
     isList && !this.panel.hidden && this.list();
   }
@@ -121,8 +119,10 @@ export class Problems {
     const found = await attempt(() => call('problems'));
     const hits = found && (await attempt(() => call('hits', { nodes: found.found.map((/** @type {any} */ it) => it.object) })));
     if (hits) {
-      const shown = hits.map((/** @type {any} */ hit, /** @type {number} */ at) => hit && { ...hit, says: problemText(found.found[at]) }).filter(Boolean);
-      const first = shown.length < this.model.counts.count ? `the first ${shown.length} of ${this.model.counts.count.toLocaleString('en')}` : 'all objects with problems';
+      const all = found.found.map((/** @type {any} */ it, /** @type {number} */ at) => ({ ...hits[at], says: problemText(it) }));
+      const shown = all.filter((/** @type {any} */ it) => it.path);
+      const { count } = this.model.counts;
+      const first = shown.length < count ? `the first ${shown.length} of ${counted(count)}` : 'all objects with problems';
       showHits(this.panel, shown, first, this.reveal);
     }
   }

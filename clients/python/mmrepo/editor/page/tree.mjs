@@ -179,7 +179,8 @@ export class Tree {
     const state = this.model.need(row.id);
     const hasParts = this.model.hasParts(row.id);
     return {
-      label: this.model.label(row.id), kind: state ? state.class : typeof row.id === 'string' ? null : '', isOpen: hasParts ? this.open.has(row.id) : null,
+      label: this.model.label(row.id), kind: state ? state.class : typeof row.id === 'string' ? null : '',
+      isOpen: hasParts ? this.open.has(row.id) : null,
       isWrong: this.model.problems.has(row.id), isChanged: typeof row.id === 'string' && this.model.changed.has(row.id),
       canAdd: !!state && this.model.metamodel.partsOf(state.class).length > 0,
       where: row.holder === null || row.feature === CONTENTS ? '' : row.feature.many ? `${row.feature.name} ${row.index}` : row.feature.name,

@@ -2,7 +2,7 @@
 /** Asks for everything once, and compares it with what this window knows by notices. */
 
 import { call } from './server.mjs';
-import { element } from './dom.mjs';
+import { counted, element } from './dom.mjs';
 import { attempt, showLines } from './dialogs.mjs';
 
 /** @typedef {import('./model.mjs').Model} Model */
@@ -102,13 +102,14 @@ function shown(value) {
 export async function showVerified(model) {
   const done = await attempt(() => verify(model));
   if (done) {
-    const count = (/** @type {number} */ it) => it.toLocaleString('en');
-    const says = `This window has ${count(done.values)} values of ${count(done.nodes)} nodes, and the server ${count(done.objects)} objects: all kept by notices.`;
+    const here = `This window has ${counted(done.values)} values of ${counted(done.nodes)} nodes`;
+    const says = `${here}, and the server ${counted(done.objects)} objects: all kept by notices.`;
     const isEqual = done.differences.length === 0;
     const again = element('button', { type: 'button', onclick: () => location.reload() }, 'Load again');
-    const more = done.differences.length > MOST ? [`.. and ${count(done.differences.length - MOST)} more`] : [];
+    const more = done.differences.length > MOST ? [`.. and ${counted(done.differences.length - MOST)} more`] : [];
     const lines = [...done.differences.slice(0, MOST), ...more];
-    const box = showLines(isEqual ? 'Equal' : 'Not equal', isEqual ? `${says} All was asked for once more, and is the same.` : `${says} It differs from the repository here:`, lines, isEqual ? [] : [again]);
+    const outcome = isEqual ? 'All was asked for once more, and is the same.' : 'It differs from the repository here:';
+    const box = showLines(isEqual ? 'Equal' : 'Not equal', `${says} ${outcome}`, lines, isEqual ? [] : [again]);
     box.classList.add(isEqual ? 'equal' : 'unequal');
   }
 }
