@@ -66,6 +66,7 @@ class Shape:
         self.forms: Dict[str, Form] = {it.name: form_of(it) for it in features}
         self.parts = [it for it in self.forms.values() if it.contains]
         self.links = [it for it in self.forms.values() if it.refers and not it.contains]
+        self.link_names = frozenset(it.name for it in self.forms.values() if it.refers)
         self.is_bounded = any(it.lower > 0 for it in features)
         texts = [it.name for it in features if isinstance(it, EAttribute) and not it.many and it.eType.name == 'EString']
         self.names = [name for name in NAMES if name in texts]

@@ -2,7 +2,7 @@
 
 from __future__ import annotations
 
-from typing import Any, Callable, Dict, Iterator, List, Optional, Tuple
+from typing import Any, Dict, Iterator, List, Optional, Tuple
 
 from ..metamodel import EReference, EStructuralFeature
 from .forms import Id
@@ -61,9 +61,12 @@ def _class(entry: Entry) -> str:
 def _has(entry: Entry, begun: str) -> bool:
     """Whether an attribute of an object has a text."""
     assert entry.shape is not None
-    is_link: Callable[[str], bool] = lambda name: entry.shape.forms[name].refers  # noqa: E731
-    return any(
-        begun in str(it).casefold()
-        for name, value in entry.values.items() if not is_link(name)
-        for it in (value if isinstance(value, list) else (value,))
-    )
+    links = entry.shape.link_names
+    for name, value in entry.values.items():
+        if name not in links:
+            if isinstance(value, list):
+                if any(begun in str(it).casefold() for it in value):
+                    return True
+            elif begun in str(value).casefold():
+                return True
+    return False

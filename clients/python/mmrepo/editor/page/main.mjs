@@ -54,7 +54,7 @@ function begin(start) {
 function connected(state) {
   const says = {
     open: 'connected', waiting: 'the editor does not answer: trying again', lost: 'too much was missed',
-    ended: 'this window hears nothing: load it again',
+    ended: 'this window hears nothing: close other windows, and load it again',
   };
   byId('connection').textContent = says[state];
   byId('connection').className = state;

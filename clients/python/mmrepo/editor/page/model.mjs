@@ -163,8 +163,9 @@ export class Model {
       this.counts = { ...this.counts, ...counts };
     }
     if (event.changed) {
-      event.changed.concat([...this.changed]).forEach((it) => touched.add(it));
-      this.changed = new Set(event.changed);
+      const now = new Set(event.changed);
+      [...now, ...this.changed].filter((it) => now.has(it) !== this.changed.has(it)).forEach((it) => touched.add(it));
+      this.changed = now;
     }
     this.files = event.resources ?? this.files;
     this.hearers.forEach((hear) => hear(touched, event));

@@ -55,7 +55,7 @@ export class Tree {
     top.addEventListener('click', (event) => this.press(event));
     new ResizeObserver(() => this.draw()).observe(top);
     model.users.push(() => this.used());
-    model.hearers.push((touched) => this.hear(touched));
+    model.hearers.push((touched, event) => this.hear(touched, event));
     this.change();
   }
 
@@ -71,17 +71,17 @@ export class Tree {
   }
 
   /**
-   * Hears which nodes have changed.
+   * Hears which nodes have changed. The rows are made again if a node that is open came, or has different parts.
    * @param {Set<Id>} touched
+   * @param {import('./model.mjs').Event | null} event
    */
-  hear(touched) {
-    for (const id of touched) {
-      if (this.open.has(id) || typeof id === 'string') {
-        this.change();
-        return;
-      }
-    }
-    this.drawSoon();
+  hear(touched, event) {
+    const { metamodel } = this.model;
+    const holds = (/** @type {string | null} */ owner, /** @type {string} */ name) => metamodel.featuresOf(owner).get(name)?.contains;
+    const isDifferent = event
+      ? event.resources || event.notices?.some(([, node, name, , , , owner]) => this.open.has(node) && holds(owner, name))
+      : [...touched].some((id) => this.open.has(id));
+    isDifferent ? this.change() : this.drawSoon();
   }
 
   /** Has the rows made again, before they are drawn the next time. */
