@@ -28,7 +28,8 @@ OPEN_ALL = '''
         seen.add(id);
         tree.open.add(id);
         for (let tries = 0; tries < 1000 && !model.need(id); tries += 1) await wait();
-        waiting.push(...model.parts(id).map((it) => it.id));
+        const {class: kind, values} = model.nodes.get(id);
+        waiting.push(...model.metamodel.partsOf(kind).flatMap((it) => values[it.name] ?? []));
     }
     tree.change();
     return [...seen].map((id) => {

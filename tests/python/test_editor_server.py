@@ -12,6 +12,7 @@ import time
 import unittest
 import urllib.request
 from pathlib import Path
+from random import Random
 
 from editor_support import EditorTest
 from support import CLIENT, LIBRARY, PROGRAM
@@ -302,6 +303,18 @@ class Streams(ServerTest):
         self.assertEqual(self.call('start')['number'], 0)
         self.assertEqual(self.call('compared'), {'objects': 2, 'differences': []})
 
+    def test_faster(self):
+        """An edit of a place that an other window has changed in the meantime is refused."""
+        for text in ('a', 'b', 'c'):
+            self.call('add', object=1, feature='tags', value=text)
+        self.call('add', object=1, feature='tags', value='first', at=0)
+        said = 'CHANGED: tags was changed in the meantime; nothing was done'
+        self.assertEqual(self.call('remove', object=1, feature='tags', at=0, was='a'), said)
+        self.assertEqual(self.call('move', node=1, feature='tags', to=2, at=1, was='b'), said)
+        self.assertEqual(self.call('remove', object=1, feature='tags', at=9, was='c'), said)
+        self.call('remove', object=1, feature='tags', at=1, was='a')
+        self.assertEqual(self.call('nodes', nodes=[1])['nodes']['1']['values']['tags'], ['first', 'b', 'c'])
+
     def test_program_that_ends(self):
         """If the program ends, each call says so, and the server stays."""
         children = Path(f'/proc/{self.server.pid}/task/{self.server.pid}/children').read_text().split()
@@ -309,6 +322,51 @@ class Streams(ServerTest):
         for _ in range(2):
             self.assertRegex(self.call('set', object=1, feature='name', value='x'), '^the model is closed: ')
         self.assertEqual(self.sent(self.request(f'GET /{self.token}/'))[0], 200)
+
+
+class RandomCalls(EditorTest):
+    """Calls at random: what the server knows by notices is what the program has."""
+
+    def calls(self, random, numbers):
+        """A call with its arguments. Most of them are refused for some reason."""
+        number, node = random.choice(numbers), random.choice(['r0', *numbers])
+        feature = random.choice(['name', 'books', 'members', 'staff', 'pages', 'tags', 'note', 'next', 'prev', 'job', 'likes', 'favourite', 'subs', 'contents'])
+        at, to = random.randrange(3), random.randrange(3)
+        value = random.choice([number, random.choice(numbers), 'a', '7', None, True])
+        kind = random.choice(['Library', 'Book', 'Person', 'Folder'])
+        return random.choice([
+            ('set', {'object': number, 'feature': feature, 'value': value}), ('unset', {'object': number, 'feature': feature}),
+            ('add', {'object': number, 'feature': feature, 'value': value, 'at': random.choice([None, at])}),
+            ('remove', {'object': number, 'feature': feature, 'at': at}), ('move', {'node': node, 'feature': feature, 'to': to, 'at': at}),
+            ('new', {'class': kind, 'node': node, 'feature': feature, 'at': random.choice([None, at])}),
+            ('new', dict(zip(('class', 'node', 'feature'), random.choice([('Book', 0, 'books'), ('Person', 0, 'members'), ('Folder', 'r0', 'contents')])))),
+            ('place', {'object': number, 'node': node, 'feature': feature, 'at': random.choice([None, at])}),
+            ('delete', {'object': number}) if number and random.random() < 0.1 else ('resolve all', {}),
+        ])
+
+    def test_random(self):
+        """Each value, each container, and each problem, after many calls."""
+        self.start(self.write('town.json', TOWN))
+        random = Random(1)
+        numbers = [0, 1]
+        for _ in range(1500):
+            name, words = self.calls(random, numbers)
+            found = self.call(name, **words)
+            if name == 'new' and not isinstance(found, str):
+                numbers.append(found['done'])
+            elif name == 'delete':
+                left = self.call('nodes', nodes=numbers)['nodes']
+                numbers = [it for it in numbers if left[str(it)]]
+        nodes = ['r0', *numbers]
+        known, asked = self.call('nodes', nodes=nodes), self.call('asked', nodes=nodes)
+        there = {key: state for key, state in known['nodes'].items() if state}
+        self.assertGreater(len(there), 20)
+        for state in (*there.values(), *asked['nodes'].values()):
+            state['in'] = state['in'] and state['in'][0]
+        self.assertEqual(there, asked['nodes'])
+        self.assertEqual(self.call('compared')['differences'], [])
+        short = {it['object'] for it in self.call('problems')['found'] if it['short']}
+        self.assertEqual(short, {int(key) for key, state in there.items() if state['class'] == 'Person' and 'favourite' not in state['values']})
 
 
 class Command(EditorTest):

@@ -51,7 +51,7 @@ def _data(value: Any) -> bool:
 
 # What an argument has to be, by its name; a `?` marks one that may be absent.
 KINDS: Dict[str, Callable[[Any], bool]] = {
-    'node': _node, 'object': _number, 'nodes': _nodes, 'feature': _text, 'class': _text, 'value': _data, 'at': _number, 'to': _number,
+    'node': _node, 'object': _number, 'nodes': _nodes, 'feature': _text, 'class': _text, 'value': _data, 'was': _data, 'at': _number, 'to': _number,
     'text': _text, 'name': _text, 'folder': _number, 'force': _flag, 'xmi': _flag, 'steps': _number, 'data': _text,
 }
 
@@ -170,8 +170,8 @@ CALLS: Dict[str, Call] = {
     'set': Call('object feature value', _edit(lambda model, it: model.edits.set(it['object'], it['feature'], it['value']))),
     'unset': Call('object feature', _edit(lambda model, it: model.edits.unset(it['object'], it['feature']))),
     'add': Call('object feature value at?', _edit(lambda model, it: model.edits.add(it['object'], it['feature'], it['value'], it['at']))),
-    'remove': Call('object feature at', _edit(lambda model, it: model.edits.remove(it['object'], it['feature'], it['at']))),
-    'move': Call('node feature to at', _edit(lambda model, it: model.edits.move(it['node'], it['feature'], it['to'], it['at']))),
+    'remove': Call('object feature at was?', _edit(lambda model, it: model.edits.remove(it['object'], it['feature'], it['at'], it['was']))),
+    'move': Call('node feature to at was?', _edit(lambda model, it: model.edits.move(it['node'], it['feature'], it['to'], it['at'], it['was']))),
     'resolve': Call('object feature at', _edit(lambda model, it: model.edits.resolve(it['object'], it['feature'], it['at']))),
     'resolve all': Call('', _edit(lambda model, it: model.repo.resolve_all()._asdict())),
     'new': Call('class node feature at?', _edit(lambda model, it: model.edits.new(it['class'], it['node'], it['feature'], it['at']))),

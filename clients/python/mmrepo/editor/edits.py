@@ -54,15 +54,17 @@ class Edits:
         place = len(self._mirror.nodes[node].get(self._mirror.shapes.of(owner.eClass.name).forms[feature])) if at is None else at
         self._try(Attempt(self._mirror, node, kind, value), lambda: owner.eGet(feature).insert(place, self._value(kind, value)))
 
-    def remove(self, node: int, feature: str, at: int) -> None:
-        """Takes the value at a place out of a list."""
+    def remove(self, node: int, feature: str, at: int, was: Any = None) -> None:
+        """Takes the value at a place out of a list: the one that the window has seen there, if it says which."""
         owner, kind = self._feature(node, feature)
         self._check_not_held(kind, node)
         self._check_many(kind)
+        self._check_is(node, feature, at, was)
         self._try(Attempt(self._mirror, node, kind), lambda: owner.eGet(feature).pop(at))
 
-    def move(self, node: Id, feature: str, to: int, at: int) -> None:
-        """Moves the value at a place of a list."""
+    def move(self, node: Id, feature: str, to: int, at: int, was: Any = None) -> None:
+        """Moves the value at a place of a list: the one that the window has seen there, if it says which."""
+        self._check_is(node, feature, at, was)
         if isinstance(node, str):
             self._try(Attempt(self._mirror, node), lambda: self._resource(node).contents.move(to, at))
             return
@@ -171,6 +173,13 @@ class Edits:
         if not isinstance(value, bool if feature.eType.name == 'EBoolean' else str):
             raise NotDone('TYPE', f'TYPE: {feature.name} takes {wanted(feature)}')
         return value
+
+    def _check_is(self, node: Id, feature: str, at: int, was: Any) -> None:
+        """A NotDone if a list has a different value at a place than the window has seen: another one was faster."""
+        entry = self._mirror.nodes.get(node)
+        values = entry.values.get(feature) if entry else None
+        if was is not None and isinstance(values, list) and values[at:at + 1] != [was]:
+            raise NotDone('CHANGED', f'CHANGED: {feature} was changed in the meantime; nothing was done')
 
     def _check_many(self, feature: EStructuralFeature) -> None:
         """A NotDone for a feature of one value."""

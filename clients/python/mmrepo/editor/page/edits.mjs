@@ -144,7 +144,7 @@ export class TreeEdits {
   async shift(step) {
     const row = this.tree.rows[this.tree.at()];
     if (row && row.holder !== null && row.feature.many && row.index + step >= 0) {
-      await attempt(() => call('move', { node: row.holder, feature: row.feature.name, to: row.index + step, at: row.index }));
+      await attempt(() => call('move', { node: row.holder, feature: row.feature.name, to: row.index + step, at: row.index, was: row.id }));
       setTimeout(() => this.tree.select(row.id), 60);
     }
   }

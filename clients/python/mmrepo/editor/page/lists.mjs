@@ -76,7 +76,7 @@ export class ListField {
         'span', { class: 'moves' },
         button('up', 'Move up', () => this.move(at, at - 1), at === 0),
         button('down', 'Move down', () => this.move(at, at + 1), at === count - 1),
-        !this.isHeld && button('close', 'Remove', () => this.row.edit('remove', { at })),
+        !this.isHeld && button('close', 'Remove', () => this.row.edit('remove', { at, was: value })),
       ),
     );
   }
@@ -87,7 +87,7 @@ export class ListField {
    * @param {number} to
    */
   move(at, to) {
-    const words = { node: this.row.id, to, at, object: undefined };
+    const words = { node: this.row.id, to, at, was: this.row.value()[at], object: undefined };
     return this.row.edit('move', words);
   }
 

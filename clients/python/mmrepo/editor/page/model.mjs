@@ -274,27 +274,6 @@ export class Model {
   }
 
   /**
-   * The objects that a node contains, each with its feature and its index.
-   * @param {Id} id
-   * @returns {{id: number, feature: Feature, index: number}[]}
-   */
-  parts(id) {
-    const state = this.nodes.get(id);
-    const found = [];
-    for (const feature of state ? this.metamodel.partsOf(state.class) : []) {
-      const value = state?.values[feature.name];
-      if (Array.isArray(value)) {
-        for (let index = 0; index < value.length; index += 1) {
-          found.push({ id: value[index], feature, index });
-        }
-      } else if (value !== undefined && value !== null) {
-        found.push({ id: value, feature, index: 0 });
-      }
-    }
-    return found;
-  }
-
-  /**
    * Whether a node contains something.
    * @param {Id} id
    * @returns {boolean}

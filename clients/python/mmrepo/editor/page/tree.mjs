@@ -108,16 +108,16 @@ export class Tree {
     /** @type {Row[]} */
     const rows = [];
     const add = (/** @type {Id} */ id, /** @type {number} */ level) => {
-      if (!this.open.has(id)) {
-        return;
-      }
-      this.model.need(id);
-      const parts = this.model.parts(id);
-      for (let at = 0; at < parts.length; at += 1) {
-        const part = parts[at];
-        rows.push({ id: part.id, level, holder: id, feature: part.feature, index: part.index, place: at + 1, size: parts.length });
-        add(part.id, level + 1);
-      }
+      const state = this.open.has(id) ? this.model.need(id) : undefined;
+      const features = state ? this.model.metamodel.partsOf(state.class) : [];
+      const values = features.map((it) => /** @type {number[]} */ ([state?.values[it.name] ?? []].flat()));
+      const size = values.reduce((sum, it) => sum + it.length, 0);
+      let place = 0;
+      features.forEach((feature, at) => values[at].forEach((part, index) => {
+        place += 1;
+        rows.push({ id: part, level, holder: id, feature, index, place, size });
+        this.open.has(part) && add(part, level + 1);
+      }));
     };
     files.forEach((file, at) => {
       rows.push({ id: file.resource, level: 1, holder: null, feature: CONTENTS, index: at, place: at + 1, size: files.length });
