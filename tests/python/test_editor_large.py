@@ -48,7 +48,8 @@ EDIT = BEGIN + '''
     for (let at = 0; at < 20; at += 1) {
         const begun = performance.now();
         await mmrepo.call('set', {object: number, feature: 'name', value: `Renamed ${at}`});
-        while (document.getElementById(`row-${number}`)?.querySelector('.label').textContent !== `Renamed ${at}`) await new Promise((done) => requestAnimationFrame(done));
+        const label = () => document.getElementById(`row-${number}`)?.querySelector('.label').textContent;
+        while (label() !== `Renamed ${at}`) await new Promise((done) => requestAnimationFrame(done));
         times.push(performance.now() - begun);
     }
     return [median(times), Math.max(...times)];
@@ -109,7 +110,8 @@ class Large(BrowserTest):
         '''
         self.timed('all objects opened', self.js(open_all, OBJECTS), FIRST_VIEW)
         self.timed('scrolling: a frame, and the longest; until all labels are there, and the longest', self.js(SCROLL))
-        counts = self.js('return [document.querySelectorAll("*").length, document.querySelectorAll(".row").length, mmrepo.model.nodes.size, mmrepo.tree.rows.length];')
+        sizes = '["*", ".row"].map((it) => document.querySelectorAll(it).length)'
+        counts = self.js(f'return [...{sizes}, mmrepo.model.nodes.size, mmrepo.tree.rows.length];')
         self.assertLess(counts[0], 1500)
         self.assertLess(counts[1], 60)
         self.assertLessEqual(counts[2], 3000)

@@ -13,6 +13,7 @@ from support import TOP
 EDITS = int(os.environ.get('EDITOR_EDITS', 150))  # on each of the two models
 TOGETHER = 5  # edits in a window, before the other one goes on
 SEED = int(os.environ.get('EDITOR_SEED', 1))
+NO_MODELS = 'the packages libeclipse-e4-ui-model-workbench-java and libeclipse-ui-workbench-java are not installed'
 SMALL = (640, 420)  # of the page: what is painted takes most of the time
 CODE = (Path(__file__).parent / 'random_edits.mjs').read_text()
 
@@ -169,7 +170,7 @@ class Random(RandomTest):
         ecore = [it for it in self.taken(ECORE_JAR, '.ecore', Path(self.room.name, 'ecore')) if it.name == 'Ecore.ecore']
         self.edit(*self.converted(ecore, ecore[0], 'Ecore.json'))
 
-    @unittest.skipUnless(MODEL_JAR.exists() and WORKBENCH_JAR.exists(), 'the packages libeclipse-e4-ui-model-workbench-java and libeclipse-ui-workbench-java are not installed')
+    @unittest.skipUnless(MODEL_JAR.exists() and WORKBENCH_JAR.exists(), NO_MODELS)
     def test_application(self):
         """The application model of Eclipse."""
         room = Path(self.room.name, 'ecore')

@@ -19,7 +19,9 @@ from support import CLIENT, LIBRARY, PROGRAM
 
 PAGE = CLIENT / 'mmrepo/editor/page'
 TOWN = {'format': 2, 'roots': [{'class': 'Library', 'features': {'name': 'Town', 'books': [{'class': 'Book', 'features': {'name': 'Emma'}}]}}]}
+PARTS = [('Book', 0, 'books'), ('Person', 0, 'members'), ('Folder', 'r0', 'contents')]  # that can be made
 LONGEST_FILE = 400
+FUNCTION = re.compile(r'( *)(?:async )?(?:export )?(?:async )?(?:def|function) |( +)(?:async )?(?!if|for|while|switch|catch)\w+\(.*\) \{$')
 
 
 class ServerTest(EditorTest):
@@ -102,8 +104,8 @@ class Hostile(ServerTest):
     def test_paths(self):
         """Nothing but the files of the page is served, and no file is made outside of the folder."""
         Path(self.room.name, 'secret.json').write_text('{}')
-        for path in ('../secret.json', '..%2fsecret.json', '%2e%2e/secret.json', '../../../../etc/passwd', '/etc/passwd', 'town.json', '.', 'page/../main.mjs',
-                     'main.mjs%00', 'events/..', '\\..\\secret.json', 'call/x', 'editor/model.py', '__init__.py', 'main.mjs/'):
+        for path in ('../secret.json', '..%2fsecret.json', '%2e%2e/secret.json', '../../../../etc/passwd', '/etc/passwd', 'town.json', '.',
+                     'page/../main.mjs', 'main.mjs%00', 'events/..', '\\..\\secret.json', 'call/x', 'editor/model.py', '__init__.py', 'main.mjs/'):
             with self.subTest(path=path):
                 self.assertEqual(self.sent(self.request(f'GET /{self.token}/{path}'))[0], 404)
         before = sorted(Path(self.room.name).rglob('*'))
@@ -123,9 +125,11 @@ class Hostile(ServerTest):
         get, big = f'GET /{self.token}/', 'x' * 70_000
         cases = [
             (b'nonsense\r\n\r\n', 400), (self.request(f'PUT /{self.token}/call'), 501), (self.request(f'DELETE /{self.token}/'), 501),
-            (self.request(f'OPTIONS /{self.token}/call'), 501), (self.request('CONNECT evil.example:443'), 403), (self.request(f'GET /{self.token}/{big}'), 414),
+            (self.request(f'OPTIONS /{self.token}/call'), 501), (self.request('CONNECT evil.example:443'), 403),
+            (self.request(f'GET /{self.token}/{big}'), 414),
             (self.request(get, X=big), 431), (self.request(get, **{f'X{it}': 'y' for it in range(200)}), 431),
-            (f'GET /{self.token}/ HTTP/9.9\r\n\r\n'.encode(), 505), (self.request(f'GET http://evil.example/{self.token}/', Host='evil.example'), 421),
+            (f'GET /{self.token}/ HTTP/9.9\r\n\r\n'.encode(), 505),
+            (self.request(f'GET http://evil.example/{self.token}/', Host='evil.example'), 421),
         ]
         for data, status in cases:
             with self.subTest(data=data[:60]):
@@ -141,7 +145,8 @@ class Hostile(ServerTest):
             with self.subTest(body=body[:40]):
                 self.assertEqual(self.post(body)[0], 400)
         cases = [
-            (b'[]', 'a call is a JSON object'), (b'"start"', 'a call is a JSON object'), (b'{}', "there is no call 'None'"), (b'{"do":7}', "there is no call '7'"),
+            (b'[]', 'a call is a JSON object'), (b'"start"', 'a call is a JSON object'), (b'{}', "there is no call 'None'"),
+            (b'{"do":7}', "there is no call '7'"),
             (b'{"do":["start"]}', "there is no call \"['start']\""), (b'{"do":"evil"}', "there is no call 'evil'"),
             (b'{"do":"start","more":1}', "start has no argument 'more'"),
         ]
@@ -235,7 +240,8 @@ class Hostile(ServerTest):
         """What the browser is told: nothing of the page may come from elsewhere."""
         with urllib.request.urlopen(self.address) as answer:
             self.assertIn("default-src 'none'; script-src 'self'", answer.headers['Content-Security-Policy'])
-            self.assertEqual([answer.headers[it] for it in ('X-Content-Type-Options', 'Referrer-Policy', 'Cache-Control')], ['nosniff', 'no-referrer', 'no-store'])
+            names = ('X-Content-Type-Options', 'Referrer-Policy', 'Cache-Control')
+            self.assertEqual([answer.headers[it] for it in names], ['nosniff', 'no-referrer', 'no-store'])
         for file in PAGE.iterdir():
             text = file.read_text().replace('http://www.w3.org/2000/svg', '')
             self.assertNotRegex(text, 'https?:|innerHTML|outerHTML|insertAdjacentHTML|document.write|eval\\(|new Function', file.name)
@@ -270,7 +276,8 @@ class Streams(ServerTest):
         self.call('delete', object=1)
         found = self.events(0, 3)
         self.assertEqual([it['notices'] for it in found], [
-            [['SET', 1, 'pages', 100, 7, -1, 'Book']], [['ADD', 0, 'members', None, 2, 0, 'Library']], [['REMOVE', 0, 'books', 1, None, 0, 'Library']],
+            [['SET', 1, 'pages', 100, 7, -1, 'Book']], [['ADD', 0, 'members', None, 2, 0, 'Library']],
+            [['REMOVE', 0, 'books', 1, None, 0, 'Library']],
         ])
         self.assertEqual([it['gone'] for it in found], [[], [], [1]])
         self.assertEqual(found[1]['problems'], {'objects': {'2': {'short': ['favourite'], 'proxies': []}}, 'count': 1, 'short': 1, 'proxies': 0})
@@ -285,7 +292,7 @@ class Streams(ServerTest):
         """What is refused changes nothing, and no window hears of it."""
         self.assertEqual(self.call('new', class_='Person', node=0, feature='books'), 'TYPE: books takes objects of class Book')
         self.assertEqual(self.call('new', class_='Named', node=0, feature='books'), 'ABSTRACT: the class is abstract')
-        self.assertEqual(self.call('set', object=1, feature='library', value=None), 'HELD: library is changed in the tree, so that no object is lost: delete, drag, or make a new one')
+        self.assertRegex(self.call('set', object=1, feature='library', value=None), '^HELD: library is changed in the tree, so that no object is lost')
         self.assertRegex(self.call('unset', object=0, feature='books'), '^HELD: ')
         self.assertRegex(self.call('remove', object=0, feature='books', at=0), '^HELD: ')
         self.assertRegex(self.call('place', object=1, node=0, feature='name'), '^TYPE: name contains nothing')
@@ -330,7 +337,7 @@ class RandomCalls(EditorTest):
     def calls(self, random, numbers):
         """A call with its arguments. Most of them are refused for some reason."""
         number, node = random.choice(numbers), random.choice(['r0', *numbers])
-        feature = random.choice(['name', 'books', 'members', 'staff', 'pages', 'tags', 'note', 'next', 'prev', 'job', 'likes', 'favourite', 'subs', 'contents'])
+        feature = random.choice('name books members staff pages tags note next prev job likes favourite subs contents'.split())
         at, to = random.randrange(3), random.randrange(3)
         value = random.choice([number, random.choice(numbers), 'a', '7', None, True])
         kind = random.choice(['Library', 'Book', 'Person', 'Folder'])
@@ -339,7 +346,7 @@ class RandomCalls(EditorTest):
             ('add', {'object': number, 'feature': feature, 'value': value, 'at': random.choice([None, at])}),
             ('remove', {'object': number, 'feature': feature, 'at': at}), ('move', {'node': node, 'feature': feature, 'to': to, 'at': at}),
             ('new', {'class': kind, 'node': node, 'feature': feature, 'at': random.choice([None, at])}),
-            ('new', dict(zip(('class', 'node', 'feature'), random.choice([('Book', 0, 'books'), ('Person', 0, 'members'), ('Folder', 'r0', 'contents')])))),
+            ('new', dict(zip(('class', 'node', 'feature'), random.choice(PARTS)))),
             ('place', {'object': number, 'node': node, 'feature': feature, 'at': random.choice([None, at])}),
             ('delete', {'object': number}) if number and random.random() < 0.1 else ('resolve all', {}),
         ])
@@ -394,7 +401,8 @@ class Command(EditorTest):
         self.start()
         self.call('new', class_='Book', node='r0', feature='contents')
         self.assertRegex(self.call('save', force=False), '^no folder is open: ')
-        self.assertEqual(self.call('export', node='r0', xmi=False), {'name': 'model.json', 'text': '{"format":2,"roots":[{"class":"Book","features":{}}]}\n'})
+        text = '{"format":2,"roots":[{"class":"Book","features":{}}]}\n'
+        self.assertEqual(self.call('export', node='r0', xmi=False), {'name': 'model.json', 'text': text})
         self.assertEqual(self.stop(), 'not saved: http://models.example/model.json\n')
 
     def test_folders(self):
@@ -424,7 +432,7 @@ class Command(EditorTest):
             lines = file.read_text().splitlines()
             self.assertLessEqual(len(lines), LONGEST_FILE, file.name)
             for first, line in enumerate(lines if file.suffix in ('.py', '.mjs') else []):
-                begins = re.match(r'( *)(?:async )?(?:export )?(?:async )?(?:def|function) |( +)(?:async )?(?!if|for|while|switch|catch)\w+\(.*\) \{$', line)
+                begins = FUNCTION.match(line)
                 if begins:
                     indent = len(begins[1] or begins[2] or '')
                     rest = lines[first + 1:]
