@@ -99,7 +99,7 @@ export class TreeEdits {
       say('Select an object first. A file is never deleted; delete its objects.');
       return;
     }
-    const row = this.tree.rows[this.tree.at()];
+    const holder = this.tree.rows[this.tree.at()]?.holder ?? null;
     const found = await attempt(() => call('below', { object: id }));
     const label = `${this.model.nodes.get(id)?.class ?? ''} “${this.model.label(id)}”`;
     const count = found?.count ?? 0;
@@ -107,7 +107,7 @@ export class TreeEdits {
     const yes = count > 1 ? `Delete ${counted(count)} objects` : 'Delete';
     if (found && (await confirm('Delete', [`Delete ${label}?`, `${says} References to what goes are taken out.`], yes))) {
       await attempt(() => call('delete', { object: id }));
-      this.tree.select(row?.holder ?? null);
+      this.tree.select(holder);
     }
     this.tree.top.focus();
   }
@@ -144,8 +144,9 @@ export class TreeEdits {
   async shift(step) {
     const row = this.tree.rows[this.tree.at()];
     if (row && row.holder !== null && row.feature.many && row.index + step >= 0) {
-      await attempt(() => call('move', { node: row.holder, feature: row.feature.name, to: row.index + step, at: row.index, was: row.id }));
-      setTimeout(() => this.tree.select(row.id), 60);
+      const { id, holder, feature, index } = row; // the row itself may be another one's soon
+      await attempt(() => call('move', { node: holder, feature: feature.name, to: index + step, at: index, was: id }));
+      setTimeout(() => this.tree.select(id), 60);
     }
   }
 

@@ -101,12 +101,15 @@ export class Tree {
     }
   }
 
-  /** Makes the list of all rows of nodes that are open. */
+  /** Makes the list of all rows of nodes that are open. The rows that there are get new values, since there may be very many. */
   remake() {
     this.isStale = false;
-    const files = this.model.files;
-    /** @type {Row[]} */
-    const rows = [];
+    const { files } = this.model;
+    let count = 0;
+    const put = (/** @type {Row} */ row) => {
+      count < this.rows.length ? Object.assign(this.rows[count], row) : this.rows.push(row);
+      count += 1;
+    };
     const add = (/** @type {Id} */ id, /** @type {number} */ level) => {
       const state = this.open.has(id) ? this.model.need(id) : undefined;
       const features = state ? this.model.metamodel.partsOf(state.class) : [];
@@ -115,15 +118,15 @@ export class Tree {
       let place = 0;
       features.forEach((feature, at) => values[at].forEach((part, index) => {
         place += 1;
-        rows.push({ id: part, level, holder: id, feature, index, place, size });
+        put({ id: part, level, holder: id, feature, index, place, size });
         this.open.has(part) && add(part, level + 1);
       }));
     };
     files.forEach((file, at) => {
-      rows.push({ id: file.resource, level: 1, holder: null, feature: CONTENTS, index: at, place: at + 1, size: files.length });
+      put({ id: file.resource, level: 1, holder: null, feature: CONTENTS, index: at, place: at + 1, size: files.length });
       add(file.resource, 2);
     });
-    this.rows = rows;
+    this.rows.length = count;
   }
 
   // What is drawn
@@ -194,11 +197,12 @@ export class Tree {
    * @returns {HTMLElement}
    */
   makeRow(row, { label, kind, isOpen, isWrong, isChanged, canAdd, where }) {
+    const { id } = row;
     const spoken = `${label}, ${kind ?? 'file'}${isWrong ? ', has problems' : ''}${isChanged ? ', edited' : ''}`;
     const made = element(
       'div',
       {
-        id: `row-${row.id}`, role: 'treeitem', class: 'row', 'aria-level': row.level, 'aria-posinset': row.place, 'aria-setsize': row.size,
+        id: `row-${id}`, role: 'treeitem', class: 'row', 'aria-level': row.level, 'aria-posinset': row.place, 'aria-setsize': row.size,
         'aria-expanded': isOpen === null ? undefined : String(isOpen), 'aria-label': spoken,
       },
       element('span', { class: 'twist' }, isOpen !== null && icon(isOpen ? 'open' : 'closed')),
@@ -208,7 +212,7 @@ export class Tree {
       isWrong && element('span', { class: 'problem', title: 'it has problems' }, icon('warning')),
       isChanged && element('span', { class: 'changed', title: 'it was edited since it was saved' }, '●'),
       element('span', { class: 'where' }, where),
-      canAdd && iconButton('add', 'New child', (event) => this.add(row.id, /** @type {HTMLElement} */ (event.currentTarget)), { tabindex: -1 }),
+      canAdd && iconButton('add', 'New child', (event) => this.add(id, /** @type {HTMLElement} */ (event.currentTarget)), { tabindex: -1 }),
     );
     made.style.setProperty('--level', String(row.level - 1));
     return made;
