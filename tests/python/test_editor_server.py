@@ -1,27 +1,21 @@
-"""The server of the editor: what may be asked, hostile requests, and the command."""
+"""The server of the editor: what may be asked, and hostile requests."""
 
 import json
 import os
 import re
-import shutil
 import signal
 import socket
-import subprocess
-import sys
 import time
-import unittest
 import urllib.request
 from pathlib import Path
 from random import Random
 
 from editor_support import EditorTest
-from support import CLIENT, LIBRARY, PROGRAM
+from support import CLIENT
 
 PAGE = CLIENT / 'mmrepo/editor/page'
 TOWN = {'format': 2, 'roots': [{'class': 'Library', 'features': {'name': 'Town', 'books': [{'class': 'Book', 'features': {'name': 'Emma'}}]}}]}
 PARTS = [('Book', 0, 'books'), ('Person', 0, 'members'), ('Folder', 'r0', 'contents')]  # that can be made
-LONGEST_FILE = 400
-FUNCTION = re.compile(r'( *)(?:async )?(?:export )?(?:async )?(?:def|function) |( +)(?:async )?(?!if|for|while|switch|catch)\w+\(.*\) \{$')
 
 
 class ServerTest(EditorTest):
@@ -374,79 +368,3 @@ class RandomCalls(EditorTest):
         self.assertEqual(self.call('compared')['differences'], [])
         short = {it['object'] for it in self.call('problems')['found'] if it['short']}
         self.assertEqual(short, {int(key) for key, state in there.items() if state['class'] == 'Person' and 'favourite' not in state['values']})
-
-
-class Command(EditorTest):
-    """The command, and what is installed."""
-
-    def run_edit(self, *words):
-        """The status of a command that does not serve, and what it says."""
-        environment = {**os.environ, 'PYTHONPATH': str(CLIENT), 'MMREPO': str(PROGRAM), 'PYTHONDONTWRITEBYTECODE': '1'}
-        command = [sys.executable, '-W', 'error', '-m', 'mmrepo', 'edit', *map(str, words), '--no-browser']
-        done = subprocess.run(command, cwd=self.room.name, env=environment, stdout=subprocess.PIPE, stderr=subprocess.PIPE)
-        return done.returncode, done.stderr.decode()
-
-    def test_wrong_use(self):
-        self.assertEqual(self.run_edit('none.json')[0], 2)
-        self.assertIn('metamodel refused', self.run_edit(self.file('bad.json', '{"classes":7}'))[1])
-        self.assertEqual(self.run_edit(LIBRARY, self.file('a-file', ''))[0], 2)
-        self.assertEqual(self.run_edit(LIBRARY, '--port', '99999')[0], 2)
-        with socket.socket() as taken:
-            taken.bind(('127.0.0.1', 0))
-            taken.listen()
-            self.assertIn('Address already in use', self.run_edit(LIBRARY, '--port', taken.getsockname()[1])[1])
-
-    def test_no_folder(self):
-        """Without a folder a model is made all the same; it goes out by export."""
-        self.start()
-        self.call('new', class_='Book', node='r0', feature='contents')
-        self.assertRegex(self.call('save', force=False), '^no folder is open: ')
-        text = '{"format":2,"roots":[{"class":"Book","features":{}}]}\n'
-        self.assertEqual(self.call('export', node='r0', xmi=False), {'name': 'model.json', 'text': text})
-        self.assertEqual(self.stop(), 'not saved: http://models.example/model.json\n')
-
-    def test_folders(self):
-        """A folder that is not there is made. Folders beside each other refer to one another as their files do."""
-        self.write('a/one.json', {'format': 2, 'roots': [{'class': 'Person', 'features': {'favourite': '../b/two.json#/'}}]})
-        top = self.write('b/two.json', {'format': 2, 'roots': [{'class': 'Book', 'features': {}}]})
-        self.start(top / 'a', top / 'b', top / 'new')
-        self.assertEqual([(it['name'], it['folder']) for it in self.call('start')['resources']], [('one.json', 0), ('two.json', 1)])
-        self.assertEqual(self.call('nodes', nodes=[0])['nodes']['0']['values'], {'favourite': 1})
-        word = self.call('new file', folder=2, name='three.json')['resource']
-        self.call('place', object=1, node=word, feature='contents')
-        self.assertEqual([Path(it).name for it in self.call('save', force=False)['saved']], ['one.json', 'two.json', 'three.json'])
-        self.assertEqual(self.stop(), '')
-        self.assertEqual((top / 'new/three.json').read_text(), '{"format":2,"roots":[{"class":"Book","features":{}}]}\n')
-
-    @unittest.skipUnless(shutil.which('node'), 'node is not installed')
-    def test_scripts(self):
-        """Each script is one, says that its types are checked, and is no longer than a reader likes."""
-        for file in PAGE.glob('*.mjs'):
-            done = subprocess.run(['node', '--check', str(file)], stderr=subprocess.PIPE)
-            self.assertEqual(done.stderr.decode(), '', file.name)
-            self.assertTrue(file.read_text().startswith('// @ts-check\n'), file.name)
-
-    def test_lengths(self):
-        """No file has more than 400 lines, and no function more than 40."""
-        for file in [*PAGE.iterdir(), *PAGE.parent.glob('*.py')]:
-            lines = file.read_text().splitlines()
-            self.assertLessEqual(len(lines), LONGEST_FILE, file.name)
-            for first, line in enumerate(lines if file.suffix in ('.py', '.mjs') else []):
-                begins = FUNCTION.match(line)
-                if begins:
-                    indent = len(begins[1] or begins[2] or '')
-                    rest = lines[first + 1:]
-                    length = next((at for at, it in enumerate(rest) if it.strip() and len(it) - len(it.lstrip()) <= indent), len(rest))
-                    self.assertLess(length, 40, f'{file.name}: {line}')
-
-    def test_installed(self):
-        """A package that is installed has the page."""
-        code = 'import setuptools; assert int(setuptools.__version__.split(".")[0]) >= 61'
-        if subprocess.run([sys.executable, '-c', code], stderr=subprocess.DEVNULL).returncode != 0:
-            self.skipTest('setuptools 61 is not installed')
-        source, target = Path(self.room.name, 'source'), Path(self.room.name, 'target')
-        shutil.copytree(CLIENT, source, ignore=shutil.ignore_patterns('__pycache__', 'build', '*.egg-info'))
-        command = [sys.executable, '-c', 'from setuptools import setup; setup()', '--quiet', 'build', '--build-lib', str(target)]
-        done = subprocess.run(command, cwd=source, stdout=subprocess.PIPE, stderr=subprocess.STDOUT)
-        self.assertEqual(done.returncode, 0, done.stdout.decode())
-        self.assertEqual(sorted(it.name for it in (target / 'mmrepo/editor/page').iterdir()), sorted(it.name for it in PAGE.iterdir()))
