@@ -107,8 +107,8 @@ class Diagrams(ToolTest):
     def test_classes(self):
         self.assertEqual(self.tool('diagram', LIBRARY), CLASSES)
 
-    def test_readme(self):
-        blocks = re.findall(r'```mermaid\n(.*?)```', (TOP / 'README.md').read_text(), re.S)
+    def test_page(self):
+        blocks = re.findall(r'```mermaid\n(.*?)```', (TOP / 'docs/ECORE.md').read_text(), re.S)
         self.assertEqual(blocks, [CLASSES])
 
     def test_objects(self):
