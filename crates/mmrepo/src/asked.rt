@@ -17,6 +17,8 @@ pub(crate) struct Asked {
     pub(crate) strict: bool,
     /// Whether each line is answered before the next is read.
     pub(crate) live: bool,
+    /// The file that keeps the lines that change the model, if there is one.
+    pub(crate) journal: Option<String>,
     /// Whether it says what to mend, after what it reports.
     pub(crate) explain: bool,
 }
@@ -72,13 +74,18 @@ fn asked_of(rt: &HostRuntime, words: &[&str]) -> Result<Asked, Stop> {
     {
         return Err(Stop::NotLive(option));
     }
+    if !options.live && options.journal.is_some() {
+        return Err(Stop::OnlyLive("--journal"));
+    }
     let script = path_of(rt, options.script)?;
+    let journal = path_of(rt, options.journal)?;
     Ok(Asked {
         meta: String::from_str(rt.alloc(), options.meta)?,
         script,
         dress: options.dress,
         strict: options.strict,
         live: options.live,
+        journal,
         explain: options.explain,
     })
 }

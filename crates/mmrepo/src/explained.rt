@@ -1,9 +1,13 @@
 //! What the program says beside of why it stops, if that is asked for.
-use crate::stop::Stop;
+use crate::asked::Asked;
+use crate::stop::{JournalRefusal, Stop};
 use explain::explain_meta;
+use file_disk::OpenFault;
 use mm_types::MetaFault;
 use mm_types::limits::INPUT_BYTES;
+use script_program::JournalFault;
 use script_streams::RunFault;
+use std::alloc::AllocError;
 use std::io;
 
 /// Why a file is not opened.
@@ -60,5 +64,85 @@ pub(crate) fn explained_fault(
     match explain_meta(rt.alloc(), bytes, fault) {
         Ok(text) => Stop::Mend(fault, text),
         Err(_) => Stop::Run(RunFault::Memory),
+    }
+}
+
+/// A journal that is refused, with a text if one is asked for.
+fn refused(explain: bool, refusal: JournalRefusal, text: Result<String, AllocError>) -> Stop {
+    match text {
+        Ok(text) if explain => Stop::ExplainedJournal(refusal, text),
+        Ok(_) => Stop::Journal(refusal),
+        Err(_) => Stop::Run(RunFault::Memory),
+    }
+}
+
+/// Why the file of a journal is not opened.
+pub(crate) fn explained_lock(
+    rt: &HostRuntime,
+    explain: bool,
+    path: &str,
+    fault: OpenFault,
+) -> Stop {
+    match fault {
+        OpenFault::InUse => {
+            let text = format!(in rt.alloc(); "{path}: another process has it open\n");
+            refused(explain, JournalRefusal::InUse, text)
+        }
+        OpenFault::Io(error) => {
+            if !explain {
+                return Stop::Run(RunFault::Journal);
+            }
+            match format!(in rt.alloc(); "{path}: {error}\n") {
+                Ok(text) => Stop::Explained(RunFault::Journal, text),
+                Err(_) => Stop::Run(RunFault::Memory),
+            }
+        }
+    }
+}
+
+/// Why a journal is not taken.
+pub(crate) fn explained_journal(
+    rt: &HostRuntime,
+    asked: &Asked,
+    path: &str,
+    fault: JournalFault,
+) -> Stop {
+    match fault {
+        JournalFault::Memory => Stop::Run(RunFault::Memory),
+        JournalFault::Failed => {
+            explained_disk(rt, asked.explain, path, Stop::Run(RunFault::Journal))
+        }
+        JournalFault::NoJournal => {
+            let text = format!(in rt.alloc();
+                "{path}: it is no journal, and is left as it is: name a new file\n"
+            );
+            refused(asked.explain, JournalRefusal::NoJournal, text)
+        }
+        JournalFault::OtherMetamodel => {
+            let text = format!(in rt.alloc();
+                "{path}: it was begun with another metamodel than {}: its first line has the SHA-256 of that file\n",
+                asked.meta
+            );
+            refused(asked.explain, JournalRefusal::OtherMetamodel, text)
+        }
+        JournalFault::Line(line) => {
+            let text = format!(in rt.alloc();
+                "{path}: line {line} is not done when it is run again, so the program did not write it\n"
+            );
+            refused(asked.explain, JournalRefusal::Line(line), text)
+        }
+    }
+}
+
+/// Why a run stops that keeps its changes in a journal.
+pub(crate) fn explained_disk(rt: &HostRuntime, explain: bool, path: &str, stop: Stop) -> Stop {
+    match stop {
+        Stop::Run(RunFault::Journal) if explain => {
+            match format!(in rt.alloc(); "{path}: it can't be written\n") {
+                Ok(text) => Stop::Explained(RunFault::Journal, text),
+                Err(_) => Stop::Run(RunFault::Memory),
+            }
+        }
+        stop => stop,
     }
 }

@@ -3,6 +3,7 @@
 
 mod asked;
 mod explained;
+mod journaled;
 mod metamodel;
 mod prompt;
 mod running;
@@ -21,8 +22,8 @@ fn start(rt: &HostRuntime) -> Result<u8, Stop> {
     let asked = arguments_of(rt, words.as_slice())?;
     let bytes = read_meta(rt, &asked)?;
     let meta = load(rt, &asked, bytes.as_slice())?;
-    let summary = run_asked(rt, &asked, meta, bytes)?;
-    Ok(status_of(summary, asked.strict))
+    let is_faulty = run_asked(rt, &asked, meta, bytes)?;
+    Ok(status_of(is_faulty, asked.strict))
 }
 
 fn main(rt: HostRuntime) -> ExitCode {

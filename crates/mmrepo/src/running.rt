@@ -1,6 +1,7 @@
 //! The script is run.
 use crate::asked::Asked;
 use crate::explained::{explained_open, explained_run};
+use crate::journaled::run_journaled;
 use crate::prompt::Prompted;
 use crate::stop::Stop;
 use crate::watched::Watched;
@@ -11,6 +12,7 @@ use mm_meta::Meta;
 use repository::Repository;
 use script_program::{Dress, Summary, run_live, run_over};
 use script_streams::RunFault;
+use sha2::{Digest, Sha256};
 use std::cell::RefCell;
 use std::io::{BufReader, BufWriter, Printer, Read, Write};
 use std::{fs, io};
@@ -28,7 +30,7 @@ const LEFT: u64 = 2;
 const FAULTY: u8 = 4;
 
 /// Standard output through a buffer. It is watched below the buffer, so that a write into the buffer costs no more than the copy.
-fn writer_of<'w, 'm>(
+pub(crate) fn writer_of<'w, 'm>(
     rt: &'w HostRuntime,
     watch: Option<&'w RefCell<Watch<'m>>>,
 ) -> Result<BufWriter<Watched<'w, 'm, Printer<'w, HostRuntime>>>, Stop> {
@@ -95,6 +97,26 @@ fn run_dialogue<A: Adapter>(
     Ok(ended(&mut writer, outcome)?)
 }
 
+/// Whether a line of a run was refused, or bad.
+fn is_faulty(summary: Summary) -> bool {
+    summary.refused > 0 || summary.bad > 0
+}
+
+/// Runs the lines that come on standard input live, and keeps those that change the model if a journal is asked for.
+fn run_live_lines<A: Adapter>(
+    rt: &HostRuntime,
+    asked: &Asked,
+    digest: &[u8],
+    meta: Box<Meta>,
+    boxes: Vec<A>,
+    watch: Option<&RefCell<Watch<'_>>>,
+) -> Result<bool, Stop> {
+    match &asked.journal {
+        Some(path) => run_journaled(rt, asked, path.as_str(), digest, meta, boxes, watch),
+        None => Ok(is_faulty(run_dialogue(rt, meta, boxes, watch)?)),
+    }
+}
+
 /// Runs the script of a file, or that on standard input.
 fn run_script<A: Adapter>(
     rt: &HostRuntime,
@@ -103,9 +125,6 @@ fn run_script<A: Adapter>(
     boxes: Vec<A>,
     watch: Option<&RefCell<Watch<'_>>>,
 ) -> Result<Summary, Stop> {
-    if asked.live {
-        return run_dialogue(rt, meta, boxes, watch);
-    }
     let Some(path) = &asked.script else {
         return run_reader(rt, rt.reader(), meta, boxes, asked.dress, watch);
     };
@@ -120,13 +139,15 @@ fn run_script<A: Adapter>(
 }
 
 /// Runs the script with its boxes: A1 to A4, which keep every notice, A5 and A6, which keep the last 2 and the last 100, A7,
-/// which counts, and A8, which can count two more. A live run has more that count, so that a long one keeps no notices.
+/// which counts, and A8, which can count two more. A live run has more that count, so that a long one keeps no notices. Returns whether
+/// a line was refused or bad.
 fn run_with_boxes(
     rt: &HostRuntime,
     asked: &Asked,
+    digest: &[u8],
     meta: Box<Meta>,
     watch: Option<&RefCell<Watch<'_>>>,
-) -> Result<Summary, Stop> {
+) -> Result<bool, Stop> {
     let last = if asked.live { LIVE_BOXES } else { BOXES };
     let mut boxes: Vec<Box<dyn Adapter>> = Vec::new(rt.alloc());
     for no in 1..=last {
@@ -138,39 +159,50 @@ fn run_with_boxes(
             _ => boxes.push(Box::new(rt.alloc(), Counter::new())?)?,
         }
     }
-    run_script(rt, asked, meta, boxes, watch)
+    if asked.live {
+        run_live_lines(rt, asked, digest, meta, boxes, watch)
+    } else {
+        Ok(is_faulty(run_script(rt, asked, meta, boxes, watch)?))
+    }
 }
 
 /// Runs the script, and explains its bad lines and the documents that are refused.
 fn run_explained(
     rt: &HostRuntime,
     asked: &Asked,
+    digest: &[u8],
     meta: Box<Meta>,
     document: &[u8],
-) -> Result<Summary, Stop> {
+) -> Result<bool, Stop> {
     let watch = RefCell::new(Watch::new(rt.alloc(), document, asked.dress.number));
-    run_with_boxes(rt, asked, meta, Some(&watch))
+    run_with_boxes(rt, asked, digest, meta, Some(&watch))
 }
 
-/// Runs the script as it is asked for. The metamodel's document is dropped if nothing is explained.
+/// The digest of the metamodel's document, which a journal has in its first line. Without a journal it is that of nothing.
+fn digest_for(asked: &Asked, document: &[u8]) -> [u8; 32] {
+    match asked.journal {
+        Some(_) => Sha256::digest(document),
+        None => Sha256::digest(b""),
+    }
+}
+
+/// Runs the script as it is asked for, and returns whether a line was refused or bad. The metamodel's document is dropped if nothing is
+/// explained.
 pub(crate) fn run_asked(
     rt: &HostRuntime,
     asked: &Asked,
     meta: Box<Meta>,
     document: Vec<u8>,
-) -> Result<Summary, Stop> {
+) -> Result<bool, Stop> {
+    let digest = digest_for(asked, document.as_slice());
     if asked.explain {
-        return run_explained(rt, asked, meta, document.as_slice());
+        return run_explained(rt, asked, &digest, meta, document.as_slice());
     }
     drop(document);
-    run_with_boxes(rt, asked, meta, None)
+    run_with_boxes(rt, asked, &digest, meta, None)
 }
 
 /// The status of a run that came to its end.
-pub(crate) fn status_of(summary: Summary, strict: bool) -> u8 {
-    if strict && (summary.refused > 0 || summary.bad > 0) {
-        FAULTY
-    } else {
-        0
-    }
+pub(crate) fn status_of(is_faulty: bool, strict: bool) -> u8 {
+    if strict && is_faulty { FAULTY } else { 0 }
 }

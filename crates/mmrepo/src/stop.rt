@@ -3,6 +3,31 @@ use clap::error::ErrorKind;
 use mm_types::MetaFault;
 use script_streams::RunFault;
 use std::alloc::{AllocError, AllocFailed};
+use std::fmt;
+
+/// Why a journal is refused, and left as it is.
+#[derive(Clone, Copy)]
+pub(crate) enum JournalRefusal {
+    /// Another process has it open.
+    InUse,
+    /// The file is no journal.
+    NoJournal,
+    /// It was begun with another metamodel.
+    OtherMetamodel,
+    /// The line of this number is not done when it is run again.
+    Line(u64),
+}
+
+impl fmt::Display for JournalRefusal {
+    fn fmt<W: fmt::Write>(&self, f: &mut fmt::Formatter<W>) -> fmt::Result {
+        match self {
+            JournalRefusal::InUse => f.write_str("IN_USE"),
+            JournalRefusal::NoJournal => f.write_str("NO_JOURNAL"),
+            JournalRefusal::OtherMetamodel => f.write_str("OTHER_METAMODEL"),
+            JournalRefusal::Line(line) => write!(f, "LINE {line}"),
+        }
+    }
+}
 
 /// Why the program stops before the end of the script.
 #[derive(Drop)]
@@ -13,13 +38,19 @@ pub(crate) enum Stop {
     NotUtf8,
     /// An option is given that a live run does not take.
     NotLive(&'static str),
+    /// An option is given that only a live run takes.
+    OnlyLive(&'static str),
     /// The metamodel is refused.
     Metamodel(MetaFault),
-    /// A stream failed, an input is too long, or memory was refused.
+    /// The journal is refused.
+    Journal(JournalRefusal),
+    /// A stream or the journal failed, an input is too long, or memory was refused.
     Run(RunFault),
     /// The metamodel is refused, and a text says what to mend.
     Mend(MetaFault, String),
-    /// A file is not read, and a text says why.
+    /// The journal is refused, and a text says why.
+    ExplainedJournal(JournalRefusal, String),
+    /// A file is not read, or the journal not written, and a text says why.
     Explained(RunFault, String),
 }
 
@@ -69,6 +100,16 @@ fn report_not_live(rt: &HostRuntime, option: &str) -> u8 {
     2
 }
 
+fn report_only_live(rt: &HostRuntime, option: &str) -> u8 {
+    let _ = eprintln!(rt; "error: {option} can't be used without --live");
+    2
+}
+
+fn report_journal(rt: &HostRuntime, refusal: JournalRefusal) -> u8 {
+    let _ = eprintln!(rt; "journal refused: {refusal}");
+    1
+}
+
 fn report_metamodel(rt: &HostRuntime, fault: MetaFault) -> u8 {
     let _ = eprintln!(rt; "metamodel refused: {fault}");
     1
@@ -91,9 +132,14 @@ pub(crate) fn report(rt: &HostRuntime, stop: Stop) -> u8 {
         Stop::Arguments(error) => report_arguments(rt, error),
         Stop::NotUtf8 => report_not_utf8(rt),
         Stop::NotLive(option) => report_not_live(rt, option),
+        Stop::OnlyLive(option) => report_only_live(rt, option),
         Stop::Metamodel(fault) => report_metamodel(rt, fault),
+        Stop::Journal(refusal) => report_journal(rt, refusal),
         Stop::Run(fault) => report_run(rt, fault),
         Stop::Mend(fault, text) => explain(rt, report_metamodel(rt, fault), text.as_str()),
+        Stop::ExplainedJournal(refusal, text) => {
+            explain(rt, report_journal(rt, refusal), text.as_str())
+        }
         Stop::Explained(fault, text) => explain(rt, report_run(rt, fault), text.as_str()),
     }
 }

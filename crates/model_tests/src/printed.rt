@@ -64,6 +64,7 @@ fn faults_are_printed_by_name(rt: HostRuntime) -> Result<(), Fail> {
         (RunFault::Write, "WRITE"),
         (RunFault::TooLong, "TOO_LONG"),
         (RunFault::Memory, "MEMORY"),
+        (RunFault::Journal, "JOURNAL"),
     ];
     for (fault, name) in &cases {
         let found = format!(in rt.alloc(); "{fault}")?;
