@@ -7,6 +7,7 @@ import pathlib
 import pty
 import select
 import subprocess
+import tempfile
 
 LIBRARY = pathlib.Path(__file__).resolve().parent.parent / 'examples/library.json'
 LONGEST = 16_777_216  # bytes of a line
@@ -14,9 +15,9 @@ SECONDS = 60  # the most that an answer may take to come
 STOPPED = 'run stopped: {}\n'.format
 
 
-def started(program, stdin=subprocess.PIPE):
+def started(program, stdin=subprocess.PIPE, options=()):
     """The program in live mode over the library, with pipes."""
-    words = [program, '--meta', LIBRARY, '--live']
+    words = [program, '--meta', LIBRARY, '--live', *options]
     return subprocess.Popen(words, stdin=stdin, stdout=subprocess.PIPE, stderr=subprocess.PIPE, bufsize=0)
 
 
@@ -131,6 +132,19 @@ def examples_are_answered_alike(program):
     return True
 
 
+def journal_comes_back(program):
+    """With a journal each line is answered before the next is sent, and what was answered is there when the program starts again."""
+    with tempfile.TemporaryDirectory() as room:
+        options = ('--journal', f'{room}/journal')
+        running = started(program, options=options)
+        dialogue = [(b'new Book\n', b'#0\n\n'), (b'set #0 pa', b''), (b'ges 5\n', b'ok\n\n'), (b'get #0 pages\n', b'5\n\n')]
+        is_answered = all(answers(running, line, answer) for line, answer in dialogue)
+        running.kill()
+        running.communicate()
+        running = started(program, options=options)
+        return is_answered and answers(running, b'get #0 pages\nnew Book\n', b'5\n\n#1\n\n') and ends(running, 0, '')
+
+
 DIALOGUES = (
     each_line_is_answered,
     half_a_line_waits,
@@ -139,6 +153,7 @@ DIALOGUES = (
     caller_takes_one_line,
     line_never_ends,
     terminal_is_prompted,
+    journal_comes_back,
     examples_are_answered_alike,
 )
 
