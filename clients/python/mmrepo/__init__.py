@@ -10,6 +10,7 @@ from .errors import (
     BadLine,
     CallableFailed,
     IndexRefused,
+    JournalRefused,
     MetamodelRefused,
     MmrepoError,
     NotLoaded,
@@ -38,7 +39,7 @@ from .xmi import ToolFailed
 
 __all__ = [
     'BadLine', 'Batch', 'CallableFailed', 'EAttribute', 'EClass', 'EClassifier', 'EDataType', 'EEnum', 'EObject', 'EReference',
-    'EStructuralFeature', 'FeatureList', 'Finding', 'Folder', 'IndexRefused', 'Kind', 'Literal', 'Metamodel', 'MetamodelRefused',
+    'EStructuralFeature', 'FeatureList', 'Finding', 'Folder', 'IndexRefused', 'JournalRefused', 'Kind', 'Literal', 'Metamodel', 'MetamodelRefused',
     'MmrepoError', 'NotLoaded', 'NotOpened', 'NotOwner', 'NotSaved', 'NotStarted', 'Notice', 'ProgramEnded', 'ProgramError', 'Proxy', 'Refused', 'ReplyCut',
     'ReplyNotUnderstood', 'Repository', 'RepositoryClosed', 'Resolved', 'Resource', 'Snapshot', 'ToolFailed', 'Value', 'View',
 ]

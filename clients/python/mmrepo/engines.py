@@ -88,14 +88,16 @@ def _after_fork() -> None:
 os.register_at_fork(after_in_child=_after_fork)
 
 
-def start(metamodel: str, document: bytes, program: Optional[str], library: Optional[str]) -> Engine:
-    """The engine of a repository over a metamodel.
+def start(metamodel: str, document: bytes, program: Optional[str], library: Optional[str], journal: Optional[str] = None) -> Engine:
+    """The engine of a repository over a metamodel. A journal is kept by the program alone, so with one it is the program.
 
-    It is the library if one is given, else the program if one is given, else the library that MMREPO_LIBRARY names, or that is beside this
+    Else it is the library if one is given, else the program if one is given, else the library that MMREPO_LIBRARY names, or that is beside this
     package, else the program. MMREPO_ENGINE in the environment demands an engine by its name, unless one is given.
     """
     from .inprocess import InProcess
     from .process import Program, program_file
+    if journal is not None:
+        return Program(program_file(program), metamodel, journal)
     wanted = None if program else os.environ.get(ENGINE) or None
     if wanted not in (None, EXTENSION, CTYPES, PROGRAM):
         raise NotStarted(f'no engine {wanted}: {ENGINE} is {EXTENSION}, {CTYPES} or {PROGRAM}')

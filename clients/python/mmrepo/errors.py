@@ -75,6 +75,20 @@ class MetamodelRefused(MmrepoError):
         return '\n'.join([f'{self.file}: metamodel refused: {self.fault}', *self.explained])
 
 
+class JournalRefused(MmrepoError):
+    """The program does not take a journal, and leaves it as it is. `fault` is what the program tells of it, as `IN_USE`;
+    docs/JOURNAL.md lists the faults. `explained` has the words of `--explain`."""
+
+    def __init__(self, file: str, fault: str, explained: Sequence[str] = ()) -> None:
+        super().__init__(file, fault, explained)
+        self.file = file
+        self.fault = fault
+        self.explained = tuple(explained)
+
+    def __str__(self) -> str:
+        return '\n'.join([f'{self.file}: journal refused: {self.fault}', *self.explained])
+
+
 class ProgramError(MmrepoError):
     """The program can't be used, and its process is ended.
 

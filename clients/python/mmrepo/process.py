@@ -10,12 +10,23 @@ from pathlib import Path
 from typing import List, Optional, Sequence, Tuple, Union
 
 from .engines import PROGRAM, Engine
-from .errors import REFUSED, MetamodelRefused, MmrepoError, NotStarted, ProgramEnded, ReplyCut, ReplyNotUnderstood, shown
+from .errors import (
+    REFUSED,
+    JournalRefused,
+    MetamodelRefused,
+    MmrepoError,
+    NotStarted,
+    ProgramEnded,
+    ReplyCut,
+    ReplyNotUnderstood,
+    shown,
+)
 
 LONGEST_LINE = 16_777_216  # bytes
 TOGETHER = 32_768  # bytes of lines that are sent at once: a pipe of Linux holds twice as many, so the writing never waits for an answer
 AT_ONCE = 65_536  # bytes that are read at once
 SECONDS_TO_END = 60  # how long a program that takes no more lines may take to end
+JOURNAL_REFUSED = 'journal refused: '
 
 _BESIDE = Path(__file__).resolve().parent / 'bin/mmrepo'
 
@@ -36,10 +47,12 @@ class Program(Engine):
     name = PROGRAM
     may_hang = True
 
-    def __init__(self, file: str, metamodel: str) -> None:
-        """Starts it. A NotStarted comes if the system does not run the file; a MetamodelRefused for a fault of the metamodel."""
+    def __init__(self, file: str, metamodel: str, journal: Optional[str] = None) -> None:
+        """Starts it. A NotStarted comes if the system does not run the file; a MetamodelRefused for a fault of the metamodel, and a
+        JournalRefused if the program does not take the journal."""
         super().__init__()
         self._metamodel = metamodel
+        self._journal = journal
         self._said = tempfile.TemporaryFile()
         self._said_before = 0  # how many bytes there were of what it said before
         self._sent = 0  # how many lines it was sent
@@ -47,6 +60,8 @@ class Program(Engine):
         self._at = 0  # where the next answer begins in it
         self._known = 0  # up to here it does not end
         command = [file, '--meta', os.path.abspath(metamodel), '--live', '--explain']
+        if journal is not None:
+            command += ['--journal', os.path.abspath(journal)]
         try:
             # In a session of its own no Ctrl-C of a terminal ends it, and a file, other than a pipe, is never full.
             self._process = subprocess.Popen(
@@ -159,6 +174,9 @@ class Program(Engine):
         if status == 1 and said.startswith(REFUSED):
             fault, *explained = said[len(REFUSED):].split('\n')
             return MetamodelRefused(self._metamodel, fault, explained)
+        if status == 1 and said.startswith(JOURNAL_REFUSED):
+            fault, *explained = said[len(JOURNAL_REFUSED):].split('\n')
+            return JournalRefused(str(self._journal), fault, explained)
         kind = ReplyCut if is_cut else ProgramEnded
         what = 'the answer was cut' if is_cut else 'the program ended'
         return kind(f'{what}, at the line `{shown(line)}`', status, said)

@@ -2,7 +2,9 @@
 
 from __future__ import annotations
 
+import json
 import os
+import re
 from pathlib import Path
 from types import TracebackType
 from typing import Any, Dict, List, NamedTuple, Optional, Sequence, Type, Union
@@ -23,6 +25,9 @@ from .uris import BASE
 from .values import name_word, text_word
 
 
+_RESOURCE = re.compile(rb' +resource +(".*") *\n')
+
+
 class Resolved(NamedTuple):
     """How many proxies were replaced by their objects, and how many are left."""
 
@@ -38,7 +43,7 @@ class Repository:
 
     def __init__(
         self, metamodel: Union[str, os.PathLike], program: Union[None, str, os.PathLike] = None,
-        library: Union[None, str, os.PathLike] = None,
+        library: Union[None, str, os.PathLike] = None, journal: Union[None, str, os.PathLike] = None,
     ) -> None:
         """Opens a repository over the file of a metamodel, in this process by the shared library, or in a process of the program.
 
@@ -46,16 +51,26 @@ class Repository:
         taken if one is given, and if there is no library: it is the one given, else that of the environment's MMREPO, else the one
         beside this package, else `mmrepo` on the PATH.
 
-        An OSError comes if the file can't be read, a MetamodelRefused for a fault of the metamodel, and a NotStarted if
-        there is no library and no program.
+        With the file of a journal, which the program alone keeps, each change is on the disk before its call returns, and the repository
+        begins with what the journal has (docs/JOURNAL.md). A library may not be given then.
+
+        An OSError comes if the file can't be read, a MetamodelRefused for a fault of the metamodel, a NotStarted if there is no library
+        and no program, and a JournalRefused if the program does not take the journal.
         """
+        if journal is not None and library is not None:
+            raise ValueError('a journal is kept by the program, and not by the library')
         path = os.fspath(metamodel)
         with open(path, 'rb') as file:
             document = file.read()
         self._file = os.path.abspath(path)
-        engine = start(path, document, None if program is None else os.fspath(program), None if library is None else os.fspath(library))
+        kept = None if journal is None else os.fspath(journal)
+        engine = start(
+            path, document, None if program is None else os.fspath(program), None if library is None else os.fspath(library), kept
+        )
         try:
             self._session = Session(engine, Metamodel(document))
+            for uri in [] if kept is None else _uris(kept):
+                self._session.found_resource(uri)
         except BaseException:
             engine.end('the metamodel was not read')
             raise
@@ -98,6 +113,13 @@ class Repository:
     def batch(self) -> Batch:
         """Commands that are collected, and sent at once: `with repo.batch() as batch: batch.create("Book", pages=3)`."""
         return self._session.batch()
+
+    def object(self, number: int) -> EObject:
+        """The object of a number, as `number` of an object has it. It is refused if no object of the number lives (NO_OBJECT)."""
+        word = f'#{number:d}'
+        self._session.class_of(word)
+        found: EObject = self._session.named(word)
+        return found
 
     def objects(self, eclass: Union[None, str, EClass] = None) -> List[EObject]:
         """The objects that live, by their numbers: all, or those of a class and of the classes below it. A KeyError comes if there is no
@@ -197,3 +219,10 @@ class Repository:
             self.close()
         else:
             self._session.end('the repository is closed')
+
+
+def _uris(journal: str) -> List[str]:
+    """The URIs of the resources that the lines of a journal make, in order."""
+    with open(journal, 'rb') as file:
+        found = [_RESOURCE.fullmatch(line) for line in file]
+    return [json.loads(made.group(1)) for made in found if made]

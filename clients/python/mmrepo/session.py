@@ -204,6 +204,12 @@ class Session(Exchange):
         """The resource that a command makes."""
         return self.ask(line, lambda answer: self._read_resource(answer, uri))
 
+    def found_resource(self, uri: str) -> None:
+        """Takes the next resource that the program had when it was started. Its number is how many there were before it."""
+        word = f'r{len(self._resources)}'
+        url = parse(uri, None)
+        self._resources[word] = Resource(self, word, uri if url is None else url.text())
+
     def _read_resource(self, answer: str, uri: str) -> Resource:
         if answer[:1] != 'r' or not is_number(answer[1:]) or answer in self._resources:
             raise ValueError('no new resource')
