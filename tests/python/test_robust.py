@@ -16,6 +16,7 @@ from support import CLIENT, LIBRARY, LibraryTest
 from mmrepo import CallableFailed, NotOwner, Refused, RepositoryClosed
 
 MOMENTS = 200
+SECONDS = 60  # for as many: a bound for a machine that does other work
 
 
 class Views(LibraryTest):
@@ -109,9 +110,9 @@ class Interrupts(LibraryTest):
             raise KeyboardInterrupt
 
     def press(self):
-        """Presses Ctrl-C at random moments."""
-        moments = random.Random(76)
-        for _ in range(MOMENTS):
+        """Presses Ctrl-C at random moments, until so many have interrupted the work. Some come while one waits, and count as one."""
+        moments, until = random.Random(76), time.monotonic() + SECONDS
+        while self.came < MOMENTS and time.monotonic() < until:
             time.sleep(moments.uniform(0.0001, 0.004))
             os.kill(os.getpid(), signal.SIGINT)
         self.is_over = True
@@ -131,7 +132,7 @@ class Interrupts(LibraryTest):
             except BaseException:
                 self.is_inside = False
                 raise
-        self.assertGreater(self.came, MOMENTS // 2)
+        self.assertGreaterEqual(self.came, MOMENTS)
 
     def test_sets_that_are_heard(self):
         """Each change that was made is heard, once and in order, so what is heard leads from the first value to the last."""
