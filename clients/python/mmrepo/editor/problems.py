@@ -29,7 +29,7 @@ class Problems:
         """Looks at each object."""
         nodes = [(number, entry) for number, entry in self._mirror.nodes.items() if isinstance(number, int)]
         bounded = [number for number, entry in nodes if entry.shape and entry.shape.is_bounded]
-        answers = self._repo._session.engine.exchange_all([f'validate #{number}' for number in bounded])
+        answers = self._repo._session.raw_all([f'validate #{number}' for number in bounded])
         short = {number: tuple(answer[0][1:-1].split()) for number, answer in zip(bounded, answers)}
         for number, entry in nodes:
             self._note(number, Problem(short.get(number, ()), _proxies(entry)))
