@@ -1,4 +1,4 @@
--- The adapters of each node: what a table of them has, and what it is to have.
+-- The adapters that have each node as a target: the entries of the table, and the entries that the list of adapters asks for.
 use Rattle.std.specs.Prelude.{◌≡◌, ℕ, ◌<◌, ◌&&◌, ◌||◌, not, Bool, true, false, List, [], ◌∷◌, get_or, slice_get, length, map, nat_eq, slice_index, Option, option_map, IfSome, ⊤, if◌then◌else◌}
 use Rattle.std.specs.List.{IsDistinct, filter_map, find}
 use Rattle.std.specs.Option.{option_map_or}

@@ -1,4 +1,4 @@
--- Edits in whose order a document's links and proxies come to stand where it says. First the roots, then the lists of all references but
+-- The edits that make a document's links and proxies, in an order in which each gets the position that the document says. First the roots, then the lists of all references but
 -- the higher of a pair: each value is put behind those before it, so each of these lists comes to stand as it is written. The ends of
 -- the higher feature gain meanwhile, each in the order of the numbers of its objects. Where the document has another order there, the
 -- links of that end are taken out and put again, in its order, each at the position that it had at the lower end. Last come the proxies of

@@ -64,7 +64,7 @@ object_end n o f = at_end (node.Object (loaded n o)) f
 abbrev pub is_empty_resource : Reading → ResourceNo → Bool
 is_empty_resource r k = is_nil (r.values (contents_end r.metamodel k))
 
--- where an object stands at the other end: a part has one holder; else where the document has it there
+-- the position of an object at the other end of a link: 0 for the container of a part, which is alone; else its position in the document
 abbrev pub far_index : Shape → Doc → ObjectNo → FeatureNo → ObjectNo → FeatureNo → ℕ
 far_index a doc o f b g = if is_feature f a.containing then 0 else unwrap_or (position (same_value (value.Object o)) (values_in doc b g)) 0
 

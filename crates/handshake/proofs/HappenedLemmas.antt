@@ -55,7 +55,7 @@ done-other m d t h other = ap (λ b. if b then done (shape m d.feature) t.does h
 pub done-here : (m : Metamodel) (d : End) (t : FeatureChange) (h : Held) → same_end t.at d ≡ true → done_at m d t h ≡ done (shape m d.feature) t.does h
 done-here m d t h here = ap (λ b. if b then done (shape m d.feature) t.does h else h) here
 
--- tellings that are left out change nothing where none is left out
+-- at an end whose feature changes are all kept, a filter of feature changes changes nothing
 pub happened_at-filter : (m : Metamodel) (q : End → Bool) (ts : List FeatureChange) (d : End) (h : Held) → q d ≡ true → happened_at m (filter (λ x. q x.at) ts) d h ≡ happened_at m ts d h
 happened_at-filter m q [] d h kept = refl
 happened_at-filter m q (t ∷ ts) d h kept =

@@ -139,7 +139,7 @@ resolved e i x =
     option_map_or (λ c. feature_change c.end (Resolves c.index (node_value e.node)) ∷ []) x.counterpart []
     ++ feature_change e (Resolves i (value.Object x.object)) ∷ []
 
--- what a proxy tells that is resolved, one of several
+-- the feature changes of one resolved proxy among several
 abbrev pub resolution_told : Resolution → List FeatureChange
 resolution_told x = resolved (end_of x.site) x.site.index x.target
 

@@ -55,7 +55,7 @@ abbrev pub goes_with : Reading → Change → Node → Bool
 goes_with r (Delete o) n = gone r o n
 goes_with r _ n = false
 
--- a node is one of the objects that a change makes with their values, or has a number behind theirs
+-- a node is an object whose number is the first that a load gives, or a higher one
 abbrev pub comes_with : Reading → Change → Node → Bool
 comes_with r (Load k doc) (node.Object o) = nat_le r.next o.0
 comes_with r _ n = false

@@ -45,7 +45,7 @@ pub record HasObjectsOf (r : Reading) (doc : Doc) (t : Reading) : Type 0 where
   -- a reference that is no container reference has what is written, in that order: objects by their new numbers, and proxies
   pub references : (o : ObjectNo) (f : FeatureNo) → (shape r.metamodel f).is_reference ≡ true → lookups.is_container r.metamodel f ≡ false
       → t.values (object_end r.next o f) ≡ map (loaded_value r.next) (values_in doc o f)
-  -- a container reference has the object whose containment is written with its own object, and nothing where none is
+  -- the container reference of an object has the object in whose containment it is written, and is empty for an object that no object contains
   pub containers : (o b : ObjectNo) (f c : FeatureNo) → IsContainer r.metamodel f c → IsWrittenWith doc b c o
       → t.values (object_end r.next o f) ≡ value.Object (loaded r.next b) ∷ []
   pub no_containers : (o : ObjectNo) (f c : FeatureNo) → IsContainer r.metamodel f c → ((b : ObjectNo) → IsWrittenWith doc b c o → ⊥)

@@ -32,7 +32,7 @@ use Rattle.mm_types.specs.declared.numbers.Node.{Node}
 use Rattle.mm_types.specs.declared.value.Value.TheVariants as value
 use Rattle.mm_types.specs.declared.value.Value.{Value}
 
--- a name is that of a link, which is cut, or of none
+-- an end and a value name a link, which is cut, or name none, and nothing changes
 pub cut_value-cases : (s : Links) → IsPlaced s → (e : End) (v : Value) → ((l : Link) × (k : ℕ) × In l s × (indexed l e ≡ Some (k, v)) × (cut_value s e v ≡ cut s l)) ⊎ ((cut_value s e v ≡ s) × Lacks s e v)
 unfolding cut_value
 cut_value-cases s placed e v =

@@ -72,7 +72,7 @@ pub fn a_put_gains_at_both_ends()
     ensures { (s : Links) (e : End) (i : ℕ) (o : ObjectNo) (g c : Option FeatureNo) → IsLegalSet s → EditFits s (edit.Put e i o g c) → PutMakes s e i o g c }
 {}
 
-/// What a put makes of each end, and of the holders, computed.
+/// What each end and each holder is after a put, as equations that compute.
 pub fn a_put_gives_each_end_and_holder()
     ensures { (s : Links) (e : End) (i : ℕ) (o : ObjectNo) (g c : Option FeatureNo) → IsLegalSet s → EditFits s (edit.Put e i o g c) → PutGives s e i o g c }
 {}

@@ -21,7 +21,7 @@ fewer_at r o f n m le has d lt = elim (has d lt) [
   | inr index ↦ inr (fewer _ f n m le index)
 ]
 
--- what the edits behind the first need is what is left of what all need
+-- the capacity that the edits after the first need is what all edits need, less what the first takes
 needed_counts : (o f : ℕ) (e : ValueEdit) (es : List ValueEdit) (here behind : Bool) → cond behind (sum_by (λ x. places_taken x o f) es) 0 ≤ cond (here || behind) (sum_by (λ x. places_taken x o f) (e ∷ es)) 0 - places_taken e o f
 needed_counts o f e es true true = let sum = sum_by-cons (λ x. places_taken x o f) e es in omega (arith, sum)
 needed_counts o f e es false true = let sum = sum_by-cons (λ x. places_taken x o f) e es in omega (arith, sum)

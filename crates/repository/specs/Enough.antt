@@ -33,7 +33,7 @@ ChainReplays s c =
     → (d : End) → IsTrue (is_there (reads s) d.node) → IsTrue (is_there (reads (step s c).after) d.node)
     → replayed_all (has_flag s.model.metamodel) (held_at (reads s)) (chain (reads s) c) d ≡ held_at (reads (step s c).after) d
 
--- a snapshot has what a node has that is its target or below it
+-- of each node that is the target of a snapshot or below it, the snapshot has the state of that node
 abbrev pub HasEachNode : Model → Node → Node → Type 0
 HasEachNode s target n =
     models.IsLegal s → IsTrue (is_there (reading s) target) → is_within (reading s) target n ≡ true → state_at n (snapshot_of (reading s) target) ≡ Some (node_state (reading s) n)

@@ -22,7 +22,7 @@ abbrev pub is_memory : Outcome → Bool
 is_memory (Ok r) = false
 is_memory (Err f) = is_memory_refusal f.refused
 
--- the refusals that are found without memory, in whose position out of memory is never answered
+-- the refusals that are found without memory: MEMORY is never answered in place of one of them
 abbrev pub is_plain : Refused → Bool
 is_plain NoObject = true
 is_plain NoResource = true

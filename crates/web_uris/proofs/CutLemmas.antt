@@ -8,7 +8,7 @@ use Rattle.std.proofs.lemmas.List.Folds.{list_any_at, list_any_none}
 use Rattle.std.proofs.lemmas.List.Splits.{slice_split_first, slice_split_none}
 use Rattle.std.proofs.lemmas.List.Sums.{fails_before_first, passes_at_first}
 
--- where none is first, none passes
+-- if the position of the first that passes is the length of the list, none passes
 pub all_fail : (p : ℕ → Bool) (xs : List ℕ) → position_or_len p xs ≡ length xs → All (λ x. p x ≡ false) xs
 all_fail p xs last = All-from_get_or (λ x. p x ≡ false) xs 0 (λ i below. fails_before_first p xs i 0 (omega (arith, below, last)))
 

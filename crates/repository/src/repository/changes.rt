@@ -137,7 +137,7 @@ impl<L: LinkStore, A: Adapter> Repository<L, A> {
     }
 
     /// Every change goes these steps; after the second nothing can fail. A change that loads a document is done as `load` of each text that
-    /// is read as this document. It stays apart from `change`, which would else clear its stack frame for each change of attributes.
+    /// is read as this document. It is never inlined into `change`, which would then zero its large stack frame for each change of attributes.
     #[inline(never)]
     pub(super) fn carry_out(&mut self, change: Change) -> Result<Reply<A>, Refused>
         requires proper { (text : List ℕ) × IsProper (reads self.old) text change }

@@ -140,7 +140,8 @@ impl<L: LinkStore, A: Adapter> Repository<L, A> {
         Some(self.put_alone(put))
     }
 
-    /// The part of `add` to a reference, if no adapter is attached, as `set_lone_link` is of `e_set`.
+    /// The part of `add` to a reference, if no adapter is attached. `None` if more is to be done than to put one link; then nothing was
+    /// done, and no refusal applies that needs no memory.
     #[inline(always)]
     pub(super) fn add_lone_link(
         &mut self,
