@@ -93,7 +93,7 @@ impl<'m> Numbers<'m> {
     }
 
     /// Gives a number to a key that has none yet.
-    pub fn put(&mut self, key: PartKey<'m>, number: u32) -> Result<(), AllocError>
+    fn put(&mut self, key: PartKey<'m>, number: u32) -> Result<(), AllocError>
         requires { number_at self.old (key_of key) ≡ None }
         ensures { OnOk result ((k : Key) → number_at self.new k ≡ option_or (number_at self.old k) (if is_at k key.entry then Some number else None)) }
     {
