@@ -7,10 +7,11 @@ import socket
 import subprocess
 import sys
 import unittest
+import zipfile
 from pathlib import Path
 
 from editor_support import EditorTest
-from support import CLIENT, LIBRARY, PROGRAM
+from support import CLIENT, LIBRARY, PROGRAM, TOP
 
 PAGE = CLIENT / 'mmrepo/editor/page'
 LONGEST_FILE = 400
@@ -81,13 +82,9 @@ class Command(EditorTest):
                     self.assertLess(length, 40, f'{file.name}: {line}')
 
     def test_installed(self):
-        """A package that is installed has the page."""
-        code = 'import setuptools; assert int(setuptools.__version__.split(".")[0]) >= 61'
-        if subprocess.run([sys.executable, '-c', code], stderr=subprocess.DEVNULL).returncode != 0:
-            self.skipTest('setuptools 61 is not installed')
-        source, target = Path(self.room.name, 'source'), Path(self.room.name, 'target')
-        shutil.copytree(CLIENT, source, ignore=shutil.ignore_patterns('__pycache__', 'build', '*.egg-info'))
-        command = [sys.executable, '-c', 'from setuptools import setup; setup()', '--quiet', 'build', '--build-lib', str(target)]
-        done = subprocess.run(command, cwd=source, stdout=subprocess.PIPE, stderr=subprocess.STDOUT)
-        self.assertEqual(done.returncode, 0, done.stdout.decode())
-        self.assertEqual(sorted(it.name for it in (target / 'mmrepo/editor/page').iterdir()), sorted(it.name for it in PAGE.iterdir()))
+        """The wheel of the package has the page, as it is in the tree."""
+        code = f'import backend; print(backend.build_wheel({self.room.name!r}))'
+        done = subprocess.run([sys.executable, '-B', '-c', code], cwd=TOP / 'clients/python', stdout=subprocess.PIPE, check=True)
+        with zipfile.ZipFile(Path(self.room.name, done.stdout.decode().strip())) as wheel:
+            for file in PAGE.iterdir():
+                self.assertEqual(wheel.read(f'mmrepo/editor/page/{file.name}'), file.read_bytes())

@@ -138,6 +138,15 @@ class Exchange:
         if get_ident() != self._owner:
             raise self._foreign()
 
+    def take(self) -> None:
+        """Gives it to the thread that calls. The caller sees to it that no other thread is in the middle of a call.
+
+        From the first change of threads on a Ctrl-C no longer waits: it is handled in the main thread, which need not be the one that is busy.
+        """
+        if get_ident() != self._owner:
+            interrupts.leave(self)
+            self._owner = get_ident()
+
     def _foreign(self) -> NotOwner:
         return NotOwner('the repository belongs to another thread: give it work by a queue, or open one for each thread')
 

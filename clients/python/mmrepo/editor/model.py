@@ -20,12 +20,27 @@ from .problems import Problems
 from .reading import asked, object_of, read_object, read_resources
 
 
+class Turn:
+    """A lock that gives the repository to the thread that has it. A thread that has it may take it once more."""
+
+    def __init__(self, repo: Repository) -> None:
+        self._lock = threading.RLock()
+        self._repo = repo
+
+    def __enter__(self) -> None:
+        self._lock.acquire()
+        self._repo._session.take()
+
+    def __exit__(self, *_: object) -> None:
+        self._lock.release()
+
+
 class Model:
     """What the windows share. One thread at a time has it: the one that has the `lock`."""
 
     def __init__(self, repo: Repository, files: Files) -> None:
         """Reads all resources, and hears of each change from now on."""
-        self.lock = threading.RLock()
+        self.lock = Turn(repo)
         self.repo, self.files = repo, files
         self.events = Events()
         self.mirror = Mirror(repo.metamodel)
