@@ -130,6 +130,16 @@ fn a_dropped_repository_drops_its_adapters(rt: HostRuntime) -> Result<(), Fail> 
     Ok(())
 }
 
+/// The command that attaches an adapter to the first object and all below it.
+fn attach<A: Adapter>(no: u32, adapter: A) -> Command<A> {
+    Command::Attach {
+        no: AdapterNo(no),
+        target: object(0),
+        deep: true,
+        adapter,
+    }
+}
+
 /// Commands that attach two adapters.
 fn attaching<A: Adapter>(
     alloc: Global,
@@ -137,14 +147,8 @@ fn attaching<A: Adapter>(
     second: A,
 ) -> Result<Vec<Command<A>>, AllocError> {
     let mut commands = Vec::new(alloc);
-    for (no, adapter) in [(1, first), (2, second)] {
-        commands.push(Command::Attach {
-            no: AdapterNo(no),
-            target: object(0),
-            deep: true,
-            adapter,
-        })?;
-    }
+    commands.push(attach(1, first))?;
+    commands.push(attach(2, second))?;
     Ok(commands)
 }
 
