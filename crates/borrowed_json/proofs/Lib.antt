@@ -1,0 +1,4 @@
+mod PutLemmas
+mod ReadingLemmas
+pub mod ViewLemmas
+pub mod KeyLemmas

@@ -1,0 +1,18 @@
+//! JSON values that borrow their texts from the text that they are read from.
+//!
+//! A value is what `serde_json` reads from the same text: each number has a value, arrays and objects nest at most 127 levels
+//! deep, and of a key that comes twice the last value counts. `specs/View.antt` says which of `serde_json`'s values it is.
+#![tactic(auto)]
+
+mod fault;
+mod growth;
+mod members;
+mod number;
+mod read;
+mod value;
+
+pub use fault::JsonFault;
+pub use members::{find, has_only_keys};
+pub use number::Number;
+pub use read::read_json;
+pub use value::{Json, Members};

@@ -1,0 +1,78 @@
+//! Numbers of JSON.
+ghost use Rattle.std.specs.Prelude.{◌≡◌, ◌<◌, ◌==◌, IsTrue, false, length, option_map, slice_index, true};
+ghost use Rattle.serde_json.specs.Find.{as_i64};
+ghost use Rattle.serde_json.specs.Read.{float_of, number_from, number_of};
+ghost use Rattle.borrowed_json.specs.View.{number_view};
+
+use fast_float::Numeral;
+
+/// An integer of 64 bits, or else a finite float.
+#[derive(Clone, Copy, Drop)]
+pub enum Number {
+    Unsigned(u64),
+    Negative(i64),
+    Float(f64),
+}
+
+impl Number {
+    /// The integer, if it fits 64 bits with a sign.
+    pub(crate) fn as_i64(self) -> Option<i64>
+        ensures { result ≡ as_i64 (number_view self) }
+    {
+        match self {
+            Number::Unsigned(n) if n <= i64::MAX as u64 => Some(n as i64),
+            Number::Negative(n) => Some(n),
+            _ => None,
+        }
+    }
+
+    fn nearest(is_negative: bool, numeral: &Numeral<'_>) -> Option<Number>
+        ensures { option_map number_view result ≡ float_of is_negative numeral.now }
+    {
+        let float = numeral.to_float::<f64>(is_negative);
+        if float.is_finite() {
+            Some(Number::Float(float))
+        } else {
+            None
+        }
+    }
+
+    fn unsigned(numeral: &Numeral<'_>) -> Option<Number>
+        ensures { option_map number_view result ≡ number_from false numeral.now }
+    {
+        match numeral.to_u64() {
+            Some(n) => Some(Number::Unsigned(n)),
+            None => Number::nearest(false, numeral),
+        }
+    }
+
+    fn negative(numeral: &Numeral<'_>) -> Option<Number>
+        ensures { option_map number_view result ≡ number_from true numeral.now }
+    {
+        if let Some(n) = numeral.to_i64(true) {
+            if n < 0 {
+                return Some(Number::Negative(n));
+            }
+        }
+        Number::nearest(true, numeral)
+    }
+
+    /// The number that a token of JSON writes, unless it is too large.
+    pub(crate) fn parse(text: &str) -> Option<Number>
+        ensures { option_map number_view result ≡ number_of text.now }
+    {
+        let bytes = text.as_bytes();
+        if has_minus(bytes) {
+            Number::negative(&Numeral::scan(&bytes[1..]))
+        } else {
+            Number::unsigned(&Numeral::scan(bytes))
+        }
+    }
+}
+
+fn has_minus(bytes: &[u8]) -> bool
+    ensures value { result ≡ (slice_index bytes.now 0 == 45) }
+    ensures len { IsTrue result → 0 < length bytes.now }
+{
+    !bytes.is_empty() && bytes[0] == b'-'
+}

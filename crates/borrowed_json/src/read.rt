@@ -1,0 +1,105 @@
+//! A text is read as a JSON value, in one pass over its tokens.
+ghost use Rattle.std.specs.Prelude.{◌≡◌, ◌<◌, ◌≤◌, Err, IfOk, None, OnOk, Some, length};
+ghost use Rattle.json.specs.Json.{items, members, value};
+ghost use Rattle.serde_json.specs.Data.{depth as nesting, no_members};
+ghost use Rattle.serde_json.specs.Read.{converted, max_depth, of_items, of_json, of_members, read as read_text};
+ghost use Rattle.borrowed_json.specs.View.{items_view, members_view, view};
+ghost use Rattle.borrowed_json.specs.declared.fault.JsonFault.TheVariants as fault;
+
+use crate::fault::JsonFault;
+use crate::growth::{FIRST_ITEMS, push, put};
+use crate::number::Number;
+use crate::value::{Json, Members};
+use json::{Reader, Scratch, Token};
+use std::alloc::Global;
+
+/// How deep arrays and objects nest at most.
+const NESTING: usize = 127;
+
+/// The JSON value that a text is. Texts with escapes are kept in `scratch`, all others in the text.
+pub fn read_json<'t>(
+    alloc: Global,
+    text: &'t str,
+    scratch: &'t mut Scratch,
+) -> Result<Json<'t>, JsonFault>
+    ensures value { IfOk result (λ v. read_text text.now ≡ Some (view v)) }
+    ensures nests { IfOk result (λ v. nesting (view v) ≤ max_depth) }
+    ensures syntax { result ≡ Err fault.Syntax → read_text text.now ≡ None }
+{
+    let mut reader = Reader::new(text, scratch)?;
+    let value = read(alloc, &mut reader, NESTING)?;
+    if reader.next().is_some() {
+        return Err(JsonFault::Syntax);
+    }
+    Ok(value)
+}
+
+#[cycle(read)]
+#[inline(always)]
+fn read<'t>(alloc: Global, reader: &mut Reader<'t>, depth: usize) -> Result<Json<'t>, JsonFault>
+    ensures value { IfOk result (λ v. converted of_json (value depth reader.old) ≡ Some (view v, reader.new)) }
+    ensures shorter { OnOk result (length reader.new < length reader.old) }
+    ensures syntax { result ≡ Err fault.Syntax → converted of_json (value depth reader.old) ≡ None }
+{
+    let token = reader.next().ok_or(JsonFault::Syntax)?;
+    match token {
+        Token::String(text) => Ok(Json::String(text)),
+        Token::Number(text) => match Number::parse(text) {
+            Some(number) => Ok(Json::Number(number)),
+            None => Err(JsonFault::Syntax),
+        },
+        Token::Bool(b) => Ok(Json::Bool(b)),
+        Token::Null => Ok(Json::Null),
+        Token::EndObject | Token::EndArray | Token::Key(_) | Token::Bad => Err(JsonFault::Syntax),
+        Token::BeginArray => {
+            if depth == 0 {
+                return Err(JsonFault::Syntax);
+            }
+            Ok(Json::Array(read_items(alloc, reader, depth - 1)?))
+        }
+        Token::BeginObject => {
+            if depth == 0 {
+                return Err(JsonFault::Syntax);
+            }
+            Ok(Json::Object(read_members(alloc, reader, depth - 1)?))
+        }
+    }
+}
+
+#[cycle(read)]
+#[inline(never)]
+fn read_items<'t>(
+    alloc: Global,
+    reader: &mut Reader<'t>,
+    depth: usize,
+) -> Result<Vec<Json<'t>>, JsonFault>
+    ensures value { IfOk result (λ v. converted of_items (items (value depth) (length reader.old) reader.old) ≡ Some (items_view v.items, reader.new)) }
+    ensures shorter { OnOk result (length reader.new < length reader.old) }
+    ensures syntax { result ≡ Err fault.Syntax → converted of_items (items (value depth) (length reader.old) reader.old) ≡ None }
+{
+    let mut found = Vec::new(alloc);
+    'items: while !reader.take_end_array() {
+        let item = read(alloc, reader, depth)?;
+        push(&mut found, item, FIRST_ITEMS)?;
+    }
+    Ok(found)
+}
+
+#[cycle(read)]
+#[inline(never)]
+fn read_members<'t>(
+    alloc: Global,
+    reader: &mut Reader<'t>,
+    depth: usize,
+) -> Result<Members<'t>, JsonFault>
+    ensures value { IfOk result (λ m. converted (λ ms. of_members ms no_members) (members (value depth) (length reader.old) reader.old) ≡ Some (members_view m.items, reader.new)) }
+    ensures shorter { OnOk result (length reader.new < length reader.old) }
+    ensures syntax { result ≡ Err fault.Syntax → converted (λ ms. of_members ms no_members) (members (value depth) (length reader.old) reader.old) ≡ None }
+{
+    let mut found = Vec::new(alloc);
+    'members: while let Some(name) = reader.next_key()? {
+        let member = read(alloc, reader, depth)?;
+        put(&mut found, name, member)?;
+    }
+    Ok(found)
+}
