@@ -5,8 +5,9 @@ use Rattle.std.specs.List.{list_all}
 use Rattle.std.specs.Option.{option_map_or}
 use Rattle.serde_json.specs.Data.{Data, Items}
 use Rattle.serde_json.specs.Find.{as_array}
-use Rattle.serde_json.specs.View.{items_of, view}
-use Rattle.serde_json.specs.declared.value.Value.{Value}
+use Rattle.serde_json.specs.View.{items_of}
+use Rattle.borrowed_json.specs.View.{view}
+use Rattle.borrowed_json.specs.declared.value.Json.{Json}
 use Rattle.mm_types.specs.Lookups as lookups
 use Rattle.mm_types.specs.Resolved.{Metamodel}
 use Rattle.mm_types.specs.Shapes.{shape}
@@ -19,7 +20,7 @@ use Rattle.doc_parts.proofs.DataLemmas.{list_all-map, list_of-items_of}
 abbrev by_parts : Metamodel → Bool → Bool → List Data → Option Feature → Bool
 by_parts m single array vs found = (single || array) && option_map_or (λ g. list_all (is_value m single g.kind) vs) found false
 
-pub content_by_parts : (m : Metamodel) (e : Entry) (single : Bool) (g : Feature) (vs : List Value) (b : Bool) → single ≡ (shape m e.feature).is_single → single || is_some (as_array e.content) ≡ true
+pub content_by_parts : (m : Metamodel) (e : Entry) (single : Bool) (g : Feature) (vs : List Json) (b : Bool) → single ≡ (shape m e.feature).is_single → single || is_some (as_array e.content) ≡ true
     → Some g ≡ lookups.feature m e.feature → map view vs ≡ values_of m e → b ≡ list_all (λ v. is_value m single g.kind (view v)) vs → b ≡ is_content m e
 content_by_parts m e single g vs b is shaped found values h =
     h ∙ sym (list_all-map view (is_value m single g.kind) vs)
@@ -32,7 +33,7 @@ abbrev values_by : Bool → Data → Option Items → List Data
 values_by single d items = if single then d ∷ [] else option_map_or list_of items []
 
 -- the values of content of many, which is an array
-pub many_values : (m : Metamodel) (f : FeatureNo) (d : Data) (vs : List Value) → (shape m f).is_single ≡ false → Some (items_of (map view vs)) ≡ as_array d → map view vs ≡ values_of m (new_entry f d)
+pub many_values : (m : Metamodel) (f : FeatureNo) (d : Data) (vs : List Json) → (shape m f).is_single ≡ false → Some (items_of (map view vs)) ≡ as_array d → map view vs ≡ values_of m (new_entry f d)
 many_values m f d vs many array =
     sym (list_of-items_of (map view vs))
     ∙ ap (λ o. values_by false d o) array

@@ -1,13 +1,10 @@
 -- Lists of JSON values, and tests of what a list is mapped to.
-use Rattle.std.proofs.Common.{◌≡◌, ◌∙◌, Bool, List, [], ◌∷◌, Option, Some, None, ℕ, ap, map, refl, string_bytes, sym}
-use Rattle.std.specs.Prelude.{◌&&◌, ◌||◌, String, false, option_map, unwrap_or}
-use Rattle.std.specs.declared.alloc.Global.{Global}
+use Rattle.std.proofs.Common.{◌≡◌, ◌∙◌, Bool, List, [], ◌∷◌, Option, Some, None, ℕ, ap, map, refl, sym}
+use Rattle.std.specs.Prelude.{◌&&◌, ◌||◌, false, option_map, unwrap_or}
 use Rattle.std.specs.List.{cons_option, filter_map, list_all, list_any}
 use Rattle.std.specs.Option.{option_map_or}
 use Rattle.serde_json.specs.Data.{Data, Members}
-use Rattle.serde_json.specs.View.{items_of, members_view}
-use Rattle.serde_json.specs.declared.value.Value.{Value}
-use Rattle.json_fields.specs.Fields.{keys_of}
+use Rattle.serde_json.specs.View.{items_of}
 use Rattle.mm_types.specs.Lookups as lookups
 use Rattle.mm_types.specs.Resolved.{Metamodel}
 use Rattle.mm_types.specs.declared.numbers.ClassNo.{ClassNo}
@@ -33,10 +30,6 @@ any_at p (Some y) ys = refl
 pub list_any-filter_map : {X Y : Type 0} (h : X → Option Y) (p : Y → Bool) (xs : List X) → list_any p (filter_map h xs) ≡ list_any (λ x. option_map_or p (h x) false) xs
 list_any-filter_map h p [] = refl
 list_any-filter_map h p (x ∷ xs) = any_at p (h x) (filter_map h xs) ∙ ap (λ b. option_map_or p (h x) false || b) (list_any-filter_map h p xs)
-
-pub all_keys : (p : List ℕ → Bool) (es : List (String Global × Value)) → list_all (λ k. p (string_bytes k)) (map (λ e. e.0) es) ≡ list_all p (keys_of (members_view es))
-all_keys p [] = refl
-all_keys p (e ∷ es) = ap (λ b. p (string_bytes e.0) && b) (all_keys p es)
 
 ---------------------------------------------------------------- what is written under the features of a class
 

@@ -6,8 +6,8 @@ use Rattle.std.specs.Option.{option_map_or, option_or}
 use Rattle.std.proofs.lemmas.Grind.{flat_map-append}
 use Rattle.std.proofs.lemmas.List.{length-map, length-take-le, map-append, take_more}
 use Rattle.serde_json.specs.Data.{Data, Members}
-use Rattle.serde_json.specs.View.{view}
-use Rattle.serde_json.specs.declared.value.Value.{Value}
+use Rattle.borrowed_json.specs.View.{view}
+use Rattle.borrowed_json.specs.declared.value.Json.{Json}
 use Rattle.mm_types.specs.Lookups as lookups
 use Rattle.mm_types.specs.Resolved.{Metamodel}
 use Rattle.mm_types.specs.Shapes.{is_containment, shape}
@@ -69,10 +69,10 @@ under_from path name single k (x ∷ ds) d =
     (under_from path name single (k + 1) ds d
     ∙ ap (λ i. map {B = Part} (λ v. record { path = with_step path (new_step name (index_for single v.0)); json = v.1 }) (enumerate_from (k + 1) ds) ++ child path name (index_for single i) d ∷ []) (let e : k + 1 + length ds ≡ k + suc (length ds) = omega arith in e))
 
-taken : (i : ℕ) (vs : List Value) → i < length vs → 0 + length (map view (take i vs)) ≡ i
+taken : (i : ℕ) (vs : List Json) → i < length vs → 0 + length (map view (take i vs)) ≡ i
 taken i vs below = let e = length-map (take i vs) view in let f = length-take-le i vs (omega (arith, below)) in omega (arith, e, f)
 
-under_next : (path : Path) (name : List ℕ) (single : Bool) (vs : List Value) (i : ℕ) (v : Value) → i < length vs → v ≡ get_or vs i v
+under_next : (path : Path) (name : List ℕ) (single : Bool) (vs : List Json) (i : ℕ) (v : Json) → i < length vs → v ≡ get_or vs i v
     → parts_under path name single (map view (take (i + 1) vs)) ≡ parts_under path name single (map view (take i vs)) ++ child path name (index_for single i) (view v) ∷ []
 under_next path name single vs i v below is =
     ap (λ xs. parts_under path name single (map view xs)) (take_more vs i v below ∙ ap (λ x. take i vs ++ x ∷ []) (sym is))
@@ -80,7 +80,7 @@ under_next path name single vs i v below is =
     ∙ under_from path name single 0 (map view (take i vs)) (view v)
     ∙ ap (λ k. parts_under path name single (map view (take i vs)) ++ child path name (index_for single k) (view v) ∷ []) (taken i vs below)
 
-pub values_next : (F : Part → List Part) (path : Path) (name : List ℕ) (single : Bool) (vs : List Value) (i : ℕ) (v : Value) → i < length vs → v ≡ get_or vs i v
+pub values_next : (F : Part → List Part) (path : Path) (name : List ℕ) (single : Bool) (vs : List Json) (i : ℕ) (v : Json) → i < length vs → v ≡ get_or vs i v
     → flat_map F (parts_under path name single (map view (take i vs))) ++ F (child path name (index_for single i) (view v)) ≡ flat_map F (parts_under path name single (map view (take (i + 1) vs)))
 values_next F path name single vs i v below is =
     ap (λ xs. flat_map F (parts_under path name single (map view (take i vs))) ++ xs) (sym (append_nil (F (child path name (index_for single i) (view v)))))
@@ -107,7 +107,7 @@ no_parts_at m ms f path plain = none_at m path f (content_at m ms f) plain
 abbrev in_by : Metamodel → FeatureNo → Path → Bool → List Data → List Part
 in_by m f path contains ds = if contains then parts_under path (lookups.feature_name m f) (shape m f).is_single ds else []
 
-pub parts_at_some : (m : Metamodel) (ms : Members) (f : FeatureNo) (d : Data) (name : List ℕ) (single : Bool) (vs : List Value) (path : Path) → is_containment m f ≡ true → Some d ≡ content_at m ms f
+pub parts_at_some : (m : Metamodel) (ms : Members) (f : FeatureNo) (d : Data) (name : List ℕ) (single : Bool) (vs : List Json) (path : Path) → is_containment m f ≡ true → Some d ≡ content_at m ms f
     → name ≡ lookups.feature_name m f → single ≡ (shape m f).is_single → map view vs ≡ values_of m (new_entry f d) → parts_under path name single (map view vs) ≡ parts_at m path ms f
 parts_at_some m ms f d name single vs path contains there names singles values =
     ap (λ w. parts_under path w single (map view vs)) names
@@ -188,14 +188,14 @@ roots_push k (x ∷ ds) d =
     (roots_push (k + 1) ds d
     ∙ ap (λ i. map {B = Part} (λ v. record { path = new_path v.0 []; json = v.1 }) (enumerate_from (k + 1) ds) ++ root i d ∷ []) (let e : k + 1 + length ds ≡ k + suc (length ds) = omega arith in e))
 
-pub roots_next : (vs : List Value) (i : ℕ) (v : Value) → i < length vs → v ≡ get_or vs i v → roots_from (map view (take (i + 1) vs)) ≡ roots_from (map view (take i vs)) ++ root i (view v) ∷ []
+pub roots_next : (vs : List Json) (i : ℕ) (v : Json) → i < length vs → v ≡ get_or vs i v → roots_from (map view (take (i + 1) vs)) ≡ roots_from (map view (take i vs)) ++ root i (view v) ∷ []
 roots_next vs i v below is =
     ap (λ xs. roots_from (map view xs)) (take_more vs i v below ∙ ap (λ x. take i vs ++ x ∷ []) (sym is))
     ∙ ap roots_from (map-append view (take i vs) (v ∷ []))
     ∙ roots_push 0 (map view (take i vs)) (view v)
     ∙ ap (λ k. roots_from (map view (take i vs)) ++ root k (view v) ∷ []) (taken i vs below)
 
-pub root_walked : (m : Metamodel) (n : ℕ) (a b : FoundParts) (vs : List Value) (i : ℕ) (v : Value) (ps : List Part) → i < length vs → v ≡ get_or vs i v → Walks m n a b (RootKey i) 1 (view v)
+pub root_walked : (m : Metamodel) (n : ℕ) (a b : FoundParts) (vs : List Json) (i : ℕ) (v : Json) (ps : List Part) → i < length vs → v ≡ get_or vs i v → Walks m n a b (RootKey i) 1 (view v)
     → Knows m a (ps ++ flat_map (parts_from m n) (roots_from (map view (take i vs)))) → Knows m b (ps ++ flat_map (parts_from m n) (roots_from (map view (take (i + 1) vs))))
 root_walked m n a b vs i v ps below is walked kn =
     subst (Knows m b)

@@ -3,7 +3,7 @@ use Rattle.std.specs.Prelude.{◌≡◌, ◌≤◌, ◌&&◌, ◌++◌, ℕ, suc
 use Rattle.std.specs.List.{enumerate_from, list_all}
 use Rattle.std.specs.Option.{option_map_or}
 use Rattle.serde_json.specs.Data.{Data, Members}
-use Rattle.serde_json.specs.View.{members_view, view}
+use Rattle.borrowed_json.specs.View.{members_view, view}
 use Rattle.json_fields.specs.Fields.{keys_of}
 use Rattle.mm_types.specs.Lookups as lookups
 use Rattle.mm_types.specs.Resolved.{Metamodel}
@@ -44,7 +44,7 @@ part_seen r =
     record {
       level = r.level;
       json = view r.json.now;
-      known = option_map (λ k. (k.0, members_view k.1.now.entries)) r.known;
+      known = option_map (λ k. (k.0, members_view k.1.now.items)) r.known;
       number = Some r.number;
     }
 

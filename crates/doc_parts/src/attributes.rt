@@ -2,15 +2,15 @@
 ghost use Rattle.std.specs.Prelude.{◌≡◌, IfOk, is_some, option_map};
 ghost use Rattle.json_fields.specs.Fields.{whole_number};
 ghost use Rattle.mm_types.specs.declared.value.Value.TheVariants as value;
-ghost use Rattle.serde_json.specs.View.{view};
+ghost use Rattle.borrowed_json.specs.View.{view};
 ghost use Rattle.doc_parts.specs.Contents.{attribute_value as value_meant, text_value as text_meant};
 
+use borrowed_json::Json;
 use mm_meta::Meta;
 use mm_types::{DataType, Text, Value, limits};
-use serde_json::Value as JsonValue;
 use std::alloc::{AllocError, Global};
 
-fn text_value(alloc: Global, is_single: bool, json: &JsonValue) -> Result<Option<Value>, AllocError>
+fn text_value(alloc: Global, is_single: bool, json: &Json) -> Result<Option<Value>, AllocError>
     ensures { IfOk result (λ v. v ≡ text_meant is_single (view json.now)) }
 {
     if is_single && json.is_null() {
@@ -24,7 +24,7 @@ fn text_value(alloc: Global, is_single: bool, json: &JsonValue) -> Result<Option
     }
 }
 
-fn int_value(json: &JsonValue) -> Option<Value>
+fn int_value(json: &Json) -> Option<Value>
     ensures { result ≡ option_map value.Int (whole_number (view json.now)) }
 {
     match json.as_i64() {
@@ -40,7 +40,7 @@ pub fn attribute_value(
     meta: &Meta,
     is_single: bool,
     data_type: DataType,
-    json: &JsonValue,
+    json: &Json,
 ) -> Result<Option<Value>, AllocError>
     ensures { IfOk result (λ v. v ≡ value_meant meta.now is_single data_type (view json.now)) }
 {
@@ -56,7 +56,7 @@ pub fn attribute_value(
     }
 }
 
-fn is_text(is_single: bool, json: &JsonValue) -> bool
+fn is_text(is_single: bool, json: &Json) -> bool
     ensures { result ≡ is_some (text_meant is_single (view json.now)) }
 {
     if is_single && json.is_null() {
@@ -73,7 +73,7 @@ pub(crate) fn is_attribute_value(
     meta: &Meta,
     is_single: bool,
     data_type: DataType,
-    json: &JsonValue,
+    json: &Json,
 ) -> bool
     ensures { result ≡ is_some (value_meant meta.now is_single data_type (view json.now)) }
 {

@@ -3,29 +3,19 @@ ghost use Rattle.std.specs.Prelude.{◌≡◌, ◌||◌, is_some, map};
 ghost use Rattle.std.specs.List.{list_all};
 ghost use Rattle.mm_types.specs.Shapes.{shape};
 ghost use Rattle.serde_json.specs.Find.{as_array};
-ghost use Rattle.serde_json.specs.View.{view};
-ghost use Rattle.doc_parts.specs.Contents.{attribute_value, conforms_to as conforms_meant, is_content as is_meant, is_value as is_value_meant, may_stand as may_be};
+ghost use Rattle.borrowed_json.specs.View.{view};
+ghost use Rattle.doc_parts.specs.Contents.{attribute_value, is_content as is_meant, is_value as is_value_meant, may_stand as may_be};
 ghost use Rattle.doc_parts.specs.Parts.{new_entry, values_of as values_meant};
 
 use crate::attributes::is_attribute_value;
 use crate::entries::{class_of, values_of};
+use borrowed_json::Json;
 use mm_meta::Meta;
 use mm_types::{ClassNo, FeatureNo, Kind, limits};
-use serde_json::Value as JsonValue;
-
-/// Whether an object is of a class that conforms to another. Takes no memory.
-pub fn conforms_to(meta: &Meta, target: ClassNo, json: &JsonValue) -> bool
-    ensures { result ≡ conforms_meant meta.now target (view json.now) }
-{
-    match class_of(meta, json) {
-        Some(class) => meta.conforms(class, target),
-        None => false,
-    }
-}
 
 /// Whether a value may be under a containment reference to a class: an object whose class conforms, if its class is
 /// there at all.
-fn may_stand(meta: &Meta, target: ClassNo, json: &JsonValue) -> bool
+fn may_stand(meta: &Meta, target: ClassNo, json: &Json) -> bool
     ensures { result ≡ may_be meta.now target (view json.now) }
 {
     if !json.is_object() {
@@ -37,7 +27,7 @@ fn may_stand(meta: &Meta, target: ClassNo, json: &JsonValue) -> bool
     }
 }
 
-fn is_value(meta: &Meta, is_single: bool, kind: &Kind, json: &JsonValue) -> bool
+fn is_value(meta: &Meta, is_single: bool, kind: &Kind, json: &Json) -> bool
     ensures { result ≡ is_value_meant meta.now is_single kind.now (view json.now) }
 {
     match kind {
@@ -59,7 +49,7 @@ fn is_value(meta: &Meta, is_single: bool, kind: &Kind, json: &JsonValue) -> bool
     }
 }
 
-fn are_values(meta: &Meta, is_single: bool, kind: &Kind, values: &[JsonValue]) -> bool
+fn are_values(meta: &Meta, is_single: bool, kind: &Kind, values: &[Json]) -> bool
     ensures { result ≡ list_all (λ v. is_value_meant meta.now is_single kind.now (view v)) values.now }
 {
     values
@@ -67,7 +57,7 @@ fn are_values(meta: &Meta, is_single: bool, kind: &Kind, values: &[JsonValue]) -
         .all(|value| is_value(meta, is_single, kind, value))
 }
 
-fn is_shaped(is_single: bool, content: &JsonValue) -> bool
+fn is_shaped(is_single: bool, content: &Json) -> bool
     ensures { result ≡ is_single || is_some (as_array (view content.now)) }
 {
     is_single || content.is_array()
@@ -75,7 +65,7 @@ fn is_shaped(is_single: bool, content: &JsonValue) -> bool
 
 /// Whether what is written under a feature is an array if the feature is many-valued, and each of its values is one of
 /// the feature. Takes no memory.
-pub(crate) fn is_content(meta: &Meta, feature: FeatureNo, content: &JsonValue) -> bool
+pub(crate) fn is_content(meta: &Meta, feature: FeatureNo, content: &Json) -> bool
     ensures { result ≡ is_meant meta.now (new_entry feature (view content.now)) }
 {
     let single = meta.is_single(feature);

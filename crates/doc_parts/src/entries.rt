@@ -1,27 +1,26 @@
 //! What is written in an object under the features of its class.
-ghost use Rattle.std.specs.Prelude.{◌≡◌, length, map, option_map};
+ghost use Rattle.std.specs.Prelude.{◌≡◌, [], length, map, option_map};
 ghost use Rattle.mm_types.specs.Lookups as lookups;
 ghost use Rattle.mm_types.specs.Shapes.{shape};
-ghost use Rattle.serde_json.specs.View.{members_view, view};
+ghost use Rattle.borrowed_json.specs.View.{members_view, view};
 ghost use Rattle.doc_parts.specs.Parts.{class_of as class_meant, content_at as content_meant, known as known_meant, new_entry, values_of as values_meant};
 
 use crate::layout::written;
-use json_fields::find;
+use borrowed_json::{Json, Members, find};
 use mm_meta::Meta;
 use mm_types::{ClassNo, FeatureNo};
-use serde_json::{Map, Value as JsonValue};
 use std::slice;
 
 /// The class that an object names. Takes no memory.
-pub fn class_of(meta: &Meta, json: &JsonValue) -> Option<ClassNo>
+pub fn class_of(meta: &Meta, json: &Json) -> Option<ClassNo>
     ensures { result ≡ class_meant meta.now (view json.now) }
 {
     meta.class_by_name(written(json)?.class)
 }
 
 /// The class and the members of an object whose class is there. Takes no memory.
-pub fn known<'v>(meta: &Meta, json: &'v JsonValue) -> Option<(ClassNo, &'v Map<String, JsonValue>)>
-    ensures { option_map (λ k. (k.0, members_view k.1.now.entries)) result ≡ known_meant meta.now (view json.now) }
+pub fn known<'v, 't>(meta: &Meta, json: &'v Json<'t>) -> Option<(ClassNo, &'v Members<'t>)>
+    ensures { option_map (λ k. (k.0, members_view k.1.now.items)) result ≡ known_meant meta.now (view json.now) }
 {
     let object = written(json)?;
     let class = meta.class_by_name(object.class)?;
@@ -29,22 +28,28 @@ pub fn known<'v>(meta: &Meta, json: &'v JsonValue) -> Option<(ClassNo, &'v Map<S
 }
 
 /// What is written under a feature, which may be no container reference. Takes no memory.
-pub fn content_at<'v>(
+pub fn content_at<'v, 't>(
     meta: &Meta,
-    members: &'v Map<String, JsonValue>,
+    members: &'v Members<'t>,
     feature: FeatureNo,
-) -> Option<&'v JsonValue>
-    ensures { option_map (λ v. view v.now) result ≡ content_meant meta.now (members_view members.now.entries) feature }
+) -> Option<&'v Json<'t>>
+    ensures { option_map (λ v. view v.now) result ≡ content_meant meta.now (members_view members.now.items) feature }
 {
-    if meta.is_container(feature) {
-        return None;
+    match find(members, meta.feature_name(feature)) {
+        Some(content) if !meta.is_container(feature) => Some(content),
+        _ => None,
     }
-    find(members, meta.feature_name(feature))
+}
+
+fn no_values<'v, 't>() -> &'v [Json<'t>]
+    ensures { result.now ≡ [] }
+{
+    &[]
 }
 
 /// The values of what is written under a feature: the items of an array if the feature is many-valued. Takes no
 /// memory.
-pub fn values_of<'v>(meta: &Meta, feature: FeatureNo, content: &'v JsonValue) -> &'v [JsonValue]
+pub fn values_of<'v, 't>(meta: &Meta, feature: FeatureNo, content: &'v Json<'t>) -> &'v [Json<'t>]
     ensures { map view result.now ≡ values_meant meta.now (new_entry feature (view content.now)) }
 {
     if meta.is_single(feature) {
@@ -52,6 +57,6 @@ pub fn values_of<'v>(meta: &Meta, feature: FeatureNo, content: &'v JsonValue) ->
     }
     match content.as_array() {
         Some(values) => values.as_slice(),
-        None => &[],
+        None => no_values(),
     }
 }

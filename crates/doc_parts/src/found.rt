@@ -2,9 +2,9 @@
 ghost use Rattle.std.specs.Prelude.{◌≡◌, ◌++◌, ◌∷◌, [], IfOk, List, None, OnOk, Some, if◌then◌else◌, length, option_map};
 ghost use Rattle.std.specs.Option.{option_or};
 
+use borrowed_json::{Json, Members};
 use indexmap::IndexMap;
 use mm_types::ClassNo;
-use serde_json::{Map, Value as JsonValue};
 use std::alloc::{AllocError, Global};
 use web_uris::{Path, Step};
 
@@ -28,17 +28,17 @@ pub struct Numbers<'m> {
 /// A part: its level, what is there, its class and its members if its class is there, and the number of the first part of
 /// its path.
 #[derive(Clone, Copy)]
-pub struct FoundPart<'v> {
+pub struct FoundPart<'v, 't> {
     pub level: usize,
-    pub json: &'v JsonValue,
-    pub known: Option<(ClassNo, &'v Map<String, JsonValue>)>,
+    pub json: &'v Json<'t>,
+    pub known: Option<(ClassNo, &'v Members<'t>)>,
     pub number: u32,
 }
 
 /// The parts that were found, in loading order.
 #[derive(Drop)]
-pub struct FoundParts<'v, 'm> {
-    pub parts: Vec<FoundPart<'v>>,
+pub struct FoundParts<'v, 't, 'm> {
+    pub parts: Vec<FoundPart<'v, 't>>,
     pub numbers: Numbers<'m>,
 }
 
@@ -116,9 +116,9 @@ impl<'m> Numbers<'m> {
     }
 }
 
-impl<'v, 'm> FoundParts<'v, 'm> {
+impl<'v, 't, 'm> FoundParts<'v, 't, 'm> {
     ghost use Rattle.mm_types.specs.Resolved.{Metamodel};
-    ghost use Rattle.serde_json.specs.View.{members_view, view};
+    ghost use Rattle.borrowed_json.specs.View.{members_view, view};
     ghost use Rattle.doc_parts.specs.FoundParts.{IsPlaced, Knows};
     ghost use Rattle.doc_parts.specs.Parts.{Part, known as known_meant, level_of, number_of};
     ghost use Rattle.doc_parts.specs.Keys.{key_of};
@@ -139,11 +139,11 @@ impl<'v, 'm> FoundParts<'v, 'm> {
         &mut self,
         key: PartKey<'m>,
         level: usize,
-        json: &'v JsonValue,
-        known: Option<(ClassNo, &'v Map<String, JsonValue>)>,
+        json: &'v Json<'t>,
+        known: Option<(ClassNo, &'v Members<'t>)>,
     ) -> Result<u32, AllocError>
         ensures { IfOk result (λ n. (m : Metamodel) (ps : List Part) (p : Part) → Knows m self.old ps → IsPlaced ps (key_of key.entry) p.path → level ≡ level_of p → view json.entry.now ≡ p.json
-            → option_map (λ k. (k.0, members_view k.1.now.entries)) known.entry ≡ known_meant m p.json → Knows m self.new (ps ++ p ∷ []) × (number_of (ps ++ p ∷ []) p.path ≡ Some n)) }
+            → option_map (λ k. (k.0, members_view k.1.now.items)) known.entry ≡ known_meant m p.json → Knows m self.new (ps ++ p ∷ []) × (number_of (ps ++ p ∷ []) p.path ≡ Some n)) }
     {
         let count = self.parts.as_slice().len();
         if count > u32::MAX as usize {

@@ -1,28 +1,27 @@
 //! The layout of a document: the top, and an object.
 ghost use Rattle.std.specs.Prelude.{◌≡◌, option_map};
-ghost use Rattle.serde_json.specs.View.{items_view, members_view, view};
+ghost use Rattle.borrowed_json.specs.View.{items_view, members_view, view};
 ghost use Rattle.doc_parts.specs.Layout.{new_top, new_written, top as top_meant, written as written_meant};
 
-use json_fields::{find, has_only_keys};
-use serde_json::{Map, Value};
+use borrowed_json::{Json, Members, find, has_only_keys};
 
 /// What the top of a document says.
 #[derive(Clone, Copy)]
-pub struct TopMembers<'v> {
+pub struct TopMembers<'v, 't> {
     pub format: i64,
-    pub roots: &'v Vec<Value>,
+    pub roots: &'v Vec<Json<'t>>,
 }
 
 /// What an object of a document says: the name of its class, and what its features hold, by their names.
 #[derive(Clone, Copy)]
-pub(crate) struct ObjectMembers<'v> {
-    pub class: &'v str,
-    pub features: &'v Map<String, Value>,
+pub(crate) struct ObjectMembers<'v, 't> {
+    pub class: &'t str,
+    pub features: &'v Members<'t>,
 }
 
 /// The top of a document, or nothing if the value is no such object. Takes no memory.
 #[tactic(auto, unfolding(crate::specs::Layout::top))]
-pub fn top(json: &Value) -> Option<TopMembers<'_>>
+pub fn top<'v, 't>(json: &'v Json<'t>) -> Option<TopMembers<'v, 't>>
     ensures { option_map (λ t. new_top t.format (items_view t.roots.now.items)) result ≡ top_meant (view json.now) }
 {
     let members = json.as_object()?;
@@ -36,8 +35,8 @@ pub fn top(json: &Value) -> Option<TopMembers<'_>>
 
 /// What an object says, or nothing if the value is none. Takes no memory.
 #[tactic(auto, unfolding(crate::specs::Layout::written))]
-pub(crate) fn written(json: &Value) -> Option<ObjectMembers<'_>>
-    ensures { option_map (λ w. new_written w.class.now (members_view w.features.now.entries)) result ≡ written_meant (view json.now) }
+pub(crate) fn written<'v, 't>(json: &'v Json<'t>) -> Option<ObjectMembers<'v, 't>>
+    ensures { option_map (λ w. new_written w.class.now (members_view w.features.now.items)) result ≡ written_meant (view json.now) }
 {
     let members = json.as_object()?;
     if !has_only_keys(members, &["class", "features"]) {

@@ -18,7 +18,6 @@ pub use attributes::attribute_value;
 pub use checks::{
     has_deep, has_long_list, has_misshapen, has_other_value, has_unknown_class, has_unknown_feature,
 };
-pub use contents::conforms_to;
 pub use entries::{class_of, content_at, known, values_of};
 pub use found::{FoundPart, FoundParts, Numbers, PartKey};
 pub use layout::{TopMembers, top};

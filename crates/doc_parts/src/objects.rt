@@ -1,9 +1,8 @@
 //! What may be wrong with one object of a document, by itself.
-ghost use Rattle.std.specs.Prelude.{◌≡◌, false, map, not, string_bytes};
-ghost use Rattle.std.specs.BTreeMap.{keys};
+ghost use Rattle.std.specs.Prelude.{◌≡◌, false, map, not};
 ghost use Rattle.std.specs.List.{list_all, list_any};
 ghost use Rattle.std.specs.Option.{option_map_or};
-ghost use Rattle.serde_json.specs.View.{members_view};
+ghost use Rattle.borrowed_json.specs.View.{members_view};
 ghost use Rattle.json_fields.specs.Fields.{keys_of};
 ghost use Rattle.mm_types.specs.Lookups.{is_concrete as concrete};
 ghost use Rattle.mm_types.specs.Shapes.{is_bounded as bounded, shape};
@@ -16,9 +15,9 @@ use crate::contents::is_content;
 use crate::entries::{content_at, values_of};
 use crate::found::FoundPart;
 use crate::layout::written;
+use borrowed_json::{Json, Members};
 use mm_meta::Meta;
 use mm_types::{ClassNo, FeatureNo, limits};
-use serde_json::{Map, Value as JsonValue};
 
 /// Whether an object names no class, or an abstract one. Takes no memory.
 pub(crate) fn has_no_class(meta: &Meta, part: &FoundPart) -> bool
@@ -40,16 +39,16 @@ fn is_readable(meta: &Meta, class: ClassNo, name: &str) -> bool
     }
 }
 
-fn are_readable(meta: &Meta, class: ClassNo, members: &Map<String, JsonValue>) -> bool
-    ensures { result ≡ list_all (λ k. readable meta.now class (string_bytes k)) (keys members.now) }
+fn are_readable(meta: &Meta, class: ClassNo, members: &Members) -> bool
+    ensures { result ≡ list_all (λ m. readable meta.now class m.0.now) members.now.items }
 {
     members
-        .keys()
-        .all(|key| is_readable(meta, class, key.as_str()))
+        .iter()
+        .all(|member| is_readable(meta, class, member.0))
 }
 
-fn has_only_features(meta: &Meta, class: ClassNo, members: &Map<String, JsonValue>) -> bool
-    ensures { result ≡ list_all (readable meta.now class) (keys_of (members_view members.now.entries)) }
+fn has_only_features(meta: &Meta, class: ClassNo, members: &Members) -> bool
+    ensures { result ≡ list_all (readable meta.now class) (keys_of (members_view members.now.items)) }
 {
     are_readable(meta, class, members)
 }
@@ -64,10 +63,16 @@ pub(crate) fn has_other_key(meta: &Meta, part: &FoundPart) -> bool
     }
 }
 
-fn is_other_content(meta: &Meta, members: &Map<String, JsonValue>, feature: FeatureNo) -> bool
-    ensures { result ≡ option_map_or (λ d. not (content_meant meta.now (new_entry feature d))) (content_at_meant meta.now (members_view members.now.entries) feature) false }
+/// What an object holds, by the names of its features.
+#[derive(Clone, Copy)]
+struct Held<'v, 't> {
+    members: &'v Members<'t>,
+}
+
+fn is_other_content(meta: &Meta, held: &Held, feature: FeatureNo) -> bool
+    ensures { result ≡ option_map_or (λ d. not (content_meant meta.now (new_entry feature d))) (content_at_meant meta.now (members_view held.now.members.now.items) feature) false }
 {
-    match content_at(meta, members, feature) {
+    match content_at(meta, held.members, feature) {
         Some(content) => !is_content(meta, feature, content),
         None => false,
     }
@@ -85,25 +90,25 @@ fn is_bounded(meta: &Meta, feature: FeatureNo, count: usize) -> bool
     }
 }
 
-fn is_long_content(meta: &Meta, members: &Map<String, JsonValue>, feature: FeatureNo) -> bool
-    ensures { result ≡ option_map_or (λ d. long meta.now (new_entry feature d)) (content_at_meant meta.now (members_view members.now.entries) feature) false }
+fn is_long_content(meta: &Meta, held: &Held, feature: FeatureNo) -> bool
+    ensures { result ≡ option_map_or (λ d. long meta.now (new_entry feature d)) (content_at_meant meta.now (members_view held.now.members.now.items) feature) false }
 {
     // One value is never too many.
     if meta.is_single(feature) {
         return false;
     }
-    match content_at(meta, members, feature) {
+    match content_at(meta, held.members, feature) {
         Some(content) => !is_bounded(meta, feature, values_of(meta, feature, content).len()),
         None => false,
     }
 }
 
-fn is_any_other(meta: &Meta, members: &Map<String, JsonValue>, features: &[FeatureNo]) -> bool
-    ensures { result ≡ list_any (λ f. option_map_or (λ d. not (content_meant meta.now (new_entry f d))) (content_at_meant meta.now (members_view members.now.entries) f) false) features.now }
+fn is_any_other(meta: &Meta, held: &Held, features: &[FeatureNo]) -> bool
+    ensures { result ≡ list_any (λ f. option_map_or (λ d. not (content_meant meta.now (new_entry f d))) (content_at_meant meta.now (members_view held.now.members.now.items) f) false) features.now }
 {
     features
         .iter()
-        .any(|feature| is_other_content(meta, members, *feature))
+        .any(|feature| is_other_content(meta, held, *feature))
 }
 
 /// Whether what is written under a feature of an object is not of the feature's type. Takes no memory.
@@ -114,17 +119,17 @@ pub(crate) fn has_other_content(meta: &Meta, part: &FoundPart) -> bool
         return false;
     };
     match meta.features(class) {
-        Some(features) => is_any_other(meta, members, features),
+        Some(features) => is_any_other(meta, &Held { members }, features),
         None => false,
     }
 }
 
-fn is_any_long(meta: &Meta, members: &Map<String, JsonValue>, features: &[FeatureNo]) -> bool
-    ensures { result ≡ list_any (λ f. option_map_or (λ d. long meta.now (new_entry f d)) (content_at_meant meta.now (members_view members.now.entries) f) false) features.now }
+fn is_any_long(meta: &Meta, held: &Held, features: &[FeatureNo]) -> bool
+    ensures { result ≡ list_any (λ f. option_map_or (λ d. long meta.now (new_entry f d)) (content_at_meant meta.now (members_view held.now.members.now.items) f) false) features.now }
 {
     features
         .iter()
-        .any(|feature| is_long_content(meta, members, *feature))
+        .any(|feature| is_long_content(meta, held, *feature))
 }
 
 /// Whether a list of an object has more values than it may have. Takes no memory.
@@ -135,7 +140,7 @@ pub(crate) fn has_long_content(meta: &Meta, part: &FoundPart) -> bool
         return false;
     };
     match meta.features(class) {
-        Some(features) => is_any_long(meta, members, features),
+        Some(features) => is_any_long(meta, &Held { members }, features),
         None => false,
     }
 }

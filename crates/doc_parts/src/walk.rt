@@ -1,15 +1,15 @@
 //! The parts of a document are found, each before what it contains.
 ghost use Rattle.std.specs.Prelude.{◌≡◌, ◌++◌, IfOk, List, None, OnOk, Some, flat_map, if◌then◌else◌, map};
-ghost use Rattle.serde_json.specs.View.{members_view, view};
+ghost use Rattle.borrowed_json.specs.View.{members_view, view};
 ghost use Rattle.doc_parts.specs.FoundParts.{FindsBelow, Knows, Walks, parts_at, parts_under, roots_from};
 ghost use Rattle.doc_parts.specs.Parts.{Part, parts_from};
 ghost use Rattle.doc_parts.specs.Keys.{UnderKey, key_of};
 
 use crate::entries::{content_at, known, values_of};
 use crate::found::{FoundParts, PartKey};
+use borrowed_json::{Json, Members};
 use mm_meta::Meta;
 use mm_types::FeatureNo;
-use serde_json::{Map, Value as JsonValue};
 use std::alloc::{AllocError, Global};
 
 /// The key of what is below a part: the number of that part, and the level below it.
@@ -21,13 +21,13 @@ struct Below {
 
 /// Finds a part that is at a key, and what is below it, for so many levels.
 #[cycle(walk)]
-pub(crate) fn walk<'v, 'm>(
-    found: &mut FoundParts<'v, 'm>,
+pub(crate) fn walk<'v, 't, 'm>(
+    found: &mut FoundParts<'v, 't, 'm>,
     meta: &'m Meta,
     levels: usize,
     key: PartKey<'m>,
     level: usize,
-    json: &'v JsonValue,
+    json: &'v Json<'t>,
 ) -> Result<(), AllocError>
     ensures { OnOk result (Walks meta.entry.now levels found.old found.new (key_of key.entry) level (view json.entry.now)) }
 {
@@ -50,15 +50,15 @@ pub(crate) fn walk<'v, 'm>(
 }
 
 #[cycle(walk)]
-fn walk_features<'v, 'm>(
-    found: &mut FoundParts<'v, 'm>,
+fn walk_features<'v, 't, 'm>(
+    found: &mut FoundParts<'v, 't, 'm>,
     meta: &'m Meta,
     levels: usize,
     below: Below,
-    members: &'v Map<String, JsonValue>,
+    members: &'v Members<'t>,
     features: &[FeatureNo],
 ) -> Result<(), AllocError>
-    ensures { OnOk result (FindsBelow meta.entry.now found.old found.new below.part below.level (λ path. flat_map (parts_from meta.entry.now levels) (flat_map (parts_at meta.entry.now path (members_view members.entry.now.entries)) features.now))) }
+    ensures { OnOk result (FindsBelow meta.entry.now found.old found.new below.part below.level (λ path. flat_map (parts_from meta.entry.now levels) (flat_map (parts_at meta.entry.now path (members_view members.entry.now.items)) features.now))) }
 {
     'features: for feature in features {
         walk_feature(found, meta, levels, below, members, *feature)?;
@@ -67,15 +67,15 @@ fn walk_features<'v, 'm>(
 }
 
 #[cycle(walk)]
-fn walk_feature<'v, 'm>(
-    found: &mut FoundParts<'v, 'm>,
+fn walk_feature<'v, 't, 'm>(
+    found: &mut FoundParts<'v, 't, 'm>,
     meta: &'m Meta,
     levels: usize,
     below: Below,
-    members: &'v Map<String, JsonValue>,
+    members: &'v Members<'t>,
     feature: FeatureNo,
 ) -> Result<(), AllocError>
-    ensures { OnOk result (FindsBelow meta.entry.now found.old found.new below.part below.level (λ path. flat_map (parts_from meta.entry.now levels) (parts_at meta.entry.now path (members_view members.entry.now.entries) feature))) }
+    ensures { OnOk result (FindsBelow meta.entry.now found.old found.new below.part below.level (λ path. flat_map (parts_from meta.entry.now levels) (parts_at meta.entry.now path (members_view members.entry.now.items) feature))) }
 {
     if !meta.is_containment(feature) {
         return Ok(());
@@ -104,14 +104,14 @@ fn index_at(is_single: bool, position: u32) -> Option<u32>
 }
 
 #[cycle(walk)]
-fn walk_values<'v, 'm>(
-    found: &mut FoundParts<'v, 'm>,
+fn walk_values<'v, 't, 'm>(
+    found: &mut FoundParts<'v, 't, 'm>,
     meta: &'m Meta,
     levels: usize,
     below: Below,
     name: &'m str,
     is_single: bool,
-    values: &'v [JsonValue],
+    values: &'v [Json<'t>],
 ) -> Result<(), AllocError>
     ensures { OnOk result (FindsBelow meta.entry.now found.old found.new below.part below.level (λ path. flat_map (parts_from meta.entry.now levels) (parts_under path name.entry.now is_single (map view values.entry.now)))) }
 {
@@ -136,11 +136,11 @@ fn walk_values<'v, 'm>(
     Ok(())
 }
 
-fn walk_roots<'v, 'm>(
-    found: &mut FoundParts<'v, 'm>,
+fn walk_roots<'v, 't, 'm>(
+    found: &mut FoundParts<'v, 't, 'm>,
     meta: &'m Meta,
     levels: usize,
-    roots: &'v [JsonValue],
+    roots: &'v [Json<'t>],
 ) -> Result<(), AllocError>
     ensures { OnOk result ((ps : List Part) → Knows meta.entry.now found.old ps → Knows meta.entry.now found.new (ps ++ flat_map (parts_from meta.entry.now levels) (roots_from (map view roots.entry.now)))) }
 {
@@ -154,12 +154,12 @@ fn walk_roots<'v, 'm>(
 }
 
 /// Finds the parts of the roots of a document, for so many levels, in loading order.
-pub fn find_parts<'v, 'm>(
+pub fn find_parts<'v, 't, 'm>(
     alloc: Global,
     meta: &'m Meta,
     levels: usize,
-    roots: &'v [JsonValue],
-) -> Result<FoundParts<'v, 'm>, AllocError>
+    roots: &'v [Json<'t>],
+) -> Result<FoundParts<'v, 't, 'm>, AllocError>
     ensures { IfOk result (λ found. Knows meta.entry.now found (flat_map (parts_from meta.entry.now levels) (roots_from (map view roots.entry.now)))) }
 {
     let mut found = FoundParts::new(alloc);

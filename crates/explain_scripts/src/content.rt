@@ -1,12 +1,12 @@
 //! What is wrong with what is written under features: values of a wrong type, lists that are too long, and values that occur
 //! twice.
 use crate::parts::{At, Entry};
-use doc_parts::{attribute_value, class_of, values_of};
+use crate::written::{class_of, is_attribute_value, values_of};
 use explain::Shown;
 use mm_meta::Meta;
 use mm_types::{ClassNo, DataType, Kind, limits};
 use serde_json::Value;
-use std::alloc::{AllocError, Global};
+use std::alloc::AllocError;
 use std::fmt;
 
 /// What the values of a data type are.
@@ -66,14 +66,13 @@ fn explain_reference(out: &mut String, at: At<'_>, json: &Value) -> Result<(), A
 }
 
 fn explain_attribute(
-    alloc: Global,
     out: &mut String,
     meta: &Meta,
     at: At<'_>,
     data_type: DataType,
     json: &Value,
 ) -> Result<(), AllocError> {
-    if attribute_value(alloc, meta, at.is_single, data_type, json)?.is_some() {
+    if is_attribute_value(meta, at.is_single, data_type, json) {
         return Ok(());
     }
     let wanted = Values { data_type, meta };
@@ -81,7 +80,6 @@ fn explain_attribute(
 }
 
 fn explain_value(
-    alloc: Global,
     out: &mut String,
     meta: &Meta,
     at: At<'_>,
@@ -90,7 +88,7 @@ fn explain_value(
 ) -> Result<(), AllocError> {
     match kind {
         Kind::Attribute { value_type, .. } => {
-            explain_attribute(alloc, out, meta, at, *value_type, json)
+            explain_attribute(out, meta, at, *value_type, json)
         }
         Kind::Reference {
             target,
@@ -101,12 +99,7 @@ fn explain_value(
     }
 }
 
-fn explain_entry(
-    alloc: Global,
-    out: &mut String,
-    meta: &Meta,
-    entry: &Entry<'_>,
-) -> Result<(), AllocError> {
+fn explain_entry(out: &mut String, meta: &Meta, entry: &Entry<'_>) -> Result<(), AllocError> {
     if !entry.is_single && !entry.content.is_array() {
         let path = entry.path.as_str();
         return writeln!(
@@ -122,20 +115,19 @@ fn explain_entry(
         .iter()
         .enumerate()
     {
-        explain_value(alloc, out, meta, entry.at(i), &feature.kind, json)?;
+        explain_value(out, meta, entry.at(i), &feature.kind, json)?;
     }
     Ok(())
 }
 
 /// Values that are none of their feature's type.
 pub(crate) fn explain_values(
-    alloc: Global,
     out: &mut String,
     meta: &Meta,
     entries: &[Entry<'_>],
 ) -> Result<(), AllocError> {
     for entry in entries {
-        explain_entry(alloc, out, meta, entry)?;
+        explain_entry(out, meta, entry)?;
     }
     Ok(())
 }

@@ -60,7 +60,7 @@ fn explain_content(
     links: &[Link<'_>],
 ) -> Result<(), AllocError> {
     match cause {
-        DocFault::Value => explain_values(alloc, out, meta, entries),
+        DocFault::Value => explain_values(out, meta, entries),
         DocFault::Bound => explain_bounds(out, meta, entries),
         DocFault::Duplicate => explain_repeats(alloc, out, meta, entries, links),
         DocFault::Reference => explain_references(out, meta, parts, links),

@@ -15,5 +15,6 @@ mod parts;
 mod repeats;
 mod shape;
 mod watch;
+mod written;
 
 pub use watch::Watch;

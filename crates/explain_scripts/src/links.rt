@@ -1,7 +1,7 @@
 //! What is wrong with references: where they lead, and whether the other end names them.
 use crate::led::{Fragments, Led, fragments_of, led_by};
 use crate::parts::{At, Entry, Part};
-use doc_parts::{class_of, conforms_to, values_of};
+use crate::written::{class_of, conforms_to, values_of};
 use mm_meta::Meta;
 use mm_types::{ClassNo, FeatureNo, Kind};
 use serde_json::Value;

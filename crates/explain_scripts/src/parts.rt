@@ -1,5 +1,5 @@
 //! The objects of a document and what is under their features, each with where it is.
-use doc_parts::{content_at, known, values_of};
+use crate::written::{content_at, known, values_of};
 use mm_meta::Meta;
 use mm_types::{ClassNo, FeatureNo};
 use serde_json::{Map, Value};

@@ -2,7 +2,7 @@
 use crate::led::Led;
 use crate::links::Link;
 use crate::parts::Entry;
-use doc_parts::values_of;
+use crate::written::values_of;
 use mm_meta::Meta;
 use mm_types::Kind;
 use serde_json::Value;

@@ -1,6 +1,6 @@
 //! What is wrong with the shape of a document: its layout, its format, the classes and features that it names, and its depth.
 use crate::parts::Part;
-use doc_parts::known;
+use crate::written::known;
 use explain::{Field, Sort, explain_object, nearest};
 use mm_meta::Meta;
 use mm_types::{ClassNo, FeatureNo, limits};

@@ -9,8 +9,8 @@ use Rattle.std.proofs.lemmas.List.FromFn.{length-enumerate_from}
 use Rattle.std.proofs.lemmas.Str.{IsUtf8-from_is_utf8, is_utf8-from_IsUtf8}
 use Rattle.serde_json.specs.Data.{Data, depth}
 use Rattle.serde_json.specs.Read.{read}
-use Rattle.serde_json.specs.View.{items_view, view}
-use Rattle.serde_json.specs.declared.value.Value as json
+use Rattle.borrowed_json.specs.View.{items_view, view}
+use Rattle.borrowed_json.specs.declared.value.Json as json
 use Rattle.mm_types.specs.Resolved.{Metamodel}
 use Rattle.mm_types.specs.declared.document_fault.DocFault.{DocFault}
 use Rattle.mm_types.specs.declared.document_fault.DocFault.TheVariants as cause
@@ -68,11 +68,11 @@ no_top m b d none = ap (λ x. unless_faulty (option_or (shape_cause m x (parts m
 root_of : ℕ × Data → Part
 root_of v = record { path = new_path v.0 []; json = v.1 }
 
-pub roots_are : (d : Data) (format : ℤ) (vs : List json.Value) → top d ≡ Some (new_top format (items_view vs)) → root_parts d ≡ roots_from (map view vs)
+pub roots_are : (d : Data) (format : ℤ) (vs : List json.Json) → top d ≡ Some (new_top format (items_view vs)) → root_parts d ≡ roots_from (map view vs)
 roots_are d format vs here =
     ap (λ o. option_map_or (λ t. roots_from (list_of t.roots)) o []) here ∙ ap roots_from (list_of-items_of (map view vs))
 
-pub count_roots : (vs : List json.Value) (rs : List Part) → rs ≡ roots_from (map view vs) → length vs ≡ length rs
+pub count_roots : (vs : List json.Json) (rs : List Part) → rs ≡ roots_from (map view vs) → length vs ≡ length rs
 unfolding root_of
 count_roots vs rs are =
     let a = ap length are in
@@ -82,7 +82,7 @@ count_roots vs rs are =
     omega (arith, a, b, c, d)
 
 -- enough levels find the parts of a document
-pub found_parts : (m : Metamodel) (f : FoundParts) (n : ℕ) (d : Data) (format : ℤ) (vs : List json.Value) → depth d ≤ n → top d ≡ Some (new_top format (items_view vs))
+pub found_parts : (m : Metamodel) (f : FoundParts) (n : ℕ) (d : Data) (format : ℤ) (vs : List json.Json) → depth d ≤ n → top d ≡ Some (new_top format (items_view vs))
     → Knows m f (flat_map (parts_from m n) (roots_from (map view vs))) → Knows m f (parts m d)
 found_parts m f n d format vs deep here known =
     subst (Knows m f) (sym (parts_within m n d deep ∙ ap (flat_map (parts_from m n)) (roots_are d format vs here))) known

@@ -6,8 +6,8 @@ use Rattle.std.proofs.lemmas.List.{length-map, length-take-le, map-append, take_
 use Rattle.std.proofs.lemmas.List.Elements.{filter_map-append}
 use Rattle.std.proofs.lemmas.List.Folds.{list_any-append}
 use Rattle.serde_json.specs.Data.{Data}
-use Rattle.serde_json.specs.View.{view}
-use Rattle.serde_json.specs.declared.value.Value as json
+use Rattle.borrowed_json.specs.View.{view}
+use Rattle.borrowed_json.specs.declared.value.Json as json
 use Rattle.mm_types.specs.Lookups as lookups
 use Rattle.mm_types.specs.Resolved.{Metamodel}
 use Rattle.mm_types.specs.Shapes.{shape}
@@ -46,10 +46,10 @@ or_false false = refl
 pub any-push : {X : Type 0} (p : X → Bool) (xs : List X) (x : X) → list_any p (xs ++ x ∷ []) ≡ list_any p xs || p x
 any-push p xs x = list_any-append p xs (x ∷ []) ∙ ap (λ b. list_any p xs || b) (or_false (p x))
 
-pub views_more : (vs : List json.Value) (i : ℕ) (v : json.Value) → i < length vs → v ≡ get_or vs i v → map view (take (i + 1) vs) ≡ map view (take i vs) ++ view v ∷ []
+pub views_more : (vs : List json.Json) (i : ℕ) (v : json.Json) → i < length vs → v ≡ get_or vs i v → map view (take (i + 1) vs) ≡ map view (take i vs) ++ view v ∷ []
 views_more vs i v below is = ap (map view) (take_more vs i v below ∙ ap (λ x. take i vs ++ x ∷ []) (sym is)) ∙ map-append view (take i vs) (v ∷ [])
 
-pub views_taken : (vs : List json.Value) (i : ℕ) → i < length vs → i ≡ length (map view (take i vs))
+pub views_taken : (vs : List json.Json) (i : ℕ) → i < length vs → i ≡ length (map view (take i vs))
 views_taken vs i below = let e = length-map (take i vs) view in let f = length-take-le i vs (omega (arith, below)) in omega (arith, e, f)
 
 ---------------------------------------------------------------- values

@@ -3,7 +3,7 @@ ghost use Rattle.std.specs.Prelude.{◌≡◌, IfOk, List, Some, false, length, 
 ghost use Rattle.std.specs.Option.{option_map_or};
 ghost use Rattle.mm_types.specs.Shapes.{contents_shape, is_bounded};
 ghost use Rattle.serde_json.specs.Data.{Data};
-ghost use Rattle.serde_json.specs.View.{items_view};
+ghost use Rattle.borrowed_json.specs.View.{items_view};
 ghost use Rattle.doc_parts.specs.Faults.{of_entry};
 ghost use Rattle.doc_parts.specs.FoundParts.{Knows};
 ghost use Rattle.doc_parts.specs.Layout.{new_top, top as top_meant};

@@ -1,7 +1,7 @@
 //! The objects of a document are read.
 ghost use Rattle.std.specs.Prelude.{◌≡◌, ◌++◌, ◌∷◌, [], IfOk, List, OnOk, false, filter_map, option_to_list};
 ghost use Rattle.std.specs.List.{All};
-ghost use Rattle.serde_json.specs.View.{members_view};
+ghost use Rattle.borrowed_json.specs.View.{members_view};
 ghost use Rattle.doc_parts.specs.FoundParts.{Knows, part_seen, seen};
 ghost use Rattle.doc_parts.specs.Parts.{Entry, Part, entries, entry_at};
 ghost use Rattle.resource_docs.specs.Reading.{IsProxyContent, IsProxyObject, Numbered, contents_so_far, objects_so_far, with_values};
@@ -11,9 +11,9 @@ ghost use Rattle.resource_docs.specs.Values.{IsProxyValue};
 use crate::doc::{Content, DocObject};
 use crate::source::Source;
 use crate::values::{ReadValues, read_content};
+use borrowed_json::{Json, Members};
 use doc_parts::{FoundPart, content_at};
 use mm_types::{ClassNo, FeatureNo, Seq};
-use serde_json::{Map, Value as JsonValue};
 use std::alloc::{AllocError, Global};
 
 /// What is read of an object: its contents, and whether a reference among them is lost.
@@ -30,13 +30,15 @@ pub(crate) struct ReadObjects {
     pub is_lost: bool,
 }
 
-fn no_contents(alloc: Global) -> ReadContents
-    ensures { result ≡ record { contents = []; is_lost = false } }
+/// Nothing yet, with room for the contents of so many features.
+fn no_contents(alloc: Global, room: usize) -> Result<ReadContents, AllocError>
+    ensures { IfOk result (λ r. r ≡ record { contents = []; is_lost = false }) }
 {
-    ReadContents {
-        contents: Seq::new(alloc),
+    let contents = Vec::with_capacity(alloc, room)?;
+    Ok(ReadContents {
+        contents: Seq::from_vec(contents),
         is_lost: false,
-    }
+    })
 }
 
 /// Adds what was read under a feature, unless that is nothing.
@@ -61,12 +63,12 @@ fn add_feature(
     read: &mut ReadContents,
     source: &Source,
     number: u32,
-    members: &Map<String, JsonValue>,
+    members: &Members,
     feature: FeatureNo,
 ) -> Result<(), AllocError>
     ensures value { OnOk result (Numbered source.now.meta.now source.now.found.now number (λ ps path. (es : List Entry)
         → read.old ≡ contents_so_far source.now.meta.now (base_of source.now.uri.now) ps path es
-        → read.new ≡ contents_so_far source.now.meta.now (base_of source.now.uri.now) ps path (es ++ option_to_list (entry_at source.now.meta.now (members_view members.now.entries) feature)))) }
+        → read.new ≡ contents_so_far source.now.meta.now (base_of source.now.uri.now) ps path (es ++ option_to_list (entry_at source.now.meta.now (members_view members.now.items) feature)))) }
     ensures proxy { OnOk result (All IsProxyContent read.old.contents → All IsProxyContent read.new.contents) }
 {
     match content_at(source.meta, members, feature) {
@@ -81,13 +83,14 @@ fn add_feature(
 fn read_features(
     source: &Source,
     number: u32,
-    members: &Map<String, JsonValue>,
+    members: &Members,
     features: &[FeatureNo],
 ) -> Result<ReadContents, AllocError>
-    ensures value { IfOk result (λ r. Numbered source.now.meta.now source.now.found.now number (λ ps path. r ≡ contents_so_far source.now.meta.now (base_of source.now.uri.now) ps path (filter_map (entry_at source.now.meta.now (members_view members.now.entries)) features.now))) }
+    ensures value { IfOk result (λ r. Numbered source.now.meta.now source.now.found.now number (λ ps path. r ≡ contents_so_far source.now.meta.now (base_of source.now.uri.now) ps path (filter_map (entry_at source.now.meta.now (members_view members.now.items)) features.now))) }
     ensures proxy { IfOk result (λ r. All IsProxyContent r.contents) }
 {
-    let mut read = no_contents(source.alloc);
+    let room = members.len().min(features.len());
+    let mut read = no_contents(source.alloc, room)?;
     'features: for feature in features {
         add_feature(&mut read, source, number, members, *feature)?;
     }
@@ -103,9 +106,9 @@ fn read_contents(source: &Source, part: &FoundPart) -> Result<ReadContents, Allo
     match part.known {
         Some((class, members)) => match source.meta.features(class) {
             Some(features) => read_features(source, part.number, members, features),
-            None => Ok(no_contents(source.alloc)),
+            None => no_contents(source.alloc, 0),
         },
-        None => Ok(no_contents(source.alloc)),
+        None => no_contents(source.alloc, 0),
     }
 }
 
@@ -132,8 +135,9 @@ pub(crate) fn read_objects(source: &Source) -> Result<ReadObjects, AllocError>
     ensures value { IfOk result (λ r. (ps : List Part) → Knows source.now.meta.now source.now.found.now ps → r ≡ objects_so_far source.now.meta.now (base_of source.now.uri.now) ps ps) }
     ensures proxy { IfOk result (λ r. All IsProxyObject r.objects) }
 {
+    let objects = Vec::with_capacity(source.alloc, source.found.parts.len())?;
     let mut read = ReadObjects {
-        objects: Seq::new(source.alloc),
+        objects: Seq::from_vec(objects),
         is_lost: false,
     };
     'parts: for part in source.found.parts.as_slice() {

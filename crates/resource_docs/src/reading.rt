@@ -2,7 +2,7 @@
 ghost use Rattle.std.specs.Prelude.{◌≡◌, ◌≤◌, Some, false, map};
 ghost use Rattle.std.specs.Option.{option_map_or};
 ghost use Rattle.serde_json.specs.Data.{Data, depth};
-ghost use Rattle.serde_json.specs.View.{items_view, view};
+ghost use Rattle.borrowed_json.specs.View.{items_view, view};
 ghost use Rattle.doc_parts.specs.FoundParts.{Knows, roots_from};
 ghost use Rattle.doc_parts.specs.Layout.{new_top, top as top_meant};
 ghost use Rattle.doc_parts.specs.Parts.{parts, root_parts};
@@ -15,10 +15,11 @@ use crate::faults::{has_first_format, sense_cause, shape_cause};
 use crate::objects::read_objects;
 use crate::roots::read_roots;
 use crate::source::Source;
+use borrowed_json::{Json, JsonFault, read_json};
 use doc_parts::{TopMembers, find_parts, top};
+use json::Scratch;
 use mm_meta::Meta;
 use mm_types::{DocFault, Refused};
-use serde_json::Value as JsonValue;
 use std::alloc::Global;
 
 /// How deep arrays and objects nest at most in JSON that is read.
@@ -26,7 +27,7 @@ const NESTING: usize = 127;
 
 /// Reads the document whose parts were found and have the right shape, and of which is known whether it has the first
 /// format.
-fn read_found(source: &Source, has_first_format: bool, roots: &[JsonValue]) -> Result<Doc, Refused>
+fn read_found(source: &Source, has_first_format: bool, roots: &[Json]) -> Result<Doc, Refused>
     ensures { (d : Data) → Knows source.now.meta.now source.now.found.now (parts source.now.meta.now d) → has_first_format ≡ option_map_or first_meant (top_meant d) false
         → root_parts d ≡ roots_from (map view roots.now)
         → Answers result (unless_faulty (sense_meant source.now.meta.now (base_of source.now.uri.now) d (parts source.now.meta.now d) (doc_read source.now.meta.now (base_of source.now.uri.now) d))
@@ -82,13 +83,25 @@ fn read_top(alloc: Global, meta: &Meta, uri: &str, top: TopMembers) -> Result<Do
 }
 
 /// Reads a document that nests no deeper than JSON does that is read.
-fn read_value(alloc: Global, meta: &Meta, uri: &str, json: &JsonValue) -> Result<Doc, Refused>
+fn read_value(alloc: Global, meta: &Meta, uri: &str, json: &Json) -> Result<Doc, Refused>
     requires { depth (view json.now) ≤ NESTING }
     ensures { Answers result (reads meta.now (base_of uri.now) (view json.now)) }
 {
     match top(json) {
         Some(top) => read_top(alloc, meta, uri, top),
         None => Err(Refused::Document(DocFault::Layout)),
+    }
+}
+
+/// Reads a document that is UTF-8.
+fn read_text(alloc: Global, meta: &Meta, uri: &str, text: &str) -> Result<Doc, Refused>
+    ensures { Reads result meta.now uri.now text.now }
+{
+    let mut scratch = Scratch::new(alloc);
+    match read_json(alloc, text, &mut scratch) {
+        Ok(value) => read_value(alloc, meta, uri, &value),
+        Err(JsonFault::Memory) => Err(Refused::Memory),
+        Err(JsonFault::Syntax) => Err(Refused::Document(DocFault::Syntax)),
     }
 }
 
@@ -110,14 +123,13 @@ fn read_value(alloc: Global, meta: &Meta, uri: &str, json: &JsonValue) -> Result
 /// - `Depth` if an object is below level 40.
 ///
 /// `Memory` if memory is refused, or if there are more than 2^32 objects or values, whatever else applies; no other
-/// refusal. References into other resources become proxies, by their joined URIs. The time is linear in the document,
-/// but for the logarithm that the keys of a large object cost.
+/// refusal. References into other resources become proxies, by their joined URIs. The time is linear in the document, for
+/// each metamodel: the members of an object are looked through once for each feature of its class, some four times in all.
 pub fn read_doc(alloc: Global, meta: &Meta, uri: &str, bytes: &[u8]) -> Result<Doc, Refused>
     ensures { Reads result meta.now uri.now bytes.now }
 {
-    match JsonValue::from_slice(alloc, bytes) {
-        Ok(value) => read_value(alloc, meta, uri, &value),
-        Err(error) if error.is_memory() => Err(Refused::Memory),
+    match str::from_utf8(bytes) {
+        Ok(text) => read_text(alloc, meta, uri, text),
         Err(_) => Err(Refused::Document(DocFault::Syntax)),
     }
 }

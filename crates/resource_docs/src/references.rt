@@ -1,6 +1,6 @@
 //! What the text of a reference is read as, among the parts that were found.
 ghost use Rattle.std.specs.Prelude.{◌≡◌, IfOk, IfSome, List, None, Some, if◌then◌else◌, slice_get};
-ghost use Rattle.serde_json.specs.View.{view};
+ghost use Rattle.borrowed_json.specs.View.{view};
 ghost use Rattle.doc_parts.specs.FoundParts.{Knows, conforms_seen, part_seen};
 ghost use Rattle.doc_parts.specs.Parts.{Part};
 ghost use Rattle.doc_parts.specs.declared.found.FoundPart.{FoundPart};
@@ -10,10 +10,10 @@ ghost use Rattle.resource_docs.specs.declared.target.Target.TheVariants.{Here};
 
 use crate::source::Source;
 use crate::target::{Target, target_of};
+use borrowed_json::Json;
 use doc_parts::{FoundPart, FoundParts};
 use mm_meta::Meta;
 use mm_types::{ClassNo, ObjectNo, Value};
-use serde_json::Value as JsonValue;
 use std::alloc::AllocError;
 use web_uris::Path;
 
@@ -64,7 +64,7 @@ fn led_to(meta: &Meta, found: &FoundParts, class: ClassNo, target: Target) -> Op
 pub(crate) fn reference_value(
     source: &Source,
     class: ClassNo,
-    json: &JsonValue,
+    json: &Json,
 ) -> Result<Option<Value>, AllocError>
     ensures value { IfOk result (λ v. (ps : List Part) → Knows source.now.meta.now source.now.found.now ps → v ≡ value_meant source.now.meta.now (base_of source.now.uri.now) ps class (view json.now)) }
     ensures proxy { IfOk result (λ v. IfSome v IsProxyValue) }

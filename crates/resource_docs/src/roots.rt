@@ -1,15 +1,15 @@
 //! The roots of a document, among its objects.
 ghost use Rattle.std.specs.Prelude.{◌≡◌, ◌++◌, [], IfOk, List, OnOk, filter_map, map, option_map, option_to_list};
 ghost use Rattle.mm_types.specs.Resolved.{Metamodel};
-ghost use Rattle.serde_json.specs.View.{view};
+ghost use Rattle.borrowed_json.specs.View.{view};
 ghost use Rattle.web_uris.specs.Paths.{new_path};
 ghost use Rattle.doc_parts.specs.FoundParts.{Knows, roots_from};
 ghost use Rattle.doc_parts.specs.Parts.{Part};
 ghost use Rattle.resource_docs.specs.Read.{root_number};
 
+use borrowed_json::Json;
 use doc_parts::{FoundParts, PartKey};
 use mm_types::{ObjectNo, Seq};
-use serde_json::Value as JsonValue;
 use std::alloc::{AllocError, Global};
 
 /// Adds the number of the root at a position.
@@ -34,11 +34,11 @@ fn add_root(
 pub(crate) fn read_roots(
     alloc: Global,
     found: &FoundParts,
-    roots: &[JsonValue],
+    roots: &[Json],
 ) -> Result<Seq<ObjectNo>, AllocError>
     ensures { IfOk result (λ r. (m : Metamodel) (ps : List Part) → Knows m found.now ps → r ≡ filter_map (λ p. root_number ps p.path) (roots_from (map view roots.now))) }
 {
-    let mut numbers = Seq::new(alloc);
+    let mut numbers = Seq::from_vec(Vec::with_capacity(alloc, roots.len())?);
     'roots: for (i, _root) in roots.iter().enumerate() {
         add_root(&mut numbers, found, i)?;
     }

@@ -1,8 +1,8 @@
 //! The values under a feature are read.
-ghost use Rattle.std.specs.Prelude.{◌≡◌, ◌++◌, ◌||◌, ◌∷◌, [], IfOk, IfSome, List, OnOk, Some, length, map, option_map};
+ghost use Rattle.std.specs.Prelude.{◌≡◌, ◌++◌, ◌||◌, ◌∷◌, [], IfOk, IfSome, List, OnOk, Some, false, length, map, option_map};
 ghost use Rattle.std.specs.List.{All};
 ghost use Rattle.serde_json.specs.Data.{Data};
-ghost use Rattle.serde_json.specs.View.{view};
+ghost use Rattle.borrowed_json.specs.View.{view};
 ghost use Rattle.web_uris.specs.Paths.{new_step, with_step};
 ghost use Rattle.doc_parts.specs.Parts.{new_entry, number_of, step_to};
 ghost use Rattle.resource_docs.specs.Reading.{Numbered, entry_read, new_values, values_so_far};
@@ -11,10 +11,10 @@ ghost use Rattle.resource_docs.specs.Values.{IsProxyValue, is_link as link_meant
 
 use crate::references::reference_value;
 use crate::source::Source;
+use borrowed_json::Json;
 use doc_parts::{PartKey, attribute_value, values_of};
 use mm_types::{FeatureNo, Kind, ObjectNo, Seq, Value};
-use serde_json::Value as JsonValue;
-use std::alloc::AllocError;
+use std::alloc::{AllocError, Global};
 
 /// What is read under a feature: its values, and whether a reference among them is lost.
 #[derive(Drop)]
@@ -62,7 +62,7 @@ fn value_of(
     feature: FeatureNo,
     kind: &Kind,
     position: u32,
-    json: &JsonValue,
+    json: &Json,
 ) -> Result<Option<Value>, AllocError>
     ensures value { IfOk result (λ v. Numbered source.now.meta.now source.now.found.now number (λ ps path. v ≡ value_meant source.now.meta.now (base_of source.now.uri.now) ps path feature kind.now (position, view json.now))) }
     ensures proxy { IfOk result (λ v. IfSome v IsProxyValue) }
@@ -110,7 +110,7 @@ fn add_value(
     feature: FeatureNo,
     kind: &Kind,
     position: usize,
-    json: &JsonValue,
+    json: &Json,
 ) -> Result<(), AllocError>
     ensures value { OnOk result (Numbered source.now.meta.now source.now.found.now number (λ ps path. (ds : List Data) → position ≡ length ds
         → read.old ≡ values_so_far source.now.meta.now (base_of source.now.uri.now) ps path feature kind.now ds
@@ -127,21 +127,29 @@ fn add_value(
     Ok(())
 }
 
+/// Nothing yet, with room for so many values.
+fn no_values(alloc: Global, room: usize) -> Result<ReadValues, AllocError>
+    ensures { IfOk result (λ r. r ≡ new_values [] false) }
+{
+    let values = Vec::with_capacity(alloc, room)?;
+    Ok(ReadValues {
+        values: Seq::from_vec(values),
+        is_lost: false,
+    })
+}
+
 /// Reads values under a feature. Errs only if memory is refused, or if there are more than 2^32 of them.
 fn read_values(
     source: &Source,
     number: u32,
     feature: FeatureNo,
     kind: &Kind,
-    values: &[JsonValue],
+    values: &[Json],
 ) -> Result<ReadValues, AllocError>
     ensures value { IfOk result (λ r. Numbered source.now.meta.now source.now.found.now number (λ ps path. r ≡ values_so_far source.now.meta.now (base_of source.now.uri.now) ps path feature kind.now (map view values.now))) }
     ensures proxy { IfOk result (λ r. All IsProxyValue r.values) }
 {
-    let mut read = ReadValues {
-        values: Seq::new(source.alloc),
-        is_lost: false,
-    };
+    let mut read = no_values(source.alloc, values.len())?;
     'values: for (i, json) in values.iter().enumerate() {
         add_value(&mut read, source, number, feature, kind, i, json)?;
     }
@@ -154,7 +162,7 @@ pub(crate) fn read_content(
     source: &Source,
     number: u32,
     feature: FeatureNo,
-    content: &JsonValue,
+    content: &Json,
 ) -> Result<ReadValues, AllocError>
     ensures value { IfOk result (λ r. Numbered source.now.meta.now source.now.found.now number (λ ps path. r ≡ entry_read source.now.meta.now (base_of source.now.uri.now) ps path (new_entry feature (view content.now)))) }
     ensures proxy { IfOk result (λ r. All IsProxyValue r.values) }
@@ -167,9 +175,6 @@ pub(crate) fn read_content(
             &found.kind,
             values_of(source.meta, feature, content),
         ),
-        None => Ok(ReadValues {
-            values: Seq::new(source.alloc),
-            is_lost: false,
-        }),
+        None => no_values(source.alloc, 0),
     }
 }

@@ -1,5 +1,5 @@
 use Rattle.std.proofs.Common.{◌∙◌, sym}
-use Rattle.serde_json.specs.View.{view}
+use Rattle.borrowed_json.specs.View.{view}
 use Rattle.doc_parts.specs.Parts.{new_entry}
 use Rattle.doc_parts.proofs.ContentLemmas.{content_by_parts}
 use Rattle.doc_parts.proofs.contents.is_content.Goals as goal

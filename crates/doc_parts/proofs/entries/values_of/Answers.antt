@@ -1,5 +1,5 @@
 use Rattle.std.proofs.Common.{◌∙◌, ap, map, sym}
-use Rattle.serde_json.specs.View.{view}
+use Rattle.borrowed_json.specs.View.{view}
 use Rattle.doc_parts.proofs.ContentLemmas.{many_values}
 use Rattle.doc_parts.proofs.entries.values_of.Goals as goal
 

@@ -1,5 +1,5 @@
 use Rattle.std.proofs.Common.{◌++◌, List, flat_map, map, take}
-use Rattle.serde_json.specs.View.{view}
+use Rattle.borrowed_json.specs.View.{view}
 use Rattle.doc_parts.specs.FoundParts.{Knows, roots_from}
 use Rattle.doc_parts.specs.Parts.{Part, parts_from}
 use Rattle.doc_parts.proofs.walk.walk_roots.Given as goal

@@ -1,6 +1,6 @@
 use Rattle.std.proofs.Common.{◌∙◌, ap, take}
 use Rattle.std.specs.List.{filter_map}
-use Rattle.serde_json.specs.View.{members_view}
+use Rattle.borrowed_json.specs.View.{members_view}
 use Rattle.doc_parts.specs.Parts.{entry_at}
 use Rattle.resource_docs.specs.Reading.{contents_so_far}
 use Rattle.resource_docs.specs.Texts.{base_of}
@@ -11,8 +11,8 @@ pub features-preserved : goal.features-preserved
 features-preserved c =
     record {
       value = λ ps path known first.
-          c.in_ok-add_feature.ensures.value ps path known first (filter_map (entry_at c.args.source.now.meta.now (members_view c.args.members.now.entries)) (take c.features.feature-index c.args.features.now)) (c.features.invariant.value ps path known first)
+          c.in_ok-add_feature.ensures.value ps path known first (filter_map (entry_at c.args.source.now.meta.now (members_view c.args.members.now.items)) (take c.features.feature-index c.args.features.now)) (c.features.invariant.value ps path known first)
           ∙ ap (contents_so_far c.args.source.now.meta.now (base_of c.args.source.now.uri.now) ps path)
-          (entries_more c.args.source.now.meta.now (members_view c.args.members.now.entries) c.args.features.now c.features.feature-index _ c.features-test.true);
+          (entries_more c.args.source.now.meta.now (members_view c.args.members.now.items) c.args.features.now c.features.feature-index _ c.features-test.true);
       proxy = c.in_ok-add_feature.ensures.proxy c.features.invariant.proxy;
     }

@@ -1,6 +1,6 @@
 use Rattle.std.proofs.Common.{◌∙◌, Option, ap, false, map, subst, sym}
 use Rattle.std.specs.Option.{option_map_or}
-use Rattle.serde_json.specs.View.{items_view, view}
+use Rattle.borrowed_json.specs.View.{items_view, view}
 use Rattle.doc_parts.specs.Layout.{Top, new_top}
 use Rattle.doc_parts.specs.Parts.{parts}
 use Rattle.doc_parts.specs.FoundParts.{roots_from}

@@ -1,6 +1,6 @@
 use Rattle.std.proofs.Common.{map, subst}
 use Rattle.std.specs.Prelude.{flat_map}
-use Rattle.serde_json.specs.View.{view}
+use Rattle.borrowed_json.specs.View.{view}
 use Rattle.doc_parts.specs.FoundParts.{Knows, roots_from}
 use Rattle.doc_parts.specs.Parts.{parts_from}
 use Rattle.resource_docs.proofs.CauseLemmas.{found_parts}

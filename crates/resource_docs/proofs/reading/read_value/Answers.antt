@@ -1,5 +1,5 @@
 use Rattle.std.proofs.Common.{sym}
-use Rattle.serde_json.specs.View.{view}
+use Rattle.borrowed_json.specs.View.{view}
 use Rattle.resource_docs.specs.Texts.{base_of}
 use Rattle.resource_docs.proofs.CauseLemmas.{no_top}
 use Rattle.resource_docs.proofs.reading.read_value.Goals as goal

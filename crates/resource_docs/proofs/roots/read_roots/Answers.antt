@@ -1,7 +1,7 @@
 use Rattle.std.proofs.Common.{◌∙◌, ◌++◌, [], ap, map, sym, take}
 use Rattle.std.specs.Prelude.{option_to_list}
 use Rattle.std.specs.List.{filter_map}
-use Rattle.serde_json.specs.View.{view}
+use Rattle.borrowed_json.specs.View.{view}
 use Rattle.web_uris.specs.Paths.{new_path}
 use Rattle.doc_parts.specs.FoundParts.{roots_from}
 use Rattle.doc_parts.proofs.WalkLemmas.{root, roots_next}

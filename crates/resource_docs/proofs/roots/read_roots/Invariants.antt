@@ -1,6 +1,6 @@
 use Rattle.std.proofs.Common.{◌≡◌, List, map, take}
 use Rattle.std.specs.List.{filter_map}
-use Rattle.serde_json.specs.View.{view}
+use Rattle.borrowed_json.specs.View.{view}
 use Rattle.mm_types.specs.Resolved.{Metamodel}
 use Rattle.doc_parts.specs.FoundParts.{Knows, roots_from}
 use Rattle.doc_parts.specs.Parts.{Part}

@@ -1,5 +1,5 @@
 use Rattle.std.proofs.Common.{◌∙◌, ap, map, sym, take}
-use Rattle.serde_json.specs.View.{view}
+use Rattle.borrowed_json.specs.View.{view}
 use Rattle.resource_docs.specs.Reading.{values_so_far}
 use Rattle.resource_docs.specs.Texts.{base_of}
 use Rattle.resource_docs.proofs.ReadingLemmas.{views_more, views_taken}
