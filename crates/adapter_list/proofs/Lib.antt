@@ -3,6 +3,7 @@ pub mod NumberLemmas
 pub mod HearingLemmas
 pub mod TargetLemmas
 pub mod PlaceLemmas
+pub mod HeardLemmas
 pub mod ReserveLemmas
 pub mod DeliveryLemmas
 pub mod RoundLemmas

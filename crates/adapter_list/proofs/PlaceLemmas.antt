@@ -222,7 +222,7 @@ above-all p b all zs none whole = or-false b ∙ ap (λ (ws : List Node). b || l
 
 ----------------------------------------------------------------- those who hear a node
 
-none-any : (xs : List Node) → list_any (λ (_ : Node). false) xs ≡ false
+pub none-any : (xs : List Node) → list_any (λ (_ : Node). false) xs ≡ false
 none-any [] = refl
 none-any (x ∷ xs) = none-any xs
 
@@ -230,7 +230,7 @@ none-any (x ∷ xs) = none-any xs
 deep-at : List Target → Node → Bool
 deep-at ts a = option_map_or (λ t. t.deep) (find (is_at a) ts) false
 
-shuffled : (s p r d : Bool) → ((s || p) || (r || d)) ≡ ((s || r) || (p || d))
+pub shuffled : (s p r d : Bool) → ((s || p) || (r || d)) ≡ ((s || r) || (p || d))
 shuffled true p r d = refl
 shuffled false true true d = refl
 shuffled false true false d = refl
@@ -395,10 +395,7 @@ touched-more p b new all os i d low made whole =
 pub touched-all : (p : ObjectNo → Bool) (b all : Bool) (os : List ObjectNo) (i : ℕ) → length os ≤ i → (b || list_any p (drop i os)) ≡ all → b ≡ all
 touched-all p b all os i past whole = or-false b ∙ ap (λ (ds : List ObjectNo). b || list_any p ds) (sym (drop_all i os past)) ∙ whole
 
--- an entry that is not asked for adds no place
-pub not-asked : (rs : List Listed) (only_deep : Bool) (k : ℕ) (e : Entry) (b : Bool) → only_deep ≡ true → e.deep ≡ false → b ≡ (b || finds rs only_deep k e)
-not-asked rs only_deep k e b asked flat = none-added b (finds rs only_deep k e) (ap (λ d. (not d || e.deep) && has_number_at rs e.no k) asked ∙ ap (λ d. d && has_number_at rs e.no k) flat)
-
+-- an entry that is asked for adds the place of its adapter
 pub asked-for : (rs : List Listed) (only_deep : Bool) (k : ℕ) (e : Entry) (b new : Bool) → (not only_deep || e.deep) ≡ true → new ≡ (b || has_number_at rs e.no k) → new ≡ (b || finds rs only_deep k e)
 asked-for rs only_deep k e b new asked now = now ∙ ap (λ d. b || (d && has_number_at rs e.no k)) (sym asked)
 

@@ -6,7 +6,7 @@ use Rattle.std.specs.Ordering.{is_eq, nat_cmp}
 use Rattle.std.specs.declared.cmp.Ordering.TheVariants.{Less}
 use Rattle.std.proofs.lemmas.Bool.Decides.{nat_tests}
 use Rattle.std.specs.Option.{option_map_or}
-use Rattle.std.proofs.lemmas.Bool.{eqb-false, false≢true, ne_eqb}
+use Rattle.std.proofs.lemmas.Bool.{and_parts, eqb-false, false≢true, ne_eqb}
 use Rattle.std.proofs.lemmas.List.{drop_all, drop_more}
 use Rattle.adapters.specs.declared.adapter.NoRoom.{NoRoom}
 use Rattle.adapters.specs.declared.adapter.NoRoom.TheVariants as room
@@ -15,7 +15,7 @@ use Rattle.notice_chain.specs.View.{View}
 use Rattle.notice_chain.specs.Listed.{Above, Listed, heard_of, is_full, is_chain_full}
 use Rattle.notice_chain.specs.declared.notice.Notice.{Notice}
 use Rattle.adapter_list.specs.Attached.{HasReserve}
-use Rattle.adapter_list.specs.Counts.{IsCounted, IsFirstFull, IsFullFor, IsReadyFor, copies_len, is_ordinal_of, told_at_ordinal}
+use Rattle.adapter_list.specs.Counts.{IsCounted, IsFirstFull, IsFullFor, IsReadyFor, ascends, copies_len, is_after, is_ordinal_of, ordinals, told_at_ordinal}
 use Rattle.adapter_list.specs.Refusals.{IsChainRefusal, refusal_of}
 use Rattle.adapter_list.specs.Rounds.{round_copies}
 use Rattle.adapter_list.specs.Targets.{targets_at}
@@ -195,6 +195,79 @@ none-before j (x ∷ xs) (suc i) sorted low h = none-before j xs i sorted.1 (ome
 pub first-full : (rs : List Listed) (ps qs : List ℕ) (cs : List (ℕ × Notice)) (all : List ℕ) (i : ℕ) → IsStrictlySortedBy nat_cmp all → i < length all → length qs ≡ length ps → ((k : ℕ) → slice_index ps k ≤ slice_index qs k) → AreAsked rs ps cs (drop i all) → IsFullFor rs cs (get_or all i 0) → IsFirstFull rs qs cs (get_or all i 0)
 first-full rs ps qs cs all i sorted low same more asked full =
     record { full = full; earlier = λ j less. ready-more rs ps qs j (copies_len cs j) same (more j) (asked j (none-before j all i sorted low less)) }
+
+----------------------------------------------------------------- one copy each
+
+-- copies that ascend
+behind : (n : ℕ) (before : Option ℕ) (ks : List ℕ) → ascends before ks ≡ true → before ≡ Some n → AllByRecursion (λ y. nat_cmp n y ≡ Less) ks
+behind n before [] h is = tt
+behind n before (k ∷ ks) h is =
+    let both = and_parts (is_after before k) (ascends (Some k) ks) h in
+    let low : n < k = lt-from n k (sym (ap (λ o. is_after o k) is) ∙ both.0) in
+    (less-is n k low, further n k ks low (behind k (Some k) ks both.1 refl))
+  where
+    lt-from : (i j : ℕ) → nat_lt i j ≡ true → i < j
+    lt-from i j h = grind (arith, nat_tests, h)
+
+    less-is : (i j : ℕ) → i < j → nat_cmp i j ≡ Less
+    less-is i j h = grind (arith, nat_tests)
+
+    further : (i j : ℕ) (xs : List ℕ) → i < j → AllByRecursion (λ y. nat_cmp j y ≡ Less) xs → AllByRecursion (λ y. nat_cmp i y ≡ Less) xs
+    further i j [] low all = tt
+    further i j (x ∷ xs) low all = (let next : j < x = less-than j x all.0 in less-is i x (omega (arith, low, next)), further i j xs low all.1)
+
+pub ascending-sorted : (before : Option ℕ) (ks : List ℕ) → ascends before ks ≡ true → IsStrictlySortedBy nat_cmp ks
+unfolding IsStrictlySortedBy
+ascending-sorted before [] h = tt
+ascending-sorted before (k ∷ ks) h =
+    let both = and_parts (is_after before k) (ascends (Some k) ks) h in
+    (behind k (Some k) ks both.1 refl, ascending-sorted (Some k) ks both.1)
+
+-- whether an ordinal is among those of the copies
+pub ordinals-are : (cs : List (ℕ × Notice)) (k : ℕ) → list_any (nat_eq k) (ordinals cs) ≡ is_ordinal_of cs k
+ordinals-are [] k = refl
+ordinals-are (c ∷ cs) k = ap (λ b. b || list_any (nat_eq k) (ordinals cs)) (flip k c.0) ∙ ap (λ b. nat_eq c.0 k || b) (ordinals-are cs k)
+  where
+    flip : (i j : ℕ) → nat_eq i j ≡ nat_eq j i
+    flip i j = grind (arith, nat_tests)
+
+none-equal : (x : ℕ) (ys : List ℕ) → AllByRecursion (λ y. nat_cmp x y ≡ Less) ys → list_any (nat_eq x) ys ≡ false
+none-equal x [] all = refl
+none-equal x (y ∷ ys) all = let less : x < y = less-than x y all.0 in ap (λ b. b || list_any (nat_eq x) ys) (ne_eqb x y (λ (e : x ≡ y). omega (arith, less, e))) ∙ none-equal x ys all.1
+
+none-same : (x : ℕ) (ys : List ℕ) (j : ℕ) → AllByRecursion (λ y. nat_cmp x y ≡ Less) ys → j < length ys → nat_eq x (get_or ys j 0) ≡ false
+none-same x [] j all low = absurd (omega (arith, low))
+none-same x (y ∷ ys) zero all low = let less : x < y = less-than x y all.0 in ne_eqb x y (λ (e : x ≡ y). omega (arith, less, e))
+none-same x (y ∷ ys) (suc j) all low = none-same x ys j all.1 (omega (arith, low))
+
+-- of copies that ascend each adapter gets one
+pub one-each : (before : Option ℕ) (cs : List (ℕ × Notice)) (i : ℕ) → ascends before (ordinals cs) ≡ true → i < length (ordinals cs) → copies_len cs (get_or (ordinals cs) i 0) ≡ 1
+one-each before [] i h low = absurd (omega (arith, low))
+one-each before (c ∷ cs) i h low = by i low (λ j within. one-each (Some c.0) cs j (and_parts (is_after before c.0) (ascends (Some c.0) (ordinals cs)) h).1 within)
+  where
+    both : (is_after before c.0 ≡ true) × (ascends (Some c.0) (ordinals cs) ≡ true)
+    both = and_parts (is_after before c.0) (ascends (Some c.0) (ordinals cs)) h
+
+    later : AllByRecursion (λ y. nat_cmp c.0 y ≡ Less) (ordinals cs)
+    later = behind c.0 (Some c.0) (ordinals cs) both.1 refl
+
+    by : (j : ℕ) → j < suc (length (ordinals cs)) → ((k : ℕ) → k < length (ordinals cs) → copies_len cs (get_or (ordinals cs) k 0) ≡ 1) → copies_len (c ∷ cs) (get_or (c.0 ∷ ordinals cs) j 0) ≡ 1
+    by zero low rest =
+        ap length (copies_for-here c.0 c.0 c.1 cs refl)
+        ∙ ap suc (is_place-none cs c.0 (sym (ordinals-are cs c.0) ∙ none-equal c.0 (ordinals cs) later))
+    by (suc j) low rest =
+        ap length (copies_for-other c.0 (get_or (ordinals cs) j 0) c.1 cs (eqb-false c.0 (get_or (ordinals cs) j 0) (none-same c.0 (ordinals cs) j later (omega (arith, low)))))
+        ∙ rest j (omega (arith, low))
+
+-- the ordinal of a copy, by its index
+pub ordinals-len : (cs : List (ℕ × Notice)) → length (ordinals cs) ≡ length cs
+ordinals-len [] = refl
+ordinals-len (c ∷ cs) = ap suc (ordinals-len cs)
+
+pub ordinal-at : (cs : List (ℕ × Notice)) (i : ℕ) (x : ℕ × Notice) → i < length cs → x ≡ get_or cs i x → get_or (ordinals cs) i 0 ≡ x.0
+ordinal-at [] i x low is = absurd (omega (arith, low))
+ordinal-at (c ∷ cs) zero x low is = ap (λ (y : ℕ × Notice). y.0) (sym is)
+ordinal-at (c ∷ cs) (suc i) x low is = ordinal-at cs i x (omega (arith, low)) is
 
 ----------------------------------------------------------------- full
 

@@ -1,5 +1,5 @@
 -- How many copies each adapter gets, whether it is ready for them, and which adapter refuses them.
-use Rattle.std.specs.Prelude.{◌≡◌, ℕ, Bool, nat_eq, ◌+◌, ◌^◌, ◌<◌, ◌≤◌, List, length, map, slice_index, Option, Some, None}
+use Rattle.std.specs.Prelude.{◌≡◌, ◌&&◌, ℕ, Bool, true, nat_eq, nat_lt, [], ◌∷◌, ◌+◌, ◌^◌, ◌<◌, ◌≤◌, List, length, map, slice_index, Option, Some, None}
 use Rattle.std.specs.List.{list_any}
 use Rattle.notice_chain.specs.Listed.{Listed}
 use Rattle.notice_chain.specs.declared.notice.Notice.{Notice}
@@ -34,6 +34,20 @@ pub record IsFullFor (rs : List Listed) (cs : List (ℕ × Notice)) (k : ℕ) : 
 pub record IsFirstFull (rs : List Listed) (ps : List ℕ) (cs : List (ℕ × Notice)) (k : ℕ) : Type 0 where
   pub full : IsFullFor rs cs k
   pub earlier : (j : ℕ) → j < k → IsReadyFor rs ps j (copies_len cs j)
+
+-- the ordinals of the adapters that copies are for
+abbrev pub ordinals : List (ℕ × Notice) → List ℕ
+ordinals cs = map (λ c. c.0) cs
+
+-- an ordinal comes after another, if there is one before it
+abbrev pub is_after : Option ℕ → ℕ → Bool
+is_after None k = true
+is_after (Some j) k = nat_lt j k
+
+-- each ordinal is greater than the one before it
+abbrev pub ascends : Option ℕ → List ℕ → Bool
+ascends before [] = true
+ascends before (k ∷ ks) = is_after before k && ascends (Some k) ks
 
 -- some copy is for ordinal k
 abbrev pub is_ordinal_of : List (ℕ × Notice) → ℕ → Bool

@@ -1,6 +1,6 @@
 -- The adapters that hear the notices of a node, by their ordinals in attach order, and the copies that they get.
-use Rattle.std.specs.Prelude.{◌≡◌, ℕ, suc, Bool, List, [], ◌∷◌, map, IfSome, if◌then◌else◌}
-use Rattle.std.specs.List.{list_any}
+use Rattle.std.specs.Prelude.{◌≡◌, ℕ, suc, Bool, false, List, [], ◌∷◌, map, IfSome, if◌then◌else◌}
+use Rattle.std.specs.List.{AllByRecursion, list_any}
 use Rattle.mm_types.specs.declared.numbers.Node.{Node}
 use Rattle.mm_types.specs.declared.numbers.Node.TheVariants as node
 use Rattle.mm_types.specs.declared.numbers.ObjectNo.{ObjectNo}
@@ -8,7 +8,7 @@ use Rattle.notice_chain.specs.Listed.{Above, Listed, brings_in, has_target}
 use Rattle.notice_chain.specs.declared.notice.Notice.{Notice}
 use Rattle.adapter_list.specs.declared.hearers.Hearers.{Hearers}
 
--- an adapter hears the notices of a node
+-- this adapter hears the notices of a node
 abbrev pub hears_node : Above → Node → Listed → Bool
 hears_node up x r = list_any (brings_in up x) r.targets
 
@@ -20,6 +20,14 @@ ordinals_from p k (r ∷ rs) = if p r then k ∷ ordinals_from p (suc k) rs else
 -- the ordinals of those who hear the notices of a node
 abbrev pub hearers : Above → Node → List Listed → List ℕ
 hearers up x rs = ordinals_from (hears_node up x) 0 rs
+
+-- an adapter hears the notices of a node
+abbrev pub is_heard : Above → Node → List Listed → Bool
+is_heard up x rs = list_any (hears_node up x) rs
+
+-- nobody hears a chain
+abbrev pub IsUnheard : Above → List Notice → List Listed → Type 0
+IsUnheard up ns rs = AllByRecursion (λ n. is_heard up n.notifier rs ≡ false) ns
 
 -- an adapter has one of some objects as a target
 abbrev pub is_touched : List ObjectNo → Listed → Bool

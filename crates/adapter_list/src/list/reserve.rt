@@ -1,11 +1,11 @@
 //! What the adapters reserve for the copies of a round.
-ghost use Rattle.std.specs.Prelude.{◌≡◌, ◌≤◌, ◌<◌, ◌+◌, ◌^◌, ◌↔◌, ℕ, map, length, slice_index, OnOk, IfErr, IsErrOf};
+ghost use Rattle.std.specs.Prelude.{◌≡◌, None, true, ◌≤◌, ◌<◌, ◌+◌, ◌^◌, ◌↔◌, ℕ, map, length, slice_index, OnOk, IfErr, IsErrOf};
 ghost use Rattle.std.specs.List.{AllByRecursion};
-ghost use Rattle.adapter_list.specs.Counts.{IsFirstFull, IsReadyFor, copies_len, told_at_ordinal};
+ghost use Rattle.adapter_list.specs.Counts.{IsFirstFull, IsReadyFor, ascends, copies_len, ordinals, told_at_ordinal};
 ghost use Rattle.adapter_list.specs.Targets.{targets_at};
 
 use super::AdapterList;
-use crate::counts::{counts_of, ordinals_of};
+use crate::counts::{counts_of, is_ascending, ordinals_of};
 use adapters::{Adapter, NoRoom};
 use notice_chain::Notice;
 
@@ -21,8 +21,8 @@ impl<A: Adapter> AdapterList<A> {
         ensures full { IfErr result (λ e. e ≡ NoRoom.Full → (k : ℕ) × IsFirstFull self.old.0 self.new.1 copies.now k) }
     {
         self.lemma_keeps_rules();
-        if copies.is_empty() {
-            return Ok(());
+        if is_ascending(copies) {
+            return self.reserve_each(copies);
         }
         let Ok(counts) = counts_of(self.alloc, copies) else {
             return Err(NoRoom::Memory);
@@ -33,6 +33,25 @@ impl<A: Adapter> AdapterList<A> {
         for ordinal in &ordinals {
             let count = counts.get(ordinal).copied().unwrap_or(0);
             if let Err(reason) = self.reserve_for(*ordinal, count) {
+                return Err(reason);
+            }
+        }
+        Ok(())
+    }
+
+    /// `reserve_places` of copies that are for one adapter each, in attach order. Takes no memory but what the adapters take.
+    fn reserve_each(&mut self, copies: &[(usize, Notice)]) -> Result<(), NoRoom>
+        requires within { AllByRecursion (λ c. c.0 < length self.old.1) copies.now }
+        requires ascending { ascends None (ordinals copies.now) ≡ true }
+        ensures kept { self.new.0 ≡ self.old.0 }
+        ensures as_many { length self.new.1 ≡ length self.old.1 }
+        ensures no_fewer { (k : ℕ) → slice_index self.old.1 k ≤ slice_index self.new.1 k }
+        ensures ok { OnOk result ((k : ℕ) → IsReadyFor self.old.0 self.new.1 k (copies_len copies.now k)) }
+        ensures full { IfErr result (λ e. e ≡ NoRoom.Full → (k : ℕ) × IsFirstFull self.old.0 self.new.1 copies.now k) }
+    {
+        self.lemma_keeps_rules();
+        for (ordinal, _) in copies {
+            if let Err(reason) = self.reserve_for(*ordinal, 1) {
                 return Err(reason);
             }
         }

@@ -1,5 +1,4 @@
 use Rattle.std.proofs.Common.{◌≡◌, ◌+◌, ◌<◌, ◌≤◌, List, ℕ, length, slice_index, ap, sym, subst, ◌∙◌}
-use Rattle.links.specs.Holders.{above}
 use Rattle.adapters.specs.declared.adapter.NoRoom.TheVariants as room
 use Rattle.notice_chain.specs.Listed.{Listed, is_chain_full}
 use Rattle.notice_chain.specs.declared.notice.Notice.{Notice}
