@@ -24,6 +24,7 @@ mod LoadHolderLemmas
 mod LoadStoredLemmas
 mod LoadValueLemmas
 pub mod LoadedLemmas
+mod NotifierLemmas
 pub mod LonePutLemmas
 pub mod LossLemmas
 mod ObjectLegalLemmas

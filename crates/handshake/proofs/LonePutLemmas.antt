@@ -1,5 +1,6 @@
 -- What is planned of a change that puts one link, and edits nothing else.
-use Rattle.std.proofs.Common.{arith, eq-eqb, not, ◌≡◌, ◌++◌, ◌||◌, ◌&&◌, ℕ, suc, Bool, true, false, List, [], ◌∷◌, length, map, nat_lt, is_some, option_map, option_to_list, IfSome, Option, Some, None, if◌then◌else◌, refl, sym, ap, ◌∙◌}
+use Rattle.std.proofs.Common.{arith, eq-eqb, not, ◌≡◌, ◌++◌, ◌||◌, ◌&&◌, ℕ, suc, Bool, true, false, List, [], ◌∷◌, length, map, flat_map, nat_lt, is_some, option_map, option_to_list, IfSome, Option, Some, None, if◌then◌else◌, refl, sym, ap, subst, ◌∙◌}
+use Rattle.std.specs.List.{AllByRecursion}
 use Rattle.std.specs.Option.{option_map_or}
 use Rattle.std.proofs.Math.Bool.{and-false}
 use Rattle.std.proofs.lemmas.Bool.{true≢false}
@@ -16,12 +17,14 @@ use Rattle.mm_types.specs.Shapes.{is_containment, shape}
 use Rattle.mm_types.specs.declared.value.Value.{Value}
 use Rattle.mm_types.specs.declared.value.Value.TheVariants as value
 use Rattle.links.specs.Holders.{contained, holder}
+use Rattle.links.specs.Links.{far_end}
 use Rattle.links.specs.Plans.{put_edit}
 use Rattle.models.specs.Legal.{IsLegal}
 use Rattle.models.specs.Model.{Model, reading, values_at}
 use Rattle.models.proofs.PlaceLemmas.{index-at}
-use Rattle.containment.proofs.PartLemmas.{contains-itself, contains-reference, holder-at}
-use Rattle.models.specs.Reading.{Reading, at_end, is_repeat, position_for, shape_at}
+use Rattle.containment.proofs.PartLemmas.{all-append, contains-itself, contains-reference, holder-at}
+use Rattle.notice_chain.specs.declared.notice.Notice.{Notice}
+use Rattle.models.specs.Reading.{Reading, at_end, held_at, is_repeat, position_for, shape_at}
 use Rattle.removal.specs.TreeLinkEnds.{link_end}
 use Rattle.removal.specs.declared.link_end.LinkEnd.{LinkEnd}
 use Rattle.handshake.specs.declared.change.Change.{Change}
@@ -29,6 +32,11 @@ use Rattle.handshake.specs.declared.change.Change.TheVariants.{At}
 use Rattle.handshake.specs.declared.act.Act.TheVariants.{Set, Add}
 use Rattle.links.specs.declared.link.NewLink.{NewLink}
 use Rattle.handshake.specs.Displaced.{cut_by_new, cut_by_set, displaces, has_already, holding_link_end, is_plain_add, is_plain_set, is_taken, once, link_ends_if_single, yields}
+use Rattle.handshake.specs.FeatureChange.{feature_change}
+use Rattle.handshake.specs.FeatureChanges.{before_gain, chain, far_gain, feature_changes, gain_at, other_losses}
+use Rattle.handshake.specs.declared.change_kind.ChangeKind.{ChangeKind}
+use Rattle.handshake.specs.declared.change_kind.ChangeKind.TheVariants.{Gains}
+use Rattle.handshake.specs.declared.change_kind.FeatureChange.{FeatureChange}
 use Rattle.handshake.specs.Edits.{cut_of, link_edits, new_put}
 use Rattle.handshake.specs.Effects.{add_value, put_values, value_edits}
 use Rattle.handshake.specs.LonePuts.{lone_put, of_put, put_at}
@@ -37,6 +45,7 @@ use Rattle.handshake.specs.Refusals.{early_refusal, late_refusal}
 use Rattle.handshake.specs.Resolving.{opposite_end}
 use Rattle.handshake.proofs.CutLinkEndLemmas.{plain-not}
 use Rattle.handshake.proofs.PlanLemmas.{planned}
+use Rattle.handshake.proofs.NotifierLemmas.{told-notifiers}
 
 ---------------------------------------------------------------- nothing displaced
 
@@ -164,6 +173,37 @@ lone-planned : (s : Model) (c : Change) (p : NewLink) → IsLegal s → early_re
 lone-planned s (At e (Set v)) p legal early h = set-planned s e.node e.feature v p legal early h
 lone-planned s (At e (Add v i)) p legal early h = add-planned s e.node e.feature v i p legal early h
 lone-planned s _ p legal early h = absurd (none-some p h)
+
+---------------------------------------------------------------- its notices
+
+-- the opposite end is of the object
+far-notifier : (P : Node → Type 0) (o : ObjectNo) (w : Value) (q : Option FeatureNo) → (is_some q ≡ true → P (node.Object o)) → AllByRecursion (λ (t : FeatureChange). P t.at.node) (option_map_or (λ d. feature_change d (Gains w) ∷ []) (option_map (far_end o) q) [])
+far-notifier P o w None far = tt
+far-notifier P o w (Some g) far = (far refl, tt)
+
+both-notifiers : (P : Node → Type 0) (r : Reading) (e : End) (o : ObjectNo) (k : ChangeKind) → P e.node → (is_some (shape_at r e).opposite ≡ true → P (node.Object o)) → AllByRecursion (λ (t : FeatureChange). P t.at.node) (far_gain r e o ++ feature_change e k ∷ [])
+both-notifiers P r e o k near far = all-append (λ (t : FeatureChange). P t.at.node) (far_gain r e o) (feature_change e k ∷ []) (far-notifier P o (node_value e.node) (shape_at r e).opposite far) (near, tt)
+
+-- what is told of a lone put is told at its end, and at the object if the feature has an opposite
+pub put-notifiers : (P : Node → Type 0) (r : Reading) (c : Change) (p : NewLink) → lone_put r c ≡ Some p → P p.end.node → (is_some p.opposite ≡ true → P (node.Object p.object)) → AllByRecursion (λ (n : Notice). P n.notifier) (chain r c)
+put-notifiers P r (At e (Set (value.Object o))) p h near far =
+    let v = value.Object o in
+    let k = chosen (displaces r e o) (is_plain_set r e v) (is_some (late_refusal r (At e (Set v)))) (put_at r e 0 o) p h in
+    let changes : feature_changes r (At e (Set v)) ≡ far_gain r e o ++ feature_change e (Gains v) ∷ [] =
+    ap (λ (b : Bool). (if b then [] else before_gain r e v (if b then [] else yields r e o)) ++ feature_change e (Gains v) ∷ []) k.plain
+    ∙ ap (λ (ts : List LinkEnd). (flat_map (other_losses r e o) ts ++ far_gain r e o) ++ feature_change e (Gains v) ∷ []) (yields-none r e o k.displaced) in
+    told-notifiers P r.metamodel (held_at r) (feature_changes r (At e (Set v))) (subst (AllByRecursion (λ (t : FeatureChange). P t.at.node)) (sym changes)
+    (both-notifiers P r e o (Gains v) (subst (λ (q : NewLink). P q.end.node) (sym k.is) near) (subst (λ (q : NewLink). is_some q.opposite ≡ true → P (node.Object q.object)) (sym k.is) far)))
+put-notifiers P r (At e (Add (value.Object o) i)) p h near far =
+    let v = value.Object o in
+    let k = chosen (displaces r e o) (is_plain_add r e v) (is_some (late_refusal r (At e (Add v i)))) (put_at r e (position_for r e i) o) p h in
+    let changes : feature_changes r (At e (Add v i)) ≡ far_gain r e o ++ feature_change e (gain_at i v) ∷ [] =
+    ap (λ (b : Bool). if b then [] else before_gain r e v (if is_plain_add r e v then [] else yields r e o) ++ feature_change e (gain_at i v) ∷ []) (plain-not (shape_at r e).is_reference (is_repeat r e v) k.plain).1
+    ∙ ap (λ (b : Bool). before_gain r e v (if b then [] else yields r e o) ++ feature_change e (gain_at i v) ∷ []) k.plain
+    ∙ ap (λ (ts : List LinkEnd). (flat_map (other_losses r e o) ts ++ far_gain r e o) ++ feature_change e (gain_at i v) ∷ []) (yields-none r e o k.displaced) in
+    told-notifiers P r.metamodel (held_at r) (feature_changes r (At e (Add v i))) (subst (AllByRecursion (λ (t : FeatureChange). P t.at.node)) (sym changes)
+    (both-notifiers P r e o (gain_at i v) (subst (λ (q : NewLink). P q.end.node) (sym k.is) near) (subst (λ (q : NewLink). is_some q.opposite ≡ true → P (node.Object q.object)) (sym k.is) far)))
+put-notifiers P r _ p h near far = absurd (none-some p h)
 
 -- a put that is found is the whole plan
 pub found-planned : (s : Model) (c : Change) (q : Option NewLink) → IsLegal s → early_refusal (reading s) c ≡ None → q ≡ lone_put (reading s) c → IfSome q (λ p. IsPlanOf false s c (of_put p))

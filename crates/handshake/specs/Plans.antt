@@ -15,6 +15,7 @@ use Rattle.removal.specs.declared.gone.Removal.{Removal}
 use Rattle.doc_loader.specs.Fits.{IsFitting}
 use Rattle.resource_docs.specs.Causes.{IsRead}
 use Rattle.resource_docs.specs.declared.doc.Doc.{Doc}
+use Rattle.notice_chain.specs.declared.notice.Notice.{Notice}
 use Rattle.handshake.specs.declared.change.Change.{Change}
 use Rattle.handshake.specs.declared.change.Change.TheVariants.{At, Create, Load}
 use Rattle.handshake.specs.declared.act.Act.TheVariants.{Resolve}
@@ -67,9 +68,9 @@ edits_values_alone m (At e (Resolve i)) = false
 edits_values_alone m (At e a) = not (shape m e.feature).is_reference
 edits_values_alone m _ = false
 
--- the plan that edits values alone, of which nobody hears
-abbrev pub of_values : List ValueEdit → Planned
-of_values vs = record { removal = None; target = None; resolved = None; edits = []; values = vs; chain = [] }
+-- the plan that edits values alone, with the notices that somebody may hear
+abbrev pub of_values : List ValueEdit → List Notice → Planned
+of_values vs ns = record { removal = None; target = None; resolved = None; edits = []; values = vs; chain = ns }
 
 -- what a proxy finds is looked for with memory, and before all that refuses it
 abbrev pub looks_first : Change → Bool

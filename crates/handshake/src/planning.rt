@@ -320,7 +320,7 @@ fn set_refusal<L: LinkStore>(model: &ModelRef<L>, end: End, value: &Value) -> Op
 }
 
 /// The notices of a change that cuts these links; none if nobody may hear them.
-fn heard_chain<L: LinkStore>(
+pub(crate) fn heard_chain<L: LinkStore>(
     alloc: Global,
     model: &ModelRef<L>,
     change: &Change,

@@ -1,45 +1,46 @@
 //! What a change makes of values alone.
-ghost use Rattle.std.specs.Prelude.{◌≡◌, ◌&&◌, None, Some, IfErr, IfOk, IsFalse, OnOk, if◌then◌else◌};
+ghost use Rattle.std.specs.Prelude.{◌≡◌, [], true, None, Some, IfErr, IfOk, OnOk, if◌then◌else◌};
 ghost use Rattle.mm_types.specs.Conditions.{◌else_by◌};
 ghost use Rattle.models.specs.Model.{reading};
 ghost use Rattle.handshake.specs.Effects.{value_edits as value_edits_of};
-ghost use Rattle.handshake.specs.Plans.{HasReadDocument, is_memory_refusal, looks_first};
+ghost use Rattle.handshake.specs.FeatureChanges.{chain};
+ghost use Rattle.handshake.specs.Plans.{edits_values_alone, is_memory_refusal};
 ghost use Rattle.handshake.specs.Refusals as refusals;
 ghost use Rattle.handshake.specs.declared.act.Act.TheVariants.{Set};
 ghost use Rattle.handshake.specs.declared.change.Change.TheVariants.{At, Create};
 
 use crate::change::Change;
-use crate::destroyed::removal_of;
 use crate::edits::value_edits;
 use crate::named::set_early_refusal;
-use crate::planning::{create_late_refusal, late_refusal, set_late_refusal};
-use crate::resolving::target_of;
+use crate::planning::{create_late_refusal, heard_chain, late_refusal, set_late_refusal};
 use links::LinkStore;
 use mm_types::{ClassNo, End, Refused, Value};
 use mm_values::ValuePlan;
 use models::{ModelRef, class_refusal};
+use notice_chain::Chain;
 use std::alloc::Global;
 
-/// The edits of values that a change makes, or the first refusal that planning finds: the part of `plan` that is left of a change that
-/// edits no link, if nobody hears of it.
+/// The edits of values that a change makes, and its notices if somebody may hear them; or the first refusal that planning finds. This is
+/// `plan` for a change that edits no link.
 pub fn plan_values<L: LinkStore>(
     alloc: Global,
     model: &ModelRef<L>,
     change: Change,
-) -> Result<ValuePlan, Refused>
+    is_heard: bool,
+) -> Result<(ValuePlan, Chain), Refused>
     requires asked { refusals.early_refusal (reading model.now) change ≡ None }
-    requires read { HasReadDocument model.now.metamodel change }
-    ensures values { IfOk result (λ p. p ≡ value_edits_of (reading model.now) change) }
+    requires values { edits_values_alone model.now.metamodel change ≡ true }
+    ensures values { IfOk result (λ p. p.0 ≡ value_edits_of (reading model.now) change) }
+    ensures chain { IfOk result (λ p. p.1 ≡ (if is_heard then chain (reading model.now) change else [])) }
     ensures allowed { OnOk result (refusals.late_refusal (reading model.now) change ≡ None) }
-    ensures refused { IfErr result (λ r. IsFalse (is_memory_refusal r && looks_first change) → refusals.late_refusal (reading model.now) change ≡ (if is_memory_refusal r then None else Some r)) }
+    ensures refused { IfErr result (λ r. refusals.late_refusal (reading model.now) change ≡ (if is_memory_refusal r then None else Some r)) }
 {
-    model.lemma_is_legal();
-    let target = target_of(alloc, model, &change)?;
-    if let Some(refused) = late_refusal(model, &change, target) {
+    if let Some(refused) = late_refusal(model, &change, None) {
         return Err(refused);
     }
-    let removal = removal_of(alloc, model, &change)?;
-    Ok(value_edits(alloc, model, change, &removal)?)
+    let chain = heard_chain(alloc, model, &change, &None, None, &[], is_heard)?;
+    let values = value_edits(alloc, model, change, &None)?;
+    Ok((values, chain))
 }
 
 /// Why a value of an attribute can't be set, if not for memory: the first refusal of a set of it. Takes no memory.

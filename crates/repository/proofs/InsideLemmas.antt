@@ -1,5 +1,5 @@
 -- What always holds of a repository holds again after edits of values alone, and after memory for them was refused.
-use Rattle.std.proofs.Common.{◌≡◌, ◌∙◌, [], List, false, sym, subst}
+use Rattle.std.proofs.Common.{◌≡◌, ◌∙◌, [], Bool, List, sym, subst}
 use Rattle.links.specs.LegalSets.{Kinds}
 use Rattle.links.specs.Links.{Links}
 use Rattle.mm_values.specs.Room.{values_of}
@@ -8,6 +8,7 @@ use Rattle.mm_values.specs.declared.edit.ValueEdit.{ValueEdit}
 use Rattle.mm_values.specs.declared.values.Values.{Values}
 use Rattle.models.specs.Model.{Model, model_of, reading}
 use Rattle.models.specs.Steady.{HasSteadyTexts}
+use Rattle.notice_chain.specs.declared.notice.Notice.{Notice}
 use Rattle.handshake.specs.Laws.{BringsSteadyTexts}
 use Rattle.handshake.specs.Plans.{IsPlanOf, of_values}
 use Rattle.handshake.specs.declared.change.Change.{Change}
@@ -35,8 +36,8 @@ module _ {L A : Type 0} (links : L → Links) (kinds : L → Kinds → Type 0) (
       }
 
   -- the edits of a change that edits no link
-  pub made : (c : Change) (vs : List ValueEdit) → IsPlanOf false (state links r).model c (of_values vs) → values_of w ≡ applied (values_of r.values) vs → BringsSteadyTexts c → IsLegal (state links with_values) → IsLegalInside links kinds r → IsLegalInside links kinds with_values
-  made c vs plan edited brings legal holds =
+  pub made : (is_heard : Bool) (c : Change) (vs : List ValueEdit) (ns : List Notice) → IsPlanOf is_heard (state links r).model c (of_values vs ns) → values_of w ≡ applied (values_of r.values) vs → BringsSteadyTexts c → IsLegal (state links with_values) → IsLegalInside links kinds r → IsLegalInside links kinds with_values
+  made is_heard c vs ns plan edited brings legal holds =
       record {
         legal = legal;
         steady = subst HasSteadyTexts (sym (λ i. model_of r.meta ((edited ∙ plan.values_made) i) (plan.links_made i))) (change-keeps-steady (state links r).model c holds.steady brings);

@@ -1,8 +1,10 @@
--- A change that puts one link, where no adapter is attached: its answer, and what is remembered of fragments.
-use Rattle.std.proofs.Common.{◌≡◌, ℕ, Bool, true, false, not, List, [], ◌∷◌, Option, Some, None, is_some, if◌then◌else◌, refl, sym, ap, subst, ◌∙◌}
+-- A change that puts one link, of which nobody hears: its answer, and what is remembered of fragments.
+use Rattle.std.proofs.Common.{◌≡◌, ℕ, Bool, true, false, not, ◌&&◌, List, [], ◌∷◌, Option, Some, None, is_some, if◌then◌else◌, refl, sym, ap, subst, ◌∙◌}
 use Rattle.std.proofs.Math.Bool.{or-false}
 use Rattle.std.proofs.lemmas.Option.{none-some}
 use Rattle.mm_types.specs.declared.end.End.{End}
+use Rattle.mm_types.specs.declared.numbers.Node.{Node}
+use Rattle.mm_types.specs.declared.numbers.Node.TheVariants as node
 use Rattle.mm_types.specs.declared.value.Value.{Value}
 use Rattle.mm_types.specs.declared.value.Value.TheVariants as value
 use Rattle.links.specs.Laws.{touches_containment}
@@ -10,9 +12,9 @@ use Rattle.links.specs.LegalSets.{Kinds}
 use Rattle.links.specs.Plans.{IsEditOfKind, put_edit}
 use Rattle.models.specs.Model.{Model, reading}
 use Rattle.models.specs.Reading.{Reading, is_repeat, position_for, shape_at}
-use Rattle.notice_chain.specs.Listed.{Above, Listed}
-use Rattle.adapter_list.specs.Hearing.{AreKnown}
-use Rattle.adapter_list.specs.declared.hearers.Hearers.{Hearers}
+use Rattle.notice_chain.specs.Listed.{Listed}
+use Rattle.adapter_list.specs.Hearing.{IsUnheard, is_heard}
+use Rattle.handshake.specs.FeatureChanges.{chain}
 use Rattle.handshake.specs.Displaced.{displaces, is_plain_add}
 use Rattle.handshake.specs.LonePuts.{lone_put, of_put, put_at}
 use Rattle.handshake.specs.Plans.{IsPlanOf}
@@ -22,11 +24,13 @@ use Rattle.handshake.specs.declared.change.Change.TheVariants.{At}
 use Rattle.handshake.specs.declared.act.Act.TheVariants.{Add, Set}
 use Rattle.links.specs.declared.link.NewLink.{NewLink}
 use Rattle.handshake.proofs.CutLinkEndLemmas.{plain-not}
+use Rattle.handshake.proofs.LonePutLemmas.{put-notifiers}
 use Rattle.repository.specs.Answers.{answer_of}
-use Rattle.repository.specs.Puts.{IsPutAlone}
+use Rattle.repository.specs.Puts.{IsPutAlone, is_put_heard}
 use Rattle.repository.specs.State.{State, reads}
 use Rattle.repository.specs.Views.{command_of}
 use Rattle.repository.specs.declared.reply.Answer.TheVariants as answer
+use Rattle.repository.proofs.AdapterLemmas.{neither}
 
 not-plain : (a b c : Bool) (x p : NewLink) → (if a then None else if b then None else if c then None else Some x) ≡ Some p → b ≡ false
 not-plain true b c x p h = absurd (none-some p h)
@@ -43,36 +47,39 @@ new-added r e _ i p h = absurd (none-some p h)
 pub add-answered : (r : Reading) (rs : List Listed) (e : End) (v : Value) (i : Option ℕ) (p : NewLink) → lone_put r (At e (Add v i)) ≡ Some p → answer.Flag true ≡ answer_of r rs (command_of [] (At e (Add v i)))
 add-answered r rs e v i p h = ap (λ (b : Bool). answer.Flag (not b)) (sym (new-added r e v i p h))
 
+-- where nobody hears of the put, nobody hears the chain
+put-unheard : (s : State) (c : Change) (p : NewLink) → lone_put (reads s) c ≡ Some p → is_put_heard s p ≡ false → IsUnheard (reads s).above (chain (reads s) c) s.adapters
+put-unheard s c p lone none =
+    let heard_at : Node → Bool = λ x. is_heard (reads s).above x s.adapters in
+    let both = neither (heard_at p.end.node) (is_some p.opposite && heard_at (node.Object p.object)) none in
+    put-notifiers (λ x. heard_at x ≡ false) (reads s) c p lone both.0 (λ some. sym (ap (λ b. b && heard_at (node.Object p.object)) some) ∙ both.1)
+
 -- an addition that is one put, of which nobody hears, by what its parts give
-pub add-alone : (s : State) (m : Model) (e : End) (v : Value) (i : Option ℕ) (q : Option NewLink) (p : NewLink) → m ≡ s.model → s.adapters ≡ [] → early_refusal (reading m) (At e (Add v i)) ≡ None → q ≡ lone_put (reading m) (At e (Add v i)) → q ≡ Some p
+pub add-alone : (s : State) (m : Model) (e : End) (v : Value) (i : Option ℕ) (q : Option NewLink) (p : NewLink) → m ≡ s.model → is_put_heard s p ≡ false → early_refusal (reading m) (At e (Add v i)) ≡ None → q ≡ lone_put (reading m) (At e (Add v i)) → q ≡ Some p
     → IsPlanOf false m (At e (Add v i)) (of_put p) → IsPutAlone s (At e (Add v i)) p (answer.Flag true)
 add-alone s m e v i q p is none early found some plan =
     let c : Change = At e (Add v i) in
+    let lone : lone_put (reads s) c ≡ Some p = subst (λ (x : Model). lone_put (reading x) c ≡ Some p) is (sym found ∙ some) in
     record {
       asked = subst (λ (x : Model). early_refusal (reading x) c ≡ None) is early;
       proper = tt;
       planned = subst (λ (x : Model). IsPlanOf false x c (of_put p)) is plan;
-      answered = add-answered (reads s) s.adapters e v i p (subst (λ (x : Model). lone_put (reading x) c ≡ Some p) is (sym found ∙ some));
-      unheard = none;
+      answered = add-answered (reads s) s.adapters e v i p lone;
+      unheard = put-unheard s c p lone none;
     }
 
 -- a set, likewise
-pub set-alone : (s : State) (m : Model) (e : End) (v : Value) (p : NewLink) → m ≡ s.model → s.adapters ≡ [] → early_refusal (reading m) (At e (Set v)) ≡ None → IsPlanOf false m (At e (Set v)) (of_put p) → IsPutAlone s (At e (Set v)) p answer.Done
-set-alone s m e v p is none early plan =
+pub set-alone : (s : State) (m : Model) (e : End) (v : Value) (q : Option NewLink) (p : NewLink) → m ≡ s.model → is_put_heard s p ≡ false → early_refusal (reading m) (At e (Set v)) ≡ None → q ≡ lone_put (reading m) (At e (Set v)) → q ≡ Some p → IsPlanOf false m (At e (Set v)) (of_put p) → IsPutAlone s (At e (Set v)) p answer.Done
+set-alone s m e v q p is none early found some plan =
     let c : Change = At e (Set v) in
     record {
       asked = subst (λ (x : Model). early_refusal (reading x) c ≡ None) is early;
       proper = tt;
       planned = subst (λ (x : Model). IsPlanOf false x c (of_put p)) is plan;
       answered = refl;
-      unheard = none;
+      unheard = put-unheard s c p (subst (λ (x : Model). lone_put (reading x) c ≡ Some p) is (sym found ∙ some)) none;
     }
 
 -- a put is of a link that contains where it names a container
 pub put-touches : (m : Kinds) (p : NewLink) → IsEditOfKind m (put_edit p) → touches_containment m (put_edit p ∷ []) ≡ is_some p.container
 put-touches m p kind = or-false (is_some (m.container p.end.feature)) ∙ ap is_some (sym kind.1)
-
--- nobody hears, above whatever
-pub none-hears : (up down : Above) (rs : List Listed) (h : Hearers) → rs ≡ [] → AreKnown up rs h → AreKnown down rs h
-none-hears up down [] h none known = known
-none-hears up down (r ∷ rs) h none known = cc

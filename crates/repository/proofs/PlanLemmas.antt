@@ -40,7 +40,7 @@ use Rattle.repository.specs.Run.{Executed, is_plain, may_want_memory}
 use Rattle.repository.specs.State.{State, reads}
 use Rattle.repository.specs.Step.{Stepped, done, refusal_of, step, step_unless}
 use Rattle.repository.specs.Views.{command_of}
-use Rattle.repository.proofs.AdapterLemmas.{Heard}
+use Rattle.repository.specs.Prepared.{TellsAll}
 use Rattle.std.proofs.lemmas.Option.{none-some}
 use Rattle.web_uris.proofs.JoinFacts.{joined-web}
 use Rattle.repository.specs.Leaving.{going_with}
@@ -204,7 +204,7 @@ pub free-as-found : (s : State) (m : Model) (c : Change) (q : Option Refused) �
 free-as-found s m c q is found known = none-else_by _ _ (found-there s m c q None is found known)
 
 -- what the adapters refuse
-pub chain_err : (s : State) (text : List ℕ) (c : Change) (made : List Notice) (r : Refused) → IsProper (reads s) text c → early_refusal (reads s) c ≡ None → late_refusal (reads s) c ≡ None → Heard (reads s).above made (chain (reads s) c) s.adapters → IsChainRefusal (is_chain_full (reads s).above made s.adapters) r → Executed s (command_of text c) (Err (record { refused = r; given_back = None })) s
+pub chain_err : (s : State) (text : List ℕ) (c : Change) (made : List Notice) (r : Refused) → IsProper (reads s) text c → early_refusal (reads s) c ≡ None → late_refusal (reads s) c ≡ None → TellsAll (reads s).above made (chain (reads s) c) s.adapters → IsChainRefusal (is_chain_full (reads s).above made s.adapters) r → Executed s (command_of text c) (Err (record { refused = r; given_back = None })) s
 unfolding full
 chain_err s text c made r brought early late heard (inl e) = rw e (out_of_memory s text c brought early)
 chain_err s text c made r brought early late heard (inr h) =
@@ -251,7 +251,7 @@ done_change s text (Load k doc) proper =
 done_change s text _ brought = refl
 
 -- a change that was made, with the notices that somebody may hear
-pub changed : (s : State) (text : List ℕ) (c : Change) (made : List Notice) → IsProper (reads s) text c → early_refusal (reads s) c ≡ None → late_refusal (reads s) c ≡ None → Heard (reads s).above made (chain (reads s) c) s.adapters → is_chain_full (reads s).above made s.adapters ≡ false
+pub changed : (s : State) (text : List ℕ) (c : Change) (made : List Notice) → IsProper (reads s) text c → early_refusal (reads s) c ≡ None → late_refusal (reads s) c ≡ None → TellsAll (reads s).above made (chain (reads s) c) s.adapters → is_chain_full (reads s).above made s.adapters ≡ false
     → step s (command_of text c) ≡ replied s c made (effects.after s.model c) (answer_of (reads s) s.adapters (command_of text c)) (releases_of s c made)
 unfolding full
 changed s text c made brought early late heard free =
@@ -259,7 +259,7 @@ changed s text c made brought early late heard free =
     ap (step_unless s (command_of text c)) found ∙ rw (heard.told, heard.adapters) (done_change s text c brought)
 
 -- the same, for a reply and a state that are known by their parts
-pub changed_to : (s t : State) (text : List ℕ) (c : Change) (made : List Notice) (a : Answer) (told : List (AdapterNo × Notice)) (views : List (AdapterNo × View)) → IsProper (reads s) text c → early_refusal (reads s) c ≡ None → late_refusal (reads s) c ≡ None → Heard (reads s).above made (chain (reads s) c) s.adapters → is_chain_full (reads s).above made s.adapters ≡ false
+pub changed_to : (s t : State) (text : List ℕ) (c : Change) (made : List Notice) (a : Answer) (told : List (AdapterNo × Notice)) (views : List (AdapterNo × View)) → IsProper (reads s) text c → early_refusal (reads s) c ≡ None → late_refusal (reads s) c ≡ None → TellsAll (reads s).above made (chain (reads s) c) s.adapters → is_chain_full (reads s).above made s.adapters ≡ false
     → a ≡ answer_of (reads s) s.adapters (command_of text c) → told ≡ told_list (reads s).above made s.adapters ++ (releases_of s c made).told → views ≡ (releases_of s c made).views → t.model ≡ effects.after s.model c → t.adapters ≡ (releases_of s c made).others
     → step s (command_of text c) ≡ record { outcome = Ok (record { answer = a; told = told; released = views }); after = t }
 changed_to s t text c made a told views brought early late heard free answered told_is views_are model adapters =

@@ -1,8 +1,10 @@
 -- What is remembered of fragments, and of who hears a node, stays true where no link that contains is edited.
 use Rattle.std.proofs.Common.{◌≡◌, ◌∙◌, ℕ, Bool, true, false, List, Option, Some, None, refl, sym, ap, subst, inl, inr, eqb-true, arith}
-use Rattle.std.specs.Prelude.{cond, if◌then◌else◌, is_some, IfSome, [], ◌∷◌, suc}
+use Rattle.std.specs.Prelude.{◌&&◌, ◌<◌, cond, if◌then◌else◌, is_some, IfSome, [], ◌∷◌, length, not, suc, zero}
+use Rattle.std.specs.Option.{option_map_or}
 use Rattle.std.specs.FinMap as map
 use Rattle.std.specs.Ordering.{eq_by_cmp, nat_cmp}
+use Rattle.std.proofs.lemmas.Bool.{false≢true}
 use Rattle.std.proofs.lemmas.Bool.Decides.{nat_tests}
 use Rattle.std.proofs.lemmas.Cmp.{nat_cmp_total}
 use Rattle.std.proofs.lemmas.Option.{none-some}
@@ -13,11 +15,13 @@ use Rattle.mm_types.specs.declared.numbers.FeatureNo.{FeatureNo}
 use Rattle.mm_types.specs.declared.numbers.Node.{Node}
 use Rattle.mm_types.specs.declared.numbers.ObjectNo.{ObjectNo}
 use Rattle.mm_values.specs.Values.{ValuesState}
+use Rattle.links.proofs.AboveLemmas.{above_falls, above_held, above_is}
 use Rattle.links.proofs.TouchLemmas.{plan-leaves}
 use Rattle.links.specs.Laws.{touches_containment}
 use Rattle.links.specs.Links.{Links}
 use Rattle.links.specs.Plans.{IsPlanOfKind, PlanFits, applied}
 use Rattle.links.specs.declared.plan.Edit.{Edit}
+use Rattle.links.specs.declared.plan.Edit.TheVariants as edit
 use Rattle.models.specs.Legal.{IsLegal, kinds_of}
 use Rattle.models.specs.Model.{model_of, reading}
 use Rattle.models.specs.Reading.{Reading, at_end}
@@ -26,7 +30,11 @@ use Rattle.fragment_paths.proofs.StayLemmas.{above-stays, fragment-stays}
 use Rattle.fragment_paths.specs.Fragments.{fragment}
 use Rattle.fragment_paths.specs.Kept.{Kept, MayKeep, is_full_for, with_room}
 use Rattle.fragment_paths.specs.Laws.{HaveSameParts}
-use Rattle.links.specs.Holders.{above}
+use Rattle.links.specs.Holders.{HasNoCycle, above, holder}
+use Rattle.links.specs.LegalSets.{IsLegalSet}
+use Rattle.links.proofs.HolderLemmas.{holder-shift}
+use Rattle.mm_types.specs.declared.end.End.{End}
+use Rattle.repository.specs.Remembered.{is_move, may_change_containers}
 use Rattle.notice_chain.specs.Listed.{Above, Listed}
 use Rattle.notice_chain.specs.declared.notice.Notice.{Notice}
 use Rattle.adapter_list.specs.Hearing.{AreKnown, hearers, hears_node, ordinals_from}
@@ -70,6 +78,45 @@ module _ (m : Metamodel) (v w : ValuesState) (a : Links) (plan : List Edit) (leg
   -- who hears a node is who heard it
   pub hearers-after : (rs : List Listed) (h : Hearers) → AreKnown (above a) rs h → touches_containment (kinds_of m) plan ≡ false → AreKnown (above (applied a plan)) rs h
   hearers-after rs h known out = subst (λ (up : Above). AreKnown up rs h) (λ i n. sym (above-stays m v w a (applied a plan) legal after (parts-stay out) n) i) known
+
+---------------------------------------------------------------- a value that is moved within its list
+
+nothing-above : (s : Links) → IsLegalSet s → HasNoCycle s → (n : Node) → holder s n ≡ None → above s n ≡ []
+nothing-above s legal free n none = above_is s legal free n ∙ ap (λ (x : Option End). option_map_or (λ (d : End). d.node ∷ above s d.node) x []) none
+
+-- where each node has its holder, the nodes above it are the same
+module _ (a b : Links) (legal : IsLegalSet a) (free : HasNoCycle a) (legal_b : IsLegalSet b) (free_b : HasNoCycle b) (stays : (n : Node) → holder b n ≡ holder a n) where
+  above-from : (k : ℕ) (n : Node) → length (above a n) < k → above b n ≡ above a n
+  above-from zero n low = absurd (omega (arith, low))
+  above-from (suc k) n low =
+      elim (holder a n) as (λ x. holder a n ≡ x → above b n ≡ above a n) [
+        | None ↦ λ none. nothing-above b legal_b free_b n (stays n ∙ none) ∙ sym (nothing-above a legal free n none)
+        | Some e ↦ λ h.
+            let falls = above_falls a legal free n e h in
+            above_held b legal_b free_b n e (stays n ∙ h) ∙ ap (λ (ns : List Node). e.node ∷ ns) (above-from k e.node (omega (arith, falls, low))) ∙ sym (above_held a legal free n e h)
+      ] refl
+
+  above-held : (n : Node) → above b n ≡ above a n
+  above-held n = above-from (suc (length (above a n))) n (omega arith)
+
+moved-holders : (a : Links) (plan : List Edit) → IsLegalSet a → is_move plan ≡ true → (n : Node) → holder (applied a plan) n ≡ holder a n
+moved-holders a (edit.Shift e to from ∷ []) legal h n = holder-shift a e to from legal.held n
+moved-holders a _ legal h n = absurd (false≢true h)
+
+-- who hears a node is who heard it, if no node gets another container
+pub hearers-kept : (m : Metamodel) (v w : ValuesState) (a : Links) (plan : List Edit) → IsLegal (model_of m v a) → IsLegal (model_of m w (applied a plan)) → PlanFits a plan → IsPlanOfKind (kinds_of m) plan
+    → (rs : List Listed) (h : Hearers) → AreKnown (above a) rs h → may_change_containers (kinds_of m) plan ≡ false → AreKnown (above (applied a plan)) rs h
+hearers-kept m v w a plan legal after fits kind rs h known out =
+    elim (touches_containment (kinds_of m) plan) as (λ b. touches_containment (kinds_of m) plan ≡ b → (b && not (is_move plan)) ≡ false → AreKnown (above (applied a plan)) rs h) [
+      | true ↦ λ _ moved.
+          let stays = moved-holders a plan legal.links.set (turned (is_move plan) moved) in
+          subst (λ (up : Above). AreKnown up rs h) (λ i n. sym (above-held a (applied a plan) legal.links.set legal.links.forest after.links.set after.links.forest stays n) i) known
+      | false ↦ λ untouched _. hearers-after m v w a plan legal after fits kind rs h known untouched
+    ] refl out
+  where
+    turned : (b : Bool) → not b ≡ false → b ≡ true
+    turned true h = refl
+    turned false h = sym h
 
 -- who was notified hears the same as before
 places-told : (up : Above) (x : Node) (k j : ℕ) (cs : List (ℕ × Notice)) (rs : List Listed) → ordinals_from (hears_node up x) k (delivered_from j cs rs) ≡ ordinals_from (hears_node up x) k rs

@@ -1,23 +1,28 @@
 //! What a change does that edits one value or puts one link, and nothing else.
 ghost use Rattle.std.specs.FinMap as map;
-ghost use Rattle.std.specs.Prelude.{◌≡◌, ◌∷◌, [], OnErr, OnOk, if◌then◌else◌, is_some};
+ghost use Rattle.std.specs.Prelude.{◌≡◌, ◌∷◌, [], List, OnErr, OnOk, false, if◌then◌else◌, is_some};
 ghost use Rattle.mm_values.specs.Room.{values_of};
 ghost use Rattle.mm_values.specs.Values.{applied};
 ghost use Rattle.handshake.specs.Effects.{put_values};
+ghost use Rattle.notice_chain.specs.Listed.{Above, Listed};
+ghost use Rattle.adapter_list.specs.Hearing.{AreKnown};
 
+use adapter_list::Hearers;
 use fragment_paths::PathCache;
 use links::NewLink;
 use mm_types::{End, Node, Value};
 use mm_values::{NewValues, Values};
 use std::alloc::AllocError;
 
-/// Forgets the fragments if a put is one of a link that contains. Takes no memory.
+/// Forgets the fragments, and who hears a node, if a put is one of a link that contains. Takes no memory.
 #[inline(always)]
-pub(crate) fn forget_put(paths: &mut PathCache, put: NewLink)
-    ensures { paths.new ≡ (if is_some put.container then map.empty else paths.old) }
+pub(crate) fn forget_put(paths: &mut PathCache, hearers: &mut Hearers, put: NewLink)
+    ensures paths { paths.new ≡ (if is_some put.container then map.empty else paths.old) }
+    ensures hearers { (up : Above) (rs : List Listed) → (is_some put.container ≡ false → AreKnown up rs hearers.old) → AreKnown up rs hearers.new }
 {
     if put.container.is_some() {
         paths.clear();
+        hearers.forget();
     }
 }
 

@@ -1,5 +1,5 @@
 //! What is made ready for a change before anything changes.
-ghost use Rattle.std.specs.Prelude.{◌≡◌, ℕ, List, false, None, length, nat_lt, true, IfOk, IfErr, IfSome, OnOk};
+ghost use Rattle.std.specs.Prelude.{◌≡◌, ℕ, List, [], false, None, length, nat_lt, true, IfOk, IfErr, IfSome, OnOk};
 ghost use Rattle.mm_types.specs.Ends.{value_in};
 ghost use Rattle.mm_values.specs.Room as values_room;
 ghost use Rattle.notice_chain.specs.Listed.{Listed};
@@ -26,9 +26,10 @@ use adapter_list::{AdapterList, Hearers, Round};
 use adapters::Adapter;
 use handshake::{Act, Change, Planned, Resolved, Target, plan, plan_values};
 use links::LinkStore;
-use mm_types::{AdapterNo, End, Node, ObjectNo, Refused, ResourceNo};
+use mm_types::{AdapterNo, End, Node, ObjectNo, Refused, ResourceNo, Seq};
 use mm_values::{ValuePlan, Values};
 use models::{ModelRef, copied};
+use notice_chain::Chain;
 use removal::Removal;
 use std::alloc::{AllocError, Global};
 
@@ -69,23 +70,58 @@ pub(crate) fn prepare<L: LinkStore, A: Adapter>(
     })
 }
 
-/// Prepares a change that edits values alone, of which nobody hears: its answer, and its edits; or gives the refusal that planning finds.
+/// The answer of a change that edits values alone, its edits, and its notices if somebody may hear them.
+#[derive(Drop)]
+pub(crate) struct PreparedValues {
+    pub answer: Answer,
+    pub values: ValuePlan,
+    pub chain: Chain,
+}
+
+impl PreparedValues {
+    /// The same, as what is prepared for any change: it edits no link, and no target goes. Takes no memory.
+    pub(crate) fn into_prepared(self, alloc: Global) -> Prepared
+        ensures answer { result.answer ≡ self.answer }
+        ensures spots { result.spots.items ≡ [] }
+        ensures planned { result.planned ≡ of_values self.values self.chain }
+    {
+        Prepared {
+            answer: self.answer,
+            spots: Vec::new(alloc),
+            planned: Planned {
+                removal: None,
+                target: None,
+                resolved: None,
+                edits: Seq::new(alloc),
+                values: self.values,
+                chain: self.chain,
+            },
+        }
+    }
+}
+
+/// Prepares a change that edits values alone, or gives the refusal that planning finds.
 pub(crate) fn prepare_values<L: LinkStore>(
     alloc: Global,
     model: &ModelRef<L>,
     change: Change,
-) -> Result<(Answer, ValuePlan), Refused>
+    is_heard: bool,
+) -> Result<PreparedValues, Refused>
     requires asked { early_refusal_of (reading model.now) change ≡ None }
     requires proper { (text : List ℕ) × IsProper (reading model.now) text change }
     requires values { edits_values_alone model.now.metamodel change ≡ true }
-    ensures answer { IfOk result (λ p. (rs : List Listed) (text : List ℕ) → IsProper (reading model.now) text change → p.0 ≡ answer_of (reading model.now) rs (command_of text change)) }
-    ensures planned { IfOk result (λ p. IsPlanOf false model.now change (of_values p.1)) }
+    ensures answer { IfOk result (λ p. (rs : List Listed) (text : List ℕ) → IsProper (reading model.now) text change → p.answer ≡ answer_of (reading model.now) rs (command_of text change)) }
+    ensures planned { IfOk result (λ p. IsPlanOf is_heard model.now change (of_values p.values p.chain)) }
     ensures refused { IfErr result (λ r. IsPlanRefusal model.now change r) }
 {
     model.lemma_is_legal();
     let answer = early_answer(alloc, model, &change)?;
-    let values = plan_values(alloc, model, change)?;
-    Ok((answer.unwrap_or(Answer::Done), values))
+    let (values, chain) = plan_values(alloc, model, change, is_heard)?;
+    Ok(PreparedValues {
+        answer: answer.unwrap_or(Answer::Done),
+        values,
+        chain,
+    })
 }
 
 /// Takes all memory that a plan needs, room for what is told of the targets that go, and at last all places that the adapters need, in

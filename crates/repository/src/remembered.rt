@@ -4,6 +4,7 @@ ghost use Rattle.std.specs.Prelude.{◌≡◌, false, if◌then◌else◌, is_so
 ghost use Rattle.links.specs.Laws.{contains_by, edit_end, touches_containment as touches};
 ghost use Rattle.models.specs.Legal.{kinds_of};
 ghost use Rattle.notice_chain.specs.Listed.{Above, Listed};
+ghost use Rattle.repository.specs.Remembered.{is_move as is_move_of, may_change_containers};
 ghost use Rattle.adapter_list.specs.Hearing.{AreKnown};
 
 use adapter_list::Hearers;
@@ -25,8 +26,15 @@ fn touches_containment(meta: &Meta, edits: &Plan) -> bool
     edits.as_slice().iter().any(|e| is_of_containment(meta, e))
 }
 
+/// Whether a plan moves one value within its list, and edits nothing else.
+fn is_move(edits: &Plan) -> bool
+    ensures { result ≡ is_move_of edits.now }
+{
+    matches!(edits.as_slice(), [Edit::Shift { .. }])
+}
+
 /// Forgets what is remembered and may be wrong after a change: the fragments if a plan edits a link that contains, and who hears a
-/// node if it does, or if targets go. Takes no memory.
+/// node if the plan may give a node another container, or if targets go. Takes no memory.
 pub(crate) fn forget_touched(
     paths: &mut PathCache,
     hearers: &mut Hearers,
@@ -35,13 +43,13 @@ pub(crate) fn forget_touched(
     targets_go: bool,
 )
     ensures paths { paths.new ≡ (if touches (kinds_of meta.now) edits.now then map.empty else paths.old) }
-    ensures hearers { (up : Above) (rs : List Listed) → (touches (kinds_of meta.now) edits.now ≡ false → targets_go ≡ false → AreKnown up rs hearers.old) → AreKnown up rs hearers.new }
+    ensures hearers { (up : Above) (rs : List Listed) → (may_change_containers (kinds_of meta.now) edits.now ≡ false → targets_go ≡ false → AreKnown up rs hearers.old) → AreKnown up rs hearers.new }
 {
     let touched = touches_containment(meta, edits);
     if touched {
         paths.clear();
     }
-    if touched || targets_go {
+    if (touched && !is_move(edits)) || targets_go {
         hearers.forget();
     }
 }

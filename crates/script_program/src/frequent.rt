@@ -63,22 +63,20 @@ fn run_read<L: LinkStore, A: Adapter>(
 /// Creates an object of a class, and prints the answer. Errs only if memory is refused for what is printed.
 fn run_create<L: LinkStore, A: Adapter>(
     repository: &mut Repository<L, A>,
-    pool: &mut Pool<A>,
     output: &mut Output,
     class: Name<'_>,
 ) -> Result<Turn, AllocError>
-    ensures { IfOk result (λ t. Adds output.old output.new t (λ p. RunsCommand (session repository.old pool.old) (b.create_command repository.old.model.metamodel class.entry) p
-        (session repository.new pool.new))) }
+    ensures { (pool : PoolView)
+        → IfOk result (λ t. Adds output.old output.new t (λ p. RunsCommand (session repository.old pool) (b.create_command repository.old.model.metamodel class.entry) p (session repository.new pool))) }
 {
     let class = class_number(repository.meta(), class.as_str());
-    match repository.create_unheard(class) {
-        Some(Ok(object)) => {
+    match repository.create_object(class) {
+        Ok(object) => {
             output.node(Node::Object(object))?;
             output.line_end()?;
             Ok(Turn::Done)
         }
-        Some(Err(refused)) => print_refused(output, refused),
-        None => run_command(repository, pool, output, Command::Create(class)),
+        Err(refused) => print_refused(output, refused),
     }
 }
 
@@ -221,7 +219,7 @@ pub(crate) fn run_frequent<L: LinkStore, A: Adapter>(
     ensures { IfOk result (λ t. Adds output.old output.new t (λ p. RunsLine (session repository.old pool.old) (frequent_line line.entry) p (session repository.new pool.new))) }
 {
     match line {
-        Frequent::New(class) => run_create(repository, pool, output, class),
+        Frequent::New(class) => run_create(repository, output, class),
         Frequent::Get(object, feature) => {
             run_read(repository, pool, output, object, feature.as_str())
         }

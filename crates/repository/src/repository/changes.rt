@@ -1,6 +1,8 @@
 //! Changes of objects, their values and their links.
 ghost use Rattle.std.specs.Prelude.{◌≡◌, ℕ, List, [], None, Some, false, true};
 ghost use Rattle.mm_types.specs.Shapes.{shape};
+ghost use Rattle.adapter_list.specs.Hearing.{IsUnheard};
+ghost use Rattle.handshake.specs.FeatureChanges.{chain};
 ghost use Rattle.handshake.specs.Plans.{edits_values_alone};
 ghost use Rattle.handshake.specs.declared.change.Change.{Change};
 ghost use Rattle.handshake.specs.Refusals.{early_refusal as early_refusal_of};
@@ -10,13 +12,14 @@ ghost use Rattle.repository.specs.Views.{changed_view, command_of};
 ghost use Rattle.repository.specs.Commands as commands;
 ghost use Rattle.repository.specs.declared.command.Command.TheVariants.{At, Create, Delete};
 ghost use Rattle.handshake.specs.declared.act.Act.TheVariants.{Set};
+ghost use Rattle.repository.specs.Prepared.{IsPrepared};
 ghost use Rattle.repository.specs.Proper.{IsProper};
 
 use super::Repository;
 use crate::leaving::notify;
 use crate::preparing::{Prepared, prepare, prepare_values, reserve};
 use crate::remembered::forget_touched;
-use crate::replies::{replied_done, replied_object};
+use crate::replies::{replied_done, replied_object, reply};
 use crate::reply::Reply;
 use adapters::Adapter;
 use handshake::{Act, Change, early_refusal};
@@ -30,10 +33,7 @@ impl<L: LinkStore, A: Adapter> Repository<L, A> {
     pub fn create(&mut self, class: ClassNo) -> Result<Reply<A>, Refused>
         ensures { Executed self.old (Create class) (change_outcome (changed_view A.heard result)) self.new }
     {
-        if self.adapters.len() == 0 {
-            return replied_object(self.alloc, self.make_object(class));
-        }
-        self.change(Change::Create(class))
+        replied_object(self.alloc, self.create_object(class))
     }
 
     /// Sets a single feature of an object (EMF: EObject.eSet). A reference's opposite follows, what the new link displaces is cut at both
@@ -54,10 +54,10 @@ impl<L: LinkStore, A: Adapter> Repository<L, A> {
         ensures { Executed self.old (commands.set node feature value) (change_outcome (changed_view A.heard result)) self.new }
     {
         let end = End { node, feature };
-        if self.adapters.len() == 0 {
-            if self.meta.is_reference(feature) {
-                return self.set_link(end, value);
-            }
+        if self.meta.is_reference(feature) {
+            return self.set_link(end, value);
+        }
+        if !self.is_heard(node) {
             return replied_done(self.alloc, self.set_value(end, value));
         }
         self.change(Change::At(end, Act::Set(value)))
@@ -94,40 +94,50 @@ impl<L: LinkStore, A: Adapter> Repository<L, A> {
         if let Some(refused) = early_refusal(&self.model(), &change) {
             return Err(refused);
         }
-        if self.adapters.len() == 0 && change.edits_values_alone(&self.meta) {
+        if change.edits_values_alone(&self.meta) {
             return self.change_values(change);
         }
         self.carry_out(change)
     }
 
-    /// A change that edits values alone, if no adapter is attached. The steps of `carry_out` that are left: no link is edited, nothing is
-    /// reserved for adapters, and nobody is notified. Attributes are what most commands change, and this takes half the time.
+    /// A change that edits values alone. Attributes are what most commands change: if nobody hears of it, the edits are made as their
+    /// memory is taken, and no reply is made ready.
     fn change_values(&mut self, change: Change) -> Result<Reply<A>, Refused>
         requires proper { IsProper (reads self.old) [] change }
         requires asked { early_refusal_of (reads self.old) change ≡ None }
         requires values { edits_values_alone self.old.model.metamodel change ≡ true }
-        requires unheard { self.old.adapters ≡ [] }
         ensures { Executed self.old (command_of [] change) (change_outcome (changed_view A.heard result)) self.new }
     {
+        let is_heard = self.hears_values(&change);
         let model = self.model();
-        let (answer, values) = match prepare_values(self.alloc, &model, change) {
+        let prepared = match prepare_values(self.alloc, &model, change, is_heard) {
             Ok(prepared) => prepared,
             Err(refused) => return Err(refused),
         };
-        match self.values.try_apply(values) {
+        if is_heard {
+            let prepared = prepared.into_prepared(self.alloc);
+            return self.finish(prepared);
+        }
+        match self.values.try_apply(prepared.values) {
             Ok(()) => {}
             Err(_) => return Err(Refused::Memory),
         }
-        Ok(Reply {
-            answer,
-            told: Seq::new(self.alloc),
-            released: Seq::new(self.alloc),
-        })
+        Ok(reply(self.alloc, prepared.answer))
     }
 
-    /// A set of a reference, if no adapter is attached.
+    /// Whether an adapter hears of a change that edits values alone: of an object that is made nobody hears.
+    fn hears_values(&self, change: &Change) -> bool
+        requires values { edits_values_alone self.now.model.metamodel change.now ≡ true }
+        ensures { result ≡ false → IsUnheard (reads self.now).above (chain (reads self.now) change.now) self.now.adapters }
+    {
+        match change {
+            Change::At(end, _) => self.is_heard(end.node),
+            _ => false,
+        }
+    }
+
+    /// A set of a reference.
     fn set_link(&mut self, end: End, value: Value) -> Result<Reply<A>, Refused>
-        requires unheard { self.old.adapters ≡ [] }
         ensures { Executed self.old (At end (Set value)) (change_outcome (changed_view A.heard result)) self.new }
     {
         match self.set_lone_link(end, &value) {
@@ -136,8 +146,8 @@ impl<L: LinkStore, A: Adapter> Repository<L, A> {
         }
     }
 
-    /// Every change goes these steps; after the second nothing can fail. A change that loads a document is done as `load` of each text that
-    /// is read as this document. It is never inlined into `change`, which would then zero its large stack frame for each change of attributes.
+    /// Plans a change, and makes it. A change that loads a document is done as `load` of each text that is read as this document. It is
+    /// never inlined into `change`, which would then zero its large stack frame for each change of attributes.
     #[inline(never)]
     pub(super) fn carry_out(&mut self, change: Change) -> Result<Reply<A>, Refused>
         requires proper { (text : List ℕ) × IsProper (reads self.old) text change }
@@ -149,6 +159,15 @@ impl<L: LinkStore, A: Adapter> Repository<L, A> {
             Ok(prepared) => prepared,
             Err(refused) => return Err(refused),
         };
+        self.finish(prepared)
+    }
+
+    /// Makes a change that is ready: takes all memory and all places at adapters that it needs, and then edits and notifies, which can't
+    /// fail.
+    fn finish(&mut self, prepared: Prepared) -> Result<Reply<A>, Refused>
+        requires ready { (text : List ℕ) × (change : Change) × IsPrepared self.old text change prepared }
+        ensures { (text : List ℕ) (change : Change) → IsPrepared self.old text change prepared → Executed self.old (command_of text change) (change_outcome (changed_view A.heard result)) self.new }
+    {
         let Prepared {
             answer,
             spots,

@@ -1,5 +1,4 @@
 //! Changes of the lists of objects.
-ghost use Rattle.std.specs.Prelude.{◌≡◌, []};
 ghost use Rattle.repository.specs.Run.{Executed, change_outcome};
 ghost use Rattle.repository.specs.Views.{changed_view};
 ghost use Rattle.handshake.specs.declared.act.Act.TheVariants.{Add};
@@ -34,7 +33,7 @@ impl<L: LinkStore, A: Adapter> Repository<L, A> {
         ensures { Executed self.old (commands.add node feature value index) (change_outcome (changed_view A.heard result)) self.new }
     {
         let end = End { node, feature };
-        if self.adapters.len() == 0 && self.meta.is_reference(feature) {
+        if self.meta.is_reference(feature) {
             return self.add_link(end, value, index);
         }
         self.change(Change::At(end, Act::Add(value, index)))
@@ -89,9 +88,8 @@ impl<L: LinkStore, A: Adapter> Repository<L, A> {
         self.change(Change::At(End { node, feature }, Act::Move { to, from }))
     }
 
-    /// An addition to a reference, if no adapter is attached.
+    /// An addition to a reference.
     fn add_link(&mut self, end: End, value: Value, index: Option<u32>) -> Result<Reply<A>, Refused>
-        requires unheard { self.old.adapters ≡ [] }
         ensures { Executed self.old (At end (Add value index)) (change_outcome (changed_view A.heard result)) self.new }
     {
         match self.add_lone_link(end, &value, index) {

@@ -1,11 +1,12 @@
 //! Changes that nobody can hear. Most commands of a script are such changes, and to make a reply with lists of who was notified takes longer
 //! than the change itself. Each call here does what the call of its name does that has a reply.
-ghost use Rattle.std.specs.Prelude.{◌≡◌, [], None, false, true, IfErr, IfOk, MatchOption};
+ghost use Rattle.std.specs.Prelude.{◌≡◌, ◌&&◌, ◌||◌, [], None, false, true, IfErr, IfOk, MatchOption, is_some};
 ghost use Rattle.mm_types.specs.Shapes.{shape};
 ghost use Rattle.handshake.specs.Refusals.{early_refusal as early_refusal_of};
 ghost use Rattle.handshake.specs.declared.change.Change.{Change};
 ghost use Rattle.handshake.specs.declared.change.Change.TheVariants as change;
-ghost use Rattle.repository.specs.Puts.{IsPutAlone};
+ghost use Rattle.adapter_list.specs.Hearing.{is_heard as is_heard_by};
+ghost use Rattle.repository.specs.Puts.{IsPutAlone, is_put_heard};
 ghost use Rattle.repository.specs.Run.{Executed, read_outcome};
 ghost use Rattle.repository.specs.State.{reads};
 ghost use Rattle.repository.specs.Views.{command_of};
@@ -26,70 +27,9 @@ use links::{LinkStore, NewLink};
 use mm_types::{ClassNo, End, FeatureNo, Node, ObjectNo, Refused, Value};
 
 impl<L: LinkStore, A: Adapter> Repository<L, A> {
-    /// Makes an object as `create` does, and returns it, or the refusal. `None` if an adapter is attached; then nothing was done, and
-    /// `create` is to be called.
+    /// Makes an object as `create` does, of which nobody hears, and returns it, or the refusal.
     #[inline(always)]
-    pub fn create_unheard(&mut self, class: ClassNo) -> Option<Result<ObjectNo, Refused>>
-        ensures { MatchOption result (self.new ≡ self.old) (λ r. Executed self.old (Create class) (read_outcome answer.Object r) self.new) }
-    {
-        if self.adapters.len() > 0 {
-            return None;
-        }
-        Some(self.make_object(class))
-    }
-
-    /// Sets a single feature as `e_set` does, or returns the refusal. Gives the value back if an adapter is attached, or if the new link
-    /// displaces another; then nothing was done, and `e_set` is to be called.
-    #[inline(always)]
-    pub fn set_unheard(
-        &mut self,
-        node: Node,
-        feature: FeatureNo,
-        value: Value,
-    ) -> Result<Result<(), Refused>, Value>
-        ensures done { IfOk result (λ r. Executed self.old (commands.set node feature value) (read_outcome (λ u. answer.Done) r) self.new) }
-        ensures left { IfErr result (λ v. (v ≡ value) × (self.new ≡ self.old)) }
-    {
-        if self.adapters.len() > 0 {
-            return Err(value);
-        }
-        let end = End { node, feature };
-        if !self.meta.is_reference(feature) {
-            return Ok(self.set_value(end, value));
-        }
-        match self.set_lone_link(end, &value) {
-            Some(done) => Ok(done),
-            None => Err(value),
-        }
-    }
-
-    /// Adds an object to a list as `add` does, which then returns that the list changed, or returns the refusal. Gives the value back if an
-    /// adapter is attached, if the new link displaces another, if the list has the object, or if the feature is an attribute; then nothing
-    /// was done, and `add` is to be called.
-    #[inline(always)]
-    pub fn add_unheard(
-        &mut self,
-        node: Node,
-        feature: FeatureNo,
-        value: Value,
-        index: Option<u32>,
-    ) -> Result<Result<(), Refused>, Value>
-        ensures done { IfOk result (λ r. Executed self.old (commands.add node feature value index) (read_outcome (λ u. answer.Flag true) r) self.new) }
-        ensures left { IfErr result (λ v. (v ≡ value) × (self.new ≡ self.old)) }
-    {
-        if self.adapters.len() > 0 || !self.meta.is_reference(feature) {
-            return Err(value);
-        }
-        match self.add_lone_link(End { node, feature }, &value, index) {
-            Some(done) => Ok(done),
-            None => Err(value),
-        }
-    }
-
-    /// The part of `create` if no adapter is attached.
-    #[inline(always)]
-    pub(super) fn make_object(&mut self, class: ClassNo) -> Result<ObjectNo, Refused>
-        requires unheard { self.old.adapters ≡ [] }
+    pub fn create_object(&mut self, class: ClassNo) -> Result<ObjectNo, Refused>
         ensures { Executed self.old (Create class) (read_outcome answer.Object result) self.new }
     {
         let model = self.model();
@@ -104,11 +44,79 @@ impl<L: LinkStore, A: Adapter> Repository<L, A> {
         Ok(object)
     }
 
-    /// The part of `e_set` of an attribute, if no adapter is attached.
+    /// Sets a single feature as `e_set` does, or returns the refusal. Gives the value back if an adapter hears of it, or if the new link
+    /// displaces another; then nothing was done, and `e_set` is to be called.
+    #[inline(always)]
+    pub fn set_unheard(
+        &mut self,
+        node: Node,
+        feature: FeatureNo,
+        value: Value,
+    ) -> Result<Result<(), Refused>, Value>
+        ensures done { IfOk result (λ r. Executed self.old (commands.set node feature value) (read_outcome (λ u. answer.Done) r) self.new) }
+        ensures left { IfErr result (λ v. (v ≡ value) × (self.new ≡ self.old)) }
+    {
+        let end = End { node, feature };
+        if !self.meta.is_reference(feature) {
+            if self.is_heard(node) {
+                return Err(value);
+            }
+            return Ok(self.set_value(end, value));
+        }
+        match self.set_lone_link(end, &value) {
+            Some(done) => Ok(done),
+            None => Err(value),
+        }
+    }
+
+    /// Adds an object to a list as `add` does, which then returns that the list changed, or returns the refusal. Gives the value back if an
+    /// adapter hears of it, if the new link displaces another, if the list has the object, or if the feature is an attribute; then nothing
+    /// was done, and `add` is to be called.
+    #[inline(always)]
+    pub fn add_unheard(
+        &mut self,
+        node: Node,
+        feature: FeatureNo,
+        value: Value,
+        index: Option<u32>,
+    ) -> Result<Result<(), Refused>, Value>
+        ensures done { IfOk result (λ r. Executed self.old (commands.add node feature value index) (read_outcome (λ u. answer.Flag true) r) self.new) }
+        ensures left { IfErr result (λ v. (v ≡ value) × (self.new ≡ self.old)) }
+    {
+        if !self.meta.is_reference(feature) {
+            return Err(value);
+        }
+        match self.add_lone_link(End { node, feature }, &value, index) {
+            Some(done) => Ok(done),
+            None => Err(value),
+        }
+    }
+
+    /// Whether an adapter hears the notices of a node. Takes no memory.
+    #[inline(always)]
+    pub(super) fn is_heard(&self, node: Node) -> bool
+        ensures { result ≡ is_heard_by (reads self.now).above node self.now.adapters }
+    {
+        if self.adapters.len() == 0 {
+            return false;
+        }
+        self.adapters.is_heard(&self.store, node, &self.hearers)
+    }
+
+    /// Whether an adapter hears of a link that is put: at its end, or at the object if the feature has an opposite. Takes no memory.
+    #[inline(always)]
+    fn is_put_heard(&self, put: NewLink) -> bool
+        ensures { result ≡ is_put_heard self.now put }
+    {
+        self.is_heard(put.end.node)
+            || (put.opposite.is_some() && self.is_heard(Node::Object(put.object)))
+    }
+
+    /// `e_set` of an attribute that nobody hears.
     #[inline(always)]
     pub(super) fn set_value(&mut self, end: End, value: Value) -> Result<(), Refused>
         requires attribute { (shape self.old.model.metamodel end.feature).is_reference ≡ false }
-        requires unheard { self.old.adapters ≡ [] }
+        requires unheard { is_heard_by (reads self.old).above end.node self.old.adapters ≡ false }
         ensures { Executed self.old (At end (Set value)) (read_outcome (λ u. answer.Done) result) self.new }
     {
         let model = self.model();
@@ -123,11 +131,10 @@ impl<L: LinkStore, A: Adapter> Repository<L, A> {
         Ok(())
     }
 
-    /// The part of `e_set` of a reference, if no adapter is attached. `None` if more is to be done than to put one link; then nothing was
-    /// done, and no refusal applies that needs no memory.
+    /// `e_set` of a reference, if that is to put one link of which nobody hears. `None` if it is more; then nothing was done, and no refusal
+    /// applies that needs no memory.
     #[inline(always)]
     pub(super) fn set_lone_link(&mut self, end: End, value: &Value) -> Option<Result<(), Refused>>
-        requires unheard { self.old.adapters ≡ [] }
         ensures { MatchOption result
             ((self.new ≡ self.old) × (early_refusal_of (reads self.old) (change.At end (Set value.now)) ≡ None))
             (λ r. Executed self.old (At end (Set value.now)) (read_outcome (λ u. answer.Done) r) self.new) }
@@ -137,11 +144,14 @@ impl<L: LinkStore, A: Adapter> Repository<L, A> {
             return Some(Err(refused));
         }
         let put = lone_set(&model, end, value)?;
+        if self.is_put_heard(put) {
+            return None;
+        }
         Some(self.put_alone(put))
     }
 
-    /// The part of `add` to a reference, if no adapter is attached. `None` if more is to be done than to put one link; then nothing was
-    /// done, and no refusal applies that needs no memory.
+    /// `add` to a reference, if that is to put one link of which nobody hears. `None` if it is more; then nothing was done, and no refusal
+    /// applies that needs no memory.
     #[inline(always)]
     pub(super) fn add_lone_link(
         &mut self,
@@ -149,7 +159,6 @@ impl<L: LinkStore, A: Adapter> Repository<L, A> {
         value: &Value,
         index: Option<u32>,
     ) -> Option<Result<(), Refused>>
-        requires unheard { self.old.adapters ≡ [] }
         ensures { MatchOption result
             ((self.new ≡ self.old) × (early_refusal_of (reads self.old) (change.At end (Add value.now index)) ≡ None))
             (λ r. Executed self.old (At end (Add value.now index)) (read_outcome (λ u. answer.Flag true) r) self.new) }
@@ -159,11 +168,14 @@ impl<L: LinkStore, A: Adapter> Repository<L, A> {
             return Some(Err(refused));
         }
         let put = lone_add(&model, end, value, index)?;
+        if self.is_put_heard(put) {
+            return None;
+        }
         Some(self.put_alone(put))
     }
 
-    /// A change whose plan is one put, if no adapter is attached: the store makes room for the link and puts it in one step, and no plan
-    /// is made. Most links that are made displace none.
+    /// A change whose plan is one put, of which nobody hears: the store makes room for the link and puts it in one step, and no plan is
+    /// made. Most links that are made displace none.
     #[inline(always)]
     fn put_alone(&mut self, put: NewLink) -> Result<(), Refused>
         requires alone { (c : Change) × (a : Answer) × IsPutAlone self.old c put a }
@@ -173,7 +185,7 @@ impl<L: LinkStore, A: Adapter> Repository<L, A> {
             Ok(()) => {}
             Err(_) => return Err(Refused::Memory),
         }
-        forget_put(&mut self.paths, put);
+        forget_put(&mut self.paths, &mut self.hearers, put);
         Ok(())
     }
 }

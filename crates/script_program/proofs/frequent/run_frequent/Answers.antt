@@ -7,6 +7,9 @@ use Rattle.script_lines.specs.declared.line.Line.TheVariants as line
 use Rattle.script_program.specs.Session.{session}
 use Rattle.script_program.proofs.frequent.run_frequent.Goals as goal
 
+pub returns-in-New : goal.returns-in-New
+returns-in-New g c = rw (ap frequent_line c.in-New.is) (c.run_create.ensures c.args.pool.now)
+
 pub returns-in-Container : goal.returns-in-Container
 returns-in-Container g c = rw (ap frequent_line c.in-Container.is) (c.run_container.ensures c.args.pool.now)
 

@@ -10,7 +10,7 @@ put_alone-requires g c = record {
   alone = (
     At c.args.end (Add c.args.value.now c.args.index),
     answer.Flag true,
-    add-alone c.args.self.now c.model-model.result c.args.end c.args.value.now c.args.index c.lone_add.result c.in_ok-put.put c.model-model.ensures c.requires.unheard (sym c.list_early_refusal.ensures ∙ c.in_default.is) c.lone_add.ensures.put c.in_ok-put.was
+    add-alone c.args.self.now c.model-model.result c.args.end c.args.value.now c.args.index c.lone_add.result c.in_ok-put.put c.model-model.ensures (sym c.is_put_heard.ensures ∙ c.if-is_put_heard.false) (sym c.list_early_refusal.ensures ∙ c.in_default.is) c.lone_add.ensures.put c.in_ok-put.was
         c.in_ok-put.ensures.plan,
   );
 }
@@ -18,5 +18,5 @@ put_alone-requires g c = record {
 pub returns : goal.returns
 returns g c =
     c.put_alone.ensures (At c.args.end (Add c.args.value.now c.args.index)) (answer.Flag true)
-    (add-alone c.args.self.now c.model-model.result c.args.end c.args.value.now c.args.index c.lone_add.result c.in_ok-put.put c.model-model.ensures c.requires.unheard (sym c.list_early_refusal.ensures ∙ c.in_default.is) c.lone_add.ensures.put c.in_ok-put.was
+    (add-alone c.args.self.now c.model-model.result c.args.end c.args.value.now c.args.index c.lone_add.result c.in_ok-put.put c.model-model.ensures (sym c.is_put_heard.ensures ∙ c.if-is_put_heard.false) (sym c.list_early_refusal.ensures ∙ c.in_default.is) c.lone_add.ensures.put c.in_ok-put.was
     c.in_ok-put.ensures.plan)

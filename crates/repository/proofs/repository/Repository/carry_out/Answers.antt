@@ -1,45 +1,37 @@
-use Rattle.std.proofs.Common.{◌≡◌, ◌∙◌, ◌++◌, ℕ, true, false, List, [], Option, Some, None, is_some, nat_lt, length, refl, sym, ap, subst}
-use Rattle.mm_values.specs.Values.{ValuesState, applied}
-use Rattle.mm_values.specs.Room.{values_of}
-use Rattle.notice_chain.specs.Listed.{Listed, tell_chain, told_list}
-use Rattle.notice_chain.specs.Released.{Released, Spot, released}
-use Rattle.notice_chain.specs.declared.notice.Notice.{Notice}
-use Rattle.adapter_list.specs.Attached.{views_of}
-use Rattle.adapter_list.specs.Hearing.{AreKnown}
-use Rattle.adapter_list.specs.Rounds.{RoundView, delivered, round_copies}
-use Rattle.links.specs.Holders.{above}
-use Rattle.repository.specs.declared.leaving.Leaving.{Leaving}
-use Rattle.adapter_list.proofs.RoundLemmas.{delivered-round_copies}
-use Rattle.links.specs.Links.{Links}
-use Rattle.links.specs.Plans as links
-use Rattle.std.specs.FinMap as map
-use Rattle.std.specs.Prelude.{if◌then◌else◌}
-use Rattle.links.specs.Laws.{touches_containment}
-use Rattle.models.specs.Legal as models
-use Rattle.models.specs.Legal.{kinds_of}
-use Rattle.models.specs.Model.{Model, model_of, reading}
-use Rattle.models.specs.Steady.{HasSteadyTexts}
-use Rattle.handshake.specs.Effects.{after}
+use Rattle.std.proofs.Common.{◌≡◌, ◌∙◌, ℕ, List, None, ap, nat_lt, length, sym, subst}
+use Rattle.models.specs.Model.{Model, reading}
+use Rattle.notice_chain.specs.Listed.{Listed}
 use Rattle.handshake.specs.Plans.{IsPlanOf}
-use Rattle.handshake.specs.FeatureChanges.{chain}
-use Rattle.handshake.proofs.ProxyLemmas.{change-keeps-steady}
+use Rattle.handshake.specs.Refusals.{early_refusal}
+use Rattle.handshake.specs.declared.change.Change.{Change}
 use Rattle.repository.specs.Answers.{answer_of}
-use Rattle.repository.specs.Leaving.{going_with, leavers, spots_in}
+use Rattle.repository.specs.Leaving.{going_with}
+use Rattle.repository.specs.Prepared.{IsPrepared}
 use Rattle.repository.specs.Proper.{IsProper}
+use Rattle.repository.specs.declared.preparing.Prepared.{Prepared}
 use Rattle.repository.specs.Refusals.{IsPlanRefusal}
+use Rattle.repository.specs.Repository.{state}
+use Rattle.repository.specs.State.{State, reads}
 use Rattle.repository.specs.Views.{command_of}
-use Rattle.repository.specs.Repository.{KeepsFragments, state}
-use Rattle.repository.specs.State.{IsLegal, State, reads}
-use Rattle.repository.proofs.AdapterLemmas.{Heard, heard_where_attached}
-use Rattle.repository.proofs.RememberedLemmas.{hearers-after, kept-after, known-delivered}
-use Rattle.repository.proofs.PlanLemmas.{asked-of, chain_err, changed_to, planned_err, releases_of}
-use Rattle.repository.proofs.LegalLemmas.{stepped-legal}
-use Rattle.repository.proofs.LoadLemmas.{proper-steady}
+use Rattle.repository.proofs.AdapterLemmas.{heard_where_attached}
+use Rattle.repository.proofs.PlanLemmas.{asked-of, planned_err}
 use Rattle.repository.proofs.repository.Repository.carry_out.Goals as goal
 
-none-go : {A : Type 0} (q : Option (Leaving A)) → is_some q ≡ false → spots_in q ≡ []
-none-go None h = refl
-none-go (Some x) h = absurd (let no : true ≡ false = h in cc)
+-- what is prepared of the model that is seen
+ready : (s v : State) (x : Model) (text : List ℕ) (c : Change) (p : Prepared) → s ≡ v → x ≡ s.model → early_refusal (reads v) c ≡ None → IsProper (reads v) text c → ((rs : List Listed) (u : List ℕ) → IsProper (reading x) u c → p.answer ≡ answer_of (reading x) rs (command_of u c)) → p.spots.items ≡ going_with (reading x) s.adapters c
+    → IsPlanOf (nat_lt 0 (length s.adapters)) x c p.planned → IsPrepared v text c p
+ready s v x text c p seen is early proper answers spots plan =
+    let asked = asked-of s v text c seen early proper in
+    let made = subst (λ (m : Model). IsPlanOf (nat_lt 0 (length s.adapters)) m c p.planned) is plan in
+    subst (λ (t : State). IsPrepared t text c p) seen (record {
+      asked = asked.early;
+      proper = asked.proper;
+      answered = subst (λ (m : Model). p.answer ≡ answer_of (reading m) s.adapters (command_of text c)) is (answers s.adapters text (subst (λ (m : Model). IsProper (reading m) text c) (sym is) asked.proper));
+      spots = spots ∙ ap (λ (m : Model). going_with (reading m) s.adapters c) is;
+      is_heard = nat_lt 0 (length s.adapters);
+      planned = made;
+      tells = heard_where_attached (reads s).above _ _ s.adapters made.tells;
+    })
 
 pub returns-in-Err : goal.returns-in-Err
 returns-in-Err g c =
@@ -49,93 +41,15 @@ returns-in-Err g c =
     let asked = asked-of s c.args.self.now text c.args.change c.self.view_is c.requires.asked own in
     rw (← c.self.view_is) (planned_err s text c.args.change c.in-Err.refused asked.proper asked.early (subst (λ (m : Model). IsPlanRefusal m c.args.change c.in-Err.refused) is c.in-Err.ensures.refused))
 
-pub reserve-requires-clause-no_cycle : goal.reserve-requires-clause-no_cycle
-reserve-requires-clause-no_cycle g c = c.self.invariant.legal.model.links.forest
-
-pub returns-in-Err-reserve : goal.returns-in-Err-reserve
-returns-in-Err-reserve g c =
+pub finish-requires : goal.finish-requires
+finish-requires g c =
     let s : State = state g.L.LinkStore.links c.self.inside in
     let is : c.model-model.result ≡ s.model = c.model-model.ensures ∙ ap (λ (t : State). t.model) (sym c.self.view_is) in
-    λ text own.
-    let asked = asked-of s c.args.self.now text c.args.change c.self.view_is c.requires.asked own in
-    let plan = subst (λ (m : Model). IsPlanOf (nat_lt 0 (length s.adapters)) m c.args.change c.in-Ok.prepared.planned) is c.in-Ok.ensures.planned in
-    let heard : Heard (reads s).above c.in-Ok.prepared.planned.chain (chain (reads s) c.args.change) s.adapters = heard_where_attached (reads s).above _ _ s.adapters plan.tells in
-    rw (← c.self.view_is, c.reserve.ensures.links, c.reserve.ensures.values, c.reserve.ensures.adapters)
-    (chain_err s text c.args.change c.in-Ok.prepared.planned.chain c.in-Err-reserve.refused asked.proper asked.early plan.allowed heard c.in-Err-reserve.ensures.reason)
+    let text = c.requires.proper.0 in
+    record { ready = (text, c.args.change, ready s c.args.self.now c.model-model.result text c.args.change c.in-Ok.prepared c.self.view_is is c.requires.asked c.requires.proper.1 c.in-Ok.ensures.answer c.in-Ok.ensures.spots c.in-Ok.ensures.planned) }
 
 pub returns : goal.returns
 returns g c =
     let s : State = state g.L.LinkStore.links c.self.inside in
     let is : c.model-model.result ≡ s.model = c.model-model.ensures ∙ ap (λ (t : State). t.model) (sym c.self.view_is) in
-    λ text own.
-    let asked = asked-of s c.args.self.now text c.args.change c.self.view_is c.requires.asked own in
-    let plan = subst (λ (m : Model). IsPlanOf (nat_lt 0 (length s.adapters)) m c.args.change c.in-Ok.prepared.planned) is c.in-Ok.ensures.planned in
-    let up = (reads s).above in
-    let ns : List Notice = c.in-Ok.prepared.planned.chain in
-    let heard : Heard up ns (chain (reads s) c.args.change) s.adapters = heard_where_attached up _ _ s.adapters plan.tells in
-    let values = c.apply-2.ensures ∙ ap (λ (v : ValuesState). applied v c.in-Ok.prepared.planned.values) c.reserve.ensures.values ∙ plan.values_made in
-    let made_links = c.apply.ensures.links ∙ ap (λ (l : Links). links.applied l c.in-Ok.prepared.planned.edits) c.reserve.ensures.links ∙ plan.links_made in
-    let answered = subst (λ (m : Model). c.in-Ok.prepared.answer ≡ answer_of (reading m) s.adapters (command_of text c.args.change)) is (c.in-Ok.ensures.answer s.adapters text (subst (λ (m : Model). IsProper (reading m) text c.args.change) (sym is) asked.proper)) in
-    let rs : List Listed = c.reserve.new.adapters.0 in
-    let round : RoundView = c.in-Ok-reserve.reserved.0 in
-    let delivery : delivered round.copies rs ≡ tell_chain up ns s.adapters = ap (λ (r : RoundView). delivered r.copies rs) c.in-Ok-reserve.ensures.round ∙ ap (delivered (round_copies up ns s.adapters)) c.reserve.ensures.adapters ∙ delivered-round_copies up ns s.adapters in
-    let ss = spots_in c.in-Ok-reserve.reserved.1 in
-    let go : ss ≡ going_with (reads s) s.adapters c.args.change = c.in-Ok-reserve.ensures.spots ∙ c.in-Ok.ensures.spots ∙ ap (λ (m : Model). going_with (reading m) s.adapters c.args.change) is in
-    let left : leavers ss round.copies rs ≡ releases_of s c.args.change ns = λ i. released (go i) (delivery i) in
-    let told = c.from_vec.ensures ∙ c.notify-told.ensures.told ∙ ap (λ (r : RoundView). r.told ++ (leavers ss round.copies rs).told) c.in-Ok-reserve.ensures.round ∙ ap (λ (x : Released). told_list up ns s.adapters ++ x.told) left in
-    let views = ap (views_of g.A.Adapter.heard) c.from_vec-2.ensures ∙ c.notify-told.ensures.released ∙ ap (λ (x : Released). x.views) left in
-    let adapters = c.notify-told.ensures.others ∙ ap (λ (x : Released). x.others) left in
-    let t : State = record { model = model_of c.self.inside.meta (values_of c.apply-2.new.self) (g.L.LinkStore.links c.apply.new.self); adapters = c.notify-told.new.adapters.0 } in
-    rw (← c.self.view_is)
-    (changed_to s t text c.args.change ns c.in-Ok.prepared.answer c.from_vec.result (views_of g.A.Adapter.heard c.from_vec-2.result) asked.proper asked.early plan.allowed heard c.in-Ok-reserve.ensures.counted answered told views
-    (λ i. model_of c.self.inside.meta (values i) (made_links i)) adapters)
-
--- where places are refused, nothing that is seen has changed
-pub invariant_of-self : goal.invariant_of-self
-invariant_of-self g c =
-    let m = c.self.inside.meta in
-    let same : model_of m (values_of c.self.inside.values) (g.L.LinkStore.links c.self.inside.store) ≡ model_of m (values_of c.reserve.new.values) (g.L.LinkStore.links c.reserve.new.store) =
-    λ i. model_of m (sym c.reserve.ensures.values i) (sym c.reserve.ensures.links i) in
-    record {
-      legal = subst IsLegal (λ i. record { model = same i; adapters = sym c.reserve.ensures.adapters i }) c.self.invariant.legal;
-      steady = subst HasSteadyTexts same c.self.invariant.steady;
-      kinds_are = c.reserve.ensures.kinds (kinds_of m) c.self.invariant.kinds_are;
-      paths = subst (λ (x : Model). KeepsFragments (reading x) c.self.inside.paths) same c.self.invariant.paths;
-      hearers = subst (λ (l : Links). AreKnown (above l) c.reserve.new.adapters.0 c.reserve.new.hearers) (sym c.reserve.ensures.links) (subst (λ (rs : List Listed). AreKnown (above (g.L.LinkStore.links c.self.inside.store)) rs c.reserve.new.hearers) (sym c.reserve.ensures.adapters) c.reserve.ensures.known);
-    }
-
-pub invariant_of-self-2 : goal.invariant_of-self-2
-invariant_of-self-2 g c =
-    let s : State = state g.L.LinkStore.links c.self.inside in
-    let is : c.model-model.result ≡ s.model = c.model-model.ensures ∙ ap (λ (t : State). t.model) (sym c.self.view_is) in
-    let text : List ℕ = c.requires.proper.0 in
-    let proper : IsProper (reads s) text c.args.change = subst (λ (t : State). IsProper (reads t) text c.args.change) (sym c.self.view_is) c.requires.proper.1 in
-    let plan = subst (λ (m : Model). IsPlanOf (nat_lt 0 (length s.adapters)) m c.args.change c.in-Ok.prepared.planned) is c.in-Ok.ensures.planned in
-    let edits = c.in-Ok.prepared.planned.edits in
-    let m = c.self.inside.meta in
-    let w = values_of c.apply-2.new.self in
-    let applied_links = c.apply.ensures.links ∙ ap (λ (l : Links). links.applied l edits) c.reserve.ensures.links in
-    let values = c.apply-2.ensures ∙ ap (λ (v : ValuesState). applied v c.in-Ok.prepared.planned.values) c.reserve.ensures.values ∙ plan.values_made in
-    let made_links = applied_links ∙ plan.links_made in
-    let made : model_of m w (g.L.LinkStore.links c.apply.new.self) ≡ after s.model c.args.change = λ i. model_of m (values i) (made_links i) in
-    let legal = stepped-legal _ _ (command_of text c.args.change) _ (subst IsLegal c.self.view_is c.self.invariant.legal) (returns g c text c.requires.proper.1) in
-    let legal_after = subst (λ (l : Links). models.IsLegal (model_of m w l)) applied_links legal.model in
-    record {
-      legal = legal;
-      steady = subst HasSteadyTexts (sym made) (change-keeps-steady s.model c.args.change c.self.invariant.steady (proper-steady (reads s) text c.args.change proper));
-      kinds_are = c.apply.ensures.kinds (kinds_of m) (c.reserve.ensures.kinds (kinds_of m) c.self.invariant.kinds_are) plan.of_kind;
-      paths = subst (KeepsFragments (reading (model_of m w (g.L.LinkStore.links c.apply.new.self)))) (sym c.forget_touched.ensures.paths)
-          (subst (λ (l : Links). KeepsFragments (reading (model_of m w l)) (if touches_containment (kinds_of m) edits then map.empty else c.self.inside.paths)) (sym applied_links)
-          (kept-after m (values_of c.self.inside.values) w (g.L.LinkStore.links c.self.inside.store) edits c.self.invariant.legal.model legal_after plan.fits plan.of_kind c.self.inside.paths c.self.invariant.paths));
-      hearers = c.forget_touched.ensures.hearers (above (g.L.LinkStore.links c.apply.new.self)) c.notify-told.new.adapters.0 (λ out stay.
-          let old = g.L.LinkStore.links c.self.inside.store in
-          let rs : List Listed = c.reserve.new.adapters.0 in
-          let copies = c.in-Ok-reserve.reserved.0.copies in
-          let known : AreKnown (above old) rs c.reserve.new.hearers = subst (λ (qs : List Listed). AreKnown (above old) qs c.reserve.new.hearers) (sym c.reserve.ensures.adapters) c.reserve.ensures.known in
-          let told = known-delivered (above old) copies rs c.reserve.new.hearers known in
-          let moved = hearers-after m (values_of c.self.inside.values) w old edits c.self.invariant.legal.model legal_after plan.fits plan.of_kind (delivered copies rs) c.reserve.new.hearers told out in
-          let nobody : spots_in c.in-Ok-reserve.reserved.1 ≡ [] = none-go c.in-Ok-reserve.reserved.1 (sym c.is_some.ensures ∙ stay) in
-          let others : c.notify-told.new.adapters.0 ≡ delivered copies rs = c.notify-told.ensures.others ∙ ap (λ (ss : List Spot). (leavers ss copies rs).others) nobody in
-          subst (λ (l : Links). AreKnown (above l) c.notify-told.new.adapters.0 c.reserve.new.hearers) (sym applied_links)
-          (subst (λ (qs : List Listed). AreKnown (above (links.applied old edits)) qs c.reserve.new.hearers) (sym others) moved));
-    }
+    λ text own. c.finish.ensures text c.args.change (ready s c.args.self.now c.model-model.result text c.args.change c.in-Ok.prepared c.self.view_is is c.requires.asked own c.in-Ok.ensures.answer c.in-Ok.ensures.spots c.in-Ok.ensures.planned)

@@ -1,4 +1,4 @@
-use Rattle.std.proofs.Common.{◌≡◌, ◌∙◌, Bool, [], ◌∷◌, refl, sym, ap, subst}
+use Rattle.std.proofs.Common.{◌≡◌, ◌∙◌, Bool, [], ◌∷◌, None, false, refl, sym, ap, subst}
 use Rattle.std.specs.FinMap as map
 use Rattle.std.specs.Prelude.{if◌then◌else◌}
 use Rattle.mm_values.specs.Room.{values_of}
@@ -13,6 +13,9 @@ use Rattle.models.specs.Model.{Model, model_of, reading}
 use Rattle.models.specs.Steady.{HasSteadyTexts}
 use Rattle.fragment_paths.specs.Kept.{Kept}
 use Rattle.handshake.specs.Effects.{after}
+use Rattle.handshake.specs.FeatureChanges.{destroyed_by}
+use Rattle.handshake.specs.LonePuts.{of_put}
+use Rattle.handshake.specs.Plans.{IsPlanOf}
 use Rattle.handshake.specs.declared.change.Change.{Change}
 use Rattle.links.specs.declared.link.NewLink.{NewLink}
 use Rattle.handshake.proofs.ProxyLemmas.{change-keeps-steady}
@@ -23,15 +26,19 @@ use Rattle.repository.specs.Views.{command_of}
 use Rattle.repository.specs.declared.reply.Answer.{Answer}
 use Rattle.repository.proofs.LegalLemmas.{stepped-legal}
 use Rattle.repository.proofs.LoadLemmas.{proper-steady}
-use Rattle.repository.proofs.LonePutLemmas.{none-hears, put-touches}
+use Rattle.repository.proofs.LonePutLemmas.{put-touches}
 use Rattle.repository.proofs.PlanLemmas.{out_of_memory}
-use Rattle.repository.proofs.RememberedLemmas.{kept-after}
+use Rattle.repository.proofs.RememberedLemmas.{hearers-after, kept-after}
 use Rattle.repository.proofs.ValueLemmas.{changed-unheard}
 use Rattle.repository.proofs.repository.Repository.put_alone.Goals as goal
 
 -- what is asked of the state that is seen holds of the one that shows it
 seen : (s v : State) (ch : Change) (p : NewLink) (a : Answer) → s ≡ v → IsPutAlone v ch p a → IsPutAlone s ch p a
 seen s v ch p a is h = subst (λ (t : State). IsPutAlone t ch p a) (sym is) h
+
+-- a plan that destroys nothing is of a change that destroys nothing
+kept : {s : Model} (change : Change) (p : NewLink) → IsPlanOf false s change (of_put p) → destroyed_by change ≡ None
+kept change p plan = sym plan.removed.whose
 
 pub put-requires-clause-fits : goal.put-requires-clause-fits
 put-requires-clause-fits g c = (seen _ _ c.requires.alone.0 c.args.put c.requires.alone.1 c.self.view_is c.requires.alone.2).planned.fits.0
@@ -70,7 +77,7 @@ returns g c = λ change answer given.
     let links = c.in-Ok.ensures.links ∙ plan.links_made in
     let t : State = record { model = model_of c.self.inside.meta (values_of c.self.inside.values) (g.L.LinkStore.links c.put.new.self); adapters = c.self.inside.adapters.0 } in
     rw (← c.self.view_is)
-    (changed-unheard s t [] change answer [] [] alone.unheard refl refl alone.proper alone.asked plan.allowed alone.answered
+    (changed-unheard s t [] change answer [] [] alone.unheard (kept change put plan) refl refl alone.proper alone.asked plan.allowed alone.answered
     (λ i. model_of c.self.inside.meta (plan.values_made i) (links i)) refl)
 
 pub invariant_of-self-2 : goal.invariant_of-self-2
@@ -91,11 +98,13 @@ invariant_of-self-2 g c =
     let legal_after = subst (λ (l : Links). models.IsLegal (model_of m v l)) is legal.model in
     let kept = kept-after m v v old (put_edit put ∷ []) c.self.invariant.legal.model legal_after plan.fits plan.of_kind c.self.inside.paths c.self.invariant.paths in
     let forgets : Bool → Kept = λ b. if b then map.empty else c.self.inside.paths in
-    let paths : c.forget_put.new.paths ≡ forgets (touches_containment (kinds_of m) (put_edit put ∷ [])) = c.forget_put.ensures ∙ ap forgets (sym (put-touches (kinds_of m) put plan.of_kind.0)) in
+    let paths : c.forget_put.new.paths ≡ forgets (touches_containment (kinds_of m) (put_edit put ∷ [])) = c.forget_put.ensures.paths ∙ ap forgets (sym (put-touches (kinds_of m) put plan.of_kind.0)) in
     record {
       legal = legal;
       steady = subst HasSteadyTexts (sym made) (change-keeps-steady s.model change c.self.invariant.steady (proper-steady (reads s) [] change alone.proper));
       kinds_are = c.in-Ok.ensures.kinds (kinds_of m) c.self.invariant.kinds_are plan.of_kind.0;
       paths = subst (λ (l : Links). KeepsFragments (reading (model_of m v l)) c.forget_put.new.paths) (sym is) (subst (KeepsFragments (reading (model_of m v _))) (sym paths) kept);
-      hearers = none-hears (above old) (above new) c.self.inside.adapters.0 c.self.inside.hearers alone.unheard c.self.invariant.hearers;
+      hearers = c.forget_put.ensures.hearers (above new) c.self.inside.adapters.0 (λ apart.
+          subst (λ (l : Links). AreKnown (above l) c.self.inside.adapters.0 c.self.inside.hearers) (sym is)
+          (hearers-after m v v old (put_edit put ∷ []) c.self.invariant.legal.model legal_after plan.fits plan.of_kind c.self.inside.adapters.0 c.self.inside.hearers c.self.invariant.hearers (put-touches (kinds_of m) put plan.of_kind.0 ∙ apart)));
     }

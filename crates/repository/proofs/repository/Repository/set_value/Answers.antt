@@ -11,7 +11,8 @@ use Rattle.handshake.specs.Plans.{IsPlanOf, of_values}
 use Rattle.handshake.specs.declared.change.Change.{Change}
 use Rattle.handshake.specs.declared.change.Change.TheVariants.{At}
 use Rattle.handshake.specs.declared.act.Act.TheVariants.{Set}
-use Rattle.handshake.proofs.ValueLemmas.{values-planned}
+use Rattle.adapter_list.specs.Hearing.{is_heard}
+use Rattle.handshake.proofs.ValueLemmas.{near-notifiers, values-planned}
 use Rattle.repository.specs.Repository.{state}
 use Rattle.repository.specs.State.{IsLegal, State, reads}
 use Rattle.repository.specs.Views.{command_of}
@@ -25,11 +26,11 @@ use Rattle.repository.proofs.repository.Repository.set_value.Goals as goal
 
 -- the plan of a set of an attribute is the edit of one value
 flagged : (s : State) (m : Model) (e : End) (v : Value) (flag : Bool) (q : Option Refused) → IsLegal s → m ≡ s.model → FoundOf m (At e (Set v)) q → q ≡ None → flag ≡ (shape m.metamodel e.feature).is_unsettable → (shape s.model.metamodel e.feature).is_reference ≡ false
-    → IsPlanOf false s.model (At e (Set v)) (of_values (put_values e (v ∷ []) flag))
+    → IsPlanOf false s.model (At e (Set v)) (of_values (put_values e (v ∷ []) flag) [])
 flagged s m e v flag q legal is found known flag_is attribute =
     let free = free-as-found s m (At e (Set v)) q is found known in
     let same = flag_is ∙ ap (λ (m : Model). (shape m.metamodel e.feature).is_unsettable) is in
-    values-planned s.model (At e (Set v)) _ (ap not attribute) legal.model free.0 free.1 (λ i. if sym attribute i then [] else put_values e (v ∷ []) (same i))
+    values-planned false s.model (At e (Set v)) _ [] (ap not attribute) legal.model free.0 free.1 (λ i. if sym attribute i then [] else put_values e (v ∷ []) (same i)) refl
 
 pub returns-in-Some : goal.returns-in-Some
 returns-in-Some g c =
@@ -56,13 +57,14 @@ returns g c =
     let change : Change = At c.args.end (Set c.args.value) in
     let is : c.model-model.result ≡ s.model = c.model-model.ensures ∙ ap (λ (t : State). t.model) (sym c.self.view_is) in
     let free = free-as-found s c.model-model.result change _ is c.attribute_refusal.ensures c.in_default.is in
-    let none : s.adapters ≡ [] = subst (λ (t : State). t.adapters ≡ []) (sym c.self.view_is) c.requires.unheard in
+    let attribute : (shape s.model.metamodel c.args.end.feature).is_reference ≡ false = subst (λ (t : State). (shape t.model.metamodel c.args.end.feature).is_reference ≡ false) (sym c.self.view_is) c.requires.attribute in
+    let none : is_heard (reads s).above c.args.end.node s.adapters ≡ false = subst (λ (t : State). is_heard (reads t).above c.args.end.node t.adapters ≡ false) (sym c.self.view_is) c.requires.unheard in
     let plan = flagged s c.model-model.result c.args.end c.args.value c.is_unsettable-flag.result _ c.self.invariant.legal is c.attribute_refusal.ensures c.in_default.is (c.is_unsettable-flag.ensures ∙ ap (λ (m : Metamodel). (shape m c.args.end.feature).is_unsettable) c.meta.ensures)
     (subst (λ (t : State). (shape t.model.metamodel c.args.end.feature).is_reference ≡ false) (sym c.self.view_is) c.requires.attribute) in
     let values = c.in-Ok.ensures.ok ∙ plan.values_made in
     let t : State = record { model = model_of c.self.inside.meta (values_of c.put_value.new.values) (g.L.LinkStore.links c.self.inside.store); adapters = c.self.inside.adapters.0 } in
     rw (← c.self.view_is)
-    (changed-unheard s t [] change answer.Done [] [] none refl refl tt free.0 free.1 refl
+    (changed-unheard s t [] change answer.Done [] [] (near-notifiers (λ x. is_heard (reads s).above x s.adapters ≡ false) (reads s) change (ap not attribute) none) refl refl refl tt free.0 free.1 refl
     (λ i. model_of c.self.inside.meta (values i) (plan.links_made i)) refl)
 
 pub invariant_of-self-2 : goal.invariant_of-self-2
@@ -71,4 +73,4 @@ invariant_of-self-2 g c =
     let plan = flagged _ c.model-model.result c.args.end c.args.value c.is_unsettable-flag.result _ c.self.invariant.legal seen c.attribute_refusal.ensures c.in_default.is (c.is_unsettable-flag.ensures ∙ ap (λ (m : Metamodel). (shape m c.args.end.feature).is_unsettable) c.meta.ensures)
     (subst (λ (t : State). (shape t.model.metamodel c.args.end.feature).is_reference ≡ false) (sym c.self.view_is) c.requires.attribute) in
     let legal = stepped-legal _ _ (command_of [] (At c.args.end (Set c.args.value))) _ (subst IsLegal c.self.view_is c.self.invariant.legal) (returns g c) in
-    made g.L.LinkStore.links g.L.LinkStore.kinds c.self.inside c.put_value.new.values (At c.args.end (Set c.args.value)) _ plan c.in-Ok.ensures.ok (proper-steady (reads (state g.L.LinkStore.links c.self.inside)) [] (At c.args.end (Set c.args.value)) tt) legal c.self.invariant
+    made g.L.LinkStore.links g.L.LinkStore.kinds c.self.inside c.put_value.new.values false (At c.args.end (Set c.args.value)) _ [] plan c.in-Ok.ensures.ok (proper-steady (reads (state g.L.LinkStore.links c.self.inside)) [] (At c.args.end (Set c.args.value)) tt) legal c.self.invariant

@@ -1,0 +1,15 @@
+-- Which plans may give a node another container.
+use Rattle.std.specs.Prelude.{◌&&◌, Bool, true, false, not, List, [], ◌∷◌}
+use Rattle.links.specs.Laws.{touches_containment}
+use Rattle.links.specs.LegalSets.{Kinds}
+use Rattle.links.specs.declared.plan.Edit.{Edit}
+use Rattle.links.specs.declared.plan.Edit.TheVariants as edit
+
+-- a plan moves one value within its list, and edits nothing else
+abbrev pub is_move : List Edit → Bool
+is_move (edit.Shift e to from ∷ []) = true
+is_move _ = false
+
+-- a plan edits a link that contains, and does more than move it within its list
+abbrev pub may_change_containers : Kinds → List Edit → Bool
+may_change_containers m plan = touches_containment m plan && not (is_move plan)
