@@ -1,11 +1,15 @@
 -- The lines that were read of an input.
-use Rattle.std.proofs.Common.{◌≡◌, ◌≢◌, ◌∙◌, ◌<◌, ◌++◌, ℕ, List, [], ◌∷◌, Option, None, Some, ap, append-nil, append_assoc, arith, cond, length, ne_eqb, refl, sym}
-use Rattle.std.specs.Prelude.{OnSome}
+use Rattle.std.proofs.Common.{◌≡◌, ◌≢◌, ◌∙◌, ◌+◌, ◌-◌, ◌^◌, ◌<◌, ◌≤◌, ◌++◌, ◌||◌, inl, inr, ℕ, Bool, true, false, List, [], ◌∷◌, Option, None, Some, ap, append-nil, append_assoc, arith, cond, length, lt-ltb, ne_eqb, refl, sym}
+use Rattle.std.specs.List.{list_any}
+use Rattle.std.specs.Prelude.{IfSome, OnSome, nat_lt}
 use Rattle.std.specs.Io.KnownBytes.{IsAtEnd}
-use Rattle.std.proofs.lemmas.List.{nil_from_length}
+use Rattle.std.proofs.lemmas.List.{length-append, nil_from_length}
+use Rattle.std.proofs.lemmas.List.Folds.{list_any-append}
 use Rattle.std.proofs.lemmas.List.Elements.{All-head, All-tail}
+use Rattle.durable.specs.Answered.{IsTooLong}
+use Rattle.mm_types.specs.declared.limits.TheConstants.{INPUT_BYTES}
 use Rattle.script_lines.specs.Lines.{lines, with_byte}
-use Rattle.script_streams.specs.Line.{HasNoNewline, ReadsLine}
+use Rattle.script_streams.specs.Line.{BeginsTooLong, HasNoNewline, ReadsLine}
 use Rattle.script_streams.specs.declared.line.LineEnd.{LineEnd}
 use Rattle.script_streams.specs.declared.line.LineEnd.TheVariants.{Input, Newline}
 
@@ -70,3 +74,55 @@ pub at_end : (a b c : Option (List ℕ)) (done : List (List ℕ)) (line : List �
 at_end None b c done line had read = tt
 at_end (Some x) None c done line had read = absurd had
 at_end (Some x) (Some y) c done line had read = read.consumed.1
+
+-- ---- a line that is too long
+
+byte_front : (c : ℕ) (ls : List (List ℕ)) → (more : List ℕ) × (others : List (List ℕ)) × (with_byte c ls ≡ (c ∷ more) ∷ others)
+byte_front c [] = ([], [], refl)
+byte_front c (l ∷ ls) = (l, ls, refl)
+
+lines-front : (line rest : List ℕ) → HasNoNewline line → 0 < length line → (more : List ℕ) × (others : List (List ℕ)) × (lines (line ++ rest) ≡ (line ++ more) ∷ others)
+lines-front [] rest plain some = absurd (omega (arith, some))
+lines-front (c ∷ []) rest plain some =
+    let front = byte_front c (lines rest) in
+    (front.0, front.1, ap (λ b. cond b ([] ∷ lines rest) (with_byte c (lines rest))) (ne_eqb c 10 (All-head (λ y. y ≢ 10) c [] plain)) ∙ front.2)
+lines-front (c ∷ d ∷ ds) rest plain some =
+    let front = lines-front (d ∷ ds) rest (All-tail (λ y. y ≢ 10) c (d ∷ ds) plain) (omega arith) in (
+      front.0,
+      front.1,
+      ap (λ b. cond b ([] ∷ lines (d ∷ ds ++ rest)) (with_byte c (lines (d ∷ ds ++ rest)))) (ne_eqb c 10 (All-head (λ y. y ≢ 10) c (d ∷ ds) plain))
+          ∙ ap (with_byte c) front.2,
+    )
+
+is_long : List ℕ → Bool
+is_long l = nat_lt INPUT_BYTES (length l)
+
+or_true : (a : Bool) → (a || true) ≡ true
+or_true true = refl
+or_true false = refl
+
+any_long : (bytes : List ℕ) → BeginsTooLong bytes → list_any is_long (lines bytes) ≡ true
+unfolding is_long
+any_long bytes h =
+    let long = h.long in
+    let front = lines-front h.line h.rest h.in_line (omega (arith, long)) in
+    let whole : length (h.line ++ front.0) ≡ length h.line + length front.0 = length-append h.line front.0 in
+    let over : is_long (h.line ++ front.0) ≡ true = lt-ltb _ _ (omega (arith, long, whole)) in
+    ap (list_any is_long) (ap lines h.bytes_are ∙ front.2) ∙ ap (λ b. b || list_any is_long front.1) over
+
+module _ (done : List (List ℕ)) where
+  -- the next line is too long
+  pub too_long : (a b : Option (List ℕ)) → LinesRead a b done → IfSome b BeginsTooLong → IfSome a (λ input. IsTooLong (lines input))
+  unfolding is_long
+  too_long None b read long = tt
+  too_long (Some x) None read long = absurd read
+  too_long (Some x) (Some y) read long =
+      inl (ap (list_any is_long) read ∙ list_any-append is_long done (lines y) ∙ ap (λ t. list_any is_long done || t) (any_long y long) ∙ or_true (list_any is_long done))
+
+  -- there are as many lines as can be counted
+  pub too_many : (a b : Option (List ℕ)) → LinesRead a b done → 2 ^ 64 - 1 ≤ length done → IfSome a (λ input. IsTooLong (lines input))
+  too_many None b read many = tt
+  too_many (Some x) None read many = absurd read
+  too_many (Some x) (Some y) read many =
+      let all : length (lines x) ≡ length done + length (lines y) = ap length read ∙ length-append done (lines y) in
+      inr (omega (arith, all, many))

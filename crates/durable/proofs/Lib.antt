@@ -1,4 +1,4 @@
 mod DialogueLemmas
-mod InputLemmas
+pub mod InputLemmas
 mod RunLemmas
 mod TwinLemmas

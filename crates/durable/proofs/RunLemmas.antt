@@ -4,11 +4,13 @@ use Rattle.std.specs.Io.KnownBytes.{Appends}
 use Rattle.std.proofs.KnownBytes.{Appends-trans}
 use Rattle.std.proofs.lemmas.List.Concat.{flat_map-append}
 use Rattle.script_streams.specs.Streams.{AppendsFront}
-use Rattle.script_streams.proofs.FrontLemmas.{front_after, front_whole}
-use Rattle.journal.specs.Journal.{IsBeforeOrAfter}
+use Rattle.script_streams.specs.declared.run_fault.RunFault.{RunFault}
+use Rattle.script_streams.specs.declared.run_fault.RunFault.TheVariants.{Read, Write, TooLong, Memory, Journal}
+use Rattle.script_streams.proofs.FrontLemmas.{front_after}
+use Rattle.journal.specs.Journal.{IsBeforeOrAfter, StandsFor}
 use Rattle.journal.specs.Lines.{recovered}
-use Rattle.durable.specs.Answered.{Ends, LeavesFront, Stops}
-use Rattle.durable.specs.Outboxes.{Gives, GivesFront, IsAtRest, LeavesBoth, Takes, disk_under, held_by, kept_by, noted_by, writer_of}
+use Rattle.durable.specs.Answered.{Ends, LeavesFront, Stops, WritesUntil}
+use Rattle.durable.specs.Outboxes.{FailsToGive, Gives, IsAtRest, LeavesBoth, Takes, disk_under, held_by, kept_by, noted_by, writer_of}
 use Rattle.durable.specs.Printed.{Printed, Runs, RunsLines, answer, answers, kept_line, kept_lines}
 use Rattle.durable.specs.declared.outbox.Outbox.{Outbox}
 
@@ -20,6 +22,7 @@ pub record World (S D W : Type 0) : Type 1 where
   pub may_leave : D → List ℕ → Type 0
   pub moment : D → ℕ
   pub left_since : D → ℕ → List ℕ → Type 0
+  pub faults : D → ℕ
   pub counts_now : (file : D) (t : ℕ) (c : List ℕ) → t ≤ moment file → may_leave file c → left_since file t c
   pub only_now : (file : D) (c : List ℕ) → left_since file (moment file) c → may_leave file c
 
@@ -44,6 +47,21 @@ module _ {S : Type 0} (runs : Runs S) where
   kept_lines-append s (l ∷ ls) (p ∷ ps) t ms qs one =
       ap (λ (ks : List (List ℕ)). kept_line l p ++ ks) (kept_lines-append one.0 ls ps t ms qs one.2)
       ∙ sym (append_assoc (kept_line l p) (kept_lines ls ps) (kept_lines ms qs))
+
+-- a fault that comes while answers may be held back, or before they are written
+abbrev pub ComesBetween : RunFault → Type 0
+ComesBetween Read = ⊥
+ComesBetween Write = ⊥
+ComesBetween TooLong = Unit {0}
+ComesBetween Memory = Unit {0}
+ComesBetween Journal = Unit {0}
+
+writes_between : (fault : RunFault) → ComesBetween fault → (next : List (List ℕ)) (a b : Option (List ℕ)) (text : List ℕ) → Appends a b text → WritesUntil fault next a b text
+writes_between Read between next a b text written = absurd between
+writes_between Write between next a b text written = absurd between
+writes_between TooLong between next a b text written = written
+writes_between Memory between next a b text written = written
+writes_between Journal between next a b text written = written
 
 Appends-none : (a : Option (List ℕ)) → Appends a a []
 Appends-none None = tt
@@ -193,11 +211,11 @@ module _ {S D W : Type 0} (w : World S D W) (s : S) (o : Outbox D W) where
       leaves_front c (inr with_more) =
           record { first = r.first ++ r.next; rest = rest; lines_are = together; printed = all_printed; after = t; ran = ran_all; stands = with_more ∙ kept_all }
 
-      -- the run stops, and no more answers were written
-      stops : (m : Outbox D W) → Appends old (w.contents (writer_of m)) (answers r.printed)
+      -- the run stops
+      stops : (fault : RunFault) (m : Outbox D W) → WritesUntil fault r.next old (w.contents (writer_of m)) (answers r.printed)
           → ((c : List ℕ) → w.may_leave (disk_under m) c → IsBeforeOrAfter (before ++ kept_lines r.first r.printed) (kept_lines r.next r.printed_next) c)
-          → Stops w.runs s before all old (w.contents (writer_of m)) (w.may_leave (disk_under m))
-      stops m written left = record {
+          → Stops w.runs fault s before all old (w.contents (writer_of m)) (w.may_leave (disk_under m))
+      stops fault m written left = record {
         first = r.first;
         next = r.next;
         rest = rest;
@@ -208,25 +226,21 @@ module _ {S D W : Type 0} (w : World S D W) (s : S) (o : Outbox D W) where
         printed_next = r.printed_next;
         after_next = t;
         ran_next = r.ran_next;
-        written = front_whole old (w.contents (writer_of m)) (answers r.printed) written;
+        written = written;
         left = left;
       }
 
-      -- between two settlements
-      pub stops_between : (m : Outbox D W) → disk_under m ≡ disk_under n → writer_of m ≡ writer_of n → Stops w.runs s before all old (w.contents (writer_of m)) (w.may_leave (disk_under m))
-      stops_between m same_disk same_writer =
-          stops m (subst (λ (x : W). Appends old (w.contents x) (answers r.printed)) (sym same_writer) r.written)
-          (λ c left. inl (ap recovered (r.at_rest.durable c (subst (λ (d : D). w.may_leave d c) same_disk left)) ∙ r.kept))
+      left_during : (m : Outbox D W) → LeavesBoth w.seen w.moment w.left_since n m → (c : List ℕ) → w.may_leave (disk_under m) c
+          → IsBeforeOrAfter (before ++ kept_lines r.first r.printed) (kept_lines r.next r.printed_next) c
+      left_during m during c left =
+          subst (λ (p : List (List ℕ) × List (List ℕ)). IsBeforeOrAfter p.0 p.1 c) (λ i. (r.kept i, r.noted i))
+          (during.each c (w.counts_now (disk_under m) (w.moment (disk_under n)) c during.later left))
 
-      -- in a settlement
-      pub stops_within : (m : Outbox D W) → GivesFront w.contents w.seen w.may_leave n m → LeavesBoth w.seen w.moment w.left_since n m
-          → Stops w.runs s before all old (w.contents (writer_of m)) (w.may_leave (disk_under m))
-      stops_within m (inl nothing) during =
-          let wrote = Appends-trans old (w.contents (writer_of n)) (w.contents (writer_of m)) (answers r.printed) [] r.written nothing in
-          stops m (subst (Appends old (w.contents (writer_of m))) (append-nil (answers r.printed)) wrote)
-          (λ c left. subst (λ (p : List (List ℕ) × List (List ℕ)). IsBeforeOrAfter p.0 p.1 c) (λ i. (r.kept i, r.noted i))
-          (during.each c (w.counts_now (disk_under m) (w.moment (disk_under n)) c during.later left)))
-      stops_within m (inr (stand, front)) during = record {
+      -- it stops when all lines that were run are on the disk
+      stops_kept : (fault : RunFault) (m : Outbox D W) → WritesUntil fault [] old (w.contents (writer_of m)) (answers all_printed)
+          → ((c : List ℕ) → w.may_leave (disk_under m) c → StandsFor (before ++ kept_lines (r.first ++ r.next) all_printed) c)
+          → Stops w.runs fault s before all old (w.contents (writer_of m)) (w.may_leave (disk_under m))
+      stops_kept fault m written left = record {
         first = r.first ++ r.next;
         next = [];
         rest = rest;
@@ -237,8 +251,31 @@ module _ {S D W : Type 0} (w : World S D W) (s : S) (o : Outbox D W) where
         printed_next = [];
         after_next = t;
         ran_next = refl;
-        written =
-            subst (AppendsFront old (w.contents (writer_of m))) held_all
-            (front_after old (w.contents (writer_of n)) (w.contents (writer_of m)) (answers r.printed) (held_by n) r.written front);
-        left = λ c left. inl (stand c left ∙ kept_all);
+        written = written;
+        left = λ c may. inl (left c may);
       }
+
+      -- between two settlements
+      pub stops_between : (fault : RunFault) → ComesBetween fault → (m : Outbox D W) → disk_under m ≡ disk_under n → writer_of m ≡ writer_of n
+          → Stops w.runs fault s before all old (w.contents (writer_of m)) (w.may_leave (disk_under m))
+      stops_between fault between m same_disk same_writer =
+          stops fault m (writes_between fault between r.next old _ _ (subst (λ (x : W). Appends old (w.contents x) (answers r.printed)) (sym same_writer) r.written))
+          (λ c left. inl (ap recovered (r.at_rest.durable c (subst (λ (d : D). w.may_leave d c) same_disk left)) ∙ r.kept))
+
+      -- a read fails, when nothing is held back
+      pub stops_reading : held_by n ≡ [] → noted_by n ≡ [] → Stops w.runs Read s before all old (w.contents (writer_of n)) (w.may_leave (disk_under n))
+      stops_reading held noted =
+          let answered : answers r.printed ≡ answers all_printed = sym (append-nil (answers r.printed)) ∙ ap (λ (l : List ℕ). answers r.printed ++ l) (sym held) ∙ held_all in
+          let all_kept = sym (append-nil (kept_by w.seen n)) ∙ ap (λ (ls : List (List ℕ)). kept_by w.seen n ++ ls) (sym noted) ∙ kept_all in
+          stops_kept Read n (refl, subst (Appends old (w.contents (writer_of n))) answered r.written) (λ c left. ap recovered (r.at_rest.durable c left) ∙ all_kept)
+
+      -- in a settlement
+      pub stops_within : (fault : RunFault) (m : Outbox D W) → FailsToGive w.contents w.seen w.may_leave w.faults n fault m
+          → LeavesBoth w.seen w.moment w.left_since n m → Stops w.runs fault s before all old (w.contents (writer_of m)) (w.may_leave (disk_under m))
+      stops_within Read m failed during = absurd failed
+      stops_within Write m failed during =
+          let front = front_after old (w.contents (writer_of n)) (w.contents (writer_of m)) (answers r.printed) (held_by n) r.written failed.1 in
+          stops_kept Write m (refl, subst (AppendsFront old (w.contents (writer_of m))) held_all front) (λ c left. failed.0 c left ∙ kept_all)
+      stops_within TooLong m failed during = absurd failed
+      stops_within Memory m failed during = stops Memory m (subst (λ (x : W). Appends old (w.contents x) (answers r.printed)) (sym failed) r.written) (left_during m during)
+      stops_within Journal m failed during = stops Journal m (subst (λ (x : W). Appends old (w.contents x) (answers r.printed)) (sym failed.0) r.written) (left_during m during)

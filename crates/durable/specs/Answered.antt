@@ -1,10 +1,27 @@
 -- What a dialogue answers, and what a crash leaves of it.
-use Rattle.std.specs.Prelude.{◌≡◌, ℕ, List, ◌++◌, Option, IfSome}
+use Rattle.std.specs.Prelude.{◌≡◌, ◌≤◌, ◌⊎◌, ◌-◌, ◌^◌, ℕ, true, nat_lt, List, [], ◌++◌, length, Option, IfSome}
+use Rattle.std.specs.List.{list_any}
 use Rattle.std.specs.Io.KnownBytes.{Appends}
 use Rattle.script_lines.specs.Lines.{lines}
 use Rattle.script_streams.specs.Streams.{AppendsFront}
+use Rattle.script_streams.specs.declared.run_fault.RunFault.{RunFault}
+use Rattle.script_streams.specs.declared.run_fault.RunFault.TheVariants.{Read, Write, TooLong, Memory, Journal}
+use Rattle.mm_types.specs.declared.limits.TheConstants.{INPUT_BYTES}
 use Rattle.journal.specs.Journal.{IsBeforeOrAfter, StandsFor}
 use Rattle.durable.specs.Printed.{Printed, Runs, RunsLines, answers, kept_lines}
+
+-- What is written of the answers to the first lines when a run stops for a fault, if the next lines were run and not answered. A read fails
+-- when all lines that were run are answered. A failed write alone cuts the answers short, when all lines that were run are on the disk.
+abbrev pub WritesUntil : RunFault → List (List ℕ) → Option (List ℕ) → Option (List ℕ) → List ℕ → Type 0
+WritesUntil Read next old new text = (next ≡ []) × Appends old new text
+WritesUntil Write next old new text = (next ≡ []) × AppendsFront old new text
+WritesUntil TooLong next old new text = Appends old new text
+WritesUntil Memory next old new text = Appends old new text
+WritesUntil Journal next old new text = Appends old new text
+
+-- a line is longer than it may be, or there are as many lines as a run can count
+abbrev pub IsTooLong : List (List ℕ) → Type 0
+IsTooLong ls = (list_any (λ l. nat_lt INPUT_BYTES (length l)) ls ≡ true) ⊎ (2 ^ 64 - 1 ≤ length ls)
 
 module _ {S : Type 0} (runs : Runs S) where
   -- A file stands for the lines from before, and for those to be kept of the first lines, none skipped and none in part.
@@ -17,9 +34,9 @@ module _ {S : Type 0} (runs : Runs S) where
     pub ran : RunsLines runs s first printed after
     pub stands : StandsFor (before ++ kept_lines first printed) file
 
-  -- A run stopped. What is written is a front of the answers to the first lines. Whatever a crash leaves has those to be kept of the first
+  -- A run stopped for a fault. What is written are answers to the first lines. Whatever a crash leaves has those to be kept of the first
   -- lines, alone or with all those of the next lines, which were run and not answered.
-  pub record Stops (s : S) (before : List (List ℕ)) (ls : List (List ℕ)) (old new : Option (List ℕ)) (may_leave : List ℕ → Type 0) : Type 0 where
+  pub record Stops (fault : RunFault) (s : S) (before : List (List ℕ)) (ls : List (List ℕ)) (old new : Option (List ℕ)) (may_leave : List ℕ → Type 0) : Type 0 where
     pub first : List (List ℕ)
     pub next : List (List ℕ)
     pub rest : List (List ℕ)
@@ -30,7 +47,7 @@ module _ {S : Type 0} (runs : Runs S) where
     pub printed_next : List Printed
     pub after_next : S
     pub ran_next : RunsLines runs after next printed_next after_next
-    pub written : AppendsFront old new (answers printed)
+    pub written : WritesUntil fault next old new (answers printed)
     pub left : (c : List ℕ) → may_leave c → IsBeforeOrAfter (before ++ kept_lines first printed) (kept_lines next printed_next) c
 
   -- A run came to its end: all lines were run and answered, and those to be kept are kept.
@@ -45,8 +62,8 @@ module _ {S : Type 0} (runs : Runs S) where
   abbrev pub LeavesIn : Option (List ℕ) → S → List (List ℕ) → List ℕ → Type 0
   LeavesIn input s before file = IfSome input (λ bytes. LeavesFront s before (lines bytes) file)
 
-  abbrev pub StopsIn : Option (List ℕ) → S → List (List ℕ) → Option (List ℕ) → Option (List ℕ) → (List ℕ → Type 0) → Type 0
-  StopsIn input s before old new may_leave = IfSome input (λ bytes. Stops s before (lines bytes) old new may_leave)
+  abbrev pub StopsIn : RunFault → Option (List ℕ) → S → List (List ℕ) → Option (List ℕ) → Option (List ℕ) → (List ℕ → Type 0) → Type 0
+  StopsIn fault input s before old new may_leave = IfSome input (λ bytes. Stops fault s before (lines bytes) old new may_leave)
 
   abbrev pub EndsIn : Option (List ℕ) → S → List (List ℕ) → Option (List ℕ) → Option (List ℕ) → List (List ℕ) → S → Type 0
   EndsIn input s before old new kept_after t = IfSome input (λ bytes. Ends s before (lines bytes) old new kept_after t)

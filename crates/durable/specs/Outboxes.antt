@@ -1,9 +1,14 @@
 -- An outbox, and what is given of it.
-use Rattle.std.specs.Prelude.{◌≡◌, ◌⊎◌, ℕ, List, [], ◌++◌, Option}
+use Rattle.std.specs.Prelude.{◌≡◌, ◌<◌, ◌≤◌, ◌⊎◌, ◌^◌, ℕ, List, [], ◌++◌, length, Option}
 use Rattle.std.specs.Io.KnownBytes.{Appends}
 use Rattle.script_streams.specs.Streams.{AppendsFront}
+use Rattle.script_streams.specs.declared.run_fault.RunFault.{RunFault}
+use Rattle.script_streams.specs.declared.run_fault.RunFault.TheVariants as stops
 use Rattle.journal.specs.Disk.{LeavesOnly}
 use Rattle.journal.specs.Journal.{IsBeforeOrAfter, IsSettled, StandsFor, disk_of, kept, noted}
+use Rattle.journal.specs.Lines.{entries}
+use Rattle.journal.specs.declared.disk.DiskFault.{DiskFault}
+use Rattle.journal.specs.declared.disk.DiskFault.TheVariants as fails
 use Rattle.journal.specs.declared.journal.Journal.{Journal}
 use Rattle.durable.specs.Printed.{Printed, Runs, answer, kept_line}
 use Rattle.durable.specs.declared.outbox.Outbox.{Outbox}
@@ -50,12 +55,27 @@ pub record Gives {D W : Type 0} (contents : W → Option (List ℕ)) (seen : D �
   pub held : held_by new ≡ []
   pub written : Appends (contents (writer_of old)) (contents (writer_of new)) (held_by old)
 
--- It failed. Nothing is written, or a front of the answers is and whatever a crash leaves has all lines that were noted.
-abbrev pub GivesFront : {D W : Type 0} → (W → Option (List ℕ)) → (D → List ℕ) → (D → List ℕ → Type 0) → Outbox D W → Outbox D W → Type 0
-GivesFront contents seen may_leave old new =
-    Appends (contents (writer_of old)) (contents (writer_of new)) []
-    ⊎ (((c : List ℕ) → may_leave (disk_under new) c → StandsFor (kept_by seen old ++ noted_by old) c)
-    × AppendsFront (contents (writer_of old)) (contents (writer_of new)) (held_by old))
+-- the entries of the file are as long as they may be
+abbrev pub IsFull : {D W : Type 0} → (D → List ℕ) → Outbox D W → Type 0
+IsFull seen outbox = 2 ^ 62 ≤ length (entries (kept_by seen outbox))
+
+-- the fault of a run whose journal fails
+abbrev pub run_fault : DiskFault → RunFault
+run_fault fails.Memory = stops.Memory
+run_fault fails.Failed = stops.Journal
+run_fault fails.Full = stops.Journal
+
+-- The answers were not given, for a fault. If a write failed, a front of them is written, and whatever a crash leaves has all lines that were
+-- noted. Before that, a call of the disk fails, or the file is full, or memory is refused: then nothing is written.
+abbrev pub FailsToGive : {D W : Type 0} → (W → Option (List ℕ)) → (D → List ℕ) → (D → List ℕ → Type 0) → (D → ℕ) → Outbox D W → RunFault → Outbox D W → Type 0
+FailsToGive contents seen may_leave faults old stops.Read new = ⊥
+FailsToGive contents seen may_leave faults old stops.Write new =
+    ((c : List ℕ) → may_leave (disk_under new) c → StandsFor (kept_by seen old ++ noted_by old) c)
+    × AppendsFront (contents (writer_of old)) (contents (writer_of new)) (held_by old)
+FailsToGive contents seen may_leave faults old stops.TooLong new = ⊥
+FailsToGive contents seen may_leave faults old stops.Memory new = writer_of new ≡ writer_of old
+FailsToGive contents seen may_leave faults old stops.Journal new =
+    (writer_of new ≡ writer_of old) × ((faults (disk_under old) < faults (disk_under new)) ⊎ IsFull seen new)
 
 -- Meanwhile a crash leaves the lines from before, alone or with all that were noted.
 abbrev pub LeavesBoth : {D W : Type 0} → (D → List ℕ) → (D → ℕ) → (D → ℕ → List ℕ → Type 0) → Outbox D W → Outbox D W → Type 0

@@ -6,10 +6,17 @@ use Rattle.std.proofs.KnownBytes.{Appends-trans}
 use Rattle.journal.specs.Disk.{LeavesOnly}
 use Rattle.journal.specs.Journal.{IsBeforeOrAfter, StandsFor}
 use Rattle.journal.specs.Lines.{recovered}
-use Rattle.durable.specs.Outboxes.{Gives, GivesFront, IsAtRest, LeavesBoth, disk_under, held_by, kept_by, noted_by, writer_of}
+use Rattle.durable.specs.Outboxes.{FailsToGive, Gives, IsAtRest, LeavesBoth, disk_under, held_by, kept_by, noted_by, writer_of}
 use Rattle.durable.specs.declared.outbox.Outbox.{Outbox}
+use Rattle.script_streams.specs.declared.run_fault.RunFault.{RunFault}
 
-module _ {D W : Type 0} (contents : W → Option (List ℕ)) (seen : D → List ℕ) (may_leave : D → List ℕ → Type 0) (moment : D → ℕ) (left_since : D → ℕ → List ℕ → Type 0) where
+-- no answer is held back, and no line is noted that is not on the disk
+pub record IsEmptied {D W : Type 0} (x : Outbox D W) : Type 0 where
+  pub held : held_by x ≡ []
+  pub noted : noted_by x ≡ []
+
+module _ {D W : Type 0} (contents : W → Option (List ℕ)) (seen : D → List ℕ) (may_leave : D → List ℕ → Type 0) (moment : D → ℕ) (left_since : D → ℕ → List ℕ → Type 0)
+    (faults : D → ℕ) where
   abbrev Box : Type 0
   Box = Outbox D W
 
@@ -23,11 +30,13 @@ module _ {D W : Type 0} (contents : W → Option (List ℕ)) (seen : D → List 
   pub record Becomes (x y : Box) : Type 0 where
     pub given : GivesIfAny x y
     pub moments : AtRest x → LeavesBoth seen moment left_since x y
+    pub later : faults (disk_under x) ≤ faults (disk_under y)
 
-  -- It failed to give that.
-  pub record EndsAs (x y : Box) : Type 0 where
-    pub stopped : GivesFront contents seen may_leave x y
+  -- It failed to give that, for a fault.
+  pub record Fails (x : Box) (fault : RunFault) (y : Box) : Type 0 where
+    pub stopped : FailsToGive contents seen may_leave faults x fault y
     pub moments : AtRest x → LeavesBoth seen moment left_since x y
+    pub later : faults (disk_under x) ≤ faults (disk_under y)
 
   -- ---- one call after another
 
@@ -87,33 +96,12 @@ module _ {D W : Type 0} (contents : W → Option (List ℕ)) (seen : D → List 
       each = λ c left. inl (ap recovered (at_rest.durable c (only_now (disk_under x) c left)));
       before = λ t c le left. inl left;
     };
+    later = omega arith;
   }
 
   pub becomes_more : (x y z : Box) → Becomes x y → Becomes y z → Becomes x z
-  becomes_more x y z one two = record { given = gives_on x y z one.given two.given; moments = leaves_both x y z one.given one.moments two.moments }
-
-  module _ (counts_now : (file : D) (t : ℕ) (c : List ℕ) → t ≤ moment file → may_leave file c → left_since file t c) where
-    fails_on : (x y z : Box) → GivesIfAny x y → GivesFront contents seen may_leave y z → (AtRest y → LeavesBoth seen moment left_since y z) → GivesFront contents seen may_leave x z
-    fails_on x y z (inl same) stopped leaves = subst (λ (o : Box). GivesFront contents seen may_leave o z) same stopped
-    fails_on x y z (inr one) (inl nothing) leaves =
-        let during = leaves one.settled in
-        let wrote = subst (Appends (contents (writer_of x)) (contents (writer_of z))) (append-nil (held_by x))
-        (Appends-trans (contents (writer_of x)) (contents (writer_of y)) (contents (writer_of z)) (held_by x) [] one.written nothing) in
-        inr (
-          λ c left. all_stand x y one c (during.each c (counts_now (disk_under z) (moment (disk_under y)) c during.later left)),
-          (held_by x, [], wrote, sym (append-nil (held_by x))),
-        )
-    fails_on x y z (inr one) (inr (stand, front)) leaves =
-        let wrote = Appends-trans (contents (writer_of x)) (contents (writer_of y)) (contents (writer_of z)) (held_by x) front.0 one.written front.2 in
-        inr (
-          λ c left. stand c left ∙ all_of x y one,
-          (
-            held_by x ++ front.0,
-            front.1,
-            wrote,
-            sym (append_assoc (held_by x) front.0 front.1 ∙ ap (λ (l : List ℕ). held_by x ++ l) (sym front.3 ∙ one.held) ∙ append-nil (held_by x)),
-          ),
-        )
-
-    pub ends_more : (x y z : Box) → Becomes x y → EndsAs y z → EndsAs x z
-    ends_more x y z one two = record { stopped = fails_on x y z one.given two.stopped two.moments; moments = leaves_both x y z one.given one.moments two.moments }
+  becomes_more x y z one two = record {
+    given = gives_on x y z one.given two.given;
+    moments = leaves_both x y z one.given one.moments two.moments;
+    later = let a = one.later in let b = two.later in omega (arith, a, b);
+  }

@@ -1,10 +1,11 @@
 //! Lines are run as they come in.
-ghost use Rattle.std.specs.Prelude.{◌≡◌, ◌<◌, [], true, false, length, OnErr, OnOk, OnSome};
+ghost use Rattle.std.specs.Prelude.{◌≡◌, ◌<◌, ◌⊎◌, [], true, false, length, IfErr, IfSome, IsErrOf, OnOk, OnSome};
 ghost use Rattle.std.specs.Io.Buffered.{reader_remaining};
 ghost use Rattle.std.specs.Io.KnownBytes.{IsAtEnd};
 ghost use Rattle.journal.specs.Disk.{LeavesOnly};
-ghost use Rattle.durable.specs.Answered.{EndsIn, LeavesIn, StopsIn};
-ghost use Rattle.durable.specs.Outboxes.{IsAtRest, disk_under, held_by, kept_by, noted_by, writer_of};
+ghost use Rattle.script_lines.specs.Lines.{lines};
+ghost use Rattle.durable.specs.Answered.{EndsIn, IsTooLong, LeavesIn, StopsIn};
+ghost use Rattle.durable.specs.Outboxes.{IsAtRest, IsFull, disk_under, held_by, kept_by, noted_by, writer_of};
 
 use crate::outbox::Outbox;
 use crate::session::Session;
@@ -46,8 +47,11 @@ pub fn run_dialogue<R: Read, S: Session, D: Disk, W: Write>(
     ensures end { OnOk result (OnSome (reader_remaining R.remaining reader.old) (IsAtEnd (reader_remaining R.remaining reader.new))) }
     ensures at_rest { OnOk result (IsAtRest D.seen D.may_leave outbox.new) }
     // Whatever stops the run, and so also if each call fails because the machine does: what was answered is in each file that may be left.
-    ensures stopped { OnErr result (StopsIn S.runs (reader_remaining R.remaining reader.old) session.old (kept_by D.seen outbox.old)
+    ensures stopped { IfErr result (λ fault. StopsIn S.runs fault (reader_remaining R.remaining reader.old) session.old (kept_by D.seen outbox.old)
         (W.contents (writer_of outbox.old)) (W.contents (writer_of outbox.new)) (D.may_leave (disk_under outbox.new))) }
+    // `TooLong` is returned only if a line is too long, or there are too many, and `Journal` only if the disk failed or the file is full.
+    ensures long { IsErrOf result RunFault.TooLong → IfSome (reader_remaining R.remaining reader.old) (λ input. IsTooLong (lines input)) }
+    ensures disk { IsErrOf result RunFault.Journal → (D.faults (disk_under outbox.old) < D.faults (disk_under outbox.new)) ⊎ IsFull D.seen outbox.new }
     // A crash at any moment leaves the lines from before, and those to be kept of the first lines.
     ensures any_moment { LeavesOnly D.moment D.left_since (disk_under outbox.old) (disk_under outbox.new)
         (LeavesIn S.runs (reader_remaining R.remaining reader.old) session.old (kept_by D.seen outbox.old)) }

@@ -1,9 +1,9 @@
 //! Answers are held back until the lines that they answer are on the disk.
-ghost use Rattle.std.specs.Prelude.{◌≡◌, ◌⊎◌, [], OnErr, OnOk};
+ghost use Rattle.std.specs.Prelude.{◌≡◌, ◌≤◌, ◌⊎◌, [], IfErr, OnErr, OnOk};
 ghost use Rattle.std.specs.Io.KnownBytes.{Appends};
 ghost use Rattle.script_streams.specs.Streams.{AppendsFront};
 ghost use Rattle.journal.specs.Lines.{IsLine};
-ghost use Rattle.durable.specs.Outboxes.{Gives, GivesFront, IsAtRest, LeavesBoth, Takes, disk_under, held_by, journal_of, noted_by, writer_of};
+ghost use Rattle.durable.specs.Outboxes.{FailsToGive, Gives, IsAtRest, LeavesBoth, Takes, disk_under, held_by, journal_of, noted_by, run_fault, writer_of};
 
 use crate::session::{NEWLINE, Session};
 use journal::{Disk, DiskFault, Journal};
@@ -26,12 +26,23 @@ pub struct Outbox<D: Disk, W> {
 fn write_answers<W: Write>(writer: &mut W, answers: &[u8]) -> Result<(), RunFault>
     ensures ok { OnOk result (Appends (W.contents writer.old) (W.contents writer.new) answers.now) }
     ensures err { OnErr result (AppendsFront (W.contents writer.old) (W.contents writer.new) answers.now) }
+    ensures kind { IfErr result (λ e. e ≡ RunFault.Write) }
 {
     write_all(writer, answers)?;
     if writer.flush().is_err() {
         return Err(RunFault::Write);
     }
     Ok(())
+}
+
+/// Why a run stops whose journal fails.
+fn fault_of(fault: DiskFault) -> RunFault
+    ensures { result ≡ run_fault fault }
+{
+    match fault {
+        DiskFault::Memory => RunFault::Memory,
+        DiskFault::Failed | DiskFault::Full => RunFault::Journal,
+    }
 }
 
 impl<D: Disk, W> Outbox<D, W> {
@@ -66,6 +77,7 @@ impl<D: Disk, W: Write> Outbox<D, W> {
         requires at_rest { IsAtRest D.seen D.may_leave self.old }
         ensures at_rest { IsAtRest D.seen D.may_leave self.new }
         ensures ok { OnOk result (Takes S.runs session.old line.now session.new self.old self.new) }
+        ensures kind { IfErr result (λ e. e ≡ RunFault.Memory) }
         ensures disk { disk_under self.new ≡ disk_under self.old }
         ensures writer { writer_of self.new ≡ writer_of self.old }
     {
@@ -85,14 +97,12 @@ impl<D: Disk, W: Write> Outbox<D, W> {
         requires { IsAtRest D.seen D.may_leave self.old }
         ensures ok { OnOk result (Gives W.contents D.seen D.may_leave self.old self.new) }
         // No byte of an answer is written before all lines are on the disk.
-        ensures stopped { OnErr result (GivesFront W.contents D.seen D.may_leave self.old self.new) }
+        ensures stopped { IfErr result (λ fault. FailsToGive W.contents D.seen D.may_leave D.faults self.old fault self.new) }
         ensures any_moment { LeavesBoth D.seen D.moment D.left_since self.old self.new }
+        ensures later { D.faults (disk_under self.old) ≤ D.faults (disk_under self.new) }
     {
         if let Err(fault) = self.journal.commit() {
-            return Err(match fault {
-                DiskFault::Memory => RunFault::Memory,
-                _ => RunFault::Journal,
-            });
+            return Err(fault_of(fault));
         }
         write_answers(&mut self.writer, &self.held)?;
         self.held.clear();
@@ -103,8 +113,9 @@ impl<D: Disk, W: Write> Outbox<D, W> {
     pub(crate) fn settle_if_full(&mut self) -> Result<(), RunFault>
         requires { IsAtRest D.seen D.may_leave self.old }
         ensures ok { OnOk result ((self.new ≡ self.old) ⊎ Gives W.contents D.seen D.may_leave self.old self.new) }
-        ensures stopped { OnErr result (GivesFront W.contents D.seen D.may_leave self.old self.new) }
+        ensures stopped { IfErr result (λ fault. FailsToGive W.contents D.seen D.may_leave D.faults self.old fault self.new) }
         ensures any_moment { LeavesBoth D.seen D.moment D.left_since self.old self.new }
+        ensures later { D.faults (disk_under self.old) ≤ D.faults (disk_under self.new) }
     {
         if self.held.len() < HELD_BYTES {
             return Ok(());
@@ -114,19 +125,19 @@ impl<D: Disk, W: Write> Outbox<D, W> {
 }
 
 impl<D: Disk, W: Write> Waits for Outbox<D, W> {
-    ghost use Rattle.durable.specs.Waiting.{Becomes, EndsAs, becomes_more, ends_more, stays_so};
+    ghost use Rattle.durable.specs.Waiting.{Becomes, Fails, IsEmptied, becomes_more, stays_so};
 
     ghost can_wait = { λ outbox. IsAtRest D.seen D.may_leave outbox };
 
-    ghost becomes = { Becomes W.contents D.seen D.may_leave D.moment D.left_since };
+    ghost is_ready = { IsEmptied };
 
-    ghost ends_as = { EndsAs W.contents D.seen D.may_leave D.moment D.left_since };
+    ghost becomes = { Becomes W.contents D.seen D.may_leave D.moment D.left_since D.faults };
 
-    ghost stays = { stays_so W.contents D.seen D.may_leave D.moment D.left_since D.only_now };
+    ghost fails = { Fails W.contents D.seen D.may_leave D.moment D.left_since D.faults };
 
-    ghost goes_on = { becomes_more W.contents D.seen D.may_leave D.moment D.left_since };
+    ghost stays = { stays_so W.contents D.seen D.may_leave D.moment D.left_since D.faults D.only_now };
 
-    ghost ends = { ends_more W.contents D.seen D.may_leave D.moment D.left_since D.counts_now };
+    ghost goes_on = { becomes_more W.contents D.seen D.may_leave D.moment D.left_since D.faults };
 
     fn before_wait(&mut self) -> Result<(), RunFault> {
         self.settle()

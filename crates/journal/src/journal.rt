@@ -34,6 +34,7 @@ fn append<D: Disk>(disk: &mut D, end: usize, text: &[u8]) -> Result<(), DiskFaul
     ensures durable { OnOk result (IsDurable (D.seen disk.new) (D.may_leave disk.new)) }
     ensures any_moment { LeavesOnly D.moment D.left_since disk.old disk.new
         (IsBeforeOrAfter (recovered (D.seen disk.old)) (recovered text.now)) }
+    ensures later { D.faults disk.old ≤ D.faults disk.new }
     ensures failed { IsErrOf result DiskFault.Failed → D.faults disk.old < D.faults disk.new }
     ensures full { IsErrOf result DiskFault.Full → ⊥ }
 {
@@ -151,8 +152,10 @@ impl<D: Disk> Journal<D> {
         ensures any_moment { LeavesOnly D.moment D.left_since (disk_of self.old) (disk_of self.new)
             (IsBeforeOrAfter (kept D.seen self.old) (noted self.old)) }
         // An error is never its own.
+        ensures later { D.faults (disk_of self.old) ≤ D.faults (disk_of self.new) }
         ensures failed { IsErrOf result DiskFault.Failed → D.faults (disk_of self.old) < D.faults (disk_of self.new) }
         ensures full { IsErrOf result DiskFault.Full → 2 ^ 62 ≤ length (entries (kept D.seen self.old)) }
+        ensures untouched { IsErrOf result DiskFault.Full → disk_of self.new ≡ disk_of self.old }
     {
         if self.pending.is_empty() {
             return Ok(());

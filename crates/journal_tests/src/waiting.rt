@@ -38,15 +38,15 @@ struct Counted {
 impl Waits for Counted {
     ghost can_wait = { λ _. ⊤ };
 
+    ghost is_ready = { λ _. ⊤ };
+
     ghost becomes = { λ _ _. ⊤ };
 
-    ghost ends_as = { λ _ _. ⊤ };
+    ghost fails = { λ _ _ _. ⊤ };
 
     ghost stays = { λ _. tt };
 
     ghost goes_on = { λ _ _ _ _ _. tt };
-
-    ghost ends = { λ _ _ _ _ _. tt };
 
     fn before_wait(&mut self) -> Result<(), RunFault> {
         self.waits = self.waits.saturating_add(1);

@@ -89,6 +89,9 @@ pub(crate) fn explained_lock(
             refused(explain, JournalRefusal::InUse, text)
         }
         OpenFault::Io(error) => {
+            if error.kind() == io::ErrorKind::OutOfMemory {
+                return Stop::Run(RunFault::Memory);
+            }
             if !explain {
                 return Stop::Run(RunFault::Journal);
             }

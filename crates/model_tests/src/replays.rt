@@ -11,7 +11,7 @@ use adapters::Recorder;
 use link_store::{LinkStore, RowStore, SlotStore};
 use mm_types::{AdapterNo, Node, ObjectNo};
 use notice_chain::Notice;
-use std::alloc::Global;
+use std::alloc::{AllocError, Global};
 use std::test::Fail;
 
 /// Each of these tests counts the nodes that its views had all along, after every step, over both stores of links.
@@ -100,6 +100,29 @@ fn a_delete_that_cuts_lists_is_followed(rt: HostRuntime) -> Result<(), Fail> {
         Step::New(A_BOOK),
     ];
     assert!(rt; is_followed(rt.alloc(), &steps, 40)?);
+    Ok(())
+}
+
+/// A library and 999 books; fifty of the books come into the library, their pages are set, and the library is deleted.
+fn many_books<'a>(alloc: Global) -> Result<Vec<Step<'a>>, AllocError> {
+    let mut steps = Vec::new(alloc);
+    steps.push(Step::New(A_LIBRARY))?;
+    for _ in 1..1000u32 {
+        steps.push(Step::New(A_BOOK))?;
+    }
+    for book in 1..=50u32 {
+        steps.push(Step::Add(0, BOOKS, book))?;
+        steps.push(Step::SetNumber(book, PAGES, 474))?;
+    }
+    steps.push(Step::Delete(0))?;
+    Ok(steps)
+}
+
+#[test]
+fn a_thousand_adapters_keep_what_they_are_told(rt: HostRuntime) -> Result<(), Fail> {
+    let steps = many_books(rt.alloc())?;
+    // Each follows itself: 0 to 999 of them while they are made, all of them over 100 steps, and 949 after the last.
+    assert!(rt; is_followed(rt.alloc(), steps.as_slice(), 499_500 + 100_000 + 949)?);
     Ok(())
 }
 

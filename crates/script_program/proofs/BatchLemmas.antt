@@ -30,7 +30,7 @@ plain_run s old new bytes summary h =
       written = subst (Appends old new) (plain_text h.first h.printed (runs_length s h.after h.first h.printed h.ran.runs.ran)) h.written;
     }
 
-pub plain_front : (s : Session) (old new : Option (List ℕ)) (bytes : List ℕ) → PrintsDressedFront plain s old new bytes → PrintsFront s old new bytes
+pub plain_front : (s : Session) (old new : Option (List ℕ)) (bytes : List ℕ) → PrintsDressedFront plain s EndsAnywhere old new bytes → PrintsFront s old new bytes
 plain_front s old new bytes h = record {
   first = h.first;
   rest = h.rest;
@@ -50,8 +50,12 @@ pub ends_anywhere : (d : Dress) (input : Option (List ℕ)) (s : Session) (q : S
 ends_anywhere d input s q old new summary h =
     some_weaker _ _ input (λ bytes p. (p.0, record { first = p.1.first; printed = p.1.printed; after = p.1.after; left = tt; ran = p.1.ran; counted = p.1.counted; written = p.1.written })) h
 
+pub ends_anywhere_front : (d : Dress) (input : Option (List ℕ)) (s : Session) (q : State) (old new : Option (List ℕ)) → PrintsInputDressedFront d input s (EndsIn q) old new → PrintsInputDressedFront d input s EndsAnywhere old new
+ends_anywhere_front d input s q old new h =
+    some_weaker _ _ input (λ bytes p. record { first = p.first; rest = p.rest; printed = p.printed; after = p.after; left = tt; ran = p.ran; written = p.written }) h
+
 pub plain_input : (input : Option (List ℕ)) (s : Session) (old new : Option (List ℕ)) (summary : Summary) → PrintsInputDressed plain input s EndsAnywhere old new summary → PrintsInput input s old new summary
 plain_input input s old new summary h = some_weaker _ _ input (λ bytes p. (p.0, plain_run s old new bytes summary p.1)) h
 
-pub plain_input_front : (input : Option (List ℕ)) (s : Session) (old new : Option (List ℕ)) → PrintsInputDressedFront plain input s old new → PrintsInputFront input s old new
+pub plain_input_front : (input : Option (List ℕ)) (s : Session) (old new : Option (List ℕ)) → PrintsInputDressedFront plain input s EndsAnywhere old new → PrintsInputFront input s old new
 plain_input_front input s old new h = some_weaker _ _ input (λ bytes p. plain_front s old new bytes p) h

@@ -10,3 +10,5 @@ mod LiveLemmas
 mod KeptLemmas
 mod DurableLemmas
 mod HeadLemmas
+pub mod LeftLemmas
+mod KeptRunLemmas

@@ -1,21 +1,19 @@
 -- A live run goes on by one line, and ends.
-use Rattle.std.proofs.Common.{◌≡◌, ◌≢◌, ◌∙◌, ◌+◌, ◌-◌, ◌^◌, ◌<◌, ◌≤◌, ◌++◌, ◌||◌, ◌⊎◌, inl, inr, ℕ, Bool, true, false, List, [], ◌∷◌, Option, None, Some, ap, append-nil, append_assoc, arith, cond, length, lt-ltb, map, ne_eqb, refl, subst, sym}
-use Rattle.std.specs.Prelude.{IfSome, OnSome, nat_lt}
-use Rattle.std.proofs.lemmas.List.{length-append, nil_from_length}
+use Rattle.std.proofs.Common.{◌≡◌, ◌∙◌, ◌+◌, ◌-◌, ◌^◌, ◌<◌, ◌≤◌, ◌++◌, ◌⊎◌, inl, inr, ℕ, List, [], ◌∷◌, Option, None, Some, ap, append-nil, arith, length, map, refl, subst, sym}
+use Rattle.std.specs.Prelude.{IfSome, OnSome}
+use Rattle.std.proofs.lemmas.List.{length-append}
 use Rattle.std.proofs.lemmas.List.Concat.{flat_map-append}
-use Rattle.std.proofs.lemmas.List.Elements.{All-head, All-tail}
-use Rattle.std.proofs.lemmas.List.Folds.{list_any-append}
-use Rattle.std.specs.List.{list_any}
 use Rattle.std.specs.Io.KnownBytes.{Appends, IsAtEnd, Keeps}
 use Rattle.std.proofs.KnownBytes.{Appends-kept, Appends-nil, Appends-trans}
-use Rattle.mm_types.specs.declared.limits.TheConstants.{INPUT_BYTES}
-use Rattle.script_lines.specs.Lines.{lines, with_byte}
-use Rattle.script_streams.specs.Line.{BeginsTooLong, HasNoNewline, ReadsLine}
+use Rattle.script_lines.specs.Lines.{lines}
+use Rattle.script_streams.specs.Line.{BeginsTooLong, ReadsLine}
 use Rattle.script_streams.specs.Streams.{AppendsFront}
 use Rattle.script_streams.specs.declared.line.LineEnd.{LineEnd}
-use Rattle.script_streams.specs.declared.line.LineEnd.TheVariants.{Input, Newline}
+use Rattle.script_streams.specs.declared.line.LineEnd.TheVariants.{Input}
+use Rattle.durable.proofs.InputLemmas.{LinesRead, none_read, read_end, read_more, too_long as line_too_long, too_many as lines_too_many}
 use Rattle.script_streams.proofs.FrontLemmas.{front_after, front_more, front_whole}
-use Rattle.script_program.specs.Batch.{AnswersFront, AnswersLine}
+use Rattle.repository.specs.State.{State}
+use Rattle.script_program.specs.Batch.{AnswersFront, AnswersLine, EndsIn}
 use Rattle.script_program.specs.Dressed.{plain}
 use Rattle.script_program.specs.Live.{AnswersLive, AnswersLiveFront, IsTooLong, PrintsLive, PrintsLiveFront, live_answer, live_text, with_empty_line}
 use Rattle.script_program.specs.Script.{RunsLines}
@@ -26,98 +24,6 @@ use Rattle.script_program.specs.declared.summary.Summary.{Summary}
 use Rattle.script_program.specs.declared.turn.Turn.{Turn}
 use Rattle.script_program.proofs.ScriptLemmas.{runs_more, summary_of_push, within_more}
 
--- ---- the lines of some bytes, by their first
-
-line_then : (line rest : List ℕ) → HasNoNewline line → lines (line ++ 10 ∷ rest) ≡ line ∷ lines rest
-line_then [] rest free = refl
-line_then (c ∷ cs) rest free =
-    ap (λ b. cond b ([] ∷ lines (cs ++ 10 ∷ rest)) (with_byte c (lines (cs ++ 10 ∷ rest)))) (ne_eqb c 10 (All-head (λ y. y ≢ 10) c cs free))
-    ∙ ap (with_byte c) (line_then cs rest (All-tail (λ y. y ≢ 10) c cs free))
-
-last_line : (line : List ℕ) → HasNoNewline line → 0 < length line → lines line ≡ line ∷ []
-last_line [] free some = absurd (omega (arith, some))
-last_line (c ∷ []) free some = ap (λ b. cond b ([] ∷ []) ((c ∷ []) ∷ [])) (ne_eqb c 10 (All-head (λ y. y ≢ 10) c [] free))
-last_line (c ∷ d ∷ ds) free some =
-    ap (λ b. cond b ([] ∷ lines (d ∷ ds)) (with_byte c (lines (d ∷ ds)))) (ne_eqb c 10 (All-head (λ y. y ≢ 10) c (d ∷ ds) free))
-    ∙ ap (with_byte c) (last_line (d ∷ ds) (All-tail (λ y. y ≢ 10) c (d ∷ ds) free) (omega arith))
-
-byte_front : (c : ℕ) (ls : List (List ℕ)) → (more : List ℕ) × (others : List (List ℕ)) × (with_byte c ls ≡ (c ∷ more) ∷ others)
-byte_front c [] = ([], [], refl)
-byte_front c (l ∷ ls) = (l, ls, refl)
-
-begins : (line rest : List ℕ) → HasNoNewline line → 0 < length line → (more : List ℕ) × (others : List (List ℕ)) × (lines (line ++ rest) ≡ (line ++ more) ∷ others)
-begins [] rest free some = absurd (omega (arith, some))
-begins (c ∷ []) rest free some =
-    let front = byte_front c (lines rest) in
-    (front.0, front.1, ap (λ b. cond b ([] ∷ lines rest) (with_byte c (lines rest))) (ne_eqb c 10 (All-head (λ y. y ≢ 10) c [] free)) ∙ front.2)
-begins (c ∷ d ∷ ds) rest free some =
-    let front = begins (d ∷ ds) rest (All-tail (λ y. y ≢ 10) c (d ∷ ds) free) (omega arith) in (
-      front.0,
-      front.1,
-      ap (λ b. cond b ([] ∷ lines (d ∷ ds ++ rest)) (with_byte c (lines (d ∷ ds ++ rest)))) (ne_eqb c 10 (All-head (λ y. y ≢ 10) c (d ∷ ds) free))
-          ∙ ap (with_byte c) front.2,
-    )
-
-is_long : List ℕ → Bool
-is_long l = nat_lt INPUT_BYTES (length l)
-
-or_true : (a : Bool) → (a || true) ≡ true
-or_true true = refl
-or_true false = refl
-
-any_long : (bytes : List ℕ) → BeginsTooLong bytes → list_any (λ l. nat_lt INPUT_BYTES (length l)) (lines bytes) ≡ true
-any_long bytes h =
-    let long = h.long in
-    let front = begins h.line h.rest h.in_line (omega (arith, long)) in
-    let whole : length (h.line ++ front.0) ≡ length h.line + length front.0 = length-append h.line front.0 in
-    let over : nat_lt INPUT_BYTES (length (h.line ++ front.0)) ≡ true = lt-ltb _ _ (omega (arith, long, whole)) in
-    ap (list_any (λ l. nat_lt INPUT_BYTES (length l))) (ap lines h.bytes_are ∙ front.2)
-    ∙ ap (λ b. b || list_any (λ l. nat_lt INPUT_BYTES (length l)) front.1) over
-
--- ---- lines that were read
-
--- known bytes lose some lines
-abbrev pub LinesRead : Option (List ℕ) → Option (List ℕ) → List (List ℕ) → Type 0
-LinesRead None new ls = Unit {0}
-LinesRead (Some xs) None ls = ⊥
-LinesRead (Some xs) (Some ys) ls = lines xs ≡ ls ++ lines ys
-
-none_read : (a : Option (List ℕ)) → LinesRead a a []
-none_read None = tt
-none_read (Some x) = refl
-
-next_line : (y w line : List ℕ) → HasNoNewline line → y ≡ (line ++ 10 ∷ []) ++ w → lines y ≡ line ∷ lines w
-next_line y w line free is = ap lines (is ∙ append_assoc line (10 ∷ []) w) ∙ line_then line w free
-
-only_line : (y w line : List ℕ) → HasNoNewline line → 0 < length line → y ≡ line ++ w → w ≡ [] → lines y ≡ line ∷ lines w
-only_line y w line free some is end =
-    ap lines (is ∙ (ap (λ v. line ++ v) end ∙ append-nil line)) ∙ (last_line line free some ∙ ap (λ v. line ∷ lines v) (sym end))
-
--- one more line was read
-read_more : (a b c : Option (List ℕ)) (done : List (List ℕ)) (line : List ℕ) (end : LineEnd) → LinesRead a b done → ReadsLine b c line end → (end ≡ Input → 0 < length line)
-    → LinesRead a c (done ++ line ∷ [])
-read_more None b c done line end had read some = tt
-read_more (Some x) None c done line end had read some = absurd had
-read_more (Some x) (Some y) None done line Newline had read some = absurd read.consumed
-read_more (Some x) (Some y) None done line Input had read some = absurd read.consumed.0
-read_more (Some x) (Some y) (Some w) done line Newline had read some =
-    had ∙ (ap (λ ls. done ++ ls) (next_line y w line read.in_line read.consumed) ∙ sym (append_assoc done (line ∷ []) (lines w)))
-read_more (Some x) (Some y) (Some w) done line Input had read some =
-    had ∙ (ap (λ ls. done ++ ls) (only_line y w line read.in_line (some refl) read.consumed.0 read.consumed.1) ∙ sym (append_assoc done (line ∷ []) (lines w)))
-
--- the end was read
-read_end : (a b c : Option (List ℕ)) (done : List (List ℕ)) (line : List ℕ) → LinesRead a b done → ReadsLine b c line Input → length line ≡ 0 → LinesRead a c done
-read_end None b c done line had read none = tt
-read_end (Some x) None c done line had read none = absurd had
-read_end (Some x) (Some y) None done line had read none = absurd read.consumed.0
-read_end (Some x) (Some y) (Some w) done line had read none =
-    had ∙ ap (λ v. done ++ lines v) (read.consumed.0 ∙ ap (λ l. l ++ w) (nil_from_length line none))
-
-pub at_end : (a b c : Option (List ℕ)) (done : List (List ℕ)) (line : List ℕ) → LinesRead a b done → ReadsLine b c line Input → OnSome a (IsAtEnd c)
-at_end None b c done line had read = tt
-at_end (Some x) None c done line had read = absurd had
-at_end (Some x) (Some y) c done line had read = read.consumed.1
-
 -- ---- an answer, and the empty line behind it
 
 pub with_empty_lines : (ps : List Printed) → live_text ps ≡ texts (map with_empty_line ps)
@@ -125,9 +31,10 @@ with_empty_lines [] = refl
 with_empty_lines (p ∷ ps) = ap (λ x. live_answer p ++ x) (with_empty_lines ps)
 
 -- an answer is written in part, or nothing of it
-pub front_of_answer : (line : List ℕ) (s : Session) (old new : Option (List ℕ)) → (new ≡ old) ⊎ AnswersFront plain 0 line s old new → (new ≡ old) ⊎ AnswersLiveFront line s old new
-front_of_answer line s old new (inl same) = inl same
-front_of_answer line s old new (inr one) =
+pub front_of_answer : (line : List ℕ) (s : Session) (q : State) (old new : Option (List ℕ)) → ((new ≡ old) × (q ≡ s.state)) ⊎ AnswersFront plain 0 line s (EndsIn q) old new
+    → (new ≡ old) ⊎ AnswersLiveFront line s old new
+front_of_answer line s q old new (inl same) = inl same.0
+front_of_answer line s q old new (inr one) =
     inr (record { printed = one.printed; after = one.after; ran = one.ran; written = front_more old new one.printed.text (10 ∷ []) one.written })
 
 -- it is written, and the empty line is not
@@ -234,18 +141,8 @@ module _ (z : Session) where
   module _ (s : Session) (number : ℕ) (printed : List Printed) (summary : Summary) (old now : Option (List ℕ)) where
     -- the next line is too long
     pub too_long : (a b : Option (List ℕ)) → Goes z a b s number printed summary old now → IfSome b BeginsTooLong → IfSome a IsTooLong
-    too_long None b g long = tt
-    too_long (Some x) None g long = absurd g.read
-    too_long (Some x) (Some y) g long =
-        inl (ap (list_any (λ l. nat_lt INPUT_BYTES (length l))) g.read
-        ∙ (list_any-append (λ l. nat_lt INPUT_BYTES (length l)) g.done (lines y)
-        ∙ (ap (λ t. list_any (λ l. nat_lt INPUT_BYTES (length l)) g.done || t) (any_long y long) ∙ or_true (list_any (λ l. nat_lt INPUT_BYTES (length l)) g.done))))
+    too_long a b g long = line_too_long g.done a b g.read long
 
     -- there are as many lines as can be counted
     pub too_many : (a b : Option (List ℕ)) → Goes z a b s number printed summary old now → 2 ^ 64 - 1 ≤ number → IfSome a IsTooLong
-    too_many None b g many = tt
-    too_many (Some x) None g many = absurd g.read
-    too_many (Some x) (Some y) g many =
-        let all : length (lines x) ≡ length g.done + length (lines y) = ap length g.read ∙ length-append g.done (lines y) in
-        let is = g.number_is in
-        inr (omega (arith, all, is, many))
+    too_many a b g many = let is = g.number_is in lines_too_many g.done a b g.read (omega (arith, is, many))

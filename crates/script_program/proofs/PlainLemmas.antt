@@ -1,19 +1,20 @@
 -- A script goes on by one line, where the answers of its last lines wait in a block.
-use Rattle.std.proofs.Common.{◌≡◌, ◌∙◌, ◌+◌, ◌<◌, ◌++◌, ℕ, List, [], ◌∷◌, Option, inl, ap, append-nil, append_assoc, length, refl, subst, sym}
+use Rattle.std.proofs.Common.{◌≡◌, ◌∙◌, ◌+◌, ◌<◌, ◌++◌, ℕ, List, [], ◌∷◌, Option, inl, inr, ap, append-nil, append_assoc, length, refl, subst, sym}
 use Rattle.std.proofs.lemmas.List.{nil_from_length}
 use Rattle.std.specs.Io.KnownBytes.{Appends}
 use Rattle.std.proofs.KnownBytes.{Appends-nil, Appends-trans}
 use Rattle.script_lines.specs.Forms.{form}
 use Rattle.script_lines.specs.Lines.{lines}
+use Rattle.repository.specs.State.{State}
 use Rattle.script_program.specs.Batch.{EndsIn, PrintsDressed, PrintsDressedFront}
-use Rattle.script_program.specs.Dressed.{dressed_from, plain}
+use Rattle.script_program.specs.Dressed.{dressed_from, dressed_line, plain}
 use Rattle.script_program.specs.Session.{Session}
-use Rattle.script_program.specs.Script.{Adds, RunsLine}
+use Rattle.script_program.specs.Script.{Adds, IsLeft, RunsLine}
 use Rattle.script_program.specs.Turns.{Printed, no_lines, printed, with_turn}
 use Rattle.script_program.specs.declared.summary.Summary.{Summary}
 use Rattle.script_program.specs.declared.turn.Turn.{Turn}
 use Rattle.script_streams.specs.Streams.{AppendsFront}
-use Rattle.script_streams.proofs.FrontLemmas.{front_after}
+use Rattle.script_streams.proofs.FrontLemmas.{front_after, front_more}
 use Rattle.script_program.proofs.ScriptLemmas.{Ran, front_of, line_behind, none_run, one_more, whole_of}
 
 -- Some first lines were run. Of their answers a front is written, and the rest is in the block.
@@ -57,13 +58,25 @@ module _ (z : Session) (bytes : List ℕ) (old : Option (List ℕ)) where
       answers = w.answers ∙ sym (append-nil (w.front ++ block));
     }
 
-    -- memory is refused, and the block is lost
-    pub lost : PrintsDressedFront plain z old now bytes
-    lost = front_of plain z bytes rest s w.number w.printed summary old now w.so_far (subst (AppendsFront old now) (sym w.answers) (w.front, block, w.written, refl))
+    front_waits : AppendsFront old now (dressed_from plain 1 w.so_far.done w.printed)
+    front_waits = subst (AppendsFront old now) (sym w.answers) (w.front, block, w.written, refl)
+
+    -- memory is refused in the next line, which was run or not, and the block is lost
+    pub lost : (more line : List ℕ) (q : State) → lines rest ≡ line ∷ lines more → length more < length rest → IsLeft (RunsLine s (form line)) s.state q
+        → PrintsDressedFront plain z (EndsIn q) old now bytes
+    unfolding one_more
+    lost more line q cut shorter (inl same) = front_of plain z bytes (EndsIn q) rest s w.number w.printed summary old now w.so_far front_waits (sym same)
+    lost more line q cut shorter (inr one) =
+        let p = one.0 in
+        front_of plain z bytes (EndsIn q) more one.1 (w.number + 1) (w.printed ++ p ∷ []) (with_turn summary p.turn) old now
+        (one_more plain z bytes rest more line s one.1 w.number w.printed summary p w.so_far refl cut shorter one.2)
+        (subst (AppendsFront old now) (sym (line_behind plain z bytes rest s w.number w.printed summary line p w.so_far)) (front_more old now _ (dressed_line plain (w.number + 1) line p) front_waits))
+        one.3
 
     -- a front of the block is written
-    pub broken : (after : Option (List ℕ)) → AppendsFront now after block → PrintsDressedFront plain z old after bytes
-    broken after wrote = front_of plain z bytes rest s w.number w.printed summary old after w.so_far (subst (AppendsFront old after) (sym w.answers) (front_after old now after w.front block w.written wrote))
+    pub broken : (after : Option (List ℕ)) → AppendsFront now after block → PrintsDressedFront plain z (EndsIn s.state) old after bytes
+    broken after wrote =
+        front_of plain z bytes (EndsIn s.state) rest s w.number w.printed summary old after w.so_far (subst (AppendsFront old after) (sym w.answers) (front_after old now after w.front block w.written wrote)) refl
 
     -- all lines were run, and the block is written
     pub done : (after : Option (List ℕ)) → length rest ≡ 0 → Appends now after block → PrintsDressed plain z (EndsIn s.state) old after bytes summary

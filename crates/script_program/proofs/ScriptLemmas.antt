@@ -7,6 +7,7 @@ use Rattle.std.specs.Io.KnownBytes.{Appends}
 use Rattle.std.proofs.KnownBytes.{Appends-nil, Appends-trans}
 use Rattle.script_lines.specs.Forms.{form}
 use Rattle.script_lines.specs.Lines.{lines}
+use Rattle.repository.specs.State.{State}
 use Rattle.script_program.specs.Batch.{AnswersFront, AnswersLine, EndsIn, PrintsDressed, PrintsDressedFront, RunsFirst}
 use Rattle.script_program.specs.Dressed.{dressed_from, dressed_line, is_fault, is_stopped, kept}
 use Rattle.script_program.specs.Script.{RunsLine, RunsLines}
@@ -128,13 +129,14 @@ module _ (d : Dress) (z : Session) (bytes : List ℕ) where
     written = subst (λ ps. Appends old new (dressed_from d 1 g.done ps)) (sym g.none_behind) wrote;
   }
 
-  pub front_of : (rest : List ℕ) (s : Session) (number : ℕ) (printed : List Printed) (summary : Summary) (old new : Option (List ℕ)) → (g : Ran d z bytes rest s number printed summary)
-      → AppendsFront old new (dressed_from d 1 g.done printed) → PrintsDressedFront d z old new bytes
-  front_of rest s number printed summary old new g wrote = record {
+  pub front_of : (Left : Session → Type 0) (rest : List ℕ) (s : Session) (number : ℕ) (printed : List Printed) (summary : Summary) (old new : Option (List ℕ))
+      → (g : Ran d z bytes rest s number printed summary) → AppendsFront old new (dressed_from d 1 g.done printed) → Left s → PrintsDressedFront d z Left old new bytes
+  front_of Left rest s number printed summary old new g wrote left = record {
     first = g.done;
     rest = lines rest;
     printed = printed;
     after = s;
+    left = left;
     ran = first_run rest s number printed summary g;
     written = subst (λ ps. AppendsFront old new (dressed_from d 1 g.done ps)) (sym g.none_behind) wrote;
   }
@@ -146,14 +148,14 @@ module _ (d : Dress) (z : Session) (bytes : List ℕ) where
       whole_of (EndsIn s.state) rest s number printed summary old new on.so_far (inl (ap lines (nil_from_length rest none))) on.written refl
 
   -- no line was run
-  pub silent : (old : Option (List ℕ)) → PrintsDressedFront d z old old bytes
+  pub silent : (old : Option (List ℕ)) → PrintsDressedFront d z (EndsIn z.state) old old bytes
   unfolding none_run
-  silent old = front_of bytes z 0 [] no_lines old old (none_run d z bytes) ([], [], Appends-nil old, refl)
+  silent old = front_of (EndsIn z.state) bytes z 0 [] no_lines old old (none_run d z bytes) ([], [], Appends-nil old, refl) refl
 
   -- the answers of the lines that were run are all written
   pub paused : (rest : List ℕ) (s : Session) (number : ℕ) (printed : List Printed) (summary : Summary) (old new : Option (List ℕ))
-      → GoesOn d z bytes rest s number printed summary old new → PrintsDressedFront d z old new bytes
-  paused rest s number printed summary old new on = front_of rest s number printed summary old new on.so_far (front_whole old new _ on.written)
+      → GoesOn d z bytes rest s number printed summary old new → PrintsDressedFront d z (EndsIn s.state) old new bytes
+  paused rest s number printed summary old new on = front_of (EndsIn s.state) rest s number printed summary old new on.so_far (front_whole old new _ on.written) refl
 
   module _ (rest more line : List ℕ) (s : Session) (number : ℕ) (printed : List Printed) (summary : Summary) (old mid new : Option (List ℕ)) where
     -- one more line is run, and the run has not ended behind it
@@ -187,12 +189,15 @@ module _ (d : Dress) (z : Session) (bytes : List ℕ) where
         subst (λ t. PrintsDressed d z (EndsIn u.state) old new bytes (with_turn summary t)) is whole
 
     -- its answer is written in part, or nothing of it
-    pub stopped : GoesOn d z bytes rest s number printed summary old mid → lines rest ≡ line ∷ lines more → length more < length rest
-        → (new ≡ mid) ⊎ AnswersFront d (number + 1) line s mid new → PrintsDressedFront d z old new bytes
+    pub stopped : (q : State) → GoesOn d z bytes rest s number printed summary old mid → lines rest ≡ line ∷ lines more → length more < length rest
+        → ((new ≡ mid) × (q ≡ s.state)) ⊎ AnswersFront d (number + 1) line s (EndsIn q) mid new → PrintsDressedFront d z (EndsIn q) old new bytes
     unfolding one_more
-    stopped on cut shorter (inl same) = subst (λ w. PrintsDressedFront d z old w bytes) (sym same) (paused rest s number printed summary old mid on)
-    stopped on cut shorter (inr one) =
+    stopped q on cut shorter (inl same) =
+        subst (λ (x : State). PrintsDressedFront d z (EndsIn x) old new bytes) (sym same.1)
+        (subst (λ (w : Option (List ℕ)). PrintsDressedFront d z (EndsIn s.state) old w bytes) (sym same.0) (paused rest s number printed summary old mid on))
+    stopped q on cut shorter (inr one) =
         let p = one.printed in
-        front_of more one.after (number + 1) (printed ++ p ∷ []) (with_turn summary p.turn) old new
+        front_of (EndsIn q) more one.after (number + 1) (printed ++ p ∷ []) (with_turn summary p.turn) old new
         (one_more d z bytes rest more line s one.after number printed summary p on.so_far on.going cut shorter one.ran)
         (subst (AppendsFront old new) (sym (line_behind d z bytes rest s number printed summary line p on.so_far)) (front_after old mid new _ _ on.written one.written))
+        one.left

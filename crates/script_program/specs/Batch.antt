@@ -27,10 +27,11 @@ pub record AnswersLine (d : Dress) (number : ℕ) (line : List ℕ) (s : Session
   pub counted : printed.turn ≡ turn
   pub written : Appends old new (dressed_line d number line printed)
 
--- A line was run, and a front of what it prints was written.
-pub record AnswersFront (d : Dress) (number : ℕ) (line : List ℕ) (s : Session) (old new : Option (List ℕ)) : Type 0 where
+-- A line was run, a front of what it prints was written, and something holds of the session that is left.
+pub record AnswersFront (d : Dress) (number : ℕ) (line : List ℕ) (s : Session) (Left : Session → Type 0) (old new : Option (List ℕ)) : Type 0 where
   pub printed : Printed
   pub after : Session
+  pub left : Left after
   pub ran : RunsLine s (form line) printed after
   pub written : AppendsFront old new (dressed_line d number line printed)
 
@@ -58,12 +59,13 @@ pub record PrintsDressed (d : Dress) (s : Session) (Left : Session → Type 0) (
   pub counted : summary_of printed ≡ summary
   pub written : Appends old new (dressed d first printed)
 
--- The first lines of a script were run, and a front of their dressed answers was written.
-pub record PrintsDressedFront (d : Dress) (s : Session) (old new : Option (List ℕ)) (bytes : List ℕ) : Type 0 where
+-- The first lines of a script were run, a front of their dressed answers was written, and something holds of the session that is left.
+pub record PrintsDressedFront (d : Dress) (s : Session) (Left : Session → Type 0) (old new : Option (List ℕ)) (bytes : List ℕ) : Type 0 where
   pub first : List (List ℕ)
   pub rest : List (List ℕ)
   pub printed : List Printed
   pub after : Session
+  pub left : Left after
   pub ran : RunsFirst d s bytes first rest printed after
   pub written : AppendsFront old new (dressed d first printed)
 
@@ -72,5 +74,5 @@ abbrev pub PrintsInputDressed : Dress → Option (List ℕ) → Session → (Ses
 PrintsInputDressed d input s Left old new summary = IfSome input (λ bytes. (length bytes ≤ INPUT_BYTES) × PrintsDressed d s Left old new bytes summary)
 
 -- The first lines of known input were run.
-abbrev pub PrintsInputDressedFront : Dress → Option (List ℕ) → Session → Option (List ℕ) → Option (List ℕ) → Type 0
-PrintsInputDressedFront d input s old new = IfSome input (λ bytes. PrintsDressedFront d s old new bytes)
+abbrev pub PrintsInputDressedFront : Dress → Option (List ℕ) → Session → (Session → Type 0) → Option (List ℕ) → Option (List ℕ) → Type 0
+PrintsInputDressedFront d input s Left old new = IfSome input (λ bytes. PrintsDressedFront d s Left old new bytes)

@@ -1,5 +1,5 @@
 -- The lines that a journal keeps, and what they make when they are run again.
-use Rattle.std.specs.Prelude.{◌≡◌, ◌⊎◌, ◌++◌, ℕ, Bool, true, false, List, [], ◌∷◌, Option, Some, None, Ok, Err, option_and_then, if◌then◌else◌}
+use Rattle.std.specs.Prelude.{◌≡◌, ◌⊎◌, ◌++◌, ℕ, Bool, true, false, List, [], ◌∷◌, Option, Some, None, Result, Ok, Err, IfSome, option_and_then, if◌then◌else◌}
 use Rattle.std.specs.Borrow.{Bor}
 use Rattle.std.specs.Io.KnownBytes.{Appends}
 use Rattle.mm_types.specs.Resolved.{Metamodel}
@@ -10,11 +10,13 @@ use Rattle.repository.specs.State.{empty_state}
 use Rattle.repository.specs.Step.{step}
 use Rattle.repository.specs.Views.{Outcome}
 use Rattle.script_lines.specs.Forms.{form}
+use Rattle.script_lines.specs.Lines.{lines}
 use Rattle.script_lines.specs.declared.form.Form.{Form}
 use Rattle.script_lines.specs.declared.form.Form.TheVariants as asks
 use Rattle.script_lines.specs.declared.line.Line.{Line}
 use Rattle.script_lines.specs.declared.line.Line.TheVariants as line
-use Rattle.script_streams.specs.Streams.{AppendsFront}
+use Rattle.script_streams.specs.declared.run_fault.RunFault.{RunFault}
+use Rattle.durable.specs.Answered.{WritesUntil}
 use Rattle.journal.specs.Journal.{StandsFor}
 use Rattle.journal.specs.Lines.{recovered}
 use Rattle.durable.specs.Printed as durable
@@ -26,6 +28,10 @@ use Rattle.script_program.specs.Script.{RunsLine, RunsLines}
 use Rattle.script_program.specs.Session.{Session, session}
 use Rattle.script_program.specs.Turns.{Printed}
 use Rattle.script_program.specs.declared.journaled.Journaled.{Journaled}
+use Rattle.script_program.specs.declared.kept_run.KeptFault.{KeptFault}
+use Rattle.script_program.specs.declared.kept_run.KeptFault.TheVariants as stopping
+use Rattle.script_program.specs.declared.recovery.JournalFault.{JournalFault}
+use Rattle.script_program.specs.declared.recovery.JournalFault.TheVariants as refused
 use Rattle.script_program.specs.declared.request.Request.{Request}
 use Rattle.script_program.specs.declared.request.Request.TheVariants as request
 use Rattle.script_program.specs.declared.turn.Turn.{Turn}
@@ -81,6 +87,13 @@ journal_printed l p = record { text = p.text; turn = journal_turn (line_asks (fo
 -- the session of an interpreter
 abbrev pub session_of : {L A : Type 0} → Journaled L A → Session
 session_of j = session j.interpreter.repository j.interpreter.pool
+
+-- how many lines an interpreter has run, and whether one of them was refused, or bad
+abbrev pub lines_run : {L A : Type 0} → Journaled L A → ℕ
+lines_run j = j.lines
+
+abbrev pub has_fault : {L A : Type 0} → Journaled L A → Bool
+has_fault j = j.is_faulty
 
 -- A line was run.
 pub record RunsJournaled (s : Session) (l : List ℕ) (p : durable.Printed) (t : Session) : Type 0 where
@@ -144,9 +157,9 @@ pub record EndsJournaled (m : Metamodel) (s : Session) (ls : List (List ℕ)) (o
   pub written : Appends old new (live_text printed)
   pub recalled : model_of m kept ≡ Some t.state.model
 
--- A run stopped. What is written is a front of the answers to the first lines. Whatever a crash leaves is a journal of the model that these
+-- A run stopped for a fault. What is written are answers to the first lines. Whatever a crash leaves is a journal of the model that these
 -- lines left, or of the one that lines after them left, which were run and not answered.
-pub record StopsJournaled (m : Metamodel) (s : Session) (ls : List (List ℕ)) (old new : Option (List ℕ)) (may_leave : List ℕ → Type 0) : Type 0 where
+pub record StopsJournaled (m : Metamodel) (fault : RunFault) (s : Session) (ls : List (List ℕ)) (old new : Option (List ℕ)) (may_leave : List ℕ → Type 0) : Type 0 where
   pub first : List (List ℕ)
   pub next : List (List ℕ)
   pub rest : List (List ℕ)
@@ -157,7 +170,7 @@ pub record StopsJournaled (m : Metamodel) (s : Session) (ls : List (List ℕ)) (
   pub printed_next : List Printed
   pub after_next : Session
   pub ran_next : RunsLines after next printed_next after_next
-  pub written : AppendsFront old new (live_text printed)
+  pub written : WritesUntil fault next old new (live_text printed)
   pub left : (c : List ℕ) → may_leave c → Recalls m after.state.model c ⊎ Recalls m after_next.state.model c
 
 -- A file is a journal of the model that the first lines left.
@@ -169,3 +182,46 @@ pub record LeavesJournaled (m : Metamodel) (s : Session) (ls : List (List ℕ)) 
   pub after : Session
   pub ran : RunsLines s first printed after
   pub recalled : Recalls m after.state.model file
+
+-- ---- a run from a file on, whose lines are run again first
+
+-- the outcome of a run whose journal was opened
+abbrev pub kept_outcome : Result (Unit {0}) RunFault → Result (Unit {0}) KeptFault
+kept_outcome (Ok done) = Ok done
+kept_outcome (Err fault) = Err (stopping.Stopped fault)
+
+-- A run came to its end, and so did the lines of the file before it.
+pub record EndsKept (m : Metamodel) (head file : List ℕ) (ls : List (List ℕ)) (old new : Option (List ℕ)) (file_after : List ℕ) (t : Session) : Type 0 where
+  pub start : Session
+  pub had : model_of m (begun head (recovered file)) ≡ Some start.state.model
+  pub ends : EndsJournaled m start ls old new (recovered file_after) t
+
+-- A run stopped for a fault, when the lines of the file had been run again.
+pub record StopsKept (m : Metamodel) (fault : RunFault) (head file : List ℕ) (ls : List (List ℕ)) (old new : Option (List ℕ)) (may_leave : List ℕ → Type 0) : Type 0 where
+  pub start : Session
+  pub had : model_of m (begun head (recovered file)) ≡ Some start.state.model
+  pub stops : StopsJournaled m fault start ls old new may_leave
+
+-- A file is a journal of the model that the first lines left, run after the lines of another file.
+pub record LeavesKept (m : Metamodel) (head file : List ℕ) (ls : List (List ℕ)) (left : List ℕ) : Type 0 where
+  pub start : Session
+  pub had : model_of m (begun head (recovered file)) ≡ Some start.state.model
+  pub leaves : LeavesJournaled m start ls left
+
+-- what a crash leaves at any moment of such a run: the lines of the file, or a journal of the model that the first lines of a known input left
+abbrev pub LeavesKeptIn : Metamodel → List ℕ → List ℕ → Option (List ℕ) → List ℕ → Type 0
+LeavesKeptIn m head file input left = IsBegunOrNot head (recovered file) left ⊎ IfSome input (λ bytes. LeavesKept m head file (lines bytes) left)
+
+-- a file is refused as a journal before any of its lines is run
+abbrev pub IsOfHead : JournalFault → Type 0
+IsOfHead refused.Memory = ⊥
+IsOfHead refused.Failed = ⊥
+IsOfHead refused.NoJournal = Unit {0}
+IsOfHead refused.OtherMetamodel = Unit {0}
+IsOfHead (refused.Line n) = ⊥
+
+-- a file begins with a head, and the lines after it leave a model
+pub record IsJournalOf (m : Metamodel) (head file : List ℕ) (model : Model) : Type 0 where
+  pub lines_after : List (List ℕ)
+  pub lines_are : recovered file ≡ head ∷ lines_after
+  pub leaves : replayed (empty_state m).model lines_after ≡ Some model

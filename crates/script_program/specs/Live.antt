@@ -1,8 +1,8 @@
 -- What it is to run a script live: each line is answered before the next is read, and an empty line stands behind its answer.
-use Rattle.std.specs.Prelude.{◌≡◌, ◌≤◌, ◌^◌, ◌-◌, ◌⊎◌, ℕ, nat_lt, true, List, [], ◌∷◌, ◌++◌, length, Option, IfSome}
-use Rattle.std.specs.List.{flat_map, list_any}
+use Rattle.std.specs.Prelude.{◌≡◌, ℕ, List, [], ◌∷◌, ◌++◌, Option, IfSome}
+use Rattle.std.specs.List.{flat_map}
 use Rattle.std.specs.Io.KnownBytes.{Appends}
-use Rattle.mm_types.specs.declared.limits.TheConstants.{INPUT_BYTES}
+use Rattle.durable.specs.Answered as answered
 use Rattle.script_lines.specs.Forms.{form}
 use Rattle.script_lines.specs.Lines.{lines}
 use Rattle.script_lines.specs.declared.grammar.TheConstants.{NEWLINE}
@@ -57,4 +57,4 @@ PrintsInputLiveFront input s old new = IfSome input (λ bytes. PrintsLiveFront s
 
 -- a line of a script is longer than it may be, or there are as many lines as a run can count
 abbrev pub IsTooLong : List ℕ → Type 0
-IsTooLong bytes = (list_any (λ l. nat_lt INPUT_BYTES (length l)) (lines bytes) ≡ true) ⊎ (2 ^ 64 - 1 ≤ length (lines bytes))
+IsTooLong bytes = answered.IsTooLong (lines bytes)

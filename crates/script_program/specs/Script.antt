@@ -1,5 +1,5 @@
 -- What it is to run a script: each line in turn, in the session that the one before it left.
-use Rattle.std.specs.Prelude.{◌≡◌, ◌≤◌, ℕ, List, [], ◌∷◌, ◌++◌, length, Option, IfSome, codes}
+use Rattle.std.specs.Prelude.{◌≡◌, ◌≤◌, ◌⊎◌, ℕ, List, [], ◌∷◌, ◌++◌, length, Option, IfSome, codes}
 use Rattle.std.specs.Option.{option_map_or}
 use Rattle.std.specs.Io.KnownBytes.{Appends}
 use Rattle.mm_types.specs.Resolved.{Metamodel}
@@ -53,6 +53,10 @@ pub record Adds (old new : List ℕ) (turn : Turn) (Said : Printed → Type 0) :
   pub text : List ℕ
   pub added : new ≡ old ++ text
   pub said : Said (record { text = text; turn = turn })
+
+-- what is left of a repository where a line may have been run: it is as it was, or as the line leaves it
+abbrev pub IsLeft : (Printed → Session → Type 0) → State → State → Type 0
+IsLeft Said old new = (new ≡ old) ⊎ ((p : Printed) × (t : Session) × Said p t × (t.state ≡ new))
 
 -- a command was executed, what it brought and released left and joined the pool, and its outcome was printed
 pub record RunsCommand (s : Session) (c : Command View) (p : Printed) (t : Session) : Type 0 where

@@ -1,6 +1,6 @@
 //! Lines of the most frequent forms are run. They call the repository themselves, and a change that nobody can hear is printed without a
 //! reply: to bind a line to a command and to take its reply apart takes longer than the change.
-ghost use Rattle.std.specs.Prelude.{◌≡◌, Err, IfOk, MatchOption, None, Some};
+ghost use Rattle.std.specs.Prelude.{◌≡◌, Err, IfOk, MatchOption, None, Ok, OnErr, Some};
 ghost use Rattle.mm_types.specs.Resolved.{Metamodel};
 ghost use Rattle.mm_types.specs.declared.numbers.Node.TheVariants as node;
 ghost use Rattle.notice_chain.specs.View.{View};
@@ -8,6 +8,7 @@ ghost use Rattle.repository.specs.Run.{change_outcome, read_outcome};
 ghost use Rattle.repository.specs.declared.command.Command.{Command};
 ghost use Rattle.repository.specs.Commands.{container};
 ghost use Rattle.repository.specs.declared.reply.Answer.{Answer};
+ghost use Rattle.repository.specs.declared.reply.Answer.TheVariants as answer;
 ghost use Rattle.script_lines.specs.Frequent.{frequent_line};
 ghost use Rattle.script_lines.specs.Values.{value_in};
 ghost use Rattle.script_lines.specs.declared.frequent.Frequent.TheVariants as frequent;
@@ -15,7 +16,7 @@ ghost use Rattle.script_program.specs.Answers.{feature_of, unheard_text};
 ghost use Rattle.script_program.specs.Bind as b;
 ghost use Rattle.script_program.specs.Edits.{edit_command};
 ghost use Rattle.script_program.specs.Pool.{Pool as PoolView};
-ghost use Rattle.script_program.specs.Script.{Adds, RunsCommand, RunsLine, command_printed};
+ghost use Rattle.script_program.specs.Script.{Adds, IsLeft, RunsCommand, RunsLine, command_printed};
 ghost use Rattle.script_program.specs.Session.{session};
 
 use crate::answers::print_refusal;
@@ -47,7 +48,8 @@ fn run_read<L: LinkStore, A: Adapter>(
     object: ObjectNo,
     name: &str,
 ) -> Result<Turn, AllocError>
-    ensures { IfOk result (λ t. Adds output.old output.new t (λ p. RunsLine (session repository.old pool.old) (frequent_line (frequent.Get object name.now)) p (session repository.new pool.new))) }
+    ensures ok { IfOk result (λ t. Adds output.old output.new t (λ p. RunsLine (session repository.old pool.old) (frequent_line (frequent.Get object name.now)) p (session repository.new pool.new))) }
+    ensures left { OnErr result (IsLeft (RunsLine (session repository.old pool.old) (frequent_line (frequent.Get object name.now))) repository.old repository.new) }
 {
     let node = Node::Object(object);
     let feature = feature_number(repository, node, name);
@@ -60,22 +62,30 @@ fn run_read<L: LinkStore, A: Adapter>(
     }
 }
 
+/// Prints an object that was created. Errs only if memory is refused for what is printed.
+fn print_object(output: &mut Output, object: ObjectNo) -> Result<Turn, AllocError>
+    ensures { (m : Metamodel) (c : Command View) → IfOk result (λ t. Adds output.old output.new t
+        (λ p. p ≡ command_printed m c (read_outcome answer.Object (Ok object)))) }
+{
+    output.node(Node::Object(object))?;
+    output.line_end()?;
+    Ok(Turn::Done)
+}
+
 /// Creates an object of a class, and prints the answer. Errs only if memory is refused for what is printed.
 fn run_create<L: LinkStore, A: Adapter>(
     repository: &mut Repository<L, A>,
     output: &mut Output,
     class: Name<'_>,
 ) -> Result<Turn, AllocError>
-    ensures { (pool : PoolView)
+    ensures ok { (pool : PoolView)
         → IfOk result (λ t. Adds output.old output.new t (λ p. RunsCommand (session repository.old pool) (b.create_command repository.old.model.metamodel class.entry) p (session repository.new pool))) }
+    ensures left { (pool : PoolView)
+        → OnErr result (IsLeft (RunsCommand (session repository.old pool) (b.create_command repository.old.model.metamodel class.entry)) repository.old repository.new) }
 {
     let class = class_number(repository.meta(), class.as_str());
     match repository.create_object(class) {
-        Ok(object) => {
-            output.node(Node::Object(object))?;
-            output.line_end()?;
-            Ok(Turn::Done)
-        }
+        Ok(object) => print_object(output, object),
         Err(refused) => print_refused(output, refused),
     }
 }
@@ -181,9 +191,11 @@ fn run_edit<L: LinkStore, A: Adapter>(
     output: &mut Output,
     asked: Asked<'_>,
 ) -> Result<Turn, AllocError>
-    ensures { IfOk result (λ t. Adds output.old output.new t (λ p. RunsCommand (session repository.old pool.old)
+    ensures ok { IfOk result (λ t. Adds output.old output.new t (λ p. RunsCommand (session repository.old pool.old)
         (edit_command repository.old asked.entry.edit (node.Object asked.entry.object) asked.entry.feature asked.entry.value)
         p (session repository.new pool.new))) }
+    ensures left { OnErr result (IsLeft (RunsCommand (session repository.old pool.old)
+        (edit_command repository.old asked.entry.edit (node.Object asked.entry.object) asked.entry.feature asked.entry.value)) repository.old repository.new) }
 {
     let (edit, node) = (asked.edit, Node::Object(asked.object));
     let (feature, value) = bound(repository, asked);
@@ -216,7 +228,8 @@ pub(crate) fn run_frequent<L: LinkStore, A: Adapter>(
     output: &mut Output,
     line: Frequent<'_>,
 ) -> Result<Turn, AllocError>
-    ensures { IfOk result (λ t. Adds output.old output.new t (λ p. RunsLine (session repository.old pool.old) (frequent_line line.entry) p (session repository.new pool.new))) }
+    ensures ok { IfOk result (λ t. Adds output.old output.new t (λ p. RunsLine (session repository.old pool.old) (frequent_line line.entry) p (session repository.new pool.new))) }
+    ensures left { OnErr result (IsLeft (RunsLine (session repository.old pool.old) (frequent_line line.entry)) repository.old repository.new) }
 {
     match line {
         Frequent::New(class) => run_create(repository, output, class),

@@ -1,11 +1,12 @@
 //! A live run whose changes a journal keeps.
-ghost use Rattle.std.specs.Prelude.{◌≡◌, [], Some, IfSome, OnErr, OnOk, OnSome};
+ghost use Rattle.std.specs.Prelude.{◌≡◌, ◌<◌, ◌⊎◌, [], Some, IfErr, IfSome, IsErrOf, OnOk, OnSome};
 ghost use Rattle.std.specs.Io.Buffered.{reader_remaining};
 ghost use Rattle.std.specs.Io.KnownBytes.{IsAtEnd};
 ghost use Rattle.mm_types.specs.Resolved.{Metamodel};
 ghost use Rattle.script_lines.specs.Lines.{lines};
 ghost use Rattle.journal.specs.Disk.{LeavesOnly};
-ghost use Rattle.durable.specs.Outboxes.{IsAtRest, disk_under, held_by, kept_by, noted_by, writer_of};
+ghost use Rattle.durable.specs.Outboxes.{IsAtRest, IsFull, disk_under, held_by, kept_by, noted_by, writer_of};
+ghost use Rattle.script_program.specs.Live.{IsTooLong};
 ghost use Rattle.script_program.specs.Kept.{EndsJournaled, LeavesJournaled, StopsJournaled, model_of, session_of};
 
 use crate::journaled::Journaled;
@@ -41,8 +42,11 @@ pub fn run_journal<R: Read, D: Disk, W: Write, L: LinkStore, A: Adapter>(
     ensures at_rest { OnOk result (IsAtRest D.seen D.may_leave outbox.new) }
     // Whatever stops the run, and so also if each call fails because the machine does: what was answered is in each file that may be left.
     ensures stopped { (m : Metamodel) → model_of m (kept_by D.seen outbox.old) ≡ Some (session_of session.old).state.model
-        → OnErr result (IfSome (reader_remaining R.remaining reader.old) (λ input. StopsJournaled m (session_of session.old) (lines input)
+        → IfErr result (λ fault. IfSome (reader_remaining R.remaining reader.old) (λ input. StopsJournaled m fault (session_of session.old) (lines input)
         (W.contents (writer_of outbox.old)) (W.contents (writer_of outbox.new)) (D.may_leave (disk_under outbox.new)))) }
+    // `TooLong` is returned only if a line is too long, or there are too many, and `Journal` only if the disk failed or the file is full.
+    ensures long { IsErrOf result RunFault.TooLong → IfSome (reader_remaining R.remaining reader.old) IsTooLong }
+    ensures disk { IsErrOf result RunFault.Journal → (D.faults (disk_under outbox.old) < D.faults (disk_under outbox.new)) ⊎ IsFull D.seen outbox.new }
     // A crash at any moment of the run leaves a journal of the model that the first lines left.
     ensures any_moment { (m : Metamodel) → model_of m (kept_by D.seen outbox.old) ≡ Some (session_of session.old).state.model
         → LeavesOnly D.moment D.left_since (disk_under outbox.old) (disk_under outbox.new)

@@ -1,7 +1,7 @@
 //! Lines whose changes a journal keeps.
-ghost use Rattle.std.specs.Prelude.{◌≡◌, IfOk};
+ghost use Rattle.std.specs.Prelude.{◌≡◌, false, IfOk};
 ghost use Rattle.script_lines.specs.Forms.{form};
-ghost use Rattle.script_program.specs.Kept.{asks_change, journal_turn, line_asks, session_of};
+ghost use Rattle.script_program.specs.Kept.{asks_change, has_fault, journal_turn, line_asks, lines_run, session_of};
 ghost use Rattle.script_program.specs.Session.{first_session};
 
 use crate::interpreter::Interpreter;
@@ -75,7 +75,9 @@ fn turn_of(alloc: Global, line: &[u8], turn: Turn) -> Result<durable::Turn, Allo
 impl<L: LinkStore, A: Adapter> Journaled<L, A> {
     /// An interpreter over an empty repository of a metamodel. The n-th of the boxes, from 1 on, is An. Errs only if memory is refused.
     pub fn new(alloc: Global, meta: Meta, boxes: Vec<A>) -> Result<Self, AllocError>
-        ensures { IfOk result (λ j. session_of j ≡ first_session A.heard meta boxes.items) }
+        ensures begin { IfOk result (λ j. session_of j ≡ first_session A.heard meta boxes.items) }
+        ensures lines { IfOk result (λ j. lines_run j ≡ 0) }
+        ensures faulty { IfOk result (λ j. has_fault j ≡ false) }
     {
         Ok(Journaled {
             alloc,
@@ -86,12 +88,16 @@ impl<L: LinkStore, A: Adapter> Journaled<L, A> {
     }
 
     /// How many lines it has run.
-    pub fn lines(&self) -> u64 {
+    pub fn lines(&self) -> u64
+        ensures { result ≡ lines_run self.now }
+    {
         self.lines
     }
 
     /// Whether a line was refused, or bad.
-    pub fn is_faulty(&self) -> bool {
+    pub fn is_faulty(&self) -> bool
+        ensures { result ≡ has_fault self.now }
+    {
         self.is_faulty
     }
 }

@@ -1,5 +1,5 @@
 //! A line of a script is run.
-ghost use Rattle.std.specs.Prelude.{◌≡◌, Err, true, IfOk};
+ghost use Rattle.std.specs.Prelude.{◌≡◌, Err, true, IfOk, OnErr};
 ghost use Rattle.mm_types.specs.Shapes.{shape};
 ghost use Rattle.notice_chain.specs.View.{View};
 ghost use Rattle.repository.specs.Run.{change_outcome};
@@ -10,7 +10,7 @@ ghost use Rattle.script_lines.specs.Source.{bytes_of};
 ghost use Rattle.script_lines.specs.declared.line.Line.TheVariants as asked;
 ghost use Rattle.script_program.specs.Bind.{IsGiven, pool_of, request_view};
 ghost use Rattle.script_program.specs.Pool.{Pool as PoolView};
-ghost use Rattle.script_program.specs.Script.{Adds, RunsCommand, RunsLine, RunsRequest};
+ghost use Rattle.script_program.specs.Script.{Adds, IsLeft, RunsCommand, RunsLine, RunsRequest};
 ghost use Rattle.script_program.specs.Session.{IsBrought, Session, brought_no, session, taken};
 ghost use Rattle.script_program.specs.Turns.{outcome_turn};
 ghost use Rattle.script_program.specs.declared.request.Request.TheVariants as request;
@@ -105,15 +105,16 @@ fn run_seen<L: LinkStore, A: Adapter>(
 }
 
 /// Executes a command, whose adapter is out of the pool, and prints its answer. What is released, or not attached, goes back to
-/// the pool. Errs only if memory is refused for what is printed.
+/// the pool. Errs only if memory is refused for what is printed; the command was executed then.
 pub(crate) fn run_command<L: LinkStore, A: Adapter>(
     repository: &mut Repository<L, A>,
     pool: &mut Pool<A>,
     output: &mut Output,
     command: Command<A>,
 ) -> Result<Turn, AllocError>
-    ensures { (before : PoolView) → pool.old ≡ taken before (command_view A.heard command) → IsBrought before (command_view A.heard command) → IfOk result (λ t.
+    ensures ok { (before : PoolView) → pool.old ≡ taken before (command_view A.heard command) → IsBrought before (command_view A.heard command) → IfOk result (λ t.
         Adds output.old output.new t (λ p. RunsCommand (session repository.old before) (command_view A.heard command) p (session repository.new pool.new))) }
+    ensures left { (before : PoolView) → OnErr result (IsLeft (RunsCommand (session repository.old before) (command_view A.heard command)) repository.old repository.new) }
 {
     let feature = feature_of(&command);
     let no = number_of(&command);
@@ -131,20 +132,26 @@ fn run_request<L: LinkStore, A: Adapter>(
     output: &mut Output,
     request: Request<A>,
 ) -> Result<Turn, AllocError>
-    ensures { (before : PoolView) → pool.old ≡ pool_of before (request_view A.heard request) → IsGiven before (request_view A.heard request)
+    ensures ok { (before : PoolView) → pool.old ≡ pool_of before (request_view A.heard request) → IsGiven before (request_view A.heard request)
         → IfOk result (λ t. Adds output.old output.new t (λ p. RunsRequest (session repository.old before) (request_view A.heard request)
         p (session repository.new pool.new))) }
+    ensures left { (before : PoolView) → OnErr result (IsLeft (RunsRequest (session repository.old before) (request_view A.heard request)) repository.old repository.new) }
 {
     match request {
         Request::Execute(Command::Read(Read::At(end, EndRead::Get)))
             if repository.meta().is_single(end.feature) => { run_get(repository, output, end) }
         Request::Execute(command) => run_command(repository, pool, output, command),
         Request::Seen(no) => run_seen(repository, output, no),
-        Request::Refuse(refused) => {
-            print_refusal(output, refused)?;
-            Ok(Turn::Refused)
-        }
+        Request::Refuse(refused) => print_as_refused(output, refused),
     }
+}
+
+/// Prints the refusal of a form that asks for nothing that can be done. Errs only if memory is refused for what is printed.
+fn print_as_refused(output: &mut Output, refused: Refused) -> Result<Turn, AllocError>
+    ensures { (s : Session) → IfOk result (λ t. Adds output.old output.new t (λ p. RunsRequest s (request.Refuse refused) p s)) }
+{
+    print_refusal(output, refused)?;
+    Ok(Turn::Refused)
 }
 
 /// Adds the line that a bad line prints. Errs only if memory is refused for it.
@@ -166,7 +173,8 @@ fn run_text<L: LinkStore, A: Adapter>(
     pool: &mut Pool<A>,
     output: &mut Output,
 ) -> Result<Turn, AllocError>
-    ensures { IfOk result (λ t. Adds output.old output.new t (λ p. RunsLine (session repository.old pool.old) (forms.text_line text.now) p (session repository.new pool.new))) }
+    ensures ok { IfOk result (λ t. Adds output.old output.new t (λ p. RunsLine (session repository.old pool.old) (forms.text_line text.now) p (session repository.new pool.new))) }
+    ensures left { OnErr result (IsLeft (RunsLine (session repository.old pool.old) (forms.text_line text.now)) repository.old repository.new) }
 {
     match text_line_of(alloc, text)? {
         Line::Blank => Ok(Turn::Blank),
@@ -188,7 +196,8 @@ fn run_text_line<L: LinkStore, A: Adapter>(
     output: &mut Output,
     text: &str,
 ) -> Result<Turn, AllocError>
-    ensures { IfOk result (λ t. Adds output.old output.new t (λ p. RunsLine (session repository.old pool.old) (forms.text_line text.now) p (session repository.new pool.new))) }
+    ensures ok { IfOk result (λ t. Adds output.old output.new t (λ p. RunsLine (session repository.old pool.old) (forms.text_line text.now) p (session repository.new pool.new))) }
+    ensures left { OnErr result (IsLeft (RunsLine (session repository.old pool.old) (forms.text_line text.now)) repository.old repository.new) }
 {
     match frequent_of(text) {
         Some(line) => run_frequent(alloc, repository, pool, output, line),
@@ -198,7 +207,8 @@ fn run_text_line<L: LinkStore, A: Adapter>(
 
 /// Runs a line: parses it, does what it asks for and prints the answer.
 ///
-/// Errs if memory is refused to the program itself. A command that the repository refuses for memory prints that refusal.
+/// Errs if memory is refused to the program itself: then the repository is as it was, or as the line leaves it. A command that the
+/// repository refuses for memory prints that refusal.
 #[inline(always)]
 pub(crate) fn run_line<L: LinkStore, A: Adapter>(
     alloc: Global,
@@ -207,7 +217,8 @@ pub(crate) fn run_line<L: LinkStore, A: Adapter>(
     output: &mut Output,
     line: Source<'_>,
 ) -> Result<Turn, AllocError>
-    ensures { IfOk result (λ t. Adds output.old output.new t (λ p. RunsLine (session repository.old pool.old) (forms.form (bytes_of line.entry)) p (session repository.new pool.new))) }
+    ensures ok { IfOk result (λ t. Adds output.old output.new t (λ p. RunsLine (session repository.old pool.old) (forms.form (bytes_of line.entry)) p (session repository.new pool.new))) }
+    ensures left { OnErr result (IsLeft (RunsLine (session repository.old pool.old) (forms.form (bytes_of line.entry))) repository.old repository.new) }
 {
     match line.text_of_line() {
         Some(text) => run_text_line(alloc, repository, pool, output, text),

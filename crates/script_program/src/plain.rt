@@ -46,7 +46,7 @@ pub(crate) fn run_plain<W: Write, L: LinkStore, A: Adapter>(
 ) -> Result<Summary, RunFault>
     requires { length input.now ≤ INPUT_BYTES }
     ensures ok { IfOk result (λ s. PrintsDressed plain (session repository.old pool.old) (EndsIn repository.new) (W.contents writer.old) (W.contents writer.new) input.now s) }
-    ensures err { OnErr result (PrintsDressedFront plain (session repository.old pool.old) (W.contents writer.old) (W.contents writer.new) input.now) }
+    ensures err { OnErr result (PrintsDressedFront plain (session repository.old pool.old) (EndsIn repository.new) (W.contents writer.old) (W.contents writer.new) input.now) }
     ensures kind { IfErr result (λ e. IsWriteOrMemory e) }
 {
     let mut block = Output::new(alloc);

@@ -1,12 +1,13 @@
 //! A journal is begun, or its lines are run again.
-ghost use Rattle.std.specs.Prelude.{◌≡◌, ◌++◌, [], ◌∷◌, None, Some, codes, IfErr, IfOk, OnOk};
+ghost use Rattle.std.specs.Prelude.{◌≡◌, ◌≢◌, ◌++◌, [], ◌∷◌, ℕ, List, None, Some, codes, IfErr, IfOk, OnErr, OnOk};
 ghost use Rattle.hex.specs.Hex.{encode_lower};
 ghost use Rattle.journal.specs.Disk.{IsDurable, LeavesOnly};
 ghost use Rattle.journal.specs.Journal.{IsBeforeOrAfter, IsSettled, StandsFor, disk_of, kept, noted};
 ghost use Rattle.journal.specs.Lines.{IsLine, recovered};
 ghost use Rattle.mm_types.specs.Resolved.{Metamodel};
 ghost use Rattle.repository.specs.State.{empty_state};
-ghost use Rattle.script_program.specs.Kept.{FindsLines, IsBegunOrNot, begun, model_of, session_of};
+ghost use Rattle.models.specs.Model.{Model};
+ghost use Rattle.script_program.specs.Kept.{FindsLines, IsBegunOrNot, IsJournalOf, IsOfHead, begun, model_of, session_of};
 
 use crate::journaled::Journaled;
 use adapters::Adapter;
@@ -73,7 +74,9 @@ fn is_unbegun(bytes: &[u8], head: &[u8]) -> bool {
 
 /// What a file has after its head; nothing if the journal is still to be begun.
 fn behind_head<'a>(bytes: &'a [u8], head: &[u8]) -> Result<Option<&'a [u8]>, JournalFault>
-    ensures { IfOk result (λ found. FindsLines found bytes.now head.now) }
+    ensures found { IfOk result (λ found. FindsLines found bytes.now head.now) }
+    ensures kind { IfErr result IsOfHead }
+    ensures other { OnErr result ((rest : List (List ℕ)) → recovered bytes.now ≢ head.now ∷ rest) }
 {
     match next_entry(bytes) {
         Some((line, rest)) => {
@@ -108,6 +111,10 @@ pub fn run_again<L: LinkStore, A: Adapter>(
     // What the lines leave is the model from then on.
     ensures model { (m : Metamodel) → (session_of session.old).state ≡ empty_state m
         → OnOk result (model_of m (begun head.now (recovered bytes.now)) ≡ Some (session_of session.new).state.model) }
+    // A journal whose lines leave a model is refused for memory alone.
+    ensures head { IfErr result (λ fault. IsOfHead fault → (rest : List (List ℕ)) → recovered bytes.now ≢ head.now ∷ rest) }
+    ensures taken { (m : Metamodel) (model : Model) → (session_of session.old).state ≡ empty_state m → IsJournalOf m head.now bytes.now model
+        → IfErr result (λ fault. fault ≡ JournalFault.Memory) }
 {
     let Some(lines) = behind_head(bytes, head)? else {
         return Ok(());

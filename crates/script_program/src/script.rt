@@ -40,8 +40,8 @@ pub(crate) fn answer_line<W: Write, L: LinkStore, A: Adapter>(
 ) -> Result<Turn, RunFault>
     ensures ok { IfOk result (λ t. AnswersLine dress number (bytes_of source.entry) (session repository.old pool.old) (W.contents writer.old) (W.contents writer.new) t
         (session repository.new pool.new)) }
-    ensures err { OnErr result ((W.contents writer.new ≡ W.contents writer.old)
-        ⊎ AnswersFront dress number (bytes_of source.entry) (session repository.old pool.old) (W.contents writer.old) (W.contents writer.new)) }
+    ensures err { OnErr result (((W.contents writer.new ≡ W.contents writer.old) × (repository.new ≡ repository.old))
+        ⊎ AnswersFront dress number (bytes_of source.entry) (session repository.old pool.old) (EndsIn repository.new) (W.contents writer.old) (W.contents writer.new)) }
     ensures kind { IfErr result (λ e. IsWriteOrMemory e) }
 {
     output.clear();
@@ -64,7 +64,7 @@ fn run_lines<W: Write, L: LinkStore, A: Adapter>(
 ) -> Result<Summary, RunFault>
     requires { length input.now ≤ INPUT_BYTES }
     ensures ok { IfOk result (λ s. PrintsDressed dress (session repository.old pool.old) (EndsIn repository.new) (W.contents writer.old) (W.contents writer.new) input.now s) }
-    ensures err { OnErr result (PrintsDressedFront dress (session repository.old pool.old) (W.contents writer.old) (W.contents writer.new) input.now) }
+    ensures err { OnErr result (PrintsDressedFront dress (session repository.old pool.old) (EndsIn repository.new) (W.contents writer.old) (W.contents writer.new) input.now) }
     ensures kind { IfErr result (λ e. IsWriteOrMemory e) }
 {
     let mut output = Output::new(alloc);
@@ -103,7 +103,7 @@ fn run_input<W: Write, L: LinkStore, A: Adapter>(
 ) -> Result<Summary, RunFault>
     requires { length input.now ≤ INPUT_BYTES }
     ensures ok { IfOk result (PrintsDressed dress (session_with A.heard repository.old boxes.items) (EndsIn repository.new) (W.contents writer.old) (W.contents writer.new) input.now) }
-    ensures err { OnErr result (PrintsDressedFront dress (session_with A.heard repository.old boxes.items) (W.contents writer.old) (W.contents writer.new) input.now) }
+    ensures err { OnErr result (PrintsDressedFront dress (session_with A.heard repository.old boxes.items) (EndsIn repository.new) (W.contents writer.old) (W.contents writer.new) input.now) }
     ensures kind { IfErr result (λ e. IsWriteOrMemory e) }
 {
     let Ok(mut pool) = Pool::new(alloc, boxes) else {
@@ -129,9 +129,11 @@ pub fn run_over<R: Read, W: Write, L: LinkStore, A: Adapter>(
     // All the input was read, what was written is what its lines print, as it is dressed, and the repository is left as they leave it.
     ensures ok { IfOk result (PrintsInputDressed dress (R.remaining reader.old) (session_with A.heard repository.old boxes.items) (EndsIn repository.new) (W.contents writer.old) (W.contents writer.new)) }
     ensures end { OnOk result (IsAtEnd (R.remaining reader.new)) }
-    // If a write fails or the run is out of memory, what was written is a front of what the first lines print.
+    // If a write fails or the run is out of memory, what was written is a front of what the first lines print, and the repository is left as
+    // they leave it.
     ensures stopped { IfErr result (λ e. IsWriteOrMemory e
-        → PrintsInputDressedFront dress (R.remaining reader.old) (session_with A.heard repository.old boxes.items) (W.contents writer.old) (W.contents writer.new)) }
+        → PrintsInputDressedFront dress (R.remaining reader.old) (session_with A.heard repository.old boxes.items) (EndsIn repository.new)
+        (W.contents writer.old) (W.contents writer.new)) }
     // After a fault in reading nothing was written, and nothing was run.
     ensures unread { IfErr result (λ e. IsReadOrTooLong e → Keeps (W.contents writer.old) (W.contents writer.new)) }
     ensures unrun { IfErr result (λ e. IsReadOrTooLong e → repository.new ≡ repository.old) }
@@ -161,7 +163,7 @@ pub fn run_dressed<R: Read, W: Write, L: LinkStore, A: Adapter>(
     ensures end { OnOk result (IsAtEnd (R.remaining reader.new)) }
     // If a write fails or the run is out of memory, what was written is a front of what the first lines print.
     ensures stopped { IfErr result (λ e. IsWriteOrMemory e
-        → PrintsInputDressedFront dress (R.remaining reader.old) (first_session A.heard meta boxes.items) (W.contents writer.old) (W.contents writer.new)) }
+        → PrintsInputDressedFront dress (R.remaining reader.old) (first_session A.heard meta boxes.items) EndsAnywhere (W.contents writer.old) (W.contents writer.new)) }
     // After a fault in reading nothing was written.
     ensures unread { IfErr result (λ e. IsReadOrTooLong e → Keeps (W.contents writer.old) (W.contents writer.new)) }
     // `TooLong` is returned only if the input is too long.

@@ -1,53 +1,65 @@
 //! A line is read for a caller that has something to do before each wait.
-ghost use Rattle.std.specs.Prelude.{◌≡◌, ◌≤◌, ◌⊎◌, IfOk, IfSome, IsErrOf, OnErr, OnOk, length};
-ghost use Rattle.std.specs.Io.Buffered.{reader_remaining};
-ghost use Rattle.script_streams.specs.Line.{BeginsTooLong, ReadsLine};
+ghost use Rattle.std.specs.Prelude.{◌≡◌, ◌≤◌, ◌⊎◌, IfErr, IfOk, OnOk, length};
+ghost use Rattle.std.specs.Io.Buffered.{reader_inner, reader_remaining};
+ghost use Rattle.script_streams.specs.Line.{ReadsLine, ReadsPiece};
+ghost use Rattle.script_streams.specs.Waiting.{StopsLine, StopsPiece};
 
-use crate::line::{LineEnd, read_piece};
+use crate::line::{LineEnd, read_piece, take_piece};
 use crate::run_fault::RunFault;
 use mm_types::limits::INPUT_BYTES;
 use std::io::{BufRead, BufReader, Read};
 
 /// Has something to do before it waits for input: it gives the answers that it holds back, for one.
 pub trait Waits {
+    ghost use Rattle.script_streams.specs.declared.run_fault.RunFault.{RunFault};
+
     /// It may be called now.
     ghost can_wait: { Self → Type 0 };
+
+    /// It has nothing left to do before a wait.
+    ghost is_ready: { Self → Type 0 };
 
     /// What is left after any number of calls that succeeded, none among them.
     ghost becomes: { Self → Self → Type 0 };
 
-    /// What is left after calls of which the last failed.
-    ghost ends_as: { Self → Self → Type 0 };
+    /// What is left after a call that failed with a fault.
+    ghost fails: { Self → RunFault → Self → Type 0 };
 
     /// Does what is to be done before a wait.
     fn before_wait(&mut self) -> Result<(), RunFault>
         requires { can_wait self.old }
         ensures ok { OnOk result (becomes self.old self.new) }
         ensures again { OnOk result (can_wait self.new) }
-        ensures err { OnErr result (ends_as self.old self.new) };
+        ensures ready { OnOk result (is_ready self.new) }
+        ensures err { IfErr result (λ fault. fails self.old fault self.new) };
 
     /// Without a call it stays as it is.
     ghost stays: { (x : Self) → becomes x x };
 
     /// A line may need several reads, and so several calls.
     ghost goes_on: { (x y z : Self) → becomes x y → becomes y z → becomes x z };
-
-    /// The last of them may fail.
-    ghost ends: { (x y z : Self) → becomes x y → ends_as y z → ends_as x z };
 }
 
-/// Calls `before_wait` if a reader has nothing read ahead, so that its next read may wait.
-fn prepare_read<R: Read, X: Waits>(reader: &BufReader<R>, waits: &mut X) -> Result<(), RunFault>
+/// Appends the next piece of a line. If the reader has nothing read ahead, its next read may wait, so `before_wait` is called before.
+#[inline(always)]
+fn wait_and_read<R: Read, X: Waits>(
+    reader: &mut BufReader<R>,
+    waits: &mut X,
+    line: &mut Vec<u8>,
+) -> Result<Option<LineEnd>, RunFault>
     requires { X.can_wait waits.old }
-    ensures ok { OnOk result (X.becomes waits.old waits.new) }
+    ensures ok { IfOk result (λ end. ReadsPiece (reader_remaining R.remaining reader.old) (reader_remaining R.remaining reader.new)
+        line.old.items line.new.items end) }
+    ensures waited { OnOk result (X.becomes waits.old waits.new) }
     ensures again { OnOk result (X.can_wait waits.new) }
-    ensures err { OnErr result (X.ends_as waits.old waits.new) }
+    ensures ready { OnOk result (((reader_inner reader.new ≡ reader_inner reader.old) × (waits.new ≡ waits.old)) ⊎ X.is_ready waits.new) }
+    ensures stopped { IfErr result (λ fault. StopsPiece X.can_wait X.is_ready X.becomes X.fails waits.old fault waits.new) }
 {
-    if reader.buffer().is_empty() {
-        waits.before_wait()
-    } else {
-        Ok(())
+    if !reader.buffer().is_empty() {
+        return Ok(take_piece(reader, line)?);
     }
+    waits.before_wait()?;
+    read_piece(reader, line)
 }
 
 /// Reads a line as `read_line` does, but calls `before_wait` before each read that may wait, and flushes nothing.
@@ -64,15 +76,15 @@ pub fn read_line_waiting<R: Read, X: Waits>(
     ensures bound { OnOk result (length line.new.items ≤ INPUT_BYTES) }
     ensures waited { OnOk result (X.becomes waits.old waits.new) }
     ensures again { OnOk result (X.can_wait waits.new) }
-    ensures stopped { OnErr result (X.becomes waits.old waits.new ⊎ X.ends_as waits.old waits.new) }
-    // `TooLong` is returned only if the line is too long, or by `before_wait`.
-    ensures long { IsErrOf result RunFault.TooLong → IfSome (reader_remaining R.remaining reader.old) (λ input. BeginsTooLong input)
-        ⊎ X.ends_as waits.old waits.new }
+    // The stream under the reader's buffer is read only when nothing is left to do.
+    ensures ready { OnOk result ((reader_inner reader.new ≡ reader_inner reader.old) ⊎ X.is_ready waits.new) }
+    // A wait fails, or a read when nothing is left to do, or the line is too long, or memory is refused.
+    ensures stopped { IfErr result (λ fault. StopsLine X.can_wait X.is_ready X.becomes X.fails (reader_remaining R.remaining reader.old)
+        waits.old fault waits.new) }
 {
     line.clear();
     'pieces: while line.len() <= INPUT_BYTES {
-        prepare_read(reader, waits)?;
-        if let Some(end) = read_piece(reader, line)? {
+        if let Some(end) = wait_and_read(reader, waits, line)? {
             return if line.len() <= INPUT_BYTES {
                 Ok(end)
             } else {

@@ -11,10 +11,11 @@ use Rattle.script_program.specs.Pool.{box_of}
 use Rattle.script_program.specs.Script.{RunsCommand, command_printed}
 use Rattle.script_program.specs.Session.{Session, session}
 use Rattle.script_program.proofs.SessionLemmas.{adds-run, unheard-pool}
+use Rattle.script_program.proofs.LeftLemmas.{as_executed}
 use Rattle.script_program.proofs.frequent.run_edit.Goals as goal
 
-pub returns-in-Ok : goal.returns-in-Ok
-returns-in-Ok g c =
+pub returns-in-Ok-clause-ok : goal.returns-in-Ok-clause-ok
+returns-in-Ok-clause-ok g c =
     let n = node.Object c.args.asked.object in
     let s : Session = session c.args.repository.now c.args.pool.now in
     let t : Session = session c.set_unheard.new.self c.args.pool.now in
@@ -26,14 +27,14 @@ returns-in-Ok g c =
     (c.print_change.ensures s.state.model.metamodel k answer.Done refl))
 
 -- nothing was done before
-pub returns-in-Err : goal.returns-in-Err
-returns-in-Err g c =
+pub returns-in-Err-clause-ok : goal.returns-in-Err-clause-ok
+returns-in-Err-clause-ok g c =
     let pool = c.args.pool.now in
     rw (c.in-Set.is, ← c.bound-value.ensures.value, ← c.bound-value.ensures.feature)
-    (rw (c.in-Err.ensures.left.0, c.in-Err.ensures.left.1) at (c.run_command.ensures pool refl (All-nil (λ (a : Listed). box_of pool a.no ≡ Ok a.view))))
+    (rw (c.in-Err.ensures.left.0, c.in-Err.ensures.left.1) at (c.run_command.ensures.ok pool refl (All-nil (λ (a : Listed). box_of pool a.no ≡ Ok a.view))))
 
-pub returns-in-Ok-add_unheard : goal.returns-in-Ok-add_unheard
-returns-in-Ok-add_unheard g c =
+pub returns-in-Ok-add_unheard-clause-ok : goal.returns-in-Ok-add_unheard-clause-ok
+returns-in-Ok-add_unheard-clause-ok g c =
     let n = node.Object c.args.asked.object in
     let s : Session = session c.args.repository.now c.args.pool.now in
     let t : Session = session c.add_unheard.new.self c.args.pool.now in
@@ -45,8 +46,34 @@ returns-in-Ok-add_unheard g c =
     (λ p is. record { outcome = o; executed = c.in-Ok-add_unheard.ensures.done; pool = unheard-pool _ k (λ u. a) c.in-Ok-add_unheard.outcome refl; printed = is })
     (c.print_change-in-Ok-add_unheard.ensures s.state.model.metamodel k a refl))
 
-pub returns-in-Err-add_unheard : goal.returns-in-Err-add_unheard
-returns-in-Err-add_unheard g c =
+pub returns-in-Err-add_unheard-clause-ok : goal.returns-in-Err-add_unheard-clause-ok
+returns-in-Err-add_unheard-clause-ok g c =
     let pool = c.args.pool.now in
     rw (c.in-Add.is, ← c.bound-value.ensures.value, ← c.bound-value.ensures.feature)
-    (rw (c.in-Err-add_unheard.ensures.left.0, c.in-Err-add_unheard.ensures.left.1) at (c.run_command-in-Err-add_unheard.ensures pool refl (All-nil (λ (a : Listed). box_of pool a.no ≡ Ok a.view))))
+    (rw (c.in-Err-add_unheard.ensures.left.0, c.in-Err-add_unheard.ensures.left.1) at (c.run_command-in-Err-add_unheard.ensures.ok pool refl (All-nil (λ (a : Listed). box_of pool a.no ≡ Ok a.view))))
+
+-- ---- what is left if the answer could not be added
+
+pub returns-in-Ok-clause-left : goal.returns-in-Ok-clause-left
+returns-in-Ok-clause-left g c =
+    let s : Session = session c.args.repository.now c.args.pool.now in
+    let k : Command View = set (node.Object c.args.asked.object) c.bound-value.result.0 c.bound-value.result.1 in
+    rw (c.in-Set.is, ← c.bound-value.ensures.value, ← c.bound-value.ensures.feature)
+    (as_executed c.print_change.result s k (read_outcome (λ u. answer.Done) c.in-Ok.outcome) c.set_unheard.new.self c.in-Ok.ensures.done)
+
+pub returns-in-Err-clause-left : goal.returns-in-Err-clause-left
+returns-in-Err-clause-left g c =
+    rw (c.in-Set.is, ← c.bound-value.ensures.value, ← c.bound-value.ensures.feature)
+    (rw (c.in-Err.ensures.left.0, c.in-Err.ensures.left.1) at (c.run_command.ensures.left c.args.pool.now))
+
+pub returns-in-Ok-add_unheard-clause-left : goal.returns-in-Ok-add_unheard-clause-left
+returns-in-Ok-add_unheard-clause-left g c =
+    let s : Session = session c.args.repository.now c.args.pool.now in
+    let k : Command View = add (node.Object c.args.asked.object) c.bound-value.result.0 c.bound-value.result.1 None in
+    rw (c.in-Add.is, ← c.bound-value.ensures.value, ← c.bound-value.ensures.feature)
+    (as_executed c.print_change-in-Ok-add_unheard.result s k (read_outcome (λ u. answer.Flag true) c.in-Ok-add_unheard.outcome) c.add_unheard.new.self c.in-Ok-add_unheard.ensures.done)
+
+pub returns-in-Err-add_unheard-clause-left : goal.returns-in-Err-add_unheard-clause-left
+returns-in-Err-add_unheard-clause-left g c =
+    rw (c.in-Add.is, ← c.bound-value.ensures.value, ← c.bound-value.ensures.feature)
+    (rw (c.in-Err-add_unheard.ensures.left.0, c.in-Err-add_unheard.ensures.left.1) at (c.run_command-in-Err-add_unheard.ensures.left c.args.pool.now))

@@ -5,39 +5,76 @@ use Rattle.script_lines.specs.Frequent.{frequent_line}
 use Rattle.script_lines.specs.declared.form.Form.TheVariants as asks
 use Rattle.script_lines.specs.declared.line.Line.TheVariants as line
 use Rattle.script_program.specs.Session.{session}
+use Rattle.script_program.proofs.LeftLemmas.{unchanged}
 use Rattle.script_program.proofs.frequent.run_frequent.Goals as goal
 
-pub returns-in-New : goal.returns-in-New
-returns-in-New g c = rw (ap frequent_line c.in-New.is) (c.run_create.ensures c.args.pool.now)
+pub returns-in-New-clause-ok : goal.returns-in-New-clause-ok
+returns-in-New-clause-ok g c = rw (ap frequent_line c.in-New.is) (c.run_create.ensures.ok c.args.pool.now)
 
-pub returns-in-Container : goal.returns-in-Container
-returns-in-Container g c = rw (ap frequent_line c.in-Container.is) (c.run_container.ensures c.args.pool.now)
+pub returns-in-New-clause-left : goal.returns-in-New-clause-left
+returns-in-New-clause-left g c = rw (ap frequent_line c.in-New.is) (c.run_create.ensures.left c.args.pool.now)
 
-pub returns-in-Some : goal.returns-in-Some
-returns-in-Some g c =
+pub returns-in-Container-clause-ok : goal.returns-in-Container-clause-ok
+returns-in-Container-clause-ok g c = rw (ap frequent_line c.in-Container.is) (c.run_container.ensures c.args.pool.now)
+
+pub returns-in-Some-clause-ok : goal.returns-in-Some-clause-ok
+returns-in-Some-clause-ok g c =
     let a = c.in-Some.asked in
     let parts = rw c.in-Some.is at c.in_ok-asked-in-Set.ensures in
     let asked : frequent_line c.args.line ≡ line.Form (asks.Set (node.Object c.in-Set.object) c.in-Set.feature a.value) =
     ap frequent_line c.in-Set.is ∙ ap (λ x. line_with (option_map (λ v. asks.Set (node.Object c.in-Set.object) c.in-Set.feature v) x)) parts.3 in
-    rw asked (rw (parts.0, parts.1, parts.2) at c.run_edit.ensures)
+    rw asked (rw (parts.0, parts.1, parts.2) at c.run_edit.ensures.ok)
 
-pub returns-in-Some-2 : goal.returns-in-Some-2
-returns-in-Some-2 g c =
+pub returns-in-Some-2-clause-ok : goal.returns-in-Some-2-clause-ok
+returns-in-Some-2-clause-ok g c =
     let a = c.in-Some-2.asked in
     let parts = rw c.in-Some-2.is at c.in_ok-asked-in-Add.ensures in
     let asked : frequent_line c.args.line ≡ line.Form (asks.Add (node.Object c.in-Add.object) c.in-Add.feature a.value None) =
     ap frequent_line c.in-Add.is ∙ ap (λ x. line_with (option_map (λ v. asks.Add (node.Object c.in-Add.object) c.in-Add.feature v None) x)) parts.3 in
-    rw asked (rw (parts.0, parts.1, parts.2) at c.run_edit-in-Some-2.ensures)
+    rw asked (rw (parts.0, parts.1, parts.2) at c.run_edit-in-Some-2.ensures.ok)
 
 -- the last word writes no value
-pub returns-in-None : goal.returns-in-None
-returns-in-None g c =
+pub returns-in-None-clause-ok : goal.returns-in-None-clause-ok
+returns-in-None-clause-ok g c =
     let none = rw c.in-None.is at c.in_ok-asked-in-Set.ensures in
     let bad : frequent_line c.args.line ≡ line.Bad = ap frequent_line c.in-Set.is ∙ ap (λ x. line_with (option_map (λ v. asks.Set (node.Object c.in-Set.object) c.in-Set.feature v) x)) none in
     rw bad (c.print_bad.ensures (session c.args.repository.now c.args.pool.now))
 
-pub returns-in-None-2 : goal.returns-in-None-2
-returns-in-None-2 g c =
+pub returns-in-None-2-clause-ok : goal.returns-in-None-2-clause-ok
+returns-in-None-2-clause-ok g c =
     let none = rw c.in-None-2.is at c.in_ok-asked-in-Add.ensures in
     let bad : frequent_line c.args.line ≡ line.Bad = ap frequent_line c.in-Add.is ∙ ap (λ x. line_with (option_map (λ v. asks.Add (node.Object c.in-Add.object) c.in-Add.feature v None) x)) none in
     rw bad (c.print_bad-in-None-2.ensures (session c.args.repository.now c.args.pool.now))
+
+-- ---- what is left if the answer could not be added
+
+pub returns-in-Container-clause-left : goal.returns-in-Container-clause-left
+returns-in-Container-clause-left g c = unchanged c.run_container.result _ c.args.repository.now
+
+pub returns-in-Some-clause-left : goal.returns-in-Some-clause-left
+returns-in-Some-clause-left g c =
+    let a = c.in-Some.asked in
+    let parts = rw c.in-Some.is at c.in_ok-asked-in-Set.ensures in
+    let asked : frequent_line c.args.line ≡ line.Form (asks.Set (node.Object c.in-Set.object) c.in-Set.feature a.value) =
+    ap frequent_line c.in-Set.is ∙ ap (λ x. line_with (option_map (λ v. asks.Set (node.Object c.in-Set.object) c.in-Set.feature v) x)) parts.3 in
+    rw asked (rw (parts.0, parts.1, parts.2) at c.run_edit.ensures.left)
+
+pub returns-in-Some-2-clause-left : goal.returns-in-Some-2-clause-left
+returns-in-Some-2-clause-left g c =
+    let a = c.in-Some-2.asked in
+    let parts = rw c.in-Some-2.is at c.in_ok-asked-in-Add.ensures in
+    let asked : frequent_line c.args.line ≡ line.Form (asks.Add (node.Object c.in-Add.object) c.in-Add.feature a.value None) =
+    ap frequent_line c.in-Add.is ∙ ap (λ x. line_with (option_map (λ v. asks.Add (node.Object c.in-Add.object) c.in-Add.feature v None) x)) parts.3 in
+    rw asked (rw (parts.0, parts.1, parts.2) at c.run_edit-in-Some-2.ensures.left)
+
+pub returns-in-None-clause-left : goal.returns-in-None-clause-left
+returns-in-None-clause-left g c = unchanged c.print_bad.result _ c.args.repository.now
+
+pub returns-in-None-2-clause-left : goal.returns-in-None-2-clause-left
+returns-in-None-2-clause-left g c = unchanged c.print_bad-in-None-2.result _ c.args.repository.now
+
+pub returns-in-New-clause-left : goal.returns-in-New-clause-left
+returns-in-New-clause-left g c = rw (ap frequent_line c.in-New.is) c.run_create.ensures.left
+
+pub returns-in-Get-clause-left : goal.returns-in-Get-clause-left
+returns-in-Get-clause-left g c = rw (ap frequent_line c.in-Get.is) (rw c.as_str.ensures at c.run_read.ensures.left)

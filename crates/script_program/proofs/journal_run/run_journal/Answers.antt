@@ -1,4 +1,4 @@
-use Rattle.std.proofs.lemmas.Result.{on_err_weaker, on_ok_weaker}
+use Rattle.std.proofs.lemmas.Result.{IfErr-weaker, on_ok_weaker}
 use Rattle.std.specs.Io.Buffered.{reader_remaining}
 use Rattle.script_program.specs.Kept.{session_of}
 use Rattle.script_program.proofs.DurableLemmas.{ends_in, leaves_in, leaves_weaker, stops_in}
@@ -12,8 +12,8 @@ returns-clause-ok g c m from =
 
 pub returns-clause-stopped : goal.returns-clause-stopped
 returns-clause-stopped g c m from =
-    on_err_weaker c.run_dialogue.result
-    (λ stops. stops_in session_of m c.args.session.now _ from (reader_remaining g.R.Read.remaining c.args.reader.now) _ _ _ stops)
+    IfErr-weaker c.run_dialogue.result _ _
+    (λ fault stops. stops_in session_of m c.args.session.now _ from fault (reader_remaining g.R.Read.remaining c.args.reader.now) _ _ _ stops)
     c.run_dialogue.ensures.stopped
 
 pub returns-clause-any_moment : goal.returns-clause-any_moment

@@ -6,13 +6,14 @@ use Rattle.repository.proofs.RunLemmas.{executed-metamodel}
 use Rattle.repository.specs.Views.{command_view, outcome_view}
 use Rattle.script_program.specs.Answers.{feature_of, outcome_text}
 use Rattle.script_program.specs.Pool.{Pool}
-use Rattle.script_program.specs.Session.{returned}
 use Rattle.script_program.specs.Turns.{printed}
 use Rattle.script_program.proofs.SessionLemmas.{returned-after}
+use Rattle.script_program.specs.Session.{returned, session}
+use Rattle.script_program.proofs.LeftLemmas.{as_executed}
 use Rattle.script_program.proofs.line.run_command.Goals as goal
 
-pub returns : goal.returns
-returns g c =
+pub returns-clause-ok : goal.returns-clause-ok
+returns-clause-ok g c =
     λ before out given.
     let heard = g.A.Adapter.heard in
     let s = c.args.repository.now in
@@ -27,3 +28,10 @@ returns g c =
       added = c.in_ok-print_outcome.ensures.ok ∙ ap₂ (λ (m : Metamodel) (f : FeatureNo). c.args.output.now ++ outcome_text m f o) kept (c.feature_of-feature.ensures heard);
       said = record { outcome = o; executed = c.execute-outcome.ensures; pool = back; printed = ap (printed text) (c.turn_of-turn.ensures heard) };
     }
+
+-- the command was executed, and its answer could not be added
+pub returns-in_err-print_outcome-clause-left : goal.returns-in_err-print_outcome-clause-left
+returns-in_err-print_outcome-clause-left g c = λ before.
+    let heard = g.A.Adapter.heard in
+    as_executed c.from_residual.result (session c.args.repository.now before) (command_view heard c.args.command) (outcome_view heard c.execute-outcome.result) c.execute-outcome.new.self
+    c.execute-outcome.ensures

@@ -5,7 +5,8 @@ use Rattle.std.specs.Io.Buffered.{reader_remaining}
 use Rattle.script_streams.specs.declared.line.LineEnd.TheVariants.{Input}
 use Rattle.script_program.specs.Live.{AnswersLive}
 use Rattle.script_program.specs.Session.{Session}
-use Rattle.script_program.proofs.LiveLemmas.{at_end, begin, ended, finish, next, paused, stopped, too_long}
+use Rattle.durable.proofs.InputLemmas.{at_end}
+use Rattle.script_program.proofs.LiveLemmas.{begin, ended, finish, next, paused, stopped, too_long}
 use Rattle.script_program.proofs.live.answer_lines.Goals.{else-eq-via-else-eq, else-eq-via-then-eq+else-is_empty}
 use Rattle.script_program.proofs.live.answer_lines.Goals as goal
 

@@ -7,7 +7,7 @@ pub returns-in_err-turn-clause-err : goal.returns-in_err-turn-clause-err
 returns-in_err-turn-clause-err g c =
     let first : Session = record { state = c.args.repository.now; pool = c.args.pool.now } in
     let e = err_from_is_err_and c.from_residual.result c.from_residual.ensures.1 in
-    rw e.1 (front_of_answer c.args.line.now first (g.W.Write.contents c.args.writer.now) (g.W.Write.contents c.answer_line.new.writer)
+    rw e.1 (front_of_answer c.args.line.now first c.answer_line.new.repository (g.W.Write.contents c.args.writer.now) (g.W.Write.contents c.answer_line.new.writer)
     (rw c.plain.ensures at c.in_err-turn.ensures.err))
 
 pub returns-in_err-write_all-clause-err : goal.returns-in_err-write_all-clause-err

@@ -10,22 +10,24 @@ lines-init g c =
     rw (c.new-summary.ensures, c.new-rest.ensures, c.new-block.ensures) (begun (session c.args.repository.now c.args.pool.now) c.args.input.now (g.W.Write.contents c.args.writer.now))
 
 pub returns-in_default-run_line-clause-err : goal.returns-in_default-run_line-clause-err
-returns-in_default-run_line-clause-err g c = lost _ c.args.input.now (g.W.Write.contents c.args.writer.now) (bytes_of c.lines.rest) _ c.lines.summary _ _ c.lines.invariant
+returns-in_default-run_line-clause-err g c =
+    lost _ c.args.input.now (g.W.Write.contents c.args.writer.now) (bytes_of c.lines.rest) _ c.lines.summary _ _ c.lines.invariant (bytes_of c.in-Some.more) (bytes_of c.in-Some.line) c.run_line.new.repository
+    c.in-Some.ensures.lines_are c.in-Some.ensures.shorter c.in_default-run_line.ensures.left
 
 pub returns-in_err-write_block-clause-err : goal.returns-in_err-write_block-clause-err
 returns-in_err-write_block-clause-err g c =
-    let goes = answered _ c.args.input.now (g.W.Write.contents c.args.writer.now) (bytes_of c.lines.rest) _ c.lines.summary _ _ c.lines.invariant _ _ c.run_line.new.output _ _ c.in-Some.ensures.lines_are c.in-Some.ensures.shorter c.in-Ok.ensures in
+    let goes = answered _ c.args.input.now (g.W.Write.contents c.args.writer.now) (bytes_of c.lines.rest) _ c.lines.summary _ _ c.lines.invariant _ _ c.run_line.new.output _ _ c.in-Some.ensures.lines_are c.in-Some.ensures.shorter c.in-Ok.ensures.ok in
     let e = err_from_is_err_and c.from_residual.result c.from_residual.ensures.1 in
     rw e.1 (broken _ _ _ _ _ _ _ _ goes _ c.in_err-write_block.ensures.err)
 
 pub lines-preserved-in_ok-write_block : goal.lines-preserved-in_ok-write_block
 lines-preserved-in_ok-write_block g c =
-    let goes = answered _ c.args.input.now (g.W.Write.contents c.args.writer.now) (bytes_of c.lines.rest) _ c.lines.summary _ _ c.lines.invariant _ _ c.run_line.new.output _ _ c.in-Some.ensures.lines_are c.in-Some.ensures.shorter c.in-Ok.ensures in
+    let goes = answered _ c.args.input.now (g.W.Write.contents c.args.writer.now) (bytes_of c.lines.rest) _ c.lines.summary _ _ c.lines.invariant _ _ c.run_line.new.output _ _ c.in-Some.ensures.lines_are c.in-Some.ensures.shorter c.in-Ok.ensures.ok in
     rw (c.with-summary.ensures, c.in_ok-write_block.ensures.empty) (emptied _ _ _ _ _ _ _ _ goes _ c.in_ok-write_block.ensures.ok)
 
 pub lines-preserved : goal.lines-preserved
 lines-preserved g c =
-    rw c.with-summary.ensures (answered _ c.args.input.now (g.W.Write.contents c.args.writer.now) (bytes_of c.lines.rest) _ c.lines.summary _ _ c.lines.invariant _ _ c.run_line.new.output _ _ c.in-Some.ensures.lines_are c.in-Some.ensures.shorter c.in-Ok.ensures)
+    rw c.with-summary.ensures (answered _ c.args.input.now (g.W.Write.contents c.args.writer.now) (bytes_of c.lines.rest) _ c.lines.summary _ _ c.lines.invariant _ _ c.run_line.new.output _ _ c.in-Some.ensures.lines_are c.in-Some.ensures.shorter c.in-Ok.ensures.ok)
 
 pub returns-in_err-write_all-clause-err : goal.returns-in_err-write_all-clause-err
 returns-in_err-write_all-clause-err g c =

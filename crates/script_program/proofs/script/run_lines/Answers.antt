@@ -17,7 +17,7 @@ returns-in_err-turn-clause-err g c =
     let now : Session = record { state = c.lines.repository; pool = c.lines.pool } in
     let e = err_from_is_err_and c.from_residual.result c.from_residual.ensures.1 in
     rw e.1 (stopped c.args.dress first c.args.input.now (bytes_of c.lines.rest) (bytes_of c.in-Some.more) (bytes_of c.in-Some.line) now c.lines.number i.0 c.lines.summary _ _ _
-    i.1 c.in-Some.ensures.lines_are c.in-Some.ensures.shorter c.in_err-turn.ensures.err)
+    c.answer_line.new.repository i.1 c.in-Some.ensures.lines_are c.in-Some.ensures.shorter c.in_err-turn.ensures.err)
 
 pub returns-then-ends_at-clause-ok : goal.returns-then-ends_at-clause-ok
 returns-then-ends_at-clause-ok g c =

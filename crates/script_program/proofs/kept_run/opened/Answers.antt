@@ -1,0 +1,13 @@
+use Rattle.std.proofs.Common.{◌∙◌, ap, inl}
+use Rattle.journal.specs.Lines.{recovered}
+use Rattle.script_program.proofs.DurableLemmas.{leaves_same}
+use Rattle.script_program.proofs.KeptRunLemmas.{on_done}
+use Rattle.script_program.proofs.kept_run.opened.Goals as goal
+
+pub returns-in-Ok-clause-model : goal.returns-in-Ok-clause-model
+returns-in-Ok-clause-model g c m empty = on_done c.open_journal.result (rw c.as_slice.ensures.value at (c.in-Ok.ensures.model m empty))
+
+pub returns-clause-any_moment_err : goal.returns-clause-any_moment_err
+returns-clause-any_moment_err g c =
+    let k = g.D.Disk in
+    leaves_same k.moment k.left_since k.may_leave g.met.D.Disk.only_now c.args.disk _ (λ file left. inl (ap recovered (c.requires.durable file left ∙ c.requires.bytes)))

@@ -1,0 +1,162 @@
+//! A script is run from the lines of a journal on.
+ghost use Rattle.std.specs.Prelude.{◌≡◌, [], Err, Some, IfErr, IfOk, IfSome, OnOk, OnSome};
+ghost use Rattle.std.specs.Io.Buffered.{reader_remaining};
+ghost use Rattle.std.specs.Io.KnownBytes.{IsAtEnd};
+ghost use Rattle.journal.specs.Disk.{IsDurable, LeavesOnly};
+ghost use Rattle.journal.specs.Journal.{IsSettled, disk_of, kept, noted};
+ghost use Rattle.journal.specs.Lines.{IsLine, recovered};
+ghost use Rattle.mm_types.specs.Resolved.{Metamodel};
+ghost use Rattle.repository.specs.State.{empty_state};
+ghost use Rattle.script_lines.specs.Lines.{lines};
+ghost use Rattle.script_program.specs.Kept.{EndsJournaled, EndsKept, IsBegunOrNot, LeavesJournaled, LeavesKeptIn, StopsJournaled, StopsKept, begun, kept_outcome, model_of, session_of};
+ghost use Rattle.script_program.specs.declared.recovery.JournalFault.{JournalFault};
+ghost use Rattle.script_streams.specs.declared.run_fault.RunFault.{RunFault};
+
+use crate::journal_run::run_journal;
+use crate::journaled::Journaled;
+use crate::recovery::{JournalFault, open_journal, run_again};
+use adapters::Adapter;
+use durable::Outbox;
+use journal::{Disk, Journal};
+use links::LinkStore;
+use script_streams::RunFault;
+use std::alloc::Global;
+use std::io::{BufReader, Read, Write};
+
+/// Why a run with a journal stops.
+#[derive(Clone, Copy, Debug, PartialEq, Eq)]
+pub enum KeptFault {
+    /// The journal is not opened. No line of the script was read.
+    Unopened(JournalFault),
+    /// The run of the script stops.
+    Stopped(RunFault),
+}
+
+/// What a run with a journal leaves.
+#[derive(Drop)]
+pub struct KeptRun<D, W> {
+    /// Whether it came to its end.
+    pub outcome: Result<(), KeptFault>,
+    /// The disk that has the journal.
+    pub disk: D,
+    /// What the answers were written to.
+    pub writer: W,
+}
+
+/// The outcome of a run whose journal was opened.
+fn stopped_by(outcome: Result<(), RunFault>) -> Result<(), KeptFault>
+    ensures { result ≡ kept_outcome outcome }
+{
+    match outcome {
+        Ok(()) => Ok(()),
+        Err(fault) => Err(KeptFault::Stopped(fault)),
+    }
+}
+
+/// Runs the lines of a file again, and opens the journal in it.
+fn opened<D: Disk + Drop, L: LinkStore, A: Adapter>(
+    alloc: Global,
+    session: &mut Journaled<L, A>,
+    disk: D,
+    bytes: Vec<u8>,
+    head: &[u8],
+) -> Result<Journal<D>, (JournalFault, D)>
+    requires head { IsLine head.now }
+    requires bytes { D.seen disk ≡ bytes.items }
+    requires durable { IsDurable (D.seen disk) (D.may_leave disk) }
+    ensures settled { IfOk result (λ journal. IsSettled D.seen D.may_leave journal) }
+    ensures kept { IfOk result (λ journal. kept D.seen journal ≡ begun head.now (recovered bytes.items)) }
+    ensures noted { IfOk result (λ journal. noted journal ≡ []) }
+    ensures model { (m : Metamodel) → (session_of session.old).state ≡ empty_state m
+        → OnOk result (model_of m (begun head.now (recovered bytes.items)) ≡ Some (session_of session.new).state.model) }
+    ensures any_moment { IfOk result (λ journal. LeavesOnly D.moment D.left_since disk (disk_of journal)
+        (IsBegunOrNot head.now (recovered bytes.items))) }
+    ensures any_moment_err { IfErr result (λ e. LeavesOnly D.moment D.left_since disk e.1 (IsBegunOrNot head.now (recovered bytes.items))) }
+{
+    // A file that is refused is left as it is.
+    match run_again(alloc, session, bytes.as_slice(), head) {
+        Ok(()) => open_journal(alloc, disk, bytes.as_slice(), head),
+        Err(fault) => Err((fault, disk)),
+    }
+}
+
+/// Runs a script live whose changes a journal keeps, and takes the journal apart afterwards.
+fn run_opened<R: Read, D: Disk, W: Write, L: LinkStore, A: Adapter>(
+    alloc: Global,
+    reader: &mut BufReader<R>,
+    writer: W,
+    session: &mut Journaled<L, A>,
+    journal: Journal<D>,
+) -> KeptRun<D, W>
+    requires settled { IsSettled D.seen D.may_leave journal }
+    requires noted { noted journal ≡ [] }
+    ensures ok { (m : Metamodel) → model_of m (kept D.seen journal) ≡ Some (session_of session.old).state.model
+        → OnOk result.outcome (IfSome (reader_remaining R.remaining reader.old) (λ input. EndsJournaled m (session_of session.old) (lines input)
+        (W.contents writer) (W.contents result.writer) (recovered (D.seen result.disk)) (session_of session.new))) }
+    ensures end { OnOk result.outcome (OnSome (reader_remaining R.remaining reader.old) (IsAtEnd (reader_remaining R.remaining reader.new))) }
+    ensures durable { OnOk result.outcome (IsDurable (D.seen result.disk) (D.may_leave result.disk)) }
+    ensures stopped { (m : Metamodel) (fault : RunFault) → model_of m (kept D.seen journal) ≡ Some (session_of session.old).state.model
+        → result.outcome ≡ Err (KeptFault.Stopped fault)
+        → IfSome (reader_remaining R.remaining reader.old) (λ input. StopsJournaled m fault (session_of session.old) (lines input)
+        (W.contents writer) (W.contents result.writer) (D.may_leave result.disk)) }
+    ensures opened { (fault : JournalFault) → result.outcome ≡ Err (KeptFault.Unopened fault) → ⊥ }
+    ensures any_moment { (m : Metamodel) → model_of m (kept D.seen journal) ≡ Some (session_of session.old).state.model
+        → LeavesOnly D.moment D.left_since (disk_of journal) result.disk
+        (λ file. IfSome (reader_remaining R.remaining reader.old) (λ input. LeavesJournaled m (session_of session.old) (lines input) file)) }
+{
+    let mut outbox = Outbox::new(alloc, journal, writer);
+    let outcome = run_journal(alloc, reader, session, &mut outbox);
+    let (journal, writer) = outbox.into_parts();
+    KeptRun {
+        outcome: stopped_by(outcome),
+        disk: journal.into_disk(),
+        writer,
+    }
+}
+
+/// Runs the lines of a journal again, in a file that has these bytes, and then a script live whose changes the journal keeps. A file without
+/// lines gets the head first. The session is new: its repository is empty.
+///
+/// What was answered is kept: whatever a crash leaves, in the recovery, between two calls or inside one, is a journal of the model of all
+/// lines that were answered, and perhaps of some that followed them and were not. A call that opens that file begins with that model.
+///
+/// Stops as `run_again` and `open_journal` do before the script is read, and then as `run_journal` does.
+pub fn run_kept<R: Read, D: Disk + Drop, W: Write, L: LinkStore, A: Adapter>(
+    alloc: Global,
+    reader: &mut BufReader<R>,
+    writer: W,
+    session: &mut Journaled<L, A>,
+    disk: D,
+    bytes: Vec<u8>,
+    head: &[u8],
+) -> KeptRun<D, W>
+    requires head { IsLine head.now }
+    requires bytes { D.seen disk ≡ bytes.items }
+    requires durable { IsDurable (D.seen disk) (D.may_leave disk) }
+    // The lines of the file were run again, and then all lines of the script, which are answered. The file is a journal of the model that is left.
+    ensures ok { (m : Metamodel) → (session_of session.old).state ≡ empty_state m
+        → OnOk result.outcome (IfSome (reader_remaining R.remaining reader.old) (λ input. EndsKept m head.now bytes.items (lines input)
+        (W.contents writer) (W.contents result.writer) (D.seen result.disk) (session_of session.new))) }
+    ensures end { OnOk result.outcome (OnSome (reader_remaining R.remaining reader.old) (IsAtEnd (reader_remaining R.remaining reader.new))) }
+    ensures durable { OnOk result.outcome (IsDurable (D.seen result.disk) (D.may_leave result.disk)) }
+    // Whatever stops the script: what was answered is in each file that may be left.
+    ensures stopped { (m : Metamodel) (fault : RunFault) → (session_of session.old).state ≡ empty_state m
+        → result.outcome ≡ Err (KeptFault.Stopped fault)
+        → IfSome (reader_remaining R.remaining reader.old) (λ input. StopsKept m fault head.now bytes.items (lines input)
+        (W.contents writer) (W.contents result.writer) (D.may_leave result.disk)) }
+    // If the journal is not opened, nothing was read and nothing is answered.
+    ensures unopened { (fault : JournalFault) → result.outcome ≡ Err (KeptFault.Unopened fault)
+        → (result.writer ≡ writer) × (reader.new ≡ reader.old) }
+    // A crash at any moment leaves the lines of the file, or a journal of the model that the first lines of the script left.
+    ensures any_moment { (m : Metamodel) → (session_of session.old).state ≡ empty_state m
+        → LeavesOnly D.moment D.left_since disk result.disk (LeavesKeptIn m head.now bytes.items (reader_remaining R.remaining reader.old)) }
+{
+    match opened(alloc, session, disk, bytes, head) {
+        Ok(journal) => run_opened(alloc, reader, writer, session, journal),
+        Err((fault, disk)) => KeptRun {
+            outcome: Err(KeptFault::Unopened(fault)),
+            disk,
+            writer,
+        },
+    }
+}
