@@ -2,14 +2,17 @@
    build; docs/SCRIPT.md has the lines.
 
    What a caller owes, since nothing checks C:
-   - A session begins as MMREPO_CLOSED_SESSION, and its two fields are mmrepo's own. It may be moved while no call runs, but there is one
-     of it: a copy is not used beside it.
+   - A session begins as MMREPO_CLOSED_SESSION, and its two fields are private to mmrepo. It may be moved while no call runs. It must not be
+     copied.
    - All calls of a session come from one thread, and none from a signal handler.
    - No pointer is NULL, also where a size is 0. What a call is passed does not overlap, and nothing else reads or writes it while the
      call runs.
    - malloc, realloc and free are of one allocator, and malloc aligns a block to 16 bytes, as it does on Linux. */
 #ifndef MMREPO_H
 #define MMREPO_H
+
+/* The version of this header. docs/CHANGELOG.md says what later ones keep. */
+#define MMREPO_VERSION "1.0"
 
 #include <stdbool.h>
 #include <stddef.h>
@@ -31,7 +34,7 @@ typedef struct mmrepo_session {
 /* The most bytes of a metamodel, and of a line. */
 #define MMREPO_INPUT_BYTES 16777216
 
-/* What a call answers. */
+/* What a call returns. */
 enum {
     /* The session is open, or the command was done. */
     MMREPO_OK = 0,
@@ -56,47 +59,48 @@ enum {
     MMREPO_BAD = 21,
     /* The command was refused: its text says why, and nothing has changed. */
     MMREPO_REFUSED = 22,
-    /* The command was refused memory: its text is "refused 28 MEMORY", and nothing has changed. */
+    /* Memory was refused to the command, and the session goes on: its text is "refused 28 MEMORY", and nothing has changed. */
     MMREPO_LOST = 23,
 
     /* The session is closed. */
     MMREPO_CLOSED = 30,
     /* The metamodel, or the line, has more than MMREPO_INPUT_BYTES bytes. */
     MMREPO_TOO_LONG = 31,
-    /* Memory was refused to the call itself: the session is closed now. */
+    /* Memory was refused to the call itself, for what it prints: the session is closed now. */
     MMREPO_MEMORY = 32
 };
 
 /* Opens a session: an empty repository over the metamodel of a document. If it was open, it is closed first. Its adapters are A1 to
    A1000: they tell what they hear in the texts of lines, and keep none of it.
-   Answers MMREPO_OK, the first fault of the metamodel, MMREPO_TOO_LONG or MMREPO_MEMORY. The session is open just where MMREPO_OK is
-   answered; then its text is empty. */
+   Returns MMREPO_OK, the first fault of the metamodel, MMREPO_TOO_LONG or MMREPO_MEMORY. After MMREPO_OK the session is open and its text
+   is empty. After any other value it is closed. */
 uint32_t mmrepo_open(mmrepo_session *session, const char *document, size_t size);
 
-/* Runs a line of a script, which is given without a newline. What it prints, the notices that adapters were told among it, is the text of
-   the session from then on.
-   Answers MMREPO_OK, MMREPO_BLANK, MMREPO_BAD, MMREPO_REFUSED or MMREPO_LOST. MMREPO_CLOSED, where the session is closed, and
-   MMREPO_TOO_LONG leave the session and its text as they are. After MMREPO_MEMORY the session is closed. */
+/* Runs one line of a script, given without its newline. The text of the session becomes what the line prints: its answer, and the notices
+   that adapters were told. A newline within the line is no end of it: it makes the line bad, except in the document of a `load` line.
+   Returns MMREPO_OK, MMREPO_BLANK, MMREPO_BAD, MMREPO_REFUSED or MMREPO_LOST. MMREPO_CLOSED (the session is closed) and MMREPO_TOO_LONG
+   leave the session and its text as they are. After MMREPO_MEMORY the session is closed. */
 uint32_t mmrepo_line(mmrepo_session *session, const char *line, size_t size);
 
-/* Reads how many values a list has: the list of that name of the object of a number, or the `contents` of the resource of a number. The
-   number is the text of the session from then on. No line of a script does it.
-   Answers MMREPO_OK; or MMREPO_REFUSED if there is no such list, and the text says why. MMREPO_CLOSED, where the session is closed, and
-   MMREPO_BAD, where the name is not UTF-8, leave the session and its text as they are. After MMREPO_MEMORY the session is closed. */
+/* Reads how many values a list has: a list of an object, by the number of the object and the name of the feature, or the `contents` of a
+   resource, by the number of the resource. The text of the session becomes that count. No line of a script reads it.
+   Returns MMREPO_OK; or MMREPO_REFUSED if there is no list of that name, and the text says why. MMREPO_CLOSED (the session is closed) and
+   MMREPO_BAD (the name is not UTF-8) leave the session and its text as they are. After MMREPO_MEMORY the session is closed. */
 uint32_t mmrepo_list_length(mmrepo_session *session, bool is_resource, uint32_t number, const char *name, size_t size);
 
-/* Reads the value at an index of a list, counted from 0. The value, as `get` prints one, is the text of the session from then on.
-   Answers what mmrepo_list_length does; MMREPO_REFUSED also past the last value. */
+/* Reads the value at an index of a list, counted from 0. The text of the session becomes the value, as `get` prints it.
+   Returns what mmrepo_list_length returns, and MMREPO_REFUSED also for an index past the last value. */
 uint32_t mmrepo_list_value(mmrepo_session *session, bool is_resource, uint32_t number, const char *name, size_t size, uint32_t index);
 
-/* Loads a document into the resource of a number, as the line `load` does. The document may have any number of bytes, and newlines. What is
-   printed is the text of the session from then on.
-   Answers MMREPO_OK, MMREPO_REFUSED or MMREPO_LOST. MMREPO_CLOSED, where the session is closed, leaves it as it is. After MMREPO_MEMORY the
-   session is closed. */
+/* Loads a document into the resource of a number, as the line `load` does. The document may have any number of bytes, and newlines. The text
+   of the session becomes what the line would print.
+   Returns MMREPO_OK, MMREPO_REFUSED or MMREPO_LOST. MMREPO_CLOSED (the session is closed) leaves the session and its text as they are. After
+   MMREPO_MEMORY the session is closed. */
 uint32_t mmrepo_load(mmrepo_session *session, uint32_t resource, const char *document, size_t size);
 
-/* Copies the text of the session to `text`, or as much of it as the size of that has room for. A text of some lines has a newline
-   behind each; it ends with no zero byte. Answers how many bytes the text has: 0 if no line was run, or if the session is closed. */
+/* Copies the text of the session to `text`, at most `size` bytes of it. Each line of the text ends with a newline. The text is not
+   NUL-terminated. Returns how many bytes the text has, which may be more than `size`; then call again with more room: the text is still
+   there. Returns 0 if no line was run, or if the session is closed. */
 size_t mmrepo_text(mmrepo_session *session, char *text, size_t size);
 
 /* Closes a session and frees what it has. One that is closed stays closed. */
