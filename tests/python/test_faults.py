@@ -105,7 +105,7 @@ class Starting(ClientTest):
             Repository(self.file('-meta.json', '{"classes":[{"nam":"A"},{"name":"B","x":1}]}'), PROGRAM)
         self.assertEqual(found.exception.fault, '2 LAYOUT')
         self.assertEqual(found.exception.explained, (
-            'classes[0]: the key "name" is absent', 'classes[0]: unknown key "nam"; is "name" meant?', 'classes[1]: unknown key "x"'
+            'classes[0]: the key "name" is absent', 'classes[0]: unknown key "nam"; is "name" meant?', 'classes[1] (class B): unknown key "x"'
         ))
         self.assertTrue(str(found.exception).endswith('2 LAYOUT\n' + '\n'.join(found.exception.explained)))
 

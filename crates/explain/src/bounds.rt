@@ -1,12 +1,8 @@
 //! What is wrong with the bounds and the default of a feature.
 use crate::named::{Named, enum_at, enum_named};
-use crate::shown::{SHOWN_BYTES, front_of};
-use mm_types::{Enumeration, RawFeature, RawKind, RawMeta, Text};
-use std::alloc::AllocError;
-use std::fmt;
-
-/// How many literals of an enumeration are shown at most.
-const SHOWN_LITERALS: usize = 8;
+use crate::shown::{Listed, SHOWN_BYTES, front_of};
+use mm_types::{Enumeration, RawFeature, RawKind, RawMeta};
+use std::alloc::{AllocError, Global};
 
 /// Bounds that contradict one another.
 pub(crate) fn explain_bounds(
@@ -38,22 +34,13 @@ fn literals_of(type_name: &str) -> &'static str {
     }
 }
 
-/// The literals of an enumeration as a reader is told of them: only the first of many, and how many more there are.
-#[derive(Drop)]
-struct Literals<'m>(&'m [Text]);
-
-impl fmt::Display for Literals<'_> {
-    fn fmt<W: fmt::Write>(&self, f: &mut fmt::Formatter<W>) -> fmt::Result {
-        for (i, literal) in self.0.iter().enumerate() {
-            if i == SHOWN_LITERALS {
-                let more = self.0.len().saturating_sub(i);
-                return write!(f, " and {more} more");
-            }
-            let comma = if i == 0 { "" } else { ", " };
-            write!(f, "{comma}{:?}", front_of(literal.as_str(), SHOWN_BYTES))?;
-        }
-        Ok(())
+/// The literals of an enumeration.
+fn literals_in<'m>(alloc: Global, found: &'m Enumeration) -> Result<Vec<&'m str>, AllocError> {
+    let mut literals = Vec::new(alloc);
+    for literal in found.literals.as_slice() {
+        literals.push(literal.as_str())?;
     }
+    Ok(literals)
 }
 
 /// The enumeration that is the type of a feature.
@@ -63,6 +50,7 @@ fn enumeration_of<'m>(raw: &'m RawMeta, type_name: &str) -> Option<&'m Enumerati
 
 /// A default that is no literal of its type.
 fn explain_literal(
+    alloc: Global,
     out: &mut String,
     at: Named<'_>,
     literal: &str,
@@ -70,11 +58,14 @@ fn explain_literal(
 ) -> Result<(), AllocError> {
     let literal = front_of(literal, SHOWN_BYTES);
     match enumeration_of(at.raw, type_name) {
-        Some(found) => writeln!(
-            out,
-            "{at}: its default {literal:?} is none of {type_name}; it has to be the name of a literal: {}",
-            Literals(found.literals.as_slice())
-        ),
+        Some(found) => {
+            let literals = literals_in(alloc, found)?;
+            writeln!(
+                out,
+                "{at}: its default {literal:?} is none of {type_name}; it has to be the name of a literal: {}",
+                Listed(literals.as_slice())
+            )
+        }
         None => writeln!(
             out,
             "{at}: its default {literal:?} is none of {type_name}; it has to be {}",
@@ -85,6 +76,7 @@ fn explain_literal(
 
 /// A default of a many-valued attribute, or one that is no literal.
 pub(crate) fn explain_default(
+    alloc: Global,
     out: &mut String,
     at: Named<'_>,
     feature: &RawFeature,
@@ -102,5 +94,5 @@ pub(crate) fn explain_default(
             "{at}: it is many-valued, and begins empty; leave its default out"
         );
     }
-    explain_literal(out, at, literal.as_str(), feature.type_name.as_str())
+    explain_literal(alloc, out, at, literal.as_str(), feature.type_name.as_str())
 }

@@ -54,8 +54,8 @@ fn explain_feature(
     match condition {
         Condition::NoType => explain_type(alloc, out, at, feature),
         Condition::Bounds => explain_bounds(out, at, feature),
-        Condition::Default => explain_default(out, at, feature),
-        _ => explain_opposite(out, condition, at, feature),
+        Condition::Default => explain_default(alloc, out, at, feature),
+        _ => explain_opposite(alloc, out, condition, at, feature),
     }
 }
 

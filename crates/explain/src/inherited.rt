@@ -18,7 +18,8 @@ pub(crate) struct Ancestry {
 }
 
 impl Ancestry {
-    fn has(&self, class: usize) -> bool {
+    /// Whether a class was reached.
+    pub(crate) fn has(&self, class: usize) -> bool {
         for reached in &self.reached {
             if reached.class == class {
                 return true;

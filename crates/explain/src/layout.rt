@@ -3,8 +3,9 @@
 use crate::fields::{
     ATTRIBUTE, CLASS, DOCUMENT, ENUMERATION, FEATURE, Field, Hint, MISPLACED, REFERENCE, advice_in,
 };
+use crate::named::Bare;
 use crate::near::{is_among, nearest};
-use crate::shown::Shown;
+use crate::shown::{SHOWN_BYTES, Shown, front_of};
 use crate::values::explain_value;
 use serde_json::{Map, Value};
 use std::alloc::{AllocError, Global};
@@ -174,14 +175,56 @@ fn explain_feature(
     }
 }
 
+/// The name that an object has, if it can be read.
+fn name_in(json: &Value) -> Option<&str> {
+    match json.get("name") {
+        Some(Value::String(name)) => Some(front_of(name.as_str(), SHOWN_BYTES)),
+        _ => None,
+    }
+}
+
+/// The place of an object of the document, with its name if that can be read.
+fn place_of(
+    alloc: Global,
+    key: &str,
+    i: usize,
+    what: &str,
+    json: &Value,
+) -> Result<String, AllocError> {
+    match name_in(json) {
+        Some(name) => format!(in alloc; "{key}[{i}] ({what} {})", Bare(name)),
+        None => format!(in alloc; "{key}[{i}]"),
+    }
+}
+
+/// The place of a feature, with the names of its class and itself that can be read.
+fn feature_place(
+    alloc: Global,
+    c: usize,
+    class: &Value,
+    i: usize,
+    json: &Value,
+) -> Result<String, AllocError> {
+    let place = format!(in alloc; "classes[{c}].features[{i}]")?;
+    match (name_in(class), name_in(json)) {
+        (Some(class), Some(name)) => {
+            let (class, name) = (Bare(class), Bare(name));
+            format!(in alloc; "{place} (class {class}, feature {name})")
+        }
+        (Some(class), None) => format!(in alloc; "{place} (class {})", Bare(class)),
+        (None, Some(name)) => format!(in alloc; "{place} (feature {})", Bare(name)),
+        (None, None) => Ok(place),
+    }
+}
+
 fn explain_features(
     alloc: Global,
     out: &mut String,
-    class: usize,
-    features: &[Value],
+    c: usize,
+    class: &Value,
 ) -> Result<(), AllocError> {
-    for (i, json) in features.iter().enumerate() {
-        let place = format!(in alloc; "classes[{class}].features[{i}]")?;
+    for (i, json) in items_at(class, "features").iter().enumerate() {
+        let place = feature_place(alloc, c, class, i, json)?;
         explain_feature(alloc, out, place.as_str(), json)?;
     }
     Ok(())
@@ -189,16 +232,16 @@ fn explain_features(
 
 fn explain_classes(alloc: Global, out: &mut String, classes: &[Value]) -> Result<(), AllocError> {
     for (c, json) in classes.iter().enumerate() {
-        let place = format!(in alloc; "classes[{c}]")?;
+        let place = place_of(alloc, "classes", c, "class", json)?;
         explain_listed(alloc, out, place.as_str(), &CLASS, &MISPLACED, json)?;
-        explain_features(alloc, out, c, items_at(json, "features"))?;
+        explain_features(alloc, out, c, json)?;
     }
     Ok(())
 }
 
 fn explain_enums(alloc: Global, out: &mut String, enums: &[Value]) -> Result<(), AllocError> {
     for (i, json) in enums.iter().enumerate() {
-        let place = format!(in alloc; "enums[{i}]")?;
+        let place = place_of(alloc, "enums", i, "enumeration", json)?;
         explain_listed(alloc, out, place.as_str(), &ENUMERATION, &MISPLACED, json)?;
     }
     Ok(())

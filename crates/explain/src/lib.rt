@@ -15,6 +15,7 @@ mod named;
 mod near;
 mod opposites;
 mod shown;
+mod syntax;
 mod types;
 mod values;
 

@@ -2,6 +2,7 @@
 use crate::conditions::explain_condition;
 use crate::layout::explain_layout;
 use crate::named::Named;
+use crate::syntax::{NoJson, no_json_at};
 use mm_load::load_meta;
 use mm_types::{Condition, MetaFault, Place};
 use serde_json::Value;
@@ -15,16 +16,12 @@ fn explain_bytes(alloc: Global, out: &mut String, bytes: &[u8]) -> Result<(), Al
         Err(error) => {
             let line = error.line();
             let column = error.column();
-            if error.is_eof() {
-                return writeln!(
-                    out,
-                    "line {line}, column {column}: the bytes end within the JSON"
-                );
-            }
-            writeln!(
-                out,
-                "line {line}, column {column}: from here on the bytes are no JSON"
-            )
+            let what = if error.is_eof() {
+                NoJson::EndsEarly
+            } else {
+                no_json_at(bytes, line, column)
+            };
+            writeln!(out, "line {line}, column {column}: {what}")
         }
     }
 }

@@ -11,7 +11,7 @@ pub(crate) struct Named<'m> {
 
 /// A name as it is written in a text, without the quotation marks.
 #[derive(Drop)]
-struct Bare<'m>(&'m str);
+pub(crate) struct Bare<'m>(pub(crate) &'m str);
 
 impl fmt::Display for Bare<'_> {
     fn fmt<W: fmt::Write>(&self, f: &mut fmt::Formatter<W>) -> fmt::Result {

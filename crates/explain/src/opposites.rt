@@ -1,7 +1,9 @@
 //! What is wrong with the opposite of a reference.
-use crate::named::{Named, class_at, class_named, feature_named, name_at, opposite_of};
+use crate::inherited::Ancestry;
+use crate::named::{Named, class_at, class_named, feature_at, feature_named, name_at, opposite_of};
+use crate::near::nearest;
 use mm_types::{Condition, Place, RawFeature, RawKind, RawMeta};
-use std::alloc::AllocError;
+use std::alloc::{AllocError, Global};
 
 /// The feature of a name that the type of a reference declares itself.
 fn declared_of<'m>(raw: &'m RawMeta, feature: &RawFeature, name: &str) -> Option<&'m RawFeature> {
@@ -46,8 +48,40 @@ fn wrong_with<'m>(at: Named<'_>, feature: &RawFeature, other: &'m RawFeature) ->
     Wrong::IsItself
 }
 
+/// Whether a class inherits from another one, both by their names.
+fn inherits(alloc: Global, raw: &RawMeta, name: &str, from: &str) -> Result<bool, AllocError> {
+    let (Some(class), Some(other)) = (class_named(raw, name), class_named(raw, from)) else {
+        return Ok(false);
+    };
+    let ancestry = Ancestry::of(alloc, raw, class)?;
+    Ok(class != other && ancestry.has(other))
+}
+
+/// An opposite whose type is not the class that declares the reference.
+fn explain_type(
+    alloc: Global,
+    out: &mut String,
+    at: Named<'_>,
+    feature: &RawFeature,
+    found: &str,
+) -> Result<(), AllocError> {
+    let owner = owner_of(at);
+    if inherits(alloc, at.raw, found, owner)? {
+        let name = feature.name.as_str();
+        return writeln!(
+            out,
+            "has the type {found:?}, which inherits this reference; declare {name:?} in {found} and not in {owner}, or give the opposite the type {owner:?}"
+        );
+    }
+    writeln!(
+        out,
+        "has the type {found:?}, and has to have {owner:?}, the class that declares this reference"
+    )
+}
+
 /// A reference whose opposite is declared by its type, and is none of it.
 fn explain_declared(
+    alloc: Global,
     out: &mut String,
     at: Named<'_>,
     feature: &RawFeature,
@@ -60,34 +94,107 @@ fn explain_declared(
         Wrong::IsAttribute => writeln!(out, "is an attribute"),
         Wrong::NoOpposite => writeln!(out, "names no opposite"),
         Wrong::Names(back) => writeln!(out, "names {back:?}"),
-        Wrong::HasType(found) => writeln!(
-            out,
-            "has the type {found:?}, and has to have {:?}, the class that declares this reference",
-            owner_of(at)
-        ),
+        Wrong::HasType(found) => explain_type(alloc, out, at, feature, found),
         Wrong::IsItself => writeln!(out, "is the reference itself"),
     }
 }
 
-/// A reference whose opposite is none.
-fn explain_none(
+/// Whether a feature is a reference.
+fn is_reference(feature: &RawFeature) -> bool {
+    matches!(feature.kind, RawKind::Reference { .. })
+}
+
+/// Whether a reference of a name is at a place.
+fn is_reference_at(raw: &RawMeta, place: Place, name: &str) -> bool {
+    match feature_at(raw, place) {
+        Some(feature) => is_reference(feature) && feature.name.as_str() == name,
+        None => false,
+    }
+}
+
+/// The class from which the type of a reference inherits another reference of a name.
+fn declaring<'m>(
+    alloc: Global,
+    raw: &'m RawMeta,
+    class: usize,
+    name: &str,
+) -> Result<Option<&'m str>, AllocError> {
+    let ancestry = Ancestry::of(alloc, raw, class)?;
+    for place in ancestry.features(alloc, raw)? {
+        if let Place::Feature(c, _) = place
+            && is_reference_at(raw, place, name)
+        {
+            return Ok(Some(name_at(raw, Place::Class(c))));
+        }
+    }
+    Ok(None)
+}
+
+/// The names of the references that a class declares itself.
+fn reference_names<'m>(
+    alloc: Global,
+    raw: &'m RawMeta,
+    class: usize,
+) -> Result<Vec<&'m str>, AllocError> {
+    let mut names = Vec::new(alloc);
+    let features = match class_at(raw, class) {
+        Some(class) => class.features.as_slice(),
+        None => &[],
+    };
+    for feature in features {
+        if is_reference(feature) {
+            names.push(feature.name.as_str())?;
+        }
+    }
+    Ok(names)
+}
+
+/// A reference whose opposite is not declared by its type.
+fn explain_undeclared(
+    alloc: Global,
     out: &mut String,
     at: Named<'_>,
     feature: &RawFeature,
     opposite: &str,
 ) -> Result<(), AllocError> {
     let class = feature.type_name.as_str();
-    match declared_of(at.raw, feature, opposite) {
-        Some(other) => explain_declared(out, at, feature, other),
-        None => writeln!(
+    let Some(number) = class_named(at.raw, class) else {
+        return Ok(());
+    };
+    write!(
+        out,
+        "{at}: its opposite {opposite:?} is no feature that {class} declares itself"
+    )?;
+    if let Some(owner) = declaring(alloc, at.raw, number, opposite)? {
+        return writeln!(
             out,
-            "{at}: its opposite {opposite:?} is no feature that {class} declares itself"
-        ),
+            "; declare it in {class} and not in {owner}, or give this reference the type {owner:?}"
+        );
+    }
+    let names = reference_names(alloc, at.raw, number)?;
+    match nearest(alloc, opposite, names.as_slice())? {
+        Some(meant) => writeln!(out, "; is {meant:?} meant?"),
+        None => writeln!(out),
+    }
+}
+
+/// A reference whose opposite is none.
+fn explain_none(
+    alloc: Global,
+    out: &mut String,
+    at: Named<'_>,
+    feature: &RawFeature,
+    opposite: &str,
+) -> Result<(), AllocError> {
+    match declared_of(at.raw, feature, opposite) {
+        Some(other) => explain_declared(alloc, out, at, feature, other),
+        None => explain_undeclared(alloc, out, at, feature, opposite),
     }
 }
 
 /// A condition on a reference and its opposite.
 pub(crate) fn explain_opposite(
+    alloc: Global,
     out: &mut String,
     condition: Condition,
     at: Named<'_>,
@@ -107,6 +214,6 @@ pub(crate) fn explain_opposite(
             out,
             "{at}: its upper is {upper}, and has to be 1, since its opposite {opposite:?} of {class} is a containment"
         ),
-        _ => explain_none(out, at, feature, opposite),
+        _ => explain_none(alloc, out, at, feature, opposite),
     }
 }

@@ -13,6 +13,27 @@ const CHARACTER_BYTES: usize = 4;
 #[derive(Drop)]
 pub struct Shown<'v>(pub &'v Value);
 
+/// How many names of a list are shown at most.
+const SHOWN_NAMES: usize = 8;
+
+/// Names as a reader is told of them: only the first of many, and how many more there are.
+#[derive(Drop)]
+pub(crate) struct Listed<'n>(pub(crate) &'n [&'n str]);
+
+impl fmt::Display for Listed<'_> {
+    fn fmt<W: fmt::Write>(&self, f: &mut fmt::Formatter<W>) -> fmt::Result {
+        for (i, name) in self.0.iter().enumerate() {
+            if i == SHOWN_NAMES {
+                let more = self.0.len().saturating_sub(i);
+                return write!(f, " and {more} more");
+            }
+            let comma = if i == 0 { "" } else { ", " };
+            write!(f, "{comma}{:?}", front_of(name, SHOWN_BYTES))?;
+        }
+        Ok(())
+    }
+}
+
 /// The beginning of a text: at most so many bytes, and whole characters.
 pub fn front_of(text: &str, most: usize) -> &str {
     if text.len() <= most {

@@ -1,0 +1,81 @@
+//! Bytes that are no JSON.
+use crate::shown::front_of;
+use std::{fmt, str};
+
+/// How many bytes are shown at most.
+const SHOWN_BYTES: usize = 20;
+
+/// What some programs write before a text in UTF-8.
+const BYTE_ORDER_MARK: &[u8] = b"\xef\xbb\xbf";
+
+/// Why bytes are no JSON from a place on.
+#[derive(Clone, Copy)]
+pub(crate) enum NoJson<'b> {
+    /// They end before the JSON does.
+    EndsEarly,
+    /// They begin with a byte order mark.
+    ByteOrderMark,
+    /// The first of them is not UTF-8.
+    NotUtf8,
+    /// They are none, as these show.
+    Shown(&'b str),
+}
+
+impl fmt::Display for NoJson<'_> {
+    fn fmt<W: fmt::Write>(&self, f: &mut fmt::Formatter<W>) -> fmt::Result {
+        match self {
+            NoJson::EndsEarly => write!(f, "the bytes end within the JSON"),
+            NoJson::ByteOrderMark => write!(
+                f,
+                "the bytes begin with a byte order mark; take it out"
+            ),
+            NoJson::NotUtf8 => write!(
+                f,
+                "from here on the bytes are no JSON: this one is not UTF-8"
+            ),
+            NoJson::Shown(text) => { write!(f, "from here on the bytes are no JSON: {text:?}") }
+        }
+    }
+}
+
+/// How many bytes come before a line, of lines that are counted from 1.
+fn start_of(bytes: &[u8], line: usize) -> usize {
+    let mut start = 0usize;
+    for (i, found) in bytes.split(|byte| *byte == b'\n').enumerate() {
+        if i.saturating_add(1) >= line {
+            return start;
+        }
+        start = start.saturating_add(found.len()).saturating_add(1);
+    }
+    start
+}
+
+/// How many bytes come before a place, whose line and column are counted from 1.
+fn offset_of(bytes: &[u8], line: usize, column: usize) -> usize {
+    start_of(bytes, line).saturating_add(column.saturating_sub(1))
+}
+
+/// The text at the front of some bytes, as far as they are UTF-8.
+fn text_at(bytes: &[u8]) -> &str {
+    match str::from_utf8(bytes) {
+        Ok(text) => text,
+        Err(error) => {
+            let valid = bytes.get(..error.valid_up_to()).unwrap_or(&[]);
+            str::from_utf8(valid).unwrap_or("")
+        }
+    }
+}
+
+/// Why bytes are no JSON from a place on, whose line and column are counted from 1.
+pub(crate) fn no_json_at(bytes: &[u8], line: usize, column: usize) -> NoJson<'_> {
+    if bytes.starts_with(BYTE_ORDER_MARK) {
+        return NoJson::ByteOrderMark;
+    }
+    let rest = bytes.get(offset_of(bytes, line, column)..).unwrap_or(&[]);
+    // A character that the end would cut is left out.
+    let front = rest.get(..SHOWN_BYTES).unwrap_or(rest);
+    match text_at(front) {
+        "" => NoJson::NotUtf8,
+        text => NoJson::Shown(front_of(text, SHOWN_BYTES)),
+    }
+}

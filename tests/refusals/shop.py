@@ -1,0 +1,56 @@
+"""A metamodel without a fault, and runs of the program over it."""
+
+import os
+import subprocess
+import tempfile
+from pathlib import Path
+
+TOP = Path(__file__).resolve().parent.parent.parent
+PROGRAM = Path(os.environ.get('MMREPO', TOP / 'crates/mmrepo/out/mmrepo')).resolve()
+SECONDS = 60  # the most that a run may take
+
+METAMODEL = '''\
+{"enums": [
+  {"name": "State", "literals": ["OPEN", "PAID", "SENT"]}
+],
+"classes": [
+  {"name": "Named", "abstract": true, "features": [
+    {"name": "name", "kind": "attribute", "type": "EString"}
+  ]},
+  {"name": "Shop", "supers": ["Named"], "features": [
+    {"name": "orders", "kind": "reference", "type": "Order", "upper": -1, "containment": true, "opposite": "shop"},
+    {"name": "customers", "kind": "reference", "type": "Customer", "upper": -1, "containment": true},
+    {"name": "clerks", "kind": "reference", "type": "Clerk", "upper": 2, "containment": true, "opposite": "workplace"}
+  ]},
+  {"name": "Order", "features": [
+    {"name": "number", "kind": "attribute", "type": "EInt", "default": "1"},
+    {"name": "state", "kind": "attribute", "type": "State", "default": "OPEN"},
+    {"name": "urgent", "kind": "attribute", "type": "EBoolean", "default": "false"},
+    {"name": "notes", "kind": "attribute", "type": "EString", "upper": -1},
+    {"name": "shop", "kind": "reference", "type": "Shop", "upper": 1, "opposite": "orders"},
+    {"name": "customer", "kind": "reference", "type": "Customer", "lower": 1}
+  ]},
+  {"name": "Person", "abstract": true, "supers": ["Named"], "features": [
+    {"name": "age", "kind": "attribute", "type": "EInt"}
+  ]},
+  {"name": "Customer", "supers": ["Person"]},
+  {"name": "Clerk", "supers": ["Person"], "features": [
+    {"name": "workplace", "kind": "reference", "type": "Shop", "opposite": "clerks"}
+  ]},
+  {"name": "Box", "features": [
+    {"name": "boxes", "kind": "reference", "type": "Box", "upper": -1, "containment": true, "opposite": "inside"},
+    {"name": "inside", "kind": "reference", "type": "Box", "opposite": "boxes"}
+  ]}
+]}
+'''
+
+
+def run(metamodel, lines=(), *options, stdin=None):
+    """What the program prints over a metamodel, on both streams, and its status."""
+    with tempfile.TemporaryDirectory() as room:
+        file = Path(room, 'shop.json')
+        file.write_bytes(metamodel if isinstance(metamodel, bytes) else metamodel.encode())
+        command = [PROGRAM, '--meta', file, *options]
+        given = '\n'.join(lines) if stdin is None else stdin
+        done = subprocess.run(command, input=given.encode(), stdout=subprocess.PIPE, stderr=subprocess.PIPE, timeout=SECONDS)
+    return done.stdout.decode(), done.stderr.decode(), done.returncode
