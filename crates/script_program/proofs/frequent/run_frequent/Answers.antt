@@ -11,9 +11,6 @@ use Rattle.script_program.proofs.frequent.run_frequent.Goals as goal
 pub returns-in-New-clause-ok : goal.returns-in-New-clause-ok
 returns-in-New-clause-ok g c = rw (ap frequent_line c.in-New.is) (c.run_create.ensures.ok c.args.pool.now)
 
-pub returns-in-New-clause-left : goal.returns-in-New-clause-left
-returns-in-New-clause-left g c = rw (ap frequent_line c.in-New.is) (c.run_create.ensures.left c.args.pool.now)
-
 pub returns-in-Container-clause-ok : goal.returns-in-Container-clause-ok
 returns-in-Container-clause-ok g c = rw (ap frequent_line c.in-Container.is) (c.run_container.ensures c.args.pool.now)
 
@@ -74,7 +71,7 @@ pub returns-in-None-2-clause-left : goal.returns-in-None-2-clause-left
 returns-in-None-2-clause-left g c = unchanged c.print_bad-in-None-2.result _ c.args.repository.now
 
 pub returns-in-New-clause-left : goal.returns-in-New-clause-left
-returns-in-New-clause-left g c = rw (ap frequent_line c.in-New.is) c.run_create.ensures.left
+returns-in-New-clause-left g c = rw (ap frequent_line c.in-New.is) (c.run_create.ensures.left c.args.pool.now)
 
 pub returns-in-Get-clause-left : goal.returns-in-Get-clause-left
 returns-in-Get-clause-left g c = rw (ap frequent_line c.in-Get.is) (rw c.as_str.ensures at c.run_read.ensures.left)
