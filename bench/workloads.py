@@ -486,7 +486,7 @@ def targets_deleted(size):
 
 def written(size, is_linked):
     """A library, so many books and as many authors. With links each book is in the library and has an author; without, as many spaces
-    stand in their place."""
+    are in their place."""
     yield 'new Library', '#0'
     for book in range(1, 2 * size, 2):
         yield 'new Book', f'#{book}'

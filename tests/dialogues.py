@@ -106,7 +106,7 @@ def line_never_ends(program):
 
 
 def terminal_is_prompted(program):
-    """On a terminal a prompt stands on standard error whenever a line is waited for."""
+    """On a terminal a prompt is on standard error whenever a line is waited for."""
     master, slave = pty.openpty()
     running = started(program, slave)
     os.close(slave)

@@ -39,7 +39,7 @@ def modules() -> Dict[str, bytes]:
 
 
 def metadata(notes: str = '') -> str:
-    """The text of METADATA; `notes` stand below the fields."""
+    """The text of METADATA; `notes` are below the fields."""
     it = project()
     fields = ['Metadata-Version: 2.1', f'Name: {it.name}', f'Version: {it.version}', f'Summary: {it.description}', f'Requires-Python: {it.python}']
     return '\n'.join([*fields, '', notes or it.description, ''])

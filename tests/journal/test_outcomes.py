@@ -92,7 +92,7 @@ class Outcomes(unittest.TestCase):
                 self.is_refused('NO_JOURNAL', 'it is no journal, and is left as it is: name a new file')
 
     def test_another_metamodel(self):
-        """A journal is refused with another metamodel than it was begun with."""
+        """A journal is refused with a metamodel other than the one it was begun with."""
         self.file.write_bytes(b' mmrepo-journal 1 ' + b'0' * 64 + b'\n new Book\n\n')
         explained = f'it was begun with another metamodel than {LIBRARY}: its first line has the SHA-256 of that file'
         self.is_refused('OTHER_METAMODEL', explained)

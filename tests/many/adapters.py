@@ -65,7 +65,7 @@ class Adapters:
             raise Refused('14 LIMIT')
 
     def aim(self, adapter, node, is_deep):
-        """Gives an adapter a target; with its first one it stands last in attach order."""
+        """Gives an adapter a target; with its first one it is last in attach order."""
         adapter.reserve(len(adapter.targets) + 1)
         if adapter.no not in self.attached:
             self.order += 1

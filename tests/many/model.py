@@ -18,7 +18,7 @@ class Refused(Exception):
 
 class Telling(NamedTuple):
     """What one end is told of: of SET and UNSET the value is the new one, of MOVE it is the place before, and of ADD and REMOVE the place
-    may be left open: the end of the list, or where the value stands."""
+    may be left open: the end of the list, or the index of the value."""
 
     node: str
     feature: MFeature
@@ -112,7 +112,7 @@ class Model:
         return [telling(value, feature.opposite, node) for value in values if has_far and value != 'null']
 
     def in_the_way(self, node, feature, value):
-        """The links that a new one displaces, each by one of its ends and what stands there."""
+        """The links that a new one displaces, each by one of its ends and what is there."""
         ends = [(node, feature), (value, feature.opposite)]
         links = [(*end, self.ends[end[0]][end[1].name][0]) for end in ends if end[1] and not end[1].is_many]
         part = value if feature.containment else node if feature.is_container else None

@@ -57,7 +57,7 @@ say('\\n')
 
 
 class ClientTest(unittest.TestCase):
-    """A test that has a folder, and repositories that are closed behind it."""
+    """A test that has a folder, and repositories that are closed after it."""
 
     maxDiff = None
 

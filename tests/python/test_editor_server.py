@@ -254,7 +254,7 @@ class Streams(ServerTest):
     """The events."""
 
     def events(self, after, count):
-        """Some events behind one."""
+        """Some events after one."""
         found = []
         with urllib.request.urlopen(f'{self.address}events?after={after}') as stream:
             while len(found) < count:
@@ -264,7 +264,7 @@ class Streams(ServerTest):
         return found
 
     def test_events(self):
-        """One for each edit, with its notices; also behind a number."""
+        """One for each edit, with its notices; also after a number."""
         self.call('set', object=1, feature='pages', value='7')
         self.call('new', class_='Person', node=0, feature='members')
         self.call('delete', object=1)

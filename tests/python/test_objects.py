@@ -1,4 +1,4 @@
-"""Objects, their features and where they stand."""
+"""Objects, their features and their places."""
 
 import copy
 import gc
@@ -150,7 +150,7 @@ class Identity(LibraryTest):
 
 
 class Places(LibraryTest):
-    """Where objects stand, and what is below them."""
+    """The places of objects, and what is below them."""
 
     def setUp(self):
         super().setUp()

@@ -23,7 +23,7 @@ class Page(ClientTest):
         self.assertEqual(self.run_code(block('python'), self.room.name), block('text'))
 
     def test_readme(self):
-        """The lines of the README: what they print stands behind the last of them."""
+        """The lines of the README: what they print follows the last of them."""
         lines = re.search(r'^    with mmrepo\..*\n(?:     .*\n)+', (TOP / 'README.md').read_text(), re.M).group()
         done = self.run_code('import mmrepo\n' + textwrap.dedent(lines), TOP)
         self.assertEqual(done, lines.rpartition('# ')[2])
@@ -35,7 +35,7 @@ class Page(ClientTest):
         self.assertEqual(errors - {'ProgramError'} - named, set())
 
     def test_names(self):
-        """Each method and property of an object, a list, a resource, a view and a repository stands on the page."""
+        """Each method and property of an object, a list, a resource, a view and a repository is on the page."""
         hidden = {'is_of', 'hearer', 'is_attached', 'close', 'uri', 'metamodel'}
         for kind in (mmrepo.EObject, mmrepo.FeatureList, mmrepo.Resource, mmrepo.View, mmrepo.Repository):
             for name in vars(kind):

@@ -306,7 +306,7 @@ repo.close()
 
 
 class Closing(LibraryTest):
-    """What closing leaves behind."""
+    """What closing leaves."""
 
     def test_memory(self):
         """Repositories that are opened, filled and closed again and again take no more memory in the end than one."""

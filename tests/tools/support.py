@@ -39,7 +39,7 @@ def run_tool(tool, *words):
 
 
 def run_program(meta, script):
-    """What the program prints for a script, or its line on standard error if it ends with another status than 0."""
+    """What the program prints for a script, or its line on standard error if it ends with a status other than 0."""
     if not PROGRAM.exists():
         raise AssertionError(f'no program at {PROGRAM}')
     with tempfile.TemporaryDirectory() as room:

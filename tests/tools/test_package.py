@@ -1,4 +1,4 @@
-"""`tools/package`: what it packs is installed and runs where there is nothing else, and what is not proved is not packed."""
+"""`tools/package`: what it packs is installed and runs on a machine that has nothing else, and what is not proved is not packed."""
 
 import os
 import re

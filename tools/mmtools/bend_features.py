@@ -37,7 +37,7 @@ def built_in(feature: EFeature) -> str:
 
 
 def is_stored(feature: EFeature) -> bool:
-    """Whether a feature is neither derived nor transient, or its values stand in a feature map."""
+    """Whether a feature is neither derived nor transient, or its values are in a feature map."""
     return feature.is_grouped or not (feature.flags['derived'] or feature.flags['transient'])
 
 

@@ -61,7 +61,7 @@ TYPED_CHILDREN = {
 
 
 def kind_of(file: str, element: Element) -> str:
-    """The class of Ecore that an element is of, by the feature that it stands in, or by its `xsi:type`."""
+    """The class of Ecore that an element is of, by the feature that it is in, or by its `xsi:type`."""
     if element.name not in TYPED_CHILDREN:
         return KIND_OF_CHILD.get(element.name, '')
     text = element.type_name()

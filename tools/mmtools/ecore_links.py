@@ -39,7 +39,7 @@ class Links:
                     self.packages.setdefault(package.uri, (file, package))
 
     def find(self, file: EFile, link: str) -> Found:
-        """What a reference leads to. A name of Ecore itself that no file has is answered as a text, as `ecore:EString`."""
+        """What a reference leads to. A name of Ecore itself that no file has is returned as a text, as `ecore:EString`."""
         uri, _, fragment = link.partition('#')
         if '#' not in link:
             uri, fragment = '', link

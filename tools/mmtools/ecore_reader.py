@@ -30,7 +30,7 @@ def value_of(element: Element, name: str) -> Optional[str]:
 
 
 def links_of(element: Element, name: str) -> List[str]:
-    """The references that stand in an attribute, or in children with an href; names of types are left out."""
+    """The references that are in an attribute, or in children with an href; names of types are left out."""
     words = [word for word in (element.plain(name) or '').split() if '#' in word or '/' in word or ':' not in word]
     for child in element.children:
         if child.name == name and not child.space:

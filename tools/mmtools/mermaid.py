@@ -17,7 +17,7 @@ KEYWORDS = frozenset(
 
 
 def quoted(text: str) -> str:
-    """A text in which each character that Mermaid could read stands as its number; a control character becomes a space."""
+    """A text in which each character that Mermaid could read is written as its number; a control character becomes a space."""
     shown = ''.join(char if char.isprintable() else ' ' for char in text)
     return ''.join(char if PLAIN.match(char) or ord(char) > 127 else f'#{ord(char)};' for char in shown)
 

@@ -19,7 +19,7 @@ class MetamodelReader:
         self.classes: Dict[str, MClass] = {}
 
     def get(self, value: Any, where: str, key: str, kind: Type[Any], default: Any = None) -> Any:
-        """What stands under a key; a fault if it is of another kind, or absent without a default."""
+        """The value of a key; a fault if it is of another kind, or absent without a default."""
         if not isinstance(value, dict):
             fault(self.file, None, f'{where} is no object')
         found = value.get(key, default)

@@ -1,4 +1,4 @@
-"""Names as the repository takes them: each is bent to one, and made another than those that are taken."""
+"""Names as the repository takes them: each is bent to one, and made different from those that are taken."""
 
 from __future__ import annotations
 

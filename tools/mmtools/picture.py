@@ -16,7 +16,7 @@ ANY = 'EObject'
 
 @dataclass
 class Box:
-    """A box: its title, what stands above the title, and its rows."""
+    """A box: its title, what is above the title, and its rows."""
 
     title: str
     above: str = ''
@@ -25,7 +25,7 @@ class Box:
 
 @dataclass
 class Line:
-    """A line from one box to another, by their places; `near` and `far` stand at its ends."""
+    """A line from one box to another, by their places; `near` and `far` are at its ends."""
 
     kind: str
     start: int

@@ -26,7 +26,7 @@ def read_flag(answer: str) -> bool:
 
 
 def read_counts(words: Sequence[str], answer: str) -> List[int]:
-    """The numbers behind each of some words, as of `deleted 3`."""
+    """The numbers after each of some words, as of `deleted 3`."""
     found = re.fullmatch(' '.join(f'{word} ([0-9]+)' for word in words), answer)
     if found is None:
         raise ValueError('no counts')

@@ -17,7 +17,7 @@ _HERE = Path(__file__).resolve().parent
 
 
 class Engine:
-    """What answers lines. The text of an answer has a newline behind each of its lines."""
+    """What answers lines. The text of an answer has a newline after each of its lines."""
 
     name: str
     may_hang = False  # whether an answer may never come

@@ -168,7 +168,7 @@ class Exchange:
         return self._heard(line, text, end, read)
 
     def _heard(self, line: str, text: str, end: int, read: Callable[[str], T]) -> T:
-        """What `read` makes of an answer behind which there are notices. They wait for their views."""
+        """What `read` makes of an answer that notices follow. They wait for their views."""
         try:
             found = read(text[:end])
         except ValueError:
@@ -177,14 +177,14 @@ class Exchange:
         return found
 
     def _hear(self, line: str, text: str, end: int) -> None:
-        """Has the notices wait that begin behind a place of an answer."""
+        """Has the notices wait that begin after a place of an answer."""
         try:
             self.views.hear(text[end + 1:-1].split('\n'), self.named)
         except ValueError:
             raise self.not_understood(line, text) from None
 
     def _taken(self, line: str, text: str, read: Callable[[str, str], T]) -> T:
-        """What `read` makes of the first line of an answer. The notices behind it wait for their views."""
+        """What `read` makes of the first line of an answer. The notices after it wait for their views."""
         end = text.find('\n')
         if end + 1 == len(text):
             try:

@@ -39,7 +39,7 @@ class Handler:
 
 
 def watch(session: Session) -> None:
-    """Has a Ctrl-C wait for a session. A handler of Python that is set already is called later; where there is none, nothing is done."""
+    """Has a Ctrl-C wait for a session. A handler of Python that is set already is called later; if there is none, nothing is done."""
     if threading.current_thread() is not threading.main_thread():
         return
     current = signal.getsignal(signal.SIGINT)

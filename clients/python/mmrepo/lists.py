@@ -134,7 +134,7 @@ class FeatureList(Sequence[T]):
         return self
 
     def insert(self, place: int, value: T) -> None:
-        """Puts a value before the one at a place, or at the end if it is the place behind the last.
+        """Puts a value before the one at a place, or at the end if it is the place after the last.
 
         An IndexError comes for a place beyond it; DUPLICATE is refused if the list has the value and repeats none.
         """

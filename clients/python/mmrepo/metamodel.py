@@ -29,7 +29,7 @@ class EEnum(EClassifier):
 
 
 class EStructuralFeature:
-    """A feature of a class. A feature is `many` if its values are a list; `upper` is -1 where there is no bound."""
+    """A feature of a class. A feature is `many` if its values are a list; `upper` is -1 if there is no bound."""
 
     def __init__(self, owner: EClass, document: Dict[str, Any], types: Dict[str, EClassifier]) -> None:
         self.name: str = document['name']

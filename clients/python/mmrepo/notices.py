@@ -166,7 +166,7 @@ class Views:
         return view
 
     def hear(self, lines: List[str], named: Named) -> None:
-        """Takes lines that stand behind an answer; a ValueError if one is no notice and releases no view."""
+        """Takes lines that follow an answer; a ValueError if one is no notice and releases no view."""
         for line in lines:
             if line[:5] == 'told ':
                 word, notice = told_of(line, named)

@@ -178,7 +178,7 @@ class EObject(Node):
         return self._session.values(f'contents {self._word}')
 
     def eAllContents(self) -> Iterator[EObject]:
-        """All objects below it, each before what it contains. Each is asked for its contents when the one behind it is needed."""
+        """All objects below it, each before what it contains. Each is asked for its contents when the one after it is needed."""
         waiting = self.eContents[::-1]
         while waiting:
             top = waiting.pop()

@@ -124,7 +124,7 @@ class Program(Engine):
         self._sent += count
 
     def _answer(self, line: str) -> str:
-        """Reads up to the empty line behind the answer to a line."""
+        """Reads up to the empty line after the answer to a line."""
         end = self._end()
         while end is None:
             more = os.read(self._output.fileno(), AT_ONCE)
@@ -145,7 +145,7 @@ class Program(Engine):
             raise self.not_understood(line, repr(bytes(found))) from None
 
     def _end(self) -> Optional[int]:
-        """Where the empty line behind the next answer begins in what was read; None if it was not read."""
+        """The place at which the empty line after the next answer begins in what was read; None if it was not read."""
         if self._data[self._at:self._at + 1] == b'\n':
             return self._at
         end = self._data.find(b'\n\n', self._known)
@@ -215,7 +215,7 @@ class Program(Engine):
             stream.close()
 
     def close(self) -> None:
-        """Ends the input, and waits for the program; a ProgramEnded comes if it ends with another status than 0."""
+        """Ends the input, and waits for the program; a ProgramEnded comes if it ends with a status other than 0."""
         if self.is_shut:
             return
         self.shut('the repository is closed')

@@ -119,7 +119,7 @@ class Session(Exchange):
     # Answers of a kind
 
     def counts(self, line: str, *words: str) -> List[int]:
-        """The numbers of a command that answers words with a number behind each, as `deleted 3`."""
+        """The numbers of a command that answers words with a number after each, as `deleted 3`."""
         return self.ask(line, lambda answer: read_counts(words, answer))
 
     def values(self, line: str) -> List[Any]:
@@ -177,7 +177,7 @@ class Session(Exchange):
 
     def make(self, objects: Sequence[EObject]) -> None:
         """Makes the objects of a batch, whose classes are known, and which are not made yet. If one is refused, the Refused is raised, and
-        none behind it is made."""
+        none after it is made."""
         waiting = iter(objects)
 
         def read(line: str, answer: str) -> Optional[MmrepoError]:

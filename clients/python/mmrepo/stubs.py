@@ -56,7 +56,7 @@ def _type(name: str) -> str:
 
 
 def _supers_first(metamodel: Metamodel) -> List[EClass]:
-    """The classes, each behind those above it."""
+    """The classes, each after its supertypes."""
     found: List[EClass] = []
     waiting = list(metamodel.classes.values())[::-1]
     while waiting:

@@ -32,7 +32,7 @@ class Literal(str):
 
 @dataclass(frozen=True)
 class Proxy:
-    """The address of an object of another resource, which stands where the object would stand."""
+    """The address of an object of another resource, in place of the object."""
 
     address: str
 
@@ -43,7 +43,7 @@ class Proxy:
 
     @property
     def fragment(self) -> str:
-        """The fragment of the object: the text behind the first `#`."""
+        """The fragment of the object: the text after the first `#`."""
         return self.address.partition('#')[2]
 
 
@@ -106,7 +106,7 @@ def data_word(value: Any, is_enumeration: bool) -> str:
 
 
 def value_at(text: str, at: int, named: Named) -> Tuple[Any, int]:
-    """The value that begins at a place of an answer, and the place behind it; a ValueError if there is none."""
+    """The value that begins at a place of an answer, and the place after it; a ValueError if there is none."""
     if text.startswith('"', at):
         return scanstring(text, at + 1)
     found = _WORD.match(text, at)

@@ -156,7 +156,7 @@ none-position k n h = elim (nat_lt k n) as (λ b. nat_lt k n ≡ b → None ≡ 
 pub gone-at : (x : Node) (ts : List Target) (i : ℕ) → IsDistinct same_node (map (λ t. t.node) ts) → Some i ≡ position (is_at x) ts → remove ts i ≡ filter (λ t. not (is_at x t)) ts
 gone-at x ts i once found = ap (remove ts) (some-position (position_or_len (is_at x) ts) (length ts) i found) ∙ first-gone x ts once
 
--- and where none is found none goes
+-- and if none is found, none goes
 pub none-gone : (x : Node) (ts : List Target) → IsDistinct same_node (map (λ t. t.node) ts) → None ≡ position (is_at x) ts → ts ≡ filter (λ t. not (is_at x t)) ts
 none-gone x ts once found =
     let k = position_or_len (is_at x) ts in
@@ -253,7 +253,7 @@ index-low x number rs there = let low = low-from x number 0 rs there in omega (a
 
 ----------------------------------------------------------------- by the words of the list
 
--- where a target stands: the place of its adapter, and its index among those that have the target
+-- where a target is: the place of its adapter, and its index among those that have the target
 pub record Stands {A : Type 0} (heard : A → View) (xs : List (Attached A)) (x : Node) (number : AdapterNo) (ordinal index : ℕ) : Type 0 where
   pub within : ordinal < length xs
   pub at : Some ordinal ≡ position (has_no number) (listed heard xs)

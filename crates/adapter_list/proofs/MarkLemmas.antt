@@ -38,7 +38,7 @@ mark-set bs n b low i =
       | false ↦ λ other. get_or-set_other bs n i b false (λ (e : i ≡ n). eqb-false n i other (sym e))
     ] refl
 
--- where there is no place for a mark, it is taken away already
+-- if there is no place for a mark, it is taken away already
 pub mark-absent : (bs : List Bool) (n : ℕ) (b : Bool) → (b ≡ true → n < length bs) → length bs ≤ n → (i : ℕ) → get_or bs i false ≡ (if nat_eq n i then b else get_or bs i false)
 mark-absent bs n true room past i = absurd (let low = room refl in omega (arith, low, past))
 mark-absent bs n false room past i =

@@ -1,4 +1,4 @@
--- What the lists per node are once one target goes, and where its adapter stands in its list.
+-- What the lists per node are once one target goes, and where its adapter is in its list.
 use Rattle.std.proofs.Common.{◌≡◌, ◌+◌, ℕ, suc, Bool, true, false, cond, not, ◌&&◌, ◌||◌, nat_eq, List, [], ◌∷◌, map, filter, remove, Option, Some, None, option_map, position, if◌then◌else◌, refl, sym, ap, ◌∙◌, arith, eqb-true}
 use Rattle.std.specs.List.{AllByRecursion, cons_option, find, list_any, prefix_len}
 use Rattle.std.proofs.lemmas.Bool.{false≢true}
@@ -93,7 +93,7 @@ behind x number n r rs apart rest false target =
     no-entry x r (entries x (with_changed number (losing x n) rs)) none ∙ rest
     ∙ sym (ap (λ (es : List Entry). remove es (index_at (number, x) (r ∷ rs))) (no-entry x r (entries x rs) none) ∙ ap (λ (i : ℕ). remove (entries x rs) i) (index-other x number r rs target))
 
--- an adapter of the number that has the target stands in the list of the node where it stands among those that have it
+-- an adapter of the number that has the target is in the list of the node where it is among those that have it
 pub entries-gone : (x : Node) (number : AdapterNo) (n : Notice) (rs : List Listed) → list_any (λ r. has_no number r && has_target x r) rs ≡ true → HasDistinctNumbers rs → entries x (with_changed number (losing x n) rs) ≡ remove (entries x rs) (index_at (number, x) rs)
 entries-gone x number n [] there distinct = absurd (false≢true there)
 entries-gone x number n (r ∷ rs) there distinct =
@@ -110,7 +110,7 @@ entries-others x y number n (r ∷ rs) other =
       | false ↦ ap (cons_option (entry_of y r)) (entries-others x y number n rs other)
     ]
 
------------------------------------------------------------------ where an adapter stands
+----------------------------------------------------------------- where an adapter is
 
 abbrev pub at-number : AdapterNo → Entry → Bool
 at-number number e = same_no number e.no
@@ -143,7 +143,7 @@ at-first x number r rs false target d is rest =
     none-and true = refl
     none-and false = refl
 
--- the number of an adapter stands in the list of a node where the adapter stands among those that have it, if it does
+-- the number of an adapter is in the list of a node where the adapter is among those that have it, if it does
 pub position-entries : (x : Node) (number : AdapterNo) (rs : List Listed) → position (at-number number) (entries x rs) ≡ spot-at (is_target number x rs) (index_at (number, x) rs)
 position-entries x number [] = refl
 position-entries x number (r ∷ rs) = at-first x number r rs (has_target x r) refl (has_no number r) refl (position-entries x number rs)

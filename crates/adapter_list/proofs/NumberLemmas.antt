@@ -32,7 +32,7 @@ module _ {A : Type 0} (heard : A → View) (xs : List (Attached A)) where
   map-listed [] = refl
   map-listed (y ∷ ys) = ap (λ ns. y.no ∷ ns) (map-listed ys)
 
-  -- the numbers stand in attach order, so the place of a number is its adapter's
+  -- the numbers are in attach order, so the place of a number is its adapter's
   pub position-numbers : (keys : List AdapterNo) (number : AdapterNo) → keys ≡ numbers_of xs → position (same_no number) keys ≡ position (has_no number) (listed heard xs)
   position-numbers keys number e = ap (position (same_no number)) e ∙ position-map (λ (a : Attached A). a.no) (same_no number) xs ∙ sym (position-map (listed_one heard) (has_no number) xs)
 
@@ -75,7 +75,7 @@ distinct-numbers heard xs keys is distinct = subst (IsDistinct same_no) (is ∙ 
 
 ----------------------------------------------------------------- some of them
 
--- keys that are distinct stay so where some go
+-- keys that are distinct stay so if some go
 module _ {X K : Type 0} (eq : K → K → Bool) (f : X → K) (p : X → Bool) where
   apart-filter : (k : K) (xs : List X) → AllByRecursion (λ j. eq k j ≡ false) (map f xs) → AllByRecursion (λ j. eq k j ≡ false) (map f (filter p xs))
   apart-filter k [] h = tt

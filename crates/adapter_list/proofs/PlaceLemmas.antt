@@ -59,7 +59,7 @@ find-passes p (r ∷ rs) q h =
       | false ↦ λ _ e. find-passes p rs q e
     ] refl h
 
--- what stands at the position that a test has passes it
+-- what is at the position that a test has passes it
 pub passes-at : (p : Listed → Bool) (rs : List Listed) (i : ℕ) (q : Listed) → Some i ≡ position p rs → slice_get rs i ≡ Some q → p q ≡ true
 passes-at p rs i q at there = find-passes p rs q (find-position p rs ∙ ap (option_and_then (slice_get rs)) (sym at) ∙ there)
 

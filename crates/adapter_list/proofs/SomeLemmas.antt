@@ -116,7 +116,7 @@ without_all-len : (ss : List Spot) (rs : List Listed) → length (without_all ss
 without_all-len [] rs = refl
 without_all-len (s ∷ ss) rs = without_all-len ss (without s rs) ∙ without-len s rs
 
--- no adapter comes by letting targets go
+-- no adapter comes by releasing targets
 pub others-fewer : (ss : List Spot) (rs : List Listed) → length (staying (without_all ss rs)) ≤ length rs
 others-fewer ss rs = omega (arith, fewer has_targets (without_all ss rs), without_all-len ss rs)
 

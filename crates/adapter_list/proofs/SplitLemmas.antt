@@ -19,7 +19,7 @@ use Rattle.adapter_list.specs.declared.target_lists.TargetLists.{TargetLists}
 use Rattle.adapter_list.proofs.NumberLemmas.{distinct-filter}
 use Rattle.adapter_list.specs.declared.attached.Attached.{Attached}
 
--- x is the first of j that are left, and what comes behind it is rest
+-- x is the first of j that are left, and what comes after it is rest
 pub record IsFront {X : Type 0} (xs rest : List X) (x : X) (j : ℕ) : Type 0 where
   pub first : xs ≡ x ∷ rest
   pub next : j ≡ suc (j - 1)

@@ -81,7 +81,7 @@ remove-some (e ∷ []) i low more = absurd (omega (arith, more))
 remove-some (e ∷ d ∷ es) zero low more = omega arith
 remove-some (e ∷ d ∷ es) (suc i) low more = omega arith
 
--- where there is one alone, nothing is left
+-- if there is one alone, nothing is left
 pub remove-only : (es : List Entry) (i : ℕ) → i < length es → length es ≤ 1 → [] ≡ remove es i
 remove-only [] i low few = absurd (omega (arith, low))
 remove-only (e ∷ []) zero low few = refl

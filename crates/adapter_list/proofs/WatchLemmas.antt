@@ -37,7 +37,7 @@ use Rattle.adapter_list.proofs.ReserveLemmas.{targets-there, there, told-there}
 
 ----------------------------------------------------------------- one adapter
 
--- a target that is the last is found where no other is at its node
+-- a target that is the last is found if no other is at its node
 find-last : (z : Node) (q : Target) (ts : List Target) → list_any (is_at z) ts ≡ false → same_node q.node z ≡ true → find (is_at z) (ts ++ q ∷ []) ≡ Some q
 find-last z q [] none same = ap (λ b. cond b (Some q) None) same
 find-last z q (t ∷ ts) none same =
@@ -82,7 +82,7 @@ module _ (q : Target) (z : Node) where
   put-behind p rs i k es true is = ap (cons_option (entry_of z p)) is ∙ insert-behind (entry_of z p) (entries z rs) (entries z (take i rs)) (record { no = k; deep = q.deep })
   put-behind p rs i k es false is = ap (cons_option (entry_of z p)) is
 
-  -- the entry of a new target stands behind those of the adapters before
+  -- the entry of a new target is after those of the adapters before
   pub entries-watched : (rs : List Listed) (i : ℕ) (r : Listed) → slice_get rs i ≡ Some r → list_any (is_at q.node) r.targets ≡ false → entries z (set rs i (with_target q r)) ≡ put rs i r.no (same_node q.node z)
   entries-watched [] i r at none = absurd (no-some r at)
   entries-watched (p ∷ rs) zero r at none =
@@ -101,9 +101,9 @@ total-more m (r ∷ rs) (suc i) q p at more = total-more (m + length r.targets) 
 pub targets_len-more : (rs : List Listed) (i : ℕ) (q p : Listed) → slice_get rs i ≡ Some q → length p.targets ≡ suc (length q.targets) → targets_len (set rs i p) ≡ targets_len rs + 1
 targets_len-more rs i q p at more = total-more 0 rs i q p at more
 
------------------------------------------------------------------ how many stand before
+----------------------------------------------------------------- how many are before
 
--- the number of an adapter is found where it stands
+-- the number of an adapter is found where it is
 position-here : (rs : List Listed) (j : ℕ) (r : Listed) → HasDistinctNumbers rs → slice_get rs j ≡ Some r → position (has_no r.no) rs ≡ Some j
 position-here [] j r distinct at = absurd (no-some r at)
 position-here (q ∷ rs) zero r distinct at =
@@ -143,12 +143,12 @@ module _ (before : AdapterNo → Bool) (x : Node) where
       let yes : before r.no ≡ true = h 0 r refl ∙ lt-ltb 0 (suc n) (omega arith) in
       some-step r (entries x rs) (entries x (take n rs)) yes (count-before rs n (λ j q e. h (suc j) q e ∙ lt-suc j n)) (find (is_at x) r.targets)
 
--- the entries of a node whose adapters stand before a place
+-- the entries of a node whose adapters are before a place
 pub entries-before : (x : Node) (rs : List Listed) (ordinal : ℕ) → HasDistinctNumbers rs → length (filter (λ e. option_map_or (λ k. nat_lt k ordinal) (position (has_no e.no) rs) false) (entries x rs)) ≡ length (entries x (take ordinal rs))
 entries-before x rs ordinal distinct =
     count-before (λ n. option_map_or (λ k. nat_lt k ordinal) (position (has_no n) rs) false) x rs ordinal (λ j r e. ap (λ (o : Option ℕ). option_map_or (λ k. nat_lt k ordinal) o false) (position-here rs j r distinct e))
 
--- how many stand before is at most how many there are
+-- how many are before is at most how many there are
 fewer-before : (o : Option Entry) (ds es : List Entry) → length ds ≤ length es → length (cons_option o ds) ≤ length (cons_option o es)
 fewer-before None ds es h = h
 fewer-before (Some e) ds es h = omega (arith, h)
@@ -161,7 +161,7 @@ before-low x (r ∷ rs) (suc i) = fewer-before (entry_of x r) (entries x (take i
 
 ----------------------------------------------------------------- a list that is sound
 
--- an adapter of the number has not the target, where none of that number has
+-- an adapter of the number has not the target, if none of that number has
 target-apart : (x : Node) (number : AdapterNo) (rs : List Listed) (i : ℕ) (q : Listed) → slice_get rs i ≡ Some q → has_no number q ≡ true → is_target number x rs ≡ false → has_target x q ≡ false
 target-apart x number [] i q at has none = absurd (no-some q at)
 target-apart x number (r ∷ rs) zero q at has none =

@@ -10,7 +10,7 @@ use Rattle.adapter_list.specs.Targets.{targets_at}
 abbrev pub copies_len : List (ℕ × Notice) → ℕ → ℕ
 copies_len cs k = length (copies_for k cs)
 
--- of so many copies, those that were counted and the rest; where none was counted, there is no count
+-- of so many copies, those that were counted and the rest; if none was counted, there is no count
 abbrev pub IsCounted : Option ℕ → ℕ → ℕ → Type 0
 IsCounted None rest all = rest ≡ all
 IsCounted (Some n) rest all = (0 < n) × (n + rest ≡ all)

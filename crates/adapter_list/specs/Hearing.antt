@@ -12,7 +12,7 @@ use Rattle.adapter_list.specs.declared.hearers.Hearers.{Hearers}
 abbrev pub hears_node : Above → Node → Listed → Bool
 hears_node up x r = list_any (brings_in up x) r.targets
 
--- the ordinals of the adapters of which something is so, where the first adapter stands at ordinal k
+-- the ordinals of the adapters of which something is so, where the first adapter is at ordinal k
 abbrev pub ordinals_from : (Listed → Bool) → ℕ → List Listed → List ℕ
 ordinals_from p k [] = []
 ordinals_from p k (r ∷ rs) = if p r then k ∷ ordinals_from p (suc k) rs else ordinals_from p (suc k) rs

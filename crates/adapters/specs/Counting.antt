@@ -7,7 +7,7 @@ use Rattle.adapters.specs.declared.adapter.NoRoom.TheVariants.{Full, Memory}
 abbrev pub places_left : ℕ → ℕ
 places_left told = 2 ^ 64 - (told + 1)
 
--- nothing changes, and it is full exactly where it can't count `n` more; it needs no memory
+-- nothing changes, and it is full exactly if it can't count `n` more; it needs no memory
 abbrev pub IsCounted : {X : Type 0} → (X → ℕ) → ℕ → X → X → Result ⊤ NoRoom → Type 0
 IsCounted told n old new result =
     OnOk result (told old + n < 2 ^ 64) × (IsErrOf result Full ↔ (2 ^ 64 ≤ told old + n)) × (IsErrOf result Memory → ⊥) × (new ≡ old) × (told new < 2 ^ 64)

@@ -9,7 +9,7 @@ use Rattle.containment.specs.Above.{resource_of, root_of}
 abbrev object : ℕ → Node
 object n = Object (record { 0 = n })
 
--- the nodes behind a node in a row
+-- the nodes after a node in a row
 abbrev behind : List Node → Node → List Node
 behind row n = drop (suc (position_or_len (same_node n) row)) row
 

@@ -1,4 +1,4 @@
--- What stands in an end of a containment is contained through it.
+-- What is in an end of a containment is contained through it.
 use Rattle.std.proofs.Common.{◌≡◌, false, if◌then◌else◌, ◌≢◌, ℕ, Option, Some, None, true, refl, sym, ap, ◌∙◌, subst, inl, inr}
 use Rattle.std.specs.Prelude.{◌&&◌}
 use Rattle.std.proofs.lemmas.Bool.{and_parts, eq-eqb, eqb-true, ne_eqb}
@@ -46,7 +46,7 @@ far-node (At d j) o h = same_node_if d.node (node.Object o) (node-is d.node o h)
 far-node (Alone a) o h = same_node_if (node.Object a) (node.Object o) (node-is (node.Object a) o h)
 far-node (Proxy t) o h = cc
 
--- an object that stands in an end of the containing feature is held through it
+-- an object that is in an end of the containing feature is held through it
 pub holding_at : (l : Link) (e : End) (k : ℕ) (o : ObjectNo) → HasTwoSides l.end l.far → l.container ≡ Some e.feature → indexed l e ≡ Some (k, value.Object o) → holding l (node.Object o) ≡ Some e
 holding_at l e k o two is at = ap (λ (c : Option FeatureNo). held_through c l (node.Object o)) is ∙ elim (cases_end l.end e) [
   | inl same ↦ near same

@@ -1,4 +1,4 @@
--- An object at whose ends that contain nothing stands is above no node.
+-- An object whose containing ends are empty is above no node.
 use Rattle.std.proofs.Common.{◌≡◌, ◌∙◌, ◌&&◌, ◌||◌, ◌++◌, ℕ, nat_eq, nat_lt, Bool, true, false, List, [], ◌∷◌, cond, flat_map, length, arith, refl, sym, ap}
 use Rattle.std.specs.List.{list_any}
 use Rattle.std.proofs.lemmas.Bool.{true≢false}

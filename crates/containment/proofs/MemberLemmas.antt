@@ -200,7 +200,7 @@ module _ (s : Model) (legal : IsLegal s) where
   same-test false true f g = g refl
   same-test false false f g = refl
 
-  -- a node is in the subtree of an object just where it is that object or below it
+  -- a node is in the subtree of an object exactly if it is that object or below it
   pub subtree-has : (o : ObjectNo) (n : Node) → is_node_among (subtree (reading s) o) n ≡ is_within (reading s) (node.Object o) n
   subtree-has o (node.Resource k) =
       sym (ap (list_any (same_node (node.Object o))) (above_is s.links legal.links.set legal.links.forest (node.Resource k) ∙ ap (λ (x : Option End). option_map_or (λ (e : End). e.node ∷ above s.links e.node) x []) (resource_top s.links k legal.links.set)))
@@ -246,7 +246,7 @@ module _ (s : Model) (legal : IsLegal s) where
       let root = through-root k u.0 (node.Object c) u.1 in
       in-flat_map same_object same-object (subtree (reading s)) (contents (reading s) (node.Resource k)) root.0 c root.2 (reaches-in root.0 u.0 (node.Object c) root.1)
 
-  -- an object is among all objects of a node just where it is that node or below it
+  -- an object is among all objects of a node exactly if it is that node or below it
   pub objects-below : (n : Node) (c : ObjectNo) → list_any (same_object c) (node_subtree (reading s) n) ≡ is_within (reading s) n (node.Object c)
   objects-below (node.Object o) c = subtree-has o (node.Object c)
   objects-below (node.Resource k) c =

@@ -95,7 +95,7 @@ module _ (s : Model) (legal : IsLegal s) where
 pub walk-starts : (s : Model) (found waiting : List ObjectNo) → found ≡ [] → found ++ waiting-trees s waiting ≡ waiting-trees s waiting
 walk-starts s found waiting none = ap (λ os. os ++ waiting-trees s waiting) none
 
--- where none waits all is found
+-- if none waits, all are found
 pub walk-ends : (s : Model) (found waiting all : List ObjectNo) → waiting ≡ [] → found ++ waiting-trees s waiting ≡ all → found ≡ all
 walk-ends s found waiting all none whole = sym (append-nil found) ∙ ap (λ os. found ++ waiting-trees s os) (sym none) ∙ whole
 

@@ -19,7 +19,7 @@ parts r n fs = flat_map (λ f. objects_of (r.values (at_end n f))) (filter (is_c
 abbrev pub contents : Reading → Node → List ObjectNo
 contents r n = parts r n (all_features_of r n)
 
--- values stand at an end that contains
+-- values are at an end that contains
 abbrev pub has_parts_at : Reading → Node → FeatureNo → Bool
 has_parts_at r n f = is_containment r.metamodel f && nat_lt 0 (length (r.values (at_end n f)))
 

@@ -43,7 +43,7 @@ IsTarget (value.Object a) = Unit {0}
 IsTarget (value.Proxy t) = Unit {0}
 IsTarget _ = ⊥
 
--- under a reference stands nothing else
+-- under a reference is nothing else
 pub reference-target : (a : Shape) (v : Value) → a.is_reference ≡ true → IsSort a v → IsTarget v
 reference-target a (value.Object b) reference sort = tt
 reference-target a (value.Proxy t) reference sort = tt
@@ -186,7 +186,7 @@ module _ (m : Metamodel) (n : ℕ) (doc : Doc) (sound : IsSound m doc) where
         all-flat_map (AreSoundContents m doc) Good (of_object content_again) (enumerate_from 0 doc.objects)
         (λ y h. all-flat_map (IsSoundContent m doc (record { 0 = y.0 })) Good (content_again (record { 0 = y.0 })) y.1.contents (λ c s. content-good (record { 0 = y.0 }) c s) h) sound.contents
 
-  ---------------------------------------------------------------- what comes to stand last
+  ---------------------------------------------------------------- what comes to be last
 
   -- under an end of the higher feature all objects that are put again, in their order
   values-last : (d : End) (f g : FeatureNo) (o : ObjectNo) (vs : List Value) → AllByRecursion IsTarget vs

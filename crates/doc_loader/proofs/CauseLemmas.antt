@@ -39,7 +39,7 @@ not-last : (f : DocFault) (b : Bool) → cond b (Some f) None ≡ None → b ≡
 not-last f true none = absurd (cc)
 not-last f false none = refl
 
--- what stands as an object is one, of a class that has objects; each content is of its feature's type
+-- what is written as an object is one, of a class that has objects; each content is of its feature's type
 pub record IsShapely (m : Metamodel) (d : Data) : Type 0 where
   pub layout : list_any is_misshapen (parts m d) ≡ false
   pub classes : of_written (has_no_class m) (parts m d) ≡ false

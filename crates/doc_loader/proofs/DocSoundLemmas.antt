@@ -115,7 +115,7 @@ module _ (m : Metamodel) (names : NamesAreApart m) (b : Base) (d : Data) (doc : 
 
   ---------------------------------------------------------------- parts
 
-  -- where an object stands under a containment, and by which step
+  -- where an object is under a containment, and by which step
   record IsPart (o : ObjectNo) (f : FeatureNo) (a : ObjectNo) : Type 0 where
     content : Content
     of : content.feature ≡ f

@@ -34,13 +34,13 @@ is_no_proxy _ = true
 abbrev pub others : List Value → List Value
 others vs = filter is_no_proxy vs
 
--- the proxies of a list, whose first value stands at place i, each with its place
+-- the proxies of a list, whose first value is at place i, each with its place
 abbrev pub proxies_from : ℕ → List Value → List (ℕ × List ℕ)
 proxies_from i [] = []
 proxies_from i (value.Proxy t ∷ vs) = (i, t) ∷ proxies_from (i + 1) vs
 proxies_from i (v ∷ vs) = proxies_from (i + 1) vs
 
--- where no proxy is left, nothing is left out
+-- if no proxy is left, nothing is left out
 without_proxies : (i : ℕ) (vs : List Value) → proxies_from i vs ≡ [] → others vs ≡ vs
 without_proxies i [] is = refl
 without_proxies i (value.Proxy t ∷ vs) is = cc
@@ -52,7 +52,7 @@ without_proxies i (value.Text b ∷ vs) is = ap (λ (xs : List Value). value.Tex
 without_proxies i (value.Literal b ∷ vs) is = ap (λ (xs : List Value). value.Literal b ∷ xs) (without_proxies (i + 1) vs is)
 without_proxies i (value.Adapter b ∷ vs) is = ap (λ (xs : List Value). value.Adapter b ∷ xs) (without_proxies (i + 1) vs is)
 
--- the first proxy of a list: what stands before it, and what behind
+-- the first proxy of a list: what is before it, and what after
 record IsFirst (k i : ℕ) (p : List ℕ) (rest : List (ℕ × List ℕ)) (zs : List Value) : Type 0 where
   front : List Value
   behind : List Value
@@ -96,11 +96,11 @@ first-proxy k i p rest (value.Text b ∷ zs) is = first-more k i p rest (value.T
 first-proxy k i p rest (value.Literal b ∷ zs) is = first-more k i p rest (value.Literal b) zs refl (first-proxy (k + 1) i p rest zs is)
 first-proxy k i p rest (value.Adapter b ∷ zs) is = first-more k i p rest (value.Adapter b) zs refl (first-proxy (k + 1) i p rest zs is)
 
--- no proxy stands among the others
+-- no proxy is among the others
 others-plain : (vs : List Value) (j : ℕ) (t : List ℕ) → slice_get (others vs) j ≡ Some (value.Proxy t) → ⊥
 others-plain vs j t at = false≢true (filter-at is_no_proxy vs j (value.Proxy t) at).2
 
--- what stands among the others stands in the list
+-- what is among the others is in the list
 pub others-at : (vs : List Value) (j : ℕ) (v : Value) → slice_get (others vs) j ≡ Some v → (i : ℕ) × (slice_get vs i ≡ Some v)
 others-at vs j v at = let r = filter-at is_no_proxy vs j v at in (r.0, r.1)
 

@@ -73,7 +73,7 @@ abbrev pub IsBefore : ℕ → Node → ObjectNo → Type 0
 IsBefore n (node.Object a) b = (n ≤ a.0) × (a.0 < b.0)
 IsBefore n (node.Resource r) b = Unit {0}
 
--- ends that repeat nothing and are short, where each object from number n on is contained once at most, behind what contains it
+-- ends that repeat nothing and are short, where each object from number n on is contained once at most, after what contains it
 pub record AreGood (m : Kinds) (n : ℕ) (T : End → List Value) : Type 0 where
   pub distinct : (d : End) → IsDistinct (T d)
   pub few : (d : End) → length (T d) ≤ most

@@ -159,7 +159,7 @@ module _ (m : Metamodel) (n : ℕ) (k : ResourceNo) (doc : Doc) (sound : IsSound
       alone-at : (o : ObjectNo) (d : End) (j : ℕ) → Alone o ≡ At d j → ⊥
       alone-at o d j h = cc
 
-  -- where the object stands at the end of the other
+  -- where the object is at the end of the other
   far-there : (o : ObjectNo) (f : FeatureNo) (b : ObjectNo) (g : FeatureNo) (i : ℕ) → (shape m f).is_reference ≡ true → IsPlainFeature m f → (shape m f).opposite ≡ Some g → slice_get (values_in doc o f) i ≡ Some (value.Object b)
       → slice_get (end t (object_end n b g)) (far_index (shape m f) doc o f b g) ≡ Some (value.Object (loaded n o))
   far-there o f b g i reference plain pair at = by (shape m f).containing refl

@@ -126,7 +126,7 @@ module _ (m : Metamodel) (n : ℕ) (k : ResourceNo) (doc : Doc) (sound : IsSound
     ] refl
   ]
 
-  ---------------------------------------------------------------- what stands there
+  ---------------------------------------------------------------- what is there
 
   pub values-distinct : (a : ObjectNo) (f : FeatureNo) → (shape m f).is_reference ≡ true → IsDistinct (values_in doc a f)
   values-distinct a f reference i j v x y =

@@ -117,7 +117,7 @@ module _ {X Y : Type 0} where
       apart-append S (f x) (flat_map f xs) (each x) (apart-flat_map R S f xs each across a.1)
       (pairs-flat_map S f (f x) xs (all-more (R x) (λ z. AllPairs S (f x) (f z)) xs (λ z r. across x z r) a.0))
 
--- what stands at a place of a list stands there with its number
+-- what is at a place of a list is there with its number
 pub numbered-at : {X : Type 0} (xs : List X) (i k : ℕ) (y : ℕ × X) → slice_get (enumerate_from i xs) k ≡ Some y → (y.0 ≡ i + k) × (slice_get xs k ≡ Some y.1)
 numbered-at [] i k y h = absurd (none-some y h)
 numbered-at {X = X} (x ∷ xs) i zero y h =
@@ -126,7 +126,7 @@ numbered-at {X = X} (x ∷ xs) i zero y h =
     (omega (arith, n), ap (λ (z : ℕ × X). Some z.1) e)
 numbered-at (x ∷ xs) i (suc k) y h = let r = numbered-at xs (i + 1) k y h in let n = r.0 in (omega (arith, n), r.1)
 
--- each element stands at its number
+-- each element is at its number
 pub numbered-all : {X : Type 0} (xs : List X) → AllByRecursion (λ (x : ℕ × X). slice_get xs x.0 ≡ Some x.1) (enumerate_from 0 xs)
 numbered-all {X = X} xs = all-from_at (λ (x : ℕ × X). slice_get xs x.0 ≡ Some x.1) (enumerate_from 0 xs) (λ j x at. (
     let r = numbered-at xs 0 j x at in

@@ -1,4 +1,4 @@
--- The place that is noted for an object under the lower feature of a pair is the one at which it stands there.
+-- The place that is noted for an object under the lower feature of a pair is the one at which it is there.
 use Rattle.std.proofs.Common.{◌≡◌, ◌∙◌, ◌<◌, ℕ, zero, suc, Bool, true, false, cond, List, [], ◌∷◌, Option, Some, None, if◌then◌else◌, refl, sym, ap, subst, inl, inr, arith}
 use Rattle.std.specs.Prelude.{◌⊎◌, ◌&&◌, flat_map, is_some, nat_eq, not, slice_get, unwrap_or}
 use Rattle.std.specs.List.{AllByRecursion, enumerate_from}

@@ -1,4 +1,4 @@
--- A link of a pair that is taken out and put again at its place stands last at the other end.
+-- A link of a pair that is taken out and put again at its place is last at the other end.
 use Rattle.std.proofs.Common.{◌≡◌, ◌≢◌, ◌∙◌, ◌<◌, ◌++◌, ℕ, zero, suc, Bool, true, false, List, [], ◌∷◌, Option, Some, None, if◌then◌else◌, length, append_assoc, append-nil, refl, sym, ap, subst, inl, inr, arith}
 use Rattle.std.specs.Prelude.{◌&&◌, ◌||◌, filter, flat_map, not}
 use Rattle.std.specs.List.{AllByRecursion, insert, list_any, remove, slice_get}
@@ -194,7 +194,7 @@ module _ (m : Kinds) (ok : AreKinds m) (t : Links) (legal : IsLegalSet t) (kinds
   abbrev two : Links
   two = put one e i o (Some g) None
 
-  -- only the far end changes: there the object of the near end comes to stand last
+  -- only the far end changes: there the object of the near end is then the last
   again : (d : End) → end two d ≡ (if same_end (far_end o g) d then put_last (node_value e.node) (end t d) else end t d)
   again d =
       end-put one e i o (Some g) None one_legal fits d

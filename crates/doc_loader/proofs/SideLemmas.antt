@@ -167,7 +167,7 @@ module _ (m : Metamodel) (ok : AreKinds (kinds_of m)) where
     | inr side ↦ absurd (side.1.other plain near)
   ]
 
-  -- a lower feature is there only where nothing contains
+  -- a lower feature is there only if nothing contains
   pub record IsHigher (f g : FeatureNo) : Type 0 where
     pub plain : (shape m f).containing ≡ None
     pub pair : (shape m f).opposite ≡ Some g

@@ -23,7 +23,7 @@ use Rattle.resource_docs.specs.declared.doc.DocObject.{DocObject}
 use Rattle.doc_loader.proofs.GainLemmas.{got_left}
 use Rattle.doc_loader.proofs.PairLemmas.{Apart, all-at}
 
--- a value of a feature of that shape: a proxy stands under a reference that doesn't contain, and neither does its opposite
+-- a value of a feature of that shape: a proxy is under a reference that doesn't contain, and neither does its opposite
 abbrev pub IsSort : Shape → Value → Type 0
 IsSort a (value.Object b) = a.is_reference ≡ true
 IsSort a (value.Proxy t) = (a.is_reference ≡ true) × (a.containing ≡ None)
@@ -79,7 +79,7 @@ module _ {X : Type 0} where
   got_right [] ys k x h = (k, h)
   got_right (z ∷ xs) ys k x h = let r = got_right xs ys k x h in (suc r.0, r.1)
 
-  -- where something stands, something stands first
+  -- where something is, there is a first
   pub first-of : (xs : List X) (k : ℕ) (x : X) → slice_get xs k ≡ Some x → (y : X) × (slice_get xs 0 ≡ Some y)
   first-of [] k x h = absurd (none-some x h)
   first-of (z ∷ zs) k x h = (z, refl)
@@ -146,7 +146,7 @@ module _ {X Y : Type 0} where
       let r = at-filter_map h xs i x y a b in
       elim (h z) as (λ o. (k : ℕ) × (slice_get (cons_option o (filter_map h xs)) k ≡ Some y)) [ None ↦ r | Some w ↦ (suc r.0, r.1) ]
 
--- what stands at a place stands there with its number
+-- what is at a place is there with its number
 pub at-numbered : {X : Type 0} (xs : List X) (i k : ℕ) (x : X) → slice_get xs k ≡ Some x → (n : ℕ) × (n ≡ i + k) × (slice_get (enumerate_from i xs) k ≡ Some (n, x))
 at-numbered [] i k x h = absurd (none-some x h)
 at-numbered {X = X} (z ∷ xs) i zero x h = (i, omega arith, ap (λ (y : X). Some (i, y)) (same_Some z x h))
@@ -161,7 +161,7 @@ under-at f c j v h =
       | false ↦ λ q at. absurd (none-some v at)
     ] refl h
 
--- what stands under a feature of an object stands there by the object's number
+-- what is under a feature of an object is there by the object's number
 pub object-there : (doc : Doc) (o : ObjectNo) (f : FeatureNo) (k : ℕ) (v : Value) → slice_get (values_in doc o f) k ≡ Some v → (x : DocObject) × (slice_get doc.objects o.0 ≡ Some x) × (slice_get (values_under x f) k ≡ Some v)
 object-there doc o f k v h =
     elim (slice_get doc.objects o.0) as (λ y. slice_get doc.objects o.0 ≡ y → slice_get (option_map_or (λ x. values_under x f) y []) k ≡ Some v → (x : DocObject) × (slice_get doc.objects o.0 ≡ Some x) × (slice_get (values_under x f) k ≡ Some v)) [
@@ -179,7 +179,7 @@ pub record IsThere (doc : Doc) (o : ObjectNo) (c : Content) : Type 0 where
   pub index : ℕ
   pub in_object : slice_get object.contents index ≡ Some c
 
--- what stands under a feature of an object stands in a content of it
+-- what is under a feature of an object is in a content of it
 pub value-there : (doc : Doc) (o : ObjectNo) (f : FeatureNo) (k : ℕ) (v : Value) → slice_get (values_in doc o f) k ≡ Some v → (c : Content) × IsThere doc o c × (c.feature ≡ f) × ((j : ℕ) × (slice_get c.values j ≡ Some v))
 value-there doc o f k v h =
     let x = object-there doc o f k v h in
@@ -198,7 +198,7 @@ module _ (m : Metamodel) (doc : Doc) (sound : IsSound m doc) where
       let all = all-at (AreSoundContents m doc) (enumerate_from 0 doc.objects) o.0 (r.0, there.object) sound.contents r.2 in
       numbered-sound r.0 o c (omega (arith, n)) (all-at (IsSoundContent m doc (record { 0 = r.0 })) there.object.contents there.index c all there.in_object)
 
-  -- the content of an object whose values stand under a feature
+  -- the content of an object whose values are under a feature
   pub record HasContent (o : ObjectNo) (f : FeatureNo) : Type 0 where
     pub content : Content
     pub there : IsThere doc o content

@@ -214,7 +214,7 @@ module _ {X : Type 0} (n : ℕ) (lists : X → List Value) (b : ObjectNo) where
         | false ↦ omega (arith, rest)
       ]
 
-  -- an object is a source exactly where its list has the other
+  -- an object is a source exactly if its list has the other
   pub source-at : (xs : List X) (k : ℕ) (v : Value) → slice_get (sources_from n lists b 0 xs) k ≡ Some v
       → (a : ObjectNo) × (x : X) × (slice_get xs a.0 ≡ Some x) × (v ≡ value.Object (loaded n a)) × ((j : ℕ) × (slice_get (lists x) j ≡ Some (value.Object b)))
   source-at xs k v at =

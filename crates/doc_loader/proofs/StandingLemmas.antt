@@ -1,4 +1,4 @@
--- What stands where an object should is an object of a concrete class, and conforms to the target of the containment that it stands under.
+-- What is where an object should is an object of a concrete class, and conforms to the target of the containment that it is under.
 use Rattle.std.proofs.Common.{◌≡◌, ◌∙◌, ◌++◌, ℕ, zero, suc, Bool, true, false, cond, List, [], ◌∷◌, Option, Some, None, length, map, refl, sym, ap, subst, inl, inr}
 use Rattle.std.specs.Prelude.{◌&&◌, ◌||◌, ◌==◌, ◌⊎◌, flat_map, is_some, not, option_map, slice_get, unwrap_or, if◌then◌else◌}
 use Rattle.std.specs.List.{AllByRecursion, enumerate_from, list_all, list_any}
@@ -88,9 +88,9 @@ entries-have m d c is = by (written d) is
     by None h = tt
     by (Some w) h = named w (lookups.class_by_name m w.class) h
 
----------------------------------------------------------------- what a part stands in
+---------------------------------------------------------------- what a part is in
 
--- a part that stands in another one, under a containment
+-- a part that is in another one, under a containment
 record IsInner (m : Metamodel) (all : List Part) (q : Part) : Type 0 where
   index : ℕ
   whole : Part
@@ -136,7 +136,7 @@ module _ (m : Metamodel) (all : List Part) where
             (all-both (IsInner m all) (λ c. AllByRecursion (IsIn all) (parts_from m n c)) cs (inner-parts p there.0) (all-each (IsIn all) (parts_from m n) cs there.1)),
       )
 
--- each part is a root, or stands in another one
+-- each part is a root, or is in another one
 all-stand : (m : Metamodel) → NamesAreApart m → (d : Data) → AllByRecursion (Stands m (parts m d)) (parts m d)
 unfolding parts
 all-stand m names d =
@@ -169,7 +169,7 @@ class-there m (Some w) some none = by (lookups.class_by_name m w.class) none
     by None h = absurd (true≢false h)
     by (Some c) h = (c, refl, not-false (lookups.is_concrete m c) h)
 
--- what may stand under a containment conforms to its target, where its class is there
+-- what may be under a containment conforms to its target, where its class is there
 may-conform : (m : Metamodel) (target c : ClassNo) (d : Data) → class_of m d ≡ Some c → may_stand m target d ≡ true → conforms_to m target d ≡ true
 may-conform m target c d is h =
     let held = and_parts (is_some (as_object d)) (option_map_or (λ c. lookups.conforms m c target) (class_of m d) true) h in

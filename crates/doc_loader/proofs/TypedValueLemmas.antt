@@ -117,7 +117,7 @@ IsTaken m doc f (value.Object b) = lookups.takes m (class_in doc) f (value.Objec
 IsTaken m doc f (value.Proxy t) = Unit {0}
 IsTaken m doc f v = is_legal_value m f v ≡ true
 
--- a proxy stands under a feature that takes proxies
+-- a proxy is under a feature that takes proxies
 pub typed-value : (m : Metamodel) (doc : Doc) (f : FeatureNo) (v : Value) → IsSort (shape m f) v → IsTaken m doc f v → IsTypedValue m doc f v
 typed-value m doc f (value.Object o) sort taken = taken
 typed-value m doc f (value.Proxy t) sort taken = proxies (shape m f) sort
@@ -168,7 +168,7 @@ module _ (m : Metamodel) (doc : Doc) (f : FeatureNo) (g : Feature) (known : look
 
 ---------------------------------------------------------------- the values of an entry
 
--- what is known of an entry of a part: its content is of its type, and by a step to a containment reference stands what conforms
+-- what is known of an entry of a part: its content is of its type, and by a step to a containment reference is what conforms
 pub record IsEntry (m : Metamodel) (ps : List Part) (path : Path) (e : Entry) : Type 0 where
   pub content : is_content m e ≡ true
   pub contained : (n position : ℕ) (g : Feature) (target : ClassNo) (opposite : Option FeatureNo) → lookups.feature m e.feature ≡ Some g → g.kind ≡ Reference target true opposite

@@ -53,9 +53,9 @@ extends-one p q x y long a b h =
     let steps = same-front p.steps q.steps a.more b.more long (sym a.steps ∙ ap (λ (z : Path). z.steps) h ∙ b.steps) in
     λ i. record { root = roots i; steps = steps i }
 
----------------------------------------------------------------- what stands below a part
+---------------------------------------------------------------- what is below a part
 
--- the part stands by a step of a name
+-- the part is by a step of a name
 abbrev IsNamed : Path → List ℕ → Part → Type 0
 IsNamed r name c = (i : Option ℕ) × (c.path ≡ with_step r (new_step name i))
 
@@ -216,7 +216,7 @@ module _ (m : Metamodel) (names : NamesAreApart m) where
 
 ---------------------------------------------------------------- what comes before
 
--- where a path ends behind a step, what has the path before it is among some
+-- where a path ends after a step, what has the path before it is among some
 abbrev HasWhole : List Part → Part → Type 0
 HasWhole seen q = (r : Path) (s : Step) → q.path ≡ with_step r s → (k : ℕ) × (x : Part) × (slice_get seen k ≡ Some x) × (x.path ≡ r)
 
@@ -291,7 +291,7 @@ number-at (p ∷ ps) q b h =
     ] refl (sym (position_cons (λ (x : Part). same_path q x.path) p ps) ∙ h)
 
 module _ (m : Metamodel) (names : NamesAreApart m) (d : Data) where
-  -- a part has a higher number than what it stands in
+  -- a part has a higher number than what it is in
   pub part-later : (a b : ℕ) (p : Part) (s : Step) → slice_get (parts m d) a ≡ Some p → number_of (parts m d) (with_step p.path s) ≡ Some b → a < b
   part-later a b p s at number =
       let there = number-at (parts m d) (with_step p.path s) b number in
@@ -300,7 +300,7 @@ module _ (m : Metamodel) (names : NamesAreApart m) (d : Data) where
       let low = w.4 in
       omega (arith, same, low)
 
-  -- and stands at one place
+  -- and is at one place
   pub part-once : (a c b : ℕ) (p q : Part) (s t : Step) → slice_get (parts m d) a ≡ Some p → slice_get (parts m d) c ≡ Some q
       → number_of (parts m d) (with_step p.path s) ≡ Some b → number_of (parts m d) (with_step q.path t) ≡ Some b → (a ≡ c) × (s ≡ t)
   part-once a c b p q s t at there x y =

@@ -1,4 +1,4 @@
--- Where each object stands in the lists of a document.
+-- The index of each object in the lists of a document.
 use Rattle.std.specs.Prelude.{ℕ, ◌&&◌, Bool, List, [], ◌∷◌, flat_map, nat_eq, Option, Some, None, unwrap_or, if◌then◌else◌}
 use Rattle.std.specs.List.{enumerate_from}
 use Rattle.std.specs.Option.{option_or}
@@ -22,7 +22,7 @@ reference_key o f b = record { object = o.0; feature = f.0; named = b.0 }
 abbrev pub same_reference_key : ReferenceKey → ReferenceKey → Bool
 same_reference_key j k = nat_eq j.object k.object && (nat_eq j.feature k.feature && nat_eq j.named k.named)
 
--- the object that stands at a position, as it is named there
+-- the object that is at a position, as it is named there
 abbrev pub placed : ObjectNo → FeatureNo → ℕ × Value → List (ReferenceKey × ℕ)
 placed o f (i, value.Object b) = (reference_key o f b, i) ∷ []
 placed o f (i, v) = []
@@ -40,7 +40,7 @@ abbrev pub last_index : List (ReferenceKey × ℕ) → ReferenceKey → Option �
 last_index [] k = None
 last_index (x ∷ xs) k = option_or (last_index xs k) (if same_reference_key x.0 k then Some x.1 else None)
 
--- where an object stands in a list of a document that has these objects
+-- where an object is in a list of a document that has these objects
 abbrev pub index_among : Metamodel → List DocObject → ReferenceKey → ℕ
 index_among m os k = unwrap_or (last_index (all_indexes m os) k) 0
 

@@ -1,8 +1,8 @@
 -- The edits that make a document's links and proxies, in an order in which each gets the position that the document says. First the roots, then the lists of all references but
--- the higher of a pair: each value is put behind those before it, so each of these lists comes to stand as it is written. The ends of
--- the higher feature gain meanwhile, each in the order of the numbers of its objects. Where the document has another order there, the
+-- the higher of a pair: each value is put after those before it, so each of these lists is then as it is written. The ends of
+-- the higher feature gain meanwhile, each in the order of the numbers of its objects. If the document has another order there, the
 -- links of that end are taken out and put again, in its order, each at the position that it had at the lower end. Last come the proxies of
--- those ends, each at its position: the objects stand there by then, in their order.
+-- those ends, each at its position: the objects are there by then, in their order.
 use Rattle.std.specs.Prelude.{ℕ, suc, ◌&&◌, Bool, true, not, List, [], ◌∷◌, ◌++◌, flat_map, map, nat_le, is_some, if◌then◌else◌}
 use Rattle.std.specs.List.{enumerate_from}
 use Rattle.std.specs.Option.{option_map_or}
@@ -53,7 +53,7 @@ is_ascending_from k [] = true
 is_ascending_from k (value.Object a ∷ vs) = nat_le k a.0 && is_ascending_from (suc a.0) vs
 is_ascending_from k (v ∷ vs) = is_ascending_from k vs
 
--- takes an object b out of the end of a value a, and puts it where it stood, so that a then stands last at the other end
+-- takes an object b out of the end of a value a, and puts it where it was, so that a then is last at the other end
 abbrev pub puts_again : Metamodel → ℕ → (ReferenceKey → ℕ) → ObjectNo → FeatureNo → Value → List Edit
 puts_again m n index_of b f (value.Object a) =
     let e = object_end n a f in
@@ -63,7 +63,7 @@ puts_again m n index_of b f v = []
 abbrev pub in_order : Metamodel → ℕ → (ReferenceKey → ℕ) → ObjectNo → List Value → FeatureNo → List Edit
 in_order m n index_of b vs f = if is_ascending_from 0 vs then [] else flat_map (puts_again m n index_of b f) vs
 
--- the values under the higher feature of a pair are in another order than that of their numbers
+-- the values under the higher feature of a pair are in an order other than that of their numbers
 abbrev pub is_unordered : Metamodel → Content → Bool
 is_unordered m c = is_some (lower_of (shape m c.feature) c.feature) && not (is_ascending_from 0 c.values)
 

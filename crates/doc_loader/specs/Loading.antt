@@ -1,4 +1,4 @@
--- What loading a document makes: its objects, numbered on from the next number, their values, and their links and proxies, which stand
+-- What loading a document makes: its objects, numbered on from the next number, their values, and their links and proxies, which are
 -- at both ends where the document says.
 use Rattle.std.specs.Prelude.{ℕ, ◌+◌, ◌&&◌, Bool, List, [], ◌∷◌, ◌++◌, filter_map, flat_map, fold, map, position, Option, Some, None, unwrap_or, if◌then◌else◌}
 use Rattle.std.specs.List.{enumerate_from}

@@ -1,4 +1,4 @@
--- What stands in a part is less deep than the part, so a walk of more levels than a document is deep finds no more.
+-- What is in a part is less deep than the part, so a walk of more levels than a document is deep finds no more.
 use Rattle.std.proofs.Common.{◌≡◌, ◌∙◌, ◌+◌, ◌<◌, ◌≤◌, ◌++◌, Bool, true, false, List, [], ◌∷◌, Option, Some, None, Ordering, Less, Equal, Greater, ℕ, zero, suc, ap, arith, cond, map, refl, sym}
 use Rattle.std.specs.Prelude.{codes, flat_map, option_and_then, option_map, unwrap_or}
 use Rattle.std.specs.Ordering.{match_ordering, nat_cmp}
@@ -81,7 +81,7 @@ array_depth (string s) ds is = cc
 array_depth (array xs) ds is = ap (λ x. suc (items_depth x)) (same_Some xs ds is)
 array_depth (object ms) ds is = cc
 
----------------------------------------------------------------- what stands in an object
+---------------------------------------------------------------- what is in an object
 
 if_some : {Y : Type 0} (b : Bool) (o : Option Y) (y : Y) → cond b o None ≡ Some y → o ≡ Some y
 if_some true o y is = is

@@ -1,4 +1,4 @@
--- What is known of the parts that were found: their levels, what stands there, their classes and members, and the first part of each path.
+-- What is known of the parts that were found: their levels, what is there, their classes and members, and the first part of each path.
 use Rattle.std.specs.Prelude.{◌≡◌, ◌≤◌, ◌&&◌, ◌++◌, ℕ, suc, Bool, false, not, List, [], Option, Some, None, is_some, length, map, option_map, if◌then◌else◌}
 use Rattle.std.specs.List.{enumerate_from, list_all}
 use Rattle.std.specs.Option.{option_map_or}
@@ -72,9 +72,9 @@ conforms_seen m target s = option_map_or (λ k. lookups.conforms m k.0 target) s
 abbrev pub entries_seen : Metamodel → Seen → List Entry
 entries_seen m s = option_map_or (λ k. entries_in m k.0 k.1) s.known []
 
----------------------------------------------------------------- what stands below a part
+---------------------------------------------------------------- what is below a part
 
--- what stands under a name of what has a path
+-- what is under a name of what has a path
 abbrev pub parts_under : Path → List ℕ → Bool → List Data → List Part
 parts_under path name single ds =
     map (λ v. record { path = with_step path (new_step name (if single then None else Some v.0)); json = v.1 }) (enumerate_from 0 ds)
@@ -87,7 +87,7 @@ abbrev pub FindsBelow : Metamodel → FoundParts → FoundParts → ℕ → ℕ 
 FindsBelow m old new number level more =
     (ps : List Part) (p : Part) → Knows m old ps → number_of ps p.path ≡ Some number → level ≡ suc (level_of p) → Knows m new (ps ++ more p.path)
 
--- a part that stands at a key was found, and all below it, for so many levels
+-- a part that is at a key was found, and all below it, for so many levels
 abbrev pub Walks : Metamodel → ℕ → FoundParts → FoundParts → Key → ℕ → Data → Type 0
 Walks m n old new k level d =
     (ps : List Part) (p : Part) → Knows m old ps → IsPlaced ps k p.path → level ≡ level_of p → d ≡ p.json → Knows m new (ps ++ parts_from m n p)

@@ -9,7 +9,7 @@ use Rattle.doc_parts.specs.declared.found.PartKey.{PartKey}
 use Rattle.doc_parts.specs.declared.found.PartKey.TheVariants.{Root, Under}
 use Rattle.doc_parts.specs.declared.found.Numbers.{Numbers}
 
--- the root at a position, or what stands by a step under the part of a number
+-- the root at a position, or what is by a step under the part of a number
 pub data Key : Type 0 where
   RootKey : ℕ → Key
   UnderKey : ℕ → List ℕ → Option ℕ → Key
@@ -24,7 +24,7 @@ is_at (RootKey i) (Under k v j) = false
 is_at (UnderKey n w i) (Root j) = false
 is_at (UnderKey n w i) (Under k v j) = nat_eq n k && (bytes_eq w v.now && same_index i j)
 
--- the number of what stands at a key
+-- the number of what is at a key
 abbrev pub number_at : Numbers → Key → Option ℕ
 number_at t k = lookup (is_at k) t.numbers.entries
 

@@ -1,5 +1,5 @@
--- What of a document is looked at: what stands where an object should, with its path, and under each object what its features hold.
--- What stands in an object of an unknown class, under an unknown feature or under a container reference is not.
+-- What of a document is looked at: what is where an object should, with its path, and under each object what its features hold.
+-- What is in an object of an unknown class, under an unknown feature or under a container reference is not.
 use Rattle.std.specs.Prelude.{ℕ, zero, suc, length, List, [], ◌∷◌, filter_map, flat_map, map, position, Option, Some, None, option_map, unwrap_or, if◌then◌else◌}
 use Rattle.std.specs.List.{enumerate_from}
 use Rattle.std.specs.Option.{option_map_or}
@@ -59,12 +59,12 @@ values_of m e =
 
 ---------------------------------------------------------------- objects in objects
 
--- what stands where an object should, and its path
+-- what is where an object should, and its path
 pub record Part : Type 0 where
   pub path : Path
   pub json : Data
 
--- a root stands at level 1
+-- a root is at level 1
 abbrev pub level_of : Part → ℕ
 level_of p = suc (length p.path.steps)
 

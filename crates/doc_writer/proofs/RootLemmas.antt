@@ -40,7 +40,7 @@ live-end : (m : Model) (e : End) (vs : List Value) → IsTrue (is_legal_end (rea
 live-end m e [] h = refl
 live-end m e (v ∷ vs) h = live-objects m e (v ∷ vs) (and_parts _ _ (and_parts _ _ h).1).0
 
--- what stands at an end of a reference lives
+-- what is at an end of a reference lives
 pub all-live : (s : Model) (e : End) → IsLegal s → (shape s.metamodel e.feature).is_reference ≡ true → list_all (is_live (reading s)) (objects_of (values_at s e)) ≡ true
 all-live s e legal reference = ap (λ (vs : List Value). list_all (is_live (reading s)) (objects_of vs)) (values-linked s e reference) ∙ live-end s e (end s.links e) (legal.links.ends e)
 

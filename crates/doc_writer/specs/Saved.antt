@@ -25,11 +25,11 @@ reference_features r o = filter (λ f. not (is_containment r.metamodel f)) (writ
 abbrev pub targets_under : Reading → ObjectNo → FeatureNo → List ObjectNo
 targets_under r o f = objects_of (r.values (at_end (node.Object o) f))
 
--- an object that stands in no resource
+-- an object that is in no resource
 abbrev pub is_dangling : Reading → ObjectNo → Bool
 is_dangling r o = not (is_some (resource_of r.above o))
 
--- an object refers by a feature to one that stands in no resource
+-- an object refers by a feature to one that is in no resource
 abbrev pub dangles_by : Reading → ObjectNo → FeatureNo → Bool
 dangles_by r o f = is_written r o f && (not (is_containment r.metamodel f) && list_any (is_dangling r) (targets_under r o f))
 

@@ -1,4 +1,4 @@
--- Where an object stands in the end that holds it, and that a step from there leads into it.
+-- The position of an object in the end that holds it, and that a step from there leads into it.
 use Rattle.std.proofs.Common.{◌≡◌, ℕ, ◌<◌, ◌≤◌, ◌&&◌, Bool, true, false, not, List, length, slice_get, Option, Some, None, option_to_list, unwrap_or, if◌then◌else◌, arith, refl, sym, ap, ◌∙◌}
 use Rattle.std.specs.Prelude.{IfSome, is_some, option_and_then}
 use Rattle.std.specs.Option.{option_map_or}
@@ -33,7 +33,7 @@ use Rattle.fragment_paths.specs.Fragments.{has_one_root, position_in, step_into}
 use Rattle.fragment_paths.proofs.NameLemmas.{own-name, valid-feature}
 use Rattle.fragment_paths.proofs.ObjectLemmas.{all-objects, objects-get}
 
--- the end is one of a containment reference of its node, and the object stands there, at its place
+-- the end is one of a containment reference of its node, and the object is there, at its place
 pub record IsHeld (s : Model) (o : ObjectNo) (e : End) : Type 0 where
   pub reference : (shape s.metamodel e.feature).is_reference ≡ true
   pub contains : is_containment s.metamodel e.feature ≡ true

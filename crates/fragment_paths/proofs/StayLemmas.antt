@@ -1,4 +1,4 @@
--- Where the ends that contain hold the same, the nodes above each node stay, and each object keeps its fragment and, with the same URIs,
+-- If the ends that contain hold the same, the nodes above each node stay, and each object keeps its fragment and, with the same URIs,
 -- its address. And an address finds one object.
 use Rattle.std.proofs.Common.{◌≡◌, ◌∙◌, ℕ, zero, suc, ◌<◌, true, List, [], ◌∷◌, Option, Some, None, length, slice_get, refl, sym, ap, arith}
 use Rattle.std.specs.Prelude.{option_and_then, option_map}
@@ -38,7 +38,7 @@ use Rattle.fragment_paths.proofs.ImageLemmas.{address-image, fragment-image}
 no-address : (s : Model) (o : ObjectNo) → resource_of (above s.links) o ≡ None → address (reading s) o ≡ None
 no-address s o none = ap (option_and_then (λ (k : ResourceNo). option_and_then (λ u. option_map (address_text u) (fragment (reading s) o)) (slice_get s.values.uris k.0))) none
 
--- what stands at an address is found by it
+-- what is at an address is found by it
 pub address-finds : (s : Model) → IsLegal s → (o : ObjectNo) (a : List ℕ) → address (reading s) o ≡ Some a → at (reading s) a ≡ Some o
 address-finds s legal o a is = by (resource_of (above s.links) o) refl
   where

@@ -46,7 +46,7 @@ find r k p = option_and_then (walked r p.steps) (slice_get (roots r k) p.root)
 abbrev pub found_by : Reading → ResourceNo → List ℕ → Option ObjectNo
 found_by r k t = option_and_then (find r k) (parse t)
 
--- what the fragment behind the first `#` finds in the resource whose URI stands before it
+-- what the fragment after the first `#` finds in the resource whose URI is before it
 abbrev pub at : Reading → List ℕ → Option ObjectNo
 at r t =
     if has_mark t then option_and_then (λ k. found_by r k (fragment_part t)) (resource_named r (uri_part t)) else None

@@ -16,7 +16,7 @@ use Rattle.web_uris.specs.Paths.{new_path, new_step, path_text, with_step}
 use Rattle.web_uris.specs.declared.path.Path.{Path}
 use Rattle.web_uris.specs.declared.path.Step.{Step}
 
--- where an object stands in the end that holds it
+-- where an object is in the end that holds it
 abbrev pub position_in : Reading → End → ObjectNo → ℕ
 position_in r e o = unwrap_or (first_at r e (value.Object o)) 0
 

@@ -22,6 +22,6 @@ located r o = option_and_then (λ k. option_map (λ p. record { resource = k; pa
 abbrev pub located_text : Reading → Located → List ℕ
 located_text r x = path_text (has_one_root r x.resource) x.path
 
--- behind the URI of that resource
+-- after the URI of that resource
 abbrev pub located_address : Reading → Located → Option (List ℕ)
 located_address r x = option_map (λ u. address_text u (located_text r x)) (slice_get r.uris x.resource.0)

@@ -93,7 +93,7 @@ apart_filter p [] apart = tt
 apart_filter p (t ∷ ts) apart =
     elim (p t) as (λ b. AreApart (if b then t ∷ filter p ts else filter p ts)) [ true ↦ (all_filter (λ (u : FeatureChange). t.at ≡ u.at → ⊥) p ts apart.0, apart_filter p ts apart.1) | false ↦ apart_filter p ts apart.1 ]
 
--- one more telling, at another end than all those before it
+-- one more telling, at an end other than all those before it
 apart_push : (ts : List FeatureChange) (u : FeatureChange) → AreApart ts → AllByRecursion (λ (t : FeatureChange). t.at ≡ u.at → ⊥) ts → AreApart (ts ++ u ∷ [])
 apart_push ts u apart away = apart_append ts (u ∷ []) apart (tt, tt) (all_weaker _ _ ts (λ t h. (h, tt)) away)
 
@@ -118,7 +118,7 @@ told-agreeing m e d (t ∷ ts) apart same =
     ap (λ h. notice_of (shape m t.at.feature) t.at t.does h ∷ told m next ts) same.0
     ∙ ap (λ ns. read_in m e t ∷ ns) (told-agreeing m e next ts apart.1 (all_weaker _ _ ts kept (all_both _ _ ts apart.0 same.1)))
 
--- where no end is told twice, each notice is the one that is read in the ends as they are
+-- if no end is told twice, each notice is the one that is read in the ends as they are
 pub told-apart : (m : Metamodel) (e : Ends) (ts : List FeatureChange) → AreApart ts → told m e ts ≡ map (λ t. notice_of (shape m t.at.feature) t.at t.does (e t.at)) ts
 told-apart m e ts apart = told-agreeing m e e ts apart (all_of (λ (t : FeatureChange). e t.at ≡ e t.at) ts (λ t. refl))
 
@@ -202,7 +202,7 @@ module _ (s : Model) (legal : IsLegal s) where
       each : (t : LinkEnd) → t.end ≡ e → AllByRecursion (λ (x : FeatureChange). x.at ≡ e → ⊥) (far_loss (reading s) t)
       each t is = by t (turned (reading s) t) is refl
 
-  -- links that stand in one end, told at their far ends
+  -- links that are in one end, told at their far ends
   far-name : (e : End) (t y : LinkEnd) → t.end ≡ e → turned (reading s) t ≡ Some y → y.value ≡ node_value e.node
   far-name e t y is turns = by t.value (shape s.metamodel t.end.feature).opposite turns ∙ ap (λ (d : End). node_value d.node) is
     where

@@ -36,7 +36,7 @@ abbrev pub stored_for : FeatureNo → Option ObjectState → Stored
 stored_for f None = nothing_stored
 stored_for f (Some o) = stored_under o f
 
--- what an end holds, where these links stand there and this is stored
+-- what an end holds, where these links are there and this is stored
 abbrev pub held_of : Shape → List Value → Stored → Held
 held_of a vs h = record { values = shown a.is_single (if a.is_reference then vs else attribute_values a h.list); flag = h.flag }
 

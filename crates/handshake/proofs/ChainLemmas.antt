@@ -261,7 +261,7 @@ alone-replays s legal e i x is alone d =
     at-own s.metamodel e d (feature_change e (Resolves i v) ∷ []) (held_at (reading s) d) (own-one e (Resolves i v)) other
     ∙ same-held s s.links u d (sym (ends d ∙ ap (λ (b : Bool). if b then now s legal e i x is else end s.links d) other)))
 
--- and where a proxy stands at both ends
+-- and where a proxy is at both ends
 joint-replays : (s : Model) (legal : IsLegal s) (e : End) (i : ℕ) (x : Target) (is : IsResolvable (reading s) e i x) (g : FeatureNo) (opposite : (shape s.metamodel e.feature).opposite ≡ Some g) (j : ℕ) (text : List ℕ)
     (stands : slice_get ((reading s).values (far_end x.object g)) j ≡ Some (value.Proxy text))
     → Replays s (feature_change (far_end x.object g) (Resolves j (node_value e.node)) ∷ feature_change e (Resolves i (value.Object x.object)) ∷ []) (relinked s (joint s legal e i x is g opposite j text stands))
@@ -322,7 +322,7 @@ plain-set s n f v legal has single plain =
       | false ↦ λ attribute. by-object s f (λ n. Replays s (feature_change (at_end n f) (Gains v) ∷ []) (record s { values = applied s.values (put_values (at_end n f) (v ∷ []) a.is_unsettable) })) attribute (λ o has. single-set s legal o f has attribute v single) n has
     ] refl
 
--- nothing stands at a single end where its new link is put
+-- nothing is at a single end where its new link is put
 new-put_set : (s : Model) (legal : IsLegal s) (e : End) (o : ObjectNo) (new : IsNewLink s e o) → (shape s.metamodel e.feature).is_single ≡ true
     → put (without_displaced s e o) e 0 o (shape s.metamodel e.feature).opposite (shape s.metamodel e.feature).containing ≡ with_value (without_link_ends s.links (yields (reading s) e o)) (reading s) e None (value.Object o)
 new-put_set s legal e o new single =
@@ -471,7 +471,7 @@ take-changes s n f i legal has many low =
       | false ↦ λ attribute. by-object s f (λ n. nat_lt i (length (r.values (at_end n f))) ≡ true → Replays s (feature_change (at_end n f) (LosesAt i) ∷ []) (record s { values = applied s.values (take_value (at_end n f) i) })) attribute (λ o has low. list-taken s legal o f has attribute many i low) n has low
     ] refl
 
--- a value that first stands at a position is there
+-- a value that first is at a position is there
 first-low : (vs : List Value) (v : Value) (i : ℕ) → first_in vs v ≡ Some i → nat_lt i (length vs) ≡ true
 first-low vs v i h =
     let low = first-below vs v i (sym h) in

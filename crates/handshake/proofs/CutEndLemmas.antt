@@ -63,7 +63,7 @@ same-held s t u d same =
     let a = shape s.metamodel d.feature in
     ap (λ (vs : List Value). record { values = shown a.is_single (if a.is_reference then vs else attribute_values a (kept_values s.values d.node d.feature)); flag = kept_flag s.values d.node d.feature }) same
 
--- what an end of a single reference holds, where at most one value stands there
+-- what an end of a single reference holds, where at most one value is there
 module _ (s : Model) (t : Links) (d : End) (legal : IsLegal s) (reference : (shape s.metamodel d.feature).is_reference ≡ true) (single : (shape s.metamodel d.feature).is_single ≡ true) where
   pub held-none : end t d ≡ [] → lost (shape s.metamodel d.feature) ≡ held_at (reading (record s { links = t })) d
   held-none none =

@@ -80,7 +80,7 @@ pub all_weaker : {X : Type 0} (P Q : X → Type 0) (xs : List X) → ((x : X) �
 all_weaker P Q [] weaker all = tt
 all_weaker P Q (x ∷ xs) weaker all = (weaker x all.0, all_weaker P Q xs weaker all.1)
 
--- what is true of what stands at each position
+-- what is true of what is at each position
 pub all_at : {X : Type 0} (P : X → Type 0) (xs : List X) → ((k : ℕ) (x : X) → slice_get xs k ≡ Some x → P x) → AllByRecursion P xs
 all_at P [] at = tt
 all_at P (x ∷ xs) at = (at 0 x refl, all_at P xs (λ k y h. at (suc k) y h))
@@ -197,11 +197,11 @@ opposite_end-reference s e o d legal is = by (shape s.metamodel e.feature).oppos
     by None _ h = absurd (none-some d h)
     by (Some g) opposite h = subst (λ (x : End). (shape s.metamodel x.feature).is_reference ≡ true) (same_Some (far_end o g) d h) (far-reference s.metamodel legal.metamodel e.feature g opposite)
 
--- the value of the name stands in its end
+-- the value of the name is in its end
 abbrev pub Stands : Links → LinkEnd → Type 0
 Stands s t = Has s t.end t.value
 
--- what is held stands where it is held
+-- what is held is where it is held
 pub held_stands : (s : Links) → IsLegalSet s → (n : Node) (d : End) → holder s n ≡ Some d → Has s d (node_value n)
 held_stands s legal n d h =
     let l = holder-some s n d h in
@@ -325,7 +325,7 @@ left-cuts s (Delete o) legal early =
     sym (without_all-nodes m (kinds-are s.metamodel legal.metamodel) s.links (gone r o) (names_of (tree_link_ends r o)) legal.links.set legal.links.kinds (tree-named s legal o (delete-named r o early)).all)
 left-cuts s c legal early = without_link_ends-names_of s.links (cut_link_ends (reading s) c)
 
--- each link that a change cuts stands where its name says
+-- each link that a change cuts is where its name says
 pub cuts-stand : (s : Model) (c : Change) → IsLegal s → early_refusal (reading s) c ≡ None → AllByRecursion (Stands s.links) (cut_link_ends (reading s) c)
 cuts-stand s (Delete o) legal early = all_from_map (λ (t : End × Value). Has s.links t.0 t.1) (λ (t : LinkEnd). (t.end, t.value)) (tree_link_ends (reading s) o) (tree-named s legal o (delete-named (reading s) o early)).there
 cuts-stand s (At e (Set v)) legal early = set-cuts (AllByRecursion (Stands s.links)) s e.node e.feature tt v (λ reference _. cut_by_set-stand s e v legal reference)

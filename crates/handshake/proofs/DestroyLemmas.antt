@@ -197,7 +197,7 @@ module _ (s : Model) (legal : IsLegal s) (o : ObjectNo) (live : is_live (reading
   root-goes : goes g root ≡ true
   root-goes = goes-itself
 
-  -- where all that an end of another node than the holder's has of it is lost before
+  -- where all that an end of a node other than the holder's has of it is lost before
   kept-elsewhere : (d : End) → is_held_by r o d ≡ false → kept_at r o d ≡ filter (λ w. not (goes g w)) (r.values d)
   kept-elsewhere d other =
       filter-same (λ w. not (is_lost r o d w)) (λ w. not (goes g w)) (λ w. ap (λ (b : Bool). not (goes g w && not (b && same_value w root))) other ∙ ap not (and-true (goes g w))) (r.values d)

@@ -28,9 +28,9 @@ pub made-step : {X Y : Type 0} (f : X → Y) (old rest : List X) (x : X) (out ne
 made-step f old rest x out new all steps made whole =
     ap (λ ys. ys ++ map f rest) made ∙ append_assoc out (f x ∷ []) (map f rest) ∙ ap (λ xs. out ++ map f xs) (sym steps) ∙ whole
 
----------------------------------------------------------------- where a value stands
+---------------------------------------------------------------- where a value is
 
--- a value that is not there stands past the end
+-- a value that is not there is past the end
 pub index_past : (vs : List Value) (v : Value) → has_value vs v ≡ false → index_in vs v ≡ length vs
 index_past [] v h = refl
 index_past (w ∷ ws) v h =
@@ -97,7 +97,7 @@ take-whole (v ∷ vs) = ap (λ (ws : List Value). v ∷ ws) (take-whole vs)
 one-less : (k : ℕ) → suc k - 1 ≡ k
 one-less k = omega arith
 
--- the same, from the position behind the value
+-- the same, from the position after the value
 pub backwards-before : (e : End) (vs : List Value) (k : ℕ) (out new all : List LinkEnd) → 0 < k → k ≤ length vs → new ≡ out ++ option_to_list (option_map (link_end e) (slice_get vs (k - 1)))
     → out ++ link_ends_backwards e (take k vs) ≡ all → new ++ link_ends_backwards e (take (k - 1) vs) ≡ all
 backwards-before e vs zero out new all some low made whole = absurd (omega (arith, some))

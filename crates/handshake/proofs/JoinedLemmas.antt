@@ -1,4 +1,4 @@
--- What ends hold where objects took the places of proxies: which proxies still stand, and which objects do.
+-- What ends hold where objects took the places of proxies: which proxies are left, and which objects are there.
 use Rattle.std.proofs.Common.{◌≡◌, inl, inr, ℕ, zero, suc, ◌&&◌, ◌||◌, nat_eq, not, Bool, true, false, List, [], ◌∷◌, Option, Some, None, is_some, length, option_map, slice_get, if◌then◌else◌, refl, sym, ap, ◌∙◌, subst, arith}
 use Rattle.std.specs.Prelude.{cond, option_and_then, position, slice_set}
 use Rattle.std.specs.List.{list_any}
@@ -57,7 +57,7 @@ key-from p q same index =
 
 ---------------------------------------------------------------- proxies
 
--- a proxy stands at a position
+-- a proxy is at a position
 abbrev pub is_proxy_in : (End → List Value) → ProxySite → Bool
 is_proxy_in ends p = is_some (option_and_then text_of (slice_get (ends (end_of p)) p.index))
 
@@ -168,7 +168,7 @@ later-any : (b : Bool) (q : Option ℕ) (i : ℕ) → ((j : ℕ) → q ≡ Some 
 later-any b None i each h = absurd (none-some i h)
 later-any b (Some j) i each h = each j refl
 
--- where there is a first that passes, one passes
+-- if there is a first that passes, one passes
 pub position-any : {X : Type 0} (test : X → Bool) (xs : List X) (i : ℕ) → position test xs ≡ Some i → list_any test xs ≡ true
 position-any test [] i h = absurd (none-some i h)
 position-any test (x ∷ xs) i h =

@@ -177,7 +177,7 @@ act-there r e (Resolve i) h = feature-named r e.node e.feature h
 
 ---------------------------------------------------------------- late refusals
 
--- a proxy stands at the index, and an object of the reference's type, which is not in the list, may take its position
+-- a proxy is at the index, and an object of the reference's type, which is not in the list, may take its position
 pub record IsResolvable (r : Reading) (e : End) (i : ℕ) (x : Target) : Type 0 where
   pub reference : (shape r.metamodel e.feature).is_reference ≡ true
   pub low : nat_lt i (length (r.values e)) ≡ true
@@ -264,7 +264,7 @@ set-taken r n f v h =
     let typed = typed-of r f v both.0 in
     record { takes = typed.takes; short = typed.short; allowed = both.1 }
 
--- an addition that nothing refuses: besides, the position is one of the list or the one behind the last
+-- an addition that nothing refuses: besides, the position is one of the list or the one after the last
 pub record IsAdded (r : Reading) (n : Node) (f : FeatureNo) (v : Value) (i : Option ℕ) : Type 0 where
   pub takes : takes r f v ≡ true
   pub short : is_short v ≡ true

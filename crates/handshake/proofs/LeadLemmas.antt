@@ -73,7 +73,7 @@ module _ (r : Reading) (b : ObjectNo) (f : FeatureNo) (a : ObjectNo) where
 
   ---------------------------------------------------------------- at the end
 
-  -- what stands at an index leads to the object where its lead does
+  -- what is at an index leads to the object where its lead does
   by-value : (n : ℕ) (v : Value) → slice_get (r.values e) n ≡ Some v → is_by k (lead r (site b f n)) ≡ leads_back v
   by-value n v at_n = ap (λ (q : Option Value). option_map_or (λ (o : ObjectNo). same_key (key b f o.0) k) (option_and_then (at r) (option_and_then text_of q)) false) at_n ∙ by (option_and_then (at r) (text_of v))
     where

@@ -304,7 +304,7 @@ abbrev pub IsUntouched : (Node → Bool) → End → List Value → Type 0
 IsUntouched g e [] = Unit {0}
 IsUntouched g e (v ∷ vs) = (g e.node ≡ false) × AllByRecursion (λ (w : Value). goes g w ≡ false) (v ∷ vs)
 
--- where nothing goes
+-- if nothing goes
 abbrev pub none_goes : Node → Bool
 none_goes n = false
 

@@ -32,9 +32,9 @@ use Rattle.handshake.specs.Displaced.{other_side, same_link, same_link_end, turn
 use Rattle.removal.specs.TreeLinkEnds.{link_end}
 use Rattle.removal.specs.declared.link_end.LinkEnd.{LinkEnd}
 
----------------------------------------------------------------- what stands in legal ends
+---------------------------------------------------------------- what is in legal ends
 
--- an end in which something stands is one of a reference of its node
+-- an end that has something is one of a reference of its node
 pub record IsOpen (s : Model) (e : End) : Type 0 where
   pub has : has_feature (reading s) e.node e.feature ≡ true
   pub reference : (shape s.metamodel e.feature).is_reference ≡ true

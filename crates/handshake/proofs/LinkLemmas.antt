@@ -1,4 +1,4 @@
--- A new link: what is known where nothing refuses it, and that it fits behind the cuts of what it displaces.
+-- A new link: what is known if nothing refuses it, and that it fits after the cuts of what it displaces.
 use Rattle.std.proofs.Common.{◌≡◌, ℕ, zero, suc, ◌<◌, ◌≤◌, nat_le, Bool, true, false, List, [], length, slice_get, Option, Some, None, option_map, option_to_list, unwrap_or, if◌then◌else◌, refl, sym, ap, ◌∙◌, subst, arith}
 use Rattle.std.specs.List.{list_any}
 use Rattle.std.specs.Option.{option_map_or}
@@ -158,7 +158,7 @@ clear-of s e o (Some h) is x d at_x at_d =
 clear-cut : (s : Model) (ts : List (End × Value)) → IsLegal s → (x d : Node) → IsClear s.links x d → IsClear (without_all s.links ts) x d
 clear-cut s ts legal x d clear = (clear.0, without_all_above s.links ts legal.links.set legal.links.forest d x clear.1)
 
----------------------------------------------------------------- the put behind the cuts
+---------------------------------------------------------------- the put after the cuts
 
 module _ (s : Model) (legal : IsLegal s) (e : End) (o : ObjectNo) (new : IsNewLink s e o) where
   abbrev left : Links

@@ -1,4 +1,4 @@
--- The chain of a load: the list of the resource's roots gains each root, one behind the other, and nothing else that was there changes.
+-- The chain of a load: the list of the resource's roots gains each root, one after the other, and nothing else that was there changes.
 use Rattle.std.proofs.Common.{◌≡◌, ◌∙◌, ◌+◌, ◌++◌, ℕ, Bool, true, false, List, [], ◌∷◌, Some, None, append_assoc, append-nil, length, map, nat_le, nat_lt, not, pos, if◌then◌else◌, arith, refl, sym, ap, subst, ◌<◌}
 use Rattle.std.specs.List.{AllByRecursion, enumerate_from}
 use Rattle.std.proofs.lemmas.Bool.{true≢false}
@@ -68,7 +68,7 @@ some-length : (vs : List Value) → not (is_nil vs) ≡ nat_lt 0 (length vs)
 some-length [] = refl
 some-length (v ∷ vs) = grind (arith, nat_tests)
 
--- the notice of a gain behind so many values
+-- the notice of a gain after so many values
 gain-notice : (m : Metamodel) (e : End) (many : (shape m e.feature).is_single ≡ false) (n : ℕ) (h : Held) (j : ℕ) (o : ObjectNo) → length h.values ≡ j
     → notice_of (shape m e.feature) e (Gains (value.Object (loaded n o))) h ≡ root_notice n e (j, o)
 gain-notice m e many n h j o len =

@@ -37,7 +37,7 @@ use Rattle.handshake.proofs.LoadLemmas.{few, no-roots, room, sound}
 use Rattle.handshake.proofs.YieldLemmas.{holder-contains}
 use Rattle.models.specs.Reading.{contents_end}
 
--- an object that stands at an end of a containment is held there
+-- an object that is at an end of a containment is held there
 pub stands-held : (s : Model) → IsLegal s → (e : End) (i : ℕ) (o : ObjectNo) → (shape s.metamodel e.feature).containing ≡ Some e.feature → slice_get (end s.links e) i ≡ Some (value.Object o)
     → holder s.links (node.Object o) ≡ Some e
 stands-held s legal e i o own at =
@@ -68,7 +68,7 @@ module _ (s : Model) (k : ResourceNo) (doc : Doc) (legal : IsLegal s) (early : e
       let low : o.0 < length s.values.objects = grind (arith, nat_tests) in
       low
 
-  -- where nothing stands, no object does
+  -- if nothing is, no object does
   not-there : (vs : List Value) (i : ℕ) (o : ObjectNo) → vs ≡ [] → slice_get vs i ≡ Some (value.Object o) → ⊥
   not-there vs i o none at = none-some (value.Object o) (sym (ap (λ (us : List Value). slice_get us i) none) ∙ at)
 

@@ -1,4 +1,4 @@
--- A document that is loaded into a legal model, where nothing refuses it: its numbers and its resource are free, and its edits make its
+-- A document that is loaded into a legal model, if nothing refuses it: its numbers and its resource are free, and its edits make its
 -- links.
 use Rattle.std.proofs.Common.{◌≡◌, ◌∙◌, ◌+◌, ◌≤◌, ℕ, zero, suc, Bool, true, false, List, [], ◌∷◌, Option, Some, None, is_some, length, slice_get, slice_index_or, option_map, nat_le, arith, refl, sym, ap, subst}
 use Rattle.std.specs.List.{list_all}
@@ -84,7 +84,7 @@ module _ (s : Model) (legal : IsLegal s) where
   pub unborn : (o : ObjectNo) → n ≤ o.0 → class_of s.values o ≡ None
   unborn o past = ap (option_map (λ x. x.class)) (past-none s.values.objects o.0 past)
 
-  -- nothing stands at an end of one, and it stands at no end
+  -- nothing is at an end of one, and it is at no end
   pub unborn-end : (o : ObjectNo) (f : FeatureNo) → n ≤ o.0 → end s.links (at_end (node.Object o) f) ≡ []
   unborn-end o f past = by (end s.links e) (legal.links.ends e)
     where

@@ -40,7 +40,7 @@ before [] ys i low = absurd (omega (arith, low))
 before (o ∷ os) ys zero low = refl
 before (o ∷ os) ys (suc i) low = before os ys i (omega (arith, low))
 
--- what is put behind a position changes nothing there
+-- what is put after a position changes nothing there
 set-behind : (os : Objects) (k i : ℕ) (x : Option ObjectState) → i < k → slice_index_or (slice_set os k x) i None ≡ slice_index_or os i None
 set-behind [] k i x low = refl
 set-behind (o ∷ os) zero i x low = absurd (omega (arith, low))

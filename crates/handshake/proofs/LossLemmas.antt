@@ -39,7 +39,7 @@ happened_at-other_losses r e o (t ∷ ts) d h kept =
     ∙ ap (happened_at m (flat_map (losses r) ts) d) (happened_at-filter m (λ x. not (is_replaced r e o x)) (losses r t) d h (ap not kept))
     ∙ sym (happened_at-append m (losses r t) (flat_map (losses r) ts) d h)
 
--- at another end than the near one, the far losses are all
+-- at an end other than the near one, the far losses are all
 pub happened_at-far_loss : (r : Reading) (t : LinkEnd) (d : End) (h : Held) → same_end t.end d ≡ false → happened_at r.metamodel (far_loss r t) d h ≡ happened_at r.metamodel (losses r t) d h
 happened_at-far_loss r t d h other = by (turned r t)
   where

@@ -75,9 +75,9 @@ add-new s n f o i early late h =
       linkable = linkable r e o (add-gains r e (value.Object o) i both.1 (add-taken r n f (value.Object o) i late).allowed);
     }
 
----------------------------------------------------------------- the edit behind the cuts
+---------------------------------------------------------------- the edit after the cuts
 
--- edits behind the cuts fit, and make of the links that are left what the change makes
+-- edits after the cuts fit, and make of the links that are left what the change makes
 record ArePuts (s : Model) (t : Links) (xs : List Edit) (u : Links) : Type 0 where
   pub fits : PlanFits t xs
   pub of_kind : IsPlanOfKind (kinds_of s.metamodel) xs

@@ -1,4 +1,4 @@
--- Where the first value stands that passes a test.
+-- The position of the first value that passes a test.
 use Rattle.std.proofs.Common.{◌≡◌, ℕ, zero, suc, ◌<◌, Bool, true, false, List, [], ◌∷◌, length, slice_get, Option, Some, None, option_map, refl, sym, ap, ◌∙◌, subst, arith}
 use Rattle.std.specs.Prelude.{cond, position}
 use Rattle.std.proofs.lemmas.Option.{none-some, same_Some}
@@ -25,7 +25,7 @@ pub position-none : (p : Value → Bool) (vs : List Value) → NonePass p vs (le
 position-none p [] none = refl
 position-none p (w ∷ ws) none = passed p w ws (none 0 w (omega arith) refl) ∙ ap (option_map suc) (position-none p ws (later p w ws (length ws) none))
 
--- a value stands at an index, and passes
+-- a value is at an index, and passes
 abbrev pub Passes : (Value → Bool) → List Value → ℕ → Type 0
 Passes p vs j = (v : Value) × (slice_get vs j ≡ Some v) × (p v ≡ true)
 

@@ -52,7 +52,7 @@ use Rattle.handshake.proofs.ResolveLemmas.{site-below}
 
 ---------------------------------------------------------------- refusals
 
--- where a proxy stands at a position of a list and has a URI that is there, three reasons are left
+-- where a proxy is at a position of a list and has a URI that is there, three reasons are left
 three-left : (m d w : Bool) → is_some (WrongType where_so m else_by Index unless true else_by Duplicate where_so d else_by NotProxy unless true else_by Unloaded where_so false else_by Unresolved unless true else_by Unmatched where_so w) ≡ (m || (d || w))
 three-left true d w = refl
 three-left false true w = refl

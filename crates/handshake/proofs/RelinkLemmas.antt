@@ -188,7 +188,7 @@ module _ (s : Model) (legal : IsLegal s) (e : End) (o : ObjectNo) (new : IsNewLi
         ∙ done-other m d (feature_change e gain) (happened_at m before d (held_at r d)) other
         ∙ happened_at-append m kept (far_gain r e o) d (held_at r d)
 
-    -- the far end has the node alone, or behind what it has
+    -- the far end has the node alone, or after what it has
     far-gained : (g : FeatureNo) (is : (shape s.metamodel e.feature).opposite ≡ Some g) → same_end e (far_end o g) ≡ false → done (shape s.metamodel g) (Gains (node_value e.node)) (happened_at s.metamodel kept (far_end o g) (held_at (reading s) (far_end o g))) ≡ held_in s joined (far_end o g)
     far-gained g is other =
         let a = shape s.metamodel g in

@@ -20,7 +20,7 @@ use Rattle.handshake.specs.declared.change_kind.FeatureChange.{FeatureChange}
 
 ---------------------------------------------------------------- what tellings report is what they do
 
--- a value that is added behind the last stands there
+-- a value that is added after the last is there
 added-length : (vs : List Value) (v : Value) → added vs (pos (length vs)) v ≡ vs ++ v ∷ []
 added-length vs v = rw (lt-ltb (length vs) (suc (length vs)) (omega arith)) (insert_end vs v)
 
@@ -37,7 +37,7 @@ cons-if : (b : Bool) (v : Value) (xs ys : List Value) → (if b then v ∷ xs el
 cons-if true v xs ys = refl
 cons-if false v xs ys = refl
 
--- what is removed where a value stands is the list without it
+-- removed at the position of a value is the list without it
 pub removed-index : (vs : List Value) (v : Value) → removed vs (pos (index_in vs v)) ≡ without vs v
 removed-index [] v = refl
 removed-index (w ∷ ws) v =

@@ -71,7 +71,7 @@ leads-on s es xs ts us u w ends more one two =
 
 ---------------------------------------------------------------- one proxy
 
--- a proxy that can be resolved stands under a feature of an object that lives
+-- a proxy that can be resolved is under a feature of an object that lives
 named-there : (r : Reading) (o : ObjectNo) (f : FeatureNo) → has_feature r (node.Object o) f ≡ true → early_refusal r (At (at_end (node.Object o) f) (Resolve 0)) ≡ None
 named-there r o f has = by (r.class o) refl has
   where

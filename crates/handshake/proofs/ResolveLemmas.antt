@@ -1,5 +1,5 @@
--- What resolving a proxy makes of the links: the object stands where the proxy stood, and all else is as it was, but that in a reference
--- with an opposite the object that refers stands where the proxy of the same link stood.
+-- What resolving a proxy makes of the links: the object is where the proxy was, and all else is as it was, but that in a reference
+-- with an opposite the object that refers is where the proxy of the same link was.
 use Rattle.std.proofs.Common.{◌≡◌, ℕ, zero, suc, ◌<◌, ◌≤◌, ◌&&◌, ◌||◌, not, Bool, true, false, List, [], ◌∷◌, ◌++◌, filter, length, slice_get, insert, remove, Option, Some, None, is_some, option_map, option_to_list, if◌then◌else◌, refl, sym, ap, ◌∙◌, subst, arith, ◌-◌}
 use Rattle.std.specs.Prelude.{slice_set}
 use Rattle.std.specs.List.{list_all}
@@ -240,7 +240,7 @@ module _ (s : Model) (legal : IsLegal s) (e : End) (i : ℕ) (x : Target) (is : 
     pub alone-outside : MakesNoCycle (left []) (edit.Put e i x.object a.opposite a.containing)
     alone-outside = outside [] alone-apart alone-fits
 
-    -- the object stands where the proxy stood, and each other end is as it was
+    -- the object is where the proxy was, and each other end is as it was
     pub end-alone : (d : End) → end (placed []) d ≡ swapped e now (end s.links) d
     end-alone d =
         elim (same_end e d) as (λ b. same_end e d ≡ b → end (placed []) d ≡ (if b then now else end s.links d)) [
@@ -336,7 +336,7 @@ module _ (s : Model) (legal : IsLegal s) (e : End) (i : ℕ) (x : Target) (is : 
         ∙ ap (λ (b : Bool). if b then end (left both) far ++ self ∷ [] else end (left both) far) (same_end-self far)
         ∙ ap (λ (vs : List Value). vs ++ self ∷ []) far-left
 
-    -- the new link stands last at the opposite end
+    -- the new link is last at the opposite end
     pub last-index : length (end (left both) far) ≡ length ((reading s).values far) - 1
     last-index =
         let less = length-without met j mate far-there in
@@ -366,7 +366,7 @@ module _ (s : Model) (legal : IsLegal s) (e : End) (i : ℕ) (x : Target) (is : 
         let n = length (end (left both) far) in
         end-shift_other (placed both) (placed-legal both both-apart joint-fits).placed far j n shift-fits.0 shift-fits.1 d (λ same. true≢false (sym (same_end-self far) ∙ ap (same_end far) same ∙ other))
 
-    -- the objects stand where the proxies stood, and each other end is as it was
+    -- the objects are where the proxies were, and each other end is as it was
     pub end-joint : (d : End) → end joint d ≡ swapped e now (swapped far far-now (end s.links)) d
     end-joint d =
         elim (same_end e d) as (λ b. same_end e d ≡ b → end joint d ≡ (if b then now else swapped far far-now (end s.links) d)) [

@@ -32,7 +32,7 @@ use Rattle.handshake.proofs.LinkLemmas.{new_edit}
 use Rattle.handshake.proofs.ResolveLemmas.{joint, one-cut, placed}
 use Rattle.handshake.proofs.TargetLemmas.{IsMatch, alone-of, match-is}
 
--- something holds of the links that are cut, the edits behind the cuts, what is told, and the links that are made
+-- something holds of the links that are cut, the edits after the cuts, what is told, and the links that are made
 abbrev pub Resolving : Type 1
 Resolving = List LinkEnd → List Edit → List FeatureChange → Links → Type 0
 

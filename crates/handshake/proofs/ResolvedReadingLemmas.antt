@@ -1,4 +1,4 @@
--- What can be read once a proxy is resolved: the object stands where the proxy stood, the object that refers where its counterpart stood, and
+-- What can be read once a proxy is resolved: the object is where the proxy was, the object that refers where its counterpart was, and
 -- all else is as it was.
 use Rattle.std.proofs.Common.{◌≡◌, ℕ, zero, suc, Bool, true, false, List, [], ◌∷◌, Option, Some, None, length, slice_get, if◌then◌else◌, refl, sym, ap, ◌∙◌, subst}
 use Rattle.std.specs.Prelude.{slice_set}
@@ -68,11 +68,11 @@ module _ (s : Model) (legal : IsLegal s) (e : End) (i : ℕ) (x : Target) (is : 
   abbrev kept : End → List Value
   kept d = attribute_values (shape s.metamodel d.feature) (kept_values s.values d.node d.feature)
 
-  -- what stands at an end that is a reference, or an attribute
+  -- what is at an end that is a reference, or an attribute
   abbrev out : End → Bool → Links → List Value
   out d b t = if b then end t d else kept d
 
-  -- it is another end than an attribute's
+  -- it is an end other than an attribute's
   attribute-apart : (y d : End) → (shape s.metamodel y.feature).is_reference ≡ true → (shape s.metamodel d.feature).is_reference ≡ false → same_end y d ≡ false
   attribute-apart y d reference attribute = elim (same_end y d) as (λ b. same_end y d ≡ b → b ≡ false) [
     | true ↦ λ same. absurd (true≢false (sym reference ∙ ap (λ (z : End). (shape s.metamodel z.feature).is_reference) (same_end-true y d same) ∙ attribute))
@@ -156,7 +156,7 @@ module _ (s : Model) (legal : IsLegal s) (o : ObjectNo) (f : FeatureNo) (i : ℕ
   object-all (v ∷ vs) zero w all here = subst (λ (y : Value). lookups.is_object y ≡ true) (same_Some v w here) (and_parts _ _ all).0
   object-all (v ∷ vs) (suc k) w all here = object-all vs k w (and_parts _ _ all).1 here
 
-  -- a proxy stands at another end
+  -- a proxy is at another end
   proxy-apart : (d : End) → is_containment s.metamodel d.feature ≡ true → (y : End) (k : ℕ) (text : List ℕ) → slice_get (values_at s y) k ≡ Some (value.Proxy text) → same_end y d ≡ false
   proxy-apart d contains y k text at = elim (same_end y d) as (λ b. same_end y d ≡ b → b ≡ false) [
     | true ↦ λ same.

@@ -81,7 +81,7 @@ pub flat-same : {X : Type 0} (P : Resolution → Type 0) (f : Resolution → Lis
 flat-same P f g same [] all = refl
 flat-same P f g same (y ∷ ys) all = λ i. same y all.0 i ++ flat-same P f g same ys all.1 i
 
----------------------------------------------------------------- a proxy that still stands
+---------------------------------------------------------------- a proxy that is still
 
 -- it stood there before
 slot-same : (r : Reading) (ends : End → List Value) → Follows r ends → (d : End) (j : ℕ) (t : List ℕ) → slice_get (ends d) j ≡ Some (value.Proxy t) → slice_get (r.values d) j ≡ Some (value.Proxy t)
@@ -259,7 +259,7 @@ flat-filter : {X Y : Type 0} (N : Y → Bool) (f g : X → List Y) → ((x : X) 
 flat-filter N f g same [] = refl
 flat-filter N f g same (x ∷ xs) = (λ i. same x i ++ flat-filter N f g same xs i) ∙ sym (filter-append N (g x) (flat_map g xs))
 
--- the proxies that stand afterwards are those of before that are not gone
+-- the proxies that are afterwards are those of before that are not gone
 pub left-sites : (r : Reading) (ends : End → List Value) (N : ProxySite → Bool) → ((d : End) → length (ends d) ≡ length (r.values d)) → ((p : ProxySite) → is_proxy_site (record r { values = ends }) p ≡ (is_proxy_site r p && N p))
     → sites (record r { values = ends }) ≡ filter N (sites r)
 left-sites r ends N long same =

@@ -36,7 +36,7 @@ leads-proxy r n _ h = absurd (false≢true h)
 abbrev counted : End → ℕ → Counterpart
 counted d j = record { end = d; index = j }
 
--- the first that leads to a node is found, and none where none does
+-- the first that leads to a node is found, and none if none does
 pub first-found : (r : Reading) (n : Node) (d : End) (j : ℕ) → option_map_or (λ o. same_node (node.Object o) n) (option_and_then (at r) (proxy_at r d j)) false ≡ true → NonePass (leads_to r n) (r.values d) j
     → Some (record { end = d; index = j }) ≡ first_to r n d
 first-found r n d j h none = by (slice_get (r.values d) j) refl h
@@ -50,7 +50,7 @@ first-lacking r n d i past none = sym (ap (option_map (counted d)) (position-non
 
 ---------------------------------------------------------------- what is found
 
--- a proxy stands at the opposite end
+-- a proxy is at the opposite end
 pub record IsMatch (r : Reading) (e : End) (o : ObjectNo) (c : Counterpart) : Type 0 where
   pub feature : FeatureNo
   pub opposite : (shape r.metamodel e.feature).opposite ≡ Some feature
@@ -83,7 +83,7 @@ match-apart r e o g d opposite =
       | false ↦ λ _. refl
     ] refl
 
--- a proxy stands at an index, and finds an object
+-- a proxy is at an index, and finds an object
 pub record IsFound (r : Reading) (e : End) (i : ℕ) (x : Target) : Type 0 where
   pub text : List ℕ
   pub proxy : slice_get (r.values e) i ≡ Some (value.Proxy text)

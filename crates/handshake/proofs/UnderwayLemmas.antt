@@ -206,7 +206,7 @@ pub record IsUnderway (r : Reading) (left : List Lead) (g : Progress) : Type 0 w
 pub underway-from : (r : Reading) (g : Progress) → IsNothing g → IsUnderway r (leads r) g
 underway-from r g nothing = record { past = []; rest = sites r; all = refl; next = refl; known = none-known r g nothing }
 
--- proxies stand at all places
+-- proxies are at all places
 all-pass : (q : ProxySite → Bool) (xs : List ProxySite) → AllByRecursion (λ (x : ProxySite). q x ≡ true) (filter q xs)
 all-pass q [] = tt
 all-pass q (x ∷ xs) =

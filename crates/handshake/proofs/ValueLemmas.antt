@@ -106,7 +106,7 @@ no-opposite m f attribute = by (shape m f).opposite refl
     by None is = refl
     by (Some g) is = absurd (false≢true (sym attribute ∙ opposite-reference m f g is))
 
--- where no link is cut, and no opposite gains, it is told at the end alone
+-- if no link is cut, and no opposite gains, it is told at the end alone
 gain-near : (P : Node → Type 0) (r : Reading) (e : End) (v : Value) (k : ChangeKind) → (shape_at r e).is_reference ≡ false → P e.node → AllByRecursion (λ (t : FeatureChange). P t.at.node) (before_gain r e v [] ++ feature_change e k ∷ [])
 gain-near P r e (value.Object o) k attribute near =
     subst (λ (q : Option FeatureNo). AllByRecursion (λ (t : FeatureChange). P t.at.node) (option_map_or (λ d. feature_change d (Gains (node_value e.node)) ∷ []) (option_map (far_end o) q) [] ++ feature_change e k ∷ [])) (sym (no-opposite r.metamodel e.feature attribute)) (near, tt)

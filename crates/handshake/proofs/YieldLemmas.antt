@@ -1,4 +1,4 @@
--- Where the links come from that a new link displaces, and what a list keeps when they are cut.
+-- The links that a new link displaces, and what a list keeps when they are cut.
 use Rattle.std.proofs.Common.{◌≡◌, ℕ, zero, suc, ◌≤◌, eq-eqb, Bool, true, false, ◌&&◌, List, [], ◌∷◌, length, map, slice_get, Option, Some, None, option_map, option_to_list, if◌then◌else◌, refl, sym, ap, ◌∙◌, subst, inl, inr, arith}
 use Rattle.std.specs.Prelude.{◌⊎◌, ◌||◌}
 use Rattle.std.specs.List.{AllByRecursion, list_any}
@@ -144,7 +144,7 @@ neither : (a b : Bool) → a ≡ false → b ≡ false → (a || b) ≡ false
 neither a b h q = rw (h, q) refl
 
 module _ (s : Model) (legal : IsLegal s) (e : End) (o : ObjectNo) (has : has_feature (reading s) e.node e.feature ≡ true) (many : (shape s.metamodel e.feature).is_single ≡ false) where
-  -- the value of a list that is another than o
+  -- the value of a list that is other than o
   module _ (w : Value) (other : w ≡ value.Object o → ⊥) where
     other-value : same_value w (value.Object o) ≡ true → ⊥
     other-value h = other (same_value-true w (value.Object o) h)

@@ -35,7 +35,7 @@ same_link_end t u = same_end t.end u.end && same_value t.value u.value
 abbrev pub same_link : Reading → LinkEnd → LinkEnd → Bool
 same_link r t u = same_link_end t u || option_map_or (same_link_end t) (turned r u) false
 
--- those that stand in an end
+-- those that are in an end
 abbrev pub link_ends_at : Reading → End → List LinkEnd
 link_ends_at r e = map (link_end e) (r.values e)
 

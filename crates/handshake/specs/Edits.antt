@@ -28,7 +28,7 @@ abbrev pub new_put : Reading → End → ℕ → Value → Option Edit
 new_put r e i (value.Object o) = Some (Put e i o (shape_at r e).opposite (shape_at r e).containing)
 new_put r e i v = None
 
--- the edit behind the cuts, if there is one: it makes a link, or moves what stands in a list. What a single end had is cut by then
+-- the edit after the cuts, if there is one: it makes a link, or moves what is in a list. What a single end had is cut by then
 abbrev pub made_edit : Reading → Change → Option Edit
 made_edit r (At e (Set v)) = if is_plain_set r e v then None else new_put r e 0 v
 made_edit r (At e (Add v i)) = if is_plain_add r e v then None else new_put r e (position_for r e i) v

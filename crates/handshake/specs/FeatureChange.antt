@@ -73,7 +73,7 @@ changed a Unsets vs = a.default ∷ []
 changed a (Moves to from) vs = moved vs (pos from) (pos to)
 changed a (Resolves i v) vs = if a.is_single then v ∷ [] else resolved vs (pos i) v
 
--- the flag after it: a gain or loss of a single end turns it on, where there is one, and unsetting turns it off
+-- the flag after it: a gain or loss of a single end turns it on, if there is one, and unsetting turns it off
 abbrev pub flagged : Shape → ChangeKind → Bool → Bool
 flagged a (Gains v) b = if a.is_single then a.is_unsettable else b
 flagged a (GainsAt i v) b = b

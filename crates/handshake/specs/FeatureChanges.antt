@@ -80,7 +80,7 @@ gain_at (Some i) v = GainsAt i v
 abbrev pub taken_out : Reading → End → List LinkEnd → ℕ → List FeatureChange
 taken_out r e ts i = far_losses r ts ++ feature_change e (LosesAt i) ∷ []
 
--- nothing where no value is the same
+-- nothing if no value is the same
 abbrev pub value_taken_out : Reading → End → List LinkEnd → Value → List FeatureChange
 value_taken_out r e ts v = option_map_or (taken_out r e ts) (first_at r e v) []
 
@@ -114,7 +114,7 @@ abbrev pub resolves_all : Change → Bool
 resolves_all ResolveAll = true
 resolves_all _ = false
 
--- how many proxies it resolves, and how many stand afterwards
+-- how many proxies it resolves, and how many are afterwards
 abbrev pub resolved_by : Reading → Change → Option Resolved
 resolved_by r ResolveAll = Some (record { done = done r; left = left r })
 resolved_by r _ = None

@@ -55,7 +55,7 @@ target_by r g t x = option_and_then (λ o. unless_refused r g x.site (found_by r
 abbrev pub joint : ProxySite → Target → Joint
 joint p x = record { site = p; target = x }
 
--- the position of the counterpart, and the object that stands there then
+-- the position of the counterpart, and the object that is there then
 abbrev pub is_far_site : Target → Counterpart → Key → Bool
 is_far_site x c k = same_key k (key x.object c.end.feature c.index)
 
@@ -93,7 +93,7 @@ edits_by r j =
 abbrev pub told_by : Joint → List FeatureChange
 told_by j = resolved (end_of j.site) j.site.index j.target
 
--- these were resolved, and ends hold these values since: no proxy stands any more where one is gone, and the objects that are linked stand
+-- these were resolved, and ends hold these values since: a proxy is no longer where one is gone, and the objects that are linked are
 -- where they did not
 pub record IsKnown (r : Reading) (js : List Joint) (ends : End → List Value) (g : Progress) : Type 0 where
   pub joints : g.joints.items ≡ js

@@ -1,4 +1,4 @@
--- The proxies of a model, and what stands at their addresses.
+-- The proxies of a model, and what is at their addresses.
 use Rattle.std.specs.Prelude.{ℕ, Bool, false, List, [], ◌∷◌, map, Option, Some, None, option_and_then, if◌then◌else◌}
 use Rattle.std.specs.Option.{option_map_or}
 use Rattle.indexmap.specs.IndexMap.{get}

@@ -56,7 +56,7 @@ pub record HasObjectsOf (r : Reading) (doc : Doc) (t : Reading) : Type 0 where
 
 -- the roots of a document, in a resource
 pub record HasRootsOf (r : Reading) (k : ResourceNo) (doc : Doc) (t : Reading) : Type 0 where
-  -- they stand in their order
+  -- they are in their order
   pub contents : t.values (contents_end r.metamodel k) ≡ roots_loaded r.next doc
   -- each is held there
   pub holders : (i : ℕ) (o : ObjectNo) → slice_get doc.roots i ≡ Some o → t.holder (node.Object (loaded r.next o)) ≡ Some (contents_end r.metamodel k)

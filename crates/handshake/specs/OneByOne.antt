@@ -1,4 +1,4 @@
--- To resolve all proxies is to resolve one after another: each in the model that the earlier ones left, where nothing refuses it.
+-- To resolve all proxies is to resolve one after another: each in the model that the earlier ones left, if nothing refuses it.
 use Rattle.std.specs.Prelude.{◌≡◌, ℕ, zero, suc, Bool, List, [], ◌∷◌, ◌++◌, length, is_some, if◌then◌else◌}
 use Rattle.mm_types.specs.Conditions.{◌else_by◌}
 use Rattle.notice_chain.specs.declared.notice.Notice.{Notice}

@@ -1,4 +1,4 @@
--- The places where proxies stand, in the order in which all are resolved (EMF: EcoreUtil.resolveAll).
+-- The places where proxies are, in the order in which all are resolved (EMF: EcoreUtil.resolveAll).
 use Rattle.std.specs.Prelude.{ℕ, Bool, List, filter, flat_map, is_some, length, map}
 use Rattle.std.specs.List.{range_with_len}
 use Rattle.mm_types.specs.declared.end.End.{End}
@@ -16,11 +16,11 @@ site o f i = record { object = o; feature = f; index = i }
 abbrev pub end_of : ProxySite → End
 end_of p = at_end (node.Object p.object) p.feature
 
--- a proxy stands there
+-- a proxy is there
 abbrev pub is_proxy_site : Reading → ProxySite → Bool
 is_proxy_site r p = is_some (proxy_at r (end_of p) p.index)
 
--- the places of a feature of an object where proxies stand
+-- the places of a feature of an object where proxies are
 abbrev pub sites_under : Reading → ObjectNo → FeatureNo → List ProxySite
 sites_under r o f = filter (is_proxy_site r) (map (site o f) (range_with_len 0 (length (r.values (at_end (node.Object o) f)))))
 

@@ -44,7 +44,7 @@ is_recursive_for r e o h =
 abbrev pub is_recursive : Reading → End → ObjectNo → Bool
 is_recursive r e o = option_map_or (is_recursive_for r e o) (shape_at r e).containing false
 
--- how many values stand at an end
+-- how many values are at an end
 abbrev pub count_at : Reading → End → ℕ
 count_at r e = length (r.values e)
 
@@ -93,7 +93,7 @@ uri_refusal r u =
 abbrev pub is_mistyped : Reading → End → Option Target → Bool
 is_mistyped r e q = not (shape_at r e).is_reference || option_map_or (λ x. not (takes r e.feature (value.Object x.object))) q false
 
--- the object at a proxy's address stands in the list already
+-- the object at a proxy's address is in the list already
 abbrev pub is_there_already : Reading → End → Option Target → Bool
 is_there_already r e q = option_map_or (λ x. has_value (r.values e) (value.Object x.object)) q false
 

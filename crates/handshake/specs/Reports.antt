@@ -23,7 +23,7 @@ lost_notice r l =
     then notice (shape_at r l.end) l.end (held_at r l.end) kind.Set l.value value.Null no_index
     else notice (shape_at r l.end) l.end (held_at r l.end) kind.Remove l.value value.Null (pos l.position)
 
--- the notice that an end gains a root of a document behind so many others: it was set where there were any
+-- the notice that an end gains a root of a document after so many others: it was set if there were any
 abbrev pub root_notice : ℕ → End → ℕ × ObjectNo → Notice
 root_notice n e x =
     record {

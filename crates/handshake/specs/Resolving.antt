@@ -17,7 +17,7 @@ use Rattle.handshake.specs.declared.target.Target.{Target}
 abbrev pub opposite_end : Reading → End → ObjectNo → Option End
 opposite_end r e o = option_map (far_end o) (shape_at r e).opposite
 
--- the text of the proxy at an index, if one stands there
+-- the text of the proxy at an index, if one is there
 abbrev pub proxy_at : Reading → End → ℕ → Option (List ℕ)
 proxy_at r e i = option_and_then text_of (slice_get (r.values e) i)
 

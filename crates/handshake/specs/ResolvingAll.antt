@@ -13,7 +13,7 @@ use Rattle.handshake.specs.Resolving.{target_at}
 use Rattle.handshake.specs.declared.site.ProxySite.{ProxySite}
 use Rattle.handshake.specs.declared.target.Target.{Target}
 
--- what ends hold once a value stands at an index of one of them
+-- what ends hold once a value is at an index of one of them
 abbrev pub replaced : (End → List Value) → End → ℕ → Value → End → List Value
 replaced ends e i v d = if same_end e d then slice_set (ends d) i v else ends d
 
@@ -30,7 +30,7 @@ with_resolved r p x = record r { values = values_with r (end_of p) p.index x }
 abbrev pub resolved_to : Reading → ProxySite → Option Target
 resolved_to r p = if is_some (resolve_refusal r (end_of p) p.index) then None else target_at r (end_of p) p.index
 
--- a proxy that is resolved: the model in which it is, where it stands, and what it finds
+-- a proxy that is resolved: the model in which it is, where it is, and what it finds
 pub record Resolution : Type 0 where
   pub reads : Reading
   pub site : ProxySite
@@ -55,7 +55,7 @@ left_by r ps = record r { values = values_left r ps }
 abbrev pub all_resolved : Reading → Reading
 all_resolved r = left_by r (sites r)
 
--- how many are resolved, where two at the ends of one link are one, and how many proxies stand afterwards
+-- how many are resolved, where two at the ends of one link are one, and how many proxies are afterwards
 abbrev pub done : Reading → ℕ
 done r = length (resolutions r (sites r))
 

@@ -11,7 +11,7 @@ use Rattle.serde_json.specs.declared.value.Value.{Value}
 use Rattle.json_fields.specs.declared.read_fault.ReadFault.{ReadFault}
 use Rattle.json_fields.specs.Fields.{Gives, Fields, has_only, object_of, only_keys}
 
--- the list, and behind it what is read yet
+-- the list, and after it what is read yet
 abbrev pub with_front : {X : Type 0} → List X → Option (List X) → Option (List X)
 with_front front reading = option_map (λ xs. front ++ xs) reading
 

@@ -96,7 +96,7 @@ required key reading = record { keys = key ∷ []; reading = required_at key rea
 abbrev pub optional : {X : Type 0} → List ℕ → (Data → Option X) → X → Fields X
 optional key reading absent = record { keys = key ∷ []; reading = optional_at key reading absent }
 
--- no fields yet: a value is made of what the fields behind it say
+-- no fields yet: a value is made of what the fields after it say
 abbrev pub makes : {X : Type 0} → X → Fields X
 makes x = record { keys = []; reading = λ d. Some x }
 

@@ -51,7 +51,7 @@ first_text-value (l ∷ ls) e k = ap (λ (r : Option (List ℕ)). if is_index k 
 pub rows_text : (rows : List Link) → IsPlaced (of_rows rows) → (e : End) (k : ℕ) → first_text rows e k ≡ proxy_at (of_rows rows) e k
 rows_text rows placed e k = first_text-value rows e k ∙ ap (λ (o : Option Value). option_and_then text_of o) (rows_at rows placed e k)
 
----------------------------------------------------------------- where a value stands
+---------------------------------------------------------------- where a value is
 
 position_in-some : (ls : List Link) (e : End) (v : Value) (k : ℕ) → position_in ls e v ≡ Some k → (l : Link) × Among l ls × (indexed l e ≡ Some (k, v))
 position_in-some [] e v k h = absurd (none-some k h)

@@ -50,7 +50,7 @@ is_index k p = option_map_or (λ q. q.0 == k) p false
 abbrev pub object_on : Option (ℕ × Value) → Option ObjectNo
 object_on p = option_and_then (λ (q : ℕ × Value). object_of q.1) p
 
--- the object of the first of the links that stands at position k of e
+-- the object of the first of the links that is at position k of e
 abbrev pub first_object : List Link → End → ℕ → Option ObjectNo
 first_object [] e k = None
 first_object (l ∷ ls) e k = if is_index k (indexed l e) then object_on (indexed l e) else first_object ls e k
@@ -59,7 +59,7 @@ first_object (l ∷ ls) e k = if is_index k (indexed l e) then object_on (indexe
 abbrev pub text_on : Option (ℕ × Value) → Option (List ℕ)
 text_on p = option_and_then (λ (q : ℕ × Value). text_of q.1) p
 
--- the text of the first of the links that stands at position k of e
+-- the text of the first of the links that is at position k of e
 abbrev pub first_text : List Link → End → ℕ → Option (List ℕ)
 first_text [] e k = None
 first_text (l ∷ ls) e k = if is_index k (indexed l e) then text_on (indexed l e) else first_text ls e k

@@ -46,7 +46,7 @@ held_object (Some h) l n x two at =
       | false ↦ λ q. held_near l.far h l.end n x two q
     ] at
 
--- a resource stands at the top
+-- a resource is at the top
 pub resource_top : (s : Links) (r : ResourceNo) → IsLegalSet s → holder s (node.Resource r) ≡ None
 resource_top s r legal = elim (holder s (node.Resource r)) as (λ o. holder s (node.Resource r) ≡ o → o ≡ None) [
   | None ↦ λ _. refl

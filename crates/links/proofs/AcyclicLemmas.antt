@@ -1,4 +1,4 @@
--- Where no node is under itself, no chain of holders is longer than the number of links.
+-- If no node is under itself, no chain of holders is longer than the number of links.
 use Rattle.std.proofs.Common.{◌≡◌, ◌≢◌, ℕ, zero, suc, ◌-◌, Bool, cond, Some, None, refl, sym, ap, ◌∙◌, subst, arith}
 use Rattle.std.specs.FinSet as set
 use Rattle.std.proofs.lemmas.Bool.{false≢true}

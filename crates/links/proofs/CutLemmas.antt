@@ -25,7 +25,7 @@ use Rattle.mm_types.specs.declared.value.Value.{Value}
 
 ---------------------------------------------------------------- cut
 
--- where a link stands, by its two sides
+-- where a link is, by its two sides
 pub indexed_near : (l : Link) → indexed l l.end ≡ Some (l.index, far_value l.far)
 indexed_near l = rw (same_end-self l.end) refl
 
@@ -61,7 +61,7 @@ module _ (s : Links) (placed : IsPlaced s) (l : Link) (within : In l s) where
   apart_at : (c : End) (j : ℕ) → l.far ≡ At c j → l.end ≢ c
   apart_at c j h same = (subst (λ (x : Far). HasTwoSides l.end x) h (placed.sides l within)).0 (λ i. (sym same i).feature.0)
 
-  -- where the far side stands nowhere
+  -- where the far side is nowhere
   one_end : (d : End) → (l.end ≢ d → indexed l d ≡ None) → IsEnd near d (without (end s d) (indexed l d))
   one_end d out = elim (cases_end l.end d) [
     | inl same ↦ subst (λ (y : End). IsEnd near y (without (end s y) (indexed l y))) same (subst (λ (o : Option (ℕ × Value)). IsEnd near l.end (without (end s l.end) o)) (sym (indexed_near l)) near_end)

@@ -50,7 +50,7 @@ end-cut_filter s placed l within d =
       | Some p ↦ λ h. remove-filter (end s d) p.0 p.1 (placed.distinct d) ((placed.ends d).has p.0 p.1 (l, within, h))
     ] refl
 
--- what is held stands where it is held
+-- what is held is where it is held
 held_stands : (s : Links) → IsPlaced s → (n : Node) (d : End) → holder s n ≡ Some d → Has s d (node_value n)
 held_stands s placed n d h =
     let l = holder-some s n d h in
@@ -186,7 +186,7 @@ module _ (m : Kinds) (ok : AreKinds m) where
 
 ---------------------------------------------------------------- the plan that cuts them
 
--- a value that can stand in an end
+-- a value that can be in an end
 abbrev IsLinked : Value → Type 0
 IsLinked (value.Object o) = Unit {0}
 IsLinked (value.Proxy t) = Unit {0}
@@ -248,7 +248,7 @@ cuts_without_cycle s [] = tt
 cuts_without_cycle s (t ∷ ts) = (cut_without_cycle s t.0 t.1, cuts_without_cycle (edited s (cut_edit t.0 t.1)) ts)
 
 module _ (m : Kinds) (ok : AreKinds m) where
-  -- a value whose link is not cut stands where it stood, or before
+  -- a value whose link is not cut is where it was, or before
   has_after : (s : Links) → IsLegalSet s → AreOfKind m s → (t u : End × Value) → names m t.0 t.1 u.0 u.1 ≡ false → Has s u.0 u.1 → Has (cut_value s t.0 t.1) u.0 u.1
   has_after s legal kinds t u other has =
       let left = filter_keeps (λ w. not (names m t.0 t.1 u.0 w)) (end s u.0) has.0 u.1 has.1 (ap not other) in

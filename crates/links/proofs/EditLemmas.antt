@@ -1,4 +1,4 @@
--- What stands where after an edit.
+-- What is where after an edit.
 use Rattle.std.proofs.Common.{◌≡◌, ◌≢◌, ℕ, zero, suc, ◌<◌, ◌≤◌, true, false, not, List, [], ◌∷◌, ◌++◌, map, length, Option, Some, None, if◌then◌else◌, refl, sym, ap, ◌∙◌, subst, inl, inr, arith}
 use Rattle.std.specs.Prelude.{◌⊎◌}
 use Rattle.std.specs.List.{slice_get}
@@ -236,7 +236,7 @@ IsEnd-remove_none s l d xs out is = record {
 
 ---------------------------------------------------------------- a shift
 
--- each value stands where the shift takes it
+-- each value is where the shift takes it
 slice_get-shifted : (xs : List Value) (to from k : ℕ) → from < length xs → to < length xs → slice_get (shifted xs to from) (shifted_index to from k) ≡ slice_get xs k
 slice_get-shifted xs to from k f t =
     elim (slice_get xs from) as (λ o. slice_get xs from ≡ o → slice_get (put_back o xs to from) (shifted_index to from k) ≡ slice_get xs k) [
@@ -262,7 +262,7 @@ IsEnd-shift s e xs to from f t is = record {
 
 ---------------------------------------------------------------- each position once
 
--- no two links stand at one place
+-- no two links are at one place
 abbrev pub IsOnce : Links → Type 0
 IsOnce s = (l m : Link) (e : End) (k : ℕ) (v w : Value) → In l s → In m s → indexed l e ≡ Some (k, v) → indexed m e ≡ Some (k, w) → l ≡ m
 
@@ -292,7 +292,7 @@ IsOnce-renumbered s e r once apart l m d k v w in_l in_m at_l at_m =
 pub IsOnce-remove : (s : Links) (k : Link) → IsOnce s → IsOnce (set.remove s k)
 IsOnce-remove s k once l m e i v w in_l in_m at_l at_m = once l m e i v w (In-remove s k l in_l).1 (In-remove s k m in_m).1 at_l at_m
 
--- a link at places where none stands
+-- a link at places that are free
 abbrev pub IsVacant : Links → Link → Type 0
 IsVacant s l = (e : End) (k : ℕ) (v w : Value) → indexed l e ≡ Some (k, v) → Stands s e k w → ⊥
 

@@ -48,7 +48,7 @@ Among_cases l m ls h = elim (or_cases (eq_by_cmp link_cmp l m) (list_any (eq_by_
 
 ---------------------------------------------------------------- a scan of a list of links
 
--- the value p where it stands at k
+-- the value p where it is at k
 at_indexed-some : (o : Option (ℕ × Value)) (k : ℕ) (other : Option Value) (v : Value) → at_indexed o k other ≡ Some v → (o ≡ Some (k, v)) ⊎ (other ≡ Some v)
 at_indexed-some None k other v h = inr h
 at_indexed-some (Some p) k other v h =

@@ -21,7 +21,7 @@ filter_alike p q (x ∷ xs) h =
     let here = h zero x refl in
     λ i. cond (here i) (x ∷ rest i) (rest i)
 
--- what passes the test still stands in the list
+-- what passes the test is still in the list
 pub filter_keeps : (p : Value → Bool) (xs : List Value) (k : ℕ) (v : Value) → slice_get xs k ≡ Some v → p v ≡ true → (j : ℕ) × (slice_get (filter p xs) j ≡ Some v)
 filter_keeps p [] k v at h = absurd (none-some v at)
 filter_keeps p (x ∷ xs) zero v at h =
@@ -36,7 +36,7 @@ filter_keeps p (x ∷ xs) (suc k) v at h =
       | false ↦ rest
     ]
 
--- with one more value before both, what stands in the first list still stands in the second
+-- with one more value before both, what is in the first list is still in the second
 found_behind : (x : Value) (ys xs : List Value) (v : Value) → ((i : ℕ) → slice_get ys i ≡ Some v → (j : ℕ) × (slice_get xs j ≡ Some v)) → (k : ℕ) → slice_get (x ∷ ys) k ≡ Some v → (j : ℕ) × (slice_get (x ∷ xs) j ≡ Some v)
 found_behind x ys xs v rest zero at = (zero, at)
 found_behind x ys xs v rest (suc k) at = let there = rest k at in (suc there.0, there.1)

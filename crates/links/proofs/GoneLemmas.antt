@@ -109,7 +109,7 @@ module _ (s t : Links) (legal_s : IsLegalSet s) (legal : IsLegalSet t) (part : I
 
 ---------------------------------------------------------------- several
 
--- cuts links, each where it still stands
+-- cuts links, each where it is still
 abbrev pub cut_each : Links → List Link → Links
 cut_each s ls = fold (λ t l. cut_value t l.end (far_value l.far)) s ls
 
@@ -296,7 +296,7 @@ module _ (s : Links) (gone : Node → Bool) (legal : IsLegalSet s) where
           | Some d ↦ λ h. held_goes d h
         ] refl
 
-  -- what still stands names no node that goes
+  -- what is left names no node that goes
   stays : (d : End) (k : ℕ) (v : Value) → slice_get (end (without_nodes s gone) d) k ≡ Some v → (gone d.node ≡ false) × (goes gone v ≡ false)
   stays d k v at =
       elim (gone d.node) as (λ b. slice_get (if b then [] else filter (λ w. not (goes gone w)) (end s d)) k ≡ Some v → (b ≡ false) × (goes gone v ≡ false)) [

@@ -147,7 +147,7 @@ module _ (s : Links) (once : IsHeldOnce s) where
         ] refl
       ] refl
 
--- the node that a link holds stands in the end that holds it
+-- the node that a link holds is in the end that holds it
 pub indexed_held : (l : Link) (n : Node) (x : End) → HasTwoSides l.end l.far → holding l n ≡ Some x → (k : ℕ) × (indexed l x ≡ Some (k, node_value n))
 indexed_held l n x two h = through l.container h
   where

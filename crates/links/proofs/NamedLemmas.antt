@@ -27,7 +27,7 @@ use Rattle.mm_types.specs.declared.numbers.ObjectNo.{ObjectNo}
 use Rattle.mm_types.specs.declared.value.Value.TheVariants as value
 use Rattle.mm_types.specs.declared.value.Value.{Value}
 
----------------------------------------------------------------- a link that stands in two ends
+---------------------------------------------------------------- a link that is in two ends
 
 -- each of the two ends has the other's node
 abbrev pub AreOpposite : Kinds → End → End → Value → Value → Type 0
@@ -147,11 +147,11 @@ module _ (m : Kinds) (l : Link) (ok : IsOfKind m l) (two : HasTwoSides l.end l.f
         is_value_at-indexed (indexed l d) other.0 w (subst (λ (x : Value). indexed l d ≡ Some (other.0, x)) is_w (subst (λ (x : End). indexed l x ≡ Some (other.0, node_value e.node)) is_d other.1))
   ]
 
-  -- a link stands where its name says, and nowhere else
+  -- a link is where its name says, and nowhere else
   pub indexed-named : is_value_at w (indexed l d) ≡ names m e v d w
   indexed-named = same_bool _ _ value-named named-value
 
--- a name of no link names nothing that stands
+-- a name of no link names nothing that is there
 pub names_nothing : (m : Kinds) → AreKinds m → (s : Links) → IsLegalSet s → AreOfKind m s → (e : End) (v : Value) → Lacks s e v → (d : End) (w : Value) → Has s d w → names m e v d w ≡ false
 names_nothing m ok s legal kinds e v lacks d w has = elim (names m e v d w) as (λ b. names m e v d w ≡ b → b ≡ false) [
   | false ↦ λ _. refl

@@ -48,7 +48,7 @@ placed_from s all once apart = record {
   few = λ e. let some = all e in subst (λ (xs : List Value). length xs ≤ most) (sym (end_is s e some.0 some.1)) some.3;
 }
 
----------------------------------------------------------------- where a new link stands
+---------------------------------------------------------------- where a new link is
 
 module _ (x : End) (i : ℕ) (y : End) (j : ℕ) (c : Option FeatureNo) (ne : x ≢ y) where
   pub indexed-joined_near : indexed (joined x i y j c) x ≡ Some (i, node_value y.node)
@@ -133,7 +133,7 @@ HasTwoSides-new s e i n (Some g) c apart =
       | false ↦ (λ h. apart.0 (sym h), tt, apart.1)
     ]
 
--- no link stands where the new one comes to stand
+-- no link is where the new one is put
 IsVacant-new : (s : Links) (placed : IsPlaced s) (e : End) (i : ℕ) (n : ObjectNo) (g c : Option FeatureNo) → IsApart e g → IsVacant (renumbered s e (raise i)) (new_link s e i n g c)
 IsVacant-new s placed e i n None c apart d k v w at st =
     elim (cases_end e d) [

@@ -1,4 +1,4 @@
--- A link that stands at its ends as a set has them is in the set.
+-- A link that is at its ends as a set has them is in the set.
 use Rattle.std.proofs.Common.{◌≡◌, ◌≢◌, ℕ, ◌<◌, List, Option, Some, None, refl, sym, ap, ◌∙◌, subst, inl, inr, arith}
 use Rattle.std.specs.List.{slice_get}
 use Rattle.std.proofs.lemmas.Option.{none-some, same_Some, some_pair_parts}

@@ -1,4 +1,4 @@
--- Where a link stands, and what stands there.
+-- The positions of a link, and what is there.
 use Rattle.std.specs.Prelude.{ℕ, Bool, false, Option, Some, None, if◌then◌else◌}
 use Rattle.std.specs.Option.{option_map_or}
 use Rattle.mm_types.specs.Same.{node_value, same_end, same_value}
@@ -15,21 +15,21 @@ far_value (At d j) = node_value d.node
 far_value (Alone o) = value.Object o
 far_value (Proxy t) = value.Proxy t
 
--- where the far side stands in e, with the value v
+-- where the far side is in e, with the value v
 abbrev pub far_indexed : Far → Value → End → Option (ℕ × Value)
 far_indexed (At d j) v e = if same_end d e then Some (j, v) else None
 far_indexed (Alone o) v e = None
 far_indexed (Proxy t) v e = None
 
--- the position and the value of a link in e, where it stands there
+-- the position and the value of a link in e, where it is there
 abbrev pub indexed : Link → End → Option (ℕ × Value)
 indexed l e = if same_end l.end e then Some (l.index, far_value l.far) else far_indexed l.far (node_value l.end.node) e
 
--- v stands at a position
+-- v is at a position
 abbrev pub is_value_at : Value → Option (ℕ × Value) → Bool
 is_value_at v p = option_map_or (λ q. same_value q.1 v) p false
 
--- a link stands in e with the value v
+-- a link is in e with the value v
 abbrev pub has_value : End → Value → Link → Bool
 has_value e v l = is_value_at v (indexed l e)
 

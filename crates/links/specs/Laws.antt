@@ -25,7 +25,7 @@ abbrev pub IsFar : ObjectNo → Option FeatureNo → End → Type 0
 IsFar o None d = ⊥
 IsFar o (Some g) d = far_end o g ≡ d
 
--- the object stands at its position, the far end gains last, and each other end is as it was; what the link contains has its end
+-- the object is at its position, the far end gains last, and each other end is as it was; what the link contains has its end
 pub record PutMakes (s : Links) (e : End) (i : ℕ) (o : ObjectNo) (g c : Option FeatureNo) : Type 0 where
   pub near : end (put s e i o g c) e ≡ insert (end s e) i (value.Object o)
   pub far : (d : End) → IsFar o g d → end (put s e i o g c) d ≡ end s d ++ node_value e.node ∷ []
@@ -67,7 +67,7 @@ IsPutOutside s e o c =
     (x : Node) (d : End) → contained e o c ≡ Some x → containing e o c ≡ Some d
     → (same_node d.node x ≡ false) × (list_any (same_node x) (above s d.node) ≡ false)
 
--- the proxy stands at its position, and all else is as it was
+-- the proxy is at its position, and all else is as it was
 pub record PutProxyMakes (s : Links) (e : End) (i : ℕ) (t : List ℕ) : Type 0 where
   pub near : end (put_proxy s e i t) e ≡ insert (end s e) i (value.Proxy t)
   pub others : (d : End) → (e ≡ d → ⊥) → end (put_proxy s e i t) d ≡ end s d
@@ -99,11 +99,11 @@ abbrev pub names_far : End → Value → Option FeatureNo → End → Value → 
 names_far e (value.Object o) (Some g) d w = same_end (far_end o g) d && same_value (node_value e.node) w
 names_far e _ _ d w = false
 
--- the link that stands in e with the value v is the one that stands in d with the value w
+-- the link that is in e with the value v is the one that is in d with the value w
 abbrev pub names : Kinds → End → Value → End → Value → Bool
 names m e v d w = (same_end e d && same_value v w) || names_far e v (m.opposite e.feature) d w
 
--- some end and value of a list name the link that stands in d with the value w
+-- some end and value of a list name the link that is in d with the value w
 abbrev pub is_named : Kinds → List (End × Value) → End → Value → Bool
 is_named m ts d w = list_any (λ t. names m t.0 t.1 d w) ts
 
@@ -128,7 +128,7 @@ pub record CutsByNameMake (m : Kinds) (s : Links) (ts : List (End × Value)) : T
   pub lacks : (d : End) (w : Value) → Lacks s d w → Lacks (without_all s ts) d w
   pub shorter : (d : End) → length (end (without_all s ts) d) ≤ length (end s d)
 
--- the edit that cuts the link of a value; only objects and proxies stand in an end
+-- the edit that cuts the link of a value; only objects and proxies are in an end
 abbrev pub cut_edit : End → Value → Edit
 cut_edit e (value.Object o) = edit.Cut e o
 cut_edit e (value.Proxy t) = edit.CutProxy e t

@@ -13,11 +13,11 @@ use Rattle.links.specs.Holders.{holding}
 use Rattle.links.specs.Links.{In, Links, end}
 use Rattle.links.specs.Indexed.{indexed}
 
--- some link stands at position k of e, with the value v
+-- some link is at position k of e, with the value v
 abbrev pub Stands : Links → End → ℕ → Value → Type 0
 Stands s e k v = (l : Link) × In l s × (indexed l e ≡ Some (k, v))
 
--- the list has each value that stands in e at its position, and nothing else
+-- the list has each value that is in e at its position, and nothing else
 pub record IsEnd (s : Links) (e : End) (xs : List Value) : Type 0 where
   pub has : (k : ℕ) (v : Value) → Stands s e k v → slice_get xs k ≡ Some v
   pub only : (k : ℕ) (v : Value) → slice_get xs k ≡ Some v → Stands s e k v

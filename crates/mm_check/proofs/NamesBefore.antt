@@ -1,4 +1,4 @@
--- Names among the first of a list, by the first position at which they stand.
+-- Names among the first of a list, by the first position at which they are.
 use Rattle.std.proofs.Common.{◌≡◌, ◌∙◌, ◌+◌, ◌<◌, ◌≤◌, ◌||◌, ℕ, zero, suc, Bool, true, false, cond, List, [], ◌∷◌, Option, Some, ap, arith, map, refl, sym, take, nat_lt}
 use Rattle.std.specs.Prelude.{is_some, position}
 use Rattle.std.specs.List.{list_any, position_from}
@@ -48,7 +48,7 @@ any_from f n k (x ∷ xs) =
       | false ↦ any_from f n (k + 1) xs
     ])
 
--- a name is among the first i exactly where its first position is below i
+-- a name is among the first i exactly if its first position is below i
 pub among_before : {X : Type 0} (f : X → List ℕ) (n : List ℕ) (i : ℕ) (xs : List X) (o : Option ℕ) → o ≡ position (λ x. bytes_eq (f x) n) xs
     → option_map_or (λ j. nat_lt j i) o false ≡ is_among (take i (map f xs)) n
 among_before f n i xs o is =

@@ -1,4 +1,4 @@
--- The first place at which a condition applies, where no condition before it applies anywhere.
+-- The first place at which a condition applies, if no condition before it applies anywhere.
 use Rattle.std.specs.Prelude.{ℕ, ◌<◌, length, slice_get, Option, MatchOption}
 use Rattle.std.specs.Option.{option_map_or}
 use Rattle.mm_types.specs.Faults.{condition_number}
@@ -36,6 +36,6 @@ pub record AppliesToNone (raw : RawMetamodel) (k : Condition) (n : ℕ) : Type 0
   pub to_class : (c : ℕ) → c < n → Applies raw k (place.Class c) → ⊥
   pub to_feature : (c i : ℕ) → c < n → Applies raw k (place.Feature c i) → ⊥
 
--- how many features a class declares; none where there is no such class
+-- how many features a class declares; none if there is no such class
 abbrev pub feature_count : RawMetamodel → ℕ → ℕ
 feature_count raw c = option_map_or (λ k. length k.features) (slice_get raw.classes c) 0

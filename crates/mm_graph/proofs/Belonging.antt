@@ -90,7 +90,7 @@ listed_cases g own f (suc depth) c h = ⊎_elim
     (λ (b : Contains (by_class own c) f). (c, (0, refl), b))
     (Contains-append_cases (flat_map (listed g own depth) (by_class g c)) (by_class own c) f h)
 
--- the first occurrences of a list are of what stands in it
+-- the first occurrences of a list are of what is in it
 in_firsts : (xs : List ℕ) (x : ℕ) → Contains (first_occurrences xs) x ↔ Contains xs x
 in_firsts xs x =
     let same : list_any (eqb x) (first_occurrences xs) ≡ list_any (eqb x) xs = any-with_new x [] xs in (

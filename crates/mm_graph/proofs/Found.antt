@@ -1,4 +1,4 @@
--- A class conforms to another just where it is found within as many steps as there are classes.
+-- A class conforms to another exactly if it is found within as many steps as there are classes.
 use Rattle.std.proofs.Common.{◌≡◌, ◌↔◌, ◌<◌, ◌≤◌, Bool, true, List, [], ◌∷◌, ℕ, zero, suc, ⊎_elim, arith, length, refl, subst, sym, nat_eq}
 use Rattle.std.specs.List.{Contains, list_any}
 use Rattle.std.proofs.lemmas.Bool.{eq-eqb, eqb-true, or_cases, or_left, or_right}

@@ -33,7 +33,7 @@ any_grown : (x y : ℕ) (acc : List ℕ) (t : Bool) → list_any (eqb y) acc ≡
 any_grown x y acc true is = sym (or_known (list_any (eqb x) acc) (eqb x y) (λ e. ap (λ (n : ℕ). list_any (eqb n) acc) (same_number x y e) ∙ is))
 any_grown x y acc false is = list_any-append (eqb x) acc (y ∷ []) ∙ ap (λ b. list_any (eqb x) acc || b) (or_false (eqb x y))
 
--- what stands in a list behind which what it lacks was put
+-- what is in a list after which what it lacks was put
 pub any-with_new : (x : ℕ) (acc ys : List ℕ) → list_any (eqb x) (with_new acc ys) ≡ (list_any (eqb x) acc || list_any (eqb x) ys)
 any-with_new x acc [] = sym (or_false (list_any (eqb x) acc))
 any-with_new x acc (y ∷ ys) =
@@ -58,7 +58,7 @@ with_new_twice acc seen (x ∷ xs) =
     with_new_twice acc (cond (list_any (eqb x) seen) seen (seen ++ x ∷ [])) xs
     ∙ ap (λ s. with_new s xs) (one_more acc seen x (list_any (eqb x) seen) refl)
 
--- The first occurrences of a list put as much behind another as the list itself.
+-- The first occurrences of a list put as much after another as the list itself.
 pub with_new_firsts : (acc xs : List ℕ) → with_new acc (first_occurrences xs) ≡ with_new acc xs
 with_new_firsts acc xs = with_new_twice acc [] xs
 

@@ -9,7 +9,7 @@ use Rattle.mm_types.specs.Graph.{Conforms, Reaches, Walk, by_class}
 use Rattle.mm_graph.specs.Sets.{HasSupers, IsAdded, IsSetOf, is_in}
 use Rattle.mm_graph.specs.Order.{IsBefore, IsOrder}
 
--- c stands in the set, and so do the first i of its supertypes with what they reach
+-- c is in the set, and so do the first i of its supertypes with what they reach
 pub record IsAdding (g : List (List ℕ)) (c : ℕ) (old s : List Bool) (i : ℕ) : Type 0 where
   pub new : is_in old c ≡ false
   pub long : length s ≡ length old
@@ -100,7 +100,7 @@ conforms_set g c n old s e a k =
       (λ h. closed_reaches g s closed h.0 c k a.here h.1),
     )
 
--- what the first i of c's supertypes conform to stands in the set
+-- what the first i of c's supertypes conform to is in the set
 pub record IsReaching (g : List (List ℕ)) (c : ℕ) (s : List Bool) (i : ℕ) : Type 0 where
   pub long : length s ≡ length g
   pub sound : (k : ℕ) → is_in s k ≡ true → Reaches g c k
@@ -132,7 +132,7 @@ reaching_all g c s i a all k =
     let supers : HasSupers g s c = λ j d low. ap (is_in s) (get_or_default (by_class g c) j d 0 low) ∙ a.visited j (omega arith) in
     (a.sound k, (λ h. closed_reaches g s a.closed h.0 h.1.0 k (All-contains (λ (e : ℕ). is_in s e ≡ true) (by_class g c) h.1.0 supers h.1.1) h.1.2))
 
--- What a class of an order reaches stands before it.
+-- What a class of an order reaches is before it.
 pub order_falls : (g : List (List ℕ)) (order : List ℕ) → IsOrder g order → (n j c d : ℕ) → j < length order → get_or order j 0 ≡ c → Walk g (suc n) c d
     → (i : ℕ) × (i < j) × (get_or order i 0 ≡ d)
 order_falls g order o zero j c d low at w =
@@ -155,7 +155,7 @@ has_row [] c e h = absurd (omega (arith, h.1))
 has_row (x ∷ g) zero e h = omega arith
 has_row (x ∷ g) (suc c) e h = let p = has_row g c e h in omega arith
 
--- Where there is an order, no class reaches itself.
+-- If there is an order, no class reaches itself.
 pub no_cycle : (g : List (List ℕ)) (order : List ℕ) → IsOrder g order → (c : ℕ) → Reaches g c c → ⊥
 no_cycle g order o c r =
     let p = o.every c (has_row g c r.1.0 r.1.1) in

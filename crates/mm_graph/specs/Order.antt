@@ -11,11 +11,11 @@ InRange g = All (λ (es : List ℕ). All (λ (e : ℕ). e < length g) es) g
 abbrev pub HasCycle : List (List ℕ) → Type 0
 HasCycle g = (c : ℕ) × Reaches g c c
 
--- a class stands in the order before the position j
+-- a class is in the order before the position j
 abbrev pub IsBefore : List ℕ → ℕ → ℕ → Type 0
 IsBefore order j e = (i : ℕ) × (i < j) × (slice_index_or order i 0 ≡ e)
 
--- each class stands in the order once, behind its direct supertypes
+-- each class is in the order once, after its direct supertypes
 pub record IsOrder (g : List (List ℕ)) (order : List ℕ) : Type 0 where
   pub within : All (λ (c : ℕ). c < length g) order
   pub every : (c : ℕ) → c < length g → Contains order c

@@ -4,7 +4,7 @@ use Rattle.std.specs.List.{flat_map}
 use Rattle.mm_types.specs.Graph.{by_class}
 use Rattle.mm_types.specs.Features.{all_features, first_occurrences, with_new}
 
--- what is seen, and behind it what is new in the lists of some classes, one list after another
+-- what is seen, and after it what is new in the lists of some classes, one list after another
 abbrev pub with_rows : List (List ℕ) → List ℕ → List ℕ → List ℕ
 with_rows rows seen [] = seen
 with_rows rows seen (e ∷ es) = with_rows rows (with_new seen (by_class rows e)) es

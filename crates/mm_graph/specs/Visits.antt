@@ -19,7 +19,7 @@ is_unseen Done = false
 abbrev pub mark : List Mark → ℕ → Mark
 mark ms c = slice_index_or ms c Unseen
 
--- the classes that are done stand in the order, behind their direct supertypes
+-- the classes that are done are in the order, after their direct supertypes
 pub record IsBegun (g : List (List ℕ)) (ms : List Mark) (order : List ℕ) : Type 0 where
   pub long : length ms ≡ length g
   pub within : All (λ (c : ℕ). c < length g) order

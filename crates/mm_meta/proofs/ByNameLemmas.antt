@@ -289,7 +289,7 @@ known_first m n k c name i found =
     let is : position (λ x. bytes_eq x name) (map (λ f. f.name) m.features) ≡ Some i = sym (found _ k.names) in
     record { low = low_named m name i is; came = comes_to_first m c name i is }
 
--- behind a feature that the class has not stands the next of its name
+-- after a feature that the class has not is the next of its name
 pub known_next : (m : Metamodel) (n : FeatureNames) → Known m n → (c : ClassNo) (name : List ℕ) (at : ℕ) → ComesTo m c name at → at < length m.features
     → has_feature m c (feature_no at) ≡ false → ComesTo m c name (get_or n.next.items at 0)
 known_next m n k c name at came low has_not =

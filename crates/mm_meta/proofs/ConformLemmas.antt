@@ -38,7 +38,7 @@ supertypes_acyclic m d = subst (λ (g : List (List ℕ)). HasCycle g → ⊥) (s
 length-supertypes : (m : Metamodel) → length (supertypes m) ≡ length m.classes
 length-supertypes m = length-map m.classes (λ (c : Class). map (λ (s : ClassNo). s.0) c.supers)
 
--- The test finds a class just where the other conforms to it.
+-- The test finds a class exactly if the other conforms to it.
 pub conforms_is : (m : Metamodel) → IsOfDocument m → (sub sup : ClassNo) → (conforms m sub sup ≡ true) ↔ ConformsTo m sub sup
 conforms_is m d sub sup =
     let g : List (List ℕ) = supertypes m in
@@ -74,6 +74,6 @@ conforms_by_row m d table t sub sup r is =
     ∙ (unwrap_or-slice_get r sup.0 false
     ∙ both_ways (is_in r sup.0) (conforms m sub sup) (λ h. known.1 (omega arith, (set sup.0).0 h)) (λ h. (set sup.0).1 (known.0 h).1))
 
--- a class has a feature just where it conforms to the feature's owner
+-- a class has a feature exactly if it conforms to the feature's owner
 pub owner_tells : (m : Metamodel) → IsOfDocument m → (c : ClassNo) (f : FeatureNo) (x : Feature) → feature m f ≡ Some x → conforms m c x.owner ≡ has_feature m c f
 owner_tells m d c f x here = has_as_owner m d c f x (conforms m c x.owner) here (conforms_is m d c x.owner)

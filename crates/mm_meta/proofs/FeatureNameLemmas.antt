@@ -1,4 +1,4 @@
--- The next place at which a name stands, for each place of a list of names, found from behind.
+-- The next place at which a name is, for each place of a list of names, found from the end backwards.
 use Rattle.std.proofs.Common.{◌≡◌, ◌≢◌, ◌∙◌, ◌+◌, ◌<◌, ◌≤◌, ℕ, zero, suc, Bool, true, false, cond, List, [], ◌∷◌, Some, None, ⊎_elim, ap, arith, get_or, get_or-set_other, get_or-set_same, length, length-set, map, refl, set, subst, sym}
 use Rattle.std.specs.Prelude.{position}
 use Rattle.std.specs.List.{position_from}
@@ -33,7 +33,7 @@ missing_from p k (x ∷ xs) d is (suc h) low =
 pub missing : (names : List (List ℕ)) (name : List ℕ) → position (λ n. bytes_eq n name) names ≡ None → (h : ℕ) → h < length names → bytes_eq (get_or names h []) name ≡ false
 missing names name is = missing_from (λ n. bytes_eq n name) 0 names [] (sym (position_from-zero (λ n. bytes_eq n name) names) ∙ is)
 
--- a name that stands in a list is found there
+-- a name that is in a list is found there
 pub stands : (names : List (List ℕ)) (f : ℕ) → f < length names → position (λ n. bytes_eq n (get_or names f [])) names ≡ None → ⊥
 stands names f low is =
     let not_here : bytes_eq (get_or names f []) (get_or names f []) ≡ false =
@@ -41,7 +41,7 @@ stands names f low is =
     let here : bytes_eq (get_or names f []) (get_or names f []) ≡ true = is_name (get_or names f []) (get_or names f []) refl in
     cc
 
--- the name at a place stands nowhere before it
+-- the name at a place is nowhere before it
 abbrev pub IsFirstAt : List (List ℕ) → ℕ → Type 0
 IsFirstAt names p = position (λ n. bytes_eq n (get_or names p [])) names ≡ Some p
 
@@ -69,7 +69,7 @@ at_once names name f low is = record {
   here = λ within. is;
 }
 
--- the next place from one on is the next from the one before, where another name stands there
+-- the next place from one on is the next from the one before, where another name is there
 one_before : (names : List (List ℕ)) (name : List ℕ) (f g : ℕ) → IsNext names name (suc f) g → (get_or names f [] ≡ name → ⊥) → IsNext names name f g
 one_before names name f g n other = record {
   behind = let past = n.behind in omega arith;

@@ -28,7 +28,7 @@ position-push p xs y =
     rw zero_more at (position_from-push p 0 xs y) in
     position_from-zero p (xs ++ y ∷ []) ∙ (at ∙ sym (ap (λ o. cond (is_some o) o (cond (p y) (Some (length xs)) None)) (position_from-zero p xs)))
 
--- a name that stands in the list already changes no first position
+-- a name that is in the list already changes no first position
 pub position-seen : (names : List (List ℕ)) (name q : List ℕ) → is_some (position (λ n. bytes_eq n name) names) ≡ true
     → position (λ n. bytes_eq n q) (names ++ name ∷ []) ≡ position (λ n. bytes_eq n q) names
 position-seen names name q seen =
@@ -41,7 +41,7 @@ position-seen names name q seen =
       | false ↦ λ other. kept (position (λ n. bytes_eq n q) names)
     ] refl
 
--- a name that is new stands first where it is put, and changes no other first position
+-- a name that is new is first where it is put, and changes no other first position
 pub position-new : (names : List (List ℕ)) (name q : List ℕ) → is_some (position (λ n. bytes_eq n name) names) ≡ false
     → position (λ n. bytes_eq n q) (names ++ name ∷ []) ≡ cond (bytes_eq name q) (Some (length names)) (position (λ n. bytes_eq n q) names)
 position-new names name q new =

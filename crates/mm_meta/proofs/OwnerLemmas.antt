@@ -45,7 +45,7 @@ get_right [] ys i j is = let same : j ≡ i = omega arith in ap (slice_get ys) s
 get_right (x ∷ xs) ys i zero is = absurd (omega arith)
 get_right (x ∷ xs) ys i (suc j) is = get_right xs ys i j (omega arith)
 
--- at place i of the features of some classes stands one whose owner is class j of these; the first of them has the number c
+-- at place i of the features of some classes is one whose owner is class j of these; the first of them has the number c
 record IsOwnedAt (raw : RawMetamodel) (c : ℕ) (ks : List RawClass) (i j : ℕ) : Type 0 where
   pub feature : Feature
   pub here : slice_get (features_from raw c ks) i ≡ Some feature
@@ -180,7 +180,7 @@ has_of_owner raw well c f x is =
           )),
     )
 
--- Where a test tells whether a class conforms to a feature's owner, it tells whether the class has the feature.
+-- If a test tells whether a class conforms to a feature's owner, it tells whether the class has the feature.
 pub has_as_owner : (m : Metamodel) → IsOfDocument m → (c : ClassNo) (f : FeatureNo) (x : Feature) (b : Bool) → feature m f ≡ Some x
     → IsTrue b ↔ ConformsTo m c x.owner → b ≡ has_feature m c f
 has_as_owner m d c f x b =

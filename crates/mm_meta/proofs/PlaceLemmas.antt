@@ -45,7 +45,7 @@ later raw c n k ks f x past p =
       number = p.number ∙ ap Some number;
     }
 
--- what stands at a number is declared at some place
+-- what is at a number is declared at some place
 placed : (raw : RawMetamodel) (c n : ℕ) (ks : List RawClass) (f : ℕ) (x : Feature) → slice_get (features_from raw c ks) f ≡ Some x → IsPlaced raw c n ks f x
 placed raw c n [] f x is = cc
 placed raw c n (k ∷ ks) f x is = ⊎_elim

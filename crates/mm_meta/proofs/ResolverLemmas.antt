@@ -25,12 +25,12 @@ and_then-map : {X Y Z : Type 0} (f : Y → Option Z) (g : X → Y) (o : Option X
 and_then-map f g None = refl
 and_then-map f g (Some x) = refl
 
--- a name among the names of what stands at an index
+-- a name among the names of what is at an index
 pub named_at : {X : Type 0} (names_of : X → List (List ℕ)) (xs : List X) (i : ℕ) (name : List ℕ)
     → option_and_then (position (λ n. bytes_eq n name)) (slice_get (map names_of xs) i) ≡ option_and_then (λ x. position (λ n. bytes_eq n name) (names_of x)) (slice_get xs i)
 named_at names_of xs i name = ap (option_and_then (position (λ n. bytes_eq n name))) (slice_get-map names_of xs i) ∙ and_then-map (position (λ n. bytes_eq n name)) names_of (slice_get xs i)
 
--- what `get` lends is what stands at the index
+-- what `get` lends is what is at the index
 pub got : {X : Type 0} (xs : List X) (i : ℕ) (r : Option (Bor X)) → ItemBy (λ (x : Bor X). x.now) xs i i r → option_copied r ≡ slice_get xs i
 got xs i None is = sym (slice_get_past xs i is.3)
 got xs i (Some x) is = sym (slice_get_read xs (length xs) i x.now refl is.3.0 is.1)

@@ -31,7 +31,7 @@ none_from p s (y ∷ ys) (suc j) x at is none =
       | false ↦ λ h. none_from p (s + 1) ys j x at is h
     ] none
 
--- the first feature of a name, where no other has it, is the feature
+-- the first feature of a name, if no other has it, is the feature
 pub own_at_first : (raw : RawMetamodel) → NamesAreUnique raw → (d j : ℕ) (f : RawFeature) → feature_at raw d j ≡ Some f → own_position raw.classes d f.name ≡ Some j
 own_at_first raw u d j f at = in_class (slice_get raw.classes d) refl at
   where

@@ -57,7 +57,7 @@ join raw c i d j out back apart =
       apart = apart;
     }
 
--- the opposite of the reference at a place, and where it stands
+-- the opposite of the reference at a place, and where it is
 pub record HasOpposite (raw : RawMetamodel) (c i : ℕ) : Type 0 where
   pub class : ℕ
   pub index : ℕ
@@ -125,7 +125,7 @@ not_both_contain raw well c i d j p near far =
       (d, j, one_names raw c i d j p, test_here (λ f. is_containment f.kind) raw d j p.far p.far_here ∙ far),
     )
 
--- Where the far one contains, the near one is single.
+-- If the far one contains, the near one is single.
 pub single_container : (raw : RawMetamodel) → WellFormed raw → (c i d j : ℕ) (p : NameEachOther raw c i d j) → is_containment p.far.kind ≡ true → int_eq p.near.upper (pos 1) ≡ true
 single_container raw well c i d j p far =
     true_from_ne_false (int_eq p.near.upper (pos 1)) (λ several.

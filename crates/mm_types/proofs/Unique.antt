@@ -1,4 +1,4 @@
--- Within a class no two features have one name, where no names clash.
+-- Within a class no two features have one name, if no names clash.
 use Rattle.std.proofs.Common.{◌≡◌, ◌∙◌, ◌<◌, ◌⊎◌, ℕ, zero, suc, List, [], ◌∷◌, Some, ap, arith, map, refl, sym, ⊎_elim, inr}
 use Rattle.std.specs.Prelude.{option_and_then, option_map, slice_get}
 use Rattle.std.specs.List.{slice_index_or}

@@ -40,11 +40,11 @@ features m c = option_map (λ k. k.all) (class m c)
 abbrev pub has_feature : Metamodel → ClassNo → FeatureNo → Bool
 has_feature m c f = option_map_or (λ all. list_any (λ g. nat_eq g.0 f.0) all) (features m c) false
 
--- the name of the feature of a number among some, nothing where there is none
+-- the name of the feature of a number among some, nothing if there is none
 abbrev pub name_in : List Feature → FeatureNo → List ℕ
 name_in fs f = option_map_or (λ g. g.name) (slice_get fs f.0) []
 
--- the name of a class, nothing where there is none of the number
+-- the name of a class, nothing if there is none of the number
 abbrev pub class_name : Metamodel → ClassNo → List ℕ
 class_name m c = option_map_or (λ k. k.name) (class m c) []
 
@@ -99,7 +99,7 @@ is_container m f = option_map_or (λ g. is_containment_kind g.kind) (option_and_
 abbrev pub literal : Metamodel → ℕ → ℕ → Option (List ℕ)
 literal m e i = option_and_then (λ en. slice_get en.literals i) (slice_get m.enums e)
 
--- the name of a literal of an attribute's type, no name where there is none
+-- the name of a literal of an attribute's type, no name if there is none
 abbrev pub literal_in : Metamodel → Kind → ℕ → Option (List ℕ)
 literal_in m (Attribute (Enum e) unique unsettable default) i = literal m e i
 literal_in m _ i = None

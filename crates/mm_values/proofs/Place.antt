@@ -119,7 +119,7 @@ module _ (l : List Entry) (rising : IsRising l) (f at : ℕ) (is_at : IsAt l f a
 pub holds_nothing : (e : Entry) → e.list.items ≡ [] → e.flag ≡ false → stored_of e ≡ nothing_stored
 holds_nothing e items flag = λ i. record { list = items i; flag = flag i }
 
--- where none are taken, none of any attribute are
+-- if none are taken, none of any attribute are
 pub none_of : (f q : ℕ) → taken_of f 0 q ≡ 0
 none_of f q = elim (eqb q f) as (λ b. ◌≡◌ {A = ℕ} (cond b 0 0) 0) [
   | true ↦ refl
@@ -188,7 +188,7 @@ module _ (l : List Entry) (f at : ℕ) (gap : IsGapFor l f at) (e : Entry) (is :
       let length_new = length-insert l at e gap.in_range in
       grind (arith, feature_below i, feature_here i, feature_above i, feature_below j, feature_here j, feature_above j, rising i j, rising i (j - 1), rising (i - 1) (j - 1), gap.smaller_before i, gap.greater_after (j - 1))
 
-  -- it stands there
+  -- it is there
   pub is_at_made : IsAt (insert l at e) f at
   is_at_made = record { in_range = omega (arith, length-insert l at e gap.in_range, gap.in_range); has_feature = feature_here at refl }
 

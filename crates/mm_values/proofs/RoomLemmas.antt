@@ -81,7 +81,7 @@ made_before r plan made (RemoveValue o f i) same has = tt
 made_before r plan made (MoveValue o f to from) same has = tt
 made_before r plan made (NewUri u) same has = tt
 
--- where no value is put into any list, none is into one
+-- if no value is put into any list, none is into one
 insert_at-insert : (o f : ℕ) (e : ValueEdit) → is_insert e ≡ false → is_insert_at o f e ≡ false
 insert_at-insert o f (NewObject c) none = refl
 insert_at-insert o f (DropObject x) none = refl

@@ -111,7 +111,7 @@ module _ (cs : List (Option ClassNo)) (ls : List (List Entry)) (n i : ℕ) where
       changed None = refl
       changed (Some c) = ap Some (change c)
 
-  -- where no object is live, nothing changes
+  -- if no object is live, nothing changes
   pub objects_dead : (g : ObjectState → ObjectState) → length cs ≡ length ls → n ≤ length ls → (i < n → get_or cs i None ≡ None) → objects_of (columns cs ls n) ≡ set (objects_of (columns cs ls n)) i (option_map g (get_or (objects_of (columns cs ls n)) i None))
   objects_dead g same in_range dead = elim (cases_lt i n) [
     | inl made ↦
@@ -176,7 +176,7 @@ pub kept_taken : (cs : List (Option ClassNo)) (ls : List (List Entry)) (n : ℕ)
 kept_taken cs ls n o g k x l within read more = kept_set cs ls n o.0 x l (taken_at o g k) within read (λ f m index.
     subst (λ t. HasPlace l f (m - t)) (sym (ap (λ b. cond b (taken_of g.0 k f) 0) (eq-eqb o.0 o.0 refl))) (more f m index))
 
--- where nothing is written, no place is less
+-- if nothing is written, no place is less
 pub kept_same : (r : Slots) (taken : ℕ → ℕ → ℕ) → KeepsPlaces taken r r
 kept_same r taken = record {
   slots = refl;
@@ -186,7 +186,7 @@ kept_same r taken = record {
   ];
 }
 
--- where none of one attribute's are taken, none are
+-- if none of one attribute's are taken, none are
 none_at : (x : ObjectNo) (g : FeatureNo) (o f : ℕ) → taken_at x g 0 o f ≡ 0
 none_at x g o f = elim (eqb o x.0) as (λ b. cond b (taken_of g.0 0 f) 0 ≡ 0) [
   | true ↦ none_of g.0 f

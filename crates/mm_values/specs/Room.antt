@@ -44,7 +44,7 @@ places_taken (PutList x g list flag) = taken_at x g (length list)
 places_taken (InsertValue x g i w u) = taken_at x g 1
 places_taken _ = none_taken
 
--- how many places the list that o has under f needs for a plan: none where no value is put into it
+-- how many places the list that o has under f needs for a plan: none if no value is put into it
 abbrev pub needed : List ValueEdit → ℕ → ℕ → ℕ
 needed plan o f = if list_any (is_insert_at o f) plan then sum_by (λ e. places_taken e o f) plan else 0
 

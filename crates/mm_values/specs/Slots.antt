@@ -1,4 +1,4 @@
--- How objects stand in two columns of entries: those that were made, and from `next` on entries that are ready for more.
+-- How objects are in two columns of entries: those that were made, and from `next` on entries that are ready for more.
 use Rattle.std.specs.Prelude.{◌≡◌, ℕ, ◌-◌, ◌<◌, ◌≤◌, ◌⊎◌, List, [], ◌∷◌, Option, None, length, nat_eq, take, slice_index_or, if◌then◌else◌}
 use Rattle.std.specs.Option.{option_map}
 use Rattle.std.specs.FinMap as map

@@ -5,7 +5,7 @@
    - A session begins as MMREPO_CLOSED_SESSION, and its two fields are private to mmrepo. It may be moved while no call runs. It must not be
      copied.
    - All calls of a session come from one thread, and none from a signal handler.
-   - No pointer is NULL, also where a size is 0. What a call is passed does not overlap, and nothing else reads or writes it while the
+   - No pointer is NULL, even if a size is 0. What a call is passed does not overlap, and nothing else reads or writes it while the
      call runs.
    - malloc, realloc and free are of one allocator, and malloc aligns a block to 16 bytes, as it does on Linux. */
 #ifndef MMREPO_H

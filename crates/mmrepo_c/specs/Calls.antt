@@ -49,7 +49,7 @@ abbrev pub Opens : List ℕ → ℕ → Option Held → Type 0
 Opens bytes status new =
     ((INPUT_BYTES < length bytes) × (status ≡ TOO_LONG) × (new ≡ None)) ⊎ ((length bytes ≤ INPUT_BYTES) × OpensDocument bytes status new)
 
--- a line was run: its text is the answer of the session after it; where memory was refused to the run, the handle is closed
+-- a line was run: its text is the answer of the session after it; if memory was refused to the run, the handle is closed
 abbrev pub AnswersLine : Held → List ℕ → ℕ → Option Held → Type 0
 AnswersLine h line status None = status ≡ MEMORY
 AnswersLine h line status (Some t) = (turn : Turn) × (status ≡ line_status turn) × RunsLine (running h) (form line) (printed (answer t) turn) (running t)
@@ -60,7 +60,7 @@ Answers None line status new = (status ≡ CLOSED) × (new ≡ None)
 Answers (Some h) line status new =
     ((INPUT_BYTES < length line) × (status ≡ TOO_LONG) × (new ≡ Some h)) ⊎ ((length line ≤ INPUT_BYTES) × AnswersLine h line status new)
 
--- a read was made: its text is the answer of the session after it; where memory was refused to the text, the handle is closed
+-- a read was made: its text is the answer of the session after it; if memory was refused to the text, the handle is closed
 abbrev pub ReadsSession : Held → (Session → Printed) → ℕ → Option Held → Type 0
 ReadsSession h asked status None = status ≡ MEMORY
 ReadsSession h asked status (Some t) = (turn : Turn) × (status ≡ line_status turn) × Reads (running h) asked (printed (answer t) turn) (running t)
@@ -86,7 +86,7 @@ asked_len n name s = list_len_printed s.state n name
 abbrev pub asked_value : Node → List ℕ → ℕ → Session → Printed
 asked_value n name i s = list_value_printed s.state n name i
 
--- a document was loaded as a command; where memory was refused to the call, the handle is closed
+-- a document was loaded as a command; if memory was refused to the call, the handle is closed
 abbrev pub LoadsDocument : Held → ResourceNo → List ℕ → ℕ → Option Held → Type 0
 LoadsDocument h k text status None = status ≡ MEMORY
 LoadsDocument h k text status (Some t) = (turn : Turn) × (status ≡ line_status turn) × RunsCommand (running h) (Load k text) (printed (answer t) turn) (running t)

@@ -1,4 +1,4 @@
--- What stands at the places of ends, and where values stand.
+-- What is at the places of ends, and where values are.
 use Rattle.std.proofs.Common.{◌≡◌, ◌≤◌, ◌<◌, ◌+◌, ◌||◌, nat_le, nat_lt, pos, not, arith, ℕ, zero, suc, Bool, true, false, cond, IsTrue, List, [], ◌∷◌, length, slice_get, slice_index_or, Option, Some, None, unwrap_or, option_map, option_and_then, if◌then◌else◌, refl, sym, ap, ◌∙◌, subst}
 use Rattle.std.specs.Prelude.{int_le, MatchOption, position}
 use Rattle.std.specs.List.{All, list_all, position_or_len}
@@ -27,7 +27,7 @@ use Rattle.models.specs.Legal.{IsLegal, IsLegalObject, is_legal_end, is_legal_li
 use Rattle.models.specs.Model.{Model, attribute_values, kept_values, reading}
 use Rattle.models.specs.Reading.{Reading, object_of, shape_at}
 
----------------------------------------------------------------- where a value first stands
+---------------------------------------------------------------- where a value first is
 
 one-more : (a b : ℕ) → a ≡ b → 1 + a ≡ suc b
 one-more a b h = omega arith
@@ -91,7 +91,7 @@ object-is _ o h = absurd (none-some o h)
 pub object_in-is : (s : Model) (e : End) (k : ℕ) → (shape s.metamodel e.feature).is_reference ≡ true → links.object_at s.links e k ≡ option_and_then object_of (slice_get ((reading s).values e) k)
 object_in-is s e k reference = rw reference refl
 
--- where an object is found, it stands
+-- where an object is found, it is there
 pub object-there : (q : Option Value) (o : ObjectNo) → option_and_then links.object_of q ≡ Some o → q ≡ Some (value.Object o)
 object-there None o h = absurd (none-some o h)
 object-there (Some v) o h = ap Some (object-is v o h)
@@ -114,7 +114,7 @@ all-legal : (r : Reading) (e : End) (vs : List Value) → IsTrue (is_legal_end r
 all-legal r e [] h = refl
 all-legal r e (v ∷ vs) h = (and_parts _ _ (and_parts _ _ h).1).0
 
--- what stands at a reference of a legal model and is no object is a proxy
+-- what is at a reference of a legal model and is no object is a proxy
 pub value_in-proxy : (s : Model) (e : End) (k : ℕ) → IsLegal s → (shape s.metamodel e.feature).is_reference ≡ true → links.object_at s.links e k ≡ None
     → option_map value.Proxy (links.proxy_at s.links e k) ≡ slice_get ((reading s).values e) k
 value_in-proxy s e k legal reference none = rw reference (get-proxy (reading s) e (end s.links e) k (all-legal (reading s) e (end s.links e) (legal.links.ends e)) none)
@@ -155,7 +155,7 @@ none-of r e (w ∷ ws) v not h =
       | false ↦ λ _. none-of r e ws v not both.1
     ] refl
 
--- where a value stands at a reference, and that nothing but objects and proxies does
+-- where a value is at a reference, and that it is an object or a proxy
 pub position-target : (s : Model) (e : End) (v : Value) (q : Option ℕ) → IsLegal s → (shape s.metamodel e.feature).is_reference ≡ true
     → MatchOption q (Lacks s.links e v) (λ k. slice_get (end s.links e) k ≡ Some v) → q ≡ first_in ((reading s).values e) v
 position-target s e v q legal reference at = rw reference (first_in-place (end s.links e) v q (legal.links.set.placed.distinct e) at)
@@ -226,7 +226,7 @@ values-few s e legal =
 pub attribute_values-few : (s : Model) (e : End) → IsLegal s → length (attribute_values (shape s.metamodel e.feature) (kept_values s.values e.node e.feature)) ≤ 1000000
 attribute_values-few s e legal = attribute-few (shape s.metamodel e.feature) (kept_values s.values e.node e.feature) (kept-few s e e.node legal)
 
--- a place where a value first stands is one of the list
+-- the place of the first of a value is one of the list
 pub first-below : (vs : List Value) (v : Value) (k : ℕ) → Some k ≡ first_in vs v → k < length vs
 first-below vs v k h =
     elim (has_value vs v) as (λ b. has_value vs v ≡ b → Some k ≡ (if b then Some (index_in vs v) else None) → k < length vs) [

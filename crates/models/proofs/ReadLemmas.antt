@@ -1,4 +1,4 @@
--- What stands at an end, by what is kept for it.
+-- What is at an end, by what is kept for it.
 use Rattle.std.proofs.Common.{◌≡◌, ◌&&◌, Bool, true, false, List, [], ◌∷◌, if◌then◌else◌, refl, ℕ, suc, ◌+◌, ◌||◌, not, cond, length, nat_lt, Some, None, option_map, is_some, ◌∙◌, arith}
 use Rattle.mm_types.specs.Shapes.{Shape}
 use Rattle.models.specs.Model.{attribute_values}
@@ -39,6 +39,6 @@ some-test : {X : Type 0} (f : ℕ → X) (b : Bool) (k : ℕ) → is_some (optio
 some-test f true k = refl
 some-test f false k = refl
 
--- there is a resource of a URI just where one has it
+-- there is a resource of a URI exactly if one has it
 pub resource-there : (r : Reading) (u : List ℕ) → is_some (resource_named r u) ≡ has_uri r u
 resource-there r u = some-test (λ i. record { 0 = i }) (nat_lt (position_or_len (bytes_eq u) r.uris) (length r.uris)) (position_or_len (bytes_eq u) r.uris) ∙ first-below (bytes_eq u) r.uris

@@ -61,7 +61,7 @@ IsLegalObject m (Some o) = IsTrue (lookups.is_concrete m o.class) × ((f : Featu
 abbrev pub kinds_of : Metamodel → Kinds
 kinds_of m = record { opposite = λ f. (shape m f).opposite; container = λ f. (shape m f).containing }
 
--- proxies may stand in a reference that contains nothing, and neither does its opposite (EMF: EReference.isResolveProxies)
+-- proxies may be in a reference that contains nothing, and neither does its opposite (EMF: EReference.isResolveProxies)
 abbrev pub takes_proxies : Shape → Bool
 takes_proxies a = a.is_reference && not (is_some a.containing)
 
@@ -81,7 +81,7 @@ is_legal_end r e (v ∷ vs) =
 abbrev pub OfProxies : (List ℕ → Type 0) → Links → Type 0
 OfProxies Holds s = (l : Link) (t : List ℕ) → In l s → l.far ≡ Proxy t → Holds t
 
--- links of the metamodel's pairs, at ends that may hold them, where no object contains itself and each proxy has the text of one
+-- links of the metamodel's pairs, at ends that may hold them; no object contains itself, and each proxy has the text of one
 pub record AreLegalLinks (r : Reading) (s : Links) : Type 0 where
   pub set : IsLegalSet s
   pub kinds : AreOfKind (kinds_of r.metamodel) s
@@ -91,7 +91,7 @@ pub record AreLegalLinks (r : Reading) (s : Links) : Type 0 where
 
 ---------------------------------------------------------------- resources
 
--- the URIs of resources are as joining gives them, short, each another, and no more of them than there may be
+-- the URIs of resources are as joining gives them, short, all different, and no more of them than there may be
 pub record AreLegalUris (us : List (List ℕ)) : Type 0 where
   pub count : length us ≤ RESOURCES
   pub joined : All IsJoined us

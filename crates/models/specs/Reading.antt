@@ -20,7 +20,7 @@ use Rattle.mm_types.specs.declared.end.End.{End}
 use Rattle.mm_types.specs.declared.value.Value.{Value}
 use Rattle.mm_types.specs.declared.value.Value.TheVariants as value
 
--- `next` is the number that the next object gets, `values` what stands at each end, `flag` whether an unsettable attribute is set,
+-- `next` is the number that the next object gets, `values` what is at each end, `flag` whether an unsettable attribute is set,
 -- `holder` the end that contains a node, `above` all nodes above it, the nearest first
 pub record Reading : Type 0 where
   pub metamodel : Metamodel
@@ -99,7 +99,7 @@ abbrev pub all_features_of : Reading → Node → List FeatureNo
 all_features_of r (node.Object o) = unwrap_or (option_and_then (lookups.features r.metamodel) (r.class o)) []
 all_features_of r (node.Resource k) = if has_resource r k then lookups.contents r.metamodel ∷ [] else []
 
--- where the first of a value stands at an end
+-- the position of the first of a value at an end
 abbrev pub first_at : Reading → End → Value → Option ℕ
 first_at r e v = first_in (r.values e) v
 
@@ -107,7 +107,7 @@ first_at r e v = first_in (r.values e) v
 abbrev pub is_repeat : Reading → End → Value → Bool
 is_repeat r e v = (shape_at r e).is_unique && has_value (r.values e) v
 
--- the position that is named at an end, and else the one behind the last value
+-- the position that is named at an end, and else the one after the last value
 abbrev pub position_for : Reading → End → Option ℕ → ℕ
 position_for r e i = unwrap_or i (length (r.values e))
 

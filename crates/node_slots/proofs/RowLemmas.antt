@@ -1,4 +1,4 @@
--- What a change of a feature makes of a row, and what a change makes where there is no row.
+-- What a change of a feature makes of a row, and what a change makes if there is no row.
 use Rattle.std.proofs.Common.{◌≡◌, zero, ◌+◌, ◌≤◌, true, false, eqb, List, [], Option, Some, None, if◌then◌else◌, refl, sym, ap, ◌∙◌, subst, arith}
 use Rattle.std.proofs.lemmas.Bool.{eqb-true, eq-eqb, false≢true}
 use Rattle.std.specs.Prelude.{IsPermutation}
@@ -51,7 +51,7 @@ changed f x r s e h is holder entered promised =
       kept = refl;
     })
 
--- a change that makes nothing of nothing leaves no row where there is none
+-- a change that makes nothing of nothing leaves no row if there is none
 unmade : (x : RowEdit) → ((g : FeatureNo) → [] ≡ vals_after x g []) → ((g : FeatureNo) → unpaired ≡ told_after x g unpaired) → None ≡ hold_after x None → [] ≡ entered_after x [] → IsRowEdited x None None
 unmade x vals pairing hold entered = record {
   vals = vals;

@@ -23,7 +23,7 @@ pub record Cells : Type 0 where
   pub hold : Node → Option End
   pub entered : Node → List End
 
--- no values, and nothing that stands anywhere
+-- no values, and nothing that is anywhere
 abbrev pub no_cells : Cells
 no_cells = record { vals = λ e. []; pairing = λ e. unpaired; hold = λ n. None; entered = λ n. [] }
 

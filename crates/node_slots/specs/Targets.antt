@@ -23,7 +23,7 @@ abbrev pub CanHave : Bool → Value → Type 0
 CanHave mixed (value.Object o) = Unit {0}
 CanHave mixed v = mixed ≡ true
 
--- the value is what stands at a place
+-- the value is what is at a place
 abbrev pub is_value : Value → Option Value → Bool
 is_value v None = false
 is_value v (Some w) = same_value v w

@@ -1,4 +1,4 @@
--- What letting some targets go, and then others, gives; and what letting all of them go gives.
+-- What releasing some targets, and then others, gives; and what releasing all of them gives.
 use Rattle.std.proofs.Common.{◌≡◌, ◌+◌, ◌<◌, ℕ, Bool, true, false, cond, not, ◌&&◌, ◌||◌, List, [], ◌∷◌, ◌++◌, map, filter, length, if◌then◌else◌, refl, sym, ap, ◌∙◌, append_assoc, eq-eqb, le-leb}
 use Rattle.std.specs.List.{AllByRecursion, IsDistinct, list_any, prefix_len}
 use Rattle.std.proofs.lemmas.Bool.{eqb-false, ne_eqb}
@@ -37,14 +37,14 @@ all-have (r ∷ rs) h =
 pub all-stay : (rs : List Listed) → HaveTargets rs → (staying rs ≡ rs) × (leaving rs ≡ [])
 all-stay rs h = all-have rs (recursion_from_All (λ (r : Listed). 0 < length r.targets) rs h)
 
--- letting targets go, in its parts
+-- releasing targets, in its parts
 pub released-parts : (ss : List Spot) (rs : List Listed) → HaveTargets rs → released ss rs ≡ record { told = told_of_all ss rs; views = leaving (without_all ss rs); others = staying (without_all ss rs) }
 released-parts [] rs some = let all = all-stay rs some in λ i. let x : Released = record { told = []; views = sym all.1 i; others = sym all.0 i } in x
 released-parts (s ∷ ss) rs some = refl
 
 ---------------------------------------------------------------- all targets of one adapter
 
--- the adapter once all its targets have gone, where nobody before it has any of them
+-- the adapter once all its targets have gone, if nobody before it has any of them
 abbrev finished : Listed → Listed
 finished r = record { no = r.no; targets = []; view = hear_all r.view (map (λ t. removing r.no t.node 0) r.targets) }
 

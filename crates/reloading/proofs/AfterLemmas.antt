@@ -165,7 +165,7 @@ module _ (left : LeftProxy) where
                 (end-else d own (far-is g pair d ∙ far))
           ] refl
 
-  -- a proxy that stands after it stood there before, and is another than the one that was resolved
+  -- a proxy that is there after it was there before, and is other than the one that was resolved
   pub proxy-was : (d : End) (k : ℕ) (z : List ℕ) → slice_get (values_at u d) k ≡ Some (value.Proxy z) → (slice_get (values_at t d) k ≡ Some (value.Proxy z)) × (d ≡ e → k ≡ i → ⊥)
   proxy-was d k z at = by (end-after d)
     where

@@ -1,4 +1,4 @@
--- What was saved is had again: the loads, and then the resolves.
+-- What was saved comes back: the loads, and then the resolves.
 use Rattle.std.proofs.Common.{◌≡◌, suc, List, [], ◌∷◌, arith, refl, sym, subst}
 use Rattle.models.specs.Legal.{IsLegal}
 use Rattle.models.specs.Model.{Model, empty_model, model_of, reading}

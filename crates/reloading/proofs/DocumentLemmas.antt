@@ -1,4 +1,4 @@
--- What the document of a resource has under each feature of each object: what stands there, named as the document names it.
+-- What the document of a resource has under each feature of each object: what is there, named as the document names it.
 use Rattle.std.proofs.Common.{◌≡◌, ◌∙◌, ℕ, Bool, true, false, ◌&&◌, ◌||◌, not, List, [], ◌∷◌, ◌++◌, Option, Some, None, append-nil, flat_map, map, slice_get, if◌then◌else◌, eq-eqb, eqb-true, refl, sym, ap, subst}
 use Rattle.std.specs.Prelude.{Contains, option_and_then}
 use Rattle.std.specs.List.{AllByRecursion, IsDistinct, list_all, list_any}
@@ -41,7 +41,7 @@ use Rattle.reloading.proofs.StoredLemmas.{not-set, set-some, stored-of}
 
 ---------------------------------------------------------------- contents of different features
 
--- what stands under a feature, where each content is of another one
+-- what is under a feature, where each content is of another one
 under : (vals : FeatureNo → List Value) (gs : List FeatureNo) (f : FeatureNo) → IsDistinct same_feature gs
     → flat_map (λ (c : Content). if same_feature f c.feature then c.values else []) (map (λ g. record { feature = g; values = vals g }) gs) ≡ (if list_any (same_feature f) gs then vals f else [])
 unfolding IsDistinct
@@ -125,7 +125,7 @@ module _ (s : Model) (legal : IsLegal s) (k : ResourceNo) where
     abbrev copy : List Value
     copy = values_in (copied (reading s) k) (record { 0 = i }) f
 
-    -- a feature that is written has what stands there
+    -- a feature that is written has what is there
     values-written : copy ≡ (if list_any (same_feature f) (written_features r o) then map (renamed r os) (values_at s e) else [])
     values-written =
         ap (λ (x : Option DocObject). option_map_or (λ y. values_under y f) x []) (object-in r k o i at)
@@ -135,7 +135,7 @@ module _ (s : Model) (legal : IsLegal s) (k : ResourceNo) where
     is-written has set plain =
         any-in (same_feature f) (written_features r o) f (is-kept (is_written r o) (all_features_of r (node.Object o)) f (among-class r o f has) (λ j. set j && not (plain j))) (eq-eqb f.0 f.0 refl)
 
-    -- a reference that is no container reference has, in the document, what stands there
+    -- a reference that is no container reference has, in the document, what is there
     pub reference-values : (shape s.metamodel f).is_reference ≡ true → lookups.is_container s.metamodel f ≡ false → copy ≡ map (renamed r os) (values_at s e)
     reference-values reference plain =
         values-written

@@ -103,7 +103,7 @@ module _ (s : Model) (legal : IsLegal s) (steady : HasSteadyTexts s) (saved : Is
     late = λ i. Limit unless room i else_by NotEmpty unless is_nil (so_far.empty k filling.there filling.new i);
   }
 
-  ---------------------------------------------------------------- what stands after it
+  ---------------------------------------------------------------- what is after it
 
   read : IsDocument s.metamodel doc
   read = saved-document s legal steady k (uri_of r k) (readable s legal steady saved k there)

@@ -1,4 +1,4 @@
--- How many proxies are left: where a plain value takes the place of one, one fewer; and where none are, no proxy stands anywhere.
+-- How many proxies are left: one fewer if a plain value takes the place of one; and if none are, no proxy is anywhere.
 use Rattle.std.proofs.Common.{◌≡◌, ◌∙◌, ℕ, zero, suc, ◌+◌, ◌<◌, Bool, true, false, ◌&&◌, List, [], ◌∷◌, Option, Some, None, filter, flat_map, inl, inr, is_some, length, length-append, map, nat_eq, slice_get, slice_set, if◌then◌else◌, arith, refl, sym, ap, subst}
 use Rattle.std.specs.Prelude.{option_and_then}
 use Rattle.std.specs.List.{IsDistinct, range_with_len}
@@ -139,7 +139,7 @@ and-false false = refl
 
 ---------------------------------------------------------------- one end
 
--- the reading, where other values stand at the ends
+-- the reading, where other values are at the ends
 abbrev pub with_values : Reading → (End → List Value) → Reading
 with_values r values = record r { values = values }
 
@@ -227,7 +227,7 @@ module _ (r : Reading) (o : ObjectNo) (f : FeatureNo) (i : ℕ) (t : List ℕ) (
 ---------------------------------------------------------------- none left
 
 module _ (s : Model) (legal : IsLegal s) where
-  -- where a proxy stands: at an object that was made, under one of its features
+  -- where a proxy is: at an object that was made, under one of its features
   pub record IsOfFeatures (o : ObjectNo) (f : FeatureNo) : Type 0 where
     pub low : o.0 < length s.values.objects
     pub index : ℕ
@@ -261,7 +261,7 @@ module _ (s : Model) (legal : IsLegal s) where
       let contains : is_containment s.metamodel f ≡ true = ap (is_containment s.metamodel) same ∙ contents-contains s.metamodel in
       false≢true (all-passing lookups.is_object (values_at s e) i (value.Proxy t) (all-objects s e legal contains) here)
 
-  -- where no proxy is left, none stands anywhere
+  -- if no proxy is left, none is anywhere
   pub none-left : proxies_len (reading s) ≡ 0 → HasNoProxy (reading s)
   none-left zero_left e t there = let at = place-of (values_at s e) (value.Proxy t) there in by e.node refl at.0 at.1
     where

@@ -99,7 +99,7 @@ module _ (s : Model) (legal : IsLegal s) (steady : HasSteadyTexts s) (saved : Is
       by None is h = absurd (none-some o h)
       by (Some a) is h = (a, is)
 
-  -- what stands under a feature of an object of a resource has an address
+  -- what is under a feature of an object of a resource has an address
   value-address : (k : ResourceNo) (o : ObjectNo) (f : FeatureNo) (i : ℕ) (c : ObjectNo) → resource_of (above s.links) o ≡ Some k → slice_get (values_at s (at_end (node.Object o) f)) i ≡ Some (value.Object c) → (a : List ℕ) × (address r c ≡ Some a)
   value-address k o f i c inside here =
       let reference = reference-of s legal (at_end (node.Object o) f) i (value.Object c) here refl in
@@ -222,7 +222,7 @@ module _ (s : Model) (legal : IsLegal s) (steady : HasSteadyTexts s) (saved : Is
         ∙ map-each (λ v. meant (reading t) (as_new k v)) (meant r) vs (each-at _ vs (λ i v here. value-means k v loaded (λ c is.
         has-address k c (resource-root s legal c e k (holder-at s legal (node.Resource k) (lookups.contents s.metamodel) (contents-contains s.metamodel) i c (here ∙ ap (λ (x : Value). Some x) is)) refl))))
 
-    ---------------------------------------------------------------- what stands where
+    ---------------------------------------------------------------- what is where
 
     same-at : (k : ResourceNo) (o : ObjectNo) → has filled k ≡ true → resource_of (above s.links) o ≡ Some k → HasSame meant r (reading t) o (new k o)
     same-at k o loaded inside = record {

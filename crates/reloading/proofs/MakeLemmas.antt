@@ -114,7 +114,7 @@ module _ (s : Model) (legal : IsLegal s) (steady : HasSteadyTexts s) (saved : Is
         ResourceExists where_so uri-new i;
   }
 
-  ---------------------------------------------------------------- what stands after it
+  ---------------------------------------------------------------- what is after it
 
   now-uris : u.values.uris ≡ w.uris ++ uri ∷ []
   now-uris = ap (λ (x : Bool). if x then w.uris else w.uris ++ uri ∷ []) uri-new

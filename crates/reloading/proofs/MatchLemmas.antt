@@ -70,7 +70,7 @@ leads-proxy r n _ h = absurd (false≢true h)
 
 ---------------------------------------------------------------- a proxy
 
--- a proxy that is left: s has none, t is between s and itself, and the proxy stands in t
+-- a proxy that is left: s has none, t is between s and itself, and the proxy is in t
 pub record LeftProxy : Type 0 where
   pub s : Model
   pub w : ValuesState
@@ -85,7 +85,7 @@ pub record LeftProxy : Type 0 where
   pub text : List ℕ
   pub here : slice_get (values_at (model_of s.metamodel w c) (at_end (node.Object p) f)) i ≡ Some (value.Proxy text)
 
--- the model that it stands in, and its end
+-- the model that it is in, and its end
 abbrev pub place : LeftProxy → record { t : Model; e : End }
 place left = record { t = model_of left.s.metamodel left.w left.c; e = at_end (node.Object left.p) left.f }
 

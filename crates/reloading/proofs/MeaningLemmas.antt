@@ -1,4 +1,4 @@
--- Where a model is between one without proxies and itself, a text that a value means leads from one to the other: to an object there, and
+-- If a model is between one without proxies and itself, a text that a value means leads from one to the other: to an object there, and
 -- from an object there to a value here, at the same place.
 use Rattle.std.proofs.Common.{◌≡◌, ◌∙◌, ℕ, zero, suc, Bool, true, false, List, [], ◌∷◌, Option, Some, None, is_some, map, slice_get, refl, sym, ap, subst}
 use Rattle.std.specs.Prelude.{option_map}
@@ -45,7 +45,7 @@ by_of : Named → Option (List ℕ)
 by_of (By t) = t
 by_of (Plain v) = None
 
--- where no proxy stands, a text means an object
+-- if no proxy is, a text means an object
 means-object : (r : Reading) (v : Value) (t : List ℕ) → meant r v ≡ By (Some t) → ((u : List ℕ) → v ≡ value.Proxy u → ⊥) → (b : ObjectNo) × (v ≡ value.Object b) × (address r b ≡ Some t)
 unfolding by_of
 means-object r (value.Object b) t h other = (b, refl, ap by_of h)

@@ -1,4 +1,4 @@
--- An attribute has neither objects nor proxies: what is kept is of its type, and so is its default. So proxies stand under references alone.
+-- An attribute has neither objects nor proxies: what is kept is of its type, and so is its default. So proxies are under references alone.
 use Rattle.std.proofs.Common.{◌≡◌, ◌∙◌, ℕ, zero, suc, Bool, true, false, All, IsTrue, List, [], ◌∷◌, ◌++◌, map, Option, Some, None, option_map, slice_get, slice_index_or, unwrap_or, if◌then◌else◌, refl, sym, ap, subst}
 use Rattle.std.specs.Prelude.{◌&&◌, ℤ, option_and_then}
 use Rattle.std.specs.List.{AllByRecursion, list_all}
@@ -202,7 +202,7 @@ plain-at [] i v all at = absurd (none-some v at)
 plain-at (w ∷ ws) zero v all at = subst (λ (x : Value). is_plain x ≡ true) (same_Some w v at) (and_parts _ _ all).0
 plain-at (w ∷ ws) (suc i) v all at = plain-at ws i v (and_parts _ _ all).1 at
 
--- what is not plain stands under a reference
+-- what is not plain is under a reference
 pub reference-of : (s : Model) → IsLegal s → (e : End) (i : ℕ) (v : Value) → slice_get (values_at s e) i ≡ Some v → is_plain v ≡ false → (shape s.metamodel e.feature).is_reference ≡ true
 reference-of s legal e i v at other =
     elim (shape s.metamodel e.feature).is_reference as (λ b. (shape s.metamodel e.feature).is_reference ≡ b → b ≡ true) [

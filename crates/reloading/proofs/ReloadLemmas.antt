@@ -1,4 +1,4 @@
--- Resolves, one after another, until no proxy is left: none is refused, there are such ones, and what comes to stand is alike.
+-- Resolves, one after another, until no proxy is left: none is refused, there are resolves to the end, and what they lead to is alike.
 use Rattle.std.proofs.Common.{◌≡◌, ℕ, zero, suc, ◌+◌, ◌<◌, Bool, true, false, List, [], ◌∷◌, Option, Some, None, is_some, length, map, slice_get, if◌then◌else◌, arith, refl, sym}
 use Rattle.std.specs.List.{range_with_len}
 use Rattle.std.proofs.lemmas.Option.{none-some}

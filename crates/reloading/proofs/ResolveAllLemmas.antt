@@ -39,7 +39,7 @@ use Rattle.reloading.proofs.ResolvedLemmas.{target-is}
 
 ---------------------------------------------------------------- places
 
--- a proxy of an object of a legal model stands at one of its places
+-- a proxy of an object of a legal model is at one of its places
 all-places : (t : Model) → IsLegal t → (o : ObjectNo) (f : FeatureNo) (i : ℕ) (z : List ℕ) → slice_get (values_at t (at_end (node.Object o) f)) i ≡ Some (value.Proxy z) → Contains (sites (reading t)) (site o f i)
 all-places t legal o f i z at =
     let r = reading t in
@@ -61,12 +61,12 @@ first-or p ps q (suc k, low, at) = Rest (k, omega (arith, low), at)
 
 ---------------------------------------------------------------- one after another
 
--- all proxies of objects stand at some places
+-- all proxies of objects are at some places
 abbrev AreAt : Model → List ProxySite → Type 0
 AreAt t ps = (o : ObjectNo) (f : FeatureNo) (i : ℕ) (z : List ℕ) → slice_get (values_at t (at_end (node.Object o) f)) i ≡ Some (value.Proxy z) → Contains ps (site o f i)
 
 module _ (s : Model) (legal : IsLegal s) (none : HasNoProxy (reading s)) where
-  -- what stands once these places are gone through
+  -- what is left once these places are gone through
   record IsSolved (t : Model) (ps : List ProxySite) : Type 0 where
     no_proxy : HasNoProxy (reading (after_each t ps))
     between : Between (reading s) (reading (after_each t ps))
@@ -100,7 +100,7 @@ module _ (s : Model) (legal : IsLegal s) (none : HasNoProxy (reading s)) where
       between = subst (λ (c : Bool). Between (reading s) (reading (if c then after_each t ps else after_each u ps))) (sym is) so.between;
     }
 
-    -- a proxy is resolved, and those that are left stand at the other places
+    -- a proxy is resolved, and those that are left are at the other places
     solved : is_proxy_site (reading t) p ≡ true → IsSolved t (p ∷ ps)
     solved there =
         let one = resolves-between s w b legal other none between p.object p.feature p.index there in
@@ -113,7 +113,7 @@ module _ (s : Model) (legal : IsLegal s) (none : HasNoProxy (reading s)) where
         by q g k apart (First same) = absurd (apart (ap end_of same) (ap (λ (y : ProxySite). y.index) same))
         by q g k apart (Rest later) = later
 
-    -- where none stands any more, nothing happens
+    -- if none is any more, nothing happens
     passed : is_proxy_site (reading t) p ≡ false → IsSolved t (p ∷ ps)
     passed away = moved-on true (none-at t p away) (rest w b other between (λ q g k z here. by q g k z here (first-or p ps (site q g k) (at q g k z here))))
       where

@@ -1,4 +1,4 @@
--- What resolving a proxy makes of each end: an object stands where the proxy stood, at the opposite end too; all else is as it was. It is
+-- What resolving a proxy makes of each end: an object is where the proxy was, at the opposite end too; all else is as it was. It is
 -- read off the notices of the change, which replay it.
 use Rattle.std.proofs.Common.{◌≡◌, ◌∙◌, ℕ, zero, suc, not, Bool, true, false, IsTrue, List, [], ◌∷◌, ◌++◌, Option, Some, None, is_some, length, nat_lt, slice_get, slice_set, if◌then◌else◌, option_to_list, arith, refl, sym, ap, subst}
 use Rattle.std.specs.Prelude.{option_and_then, option_map, position}
@@ -119,7 +119,7 @@ resolved-shown a (w ∷ ws) i p v here one =
 
 ---------------------------------------------------------------- what is found
 
--- the counterpart stands at the opposite end
+-- the counterpart is at the opposite end
 pub counterpart-at : (r : Reading) (e : End) (o : ObjectNo) (c : Counterpart) → counterpart r e o ≡ Some c → (g : FeatureNo) × ((shape r.metamodel e.feature).opposite ≡ Some g) × (c.end ≡ far_end o g)
 counterpart-at r e o c h = by (shape r.metamodel e.feature).opposite refl h
   where
@@ -172,7 +172,7 @@ module _ (s : Model) (legal : IsLegal s) (o : ObjectNo) (f : FeatureNo) (i : ℕ
         ∙ ap (λ (q : Option Target). happened_all s.metamodel (held_at (reading s)) (option_map_or (resolved e i) q []) d) is
         ∙ happened_all-at s.metamodel (held_at (reading s)) (resolved e i x) d
 
-    -- the counterpart stands at an end
+    -- the counterpart is at an end
     abbrev pub is_far : End → Bool
     is_far d = option_map_or (λ (c : Counterpart). same_end c.end d) x.counterpart false
 
@@ -206,7 +206,7 @@ module _ (s : Model) (legal : IsLegal s) (o : ObjectNo) (f : FeatureNo) (i : ℕ
         (ap (λ (h : Held). h.values) now ∙ resolved-shown (shape s.metamodel d.feature) (values_at s d) k p (value.Object b) here (λ single. values-single s d legal reference single))
         ∙ unshown-some (slice_set (values_at s d) k (value.Object b)) (set-some (values_at s d) k (value.Object b) (values-some s legal d reference) refl)
 
-    -- the object stands where the proxy stood
+    -- the object is where the proxy was
     pub own-values : is_far e ≡ false → values_at t e ≡ slice_set (values_at s e) i (value.Object x.object)
     own-values far =
         let found = target-is (reading s) e i x is in

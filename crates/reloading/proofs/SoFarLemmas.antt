@@ -1,4 +1,4 @@
--- What stands while loads go on: the resources that were made, the images of what was loaded, and nothing else.
+-- What is there while loads go on: the resources that were made, the images of what was loaded, and nothing else.
 use Rattle.std.proofs.Common.{◌≡◌, ◌∙◌, ℕ, zero, suc, ◌<◌, Bool, true, false, ◌||◌, cond, List, [], ◌∷◌, Option, Some, flat_map, length, map, option_map, slice_get, unwrap_or, eq-eqb, eqb-true, refl, sym, ap}
 use Rattle.std.specs.Prelude.{position}
 use Rattle.std.specs.List.{IsDistinct}
@@ -22,7 +22,7 @@ use Rattle.reloading.specs.Orders.{has, is_same, number_of, uri_of}
 
 ---------------------------------------------------------------- numbers of resources
 
--- a resource among some stands at the number that it got
+-- a resource among some is at the number that it got
 pub record IsNumbered (made : List ResourceNo) (k : ResourceNo) : Type 0 where
   pub found : position (is_same k) made ≡ Some (number_of made k).0
   pub there : slice_get made (number_of made k).0 ≡ Some k
@@ -46,7 +46,7 @@ numbered made k h =
     let own : at.0 ≡ (number_of made k).0 = sym (ap (λ (x : Option ℕ). unwrap_or x 0) at.1) in
     record { found = at.1 ∙ ap (λ (i : ℕ). Some i) own; there = ap (slice_get made) (sym own) ∙ at.2 }
 
--- what stands at a place is among them
+-- what is at a place is among them
 pub among : (made : List ResourceNo) (i : ℕ) (k : ResourceNo) → slice_get made i ≡ Some k → has made k ≡ true
 among [] i k at = absurd (none-some k at)
 among (j ∷ js) zero k at = ap (λ (b : Bool). b || has js k) (eq-eqb k.0 j.0 (ap (λ (x : ResourceNo). x.0) (sym (same_Some j k at))))
@@ -58,7 +58,7 @@ among (j ∷ js) (suc i) k at = ap (λ (b : Bool). is_same k j || b) (among js i
 
 ---------------------------------------------------------------- copies
 
--- the objects of resource k of r have in t, from the number n on, what they had, and stand in resource j
+-- the objects of resource k of r have in t, from the number n on, what they had, and are in resource j
 pub record IsCopied (r : Reading) (k j : ResourceNo) (n : ℕ) (t : Reading) : Type 0 where
   pub classes : (o : ObjectNo) → resource_of r.above o ≡ Some k → t.class (image r k n o) ≡ r.class o
   pub values : (o : ObjectNo) (f : FeatureNo) → resource_of r.above o ≡ Some k → t.values (at_end (node.Object (image r k n o)) f) ≡ map (value_image r k n) (r.values (at_end (node.Object o) f))

@@ -15,7 +15,7 @@ pub record HasSame (name : Reading → Value → Named) (s t : Reading) (o p : O
   pub values : (f : FeatureNo) → map (name t) (t.values (at_end (node.Object p) f)) ≡ map (name s) (s.values (at_end (node.Object o) f))
   pub flags : (f : FeatureNo) → t.flag (at_end (node.Object p) f) ≡ s.flag (at_end (node.Object o) f)
 
--- an object of t stands at an address, and has the same as o
+-- an object of t is at an address, and has the same as o
 pub record IsThere (name : Reading → Value → Named) (s t : Reading) (o : ObjectNo) (a : List ℕ) : Type 0 where
   pub object : ObjectNo
   pub at : address t object ≡ Some a
@@ -28,6 +28,6 @@ pub record HaveSame (name : Reading → Value → Named) (s t : Reading) : Type 
   pub there : (o : ObjectNo) (a : List ℕ) → address s o ≡ Some a → IsThere name s t o a
   pub back : (p : ObjectNo) (a : List ℕ) → address t p ≡ Some a → (o : ObjectNo) × (address s o ≡ Some a)
 
--- two models are alike: numbers may differ, and what stands in no resource is not looked at
+-- two models are alike: numbers may differ, and what is in no resource is not looked at
 abbrev pub Alike : Reading → Reading → Type 0
 Alike = HaveSame named

@@ -11,7 +11,7 @@ use Rattle.fragment_paths.specs.Fragments.{address}
 use Rattle.reloading.specs.Addressed.{meant}
 use Rattle.reloading.specs.Alike.{HaveSame}
 
--- a proxy of an address stands under a feature of an object
+-- a proxy of an address is under a feature of an object
 abbrev pub has_proxy : Reading → ObjectNo → FeatureNo → List ℕ → Bool
 has_proxy r o f a = has_value (r.values (at_end (node.Object o) f)) (value.Proxy a)
 

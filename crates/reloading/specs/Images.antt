@@ -21,7 +21,7 @@ image r k n o = loaded n (root_copied (objects_in r k) o)
 abbrev pub value_image : Reading → ResourceNo → ℕ → Value → Value
 value_image r k n v = loaded_value n (renamed r (objects_in r k) v)
 
--- the objects of resource k of r have, from the number n on, what they had, and stand in resource j of t, in their order
+-- the objects of resource k of r have, from the number n on, what they had, and are in resource j of t, in their order
 pub record HasImages (r : Reading) (k : ResourceNo) (n : ℕ) (j : ResourceNo) (t : Reading) : Type 0 where
   pub next : t.next ≡ n + length (objects_in r k)
   -- each has its class, at each end what stood there, and its flags

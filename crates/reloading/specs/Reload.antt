@@ -1,4 +1,4 @@
--- What was saved is had again: the loads of all that was saved, in any order, and then resolves until no proxy is left.
+-- What was saved comes back: by the loads of all that was saved, in any order, and then resolves until no proxy is left.
 use Rattle.std.specs.Prelude.{◌≡◌, true, List, [], ◌∷◌, is_some}
 use Rattle.mm_types.specs.declared.numbers.Node.TheVariants as node
 use Rattle.models.specs.Legal.{IsLegal}
@@ -15,7 +15,7 @@ use Rattle.reloading.specs.Laws.{IsAllResolved}
 use Rattle.reloading.specs.Orders.{AreAllowed, IsOrder, IsSaved, Task, after_all, changes}
 use Rattle.reloading.specs.Proxies.{HasNoProxy}
 
--- each change resolves a proxy that stands there in its turn, and none stands anywhere after the last
+-- each change resolves a proxy that is there in its turn, and none is anywhere after the last
 abbrev pub AreResolves : Model → List Change → Type 0
 AreResolves t [] = HasNoProxy (reading t)
 AreResolves t (At e (Resolve i) ∷ cs) = (is_some (proxy_at (reading t) e i) ≡ true) × AreResolves (after t (At e (Resolve i))) cs
@@ -25,7 +25,7 @@ AreResolves t (c ∷ cs) = ⊥
 abbrev pub reloaded : Model → List Task → Model
 reloaded s ts = after_all (empty_model s.metamodel) (changes (reading s) [] ts)
 
--- nothing refuses the loads nor the resolves, and what comes to stand is alike to what was saved
+-- nothing refuses the loads nor the resolves, and what they lead to is alike to what was saved
 pub record IsHadAgain (s : Model) (ts : List Task) (cs : List Change) : Type 0 where
   pub loads : AreAllowed (empty_model s.metamodel) (changes (reading s) [] ts)
   pub resolves : AreAllowed (reloaded s ts) cs

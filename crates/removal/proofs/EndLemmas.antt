@@ -1,4 +1,4 @@
--- What stands in the end of a reference of a legal model.
+-- What is in the end of a reference of a legal model.
 use Rattle.std.proofs.Common.{◌≡◌, suc, true, false, ◌&&◌, List, [], ◌∷◌, Some, if◌then◌else◌, ap, ◌∙◌, arith}
 use Rattle.std.specs.List.{IsDistinct, list_any}
 use Rattle.std.proofs.lemmas.Bool.{false_from_ne_true, false≢true}
@@ -21,7 +21,7 @@ use Rattle.containment.proofs.MemberLemmas.{own-feature}
 use Rattle.containment.proofs.PartLemmas.{legal-at, legal-reference}
 use Rattle.removal.proofs.ListLemmas.{all-at}
 
--- an end in which something stands is one of a reference of its node
+-- an end that has something is one of a reference of its node
 pub record IsOpen (s : Model) (e : End) : Type 0 where
   pub own : list_any (same_feature e.feature) (all_features_of (reading s) e.node) ≡ true
   pub reference : (shape s.metamodel e.feature).is_reference ≡ true
@@ -31,7 +31,7 @@ open-end s e v legal at =
     let known = legal-at (reading s) e (end s.links e) at.0 v (legal.links.ends e) at.1 in
     record { own = own-feature (reading s) e.node e.feature known.0; reference = legal-reference (reading s) e.feature v known.1 }
 
--- a node that stands in an end is an object
+-- a node that is in an end is an object
 pub object-node : (s : Model) (e : End) (n : Node) → IsLegal s → Has s.links e (node_value n) → IsObject n
 object-node s e (node.Object x) legal at = tt
 object-node s e (node.Resource k) legal at = absurd (false≢true (legal-at (reading s) e (end s.links e) at.0 value.Null (legal.links.ends e) at.1).1)

@@ -41,7 +41,7 @@ use Rattle.removal.specs.declared.numbers.Numbers.{Numbers}
 same-self : (x : ObjectNo) → same_value (value.Object x) (value.Object x) ≡ true
 same-self x = eq-eqb x.0 x.0 refl
 
--- the ends that an object stands in are those that hold it
+-- the ends that an object is in are those that hold it
 incoming-hold : (s : Links) (x : ObjectNo) (ds : List End) → AreIncoming s x ds → (e : End) → has_end ds e ≡ holds s e x
 incoming-hold s x ds are e =
     same-tests (has_end ds e) (holds s e x)
@@ -96,7 +96,7 @@ goes-among : (os : List ObjectNo) (v : Value) → goes (is_node_among os) v ≡ 
 goes-among os (value.Object y) = among-turn y os
 goes-among os _ = sym (any-none os)
 
--- some value goes where some of the objects is among the values
+-- some value goes if some of the objects is among the values
 any-turn : (os : List ObjectNo) (vs : List Value) → list_any (goes (is_node_among os)) vs ≡ list_any (λ x. has_value vs (value.Object x)) os
 any-turn os [] = sym (any-none os)
 any-turn os (v ∷ vs) =

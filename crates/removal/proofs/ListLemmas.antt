@@ -28,7 +28,7 @@ pub all-flat_map : {X Y : Type 0} (P : X → Type 0) (Q : Y → Type 0) (f : X �
 all-flat_map P Q f each [] all = tt
 all-flat_map P Q f each (x ∷ xs) all = all-append Q (f x) (flat_map f xs) (each x all.0) (all-flat_map P Q f each xs all.1)
 
--- what is true of what stands at each position
+-- what is true of what is at each position
 pub all-at : {X : Type 0} (P : X → Type 0) (xs : List X) → ((k : ℕ) (x : X) → slice_get xs k ≡ Some x → P x) → AllByRecursion P xs
 all-at P [] at = tt
 all-at P (x ∷ xs) at = (at 0 x refl, all-at P xs (λ k y h. at (suc k) y h))

@@ -1,4 +1,4 @@
--- What an end loses, position by position, and where the object itself stands then.
+-- What an end loses, position by position, and where the object itself is then.
 use Rattle.std.proofs.Common.{◌≡◌, ℕ, zero, suc, ◌+◌, ◌<◌, ◌≤◌, length, drop, slice_get, slice_index_or, eq-eqb, Bool, true, false, not, ◌&&◌, cond, List, [], ◌∷◌, ◌++◌, filter, Option, Some, option_and_then, option_map, option_to_list, append_assoc, add-one, refl, sym, ap, ◌∙◌, arith, subst}
 use Rattle.std.specs.Option.{option_map_or}
 use Rattle.std.proofs.lemmas.Bool.{false≢true}
@@ -59,7 +59,7 @@ lost-is r o e v q numbers held answer has holds read told =
     by (value.Object x) = λ i. has (node.Object x) i && not (holds i && same_value (value.Object x) (value.Object o))
     by _ = refl
 
--- what stands at a position of an end, and whether it is lost
+-- what is at a position of an end, and whether it is lost
 pub record IsAt (r : Reading) (o : ObjectNo) (e : End) (i : ℕ) (q : Option ObjectNo) (answer : Bool) : Type 0 where
   pub value : Value
   pub at : slice_get (r.values e) i ≡ Some value
@@ -119,7 +119,7 @@ module _ (e : End) (p : Value → Bool) where
 ---------------------------------------------------------------- the object itself
 
 module _ (p : Value → Bool) (o : ObjectNo) where
-  -- where the object stands among the values that are not lost
+  -- where the object is among the values that are not lost
   abbrev pub place_left : List Value → ℕ
   place_left vs = index_in (filter (λ v. not (p v)) vs) (value.Object o)
 

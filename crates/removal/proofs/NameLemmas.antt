@@ -74,7 +74,7 @@ module _ (s : Model) (legal : IsLegal s) (o : ObjectNo) (touched : AreTouched s 
       let of_node = any-flat_map (same_feature f) q (λ (g : FeatureNo). end_link_ends r is_gone (at_end n g)) f (same-feature f) of_end (references_of r n) listed in
       any-left q (flat_map (node_link_ends r is_gone) (subtree r o)) (flat_map (outer_link_ends r is_gone) (touched_ends r o)) (any-flat_map (same_object x) q (node_link_ends r is_gone) x (same-object x) of_node (subtree r o) among)
 
-  -- a link of a node that stays, where no other end can name it
+  -- a link of a node that stays, if no other end can name it
   named-outer : (e : End) (v : Value) → gone (reading s) o e.node ≡ false → Has s.links e v → goes (gone (reading s) o) v ≡ true → (shape s.metamodel e.feature).opposite ≡ None
       → q (link_end e v) ≡ true → list_any q (tree_link_ends (reading s) o) ≡ true
   named-outer e v stays at lost alone h =

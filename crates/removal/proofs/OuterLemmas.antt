@@ -30,7 +30,7 @@ use Rattle.removal.specs.Outer.{ends_of, gone, holds_some, object_node, others_w
 
 ---------------------------------------------------------------- lists in order
 
--- each element comes before all behind it
+-- each element comes before all after it
 abbrev pub IsSorted : {X : Type 0} → (X → X → Bool) → List X → Type 0
 IsSorted R [] = Unit {0}
 IsSorted R (x ∷ xs) = AllByRecursion (λ y. R x y ≡ true) xs × IsSorted R xs

@@ -13,7 +13,7 @@ use Rattle.repository.specs.declared.command.Command.{Command}
 use Rattle.repository.specs.declared.command.Command.TheVariants as command
 use Rattle.repository.specs.declared.reply.Reply.{Reply}
 
--- where nothing refuses, nothing does if the last condition is not looked at
+-- if nothing refuses, nothing does if the last condition is not looked at
 none_of : (a b : Option Refused) (r : Refused) (t : Bool) → (a else_by b else_by (r where_so t)) ≡ None → (a else_by b else_by (r where_so false)) ≡ None
 none_of (Some x) b r t h = absurd (cc h)
 none_of None (Some y) r t h = absurd (cc h)

@@ -217,7 +217,7 @@ pub step-legal : (s : State) (c : Command View) → KeepsLegal s c
 step-legal s c legal =
     elim (refusal_of s c) as (λ r. refusal_of s c ≡ r → IsLegal (step_unless s c r).after) [ Some r ↦ λ e. legal | None ↦ λ e. done-legal s c legal e ] refl
 
--- what was executed leaves a legal state too, where memory may be refused
+-- what was executed leaves a legal state too, if memory may be refused
 pub executed-legal : (s t : State) (c : Command View) (o : Outcome) → Executed s c o t → IsLegal s → IsLegal t
 executed-legal s t c o x legal =
     elim (is_memory o) as (λ b. MatchBool b (IsWanting s c o t) (step s c ≡ record { outcome = o; after = t }) → IsLegal t) [

@@ -78,7 +78,7 @@ pub load_out_of_memory : (s : State) (k : ResourceNo) (text : List ℕ) → node
 unfolding loaded_as
 load_out_of_memory s k text there = record { may = ap not (loaded-not-plain s k (reads_into (reads s) k text) there); outcome = refl; state = refl }
 
--- a fault is answered where nothing else is
+-- a fault is the answer if nothing else is
 pub load_faulty : (s : State) (k : ResourceNo) (text : List ℕ) (f : DocFault) (r : Refused) → node_refusal (reads s) (node.Resource k) ≡ None → reads_into (reads s) k text ≡ Err f → Some r ≡ load_refusal (reads s) k (Err f)
     → Executed s (command.Load k text) (Err (record { refused = r; given_back = None })) s
 unfolding loaded_as

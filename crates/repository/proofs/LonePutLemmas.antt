@@ -47,7 +47,7 @@ new-added r e _ i p h = absurd (none-some p h)
 pub add-answered : (r : Reading) (rs : List Listed) (e : End) (v : Value) (i : Option ℕ) (p : NewLink) → lone_put r (At e (Add v i)) ≡ Some p → answer.Flag true ≡ answer_of r rs (command_of [] (At e (Add v i)))
 add-answered r rs e v i p h = ap (λ (b : Bool). answer.Flag (not b)) (sym (new-added r e v i p h))
 
--- where nobody hears of the put, nobody hears the chain
+-- if nobody hears of the put, nobody hears the chain
 put-unheard : (s : State) (c : Change) (p : NewLink) → lone_put (reads s) c ≡ Some p → is_put_heard s p ≡ false → IsUnheard (reads s).above (chain (reads s) c) s.adapters
 put-unheard s c p lone none =
     let heard_at : Node → Bool = λ x. is_heard (reads s).above x s.adapters in

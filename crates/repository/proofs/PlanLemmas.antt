@@ -91,7 +91,7 @@ module _ (s : State) (k : ResourceNo) where
   unfoldable pub loaded_as : Result Doc DocFault → Option Refused
   loaded_as x = node_refusal (reads s) (node.Resource k) else_by load_refusal (reads s) k x else_by (AdapterFull where_so is_chain_full (reads s).above (option_map_or (chain (reads s)) (load_of k x) []) s.adapters)
 
--- where nothing is found before planning
+-- if nothing is found before planning
 refusal-planned : (s : State) (text : List ℕ) (c : Change) → IsProper (reads s) text c → early_refusal (reads s) c ≡ None → refusal_of s (command_of text c) ≡ (late_refusal (reads s) c else_by full s c)
 unfolding full asked_of loaded_as
 refusal-planned s text (NewResource u) web early =
@@ -100,7 +100,7 @@ refusal-planned s text (Load k doc) proper early = ap (loaded_as s k) proper.0 �
 refusal-planned s text ResolveAll brought early = refl
 refusal-planned s text _ brought early = rw early refl
 
--- a condition that is none of these is none of them behind another that is none
+-- a condition that is none of these is none of them after another that is none
 ---------------------------------------------------------------- what is found first is not out of memory
 
 abbrev no_memory : Refused → Bool

@@ -31,7 +31,7 @@ use Rattle.repository.specs.declared.read.Tally.TheVariants.{Kept, Told}
 use Rattle.repository.specs.declared.reply.Answer.{Answer}
 use Rattle.repository.proofs.AdapterLemmas.{is_chain_full-nil, tell_chain-nil}
 
--- what is done by a command that tells nothing and lets nobody go, and then does this to the adapters
+-- what is done by a command that tells nothing and releases nobody, and then does this to the adapters
 pub done_quiet : (up : Above) (m : Model) (rs : List Listed) (j : List Listed → List Listed) (a : Answer) → (let y : Stepped = record {
   outcome = Ok (record { answer = a; told = []; released = [] });
   after = record { model = m; adapters = j (tell_chain up [] rs) };

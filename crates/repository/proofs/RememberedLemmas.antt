@@ -1,4 +1,4 @@
--- What is remembered of fragments, and of who hears a node, stays true where no link that contains is edited.
+-- What is remembered of fragments, and of who hears a node, stays true if no link that contains is edited.
 use Rattle.std.proofs.Common.{◌≡◌, ◌∙◌, ℕ, Bool, true, false, List, Option, Some, None, refl, sym, ap, subst, inl, inr, eqb-true, arith}
 use Rattle.std.specs.Prelude.{◌&&◌, ◌<◌, cond, if◌then◌else◌, is_some, IfSome, [], ◌∷◌, length, not, suc, zero}
 use Rattle.std.specs.Option.{option_map_or}

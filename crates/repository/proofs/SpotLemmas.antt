@@ -124,7 +124,7 @@ others-len (s ∷ ss) rs = omega (arith, targets_len-staying (without_all (s ∷
 abbrev is_among : List Spot → AdapterNo → Node → Bool
 is_among ss k x = list_any (λ (s : Spot). same_no s.0 k && same_node x s.1) ss
 
--- the targets of an adapter that go stand among these
+-- the targets of an adapter that go are among these
 abbrev Stand : (AdapterNo → Node → Bool) → List Spot → Listed → Type 0
 Stand goes ss r = (x : Node) → has_target x r ≡ true → goes r.no x ≡ true → is_among ss r.no x ≡ true
 

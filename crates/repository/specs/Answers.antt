@@ -94,7 +94,7 @@ read_answer r rs (asks.ObjectAt t) = answer.Found (at r t)
 read_answer r rs (asks.Adapter number Told) = answer.Count (count_of rs number (λ v. v.told))
 read_answer r rs (asks.Adapter number Kept) = answer.Count (count_of rs number (λ v. length v.kept))
 
--- `delete` answers how many objects it destroyed, `load` how many it made, and `resolve_all` how many proxies it resolved and how many stand
+-- `delete` answers how many objects it destroyed, `load` how many it made, and `resolve_all` how many proxies it resolved and how many are
 -- afterwards
 abbrev pub answer_of : Reading → List Listed → Command View → Answer
 answer_of r rs (command.At e a) = act_answer r e a

@@ -42,7 +42,7 @@ pub record AreTexts (r : Reading) (texts : ResourceNo → List ℕ) : Type 0 whe
   pub reads : (k : ResourceNo) → has_resource r k ≡ true → IsReadAs r k (texts k)
   pub utf8 : (k : ResourceNo) → has_resource r k ≡ true → is_utf8 (texts k) ≡ true
 
--- each command resolves a proxy that stands there in its turn, and none stands anywhere after the last
+-- each command resolves a proxy that is there in its turn, and none is anywhere after the last
 abbrev pub AreResolves : State → List (Command View) → Type 0
 AreResolves t [] = HasNoProxy (reads t)
 AreResolves t (command.At e (Resolve i) ∷ cs) = (is_some (proxy_at (reads t) e i) ≡ true) × AreResolves (step t (command.At e (Resolve i))).after cs
@@ -119,13 +119,13 @@ ResolvesAll s w b = OfBetween IsAllResolved s w b
 
 ---------------------------------------------------------------- all of it
 
--- the resolves are done, and what comes to stand is alike
+-- the resolves are done, and what they lead to is alike
 pub record IsHadAgain (s : State) (texts : ResourceNo → List ℕ) (ts : List Task) (rs : List (Command View)) : Type 0 where
   pub resolves : AllDone (run (reloaded s texts ts) rs).outcomes
   pub alike : Alike (reads s) (reads (run (reloaded s texts ts) rs).after)
 
 -- whatever the order of the loads, they are done; to resolve all at once leaves no proxy; there are resolves, one after another, that leave
--- none; and whatever their order, all is had again
+-- none; and whatever their order, all comes back
 pub record IsReloaded (s : State) (texts : ResourceNo → List ℕ) (ts : List Task) : Type 0 where
   pub loads : AllDone (run (empty_state s.model.metamodel) (commands (reads s) texts [] ts)).outcomes
   pub all : IsAllResolved (reads s) (reloaded s texts ts)

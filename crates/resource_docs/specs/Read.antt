@@ -1,4 +1,4 @@
--- What a document is read as, where no cause of refusal applies.
+-- What a document is read as, if no cause of refusal applies.
 use Rattle.std.specs.Prelude.{ℕ, not, List, [], filter, filter_map, flat_map, map, Option, option_map, slice_get, unwrap_or, if◌then◌else◌}
 use Rattle.std.specs.List.{All, enumerate_from}
 use Rattle.std.specs.Option.{option_map_or}
@@ -52,7 +52,7 @@ doc_read m b d =
 abbrev pub values_under : DocObject → FeatureNo → List Value
 values_under o f = flat_map (λ c. if same_feature f c.feature then c.values else []) o.contents
 
--- what stands in a document under a feature of an object
+-- what is in a document under a feature of an object
 abbrev pub values_in : Doc → ObjectNo → FeatureNo → List Value
 values_in d o f = option_map_or (λ x. values_under x f) (slice_get d.objects o.0) []
 

@@ -26,11 +26,11 @@ uri_meant b (c ∷ cs) = b.join (c ∷ cs)
 abbrev pub target_in : Base → List ℕ → List ℕ → Path → Target
 target_in b rest uri p = if bytes_eq uri b.uri then Here p else Elsewhere (address_text uri rest)
 
--- a URI, or an empty part, and a fragment behind it
+-- a URI, or an empty part, and a fragment after it
 abbrev pub target_at : Base → List ℕ → List ℕ → Option Target
 target_at b part rest = parse rest >>= (λ p. option_map (λ u. target_in b rest u p) (uri_meant b part))
 
--- without `#` a fragment of the document; with it a URI before the first one, and a fragment behind
+-- without `#` a fragment of the document; with it a URI before the first one, and a fragment after
 abbrev pub target : Base → List ℕ → Option Target
 target b t = if has_mark t then target_at b (uri_part t) (fragment_part t) else option_map Here (parse t)
 

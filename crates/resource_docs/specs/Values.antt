@@ -54,7 +54,7 @@ has_lost m b ps e = option_map_or (λ g. list_any (is_lost m b ps g.kind) (value
 
 ---------------------------------------------------------------- values
 
--- the value that stands at a position under a feature of the object that has a path
+-- the value that is at a position under a feature of the object that has a path
 abbrev pub value_of : Metamodel → Base → List Part → Path → FeatureNo → Kind → ℕ × Data → Option Value
 value_of m b ps p f (Attribute t unique unsettable default) v = attribute_value m (shape m f).is_single t v.1
 value_of m b ps p f (Reference class true opposite) v = option_map object_of (number_of ps (with_step p (step_to m f v.0)))

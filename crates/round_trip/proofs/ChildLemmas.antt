@@ -82,13 +82,13 @@ pub record IsPlaced (s : Model) (o : ObjectNo) : Type 0 where
 pub own-path : (x : Option Path) (p : Path) → x ≡ Some p → x ≡ Some (unwrap_or x (new_path 0 []))
 own-path x p is = is ∙ ap Some (sym (ap (λ (y : Option Path). unwrap_or y (new_path 0 [])) is))
 
--- where an object stands at a reference is where it stands first
+-- the position of an object at a reference is its first
 pub stands-at : (s : Model) (e : End) (i : ℕ) (o : ObjectNo) → IsLegal s → (shape s.metamodel e.feature).is_reference ≡ true → slice_get (values_at s e) i ≡ Some (value.Object o) → position_in (reading s) e o ≡ i
 stands-at s e i o legal reference there =
     ap (λ (x : Option ℕ). unwrap_or x 0) (sym (position-target s e (value.Object o) (Some i) legal reference (ap (λ (vs : List Value). slice_get vs i) (sym (values-linked s e reference)) ∙ there)))
 
 module _ (s : Model) (legal : IsLegal s) (k : ResourceNo) (o : ObjectNo) (placed : IsPlaced s o) where
-  -- what stands at an end of the object
+  -- what is at an end of the object
   abbrev values : FeatureNo → List Value
   values f = values_at s (at_end (node.Object o) f)
 

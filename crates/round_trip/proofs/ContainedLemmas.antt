@@ -50,7 +50,7 @@ written-object (string t) w h = absurd (none-some w h)
 written-object (array ds) w h = absurd (none-some w h)
 written-object (object ms) w h = refl
 
--- where there is a class, it does not matter what is said of none
+-- if there is a class, it does not matter what is said of none
 known-conforms : (p : ClassNo → Bool) (x : Option ClassNo) → option_map_or p x false ≡ true → option_map_or p x true ≡ true
 known-conforms p None h = absurd (false≢true h)
 known-conforms p (Some c) h = h
@@ -95,7 +95,7 @@ module _ (s : Model) (legal : IsLegal s) (k : ResourceNo) (o : ObjectNo) (f : Fe
   part-read reference = ap (λ (q : Path). option_map object_of (number_of (parts_of (reading s) k) q)) (part-path reference) ∙ renamed-here s legal k c there
 
   module _ (parts : AreParts (reading s) k) (conforms : option_map_or (λ x. lookups.conforms s.metamodel x target) ((reading s).class c) false ≡ true) where
-    -- what is written for an object whose class conforms is an object that may stand there
+    -- what is written for an object whose class conforms is an object that may be there
     pub part-good : may_stand s.metamodel target (object_under (reading s) k (data_of (reading s) k) f c) ≡ true
     part-good =
         let part = parts.each c there in

@@ -1,4 +1,4 @@
--- What stands at an end that is written: some values, no more than there may be, and none twice where each is there once.
+-- What is at an end that is written: some values, no more than there may be, and none twice where each is there once.
 use Rattle.std.proofs.Common.{◌≡◌, ◌∙◌, ◌≤◌, ℕ, zero, suc, Bool, true, false, List, [], ◌∷◌, Option, Some, None, ap, arith, if◌then◌else◌, int_le, length, nat_eq, nat_le, option_map, option_to_list, pos, refl, slice_get, sym, subst}
 use Rattle.std.specs.Prelude.{◌&&◌, Contains, IsTrue, not, option_and_then, unwrap_or}
 use Rattle.std.specs.List.{All, IsDistinct, list_any, slice_index_or}

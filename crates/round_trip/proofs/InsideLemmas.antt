@@ -1,4 +1,4 @@
--- The objects of a resource: what stands in the trees of its roots is in it, and what is in it stands there.
+-- The objects of a resource: what is in the trees of its roots is in it, and what is in it is there.
 use Rattle.std.proofs.Common.{◌≡◌, ℕ, zero, suc, true, Contains, ◌∷◌, flat_map, length, slice_get, Some, eq-eqb, inl, inr, refl, ap, ◌∙◌}
 use Rattle.std.specs.List.{list_any}
 use Rattle.std.proofs.lemmas.Bool.{false≢true, or_cases, or_left, or_right}

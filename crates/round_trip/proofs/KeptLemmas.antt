@@ -1,4 +1,4 @@
--- What is written of an attribute is kept in the object: where nothing is, the attribute is not set.
+-- What is written of an attribute is kept in the object: if nothing is, the attribute is not set.
 use Rattle.std.proofs.Common.{◌≡◌, ◌∙◌, ◌&&◌, ℕ, zero, suc, Bool, true, false, All, IsTrue, List, [], ◌∷◌, not, slice_get, slice_index_or, Option, Some, None, option_map, unwrap_or, if◌then◌else◌, refl, sym, ap, subst}
 use Rattle.std.specs.List.{list_all}
 use Rattle.std.proofs.lemmas.Bool.{and_parts, false≢true}

@@ -27,7 +27,7 @@ use Rattle.round_trip.proofs.PartsListLemmas.{all-passing}
 
 ---------------------------------------------------------------- the same parts
 
--- two ways to write parts that agree on those that stand in a list
+-- two ways to write parts that agree on those that are in a list
 abbrev AgreeOn : Reading → FeatureNo → (ObjectNo → Data) → (ObjectNo → Data) → List Value → Type 0
 AgreeOn r f p q vs = (i : ℕ) (c : ObjectNo) → is_containment r.metamodel f ≡ true → slice_get vs i ≡ Some (value.Object c) → p c ≡ q c
 
@@ -67,7 +67,7 @@ module _ (r : Reading) (k : ResourceNo) (p q : ObjectNo → Data) where
 ---------------------------------------------------------------- levels
 
 module _ (s : Model) (legal : IsLegal s) where
-  -- an object that stands under a containment lives
+  -- an object that is under a containment lives
   pub live-under : (n : Node) (f : FeatureNo) (i : ℕ) (c : ObjectNo) → is_containment s.metamodel f ≡ true → slice_get (values_at s (at_end n f)) i ≡ Some (value.Object c) → is_live (reading s) c ≡ true
   live-under n f i c contains at =
       let e = at_end n f in

@@ -74,7 +74,7 @@ mapped-in f [] x (k, low, at) = absurd (omega (arith, low))
 mapped-in f (y ∷ ys) x (zero, low, at) = subst (λ z. Contains (map f (y ∷ ys)) (f z)) at (in-front (f y) (map f ys))
 mapped-in f (y ∷ ys) x (suc k, low, at) = behind (f y) (map f ys) (f x) (mapped-in f ys x (k, omega (arith, low), at))
 
--- what stands at a place of a list that was made item by item
+-- what is at a place of a list that was made item by item
 pub mapped-at : {X Y : Type 0} (f : X → Y) (xs : List X) (i : ℕ) (y : Y) → slice_get (map f xs) i ≡ Some y → (x : X) × (slice_get xs i ≡ Some x) × (f x ≡ y)
 mapped-at f [] i y at = absurd (none-some y at)
 mapped-at f (x ∷ xs) zero y at = (x, refl, same_Some (f x) y at)

@@ -33,7 +33,7 @@ not-last seen n w none = false_from_ne_true (bytes_eq n w) (λ same.
     let here = (bytes_eq-Decides w n).1 (sym ((bytes_eq-Decides n w).0 same)) in
     true≢false (sym (or_right (is_among seen w) (is_among (n ∷ []) w) (ap (λ (b : Bool). b || false) here)) ∙ sym (list_any-append (bytes_eq w) seen (n ∷ [])) ∙ none))
 
--- so each is first found where it stands
+-- so each is first found where it is
 found-at : (seen names : List (List ℕ)) (i : ℕ) (w : List ℕ) → repeats seen names ≡ false → slice_get names i ≡ Some w → position (λ l. bytes_eq l w) names ≡ Some i
 found-at seen [] i w once at = absurd (none-some w at)
 found-at seen (n ∷ ns) zero w once at =

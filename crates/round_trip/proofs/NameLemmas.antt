@@ -19,7 +19,7 @@ use Rattle.doc_parts.specs.Parts.{Entry, content_at, entry_at, new_entry}
 use Rattle.doc_writer.specs.Document.{members_with}
 use Rattle.round_trip.proofs.PartsListLemmas.{all-both, all-more}
 
--- a name that is another than each feature's
+-- a name that is other than each feature's
 abbrev IsOther : (FeatureNo → List ℕ) → List ℕ → List FeatureNo → Type 0
 IsOther name n fs = AllByRecursion (λ f. n ≡ name f → ⊥) fs
 

@@ -74,7 +74,7 @@ allowed r k none =
 object-value : (x y : ObjectNo) → value.Object x ≡ value.Object y → x ≡ y
 object-value x y same = same_Some x y (ap reading_object same)
 
--- what an object of a resource that may be saved refers to stands in a resource
+-- what an object of a resource that may be saved refers to is in a resource
 not-dangling : (s : Model) (k : ResourceNo) (o : ObjectNo) (f : FeatureNo) (b : ObjectNo) (i : ℕ) → list_any (has_dangling (reading s)) (objects_in (reading s) k) ≡ false → Contains (objects_in (reading s) k) o
     → Contains (written_features (reading s) o) f → is_containment s.metamodel f ≡ false → slice_get (values_at s (at_end (node.Object o) f)) i ≡ Some (value.Object b) → is_dangling (reading s) b ≡ false
 not-dangling s k o f b i none inside there other at =

@@ -55,14 +55,14 @@ distinct-flat_map f (x ∷ xs) each d one =
 
 ---------------------------------------------------------------- places
 
--- the place of an object behind another
+-- the place of an object after another
 position-next : (o x : ObjectNo) (xs : List ObjectNo) → same_object o x ≡ false → position (same_object o) (x ∷ xs) ≡ option_map suc (position (same_object o) xs)
 position-next o x xs other = position_cons (same_object o) x xs ∙ ap (λ (b : Bool). cond b (Some 0) (option_map suc (position (same_object o) xs))) other
 
 position-first : (o x : ObjectNo) (xs : List ObjectNo) → same_object o x ≡ true → position (same_object o) (x ∷ xs) ≡ Some 0
 position-first o x xs same = position_cons (same_object o) x xs ∙ ap (λ (b : Bool). cond b (Some 0) (option_map suc (position (same_object o) xs))) same
 
--- what is found at a place stands there
+-- what is found at a place is there
 pub position-there : (os : List ObjectNo) (o : ObjectNo) (n : ℕ) → position (same_object o) os ≡ Some n → slice_get os n ≡ Some o
 position-there [] o n at = absurd (none-some n at)
 position-there (x ∷ xs) o n at =
@@ -75,7 +75,7 @@ position-there (x ∷ xs) o n at =
     by None is h there = absurd (none-some n h)
     by (Some k) is h there = ap (slice_get (x ∷ xs)) (sym (same_Some (suc k) n h)) ∙ there k is
 
--- and what stands at a place of different objects is found there
+-- and what is at a place of different objects is found there
 pub there-position : (os : List ObjectNo) (o : ObjectNo) (n : ℕ) → IsDistinct same_object os → slice_get os n ≡ Some o → position (same_object o) os ≡ Some n
 unfolding IsDistinct
 there-position [] o n d at = absurd (none-some o at)

@@ -45,7 +45,7 @@ module _ (s : Model) (legal : IsLegal s) where
       let at = located-object s legal o k inside in
       ap (λ (x : Option Path). find (reading s) k (unwrap_or x (new_path 0 []))) at.is ∙ at.finds
 
-  -- so two objects have one path only where they are one
+  -- so two objects have one path only if they are one
   one-path : (k : ResourceNo) (o p : ObjectNo) → resource_of (reading s).above o ≡ Some k → resource_of (reading s).above p ≡ Some k
       → same_path (path_in (reading s) o) (path_in (reading s) p) ≡ same_object o p
   one-path k o p here there = by (same_path (path_in (reading s) o) (path_in (reading s) p)) (same_object o p) refl refl

@@ -1,4 +1,4 @@
--- In the document of a resource both objects of a pair that stand in it name each other.
+-- In the document of a resource both objects of a pair that are in it name each other.
 use Rattle.std.proofs.Common.{◌≡◌, ◌∙◌, ℕ, zero, suc, ◌+◌, Bool, true, false, List, [], ◌∷◌, Option, Some, None, ap, arith, eq-eqb, eqb-true, map, nat_eq, option_map, refl, slice_get, sym, subst}
 use Rattle.std.specs.Prelude.{◌&&◌, ◌||◌, Contains, IsTrue, flat_map, if◌then◌else◌, not, option_and_then, unwrap_or}
 use Rattle.std.specs.List.{enumerate_from, list_any}

@@ -46,7 +46,7 @@ meant-web uri (c ∷ cs) web = joined-web uri (c ∷ cs) web
 mark-within : (t : List ℕ) → has_mark t ≡ true → position_or_len is_mark t < length t
 mark-within t marked = ⊎_elim (λ last. absurd (true≢false (sym marked ∙ none_passes is_mark t last))) (λ below. below) (eq-or-lt_of_le (prefix_len-le-length (λ c. not (is_mark c)) t))
 
--- a text with `#` is what stands before the first one, `#`, and what stands behind
+-- a text with `#` is what is before the first one, `#`, and what is after
 around-mark : (t : List ℕ) → has_mark t ≡ true → address_text (uri_part t) (fragment_part t) ≡ t
 around-mark t marked =
     let below = mark-within t marked in
@@ -68,7 +68,7 @@ target-parts uri u rest p web apart parsed =
     ∙ ap (option_map (λ v. target_in (base_of uri) rest v p)) (meant-web uri u web)
     ∙ ap Some (cond-false _ _ _ (apart-texts u uri apart))
 
--- the text of a proxy, of another URI than the resource's own, leads to that proxy
+-- the text of a proxy, of a URI other than the resource's own, leads to that proxy
 pub target-proxy : (uri t : List ℕ) → IsSteadyProxy t → (uri_part t ≡ uri → ⊥) → target (base_of uri) t ≡ Some (Elsewhere t)
 target-proxy uri t proxy apart = by (parse (fragment_part t)) refl proxy.text.fragment
   where

@@ -16,7 +16,7 @@ use Rattle.doc_parts.proofs.WayLemmas.{position_cons}
 ---------------------------------------------------------------- elements and places
 
 module _ {X : Type 0} where
-  -- what stands at a place is an element, and an element stands at a place
+  -- what is at a place is an element, and an element is at a place
   pub stands : (xs : List X) (k : ℕ) (x : X) → slice_get xs k ≡ Some x → Contains xs x
   stands xs k x at = (k, slice_get_within xs k x at, get_or_from_slice_get xs k x x at)
 
@@ -84,7 +84,7 @@ object-among (v ∷ vs) zero o at = subst (λ (w : Value). Contains (objects_of 
 object-among (value.Object p ∷ vs) (suc k) o at = behind p (objects_of vs) o (object-among vs k o at)
 object-among (v ∷ vs) (suc k) o at = object-among vs k o at
 
--- an object of a list is found where it stands
+-- an object of a list is found where it is
 pub record IsAt (os : List ObjectNo) (o : ObjectNo) : Type 0 where
   pub number : ℕ
   pub found : position (same_object o) os ≡ Some number

@@ -1,4 +1,4 @@
--- What stands at a reference: an object whose class conforms, or a proxy where the reference takes proxies. And the text of a proxy there.
+-- What is at a reference: an object whose class conforms, or a proxy where the reference takes proxies. And the text of a proxy there.
 use Rattle.std.proofs.Common.{◌≡◌, ◌∙◌, ℕ, Bool, true, false, List, slice_get, Option, Some, None, if◌then◌else◌, eq-eqb, refl, sym, ap}
 use Rattle.std.specs.Option.{option_map_or}
 use Rattle.std.proofs.lemmas.Bool.{false≢true}
@@ -48,7 +48,7 @@ module _ (m : Metamodel) (f : FeatureNo) (g : Feature) (target : ClassNo) (oppos
       ap (λ (a : Shape). is_feature f a.containing) (shape-of m f g (Reference target false opposite) known kind)
       ∙ ap (λ (b : Bool). is_feature f (if b then opposite else None)) plain
 
----------------------------------------------------------------- where a proxy stands
+---------------------------------------------------------------- where a proxy is
 
 far-of_value : (x : Far) (t : List ℕ) → far_value x ≡ value.Proxy t → x ≡ Proxy t
 far-of_value (At d j) t h = absurd (not_proxy t d.node (sym h))
@@ -66,7 +66,7 @@ far-placed (At d j) n e k t = elim (same_end d e) as (λ b. (if b then at_index 
 far-placed (Alone o) n e k t = λ h. none-some _ h
 far-placed (Proxy u) n e k t = λ h. none-some _ h
 
--- a link that stands somewhere with a proxy is that proxy
+-- a link that is somewhere with a proxy is that proxy
 placed-far : (l : Link) (e : End) (k : ℕ) (t : List ℕ) → indexed l e ≡ Some (k, value.Proxy t) → l.far ≡ Proxy t
 placed-far l e k t = elim (same_end l.end e) as (λ b. (if b then at_index l.index (far_value l.far) else far_indexed l.far (node_value l.end.node) e) ≡ Some (k, value.Proxy t) → l.far ≡ Proxy t) [
   | true ↦ λ h. far-of_value l.far t (some_pair_parts l.index k (far_value l.far) (value.Proxy t) h).1
@@ -92,7 +92,7 @@ module _ (s : Model) (legal : IsLegal s) (o : ObjectNo) (f : FeatureNo) (g : Fea
       sym (ap (λ (x : Option Feature). option_map_or (λ y. lookups.is_of_kind s.metamodel class (lookups.is_single y) y.kind (value.Object b)) x (lookups.is_live_object class (value.Object b))) known
       ∙ ap (λ (x : Kind). lookups.is_of_kind s.metamodel class (lookups.is_single g) x (value.Object b)) kind) ∙ taken
 
-  -- what holds of each object that conforms, and of each proxy where they are taken, holds of what stands there
+  -- what holds of each object that conforms, and of each proxy where they are taken, holds of what is there
   pub each-target : (P : Value → Type 0) → ((b : ObjectNo) → v ≡ value.Object b → option_map_or (λ c. lookups.conforms s.metamodel c target) ((reading s).class b) false ≡ true → P (value.Object b))
       → ((t : List ℕ) → v ≡ value.Proxy t → takes_proxies (shape s.metamodel f) ≡ true → P (value.Proxy t)) → P v
   each-target P object proxy = by v refl legal-target
@@ -109,7 +109,7 @@ module _ (s : Model) (legal : IsLegal s) (o : ObjectNo) (f : FeatureNo) (g : Fea
       let stands = (legal.links.set.placed.ends e).only i (value.Proxy t) (ap (λ (vs : List Value). slice_get vs i) (sym (values-linked s e refers)) ∙ at ∙ ap Some is) in
       steady.proxies stands.0 t stands.1 (placed-far stands.0 e i t stands.2)
 
--- at a containment reference stand objects alone
+-- at a containment reference are objects alone
 pub each-part : (s : Model) → IsLegal s → (o : ObjectNo) (f : FeatureNo) (g : Feature) (i : ℕ) (v : Value) (target : ClassNo) (opposite : Option FeatureNo) → lookups.feature s.metamodel f ≡ Some g
     → g.kind ≡ Reference target true opposite → slice_get ((reading s).values (at_end (node.Object o) f)) i ≡ Some v → (P : Value → Type 0)
     → ((b : ObjectNo) → v ≡ value.Object b → option_map_or (λ c. lookups.conforms s.metamodel c target) ((reading s).class b) false ≡ true → P (value.Object b)) → P v

@@ -14,7 +14,7 @@ use Rattle.doc_writer.specs.Document.{reference_text}
 use Rattle.doc_writer.specs.Saved.{reference_features, save_refusal, targets_under}
 use Rattle.doc_writer.specs.Written.{objects_in}
 
--- a value stands under a feature of an object of a resource
+-- a value is under a feature of an object of a resource
 pub record Holds (r : Reading) (k : ResourceNo) (v : Value) : Type 0 where
   pub object : ObjectNo
   pub feature : FeatureNo
@@ -36,7 +36,7 @@ HasNoneTwice r k =
     → Contains (r.values (at_end (node.Object o) f)) (value.Proxy t) → is_in r k b ≡ false → address r b ≡ Some t → ⊥
 
 -- the resource is there and saving it is not refused, no text of a reference is too long, no proxy names the resource itself, and none
--- stands beside the object whose address it is
+-- is beside the object whose address it is
 pub record IsReadable (r : Reading) (k : ResourceNo) (uri : List ℕ) : Type 0 where
   pub there : slice_get r.uris k.0 ≡ Some uri
   pub allowed : save_refusal r k ≡ None

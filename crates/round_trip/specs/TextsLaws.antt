@@ -1,4 +1,4 @@
--- Where the texts of references lead: in the resource that they are written in, to the object that they were written for.
+-- What the texts of references lead to: in the resource that they are written in, to the object that they were written for.
 use Rattle.std.specs.Prelude.{◌≡◌, ℕ, List, [], Some, unwrap_or, if◌then◌else◌}
 use Rattle.mm_types.specs.declared.numbers.ObjectNo.{ObjectNo}
 use Rattle.mm_types.specs.declared.numbers.ResourceNo.{ResourceNo}

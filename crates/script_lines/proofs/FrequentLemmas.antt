@@ -133,7 +133,7 @@ ascii_in verb.Get rest = (omega arith, omega arith)
 ascii_in verb.Set rest = (omega arith, omega arith)
 ascii_in verb.Add rest = (omega arith, omega arith)
 
--- the space behind a verb is ASCII
+-- the space after a verb is ASCII
 pub ascii_verb : (v : Verb) (bytes : List ℕ) → bytes ≡ verb_text v ++ drop 4 bytes → (3 < length bytes) × (slice_index bytes 3 < 128)
 ascii_verb v bytes is = rw is (ascii_in v (drop 4 bytes))
 
@@ -143,7 +143,7 @@ verb_word verb.Get = codes "get"
 verb_word verb.Set = codes "set"
 verb_word verb.Add = codes "add"
 
--- a line that begins with a verb and a space has the words of the rest behind the verb
+-- a line that begins with a verb and a space has the words of the rest after the verb
 verb_line : (v : Verb) (rest : List ℕ) → text_line (verb_text v ++ rest) ≡ line_of (verb_word v ∷ words rest)
 unfolding verb_word
 verb_line verb.New rest = other_line (verb_text verb.New ++ rest) (no_load_begins (verb_text verb.New ++ rest) refl)

@@ -34,7 +34,7 @@ first_line [] some = absurd (omega arith)
 first_line (c ∷ []) some = first_only (is_newline c) c
 first_line (c ∷ d ∷ ds) some = first_at (is_newline c) c (d ∷ ds) (position_or_len is_newline (d ∷ ds)) (first_line (d ∷ ds) (omega arith))
 
--- some bytes are cut behind their first line
+-- some bytes are cut after their first line
 pub cut_first : (bytes line rest : List ℕ) → 0 < length bytes → line ≡ before_first is_newline bytes → rest ≡ after_first is_newline bytes → IsCut bytes line rest
 cut_first bytes line rest some line_is rest_is =
     let len : length rest ≡ length bytes - (position_or_len is_newline bytes + 1) = ap length rest_is ∙ length-drop _ bytes in

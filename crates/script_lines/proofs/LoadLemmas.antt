@@ -88,7 +88,7 @@ no_space_leads (c ∷ cs) text r h none = let e : is_space c ≡ false = (or_fal
 load_form_is : (w text : List ℕ) (r : ResourceNo) → resource_in w ≡ Some r → list_any is_space w ≡ false → load_form (w ++ 32 ∷ text) ≡ Some (Load r text)
 load_form_is w text r h none = rw (space_there w text, cut_at w text none, before w (32 ∷ text), behind w text, h) refl
 
--- every byte behind the space that ends the resource is the text of the document
+-- every byte after the space that ends the resource is the text of the document
 pub text_kept : (w text : List ℕ) (r : ResourceNo) → resource_in w ≡ Some r → list_any is_space w ≡ false
     → is_utf8 (codes "load " ++ (w ++ 32 ∷ text)) ≡ true → form (codes "load " ++ (w ++ 32 ∷ text)) ≡ Form (Load r text)
 unfolding form

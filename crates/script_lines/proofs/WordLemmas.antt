@@ -76,7 +76,7 @@ none_after : (rest : List ℕ) → length rest ≡ 0 → words_after 0 rest ≡ 
 none_after [] none = refl
 none_after (c ∷ cs) none = absurd (omega arith)
 
--- the words found are the first six, where nothing is left or six are found
+-- the words found are the first six, if nothing is left or six are found
 pub first_found : (ws : List (List ℕ)) (rest : List ℕ) (all : List (List ℕ)) → ws ++ words_after 0 rest ≡ all → length ws ≤ 6
     → (length ws < 6 → length rest ≡ 0) → ws ≡ take 6 all
 first_found ws rest all is few none = found_at 6 ws (words_after 0 rest) few (λ low. none_after rest (none low)) ∙ ap (take 6) is
@@ -94,7 +94,7 @@ skipped_at false c cs is h =
     let f : 1 + n ≡ suc n = omega arith in
     rw (e, f) h
 
--- the space behind a word says nothing
+-- the space after a word says nothing
 space_skipped : (bs : List ℕ) → words_after 0 (drop (position_or_len is_space bs) bs) ≡ words_after 0 (drop (position_or_len is_space bs + 1) bs)
 space_skipped [] = refl
 space_skipped (c ∷ cs) = skipped_at (is_space c) c cs refl (space_skipped cs)
@@ -128,7 +128,7 @@ cut_begins : (bs : List ℕ) → begins_plain (before_first is_space bs) ≡ tru
 cut_begins [] h = h
 cut_begins (c ∷ cs) h = cut_begins_at (is_space c) c cs (position_or_len is_space cs) refl h
 
--- what stands before the first space is the first word
+-- what is before the first space is the first word
 pub plain_cut : (bs : List ℕ) → begins_plain (before_first is_space bs) ≡ true
     → words_after 0 bs ≡ before_first is_space bs ∷ words_after 0 (after_first is_space bs)
 plain_cut bs h = plain_cut_at bs (cut_begins bs h)

@@ -198,7 +198,7 @@ abbrev pub line_of : List (List ℕ) → Line
 line_of [] = line.Blank
 line_of ws = line_with (form_of ws)
 
--- the verb of a line: what stands before the first space that follows those that lead the line
+-- the verb of a line: what is before the first space that follows those that lead the line
 abbrev pub verb_in : List ℕ → List ℕ
 verb_in bytes = before_first is_space (after_spaces bytes)
 

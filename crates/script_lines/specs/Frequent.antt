@@ -27,7 +27,7 @@ frequent_line (frequent.Set o f w) = line_with (option_map (λ v. asks.Set (node
 frequent_line (frequent.Add o f w) = line_with (option_map (λ v. asks.Add (node.Object o) f v None) (value_in w))
 frequent_line (frequent.Container o) = line.Form (asks.Container o)
 
--- a text begins with an object and a name, and has the words of the rest behind them
+-- a text begins with an object and a name, and has the words of the rest after them
 pub record ReadsFeature (o : ObjectNo) (f rest text : List ℕ) : Type 0 where
   pub object : List ℕ
   pub words_are : words text ≡ object ∷ f ∷ words rest

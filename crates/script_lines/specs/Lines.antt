@@ -16,7 +16,7 @@ abbrev pub lines : List ℕ → List (List ℕ)
 lines [] = []
 lines (c ∷ cs) = if is_newline c then [] ∷ lines cs else with_byte c (lines cs)
 
--- the lines, each with a newline behind it
+-- the lines, each with a newline after it
 abbrev pub with_newlines : List (List ℕ) → List ℕ
 with_newlines [] = []
 with_newlines (l ∷ ls) = l ++ NEWLINE ∷ with_newlines ls
@@ -24,14 +24,14 @@ with_newlines (l ∷ ls) = l ++ NEWLINE ∷ with_newlines ls
 abbrev pub has_no_newline : List ℕ → Bool
 has_no_newline l = list_all (λ c. not (is_newline c)) l
 
--- some bytes are cut behind their first line: the bytes before the first newline; the rest is what follows that newline
+-- some bytes are cut after their first line: the bytes before the first newline; the rest is what follows that newline
 pub record IsCut (bytes line rest : List ℕ) : Type 0 where
   pub line_is : line ≡ before_first is_newline bytes
   pub rest_is : rest ≡ after_first is_newline bytes
   pub shorter : length rest < length bytes
   pub lines_are : lines bytes ≡ line ∷ lines rest
 
--- what is answered is the first line of some bytes and what follows it, or nothing where there are no bytes
+-- what is answered is the first line of some bytes and what follows it, or nothing if there are no bytes
 abbrev pub CutsLine : Option (Bor (List ℕ) × Bor (List ℕ)) → List ℕ → Type 0
 CutsLine None bytes = length bytes ≡ 0
 CutsLine (Some p) bytes = IsCut bytes p.0.now p.1.now

@@ -8,7 +8,7 @@ abbrev pub bytes_of : Source → List ℕ
 bytes_of (Text text) = text.now
 bytes_of (Bytes bytes) = bytes.now
 
--- what is answered is the first line of some bytes and what follows it, or nothing where there are no bytes
+-- what is answered is the first line of some bytes and what follows it, or nothing if there are no bytes
 abbrev pub CutsSource : Option (Source × Source) → List ℕ → Type 0
 CutsSource None bytes = length bytes ≡ 0
 CutsSource (Some p) bytes = IsCut bytes (bytes_of p.0) (bytes_of p.1)

@@ -31,7 +31,7 @@ name_in w = if is_name w then Some w else None
 abbrev pub text_in : List ℕ → Option (List ℕ)
 text_in w = if slice_index w (length w - 1) == QUOTE && is_utf8 w then option_and_then as_str (read w) else None
 
--- the text that a word behind a quotation mark writes
+-- the text that a word after a quotation mark writes
 abbrev pub string_in : List ℕ → Option (List ℕ)
 string_in [] = None
 string_in (c ∷ cs) = if c == QUOTE then text_in (c ∷ cs) else None
@@ -40,7 +40,7 @@ string_in (c ∷ cs) = if c == QUOTE then text_in (c ∷ cs) else None
 abbrev pub is_plain : ℕ → Bool
 is_plain c = nat_le SPACE c && (not (c == QUOTE) && not (c == BACKSLASH))
 
--- a mark, and a number behind it
+-- a mark, and a number after it
 abbrev pub number_in : ℕ → List ℕ → Option ℕ
 number_in mark [] = None
 number_in mark (c ∷ cs) = if c == mark then natural cs else None

@@ -12,7 +12,7 @@ abbrev pub after_spaces : List ℕ → List ℕ
 after_spaces [] = []
 after_spaces (c ∷ cs) = if is_space c then after_spaces cs else c ∷ cs
 
--- how many bytes stand before the first space
+-- how many bytes are before the first space
 abbrev pub plain_len : List ℕ → ℕ
 plain_len = position_or_len is_space
 
@@ -29,7 +29,7 @@ abbrev pub word_len : List ℕ → ℕ
 word_len [] = 0
 word_len (c ∷ cs) = if c == QUOTE then suc (quoted_len false cs) else suc (plain_len cs)
 
--- the words behind the next k bytes
+-- the words after the next k bytes
 abbrev pub words_after : ℕ → List ℕ → List (List ℕ)
 words_after k [] = []
 words_after (suc k) (c ∷ cs) = words_after k cs

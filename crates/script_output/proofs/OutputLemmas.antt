@@ -1,4 +1,4 @@
--- A text behind what is printed.
+-- A text after what is printed.
 use Rattle.std.proofs.Common.{◌∙◌, ◌≡◌, ◌++◌, ◌∷◌, ◌||◌, ◌==◌, ℕ, nat_lt, Bool, false, List, [], ap, append-nil, refl, sym}
 use Rattle.std.specs.List.{list_any}
 use Rattle.std.proofs.lemmas.Bool.{eqb-false, ltb-false, or_parts}
@@ -14,7 +14,7 @@ unfolding print_from
 one_string out old before t start new is kept empty one =
     is ∙ (ap (λ x. x ++ print new) kept ∙ ap (λ x. old ++ print x) (one ∙ ap (λ x. x ++ string t ∷ []) empty)) ∙ ap (λ x. old ++ x) (append-nil (quoted t))
 
--- a text without escapes stands in its quotation marks as it is
+-- a text without escapes is in its quotation marks as it is
 unescaped : (t : List ℕ) → list_any is_stop t ≡ false → escape t ≡ t
 unescaped [] h = refl
 unescaped (x ∷ xs) h =

@@ -53,7 +53,7 @@ value_text literal (value.Adapter a) = adapter_text a
 abbrev pub feature_value_text : Metamodel → FeatureNo → Value → List ℕ
 feature_value_text m f v = value_text (literal_name m f v) v
 
--- values of a feature, each behind a space
+-- values of a feature, each after a space
 abbrev pub spaced_values : Metamodel → FeatureNo → List Value → List ℕ
 spaced_values m f vs = flat_map (λ v. SPACE ∷ feature_value_text m f v) vs
 
@@ -62,7 +62,7 @@ abbrev pub list_text : Metamodel → FeatureNo → List Value → List ℕ
 list_text m f [] = codes "[]"
 list_text m f (v ∷ vs) = codes "[" ++ feature_value_text m f v ++ spaced_values m f vs ++ codes "]"
 
--- objects, each behind a space
+-- objects, each after a space
 abbrev pub spaced_objects : List ObjectNo → List ℕ
 spaced_objects os = flat_map (λ o. SPACE ∷ node_text (node.Object o)) os
 
@@ -71,7 +71,7 @@ abbrev pub objects_text : List ObjectNo → List ℕ
 objects_text [] = codes "[]"
 objects_text (o ∷ os) = codes "[" ++ node_text (node.Object o) ++ spaced_objects os ++ codes "]"
 
--- names of features, each behind a space
+-- names of features, each after a space
 abbrev pub spaced_features : Metamodel → List FeatureNo → List ℕ
 spaced_features m fs = flat_map (λ f. SPACE ∷ feature_name m f) fs
 
@@ -80,7 +80,7 @@ abbrev pub features_text : Metamodel → List FeatureNo → List ℕ
 features_text m [] = codes "[]"
 features_text m (f ∷ fs) = codes "[" ++ feature_name m f ++ spaced_features m fs ++ codes "]"
 
--- what contains an object, as `#1` or `r0`, or `null` where nothing does
+-- what contains an object, as `#1` or `r0`, or `null` if nothing does
 abbrev pub holder_text : Option Node → List ℕ
 holder_text None = codes "null"
 holder_text (Some n) = node_text n

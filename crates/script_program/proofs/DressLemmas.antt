@@ -101,7 +101,7 @@ stopped_by true true false going = refl
 stopped_by true false false going = refl
 stopped_by false c any going = refl
 
--- and ends behind it if it is refused or bad
+-- and ends after it if it is refused or bad
 pub stopped_last : (d : Dress) (ps : List Printed) (p : Printed) → is_stopped d ps ≡ false → is_stopped d (ps ++ p ∷ []) ≡ (d.stop && is_fault p.turn)
 stopped_last d ps p going =
     ap (λ x. d.stop && x) (list_any-append (λ q. is_fault q.turn) ps (p ∷ []))
@@ -121,7 +121,7 @@ kept_append_by : (b : Bool) (ps more : List Printed) → (b && list_any (λ q. i
 kept_append_by true ps more ended = until_append ps more ended
 kept_append_by false ps more ended = cc
 
--- what comes behind the end of a run isn't kept
+-- what comes after the end of a run isn't kept
 pub kept_append : (d : Dress) (ps more : List Printed) → is_stopped d ps ≡ true → kept d (ps ++ more) ≡ kept d ps
 kept_append d ps more ended = kept_append_by d.stop ps more ended
 

@@ -24,7 +24,7 @@ use Rattle.script_program.specs.declared.summary.Summary.{Summary}
 use Rattle.script_program.specs.declared.turn.Turn.{Turn}
 use Rattle.script_program.proofs.ScriptLemmas.{runs_more, summary_of_push, within_more}
 
--- ---- an answer, and the empty line behind it
+-- ---- an answer, and the empty line after it
 
 pub with_empty_lines : (ps : List Printed) → live_text ps ≡ texts (map with_empty_line ps)
 with_empty_lines [] = refl

@@ -102,7 +102,7 @@ one_more d z bytes rest more line s u number printed summary p g going cut short
       none_behind = kept_last d printed p going;
     }
 
--- what is written of it stands behind what was written
+-- what is written of it is after what was written
 pub line_behind : (d : Dress) (z : Session) (bytes rest : List ℕ) (s : Session) (number : ℕ) (printed : List Printed) (summary : Summary) (line : List ℕ) (p : Printed)
     → (g : Ran d z bytes rest s number printed summary)
     → dressed_from d 1 (g.done ++ line ∷ []) (printed ++ p ∷ []) ≡ dressed_from d 1 g.done printed ++ dressed_line d (number + 1) line p
@@ -158,7 +158,7 @@ module _ (d : Dress) (z : Session) (bytes : List ℕ) where
   paused rest s number printed summary old new on = front_of (EndsIn s.state) rest s number printed summary old new on.so_far (front_whole old new _ on.written) refl
 
   module _ (rest more line : List ℕ) (s : Session) (number : ℕ) (printed : List Printed) (summary : Summary) (old mid new : Option (List ℕ)) where
-    -- one more line is run, and the run has not ended behind it
+    -- one more line is run, and the run has not ended after it
     pub next : (u : Session) (turn : Turn) → GoesOn d z bytes rest s number printed summary old mid → lines rest ≡ line ∷ lines more → length more < length rest
         → (one : AnswersLine d (number + 1) line s mid new turn u) → (d.stop && is_fault turn) ≡ false
         → GoesOn d z bytes more u (number + 1) (printed ++ one.printed ∷ []) (with_turn summary turn) old new

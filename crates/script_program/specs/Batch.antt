@@ -14,7 +14,7 @@ use Rattle.script_program.specs.declared.summary.Summary.{Summary}
 use Rattle.script_program.specs.declared.turn.Turn.{Turn}
 use Rattle.script_streams.specs.Streams.{AppendsFront}
 
--- The first lines of a script were run, none of them behind the end of the run, and the others were not.
+-- The first lines of a script were run, none of them after the end of the run, and the others were not.
 pub record RunsFirst (d : Dress) (s : Session) (bytes : List ℕ) (first rest : List (List ℕ)) (printed : List Printed) (t : Session) : Type 0 where
   pub lines_are : lines bytes ≡ first ++ rest
   pub ran : RunsLines s first printed t

@@ -28,11 +28,11 @@ is_fault turned.Done = false
 is_fault turned.Refused = true
 is_fault turned.Lost = true
 
--- each line of a text behind some bytes
+-- each line of a text after some bytes
 abbrev pub each_behind : List ℕ → List ℕ → List ℕ
 each_behind front text = flat_map (λ l. front ++ l ++ NEWLINE ∷ []) (lines text)
 
--- each line of an answer behind the number of its line in the script
+-- each line of an answer after the number of its line in the script
 abbrev pub numbered : ℕ → List ℕ → List ℕ
 numbered k answer = each_behind (decimal k ++ codes ": ") answer
 

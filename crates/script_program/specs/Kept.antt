@@ -141,7 +141,7 @@ abbrev pub begun : List ℕ → List (List ℕ) → List (List ℕ)
 begun head [] = head ∷ []
 begun head (l ∷ ls) = l ∷ ls
 
--- what a file has behind its head was found, or that it has no line
+-- what a file has after its head was found, or that it has no line
 abbrev pub FindsLines : Option (Bor (List ℕ)) → List ℕ → List ℕ → Type 0
 FindsLines None bytes head = recovered bytes ≡ []
 FindsLines (Some rest) bytes head = recovered bytes ≡ head ∷ recovered rest.now

@@ -1,4 +1,4 @@
--- What it is to run a script live: each line is answered before the next is read, and an empty line stands behind its answer.
+-- What it is to run a script live: each line is answered before the next is read, and an empty line is after its answer.
 use Rattle.std.specs.Prelude.{◌≡◌, ℕ, List, [], ◌∷◌, ◌++◌, Option, IfSome}
 use Rattle.std.specs.List.{flat_map}
 use Rattle.std.specs.Io.KnownBytes.{Appends}
@@ -17,7 +17,7 @@ use Rattle.script_streams.specs.Streams.{AppendsFront}
 abbrev pub live_answer : Printed → List ℕ
 live_answer p = p.text ++ NEWLINE ∷ []
 
--- a line that prints this prints an empty line behind it too
+-- a line that prints this prints an empty line after it too
 abbrev pub with_empty_line : Printed → Printed
 with_empty_line p = record p { text = live_answer p }
 
@@ -25,7 +25,7 @@ with_empty_line p = record p { text = live_answer p }
 abbrev pub live_text : List Printed → List ℕ
 live_text = flat_map live_answer
 
--- A line was run, and its answer was written with an empty line behind.
+-- A line was run, and its answer was written with an empty line after.
 pub record AnswersLive (line : List ℕ) (s : Session) (old new : Option (List ℕ)) (turn : Turn) (t : Session) : Type 0 where
   pub printed : Printed
   pub ran : RunsLine s (form line) printed t
@@ -39,7 +39,7 @@ pub record AnswersLiveFront (line : List ℕ) (s : Session) (old new : Option (L
   pub ran : RunsLine s (form line) printed after
   pub written : AppendsFront old new (live_answer printed)
 
--- All lines of a script were run, their answers were written, each with an empty line behind, and the counts are theirs.
+-- All lines of a script were run, their answers were written, each with an empty line after, and the counts are theirs.
 abbrev pub PrintsLive : Session → Option (List ℕ) → Option (List ℕ) → List ℕ → Summary → Type 0
 PrintsLive = PrintsAs live_text
 

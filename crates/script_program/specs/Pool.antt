@@ -6,7 +6,7 @@ use Rattle.mm_types.specs.declared.refused.Refused.{Refused}
 use Rattle.mm_types.specs.declared.refused.Refused.TheVariants.{NoAdapter, AdapterTaken}
 use Rattle.notice_chain.specs.View.{View}
 
--- the n-th box, from 1 on, is An; None stands instead of one that is out
+-- the n-th box, from 1 on, is An; None is in place of one that is out
 abbrev pub Pool : Type 0
 Pool = List (Option View)
 

@@ -62,7 +62,7 @@ pub fn head_of(alloc: Global, digest: &[u8]) -> Result<Vec<u8>, AllocError>
 fn is_unbegun(bytes: &[u8], head: &[u8]) -> bool {
     match bytes {
         [] => true,
-        // The text behind the newline was torn.
+        // The text after the newline was torn.
         [NEWLINE, rest @ ..] => rest.len().saturating_sub(2) <= head.len(),
         // The mark was torn, or the file was cut in part afterwards.
         [_, rest @ ..] => match rest.strip_prefix(head) {

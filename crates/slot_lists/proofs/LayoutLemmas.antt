@@ -105,7 +105,7 @@ long_at {T} n p cs x l lt is =
     let same : x ≡ get_or cs (p / 1024) [] = is ∙ get_or_default cs (p / 1024) x [] at.piece in
     subst (λ (q : List T). p % 1024 < length q) (sym same) at.place
 
--- one value more is to come behind the last
+-- one value more is to come after the last
 pub opened : {T : Type 0} (n : ℕ) (cs : List (List T)) → IsFilled n cs → HasHole (n + 1) (n / 1024) cs
 opened n cs f = record {
   hole = let here = f (n / 1024) in omega arith;

@@ -160,7 +160,7 @@ module _ (t : NodeSlots) (kept : ∥ IsStore t ∥₁) (o : ObjectNo) where
     λ has. ∥∥₁_elim kept (Coded-set coded_bool _ _) (λ ok. is_entered ok x.node x.feature (has.0, sym (ap (λ (vs : List Value). slice_get vs has.0) (ends_kept t kept x)) ∙ has.1) ((cells t).pairing x).opposite refl),
   )
 
-  -- what a search of an end finds is where the object stands
+  -- what a search of an end finds is where the object is
   search_law : (e : End) → MatchOption (found_in (cells t) (value.Object o) e) (Lacks (store_links t) e (value.Object o)) (λ k. slice_get (end (store_links t) e) k ≡ Some (value.Object o))
   search_law e = by (found_in (cells t) (value.Object o) e) refl
     where

@@ -31,7 +31,7 @@ use Rattle.slot_store.proofs.KeptEndLemmas.{without_is}
 use Rattle.slot_store.proofs.StandLemmas.{Stands-insert, Stands-remove, Stands-shifted, Stands_insert_new, Stands_insert_old, Stands_remove, Stands_shifted, has_end-push, has_end_new}
 use Rattle.slot_store.proofs.OnceLemmas.{has_end-without, has_end_without, once-push, once-without, without_end}
 
--- the object stands in x, which has no opposite
+-- the object is in x, which has no opposite
 abbrev pub EntersAlone : Kinds → Cells → ObjectNo → End → Type 0
 EntersAlone m c o x = (m.opposite x.feature ≡ None) × Stands (c.vals x) (value.Object o)
 

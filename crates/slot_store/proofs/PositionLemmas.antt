@@ -1,4 +1,4 @@
--- Where a value, or an end, stands that a search looks for.
+-- The position of a value, or of an end, that a search looks for.
 use Rattle.std.proofs.Common.{◌≡◌, ℕ, ◌<◌, ◌≤◌, Bool, true, List, length, get_or, Option, Some, None, is_some, not, refl, sym, ap, ◌∙◌, subst, arith}
 use Rattle.std.specs.List.{position, position_or_len, slice_get}
 use Rattle.std.proofs.lemmas.Bool.{true≢false}
@@ -45,7 +45,7 @@ position_at = item_at same_value same_value-self same_value-true
 pub position_lacks : (xs : List Value) (v : Value) (k : ℕ) → position (same_value v) xs ≡ None → slice_get xs k ≡ Some v → ⊥
 position_lacks = item_lacks same_value same_value-self same_value-true
 
--- a value that is told to be at an index stands there
+-- a value that is told to be at an index is there
 pub value_at : (v : Value) (xs : List Value) (i : ℕ) → is_value v (slice_get xs i) ≡ true → slice_get xs i ≡ Some v
 value_at v xs i = at (slice_get xs i)
   where

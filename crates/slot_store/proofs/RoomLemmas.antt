@@ -21,7 +21,7 @@ use Rattle.node_slots.specs.Growth.{HasRoom, far_gain, lone_entry, one_if}
 use Rattle.node_slots.proofs.KeyLemmas.{known_entries, known_places}
 use Rattle.slot_store.specs.EditedCells.{HasHeldRow, PutsObject, held, held_far, held_row_index}
 
--- an end can have an object's node, also where it can have objects alone
+-- an end can have an object's node, also if it can have objects alone
 pub can_have_node : (mixed : Bool) (n : Node) (v : Value) → IsObject n → v ≡ node_value n → CanHave mixed v
 can_have_node mixed (node.Object o) v is same = subst (CanHave mixed) (sym same) tt
 can_have_node mixed (node.Resource r) v is same = absurd is

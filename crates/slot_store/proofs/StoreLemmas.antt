@@ -86,7 +86,7 @@ module _ (t : NodeSlots) (kept : ∥ IsStore t ∥₁) where
   pub few_kept : AreFew (cells t)
   few_kept e = ∥∥₁_elim kept le_prop (λ ok. ok.lists.few e)
 
-  -- nothing stands twice in a list
+  -- nothing occurs twice in a list
   pub kept_once : RepeatNothing (cells t)
   kept_once = record {
     values = λ e j k v a b. ∥∥₁_elim kept (Coded-set coded_ℕ j k) (λ ok. ok.lists.distinct e j k v a b);

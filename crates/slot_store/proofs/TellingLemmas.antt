@@ -30,7 +30,7 @@ use Rattle.slot_store.proofs.StandLemmas.{Stands-insert, Stands-push, Stands-rem
 abbrev pub kind_pairing : Kinds → FeatureNo → Pairing
 kind_pairing m f = record { opposite = m.opposite f; container = m.container f }
 
--- where an object stands, the pairing is the metamodel's; where a proxy stands, nothing is contained
+-- where an object is, the pairing is the metamodel's; where a proxy is, nothing is contained
 abbrev pub ToldAs : Kinds → FeatureNo → Pairing → Value → Type 0
 ToldAs m f p (value.Object o) = p ≡ kind_pairing m f
 ToldAs m f p (value.Proxy t) = m.container f ≡ None
@@ -64,7 +64,7 @@ module _ (m : Kinds) (meta : AreKinds m) where
 
 ---------------------------------------------------------------- parts of edits
 
--- a pairing that is the metamodel's tells of all that stands there
+-- a pairing that is the metamodel's tells of all that is there
 told_of : (m : Kinds) (f : FeatureNo) (p q : Pairing) → q ≡ kind_pairing m f → (w : Value) → ToldAs m f p w → ToldAs m f q w
 told_of m f p q is (value.Object o) h = is
 told_of m f p q is (value.Proxy t) h = h
@@ -127,7 +127,7 @@ module _ (m : Kinds) (meta : AreKinds m) (c : Cells) (told : IsTold m c) (e : En
       let u = without_value e (value.Object o) d in
       told_same m u (told_without m d (told_cut_far g) e (value.Object o)) (cut_cells e o g h c) (released-vals (held e o g h) u) (released-pairing (held e o g h) u)
 
-  -- a resource stands in no list, but as no reference
+  -- a resource is in no list, but as no reference
   told_node : (n : Node) (f : FeatureNo) (p : Pairing) → p ≡ kind_pairing m f → ToldAs m f p (node_value n)
   told_node (node.Object x) f p is = is
   told_node (node.Resource r) f p is = tt

@@ -26,7 +26,7 @@ abbrev pub link_to : Cells → End → ℕ → ObjectNo → Option FeatureNo →
 link_to c e k o None = record { end = e; index = k; far = Alone o; container = (c.pairing e).container }
 link_to c e k o (Some g) = joined e k (far_end o g) (index_in (c.vals (far_end o g)) (node_value e.node)) (c.pairing e).container
 
--- the link of a value at k in e; only objects and proxies stand in an end
+-- the link of a value at k in e; only objects and proxies are in an end
 abbrev pub link_from : Cells → End → ℕ → Value → Link
 link_from c e k (value.Object o) = link_to c e k o (c.pairing e).opposite
 link_from c e k (value.Proxy t) = record { end = e; index = k; far = Proxy t; container = None }
@@ -70,7 +70,7 @@ pub record AreLists (c : Cells) (es : List End) : Type 0 where
   pub distinct : (e : End) → IsDistinct (c.vals e)
   pub few : (e : End) → length (c.vals e) ≤ most
 
--- the object stands in e, which has no opposite
+-- the object is in e, which has no opposite
 abbrev pub StandsAlone : Cells → ObjectNo → End → Type 0
 StandsAlone c o e = ((c.pairing e).opposite ≡ None) × Stands (c.vals e) (value.Object o)
 

@@ -1,4 +1,4 @@
--- The ends that have an object, as its own lists and the entries tell them, and where it stands in each.
+-- The ends that have an object, as its own lists and the entries tell them, and where it is in each.
 use Rattle.std.specs.Prelude.{ℕ, ◌≤◌, List, [], ◌∷◌, ◌++◌, length, position, Option, Some, None}
 use Rattle.mm_types.specs.Same.{same_value}
 use Rattle.mm_types.specs.declared.numbers.FeatureNo.{FeatureNo}

@@ -83,7 +83,7 @@ or-true : (b : Bool) → (b || true) ≡ true
 or-true true = refl
 or-true false = refl
 
--- what stands at an index is there
+-- what is at an index is there
 pub any-slice_get : (p : Value → Bool) (vs : List Value) (i : ℕ) (v : Value) → Some v ≡ slice_get vs i → p v ≡ true → list_any p vs ≡ true
 any-slice_get p [] i v is same = cc
 any-slice_get p (x ∷ vs) zero v is same =

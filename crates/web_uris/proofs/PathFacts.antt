@@ -26,7 +26,7 @@ pub split_first : (p : ℕ → Bool) (w : List ℕ) (x : ℕ) (rest : List ℕ) 
 split_first p [] x rest none passes = cond-true _ _ _ passes
 split_first p (c ∷ cs) x rest (this, others) passes = cond-false _ _ _ this ∙ ap (onto_first c) (split_first p cs x rest others passes)
 
--- a step behind its `/`
+-- a step after its `/`
 abbrev pub segment : Step → List ℕ
 segment s = 64 ∷ (s.name ++ index_text s.index)
 

@@ -1,4 +1,4 @@
--- How fragments are read: an index, a step behind its `@`, and steps one after the other.
+-- How fragments are read: an index, a step after its `@`, and steps one after the other.
 use Rattle.std.proofs.Common.{◌≡◌, ◌∙◌, ◌≤◌, ◌<◌, ◌&&◌, Bool, true, false, List, [], ◌∷◌, ◌++◌, Option, Some, None, ℕ, append_assoc, ap, arith, cond, length, nat_le, nat_lt, option_map, refl, sym, ◌||◌, inl, inr}
 use Rattle.std.specs.Prelude.{◌⊎◌, ◌==◌, not, option_and_then, ◌^◌}
 use Rattle.std.specs.Char.{is_ascii_digit}
@@ -86,7 +86,7 @@ by_first_dot name w (inr below) =
     ∙ no_third name (before_first is_dot w) (slice_split is_dot (after_first is_dot w)) (some_parts (after_first is_dot w))
     ∙ sym (unread name w (no_index w (one_passes is_dot w below)))
 
--- digits with a dot among them are no index, so what stands behind the first dot is taken whole
+-- digits with a dot among them are no index, so what is after the first dot is taken whole
 pub one_dot : (name w : List ℕ) → step_of_parts (name ∷ slice_split is_dot w) ≡ step_of_parts (name ∷ w ∷ [])
 one_dot name w = by_first_dot name w (eq-or-lt_of_le (prefix_len-le-length (λ c. not (is_dot c)) w))
 
@@ -109,7 +109,7 @@ no_path (c ∷ cs) h = let e = not_byte 47 c cs h in rw e (no_root c (slice_spli
 
 ---------------------------------------------------------------- steps
 
--- the steps read yet, and behind them what is still to be read
+-- the steps read yet, and after them what is still to be read
 abbrev pub with_front : List Step → Option (List Step) → Option (List Step)
 with_front front rest = option_map (λ ss. front ++ ss) rest
 

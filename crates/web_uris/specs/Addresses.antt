@@ -8,7 +8,7 @@ use Rattle.web_uris.specs.Paths.{parse}
 abbrev pub has_mark : List ℕ → Bool
 has_mark t = list_any is_mark t
 
--- what stands before the first `#`, and behind it
+-- what is before the first `#`, and after it
 abbrev pub uri_part : List ℕ → List ℕ
 uri_part t = before_first is_mark t
 

@@ -1,4 +1,4 @@
--- A reference joined with the URI that it stands in (RFC 3986, section 5, as the URL Standard has it).
+-- A reference joined with the URI that it is in (RFC 3986, section 5, as the URL Standard has it).
 use Rattle.std.specs.Prelude.{◌≡◌, ℕ, ◌||◌, ◌==◌, Bool, List, bytes_eq, codes, Option, Some, None, Result, Ok, Err, option_and_then, String, string_bytes, if◌then◌else◌}
 use Rattle.std.specs.declared.alloc.Global.{Global}
 use Rattle.std.specs.List.{list_any}
@@ -12,7 +12,7 @@ abbrev pub if_parsed : Parsed Parts → Option Parts
 if_parsed (Ok u) = Some u
 if_parsed (Err e) = None
 
--- the reference, where a URI stands
+-- the reference, if there is a URI
 abbrev pub based : List ℕ → List ℕ → Option Parts
 based base reference = option_and_then (λ b. if_parsed (parse_url (Some b) reference)) (if_parsed (parse_url None base))
 
@@ -39,7 +39,7 @@ own_text u = option_and_then web_text (if_parsed (parse_url None u))
 abbrev pub IsWebUri : List ℕ → Type 0
 IsWebUri u = own_text u ≡ Some u
 
--- none, where there is no such URI
+-- none, if there is no such URI
 unfoldable pub joined : List ℕ → List ℕ → Option (List ℕ)
 joined base reference = option_and_then web_text (parts_of base reference)
 

@@ -50,7 +50,7 @@ abbrev pub root_of : List ℕ → Option ℕ
 root_of [] = Some 0
 root_of (c ∷ cs) = index_of (c ∷ cs)
 
--- what stands before the dot and behind it
+-- what is before the dot and after it
 abbrev pub step_of_parts : List (List ℕ) → Option Step
 step_of_parts (name ∷ []) = if is_name name then Some (new_step name None) else None
 step_of_parts (name ∷ digits ∷ []) = if is_name name then option_map (λ i. new_step name (Some i)) (index_of digits) else None
@@ -70,7 +70,7 @@ abbrev pub path_of_segments : List (List ℕ) → Option Path
 path_of_segments ([] ∷ root ∷ steps) = option_and_then (λ i. option_map (new_path i) (steps_of steps)) (root_of root)
 path_of_segments _ = None
 
--- the segments of a text behind a slash, or none where there is no such slash
+-- the segments of a text after a slash, or none if there is no such slash
 abbrev pub segments : Option (List ℕ) → List (List ℕ)
 segments None = []
 segments (Some text) = slice_split is_slash text

@@ -178,7 +178,7 @@ class Connection(BaseHTTPRequestHandler):
         self._send(HTTPStatus(code), 'application/json', text.encode() + b'\n', {'Connection': 'close'})
 
     def _events(self, after: Any) -> None:
-        """The events behind the one that the window has, for as long as it listens."""
+        """The events after the one that the window has, for as long as it listens."""
         since = self.headers.get('Last-Event-ID') or after[0]
         if not (since.isascii() and since.isdigit() and len(since) < 18):
             self.send_error(HTTPStatus.BAD_REQUEST, 'after is the number of an event')

@@ -28,7 +28,7 @@ class Events:
             return self.number
 
     def after(self, number: int, seconds: float) -> Optional[List[Tuple[int, str]]]:
-        """The events behind one, each with its number: none, if there is none within so many seconds. None if they are not kept any
+        """The events after one, each with its number: none, if there is none within so many seconds. None if they are not kept any
         more, or if nothing follows."""
         with self._condition:
             self._condition.wait_for(lambda: self.number > number or self.is_over, seconds)
